@@ -1,0 +1,4 @@
+pub mod Sets
+pub mod Runs
+pub mod Counts
+pub mod Bounds
