@@ -1,8 +1,7 @@
 -- What a walk over the runs of a set shows.
---     Position      the runs that are left, how many were taken away, how many the set has
---     TakesFirst A B A' B' p      p is taken from the list that starts first, and A' and B' are left
-use Rattle.std.specs.Prelude.{◌≡◌, ◌⊎◌, ℕ, ℤ, ◌≤ℤ◌, List, [], ◌∷◌}
+use Rattle.std.specs.Prelude.{ℕ, ℤ, List}
 
+-- the runs that are left, how many were taken away, and how many the set has
 pub record Position : Type 0 where
   pub left : List (ℤ × ℤ)
   pub advances : ℕ

@@ -5,16 +5,8 @@ use Rattle.std.proofs.lemmas.Int.{ints, clamps}
 use Rattle.std.specs.Int.{int_min, int_max}
 use Rattle.ivl_laws.specs.Sets.{IsBetween, Union, Intersection, Complement}
 use Rattle.ivl_laws.specs.Runs.{Covers, StartsBy, IsMaximal, IsRunsOf}
+use Rattle.ivl_laws.specs.Walks.{StartsFrom, TakesFirst}
 use Rattle.ivl_laws.proofs.Merging.{covers-append, covers-append_left, covers-append_right, StartsBy-more, common_step, complement_step}
-
--- the first pair, if there is one, starts at n or above
-abbrev pub StartsFrom : ℤ → List (ℤ × ℤ) → Type 0
-StartsFrom n [] = Unit {0}
-StartsFrom n (p ∷ L) = n ≤ℤ p.0
-
--- p is the first pair of A or of B and starts no higher than the other list; A' and B' are what is left
-abbrev pub TakesFirst : List (ℤ × ℤ) → List (ℤ × ℤ) → List (ℤ × ℤ) → List (ℤ × ℤ) → ℤ × ℤ → Type 0
-TakesFirst A B A' B' p = ((A ≡ p ∷ A') × (B ≡ B') × StartsFrom p.0 B) ⊎ ((B ≡ p ∷ B') × (A ≡ A') × StartsFrom p.0 A)
 
 -- nothing is written above where the rest starts
 abbrev pub StartsBefore : List (ℤ × ℤ) → List (ℤ × ℤ) → Type 0

@@ -3,3 +3,4 @@ pub mod Runs
 pub mod Counts
 pub mod Bounds
 pub mod Arithmetic
+pub mod Walks

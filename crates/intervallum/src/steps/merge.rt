@@ -2,7 +2,7 @@
 ghost use Rattle.std.specs.Prelude.{◌≡◌, ◌≤◌, ◌+◌, [], IfOk, MatchOption, length};
 ghost use Rattle.ivl_laws.specs.Sets.{Union};
 ghost use Rattle.ivl_laws.specs.Runs.{Covers, IsRunListIn, IsRunsOf};
-ghost use Rattle.intervallum.specs.Counted.{TakesFirst};
+ghost use Rattle.ivl_laws.specs.Walks.{TakesFirst};
 
 use super::walk::Walk;
 use crate::interval::Interval;
