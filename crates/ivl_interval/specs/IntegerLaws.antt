@@ -1,5 +1,5 @@
 -- The laws of bounds and sizes at the integer types.
-use Rattle.std.specs.Prelude.{◌≡◌, ℕ, ℤ, pos, negsuc, refl, nat_eq, Some, ◌-◌, ◌^◌, ◌<◌, ◌≤◌}
+use Rattle.std.specs.Prelude.{◌≡◌, ℕ, pos, negsuc, refl, nat_eq, Some, ◌-◌, ◌^◌, ◌<◌, ◌≤◌}
 use Rattle.std.specs.Ordering.{int_cmp, int_eq, nat_cmp}
 use Rattle.std.proofs.Common.{ap, arith, lit<, lit≤}
 use Rattle.std.proofs.lemmas.Bool.Decides.{nat_tests}
