@@ -1,9 +1,11 @@
-use Rattle.std.proofs.Common.{rules, ◌≡◌, ◌↔◌, ◌+◌, ◌≤◌, ℕ, pos, ◌+ℤ◌, ◌-ℤ◌, ◌≤ℤ◌, [], IsTrue, IfOk, OnOk, OnErr, ◌-◌, ◌*◌, ◌<◌, length, ◌/◌, ◌%◌, Bool, true, false, nat_eq, nat_lt, List, ◌∷◌, ◌++◌, slice_index_or, slice_set, bit_and, bit_or, Fits, w8, w32, w64, Bor, MutBor, ℤ, ◌*ℤ◌, ◌<ℤ◌, FitsSigned, to_z, of_z}
-use Rattle.ivl_laws.specs.Sets.{IsBetween, IsSubset}
-use Rattle.ivl_laws.specs.Runs.{AddsRun, IsRunListIn, StartsBy}
-use Rattle.ivl_laws.specs.Bounds.{width_of}
+use Rattle.std.proofs.Common.{◌∙◌, ℤ, subst, sym}
+use Rattle.ivl_laws.specs.Sets.{IsBetween}
+use Rattle.intervallum.proofs.Joining.{joined_by_difference}
 use Rattle.intervallum.proofs.interval_set.runs.joins.Goals as goal
 
--- src/interval_set/runs.rt:65:1
 pub returns : goal.returns
-returns g c = ?
+returns g c =
+    let P : ℤ → Type 0 = λ z. IsBetween g.B.Width.whole z in
+    joined_by_difference g.B.Width.whole c.number.result c.number-2.result c.args.run.now.0 c.args.last.now.1 g.met.B.Width.range
+    (c.number.ensures ∙ c.lower.ensures.value) (c.number-2.ensures ∙ c.upper.ensures.value)
+    (subst P (sym c.number.ensures) c.lower.ensures.in_range) (subst P (sym c.number-2.ensures) c.upper.ensures.in_range)
