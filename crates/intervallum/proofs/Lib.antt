@@ -1,3 +1,4 @@
 pub mod Equality
 pub mod Walking
 pub mod Joining
+pub mod Pushing
