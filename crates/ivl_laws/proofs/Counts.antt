@@ -2,7 +2,7 @@
 use Rattle.std.proofs.Common.{◌≡◌, ℕ, suc, zero, ◌+◌, ◌≤◌, ◌⊎◌, ◌↔◌, inl, inr, ⊎_elim, ℤ, pos, negsuc, ◌+ℤ◌, ◌-ℤ◌, ◌≤ℤ◌, ◌<ℤ◌, List, [], ◌∷◌, ◌++◌, length, length-append, refl, ap, sym, subst, ◌∙◌, arith}
 use Rattle.std.proofs.lemmas.Int.{ints, by_lt_z}
 use lib.IntN.{ℤ_discrete}
-use Rattle.ivl_laws.specs.Sets.{IsBetween, SameMembers, IsSubset, Union, Intersection, Complement}
+use Rattle.ivl_laws.specs.Sets.{IsBetween, Only, SameMembers, IsSubset, Union, Intersection, Complement}
 use Rattle.ivl_laws.specs.Counts.{IsIn, IsDistinct, IsCountOf}
 
 -- ---- lists of distinct numbers
@@ -82,6 +82,19 @@ IsCountOf-same S T n f (xs, dx, ix, ex) = (xs, dx, (λ z. ((λ t. (ix z).0 ((f z
 
 pub IsCountOf-none : (S : ℤ → Type 0) → ((z : ℤ) → ¬ (S z)) → IsCountOf 0 S
 IsCountOf-none S f = ([], tt, (λ z. (f z, (λ i. absurd i))), refl)
+
+pub none_of_count : (S : ℤ → Type 0) → IsCountOf 0 S → (z : ℤ) → ¬ (S z)
+none_of_count S ([], d, i, e) z s = (i z).0 s
+none_of_count S (x ∷ xs, d, i, e) z s = absurd (omega arith)
+
+pub IsCountOf-only : (x : ℤ) → IsCountOf 1 (Only x)
+IsCountOf-only x = (x ∷ [], ((λ i. i), tt), (λ z. ((λ e. inl e), ⊎_elim (λ e. e) (λ n. absurd n))), refl)
+
+-- a set of one member is that member alone
+pub only_of_count : (S : ℤ → Type 0) → IsCountOf 1 S → (x : ℤ) × SameMembers S (Only x)
+only_of_count S ([], d, i, e) = absurd (omega arith)
+only_of_count S (x ∷ [], d, i, e) = (x, λ z. ((λ s. ⊎_elim (λ f. f) (λ n. absurd n) ((i z).0 s)), (λ f. (i z).1 (inl f))))
+only_of_count S (x ∷ y ∷ xs, d, i, e) = absurd (omega arith)
 
 -- two sets with no common member
 pub IsCountOf-apart : (S T : ℤ → Type 0) (m n : ℕ) → ((z : ℤ) → S z → T z → ⊥) → IsCountOf m S → IsCountOf n T → IsCountOf (m + n) (Union S T)

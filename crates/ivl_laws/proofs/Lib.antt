@@ -8,6 +8,7 @@ pub mod Merging
 pub mod Walks
 pub mod Lengths
 pub mod SetLaws
+pub mod Spans
 pub mod Places
 pub mod ByPlace
 pub mod Ends

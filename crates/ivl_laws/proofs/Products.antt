@@ -3,7 +3,7 @@ use Rattle.std.proofs.Common.{◌≡◌, suc, zero, ◌⊎◌, ◌↔◌, inl, i
 use Rattle.std.proofs.lemmas.Int.{ints, clamps, by_lt_z}
 use Rattle.std.specs.Int.{int_min, int_max}
 use Rattle.std.specs.Int.RustNames.{int_lt}
-use Rattle.ivl_laws.specs.Sets.{IsBetween, InOneRun, Products, ExactProducts, Sums, Differences, IsHullOf}
+use Rattle.ivl_laws.specs.Sets.{IsBetween, SameMembers, InOneRun, Products, ExactProducts, Sums, Differences, IsHullOf}
 use Rattle.ivl_laws.specs.Runs.{Covers, IsMaximal}
 use Rattle.ivl_laws.specs.Counts.{IsIn}
 use Rattle.ivl_laws.specs.Arithmetic.{CoversBoth, pairwise, interval_sum, interval_difference, corner_hull}
@@ -101,7 +101,7 @@ free_above p L m (inl b) = let high = b.1 in omega (arith, ints)
 free_above p L m (inr c) = let far = covered_after p.1 L (p.1 +ℤ pos 1) m.1 m.2 c in omega (arith, ints)
 
 -- both numbers of a run are members
-run_ends : (S : ℤ → Type 0) (x y : ℤ) → InOneRun S x y → S x × S y
+pub run_ends : (S : ℤ → Type 0) (x y : ℤ) → InOneRun S x y → S x × S y
 run_ends S x y r = by_lt_z x y
     (λ lt. let le : x ≤ℤ y = omega (arith, ints) in (r x (inl (≤ℤ_refl x, le)), r y (inl (le, ≤ℤ_refl y))))
     (λ le. (r x (inr (le, ≤ℤ_refl x)), r y (inr (≤ℤ_refl y, le))))
@@ -252,6 +252,12 @@ difference_splits p q z h k b = let low = b.0 in let high = b.1 in by_lt_z (p.0 
 
 pub difference_within : (p q : ℤ × ℤ) (z : ℤ) → Differences (IsBetween p) (IsBetween q) z → IsBetween (interval_difference p q) z
 difference_within p q z (x, y, (a, b), (c, d), e) = (omega (arith, ints), omega (arith, ints))
+
+pub sums_of_intervals : (p q : ℤ × ℤ) → p.0 ≤ℤ p.1 → q.0 ≤ℤ q.1 → SameMembers (IsBetween (interval_sum p q)) (Sums (IsBetween p) (IsBetween q))
+sums_of_intervals p q h k z = (sum_splits p q z h k, sum_within p q z)
+
+pub differences_of_intervals : (p q : ℤ × ℤ) → p.0 ≤ℤ p.1 → q.0 ≤ℤ q.1 → SameMembers (IsBetween (interval_difference p q)) (Differences (IsBetween p) (IsBetween q))
+differences_of_intervals p q h k z = (difference_splits p q z h k, difference_within p q z)
 
 pub sums_of_runs : (L M : List (ℤ × ℤ)) (z : ℤ) → IsMaximal L → IsMaximal M → Sums (Covers L) (Covers M) z ↔ Covers (pairwise interval_sum L M) z
 sums_of_runs L M z l m = (there, back)
