@@ -14,6 +14,7 @@ pub mod ByPlace
 pub mod Ends
 pub mod Ranges
 pub mod Adding
+pub mod Results
 pub mod ExamplesSets
 pub mod ExamplesArithmetic
 pub mod ExamplesRuns

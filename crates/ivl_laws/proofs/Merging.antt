@@ -64,19 +64,19 @@ next_starts p q L m = let a = m.0 in let b = m.1 in omega (arith, ints)
 
 -- ---- one more run at the end
 
-StartsAfter-push : (u : ℤ) (L : List (ℤ × ℤ)) (p : ℤ × ℤ) (M : List (ℤ × ℤ)) → StartsAfter u (L ++ p ∷ []) → StartsAfter u ((L ++ p ∷ []) ++ M)
+pub StartsAfter-push : (u : ℤ) (L : List (ℤ × ℤ)) (p : ℤ × ℤ) (M : List (ℤ × ℤ)) → StartsAfter u (L ++ p ∷ []) → StartsAfter u ((L ++ p ∷ []) ++ M)
 StartsAfter-push u [] p M s = s
 StartsAfter-push u (q ∷ L) p M s = s
 
-StartsAfter-joined : (u : ℤ) (L : List (ℤ × ℤ)) (p : ℤ × ℤ) (v : ℤ) → StartsAfter u (L ++ p ∷ []) → StartsAfter u (L ++ (p.0, v) ∷ [])
+pub StartsAfter-joined : (u : ℤ) (L : List (ℤ × ℤ)) (p : ℤ × ℤ) (v : ℤ) → StartsAfter u (L ++ p ∷ []) → StartsAfter u (L ++ (p.0, v) ∷ [])
 StartsAfter-joined u [] p v s = s
 StartsAfter-joined u (q ∷ L) p v s = s
 
-maximal_apart : (L : List (ℤ × ℤ)) (p q : ℤ × ℤ) → IsMaximal (L ++ p ∷ []) → (p.1 +ℤ pos 2) ≤ℤ q.0 → q.0 ≤ℤ q.1 → IsMaximal ((L ++ p ∷ []) ++ q ∷ [])
+pub maximal_apart : (L : List (ℤ × ℤ)) (p q : ℤ × ℤ) → IsMaximal (L ++ p ∷ []) → (p.1 +ℤ pos 2) ≤ℤ q.0 → q.0 ≤ℤ q.1 → IsMaximal ((L ++ p ∷ []) ++ q ∷ [])
 maximal_apart [] p q m h k = (m.0, h, (k, tt, tt))
 maximal_apart (r ∷ L) p q m h k = (m.0, StartsAfter-push r.1 L p (q ∷ []) m.1, maximal_apart L p q m.2 h k)
 
-maximal_joined : (L : List (ℤ × ℤ)) (p : ℤ × ℤ) (u : ℤ) → IsMaximal (L ++ p ∷ []) → p.1 ≤ℤ u → IsMaximal (L ++ (p.0, u) ∷ [])
+pub maximal_joined : (L : List (ℤ × ℤ)) (p : ℤ × ℤ) (u : ℤ) → IsMaximal (L ++ p ∷ []) → p.1 ≤ℤ u → IsMaximal (L ++ (p.0, u) ∷ [])
 maximal_joined [] p u m h = let a = m.0 in (omega (arith, ints), tt, tt)
 maximal_joined (r ∷ L) p u m h = (m.0, StartsAfter-joined r.1 L p u m.1, maximal_joined L p u m.2 h)
 
@@ -105,7 +105,7 @@ joined_between p q z h k o = (there, back)
     back (inl (a, b)) = (a, omega (arith, ints, clamps))
     back (inr (a, b)) = (omega (arith, ints), omega (arith, ints, clamps))
 
-last_open : (L : List (ℤ × ℤ)) (p : ℤ × ℤ) → IsMaximal (L ++ p ∷ []) → p.0 ≤ℤ p.1
+pub last_open : (L : List (ℤ × ℤ)) (p : ℤ × ℤ) → IsMaximal (L ++ p ∷ []) → p.0 ≤ℤ p.1
 last_open [] p m = m.0
 last_open (r ∷ L) p m = last_open L p m.2
 
@@ -141,20 +141,20 @@ run_within L p q m h k = record {
 
 -- ---- the same, where the last run is read by its place
 
-get_or-last : {X : Type 0} (xs : List X) (x d : X) (k : ℕ) → k + 1 ≡ length (xs ++ x ∷ []) → get_or (xs ++ x ∷ []) k d ≡ x
+pub get_or-last : {X : Type 0} (xs : List X) (x d : X) (k : ℕ) → k + 1 ≡ length (xs ++ x ∷ []) → get_or (xs ++ x ∷ []) k d ≡ x
 get_or-last [] x d zero e = refl
 get_or-last [] x d (suc k) e = absurd (omega arith)
 get_or-last (y ∷ xs) x d zero e = let n = length-append xs (x ∷ []) in absurd (omega arith)
 get_or-last (y ∷ xs) x d (suc k) e = get_or-last xs x d k (omega arith)
 
-set_at_last : {X : Type 0} (xs : List X) (x y : X) (k : ℕ) → k + 1 ≡ length (xs ++ x ∷ []) → set (xs ++ x ∷ []) k y ≡ xs ++ y ∷ []
+pub set_at_last : {X : Type 0} (xs : List X) (x y : X) (k : ℕ) → k + 1 ≡ length (xs ++ x ∷ []) → set (xs ++ x ∷ []) k y ≡ xs ++ y ∷ []
 set_at_last [] x y zero e = refl
 set_at_last [] x y (suc k) e = absurd (omega arith)
 set_at_last (w ∷ xs) x y zero e = let n = length-append xs (x ∷ []) in absurd (omega arith)
 set_at_last {X} (w ∷ xs) x y (suc k) e = ap {B = List X} (λ r. w ∷ r) (set_at_last xs x y k (omega arith))
 
 -- a list that has a last place is some list with one more element
-by_last : (P : List (ℤ × ℤ) → Type 0) (L : List (ℤ × ℤ)) (k : ℕ) → k + 1 ≡ length L → ((M : List (ℤ × ℤ)) (p : ℤ × ℤ) → k + 1 ≡ length (M ++ p ∷ []) → P (M ++ p ∷ [])) → P L
+pub by_last : (P : List (ℤ × ℤ) → Type 0) (L : List (ℤ × ℤ)) (k : ℕ) → k + 1 ≡ length L → ((M : List (ℤ × ℤ)) (p : ℤ × ℤ) → k + 1 ≡ length (M ++ p ∷ []) → P (M ++ p ∷ [])) → P L
 by_last P [] k e f = absurd (omega arith)
 by_last P (x ∷ xs) k e f =
     let (M, p, same) = last_splits x xs in

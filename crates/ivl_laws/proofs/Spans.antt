@@ -151,7 +151,7 @@ pub meet_comm : (p q r : ℤ × ℤ) → IsHullOf r (Union (IsBetween p) (IsBetw
 meet_comm p q r = IsHullOf-same (Union (IsBetween p) (IsBetween q)) (Union (IsBetween q) (IsBetween p)) r (union_comm (IsBetween p) (IsBetween q))
 
 -- the hull of a hull and one more interval is the span of all three
-span_of_three : (p q s pq l : ℤ × ℤ) → IsHullOf pq (Union (IsBetween p) (IsBetween q)) → IsHullOf l (Union (IsBetween pq) (IsBetween s)) →
+pub span_of_three : (p q s pq l : ℤ × ℤ) → IsHullOf pq (Union (IsBetween p) (IsBetween q)) → IsHullOf l (Union (IsBetween pq) (IsBetween s)) →
     SameMembers (IsBetween l) (Span (Union (Span (Union (IsBetween p) (IsBetween q))) (IsBetween s)))
 span_of_three p q s pq l h k =
     (hull_is_span (Union (Span (Union (IsBetween p) (IsBetween q))) (IsBetween s)) l).0

@@ -21,15 +21,15 @@ abbrev pub StartsBefore : List (ℤ × ℤ) → List (ℤ × ℤ) → Type 0
 StartsBefore written [] = Unit {0}
 StartsBefore written (p ∷ rest) = StartsBy p.0 written
 
-StartsBefore-from : (written rest : List (ℤ × ℤ)) (n : ℤ) → StartsBy n written → StartsFrom n rest → StartsBefore written rest
+pub StartsBefore-from : (written rest : List (ℤ × ℤ)) (n : ℤ) → StartsBy n written → StartsFrom n rest → StartsBefore written rest
 StartsBefore-from written [] n s f = tt
 StartsBefore-from written (p ∷ rest) n s f = StartsBy-more written n p.0 s f
 
-StartsFrom-rest : (p : ℤ × ℤ) (rest : List (ℤ × ℤ)) → IsMaximal (p ∷ rest) → StartsFrom p.1 rest
+pub StartsFrom-rest : (p : ℤ × ℤ) (rest : List (ℤ × ℤ)) → IsMaximal (p ∷ rest) → StartsFrom p.1 rest
 StartsFrom-rest p [] m = tt
 StartsFrom-rest p (q ∷ rest) m = let far = m.1 in omega (arith, ints)
 
-StartsFrom-more : (m n : ℤ) (rest : List (ℤ × ℤ)) → m ≤ℤ n → StartsFrom n rest → StartsFrom m rest
+pub StartsFrom-more : (m n : ℤ) (rest : List (ℤ × ℤ)) → m ≤ℤ n → StartsFrom n rest → StartsFrom m rest
 StartsFrom-more m n [] h f = tt
 StartsFrom-more m n (p ∷ rest) h f = omega (arith, ints)
 
@@ -154,7 +154,7 @@ meeting_swaps written A B S u = record {
     other (p ∷ A) [] s = tt
     other (p ∷ A) (q ∷ B) s = StartsBy-more written (int_max p.0 q.0) (int_max q.0 p.0) s (omega (arith, ints, clamps))
 
-later_starts : (written : List (ℤ × ℤ)) (p q : ℤ × ℤ) (A B : List (ℤ × ℤ)) (n : ℤ) → IsMaximal (p ∷ A) → StartsBy n written → n ≤ℤ int_max p.1 q.0 → StartsBeforeLater written A (q ∷ B)
+pub later_starts : (written : List (ℤ × ℤ)) (p q : ℤ × ℤ) (A B : List (ℤ × ℤ)) (n : ℤ) → IsMaximal (p ∷ A) → StartsBy n written → n ≤ℤ int_max p.1 q.0 → StartsBeforeLater written A (q ∷ B)
 later_starts written p q [] B n m s h = tt
 later_starts written p q (r ∷ A) B n m s h = let far = m.1 in StartsBy-more written n (int_max r.0 q.0) s (omega (arith, ints, clamps))
 

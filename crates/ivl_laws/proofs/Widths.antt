@@ -35,7 +35,7 @@ total_width-le whole L m f = count_is_monotone (Covers L) (IsBetween whole) (tot
 
 -- ---- the first runs of a list
 
-StartsAfter-take : (u : ℤ) (L : List (ℤ × ℤ)) (k : ℕ) → StartsAfter u L → StartsAfter u (take k L)
+pub StartsAfter-take : (u : ℤ) (L : List (ℤ × ℤ)) (k : ℕ) → StartsAfter u L → StartsAfter u (take k L)
 StartsAfter-take u [] zero s = tt
 StartsAfter-take u [] (suc k) s = tt
 StartsAfter-take u (p ∷ L) zero s = tt
