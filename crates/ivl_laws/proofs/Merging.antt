@@ -88,10 +88,14 @@ first_run q h = record {
 }
 
 -- a run that leaves a number free after the last one
-pub run_apart : (L : List (ℤ × ℤ)) (p q : ℤ × ℤ) → IsMaximal (L ++ p ∷ []) → (p.1 +ℤ pos 2) ≤ℤ q.0 → q.0 ≤ℤ q.1 → IsRunsOf ((L ++ p ∷ []) ++ q ∷ []) (Union (Covers (L ++ p ∷ [])) (IsBetween q))
+pub run_apart : (L : List (ℤ × ℤ)) (p q : ℤ × ℤ) → IsMaximal (L ++ p ∷ []) → (p.1 +ℤ pos 2) ≤ℤ q.0 → q.0 ≤ℤ q.1 →
+    IsRunsOf ((L ++ p ∷ []) ++ q ∷ []) (Union (Covers (L ++ p ∷ [])) (IsBetween q))
 run_apart L p q m h k = record {
   maximal = maximal_apart L p q m h k;
-  members = λ z. ((λ c. ⊎_elim (λ a. inl a) (⊎_elim (λ b. inr b) (λ n. absurd n)) (covers-append (L ++ p ∷ []) (q ∷ []) z c)), ⊎_elim (λ c. covers-append_left (L ++ p ∷ []) (q ∷ []) z c) (λ b. covers-append_right (L ++ p ∷ []) (q ∷ []) z (inl b)));
+  members = λ z. (
+    (λ c. ⊎_elim (λ a. inl a) (⊎_elim (λ b. inr b) (λ n. absurd n)) (covers-append (L ++ p ∷ []) (q ∷ []) z c)),
+    ⊎_elim (λ c. covers-append_left (L ++ p ∷ []) (q ∷ []) z c) (λ b. covers-append_right (L ++ p ∷ []) (q ∷ []) z (inl b)),
+  );
 }
 
 -- two runs that overlap or touch are one
@@ -110,7 +114,8 @@ last_open [] p m = m.0
 last_open (r ∷ L) p m = last_open L p m.2
 
 -- a run that starts no lower than the last one and overlaps or touches it
-pub run_joined : (L : List (ℤ × ℤ)) (p q : ℤ × ℤ) → IsMaximal (L ++ p ∷ []) → p.0 ≤ℤ q.0 → q.0 ≤ℤ (p.1 +ℤ pos 1) → IsRunsOf (L ++ (p.0, int_max p.1 q.1) ∷ []) (Union (Covers (L ++ p ∷ [])) (IsBetween q))
+pub run_joined : (L : List (ℤ × ℤ)) (p q : ℤ × ℤ) → IsMaximal (L ++ p ∷ []) → p.0 ≤ℤ q.0 → q.0 ≤ℤ (p.1 +ℤ pos 1) →
+    IsRunsOf (L ++ (p.0, int_max p.1 q.1) ∷ []) (Union (Covers (L ++ p ∷ [])) (IsBetween q))
 run_joined L p q m h k = record {
   maximal = maximal_joined L p (int_max p.1 q.1) m (omega (arith, ints, clamps));
   members = λ z. (back z, there z);
@@ -165,17 +170,21 @@ StartsBy-at_last [] k d n e s = absurd (omega arith)
 StartsBy-at_last (p ∷ L) zero d n e s = s.0
 StartsBy-at_last (p ∷ L) (suc k) d n e s = StartsBy-at_last L k d n (omega arith) s.1
 
-pub run_apart_at : (L : List (ℤ × ℤ)) (k : ℕ) (d q : ℤ × ℤ) → k + 1 ≡ length L → IsMaximal L → ((get_or L k d).1 +ℤ pos 2) ≤ℤ q.0 → q.0 ≤ℤ q.1 → IsRunsOf (L ++ q ∷ []) (Union (Covers L) (IsBetween q))
+pub run_apart_at : (L : List (ℤ × ℤ)) (k : ℕ) (d q : ℤ × ℤ) → k + 1 ≡ length L → IsMaximal L → ((get_or L k d).1 +ℤ pos 2) ≤ℤ q.0 → q.0 ≤ℤ q.1 →
+    IsRunsOf (L ++ q ∷ []) (Union (Covers L) (IsBetween q))
 run_apart_at L k d q e = by_last (λ l. IsMaximal l → ((get_or l k d).1 +ℤ pos 2) ≤ℤ q.0 → q.0 ≤ℤ q.1 → IsRunsOf (l ++ q ∷ []) (Union (Covers l) (IsBetween q))) L k e
     (λ M p f m h o. run_apart M p q m (subst (λ (r : ℤ × ℤ). (r.1 +ℤ pos 2) ≤ℤ q.0) (get_or-last M p d k f) h) o)
 
-pub run_joined_at : (L : List (ℤ × ℤ)) (k : ℕ) (d q r : ℤ × ℤ) → k + 1 ≡ length L → IsMaximal L → StartsBy q.0 L → q.0 ≤ℤ ((get_or L k d).1 +ℤ pos 1) → r.0 ≡ (get_or L k d).0 → r.1 ≡ int_max (get_or L k d).1 q.1 →
+pub run_joined_at : (L : List (ℤ × ℤ)) (k : ℕ) (d q r : ℤ × ℤ) → k + 1 ≡ length L → IsMaximal L → StartsBy q.0 L → q.0 ≤ℤ ((get_or L k d).1 +ℤ pos 1) →
+    r.0 ≡ (get_or L k d).0 → r.1 ≡ int_max (get_or L k d).1 q.1 →
     IsRunsOf (set L k r) (Union (Covers L) (IsBetween q))
 run_joined_at L k d q r e m s h low high = by_last
     (λ l. IsMaximal l → StartsBy q.0 l → q.0 ≤ℤ ((get_or l k d).1 +ℤ pos 1) → r.0 ≡ (get_or l k d).0 → r.1 ≡ int_max (get_or l k d).1 q.1 → IsRunsOf (set l k r) (Union (Covers l) (IsBetween q)))
     L k e by m s h low high
   where
-    by : (M : List (ℤ × ℤ)) (p : ℤ × ℤ) → k + 1 ≡ length (M ++ p ∷ []) → IsMaximal (M ++ p ∷ []) → StartsBy q.0 (M ++ p ∷ []) → q.0 ≤ℤ ((get_or (M ++ p ∷ []) k d).1 +ℤ pos 1) → r.0 ≡ (get_or (M ++ p ∷ []) k d).0 → r.1 ≡ int_max (get_or (M ++ p ∷ []) k d).1 q.1 → IsRunsOf (set (M ++ p ∷ []) k r) (Union (Covers (M ++ p ∷ [])) (IsBetween q))
+    by : (M : List (ℤ × ℤ)) (p : ℤ × ℤ) → k + 1 ≡ length (M ++ p ∷ []) → IsMaximal (M ++ p ∷ []) → StartsBy q.0 (M ++ p ∷ []) →
+        q.0 ≤ℤ ((get_or (M ++ p ∷ []) k d).1 +ℤ pos 1) → r.0 ≡ (get_or (M ++ p ∷ []) k d).0 → r.1 ≡ int_max (get_or (M ++ p ∷ []) k d).1 q.1 →
+        IsRunsOf (set (M ++ p ∷ []) k r) (Union (Covers (M ++ p ∷ [])) (IsBetween q))
     by M p f m s h low high =
         let last = get_or-last M p d k f in
         let lower = subst (λ (t : ℤ × ℤ). r.0 ≡ t.0) last low in

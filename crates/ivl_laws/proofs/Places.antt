@@ -2,7 +2,7 @@
 use Rattle.std.proofs.Common.{◌≡◌, ℕ, suc, zero, ◌+◌, ◌*◌, ◌<◌, inl, inr, ℤ, pos, ◌+ℤ◌, ◌-ℤ◌, ◌≤ℤ◌, List, [], ◌∷◌, ◌++◌, map, take, drop, length, get_or, refl, ap, sym, subst, ◌∙◌, arith, Contains, IsPermutation}
 use Rattle.std.proofs.lemmas.Int.{ints, by_lt_z}
 use Rattle.std.proofs.lemmas.List.Sorted.{Contains-permutation, IsPermutation-sym}
-use Rattle.ivl_laws.specs.Sets.{IsBetween, SameMembers}
+use Rattle.ivl_laws.specs.Sets.{IsBetween, IsSubset, SameMembers}
 use Rattle.ivl_laws.specs.Runs.{Covers, StartsAfter, IsMaximal, IsRunsOf}
 use Rattle.ivl_laws.specs.Counts.{IsIn}
 use Rattle.ivl_laws.specs.Arithmetic.{pairwise}
@@ -56,7 +56,8 @@ runs_ascend (p ∷ L) (suc i) zero d m h k = absurd (omega arith)
 runs_ascend (p ∷ L) (suc i) (suc j) d m h k = runs_ascend L i j d m.2 (omega arith) (omega arith)
 
 -- a list is maximal where each run is one and leaves a number free before the next
-pub maximal_from_places : (L : List (ℤ × ℤ)) (d : ℤ × ℤ) → ((i : ℕ) → i < length L → (get_or L i d).0 ≤ℤ (get_or L i d).1) → ((i : ℕ) → i + 1 < length L → ((get_or L i d).1 +ℤ pos 2) ≤ℤ (get_or L (i + 1) d).0) → IsMaximal L
+pub maximal_from_places : (L : List (ℤ × ℤ)) (d : ℤ × ℤ) → ((i : ℕ) → i < length L → (get_or L i d).0 ≤ℤ (get_or L i d).1) →
+    ((i : ℕ) → i + 1 < length L → ((get_or L i d).1 +ℤ pos 2) ≤ℤ (get_or L (i + 1) d).0) → IsMaximal L
 maximal_from_places [] d f g = tt
 maximal_from_places (p ∷ []) d f g = (f 0 (omega arith), tt, tt)
 maximal_from_places (p ∷ q ∷ L) d f g = (
@@ -66,20 +67,36 @@ maximal_from_places (p ∷ q ∷ L) d f g = (
       (λ i h. let e : suc i + 1 ≡ suc (i + 1) = omega arith in subst (λ (k : ℕ). ((get_or (p ∷ q ∷ L) (suc i) d).1 +ℤ pos 2) ≤ℤ (get_or (p ∷ q ∷ L) k d).0) e (g (suc i) (omega arith))),
 )
 
-pub maximal_drop : (n : ℕ) (L : List (ℤ × ℤ)) → IsMaximal L → IsMaximal (drop n L)
-maximal_drop zero L m = m
-maximal_drop (suc n) [] m = tt
-maximal_drop (suc n) (p ∷ L) m = maximal_drop n L m.2
+pub IsMaximal-drop : (L : List (ℤ × ℤ)) (k : ℕ) → IsMaximal L → IsMaximal (drop k L)
+IsMaximal-drop [] zero m = tt
+IsMaximal-drop [] (suc k) m = tt
+IsMaximal-drop (p ∷ L) zero m = m
+IsMaximal-drop (p ∷ L) (suc k) m = IsMaximal-drop L k m.2
 
-pub StartsAfter-take : (u : ℤ) (n : ℕ) (L : List (ℤ × ℤ)) → StartsAfter u L → StartsAfter u (take n L)
-StartsAfter-take u zero L s = tt
-StartsAfter-take u (suc n) [] s = tt
-StartsAfter-take u (suc n) (p ∷ L) s = s
+pub covers-drop : (L : List (ℤ × ℤ)) (k : ℕ) → IsSubset (Covers (drop k L)) (Covers L)
+covers-drop [] zero z c = c
+covers-drop [] (suc k) z c = c
+covers-drop (p ∷ L) zero z c = c
+covers-drop (p ∷ L) (suc k) z c = inr (covers-drop L k z c)
 
-pub maximal_take : (n : ℕ) (L : List (ℤ × ℤ)) → IsMaximal L → IsMaximal (take n L)
-maximal_take zero L m = tt
-maximal_take (suc n) [] m = tt
-maximal_take (suc n) (p ∷ L) m = (m.0, StartsAfter-take p.1 n L m.1, maximal_take n L m.2)
+pub StartsAfter-take : (u : ℤ) (L : List (ℤ × ℤ)) (k : ℕ) → StartsAfter u L → StartsAfter u (take k L)
+StartsAfter-take u [] zero s = tt
+StartsAfter-take u [] (suc k) s = tt
+StartsAfter-take u (p ∷ L) zero s = tt
+StartsAfter-take u (p ∷ L) (suc k) s = s
+
+pub IsMaximal-take : (L : List (ℤ × ℤ)) (k : ℕ) → IsMaximal L → IsMaximal (take k L)
+IsMaximal-take [] zero m = tt
+IsMaximal-take [] (suc k) m = tt
+IsMaximal-take (p ∷ L) zero m = tt
+IsMaximal-take (p ∷ L) (suc k) m = (m.0, StartsAfter-take p.1 L k m.1, IsMaximal-take L k m.2)
+
+pub covers-take : (L : List (ℤ × ℤ)) (k : ℕ) → IsSubset (Covers (take k L)) (Covers L)
+covers-take [] zero z c = c
+covers-take [] (suc k) z c = c
+covers-take (p ∷ L) zero z c = absurd c
+covers-take (p ∷ L) (suc k) z (inl b) = inl b
+covers-take (p ∷ L) (suc k) z (inr c) = inr (covers-take L k z c)
 
 -- ---- the ends of runs
 
@@ -143,7 +160,8 @@ get_or-append_right (x ∷ xs) ys zero j d h = absurd (omega arith)
 get_or-append_right (x ∷ xs) ys (suc k) j d h = get_or-append_right xs ys k j d (omega arith)
 
 -- the result of run i of L and run j of M stands at place i * length M + j
-pub get_or-pairwise : (f : ℤ × ℤ → ℤ × ℤ → ℤ × ℤ) (L M : List (ℤ × ℤ)) (i j : ℕ) (d : ℤ × ℤ) → i < length L → j < length M → get_or (pairwise f L M) (i * length M + j) d ≡ f (get_or L i d) (get_or M j d)
+pub get_or-pairwise : (f : ℤ × ℤ → ℤ × ℤ → ℤ × ℤ) (L M : List (ℤ × ℤ)) (i j : ℕ) (d : ℤ × ℤ) → i < length L → j < length M →
+    get_or (pairwise f L M) (i * length M + j) d ≡ f (get_or L i d) (get_or M j d)
 get_or-pairwise f [] M i j d h k = absurd (omega arith)
 get_or-pairwise f (p ∷ L) M zero j d h k =
     let n = length-map (f p) M in

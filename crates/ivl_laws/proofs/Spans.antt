@@ -183,7 +183,8 @@ pub join-meet : (p q m : ℤ × ℤ) → IsHullOf m (Union (IsBetween p) (IsBetw
 join-meet p q m h z = ((λ (b, c). b), (λ b. (b, h.holds z (inl b))))
 
 -- the hull of an interval and a part of it is the interval
-pub meet-join : (p q j r : ℤ × ℤ) → SameMembers (IsBetween j) (Intersection (IsBetween p) (IsBetween q)) → IsHullOf r (Union (IsBetween p) (IsBetween j)) → SameMembers (IsBetween r) (IsBetween p)
+pub meet-join : (p q j r : ℤ × ℤ) → SameMembers (IsBetween j) (Intersection (IsBetween p) (IsBetween q)) → IsHullOf r (Union (IsBetween p) (IsBetween j)) →
+    SameMembers (IsBetween r) (IsBetween p)
 meet-join p q j r e h = hull_is_unique (Union (IsBetween p) (IsBetween j)) r p h record {
   holds = λ z. ⊎_elim (λ b. b) (λ b. ((e z).0 b).0);
   ends = λ o. (inl (lower_end p o), inl (upper_end p o));

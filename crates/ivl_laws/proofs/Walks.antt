@@ -102,7 +102,8 @@ uniting_next written added A B A' B' p S u (inr (e, f, h)) r s =
     subst (λ (a : List (ℤ × ℤ)). IsUniting added a B' S) f
     (uniting_swaps added B' A S (uniting_takes written added p B' A S (uniting_swaps written A (p ∷ B') S (subst (λ (b : List (ℤ × ℤ)). IsUniting written A b S) e u)) h r s))
 
-pub uniting_has_room : (written : List (ℤ × ℤ)) (A B A' B' : List (ℤ × ℤ)) (p : ℤ × ℤ) (S : ℤ → Type 0) → IsUniting written A B S → TakesFirst A B A' B' p → StartsBy p.0 written × (p.0 ≤ℤ p.1)
+pub uniting_has_room : (written : List (ℤ × ℤ)) (A B A' B' : List (ℤ × ℤ)) (p : ℤ × ℤ) (S : ℤ → Type 0) → IsUniting written A B S → TakesFirst A B A' B' p →
+    StartsBy p.0 written × (p.0 ≤ℤ p.1)
 uniting_has_room written A B A' B' p S u (inl (e, f, h)) = let v = subst (λ (a : List (ℤ × ℤ)). IsUniting written a B S) e u in (v.before_first, v.first.0)
 uniting_has_room written A B A' B' p S u (inr (e, f, h)) = let v = subst (λ (b : List (ℤ × ℤ)). IsUniting written A b S) e u in (v.before_second, v.second.0)
 
@@ -242,7 +243,8 @@ module _ (written : List (ℤ × ℤ)) (next high : ℤ) (p : ℤ × ℤ) (rest 
   }
 
 -- the gap above the last run is added
-pub leaving_ends : (written added : List (ℤ × ℤ)) (next high : ℤ) (S : ℤ → Type 0) → IsLeaving written next high [] S → IsRunsOf added (Union (Covers written) (IsBetween (next, high))) → IsRunsOf added S
+pub leaving_ends : (written added : List (ℤ × ℤ)) (next high : ℤ) (S : ℤ → Type 0) → IsLeaving written next high [] S →
+    IsRunsOf added (Union (Covers written) (IsBetween (next, high))) → IsRunsOf added S
 leaving_ends written added next high S u r = record {
   maximal = r.maximal;
   members = λ z. ((λ c. (u.members z).1 (⊎_elim (λ w. inl w) (λ b. inr (b, λ n. n)) ((r.members z).0 c))), (λ s. (r.members z).1 (⊎_elim (λ c. inl c) (λ b. inr b.0) ((u.members z).0 s))));
@@ -253,8 +255,12 @@ leaving_ends written added next high S u r = record {
 pub gathering_begins : IsRunsOf [] (Covers [])
 gathering_begins = record { maximal = tt; members = λ z. ((λ c. c), (λ c. c)) }
 
-pub gathering_takes : (written added done more : List (ℤ × ℤ)) (p : ℤ × ℤ) → more ≡ done ++ p ∷ [] → IsRunsOf written (Covers done) → IsRunsOf added (Union (Covers written) (IsBetween p)) → IsRunsOf added (Covers more)
+pub gathering_takes : (written added done more : List (ℤ × ℤ)) (p : ℤ × ℤ) → more ≡ done ++ p ∷ [] → IsRunsOf written (Covers done) →
+    IsRunsOf added (Union (Covers written) (IsBetween p)) → IsRunsOf added (Covers more)
 gathering_takes written added done more p e r s = subst (λ (l : List (ℤ × ℤ)). IsRunsOf added (Covers l)) (sym e) (record {
   maximal = s.maximal;
-  members = λ z. ((λ c. ⊎_elim (λ w. covers-append_left done (p ∷ []) z ((r.members z).0 w)) (λ b. covers-append_right done (p ∷ []) z (inl b)) ((s.members z).0 c)), (λ c. (s.members z).1 (⊎_elim (λ a. inl ((r.members z).1 a)) (⊎_elim (λ b. inr b) (λ n. absurd n)) (covers-append done (p ∷ []) z c))));
+  members = λ z. (
+    (λ c. ⊎_elim (λ w. covers-append_left done (p ∷ []) z ((r.members z).0 w)) (λ b. covers-append_right done (p ∷ []) z (inl b)) ((s.members z).0 c)),
+    (λ c. (s.members z).1 (⊎_elim (λ a. inl ((r.members z).1 a)) (⊎_elim (λ b. inr b) (λ n. absurd n)) (covers-append done (p ∷ []) z c))),
+  );
 })
