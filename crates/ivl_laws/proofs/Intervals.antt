@@ -5,7 +5,7 @@ use Rattle.std.specs.Int.{int_max}
 use Rattle.ivl_laws.specs.Sets.{IsBetween, IsCrossed, IsInRange, IsSubset, HasNone, HasSome, Only, SameMembers, Sums, Differences}
 use Rattle.ivl_laws.specs.Bounds.{non_negative_part, width_of}
 use Rattle.ivl_laws.specs.Counts.{IsCountOf}
-use Rattle.ivl_laws.proofs.Runs.{lower_end, upper_end, ≤ℤ_trans}
+use Rattle.ivl_laws.proofs.Runs.{lower_end, upper_end, ≤ℤ_trans, ≤ℤ_antisymm, pair_same}
 use Rattle.ivl_laws.proofs.Counts.{IsCountOf-between, IsCountOf-none, count_is_unique}
 
 -- ---- crossed or not
@@ -24,6 +24,24 @@ not_crossed p n = by_lt_z p.1 p.0 (λ l. absurd (n l)) (λ k. k)
 
 pub is_crossed : (p : ℤ × ℤ) → ¬ (p.0 ≤ℤ p.1) → IsCrossed p
 is_crossed p n = by_lt_z p.1 p.0 (λ l. l) (λ k. absurd (n k))
+
+-- ---- the same numbers
+
+-- pairs with the same numbers are the same pair, where one of them is not crossed
+pub same_between : (p q : ℤ × ℤ) → p.0 ≤ℤ p.1 → SameMembers (IsBetween p) (IsBetween q) → p ≡ q
+same_between p q o h =
+    let (a, b) = (h p.0).0 (lower_end p o) in
+    let (c, d) = (h p.1).0 (upper_end p o) in
+    let o' : q.0 ≤ℤ q.1 = ≤ℤ_trans q.0 p.0 q.1 a b in
+    pair_same p q (≤ℤ_antisymm p.0 q.0 ((h q.0).1 (lower_end q o')).0 a) (≤ℤ_antisymm p.1 q.1 d ((h q.1).1 (upper_end q o')).1)
+
+-- two crossed pairs have the same numbers
+pub crossed_same : (p q : ℤ × ℤ) → IsCrossed p → IsCrossed q → SameMembers (IsBetween p) (IsBetween q)
+crossed_same p q c d z = ((λ b. absurd ((none_is_crossed p).1 c z b)), (λ b. absurd ((none_is_crossed q).1 d z b)))
+
+-- a pair with the numbers of a crossed one is crossed
+pub crossed_if_same : (p q : ℤ × ℤ) → IsCrossed p → SameMembers (IsBetween p) (IsBetween q) → IsCrossed q
+crossed_if_same p q c h = (none_is_crossed q).0 (λ z b. (none_is_crossed p).1 c z ((h z).1 b))
 
 -- ---- within a range
 

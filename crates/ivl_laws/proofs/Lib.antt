@@ -8,8 +8,14 @@ pub mod Merging
 pub mod Walks
 pub mod Lengths
 pub mod SetLaws
+pub mod Spans
 pub mod Places
 pub mod ByPlace
 pub mod Ends
 pub mod Ranges
 pub mod Adding
+pub mod Results
+pub mod ExamplesSets
+pub mod ExamplesArithmetic
+pub mod ExamplesRuns
+pub mod ExamplesCounts

@@ -1,11 +1,11 @@
 -- Laws of sets of whole numbers.
-use Rattle.std.proofs.Common.{◌≡◌, ◌⊎◌, ◌↔◌, inl, inr, ⊎_elim, ℤ, ◌≤ℤ◌, List, subst, arith, pos, ◌+ℤ◌, ◌-ℤ◌}
+use Rattle.std.proofs.Common.{◌≡◌, ◌⊎◌, ◌↔◌, inl, inr, ⊎_elim, ℤ, ◌≤ℤ◌, List, [], ◌∷◌, refl, sym, subst, arith, pos, ◌+ℤ◌, ◌-ℤ◌, ◌*ℤ◌}
 use Rattle.std.proofs.lemmas.Int.{ints}
 use lib.Signed.{≤ℤ_refl}
-use Rattle.ivl_laws.specs.Sets.{Above, AtLeast, AtMost, Below, IsBetween, IsSubset, SameMembers, Union, Intersection, Without, SymmetricDifference, Complement, Sums, Differences, Products, IsHullOf}
-use Rattle.ivl_laws.specs.Runs.{IsRunsOf}
-use Rattle.ivl_laws.specs.Arithmetic.{Span}
-use Rattle.ivl_laws.proofs.Runs.{runs_are_unique, ≤ℤ_antisymm, ≤ℤ_trans, lower_end, upper_end}
+use Rattle.ivl_laws.specs.Sets.{Above, AtLeast, AtMost, Below, IsBetween, IsSubset, SameMembers, Union, Intersection, Without, SymmetricDifference, Complement, Sums, Differences, ExactProducts, Products, InOneRun, Only}
+use Rattle.ivl_laws.specs.Runs.{Covers, IsRunsOf}
+use Rattle.ivl_laws.proofs.Runs.{runs_are_unique, ≤ℤ_antisymm, ≤ℤ_trans}
+use Rattle.ivl_laws.proofs.Products.{run_ends}
 
 -- whether a number is a member can be told
 abbrev pub IsDecided : (ℤ → Type 0) → Type 0
@@ -43,12 +43,26 @@ module _ (S T : ℤ → Type 0) where
   pub difference-complement : (whole : ℤ × ℤ) → IsSubset S (IsBetween whole) → SameMembers (Without S T) (Intersection S (Complement whole T))
   difference-complement whole h z = ((λ (s, n). (s, (h z s, n))), (λ (s, c). (s, c.1)))
 
-  pub symmetric_difference-difference : SameMembers (SymmetricDifference S T) (Union (Without S T) (Without T S))
-  symmetric_difference-difference z = ((λ d. d), (λ d. d))
+  -- in the union and not in both
+  pub symmetric_difference-union : SameMembers (SymmetricDifference S T) (Without (Union S T) (Intersection S T))
+  symmetric_difference-union z = (
+    ⊎_elim (λ (s, n). (inl s, λ b. n b.1)) (λ (t, n). (inr t, λ b. n b.0)),
+    (λ (u, n). ⊎_elim (λ s. inl (s, λ t. n (s, t))) (λ t. inr (t, λ s. n (s, t))) u),
+  )
+
+  -- ---- the order of sets
+  pub subset-intersection : (U : ℤ → Type 0) → IsSubset U (Intersection S T) ↔ (IsSubset U S × IsSubset U T)
+  subset-intersection U = ((λ h. ((λ z u. (h z u).0), (λ z u. (h z u).1))), (λ (h, k) z u. (h z u, k z u)))
+
+  pub union-subset : (U : ℤ → Type 0) → IsSubset (Union S T) U ↔ (IsSubset S U × IsSubset T U)
+  union-subset U = ((λ h. ((λ z s. h z (inl s)), (λ z t. h z (inr t)))), (λ (h, k) z. ⊎_elim (h z) (k z)))
 
   -- ---- the lattice of sets
   pub union_comm : SameMembers (Union S T) (Union T S)
   union_comm z = (⊎_elim (λ s. inr s) (λ t. inl t), ⊎_elim (λ t. inr t) (λ s. inl s))
+
+  pub union-same_left : (U : ℤ → Type 0) → SameMembers S T → SameMembers (Union S U) (Union T U)
+  union-same_left U h z = (⊎_elim (λ s. inl ((h z).0 s)) (λ u. inr u), ⊎_elim (λ t. inl ((h z).1 t)) (λ u. inr u))
 
   pub intersection_comm : SameMembers (Intersection S T) (Intersection T S)
   intersection_comm z = ((λ (s, t). (t, s)), (λ (t, s). (s, t)))
@@ -68,31 +82,6 @@ module _ (S T : ℤ → Type 0) where
   pub intersection-union : SameMembers (Intersection S (Union S T)) S
   intersection-union z = ((λ (s, u). s), λ s. (s, inl s))
 
-  -- ---- hulls
-  -- the hull of a set holds the numbers between two members
-  pub hull_is_span : (p : ℤ × ℤ) → SameMembers S T → IsHullOf p S ↔ SameMembers (IsBetween p) (Span T)
-  hull_is_span p h = (there, back)
-    where
-      there : IsHullOf p S → SameMembers (IsBetween p) (Span T)
-      there k z = (
-        (λ b. let ends = k.ends (≤ℤ_trans p.0 z p.1 b.0 b.1) in (p.0, p.1, (h p.0).0 ends.0, (h p.1).0 ends.1, b.0, b.1)),
-        (λ (x, y, s, t, low, high). (≤ℤ_trans p.0 x z (k.holds x ((h x).1 s)).0 low, ≤ℤ_trans z y p.1 high (k.holds y ((h y).1 t)).1)),
-      )
-
-      least : SameMembers (IsBetween p) (Span T) → p.0 ≤ℤ p.1 → T p.0 × T p.1
-      least k o =
-          let (x, y, s, t, low, high) = (k p.0).0 (lower_end p o) in
-          let (x', y', s', t', low', high') = (k p.1).0 (upper_end p o) in
-          let in_x = (k x).1 (x, x, s, s, ≤ℤ_refl x, ≤ℤ_refl x) in
-          let in_y = (k y').1 (y', y', t', t', ≤ℤ_refl y', ≤ℤ_refl y') in
-          (subst T (≤ℤ_antisymm x p.0 low in_x.0) s, subst T (≤ℤ_antisymm y' p.1 in_y.1 high') t')
-
-      back : SameMembers (IsBetween p) (Span T) → IsHullOf p S
-      back k = record {
-        holds = λ z s. (k z).1 (z, z, (h z).0 s, (h z).0 s, ≤ℤ_refl z, ≤ℤ_refl z);
-        ends = λ o. ((h p.0).1 (least k o).0, (h p.1).1 (least k o).1);
-      }
-
 module _ (S : ℤ → Type 0) where
   pub same_members_refl : SameMembers S S
   same_members_refl z = ((λ s. s), (λ s. s))
@@ -109,16 +98,6 @@ module _ (S : ℤ → Type 0) where
   pub intersection_idem : SameMembers (Intersection S S) S
   intersection_idem z = ((λ (s, t). s), λ s. (s, s))
 
-  -- a hull is the least interval that holds the set
-  pub hull_is_least : (p q : ℤ × ℤ) → IsHullOf p S → IsSubset S (IsBetween q) → IsSubset (IsBetween p) (IsBetween q)
-  hull_is_least p q h f z b =
-      let ends = h.ends (≤ℤ_trans p.0 z p.1 b.0 b.1) in
-      (≤ℤ_trans q.0 p.0 z (f p.0 ends.0).0 b.0, ≤ℤ_trans z p.1 q.1 b.1 (f p.1 ends.1).1)
-
-  -- a set has one hull
-  pub hull_is_unique : (p q : ℤ × ℤ) → IsHullOf p S → IsHullOf q S → SameMembers (IsBetween p) (IsBetween q)
-  hull_is_unique p q h k z = (hull_is_least p q h k.holds z, hull_is_least q p k h.holds z)
-
 -- ---- one list for one set
 pub IsRunsOf-same : (S T : ℤ → Type 0) (L : List (ℤ × ℤ)) → SameMembers S T → IsRunsOf L S → IsRunsOf L T
 IsRunsOf-same S T L h r = record { maximal = r.maximal; members = λ z. ((λ c. (h z).0 ((r.members z).0 c)), (λ t. (r.members z).1 ((h z).1 t))) }
@@ -127,51 +106,6 @@ pub IsRunsOf-unique : (S T : ℤ → Type 0) (L M : List (ℤ × ℤ)) → SameM
 IsRunsOf-unique S T L M h r q = runs_are_unique L M r.maximal q.maximal
     (λ z. ((λ c. (q.members z).1 ((h z).0 ((r.members z).0 c))), (λ c. (r.members z).1 ((h z).1 ((q.members z).0 c)))))
 
--- ---- the lattice of intervals: what is meant by the meet of two is the span of their union
-module _ (S T : ℤ → Type 0) where
-  pub span_comm : SameMembers (Span (Union S T)) (Span (Union T S))
-  span_comm z = (
-    (λ (x, y, s, t, low, high). (x, y, (union_comm S T x).0 s, (union_comm S T y).0 t, low, high)),
-    (λ (x, y, s, t, low, high). (x, y, (union_comm S T x).1 s, (union_comm S T y).1 t, low, high)),
-  )
-
-  -- the span of a union with a span is the span of the union
-  pub span-union_left : SameMembers (Span (Union (Span S) T)) (Span (Union S T))
-  span-union_left z = ((λ (x, y, s, t, low, high). by x y low high (bound x s) (bound y t)), (λ (x, y, s, t, low, high). (x, y, wide x s, wide y t, low, high)))
-    where
-      wide : (x : ℤ) → S x ⊎ T x → Span S x ⊎ T x
-      wide x (inl s) = inl (x, x, s, s, ≤ℤ_refl x, ≤ℤ_refl x)
-      wide x (inr t) = inr t
-
-      bound : (x : ℤ) → Span S x ⊎ T x → Span (Union S T) x
-      bound x (inl (a, b, s, t, low, high)) = (a, b, inl s, inl t, low, high)
-      bound x (inr t) = (x, x, inr t, inr t, ≤ℤ_refl x, ≤ℤ_refl x)
-
-      by : (x y : ℤ) → x ≤ℤ z → z ≤ℤ y → Span (Union S T) x → Span (Union S T) y → Span (Union S T) z
-      by x y low high (a, b, s, t, l, h) (a', b', s', t', l', h') = (a, b', s, t', ≤ℤ_trans a x z l low, ≤ℤ_trans z y b' high h')
-
-pub span-same : (S T : ℤ → Type 0) → SameMembers S T → SameMembers (Span S) (Span T)
-span-same S T h z = (
-  (λ (x, y, s, t, low, high). (x, y, (h x).0 s, (h y).0 t, low, high)),
-  (λ (x, y, s, t, low, high). (x, y, (h x).1 s, (h y).1 t, low, high)),
-)
-
-pub span_assoc : (S T U : ℤ → Type 0) → SameMembers (Span (Union (Span (Union S T)) U)) (Span (Union S (Span (Union T U))))
-span_assoc S T U =
-    same_members_trans (Span (Union (Span (Union S T)) U)) (Span (Union (Union S T) U)) (Span (Union S (Span (Union T U)))) (span-union_left (Union S T) U)
-    (same_members_trans (Span (Union (Union S T) U)) (Span (Union (Union T U) S)) (Span (Union S (Span (Union T U))))
-    (span-same (Union (Union S T) U) (Union (Union T U) S) (same_members_trans (Union (Union S T) U) (Union S (Union T U)) (Union (Union T U) S) (union_assoc S T U) (union_comm S (Union T U))))
-    (same_members_trans (Span (Union (Union T U) S)) (Span (Union (Span (Union T U)) S)) (Span (Union S (Span (Union T U))))
-    (same_members_sym (Span (Union (Span (Union T U)) S)) (Span (Union (Union T U) S)) (span-union_left (Union T U) S))
-    (span_comm (Span (Union T U)) S)))
-
--- the span of an interval is the interval
-pub span-between : (p : ℤ × ℤ) → SameMembers (Span (IsBetween p)) (IsBetween p)
-span-between p z = (
-  (λ (x, y, (a, b), (c, d), low, high). (≤ℤ_trans p.0 x z a low, ≤ℤ_trans z y p.1 high d)),
-  (λ b. (z, z, b, b, ≤ℤ_refl z, ≤ℤ_refl z)),
-)
-
 -- ---- monotony
 module _ (S S' T T' : ℤ → Type 0) (h : IsSubset S S') (k : IsSubset T T') where
   pub sums_are_monotone : IsSubset (Sums S T) (Sums S' T')
@@ -179,6 +113,9 @@ module _ (S S' T T' : ℤ → Type 0) (h : IsSubset S S') (k : IsSubset T T') wh
 
   pub differences_are_monotone : IsSubset (Differences S T) (Differences S' T')
   differences_are_monotone z (x, y, s, t, e) = (x, y, h x s, k y t, e)
+
+  pub exact_products_are_monotone : IsSubset (ExactProducts S T) (ExactProducts S' T')
+  exact_products_are_monotone z (x, y, s, t, e) = (x, y, h x s, k y t, e)
 
   pub products_are_monotone : IsSubset (Products S T) (Products S' T')
   products_are_monotone z (x, x', y, y', r, s, low, high) = (x, x', y, y', (λ w b. h w (r w b)), (λ w b. k w (s w b)), low, high)
@@ -196,3 +133,57 @@ module _ (S : ℤ → Type 0) (whole : ℤ × ℤ) (h : IsSubset S (IsBetween wh
 
   pub below_is_cut : SameMembers (Below v S) (Intersection S (IsBetween (whole.0, v -ℤ pos 1)))
   below_is_cut z = ((λ (s, a). (s, ((h z s).0, omega (arith, ints)))), (λ (s, b). let high = b.1 in (s, omega (arith, ints))))
+
+-- ---- products of members, and all products
+
+-- a member is in one run with itself
+pub one_run_of_member : (S : ℤ → Type 0) (x : ℤ) → S x → InOneRun S x x
+one_run_of_member S x s z b = subst S (≤ℤ_antisymm x z (⊎_elim (λ c. c.0) (λ c. c.0) b) (⊎_elim (λ c. c.1) (λ c. c.1) b)) s
+
+module _ (S T : ℤ → Type 0) where
+  pub exact_products_are_products : IsSubset (ExactProducts S T) (Products S T)
+  exact_products_are_products z (x, y, s, t, e) =
+      (x, x, y, y, one_run_of_member S x s, one_run_of_member T y t, subst (λ (w : ℤ). w ≤ℤ z) (sym e) (≤ℤ_refl z), subst (λ (w : ℤ). z ≤ℤ w) (sym e) (≤ℤ_refl z))
+
+  -- a product lies between two products of members, so all lie within a pair where those do
+  pub products_fit : (w : ℤ × ℤ) → IsSubset (ExactProducts S T) (IsBetween w) ↔ IsSubset (Products S T) (IsBetween w)
+  products_fit w = (there, λ h z e. h z (exact_products_are_products z e))
+    where
+      there : IsSubset (ExactProducts S T) (IsBetween w) → IsSubset (Products S T) (IsBetween w)
+      there h z (x, x', y, y', r, q, low, high) =
+          let (sx, sx') = run_ends S x x' r in
+          let (ty, ty') = run_ends T y y' q in (
+            ≤ℤ_trans w.0 (x *ℤ y) z (h (x *ℤ y) (x, y, sx, ty, refl)).0 low,
+            ≤ℤ_trans z (x' *ℤ y') w.1 high (h (x' *ℤ y') (x', y', sx', ty', refl)).1,
+          )
+
+-- ---- operations with one number
+
+-- one number, as a set of one run
+pub only_is_covered : (c : ℤ) → SameMembers (Only c) (Covers ((c, c) ∷ []))
+only_is_covered c z = (
+  (λ e. inl (subst (λ (x : ℤ). c ≤ℤ x) (sym e) (≤ℤ_refl c), subst (λ (x : ℤ). x ≤ℤ c) (sym e) (≤ℤ_refl c))),
+  ⊎_elim (λ b. ≤ℤ_antisymm z c b.1 b.0) (λ n. absurd n),
+)
+
+module _ (S : ℤ → Type 0) (c : ℤ) where
+  to_covered : IsSubset (Only c) (Covers ((c, c) ∷ []))
+  to_covered z = (only_is_covered c z).0
+
+  of_covered : IsSubset (Covers ((c, c) ∷ [])) (Only c)
+  of_covered z = (only_is_covered c z).1
+
+  same : IsSubset S S
+  same z s = s
+
+  pub sums-only : SameMembers (Sums S (Only c)) (Sums S (Covers ((c, c) ∷ [])))
+  sums-only z = (sums_are_monotone S S (Only c) (Covers ((c, c) ∷ [])) same to_covered z, sums_are_monotone S S (Covers ((c, c) ∷ [])) (Only c) same of_covered z)
+
+  pub differences-only : SameMembers (Differences S (Only c)) (Differences S (Covers ((c, c) ∷ [])))
+  differences-only z = (differences_are_monotone S S (Only c) (Covers ((c, c) ∷ [])) same to_covered z, differences_are_monotone S S (Covers ((c, c) ∷ [])) (Only c) same of_covered z)
+
+  pub exact_products-only : SameMembers (ExactProducts S (Only c)) (ExactProducts S (Covers ((c, c) ∷ [])))
+  exact_products-only z = (exact_products_are_monotone S S (Only c) (Covers ((c, c) ∷ [])) same to_covered z, exact_products_are_monotone S S (Covers ((c, c) ∷ [])) (Only c) same of_covered z)
+
+  pub products-only : SameMembers (Products S (Only c)) (Products S (Covers ((c, c) ∷ [])))
+  products-only z = (products_are_monotone S S (Only c) (Covers ((c, c) ∷ [])) same to_covered z, products_are_monotone S S (Covers ((c, c) ∷ [])) (Only c) same of_covered z)

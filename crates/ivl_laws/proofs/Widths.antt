@@ -1,9 +1,9 @@
 -- The widths of the runs of a list together, which is how many numbers a maximal list covers.
-use Rattle.std.proofs.Common.{◌≡◌, ◌↔◌, inl, inr, ℕ, zero, suc, ◌+◌, ◌≤◌, ◌<◌, ℤ, List, [], ◌∷◌, ◌++◌, length, get_or, take, set, Option, Some, IfSome, ap, sym, subst, ◌∙◌, arith, take_all}
+use Rattle.std.proofs.Common.{◌≡◌, ◌↔◌, ℕ, ◌+◌, ◌≤◌, ◌<◌, ℤ, List, [], ◌∷◌, length, get_or, take, sum_by, Option, Some, IfSome, ap, sym, subst, ◌∙◌, arith, take_all}
 use Rattle.std.proofs.lemmas.Int.{ints}
-use Rattle.std.proofs.lemmas.List.{take_more}
+use Rattle.std.proofs.lemmas.List.Sums.{sum_by-cons, sum_by_more, sum_by-take-le}
 use Rattle.ivl_laws.specs.Sets.{IsBetween, IsSubset}
-use Rattle.ivl_laws.specs.Runs.{Covers, StartsAfter, IsMaximal, IsRunListIn}
+use Rattle.ivl_laws.specs.Runs.{Covers, IsMaximal, IsRunListIn}
 use Rattle.ivl_laws.specs.Counts.{IsCountOf}
 use Rattle.ivl_laws.specs.Bounds.{width_of}
 use Rattle.ivl_laws.proofs.Runs.{covered_after}
@@ -12,17 +12,16 @@ use Rattle.ivl_laws.proofs.Intervals.{IsCountOf-width_of, count_is_width_of}
 
 -- the sum of the widths of the pairs
 abbrev pub total_width : List (ℤ × ℤ) → ℕ
-total_width [] = 0
-total_width (p ∷ L) = width_of p + total_width L
+total_width L = sum_by width_of L
 
 -- ---- as a count
 
 pub IsCountOf-total_width : (L : List (ℤ × ℤ)) → IsMaximal L → IsCountOf (total_width L) (Covers L)
 IsCountOf-total_width [] m = IsCountOf-none (Covers []) (λ z c. c)
-IsCountOf-total_width (p ∷ L) m =
-    IsCountOf-apart (IsBetween p) (Covers L) (width_of p) (total_width L)
+IsCountOf-total_width (p ∷ L) m = subst (λ (n : ℕ). IsCountOf n (Covers (p ∷ L))) (sym (sum_by-cons width_of p L))
+    (IsCountOf-apart (IsBetween p) (Covers L) (width_of p) (total_width L)
     (λ z b c. let high = b.1 in let far = covered_after p.1 L z m.1 m.2 c in omega (arith, ints))
-    (IsCountOf-width_of p) (IsCountOf-total_width L m.2)
+    (IsCountOf-width_of p) (IsCountOf-total_width L m.2))
 
 pub count_is_total_width : (L : List (ℤ × ℤ)) (n : ℕ) → IsMaximal L → IsCountOf n (Covers L) ↔ (n ≡ total_width L)
 count_is_total_width L n m = (
@@ -36,49 +35,11 @@ total_width-le whole L m f = count_is_monotone (Covers L) (IsBetween whole) (tot
 
 -- ---- the first runs of a list
 
-StartsAfter-take : (u : ℤ) (L : List (ℤ × ℤ)) (k : ℕ) → StartsAfter u L → StartsAfter u (take k L)
-StartsAfter-take u [] zero s = tt
-StartsAfter-take u [] (suc k) s = tt
-StartsAfter-take u (p ∷ L) zero s = tt
-StartsAfter-take u (p ∷ L) (suc k) s = s
-
-pub IsMaximal-take : (L : List (ℤ × ℤ)) (k : ℕ) → IsMaximal L → IsMaximal (take k L)
-IsMaximal-take [] zero m = tt
-IsMaximal-take [] (suc k) m = tt
-IsMaximal-take (p ∷ L) zero m = tt
-IsMaximal-take (p ∷ L) (suc k) m = (m.0, StartsAfter-take p.1 L k m.1, IsMaximal-take L k m.2)
-
-pub covers-take : (L : List (ℤ × ℤ)) (k : ℕ) → IsSubset (Covers (take k L)) (Covers L)
-covers-take [] zero z c = c
-covers-take [] (suc k) z c = c
-covers-take (p ∷ L) zero z c = absurd c
-covers-take (p ∷ L) (suc k) z (inl b) = inl b
-covers-take (p ∷ L) (suc k) z (inr c) = inr (covers-take L k z c)
-
-pub total_width-append : (L M : List (ℤ × ℤ)) → total_width (L ++ M) ≡ total_width L + total_width M
-total_width-append [] M = omega arith
-total_width-append (p ∷ L) M = omega (arith, total_width-append L M)
-
-pub total_width-push : (L : List (ℤ × ℤ)) (r : ℤ × ℤ) → total_width (L ++ r ∷ []) ≡ total_width L + width_of r
-total_width-push L r = omega (arith, total_width-append L (r ∷ []))
-
--- another last run, in place of one
-pub total_width-set : (L : List (ℤ × ℤ)) (k : ℕ) (d r : ℤ × ℤ) → k < length L → total_width (set L k r) + width_of (get_or L k d) ≡ total_width L + width_of r
-total_width-set [] k d r h = absurd (omega arith)
-total_width-set (p ∷ L) zero d r h = omega arith
-total_width-set (p ∷ L) (suc k) d r h = omega (arith, total_width-set L k d r (omega arith))
-
 pub total_width-next : (L : List (ℤ × ℤ)) (i : ℕ) (r : ℤ × ℤ) → i < length L → r ≡ get_or L i r → total_width (take (i + 1) L) ≡ total_width (take i L) + width_of r
-total_width-next L i r h e = ap total_width (take_more L i r h) ∙ total_width-push (take i L) (get_or L i r) ∙ ap (λ q. total_width (take i L) + width_of q) (sym e)
-
-pub total_width-take : (L : List (ℤ × ℤ)) (i : ℕ) → total_width (take i L) ≤ total_width L
-total_width-take [] zero = omega arith
-total_width-take [] (suc i) = omega arith
-total_width-take (p ∷ L) zero = omega arith
-total_width-take (p ∷ L) (suc i) = omega (arith, total_width-take L i)
+total_width-next L i r h e = sum_by_more width_of L i r h ∙ ap (λ q. total_width (take i L) + width_of q) (sym e)
 
 pub total_width-take-le : (whole : ℤ × ℤ) (L : List (ℤ × ℤ)) (i : ℕ) → IsRunListIn whole L → total_width (take i L) ≤ width_of whole
-total_width-take-le whole L i r = omega (arith, total_width-take L i, total_width-le whole L r.maximal r.within)
+total_width-take-le whole L i r = omega (arith, sum_by-take-le width_of L i, total_width-le whole L r.maximal r.within)
 
 -- ---- a loop that adds up the counts of the runs
 
