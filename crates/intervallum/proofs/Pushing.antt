@@ -1,13 +1,14 @@
 -- What pushing a run does to the list of a set and to the number of its members.
 use Rattle.std.proofs.Common.{◌≡◌, ⊎_elim, ℕ, ◌+◌, ◌<◌, ◌≤◌, ℤ, pos, ◌+ℤ◌, ◌-ℤ◌, ◌≤ℤ◌, ◌<ℤ◌, List, [], ◌∷◌, ◌++◌, length, get_or, set, refl, sym, ap, subst, ◌∙◌, arith}
 use Rattle.std.proofs.lemmas.Int.{ints, clamps, by_lt_z}
+use Rattle.std.proofs.lemmas.List.Sums.{sum_by_push, sum_by-set}
 use Rattle.std.specs.Int.{int_max}
 use Rattle.ivl_laws.specs.Sets.{IsBetween, IsSubset}
 use Rattle.ivl_laws.specs.Runs.{Covers, IsMaximal, IsRunListIn, StartsBy, AddsRun}
 use Rattle.ivl_laws.specs.Counts.{IsCountOf}
 use Rattle.ivl_laws.specs.Bounds.{width_of}
 use Rattle.ivl_laws.proofs.Intervals.{width_of-filled, width_of-crossed}
-use Rattle.ivl_laws.proofs.Widths.{total_width, count_is_total_width, total_width-le, total_width-push, total_width-set}
+use Rattle.ivl_laws.proofs.Widths.{total_width, count_is_total_width, total_width-le}
 use Rattle.ivl_laws.proofs.Adding.{adds_joined_at, last_is_open}
 
 -- the list that a push makes is one in the range
@@ -26,7 +27,7 @@ total_fits whole M n greatest m e h = let le = total_width-le whole M m.maximal 
 pub pushed_total : (L : List (ℤ × ℤ)) (q : ℤ × ℤ) (n m : ℕ) → IsMaximal L → IsCountOf n (Covers L) → m ≡ width_of q → n + m ≡ total_width (L ++ q ∷ [])
 pushed_total L q n m o c e =
     let total = (count_is_total_width L n o).0 c in
-    omega (arith, total, total_width-push L q)
+    omega (arith, total, sum_by_push width_of L q)
 
 -- ---- a run that is joined with the last one
 
@@ -58,6 +59,11 @@ module _ (whole : ℤ × ℤ) (L : List (ℤ × ℤ)) (k : ℕ) (p q r : ℤ × 
   joined_total n c =
       let total = (count_is_total_width L n l.maximal).0 c in
       let wide : width_of r ≡ width_of p + more = joined_width p q r more open_last m some low high in
-      let changed = total_width-set L k p r (omega arith) in
+      let changed = sum_by-set width_of L k r p (omega arith) in
       let last : width_of p ≡ width_of (get_or L k p) = ap width_of f in
       omega (arith, total, wide, changed, last)
+
+-- where no number is past the last run's end, the run ends no later
+pub nothing_past : (p q : ℤ × ℤ) (more : ℕ) → more ≡ width_of (p.1 +ℤ pos 1, q.1) → more ≡ 0 → q.1 ≤ℤ p.1
+nothing_past p q more m none =
+    by_lt_z p.1 q.1 (λ h. let wide = width_of-filled (p.1 +ℤ pos 1, q.1) (omega (arith, ints)) in absurd (omega (arith, ints))) (λ h. h)

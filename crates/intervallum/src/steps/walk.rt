@@ -65,6 +65,7 @@ impl<'a, B: Width> Walk<'a, B> {
     pub fn left(&self) -> usize
         ensures value { result ≡ length self.now.left }
         ensures all { self.now.advances + length self.now.left ≡ self.now.count }
+        ensures runs { IsRunListIn B.whole self.now.left }
     {
         self.runs.len() - self.taken
     }
