@@ -14,6 +14,7 @@ use Rattle.ivl_interval.specs.SameInterval.{same_interval}
 use Rattle.ivl_interval.proofs.Pairs.{same_interval_members}
 use Rattle.intervallum.specs.Equality.{same_runs}
 use Rattle.intervallum.specs.EqualityLaws.{same_runs_equiv}
+
 and_both : (a b : Bool) → (a && b) ≡ true → (a ≡ true) × (b ≡ true)
 and_both true true e = (refl, refl)
 and_both true false e = absurd (cc)

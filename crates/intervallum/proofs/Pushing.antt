@@ -12,58 +12,59 @@ use Rattle.ivl_laws.proofs.Widths.{total_width, count_is_total_width, total_widt
 use Rattle.ivl_laws.proofs.Adding.{adds_joined_at, last_is_open}
 
 -- the list that a push makes is one in the range
-pub pushed_list : (whole q : ℤ × ℤ) (L M : List (ℤ × ℤ)) → IsRunListIn whole L → IsSubset (IsBetween q) (IsBetween whole) → AddsRun L q M → IsRunListIn whole M
+pushed_list : (whole q : ℤ × ℤ) (L M : List (ℤ × ℤ)) → IsRunListIn whole L → IsSubset (IsBetween q) (IsBetween whole) → AddsRun L q M → IsRunListIn whole M
 pushed_list whole q L M l w a = record {
   maximal = a.runs.maximal;
   within = λ z c. ⊎_elim (l.within z) (w z) ((a.runs.members z).0 c);
 }
 
--- a count that is the total width is a number of the type
-pub total_fits : (whole : ℤ × ℤ) (M : List (ℤ × ℤ)) (n greatest : ℕ) → IsRunListIn whole M → n ≡ total_width M → width_of whole ≤ greatest → n ≤ greatest
-total_fits whole M n greatest m e h = let le = total_width-le whole M m.maximal m.within in omega arith
+-- What a push keeps where the total width grows by `more`: the sum is a number of sizes, and counts the new members.
+pub record Grows (whole q : ℤ × ℤ) (L M : List (ℤ × ℤ)) (n more greatest : ℕ) : Type 0 where
+  pub fits : n + more ≤ greatest
+  pub list : IsRunListIn whole M
+  pub counts : IsCountOf (n + more) (Covers M)
+  pub adds : AddsRun L q M
 
--- ---- a run at the end
+grows : (whole q : ℤ × ℤ) (L M : List (ℤ × ℤ)) (n more greatest : ℕ) → IsRunListIn whole L → IsSubset (IsBetween q) (IsBetween whole) →
+    AddsRun L q M → n + more ≡ total_width M → width_of whole ≤ greatest → Grows whole q L M n more greatest
+grows whole q L M n more greatest l w a e h =
+    let list = pushed_list whole q L M l w a in record {
+      fits = let le = total_width-le whole M list.maximal list.within in omega arith;
+      list = list;
+      counts = (count_is_total_width M (n + more) list.maximal).1 e;
+      adds = a;
+    }
 
-pub pushed_total : (L : List (ℤ × ℤ)) (q : ℤ × ℤ) (n m : ℕ) → IsMaximal L → IsCountOf n (Covers L) → m ≡ width_of q → n + m ≡ total_width (L ++ q ∷ [])
-pushed_total L q n m o c e =
-    let total = (count_is_total_width L n o).0 c in
-    omega (arith, total, sum_by_push width_of L q)
+-- a run at the end, apart from the others
+pub grows_apart : (whole q : ℤ × ℤ) (L : List (ℤ × ℤ)) (n more greatest : ℕ) → IsRunListIn whole L → IsCountOf n (Covers L) → IsSubset (IsBetween q) (IsBetween whole) →
+    AddsRun L q (L ++ q ∷ []) → more ≡ width_of q → width_of whole ≤ greatest → Grows whole q L (L ++ q ∷ []) n more greatest
+grows_apart whole q L n more greatest l c w a e h =
+    let total = (count_is_total_width L n l.maximal).0 c in
+    grows whole q L (L ++ q ∷ []) n more greatest l w a (omega (arith, total, e, sum_by_push width_of L q)) h
 
--- ---- a run that is joined with the last one
-
-joined_width : (p q r : ℤ × ℤ) (more : ℕ) → p.0 ≤ℤ p.1 → more ≡ width_of (p.1 +ℤ pos 1, q.1) → 0 < more → r.0 ≡ p.0 → r.1 ≡ q.1 → width_of r ≡ width_of p + more
-joined_width p q r more o m some low high =
-    let ends_later : p.1 <ℤ q.1 = by_lt_z p.1 q.1 (λ k. k) (λ k. let none = width_of-crossed (p.1 +ℤ pos 1, q.1) (omega (arith, ints)) in absurd (omega arith)) in
+joined_width : (p q r : ℤ × ℤ) (more : ℕ) → p.0 ≤ℤ p.1 → more ≡ width_of (p.1 +ℤ pos 1, q.1) → r.0 ≡ p.0 → r.1 ≡ int_max p.1 q.1 → width_of r ≡ width_of p + more
+joined_width p q r more o m low high =
     let width_p = width_of-filled p o in
-    let width_r = width_of-filled r (omega (arith, ints)) in
-    let width_more = width_of-filled (p.1 +ℤ pos 1, q.1) (omega (arith, ints)) in
-    omega (arith, ints)
+    let width_r = width_of-filled r (omega (arith, ints, clamps)) in
+    by_lt_z p.1 q.1
+    (λ h. let width_more = width_of-filled (p.1 +ℤ pos 1, q.1) (omega (arith, ints)) in omega (arith, ints, clamps))
+    (λ h. let none = width_of-crossed (p.1 +ℤ pos 1, q.1) (omega (arith, ints)) in omega (arith, ints, clamps))
 
-module _ (whole : ℤ × ℤ) (L : List (ℤ × ℤ)) (k : ℕ) (p q r : ℤ × ℤ) (e : k + 1 ≡ length L) (f : p ≡ get_or L k p) (l : IsRunListIn whole L)
-    (s : StartsBy q.0 L) (near : q.0 ≤ℤ (p.1 +ℤ pos 1)) (more : ℕ) (m : more ≡ width_of (p.1 +ℤ pos 1, q.1)) (some : 0 < more) (low : r.0 ≡ p.0) (high : r.1 ≡ q.1) where
-  open_last : p.0 ≤ℤ p.1
-  open_last = last_is_open L k p e f l.maximal
+-- a run that is joined with the last one, p, to r
+pub grows_joined : (whole p q r : ℤ × ℤ) (L : List (ℤ × ℤ)) (k n more greatest : ℕ) → IsRunListIn whole L → IsCountOf n (Covers L) → IsSubset (IsBetween q) (IsBetween whole) →
+    k + 1 ≡ length L → p ≡ get_or L k p → StartsBy q.0 L → q.0 ≤ℤ (p.1 +ℤ pos 1) → r.0 ≡ p.0 → r.1 ≡ int_max p.1 q.1 →
+    more ≡ width_of (p.1 +ℤ pos 1, q.1) → width_of whole ≤ greatest → Grows whole q L (set L k r) n more greatest
+grows_joined whole p q r L k n more greatest l c w at is starts near low high m h =
+    let total = (count_is_total_width L n l.maximal).0 c in
+    let wide = joined_width p q r more (last_is_open L k p at is l.maximal) m low high in
+    let changed = sum_by-set width_of L k r p (omega arith) in
+    let last : width_of p ≡ width_of (get_or L k p) = ap width_of is in
+    let P : ℤ × ℤ → Type 0 = λ t. q.0 ≤ℤ (t.1 +ℤ pos 1) in
+    let Q : ℤ × ℤ → Type 0 = λ t. r.1 ≡ int_max t.1 q.1 in
+    let lower : r.0 ≡ (get_or L k p).0 = low ∙ ap (λ (t : ℤ × ℤ). t.0) is in
+    grows whole q L (set L k r) n more greatest l w
+    (adds_joined_at L k p q r at l.maximal starts (subst P is near) lower (subst Q is high))
+    (omega (arith, total, wide, changed, last)) h
 
-  ends_later : p.1 ≤ℤ q.1
-  ends_later = by_lt_z p.1 q.1 (λ h. omega (arith, ints)) (λ h. let none = width_of-crossed (p.1 +ℤ pos 1, q.1) (omega (arith, ints)) in absurd (omega arith))
-
-  pub adds_joined : AddsRun L q (set L k r)
-  adds_joined =
-      let P : ℤ × ℤ → Type 0 = λ t. q.0 ≤ℤ (t.1 +ℤ pos 1) in
-      let lower : r.0 ≡ (get_or L k p).0 = low ∙ ap (λ (t : ℤ × ℤ). t.0) f in
-      let Q : ℤ × ℤ → Type 0 = λ t. r.1 ≡ int_max t.1 q.1 in
-      let upper : r.1 ≡ int_max p.1 q.1 = let later = ends_later in omega (arith, ints, clamps) in
-      adds_joined_at L k p q r e l.maximal s (subst P f near) lower (subst Q f upper)
-
-  pub joined_total : (n : ℕ) → IsCountOf n (Covers L) → n + more ≡ total_width (set L k r)
-  joined_total n c =
-      let total = (count_is_total_width L n l.maximal).0 c in
-      let wide : width_of r ≡ width_of p + more = joined_width p q r more open_last m some low high in
-      let changed = sum_by-set width_of L k r p (omega arith) in
-      let last : width_of p ≡ width_of (get_or L k p) = ap width_of f in
-      omega (arith, total, wide, changed, last)
-
--- where no number is past the last run's end, the run ends no later
-pub nothing_past : (p q : ℤ × ℤ) (more : ℕ) → more ≡ width_of (p.1 +ℤ pos 1, q.1) → more ≡ 0 → q.1 ≤ℤ p.1
-nothing_past p q more m none =
-    by_lt_z p.1 q.1 (λ h. let wide = width_of-filled (p.1 +ℤ pos 1, q.1) (omega (arith, ints)) in absurd (omega (arith, ints))) (λ h. h)
+pub both_ends : {a b m n : ℤ} → a ≡ m → b ≡ n → int_max a b ≡ int_max m n
+both_ends e f = cc

@@ -1,5 +1,5 @@
 //! How a run list is read and made: every set is built by pushing runs at its end.
-ghost use Rattle.std.specs.Prelude.{◌≡◌, ◌↔◌, ◌+◌, ◌≤◌, ℕ, pos, ◌+ℤ◌, ◌-ℤ◌, ◌≤ℤ◌, [], IsTrue, IfOk, OnOk, OnErr};
+ghost use Rattle.std.specs.Prelude.{◌≡◌, ◌↔◌, ◌+◌, ◌≤◌, ℕ, pos, ◌+ℤ◌, ◌-ℤ◌, ◌≤ℤ◌, [], ◌∷◌, ◌++◌, IsTrue, IfOk, OnOk, OnErr};
 ghost use Rattle.ivl_laws.specs.Sets.{IsBetween, IsSubset};
 ghost use Rattle.ivl_laws.specs.Runs.{AddsRun, IsRunListIn, StartsBy};
 ghost use Rattle.ivl_laws.specs.Bounds.{width_of};
@@ -47,14 +47,22 @@ impl<B: Width> IntervalSet<B> {
         if count > 0 {
             let last = self.intervals[count - 1];
             if joins(&last, &run) {
-                let more = numbers_past(&last, &run);
-                if more > 0 {
-                    self.intervals[count - 1] = Interval::new(last.lower(), run.upper());
-                    self.size = grown::<B>(self.size, more);
-                }
+                let upper = last.upper().max(run.upper());
+                self.size = grown::<B>(self.size, numbers_past(&last, &run));
+                self.intervals[count - 1] = Interval::new(last.lower(), upper);
                 return Ok(());
             }
         }
+        self.push_apart(run)
+    }
+
+    /// Adds a run at the end, where it joins with no other.
+    fn push_apart(&mut self, run: Interval<B>) -> Result<(), AllocError>
+        requires within { IsSubset (IsBetween run) (IsBetween B.whole) }
+        requires apart { AddsRun self.old run (self.old ++ run ∷ []) }
+        ensures ok { OnOk result (AddsRun self.old run self.new) }
+        ensures err { OnErr result (self.new ≡ self.old) }
+    {
         self.intervals.push(run)?;
         self.size = grown::<B>(self.size, run.size().number());
         Ok(())

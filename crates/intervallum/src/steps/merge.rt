@@ -29,10 +29,7 @@ pub fn unite<B: Width>(
 }
 
 /// Takes the run that starts first away from the two walks.
-fn take_first<B: Width>(
-    first: &mut Walk<'_, B>,
-    second: &mut Walk<'_, B>,
-) -> Option<Interval<B>>
+fn take_first<B: Width>(first: &mut Walk<'_, B>, second: &mut Walk<'_, B>) -> Option<Interval<B>>
     ensures taken { MatchOption result
         ((first.old.left ≡ []) × (second.old.left ≡ []))
         (λ run. TakesFirst first.old.left second.old.left first.new.left second.new.left run) }
