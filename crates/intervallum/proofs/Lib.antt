@@ -1,0 +1,4 @@
+pub mod Equality
+pub mod Walking
+pub mod Joining
+pub mod Pushing

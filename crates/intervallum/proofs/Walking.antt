@@ -1,0 +1,45 @@
+-- What a walk has left, and what its first run tells.
+use Rattle.std.proofs.Common.{◌≡◌, ◌≢◌, ℕ, zero, suc, ◌+◌, ℤ, ◌≤ℤ◌, List, [], ◌∷◌, Some, None, drop, arith, refl, sym, subst, inl, inr}
+use Rattle.std.specs.Prelude.{slice_get}
+use Rattle.ivl_laws.specs.Runs.{IsMaximal}
+use Rattle.ivl_laws.specs.Walks.{StartsFrom, TakesFirst}
+
+-- a list that has something left has a first thing left, and the rest
+pub left_more : (L : List (ℤ × ℤ)) (i : ℕ) → drop i L ≢ [] → (x : ℤ × ℤ) × (drop i L ≡ x ∷ drop (i + 1) L)
+left_more [] zero n = absurd (n refl)
+left_more [] (suc i) n = absurd (n refl)
+left_more (r ∷ L) zero n = (r, refl)
+left_more (r ∷ L) (suc i) n =
+    let P : ℕ → Type 0 = λ m. (x : ℤ × ℤ) × (drop (suc i) (r ∷ L) ≡ x ∷ drop m (r ∷ L)) in
+    let e : suc (i + 1) ≡ suc i + 1 = omega arith in
+    subst P e (left_more L i n)
+
+-- ---- what `peek` answers
+
+pub first_is_open : (L : List (ℤ × ℤ)) (a : ℤ × ℤ) → Some a ≡ slice_get L 0 → IsMaximal L → a.0 ≤ℤ a.1
+first_is_open [] a e m = absurd (cc)
+first_is_open (p ∷ L) a e m = let same : a ≡ p = cc in subst (λ (t : ℤ × ℤ). t.0 ≤ℤ t.1) (sym same) m.0
+
+pub nothing_left : (L : List (ℤ × ℤ)) → None ≡ slice_get L 0 → L ≡ []
+nothing_left [] e = refl
+nothing_left (p ∷ L) e = absurd (cc)
+
+starts_with : (L : List (ℤ × ℤ)) (b : ℤ × ℤ) (v : ℤ) → Some b ≡ slice_get L 0 → v ≤ℤ b.0 → StartsFrom v L
+starts_with [] b v e h = tt
+starts_with (p ∷ L) b v e h = let same : b ≡ p = cc in subst (λ (t : ℤ × ℤ). v ≤ℤ t.0) same h
+
+is_first : (L rest : List (ℤ × ℤ)) (a x : ℤ × ℤ) → Some a ≡ slice_get L 0 → L ≡ x ∷ rest → L ≡ a ∷ rest
+is_first [] rest a x e f = absurd (cc)
+is_first (p ∷ L) rest a x e f = cc
+
+pub takes_first : (A B A' : List (ℤ × ℤ)) (a b : ℤ × ℤ) → Some a ≡ slice_get A 0 → Some b ≡ slice_get B 0 → a.0 ≤ℤ b.0 → (x : ℤ × ℤ) × (A ≡ x ∷ A') → TakesFirst A B A' B a
+takes_first A B A' a b e f h (x, g) = inl (is_first A A' a x e g, refl, starts_with B b a.0 f h)
+
+pub takes_second : (A B B' : List (ℤ × ℤ)) (a b : ℤ × ℤ) → Some a ≡ slice_get A 0 → Some b ≡ slice_get B 0 → b.0 ≤ℤ a.0 → (x : ℤ × ℤ) × (B ≡ x ∷ B') → TakesFirst A B A B' b
+takes_second A B B' a b e f h (x, g) = inr (is_first B B' b x f g, refl, starts_with A a b.0 e h)
+
+pub takes_only_first : (A B A' : List (ℤ × ℤ)) (a : ℤ × ℤ) → Some a ≡ slice_get A 0 → None ≡ slice_get B 0 → (x : ℤ × ℤ) × (A ≡ x ∷ A') → TakesFirst A B A' B a
+takes_only_first A B A' a e f (x, g) = inl (is_first A A' a x e g, refl, subst (StartsFrom a.0) (sym (nothing_left B f)) tt)
+
+pub takes_only_second : (A B B' : List (ℤ × ℤ)) (b : ℤ × ℤ) → None ≡ slice_get A 0 → Some b ≡ slice_get B 0 → (x : ℤ × ℤ) × (B ≡ x ∷ B') → TakesFirst A B A B' b
+takes_only_second A B B' b e f (x, g) = inr (is_first B B' b x f g, refl, subst (StartsFrom b.0) (sym (nothing_left A e)) tt)

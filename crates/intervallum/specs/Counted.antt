@@ -1,0 +1,8 @@
+-- What a walk over the runs of a set shows.
+use Rattle.std.specs.Prelude.{ℕ, ℤ, List}
+
+-- the runs that are left, how many were taken away, and how many the set has
+pub record Position : Type 0 where
+  pub left : List (ℤ × ℤ)
+  pub advances : ℕ
+  pub count : ℕ

@@ -1,0 +1,141 @@
+//! A set of whole numbers as a list of runs.
+ghost use Rattle.std.specs.Prelude.{◌≡◌, ◌↔◌, ℤ, List, [], ◌∷◌, ◌≤ℤ◌, IsTrue, IfOk, length};
+ghost use Rattle.ivl_laws.specs.Sets.{HasNone, IsBetween, IsInRange, SameMembers};
+ghost use Rattle.ivl_laws.specs.Runs.{Covers, IsRunListIn};
+ghost use Rattle.ivl_laws.specs.Counts.{IsCountOf};
+ghost use Rattle.intervallum.specs.Equality.{same_runs};
+ghost use Rattle.intervallum.specs.EqualityLaws.{same_runs_equiv, same_runs_laws};
+
+mod algebra;
+mod runs;
+
+use crate::interval::Interval;
+use crate::ops::{Cardinality, Collection, Contains, IsEmpty, Range};
+use crate::width::{SizeNumber, Width};
+use std::alloc::{AllocError, Global};
+use std::marker::Model;
+
+/// A set of whole numbers. A contract sees the list of its runs, each a pair of numbers.
+///
+/// The runs are intervals of the range that are not empty; they ascend, and at least one number is
+/// missing between neighbours. The number of members is kept beside them.
+#[derive(Drop)]
+pub struct IntervalSet<B: Width> {
+    intervals: Vec<Interval<B>>,
+    size: B::Output,
+}
+
+impl<B: Width> Model for IntervalSet<B> {
+    ghost Value = { List (ℤ × ℤ) };
+
+    ghost view = { λ s. s.intervals.items };
+
+    ghost invariant = { λ s. IsRunListIn B.whole s.intervals.items × IsCountOf (B.Output.size s.size) (Covers s.intervals.items) };
+}
+
+impl<B: Width> IntervalSet<B> {
+    /// The set with no member. Takes no memory.
+    pub fn empty(alloc: Global) -> Self
+        ensures { result ≡ [] }
+    {
+        IntervalSet {
+            intervals: Vec::new(alloc),
+            size: <B::Output as SizeNumber>::zero(),
+        }
+    }
+
+    /// The numbers from `lb` to `ub`, as one run. Conditions: `Interval::in_range(lb, ub)`, and
+    /// `lb` is at most `ub`. Takes memory for one run.
+    pub fn new(alloc: Global, lb: B, ub: B) -> Result<Self, AllocError>
+        requires in_range { IsInRange B.whole (B.value lb, B.value ub) }
+        requires in_order { B.value lb ≤ℤ B.value ub }
+        ensures { IfOk result (λ L. L ≡ (B.value lb, B.value ub) ∷ []) }
+    {
+        let run = Interval::new(lb, ub);
+        let mut intervals = Vec::with_capacity(alloc, 1)?;
+        intervals.push(run)?;
+        Ok(IntervalSet {
+            intervals,
+            size: run.size(),
+        })
+    }
+
+    /// The number of runs. `O(1)`.
+    pub fn interval_count(&self) -> usize
+        ensures count { result ≡ length self.now }
+        ensures runs { IsRunListIn B.whole self.now }
+    {
+        self.intervals.len()
+    }
+
+    /// The runs, ascending, from both ends.
+    pub fn iter(&self) -> std::slice::Iter<'_, Interval<B>>
+        ensures rest { result.rest.now ≡ self.now }
+        ensures runs { IsRunListIn B.whole self.now }
+    {
+        self.intervals.iter()
+    }
+}
+
+impl<B: Width> Collection for IntervalSet<B> {
+    type Item = B;
+
+    ghost members = { Covers };
+
+    ghost number = { B.value };
+}
+
+impl<B: Width> Cardinality for IntervalSet<B> {
+    type Size = B::Output;
+
+    ghost members = { Covers };
+
+    ghost size_number = { B.Output.size };
+
+    /// The number of members, which is kept: `O(1)`.
+    fn size(&self) -> B::Output {
+        self.size
+    }
+}
+
+impl<B: Width> IsEmpty for IntervalSet<B> {
+    ghost members = { Covers };
+
+    /// `O(1)`.
+    fn is_empty(&self) -> bool
+        ensures members { IsTrue result ↔ HasNone (Covers self.now) }
+        ensures none { IsTrue result ↔ (self.now ≡ []) }
+    {
+        self.intervals.is_empty()
+    }
+}
+
+impl<B: Width> Contains for IntervalSet<B> {
+    /// Walks the runs from the left: `O(n)`.
+    fn contains(&self, item: &B) -> bool {
+        for run in &self.intervals {
+            if run.contains(item) {
+                return true;
+            }
+        }
+        false
+    }
+}
+
+impl<B: Width> PartialEq for IntervalSet<B> {
+    ghost eq = { same_runs };
+
+    ghost laws = { same_runs_laws };
+
+    /// True exactly where the members agree. One pass over the runs, and none where the sizes differ.
+    fn eq(&self, other: &IntervalSet<B>) -> bool
+        ensures value { result ≡ same_runs self.now other.now }
+        ensures members { IsTrue result ↔ SameMembers (Covers self.now) (Covers other.now) }
+    {
+        self.size == other.size && self.intervals == other.intervals
+    }
+}
+
+impl<B: Width> Eq for IntervalSet<B> {
+    ghost laws = { same_runs_equiv };
+}

@@ -1,0 +1,97 @@
+//! How a run list is read and made: every set is built by pushing runs at its end.
+ghost use Rattle.std.specs.Prelude.{◌≡◌, ◌↔◌, ◌+◌, ◌≤◌, ℕ, pos, ◌+ℤ◌, ◌-ℤ◌, ◌≤ℤ◌, [], ◌∷◌, ◌++◌, IsTrue, IfOk, OnOk, OnErr};
+ghost use Rattle.ivl_laws.specs.Sets.{IsBetween, IsSubset};
+ghost use Rattle.ivl_laws.specs.Runs.{AddsRun, IsRunListIn, StartsBy};
+ghost use Rattle.ivl_laws.specs.Bounds.{width_of};
+
+use super::IntervalSet;
+use crate::interval::Interval;
+use crate::ops::{Bounded, Cardinality, Range};
+use crate::width::{SizeNumber, Width};
+use std::alloc::{AllocError, Global};
+
+impl<B: Width> IntervalSet<B> {
+    /// The runs as a slice.
+    pub(crate) fn as_runs(&self) -> &[Interval<B>]
+        ensures same { result.now ≡ self.now }
+        ensures runs { IsRunListIn B.whole self.now }
+    {
+        &self.intervals
+    }
+
+    /// The allocator that the set keeps.
+    pub(crate) fn allocator(&self) -> Global {
+        *self.intervals.allocator()
+    }
+
+    /// The set with no member, with room for a number of runs.
+    pub(crate) fn with_room(alloc: Global, runs: usize) -> Result<Self, AllocError>
+        ensures { IfOk result (λ L. L ≡ []) }
+    {
+        Ok(IntervalSet {
+            intervals: Vec::with_capacity(alloc, runs)?,
+            size: <B::Output as SizeNumber>::zero(),
+        })
+    }
+
+    /// Adds the members of a run that starts no lower than the last run does, joined with that one
+    /// where the two overlap or touch.
+    pub(crate) fn push_run(&mut self, run: Interval<B>) -> Result<(), AllocError>
+        requires filled { run.0 ≤ℤ run.1 }
+        requires within { IsSubset (IsBetween run) (IsBetween B.whole) }
+        requires in_order { StartsBy run.0 self.old }
+        ensures ok { OnOk result (AddsRun self.old run self.new) }
+        ensures err { OnErr result (self.new ≡ self.old) }
+    {
+        let count = self.intervals.len();
+        if count > 0 {
+            let last = self.intervals[count - 1];
+            if joins(&last, &run) {
+                let upper = last.upper().max(run.upper());
+                self.size = grown::<B>(self.size, numbers_past(&last, &run));
+                self.intervals[count - 1] = Interval::new(last.lower(), upper);
+                return Ok(());
+            }
+        }
+        self.push_apart(run)
+    }
+
+    /// Adds a run at the end, where it joins with no other.
+    fn push_apart(&mut self, run: Interval<B>) -> Result<(), AllocError>
+        requires within { IsSubset (IsBetween run) (IsBetween B.whole) }
+        requires apart { AddsRun self.old run (self.old ++ run ∷ []) }
+        ensures ok { OnOk result (AddsRun self.old run self.new) }
+        ensures err { OnErr result (self.new ≡ self.old) }
+    {
+        self.intervals.push(run)?;
+        self.size = grown::<B>(self.size, run.size().number());
+        Ok(())
+    }
+}
+
+/// No number is missing between a run and one that starts no lower.
+fn joins<B: Width>(last: &Interval<B>, run: &Interval<B>) -> bool
+    requires last { last.now.0 ≤ℤ last.now.1 }
+    requires run { run.now.0 ≤ℤ run.now.1 }
+    ensures { IsTrue result ↔ (run.now.0 ≤ℤ (last.now.1 +ℤ pos 1)) }
+{
+    run.lower().number() - last.upper().number() <= 1
+}
+
+/// How many numbers of a run lie above another run's end.
+fn numbers_past<B: Width>(last: &Interval<B>, run: &Interval<B>) -> u128
+    requires last { last.now.0 ≤ℤ last.now.1 }
+    requires run { run.now.0 ≤ℤ run.now.1 }
+    ensures { result ≡ width_of (last.now.1 +ℤ pos 1, run.now.1) }
+{
+    let (last, end) = (last.upper().number(), run.upper().number());
+    if last < end { (end - last) as u128 } else { 0 }
+}
+
+/// A size and some more. The sum is a size again.
+fn grown<B: Width>(size: B::Output, more: u128) -> B::Output
+    requires { B.Output.size size + more ≤ B.Output.greatest }
+    ensures { B.Output.size result ≡ B.Output.size size + more }
+{
+    B::Output::from_number(size.number() + more).unwrap()
+}

@@ -1,0 +1,22 @@
+//! Sets of whole numbers as ascending closed runs that neither overlap nor touch, generic over the
+//! type of their bounds.
+//!
+//! Every [`IntervalSet`] that public calls make is the one list of maximal runs of its members: two
+//! sets are equal exactly where their members are, and `size` is how many there are.
+//!
+//! ```
+//! let a = IntervalSet::new(alloc, 1, 2)?;
+//! let b = IntervalSet::new(alloc, 3, 5)?;
+//! let both = a.union(&b)?;                  // [1..5], one run
+//! assert_eq!(rt; both.interval_count(), 1);
+//! assert_eq!(rt; both.size(), 5);
+//! ```
+#![tactic(auto)]
+
+pub use ivl_interval::{interval, kleene, ops, optional, width};
+
+pub mod interval_set;
+pub mod steps;
+
+pub use interval::Interval;
+pub use interval_set::IntervalSet;

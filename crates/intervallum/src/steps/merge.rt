@@ -1,0 +1,58 @@
+//! Two walks merged into one set.
+ghost use Rattle.std.specs.Prelude.{◌≡◌, ◌≤◌, ◌+◌, [], IfOk, MatchOption, length};
+ghost use Rattle.ivl_laws.specs.Sets.{Union};
+ghost use Rattle.ivl_laws.specs.Runs.{Covers, IsRunListIn, IsRunsOf};
+ghost use Rattle.ivl_laws.specs.Walks.{TakesFirst};
+
+use super::walk::Walk;
+use crate::interval::Interval;
+use crate::interval_set::IntervalSet;
+use crate::ops::Bounded;
+use crate::width::Width;
+use std::alloc::AllocError;
+
+/// The members of the runs that are left in either walk. Advances once for each of these runs, and
+/// takes memory once, for as many runs. The set has the allocator of the first walk.
+pub fn unite<B: Width>(
+    mut first: Walk<'_, B>,
+    mut second: Walk<'_, B>,
+) -> Result<IntervalSet<B>, AllocError>
+    ensures members { IfOk result (λ L. IsRunsOf L (Union (Covers first.entry.left) (Covers second.entry.left))) }
+    ensures runs_at_most { IfOk result (λ L. length L ≤ length first.entry.left + length second.entry.left) }
+{
+    let room = first.left().saturating_add(second.left());
+    let mut set = IntervalSet::with_room(first.alloc(), room)?;
+    'walk: while let Some(run) = take_first(&mut first, &mut second) {
+        set.push_run(run)?;
+    }
+    Ok(set)
+}
+
+/// Takes the run that starts first away from the two walks.
+fn take_first<B: Width>(first: &mut Walk<'_, B>, second: &mut Walk<'_, B>) -> Option<Interval<B>>
+    ensures taken { MatchOption result
+        ((first.old.left ≡ []) × (second.old.left ≡ []))
+        (λ run. TakesFirst first.old.left second.old.left first.new.left second.new.left run) }
+    ensures within { IsRunListIn B.whole first.old.left × IsRunListIn B.whole second.old.left }
+{
+    match (first.peek(), second.peek()) {
+        (Some(a), Some(b)) => {
+            if a.lower() <= b.lower() {
+                first.advance();
+                Some(a)
+            } else {
+                second.advance();
+                Some(b)
+            }
+        }
+        (Some(a), None) => {
+            first.advance();
+            Some(a)
+        }
+        (None, Some(b)) => {
+            second.advance();
+            Some(b)
+        }
+        (None, None) => None,
+    }
+}

@@ -1,0 +1,77 @@
+//! A walk over the runs of a set, from the left.
+ghost use Rattle.std.specs.Prelude.{◌≡◌, ◌≢◌, ℕ, ◌+◌, ◌≤◌, ℤ, [], ◌∷◌, length, slice_get};
+ghost use Rattle.ivl_laws.specs.Runs.{IsRunListIn};
+
+use crate::interval::Interval;
+use crate::interval_set::IntervalSet;
+use crate::width::Width;
+use std::alloc::Global;
+use std::marker::Model;
+
+/// The runs that are left of a set. A contract sees them, how many were taken away, and how many
+/// the set has. Takes no memory.
+#[derive(Drop)]
+pub struct Walk<'a, B: Width> {
+    runs: &'a [Interval<B>],
+    taken: usize,
+    alloc: Global,
+}
+
+impl<'a, B: Width> Model for Walk<'a, B> {
+    ghost use Rattle.std.specs.Prelude.{◌≤◌, length, drop};
+    ghost use Rattle.ivl_laws.specs.Runs.{IsRunListIn};
+    ghost use Rattle.intervallum.specs.Counted.{Position};
+
+    ghost Value = { Position };
+
+    ghost view = { λ w. record { left = drop w.taken w.runs.now; advances = w.taken; count = length w.runs.now } };
+
+    ghost invariant = { λ w. IsRunListIn B.whole w.runs.now × (w.taken ≤ length w.runs.now) };
+}
+
+impl<'a, B: Width> Walk<'a, B> {
+    /// A walk that has all runs of the set before it.
+    pub fn new(set: &'a IntervalSet<B>) -> Walk<'a, B>
+        ensures left { result.left ≡ set.now }
+        ensures advances { result.advances ≡ 0 }
+        ensures count { result.count ≡ length set.now }
+    {
+        Walk {
+            runs: set.as_runs(),
+            taken: 0,
+            alloc: set.allocator(),
+        }
+    }
+
+    /// The first of the runs that are left.
+    pub fn peek(&self) -> Option<Interval<B>>
+        ensures first { result ≡ slice_get self.now.left 0 }
+        ensures runs { IsRunListIn B.whole self.now.left }
+    {
+        self.runs.get(self.taken).copied()
+    }
+
+    /// Takes the first of the runs away. Condition: there is one, which `peek` tests.
+    pub fn advance(&mut self)
+        requires { self.old.left ≢ [] }
+        ensures left { (run : ℤ × ℤ) × (self.old.left ≡ run ∷ self.new.left) }
+        ensures advances { self.new.advances ≡ self.old.advances + 1 }
+        ensures count { self.new.count ≡ self.old.count }
+    {
+        self.taken += 1;
+    }
+
+    /// How many runs are left: with the advances made, they are the runs of the set.
+    pub fn left(&self) -> usize
+        ensures value { result ≡ length self.now.left }
+        ensures all { self.now.advances + length self.now.left ≡ self.now.count }
+        ensures runs { IsRunListIn B.whole self.now.left }
+    {
+        self.runs.len() - self.taken
+    }
+
+    /// The allocator of the set.
+    pub fn alloc(&self) -> Global {
+        self.alloc
+    }
+}

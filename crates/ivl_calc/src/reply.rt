@@ -1,0 +1,37 @@
+//! The replies.
+use intervallum::interval::Interval;
+use intervallum::width::Width;
+use thiserror::Error;
+
+/// Why a command was refused. The first reason in this order is told, and the registers stay as
+/// they were.
+#[derive(Clone, Copy, Debug, PartialEq, Eq, Error)]
+pub enum Refusal {
+    /// An index has no register.
+    #[error("refused 1 register")]
+    Register,
+    /// A pair is not in the range of the bounds.
+    #[error("refused 2 range")]
+    Range,
+    /// A result does not lie in the range.
+    #[error("refused 3 fit")]
+    Fit,
+    /// A growth was refused.
+    #[error("refused 4 memory")]
+    Memory,
+}
+
+/// What a command answers.
+#[derive(Drop)]
+pub enum Reply<B: Width> {
+    /// A register was written.
+    Done,
+    /// The answer to a yes-or-no question.
+    Flag(bool),
+    /// How many numbers there are.
+    Size(B::Output),
+    /// The runs, ascending.
+    Runs(Vec<Interval<B>>),
+    /// Nothing was done.
+    Refused(Refusal),
+}

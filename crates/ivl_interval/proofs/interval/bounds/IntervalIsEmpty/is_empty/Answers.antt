@@ -1,0 +1,10 @@
+use Rattle.std.proofs.Common.{rules, ◌↔◌, IsTrue}
+use Rattle.ivl_laws.specs.Sets.{IsCrossed}
+use Rattle.ivl_interval.proofs.Pairs.{none_is_crossed}
+use Rattle.ivl_interval.proofs.interval.bounds.IntervalIsEmpty.is_empty.Goals as goal
+
+pub returns-clause-members : goal.returns-clause-members
+returns-clause-members g c =
+    let k : IsTrue c.gt.result ↔ IsCrossed c.args.self.now = search rules in
+    let n = none_is_crossed c.args.self.now in
+    (λ t. n.1 (k.0 t), λ h. k.1 (n.0 h))

@@ -1,0 +1,4 @@
+pub mod Kleene
+pub mod Text
+pub mod IntegerLaws
+pub mod SameInterval

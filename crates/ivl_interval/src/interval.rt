@@ -1,0 +1,85 @@
+//! A closed interval between two bounds.
+ghost use Rattle.std.specs.Prelude.{◌≡◌, ◌↔◌, ℤ, IsTrue, ⊤};
+ghost use Rattle.ivl_laws.specs.Sets.{IsBetween, IsInRange, SameMembers};
+ghost use Rattle.ivl_interval.specs.SameInterval.{same_interval, same_interval_laws, same_interval_equiv};
+
+use crate::ops::IsEmpty;
+use crate::width::Width;
+use std::alloc::AllocError;
+use std::marker::Model;
+
+mod bounds;
+mod sets;
+mod text;
+
+/// The whole numbers from a lower to an upper bound, both included; no number where the two cross.
+///
+/// It is two bounds and nothing else: it is `Copy`, and no call takes memory or more than a few steps.
+/// All intervals with no member are equal, whatever bounds they store. A contract sees the pair of the
+/// numbers of the bounds.
+///
+/// The original has any type as its bounds, and asks for more of it at each call; here it is a `Width`
+/// throughout.
+///
+/// ```
+/// let a = Interval::new(1, 5);
+/// let b = Interval::new(4, 9);
+/// // the numbers 4 and 5, which prints as "[4..5]"
+/// let both = a.intersection(&b);
+/// ```
+#[derive(Copy, Debug)]
+pub struct Interval<B: Width> {
+    lb: B,
+    ub: B,
+}
+
+impl<B: Width> Model for Interval<B> {
+    ghost Value = { ℤ × ℤ };
+
+    ghost view = { λ a. (B.value a.lb, B.value a.ub) };
+
+    // The last two facts are a law of `Width`, which `inverse_ok` cannot cite.
+    ghost invariant = { λ a. IsInRange B.whole (B.value a.lb, B.value a.ub) × (B.at (B.value a.lb) ≡ a.lb) × (B.at (B.value a.ub) ≡ a.ub) };
+
+    ghost inverse = { λ p. record { lb = B.at p.0; ub = B.at p.1 } };
+
+    ghost inverse_ok = { λ a h i. record { lb = h.1 i; ub = h.2 i } };
+}
+
+impl<B: Width> Clone for Interval<B> {
+    ghost is_clone = { λ x y. y ≡ x };
+
+    ghost is_infallible = { λ _. ⊤ };
+
+    fn clone(&self) -> Result<Self, AllocError> {
+        Ok(*self)
+    }
+}
+
+impl<B: Width> PartialEq for Interval<B> {
+    ghost eq = { same_interval };
+
+    ghost laws = { same_interval_laws };
+
+    /// True exactly where the two have the same members.
+    fn eq(&self, other: &Self) -> bool
+        ensures value { result ≡ same_interval self.now other.now }
+        ensures members { IsTrue result ↔ SameMembers (IsBetween self.now) (IsBetween other.now) }
+    {
+        has_same_members(self, other)
+    }
+}
+
+fn has_same_members<B: Width>(a: &Interval<B>, b: &Interval<B>) -> bool
+    ensures { result ≡ same_interval a.now b.now }
+{
+    if a.is_empty() {
+        b.is_empty()
+    } else {
+        a.lb == b.lb && a.ub == b.ub
+    }
+}
+
+impl<B: Width> Eq for Interval<B> {
+    ghost laws = { same_interval_equiv };
+}

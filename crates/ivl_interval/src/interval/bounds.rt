@@ -1,0 +1,197 @@
+//! Intervals from bounds, and what their bounds tell: the least and the greatest member, how many
+//! there are, and whether a value is one.
+ghost use Rattle.std.specs.Prelude.{◌≡◌, ◌↔◌, ◌≤ℤ◌, ℤ, IsTrue};
+ghost use Rattle.ivl_laws.specs.Sets.{HasNone, HasSome, IsBetween, IsCrossed, IsInRange, IsSubset, Only, SameMembers};
+ghost use Rattle.ivl_laws.specs.Counts.{IsCountOf};
+ghost use Rattle.ivl_laws.specs.Bounds.{width_of};
+
+use crate::interval::Interval;
+use crate::ops::{
+    Bot, Bounded, Cardinality, Collection, Contains, Empty, IntervalKind, IsEmpty, IsSingleton,
+    Range, Singleton, Top, Whole,
+};
+use crate::width::{SizeNumber, Width};
+
+impl<B: Width> Interval<B> {
+    /// True exactly where `new(lb, ub)` may be called: `lb` is not below the range and `ub` is not
+    /// above it. The two may cross, so `in_range(8, 3)` is true, and `new(8, 3)` has no member.
+    pub fn in_range(lb: B, ub: B) -> bool
+        ensures { IsTrue result ↔ IsInRange B.whole (B.value lb, B.value ub) }
+    {
+        lb >= B::min_value() && ub <= B::max_value()
+    }
+
+    /// Each member is in the range. This does nothing: its contract is the fact.
+    pub fn in_whole(self)
+        ensures { IsSubset (IsBetween self) (IsBetween B.whole) }
+    {}
+}
+
+impl<B: Width> Collection for Interval<B> {
+    type Item = B;
+
+    ghost members = { IsBetween };
+
+    ghost number = { B.value };
+}
+
+impl<B: Width> IntervalKind for Interval<B> {}
+
+impl<B: Width> Range for Interval<B> {
+    ghost whole = { B.whole };
+
+    /// The numbers from `lb` to `ub`; none where `lb` is above `ub`. Condition: `in_range(lb, ub)`.
+    ///
+    /// In the original the condition stands in no signature, and has no test.
+    fn new(lb: B, ub: B) -> Interval<B>
+        requires { IsInRange B.whole (B.value lb, B.value ub) }
+        ensures members { SameMembers (IsBetween result) (IsBetween (B.value lb, B.value ub)) }
+        ensures value { result ≡ (B.value lb, B.value ub) }
+    {
+        Interval { lb, ub }
+    }
+}
+
+impl<B: Width> Empty for Interval<B> {
+    ghost members = { IsBetween };
+
+    /// An interval with no member.
+    fn empty() -> Interval<B>
+        ensures members { HasNone (IsBetween result) }
+        ensures crossed { IsCrossed result }
+    {
+        Self::new(B::one(), B::zero())
+    }
+}
+
+impl<B: Width> Top for Interval<B> {
+    ghost members = { IsBetween };
+
+    /// An interval with no member, which entails every other.
+    fn top() -> Interval<B>
+        ensures members { HasNone (IsBetween result) }
+        ensures crossed { IsCrossed result }
+    {
+        Self::empty()
+    }
+}
+
+impl<B: Width> Whole for Interval<B> {
+    ghost members = { IsBetween };
+
+    ghost whole = { B.whole };
+
+    /// The range of `B`. A value is in the range where `whole().contains(&value)` is true.
+    fn whole() -> Interval<B>
+        ensures members { SameMembers (IsBetween result) (IsBetween B.whole) }
+        ensures value { result ≡ B.whole }
+    {
+        Self::new(B::min_value(), B::max_value())
+    }
+}
+
+impl<B: Width> Bot for Interval<B> {
+    ghost members = { IsBetween };
+
+    ghost whole = { B.whole };
+
+    /// The range of `B`, which every interval entails.
+    fn bot() -> Interval<B>
+        ensures members { SameMembers (IsBetween result) (IsBetween B.whole) }
+        ensures value { result ≡ B.whole }
+    {
+        Self::whole()
+    }
+}
+
+impl<B: Width> Singleton for Interval<B> {
+    ghost whole = { B.whole };
+
+    /// The interval of `item` alone. Condition: `item` is in the range, which
+    /// `whole().contains(&item)` tests.
+    ///
+    /// In the original the condition stands in no signature.
+    fn singleton(item: B) -> Interval<B>
+        requires { IsBetween B.whole (B.value item) }
+        ensures members { SameMembers (IsBetween result) (Only (B.value item)) }
+        ensures value { result ≡ (B.value item, B.value item) }
+    {
+        Self::new(item, item)
+    }
+}
+
+impl<B: Width> Bounded for Interval<B> {
+    /// The least member. Condition: there is one, which `is_empty` tests.
+    fn lower(&self) -> B
+        requires { HasSome (IsBetween self.now) }
+        ensures member { IsBetween self.now (B.value result) }
+        ensures least { (z : ℤ) → IsBetween self.now z → B.value result ≤ℤ z }
+        ensures value { B.value result ≡ self.now.0 }
+        ensures in_range { IsBetween B.whole (B.value result) }
+    {
+        self.lb
+    }
+
+    /// The greatest member. Condition: there is one, which `is_empty` tests.
+    fn upper(&self) -> B
+        requires { HasSome (IsBetween self.now) }
+        ensures member { IsBetween self.now (B.value result) }
+        ensures greatest { (z : ℤ) → IsBetween self.now z → z ≤ℤ B.value result }
+        ensures value { B.value result ≡ self.now.1 }
+        ensures in_range { IsBetween B.whole (B.value result) }
+    {
+        self.ub
+    }
+}
+
+impl<B: Width> Cardinality for Interval<B> {
+    type Size = B::Output;
+
+    ghost members = { IsBetween };
+
+    ghost size_number = { B.Output.size };
+
+    /// The number of members.
+    fn size(&self) -> B::Output
+        ensures members { IsCountOf (B.Output.size result) (IsBetween self.now) }
+        ensures width { B.Output.size result ≡ width_of self.now }
+    {
+        if self.is_empty() {
+            <B::Output as SizeNumber>::zero()
+        } else {
+            B::width(&self.lb, &self.ub)
+        }
+    }
+}
+
+impl<B: Width> IsEmpty for Interval<B> {
+    ghost members = { IsBetween };
+
+    /// True exactly where there is no member: the lower bound is above the upper.
+    fn is_empty(&self) -> bool
+        ensures members { IsTrue result ↔ HasNone (IsBetween self.now) }
+        ensures crossed { IsTrue result ↔ IsCrossed self.now }
+    {
+        self.lb > self.ub
+    }
+}
+
+impl<B: Width> IsSingleton for Interval<B> {
+    ghost members = { IsBetween };
+
+    /// True exactly where there is one member: the bounds are equal.
+    fn is_singleton(&self) -> bool
+        ensures members { IsTrue result ↔ ((x : ℤ) × SameMembers (IsBetween self.now) (Only x)) }
+        ensures bounds { IsTrue result ↔ (self.now.0 ≡ self.now.1) }
+    {
+        self.lb == self.ub
+    }
+}
+
+impl<B: Width> Contains for Interval<B> {
+    /// True exactly where `item` is a member; it may be any value of its type, also one outside the
+    /// range.
+    fn contains(&self, item: &B) -> bool {
+        self.lb <= *item && *item <= self.ub
+    }
+}

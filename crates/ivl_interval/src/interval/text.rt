@@ -1,0 +1,21 @@
+//! The text of an interval.
+ghost use Rattle.ivl_interval.specs.Text.{interval_text};
+
+use crate::interval::Interval;
+use crate::ops::IsEmpty;
+use crate::width::Width;
+use std::fmt;
+
+impl<B: Width + fmt::Display> fmt::Display for Interval<B> {
+    ghost output = { λ p. interval_text p (B.output (B.at p.0)) (B.output (B.at p.1)) };
+
+    /// `{}` where there is no member, else `[1..5]` with the two bounds. Width and fill of the
+    /// formatter have no effect.
+    fn fmt<W: fmt::Write>(&self, f: &mut fmt::Formatter<W>) -> fmt::Result {
+        if self.is_empty() {
+            f.write_str("{}")
+        } else {
+            write!(f, "[{}..{}]", self.lb, self.ub)
+        }
+    }
+}

@@ -1,0 +1,404 @@
+//! The operations on sets of whole numbers, as traits.
+//!
+//! Each trait says what its call means over the members of its operands. What it needs to speak of
+//! them are ghost members: `members` of a value and `other_members` of the other operand are its
+//! members as numbers, `number` is the number of an item, `whole` is the range of the type of the
+//! bounds, and `answers` says what it takes for a result to stand for a set: to have exactly its
+//! members, or to be the least interval that holds it, or to be the right one unless memory was
+//! refused.
+ghost use Rattle.std.specs.Prelude.{◌≡◌, ◌↔◌, ◌≤ℤ◌, ℕ, ℤ, IsTrue};
+ghost use Rattle.ivl_laws.specs.Sets.{Above, AtLeast, AtMost, Below, Complement, Differences, ExactProducts, HasNone, HasSome, Intersection, IsBetween, IsInRange, IsProperSubset, IsSubset, Only, SameMembers, Sums, SymmetricDifference, Union, Without};
+ghost use Rattle.ivl_laws.specs.Counts.{IsCountOf};
+ghost use Rattle.ivl_interval.specs.Kleene.{IsEntailmentOf};
+
+use crate::interval::Interval;
+use crate::kleene::SKleene;
+use crate::width::Width;
+
+/// A type whose values are sets of items.
+pub trait Collection {
+    type Item;
+
+    /// The members of a value.
+    ghost members: { Self → ℤ → Type 0 };
+
+    /// The number of an item.
+    ghost number: { Self.Item → ℤ };
+}
+
+/// A mark: the values are intervals, or sets made of intervals.
+pub trait IntervalKind {}
+
+/// A set with no member.
+pub trait Empty {
+    ghost members: { Self → ℤ → Type 0 };
+
+    /// A set with no member.
+    fn empty() -> Self
+        ensures { HasNone (members result) };
+}
+
+/// The top of the lattice of information, where sets are ordered by `entail`: the set with no member.
+pub trait Top {
+    ghost members: { Self → ℤ → Type 0 };
+
+    /// The set with no member, which entails every other.
+    fn top() -> Self
+        ensures { HasNone (members result) };
+}
+
+/// The bottom of the lattice of information: the whole range.
+pub trait Bot {
+    ghost members: { Self → ℤ → Type 0 };
+
+    ghost whole: { ℤ × ℤ };
+
+    /// The numbers of the range, which every set entails.
+    fn bot() -> Self
+        ensures { SameMembers (members result) (IsBetween whole) };
+}
+
+/// The whole range of the type of the bounds.
+pub trait Whole {
+    ghost members: { Self → ℤ → Type 0 };
+
+    ghost whole: { ℤ × ℤ };
+
+    /// The numbers of the range.
+    fn whole() -> Self
+        ensures { SameMembers (members result) (IsBetween whole) };
+}
+
+/// A set of one item.
+pub trait Singleton: Collection {
+    ghost whole: { ℤ × ℤ };
+
+    /// The set of `item` alone. Condition: `item` is in the range, which `whole().contains(&item)`
+    /// tests.
+    fn singleton(item: Self::Item) -> Self
+        requires { IsBetween whole (Self.number item) }
+        ensures { SameMembers (Self.members result) (Only (Self.number item)) };
+}
+
+/// The set of the items from one to another.
+pub trait Range: Collection {
+    ghost whole: { ℤ × ℤ };
+
+    /// The items from `lb` to `ub`, both included; none where they cross. Condition: `lb` is not
+    /// below the range and `ub` is not above it.
+    fn new(lb: Self::Item, ub: Self::Item) -> Self
+        requires { IsInRange whole (Self.number lb, Self.number ub) }
+        ensures { SameMembers (Self.members result) (IsBetween (Self.number lb, Self.number ub)) };
+}
+
+/// The least and the greatest member.
+pub trait Bounded: Collection {
+    /// The least member. Condition: there is one, which `is_empty` tests.
+    fn lower(&self) -> Self::Item
+        requires { HasSome (Self.members self.now) }
+        ensures member { Self.members self.now (Self.number result) }
+        ensures least { (z : ℤ) → Self.members self.now z → Self.number result ≤ℤ z };
+
+    /// The greatest member. Condition: there is one.
+    fn upper(&self) -> Self::Item
+        requires { HasSome (Self.members self.now) }
+        ensures member { Self.members self.now (Self.number result) }
+        ensures greatest { (z : ℤ) → Self.members self.now z → z ≤ℤ Self.number result };
+}
+
+/// How many members a set has.
+pub trait Cardinality {
+    type Size;
+
+    ghost members: { Self → ℤ → Type 0 };
+
+    /// The number of a size.
+    ghost size_number: { Self.Size → ℕ };
+
+    /// The number of members.
+    fn size(&self) -> Self::Size
+        ensures { IsCountOf (size_number result) (members self.now) };
+}
+
+/// Whether a set has no member.
+pub trait IsEmpty {
+    ghost members: { Self → ℤ → Type 0 };
+
+    /// True exactly where there is no member.
+    fn is_empty(&self) -> bool
+        ensures { IsTrue result ↔ HasNone (members self.now) };
+}
+
+/// Whether a set has exactly one member.
+pub trait IsSingleton {
+    ghost members: { Self → ℤ → Type 0 };
+
+    /// True exactly where there is one member and no other.
+    fn is_singleton(&self) -> bool
+        ensures { IsTrue result ↔ ((x : ℤ) × SameMembers (members self.now) (Only x)) };
+}
+
+/// Whether an item is a member.
+pub trait Contains: Collection {
+    /// True exactly where `item` is a member; any value of its type may be asked for.
+    fn contains(&self, item: &Self::Item) -> bool
+        ensures { IsTrue result ↔ Self.members self.now (Self.number item.now) };
+}
+
+/// Whether two sets have no common member.
+pub trait Disjoint<R> {
+    ghost members: { Self → ℤ → Type 0 };
+
+    ghost other_members: { R → ℤ → Type 0 };
+
+    /// True exactly where no number is a member of both.
+    fn is_disjoint(&self, other: &R) -> bool
+        ensures { IsTrue result ↔ HasNone (Intersection (members self.now) (other_members other.now)) };
+}
+
+/// Whether two sets have a common member.
+pub trait Overlap<R> {
+    ghost members: { Self → ℤ → Type 0 };
+
+    ghost other_members: { R → ℤ → Type 0 };
+
+    /// True exactly where some number is a member of both.
+    fn overlap(&self, other: &R) -> bool
+        ensures { IsTrue result ↔ HasSome (Intersection (members self.now) (other_members other.now)) };
+}
+
+/// Inclusion.
+pub trait Subset {
+    ghost members: { Self → ℤ → Type 0 };
+
+    /// True exactly where each member is a member of `other`.
+    fn is_subset(&self, other: &Self) -> bool
+        ensures { IsTrue result ↔ IsSubset (members self.now) (members other.now) };
+}
+
+/// Inclusion of sets that differ.
+pub trait ProperSubset {
+    ghost members: { Self → ℤ → Type 0 };
+
+    /// True exactly where each member is a member of `other`, and `other` has more.
+    fn is_proper_subset(&self, other: &Self) -> bool
+        ensures { IsTrue result ↔ IsProperSubset (members self.now) (members other.now) };
+}
+
+/// The members of two sets.
+pub trait Union<R> {
+    type Output;
+
+    ghost members: { Self → ℤ → Type 0 };
+
+    ghost other_members: { R → ℤ → Type 0 };
+
+    /// The two may be united: a single value has to be in the range.
+    ghost can_unite: { Self → R → Type 0 };
+
+    ghost answers: { Self.Output → (ℤ → Type 0) → Type 0 };
+
+    /// The numbers that are a member of at least one of the two.
+    fn union(&self, other: &R) -> Self::Output
+        requires { can_unite self.now other.now }
+        ensures { answers result (Union (members self.now) (other_members other.now)) };
+}
+
+/// The members that two sets have in common.
+pub trait Intersection<R> {
+    type Output;
+
+    ghost members: { Self → ℤ → Type 0 };
+
+    ghost other_members: { R → ℤ → Type 0 };
+
+    ghost answers: { Self.Output → (ℤ → Type 0) → Type 0 };
+
+    /// The numbers that are a member of both.
+    fn intersection(&self, other: &R) -> Self::Output
+        ensures { answers result (Intersection (members self.now) (other_members other.now)) };
+}
+
+/// The members of one set that are not in another.
+pub trait Difference<R> {
+    type Output;
+
+    ghost members: { Self → ℤ → Type 0 };
+
+    ghost other_members: { R → ℤ → Type 0 };
+
+    ghost answers: { Self.Output → (ℤ → Type 0) → Type 0 };
+
+    /// The members that are not in `other`, or what holds them where the answer is an interval.
+    fn difference(&self, other: &R) -> Self::Output
+        ensures { answers result (Without (members self.now) (other_members other.now)) };
+}
+
+/// The members of exactly one of two sets.
+pub trait SymmetricDifference<R> {
+    type Output;
+
+    ghost members: { Self → ℤ → Type 0 };
+
+    ghost other_members: { R → ℤ → Type 0 };
+
+    /// The two may be joined: a single value has to be in the range.
+    ghost can_unite: { Self → R → Type 0 };
+
+    ghost answers: { Self.Output → (ℤ → Type 0) → Type 0 };
+
+    /// The numbers that are a member of one of the two and not of the other.
+    fn symmetric_difference(&self, other: &R) -> Self::Output
+        requires { can_unite self.now other.now }
+        ensures { answers result (SymmetricDifference (members self.now) (other_members other.now)) };
+}
+
+/// The least interval that holds two sets.
+pub trait Hull<R> {
+    type Output;
+
+    ghost members: { Self → ℤ → Type 0 };
+
+    ghost other_members: { R → ℤ → Type 0 };
+
+    /// The two may be held by one interval: a single value has to be in the range.
+    ghost can_join: { Self → R → Type 0 };
+
+    ghost answers: { Self.Output → (ℤ → Type 0) → Type 0 };
+
+    /// What holds the members of both.
+    fn hull(&self, other: &R) -> Self::Output
+        requires { can_join self.now other.now }
+        ensures { answers result (Union (members self.now) (other_members other.now)) };
+}
+
+/// The numbers of the range that are no members.
+pub trait Complement {
+    type Output;
+
+    ghost whole: { ℤ × ℤ };
+
+    ghost members: { Self → ℤ → Type 0 };
+
+    ghost answers: { Self.Output → (ℤ → Type 0) → Type 0 };
+
+    /// The numbers of the range that are not in the set.
+    fn complement(&self) -> Self::Output
+        ensures { answers result (Complement whole (members self.now)) };
+}
+
+/// A set cut from the left.
+pub trait ShrinkLeft: Collection {
+    type Output;
+
+    ghost answers: { Self.Output → (ℤ → Type 0) → Type 0 };
+
+    /// The members that are at least `lower`, for any value of its type.
+    fn shrink_left(&self, lower: Self::Item) -> Self::Output
+        ensures { answers result (AtLeast (Self.number lower) (Self.members self.now)) };
+}
+
+/// A set cut from the right.
+pub trait ShrinkRight: Collection {
+    type Output;
+
+    ghost answers: { Self.Output → (ℤ → Type 0) → Type 0 };
+
+    /// The members that are at most `upper`, for any value of its type.
+    fn shrink_right(&self, upper: Self::Item) -> Self::Output
+        ensures { answers result (AtMost (Self.number upper) (Self.members self.now)) };
+}
+
+/// A set cut from the left, with the item itself.
+pub trait StrictShrinkLeft: Collection {
+    type Output;
+
+    ghost answers: { Self.Output → (ℤ → Type 0) → Type 0 };
+
+    /// The members above `lower`, for any value of its type.
+    fn strict_shrink_left(&self, lower: Self::Item) -> Self::Output
+        ensures { answers result (Above (Self.number lower) (Self.members self.now)) };
+}
+
+/// A set cut from the right, with the item itself.
+pub trait StrictShrinkRight: Collection {
+    type Output;
+
+    ghost answers: { Self.Output → (ℤ → Type 0) → Type 0 };
+
+    /// The members below `upper`, for any value of its type.
+    fn strict_shrink_right(&self, upper: Self::Item) -> Self::Output
+        ensures { answers result (Below (Self.number upper) (Self.members self.now)) };
+}
+
+/// What two pieces of information say together: the common members.
+pub trait Join: Sized {
+    type Output;
+
+    ghost members: { Self → ℤ → Type 0 };
+
+    ghost answers: { Self.Output → (ℤ → Type 0) → Type 0 };
+
+    /// The members of both.
+    fn join(self, other: Self) -> Self::Output
+        ensures { answers result (Intersection (members self) (members other)) };
+}
+
+/// What two pieces of information agree on: what holds the members of either.
+pub trait Meet: Sized {
+    type Output;
+
+    ghost members: { Self → ℤ → Type 0 };
+
+    ghost answers: { Self.Output → (ℤ → Type 0) → Type 0 };
+
+    /// The members of at least one, or what holds them where the answer is an interval.
+    fn meet(self, other: Self) -> Self::Output
+        ensures { answers result (Union (members self) (members other)) };
+}
+
+/// Whether one set says at least as much as another.
+pub trait Entailment {
+    ghost members: { Self → ℤ → Type 0 };
+
+    /// `True` where each member is a member of `other`, else `False` where it is the other way
+    /// round, else `Unknown`.
+    fn entail(&self, other: &Self) -> SKleene
+        ensures { IsEntailmentOf (members self.now) (members other.now) result };
+}
+
+/// A value that is read as an interval.
+pub trait ToInterval<B: Width> {
+    /// The bounds of the value are those of an interval.
+    ghost can_convert: { Self → Type 0 };
+
+    /// The pair of numbers that the value stands for.
+    ghost interval: { Self → ℤ × ℤ };
+
+    /// The interval that the value stands for. Condition: its bounds are not outside the range.
+    fn to_interval(self) -> Interval<B>
+        requires { can_convert self }
+        ensures members { SameMembers (IsBetween result) (IsBetween (interval self)) }
+        ensures bounds { (interval self).0 ≤ℤ (interval self).1 → result ≡ interval self };
+}
+
+/// Whether the results of arithmetic are in the range.
+pub trait Fits<R> {
+    ghost whole: { ℤ × ℤ };
+
+    ghost members: { Self → ℤ → Type 0 };
+
+    ghost other_members: { R → ℤ → Type 0 };
+
+    /// True exactly where each sum of a member of the one and a member of the other is in the range.
+    fn fits_add(&self, other: &R) -> bool
+        ensures { IsTrue result ↔ IsSubset (Sums (members self.now) (other_members other.now)) (IsBetween whole) };
+
+    /// True exactly where each difference is in the range.
+    fn fits_sub(&self, other: &R) -> bool
+        ensures { IsTrue result ↔ IsSubset (Differences (members self.now) (other_members other.now)) (IsBetween whole) };
+
+    /// True exactly where each product is in the range.
+    fn fits_mul(&self, other: &R) -> bool
+        ensures { IsTrue result ↔ IsSubset (ExactProducts (members self.now) (other_members other.now)) (IsBetween whole) };
+}

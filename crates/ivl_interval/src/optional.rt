@@ -1,0 +1,60 @@
+//! A value, or none, as a set of at most one member.
+ghost use Rattle.std.specs.Prelude.{◌≡◌, ◌↔◌, None, Some, IsSome, IsTrue};
+ghost use Rattle.std.specs.Option.{option_copied};
+
+use std::marker::Model;
+
+/// A value, or none. A contract sees an option.
+///
+/// It stands for a set of at most one member, and is `Copy` where its value is. No call takes memory.
+#[derive(Clone, Copy, PartialEq, Eq, Debug)]
+pub struct Optional<T> {
+    value: Option<T>,
+}
+
+impl<T> Model for Optional<T> {
+    ghost use Rattle.std.specs.Prelude.{Option};
+
+    ghost Value = { Option T };
+
+    ghost view = { λ o. o.value };
+
+    ghost inverse = { λ o. record { value = o } };
+}
+
+impl<T> Optional<T> {
+    /// None.
+    pub fn empty() -> Self
+        ensures { result ≡ None }
+    {
+        Optional { value: None }
+    }
+
+    /// The value `x`.
+    pub fn singleton(x: T) -> Self
+        ensures { result ≡ Some x }
+    {
+        Optional { value: Some(x) }
+    }
+
+    /// True exactly where there is no value.
+    pub fn is_empty(&self) -> bool
+        ensures { IsTrue result ↔ (self.now ≡ None) }
+    {
+        self.value.is_none()
+    }
+
+    /// True exactly where there is a value.
+    pub fn is_some(&self) -> bool
+        ensures { IsTrue result ↔ IsSome self.now }
+    {
+        self.value.is_some()
+    }
+
+    /// The value behind a reference, if there is one.
+    pub fn as_ref(&self) -> Option<&T>
+        ensures { option_copied result ≡ self.now }
+    {
+        self.value.as_ref()
+    }
+}

@@ -1,0 +1,163 @@
+//! The types of bounds and of sizes, and the numbers of their values.
+ghost use Rattle.std.specs.Prelude.{◌≡◌, ℕ, ◌+◌, ◌-◌, ◌^◌, ◌<◌, ◌≤◌, ◌↔◌, ℤ, pos, ◌+ℤ◌, ◌-ℤ◌, ◌*ℤ◌, ◌≤ℤ◌, IsSome, IfSome};
+ghost use Rattle.ivl_laws.specs.Sets.{IsBetween, IsInRange};
+ghost use Rattle.ivl_laws.specs.Bounds.{width_of, OrdersByNumber, OrdersByCount, IsBoundRange};
+
+mod signed;
+mod sizes;
+mod unsigned;
+
+/// The type of the number of members of an interval or a set.
+///
+/// Its numbers are those from 0 to a greatest one. `u8`, `u16`, `u32`, `u64` and `usize` have it, and
+/// there every value of the type is a number.
+pub trait SizeNumber: Ord + Copy {
+    /// The number of a value.
+    ghost size: { Self → ℕ };
+
+    /// The greatest number of a value.
+    ghost greatest: { ℕ };
+
+    /// The number of a value.
+    fn number(self) -> u128
+        ensures number { result ≡ size self }
+        ensures at_most { size self ≤ greatest };
+
+    /// The value of a number; none exactly where the number is above the greatest one.
+    fn from_number(number: u128) -> Option<Self>
+        ensures known { IsSome result ↔ (number ≤ greatest) }
+        ensures same_number { IfSome result (λ x. size x ≡ number) };
+
+    /// The value of 0.
+    fn zero() -> Self
+        ensures { size result ≡ 0 }
+    {
+        Self::from_number(0).unwrap()
+    }
+
+    /// The sum; none exactly where it is not a number of the type.
+    fn checked_add(self, other: Self) -> Option<Self>
+        ensures known { IsSome result ↔ (size self + size other ≤ greatest) }
+        ensures same_number { IfSome result (λ x. size x ≡ size self + size other) }
+    {
+        Self::from_number(self.number().checked_add(other.number())?)
+    }
+
+    /// The difference; none exactly where it is negative.
+    fn checked_sub(self, other: Self) -> Option<Self>
+        ensures known { IsSome result ↔ (size other ≤ size self) }
+        ensures same_number { IfSome result (λ x. size x + size other ≡ size self) }
+    {
+        Self::from_number(self.number().checked_sub(other.number())?)
+    }
+
+    /// Order and equality of values are those of their numbers.
+    ghost ordered: { OrdersByCount size Self.eq Self.partial_cmp Self.cmp };
+
+    ghost bounded: { greatest < 2 ^ 128 };
+}
+
+/// The type of the bounds of an interval.
+///
+/// Each value has a number, and two values of one number are one value. The numbers of intervals are
+/// those of the range, from `min_value()` to `max_value()`; a value outside the range may exist and be
+/// asked for, as `255u8` or `-128i8`. The range holds 0 and 1 and lies in the 64-bit numbers, and how
+/// many numbers it has is a number of `Output`.
+///
+/// | Type | from | to | `Output` |
+/// |---|---|---|---|
+/// | `u8`, `u16`, `u32`, `u64`, `usize` | 0 | the greatest value less 1 | the type itself |
+/// | `i8`, `i16`, `i32`, `i64`, `isize` | the least value plus 1 | the greatest value | the unsigned type of its width |
+///
+/// The original asks for the arithmetic of its `Num`; here the numbers stand in its place. Where a
+/// type has an inherent call of the same name, write the trait's as `<B as Width>::min_value()`.
+pub trait Width: Ord + Copy {
+    /// The type of sizes.
+    type Output: SizeNumber;
+
+    /// The number of a value.
+    ghost value: { Self → ℤ };
+
+    /// The value that has a number.
+    ghost at: { ℤ → Self };
+
+    /// The least and the greatest number that an interval may have.
+    ghost whole: { ℤ × ℤ };
+
+    /// The least value of the range.
+    fn min_value() -> Self
+        ensures { value result ≡ whole.0 };
+
+    /// The greatest value of the range.
+    fn max_value() -> Self
+        ensures { value result ≡ whole.1 };
+
+    /// The number of a value.
+    fn number(self) -> i128
+        ensures { result ≡ value self };
+
+    /// The value of a number; none exactly where the number is not in the range.
+    fn from_number(number: i128) -> Option<Self>
+        ensures known { IsSome result ↔ IsBetween whole number }
+        ensures same_number { IfSome result (λ x. value x ≡ number) };
+
+    /// How many numbers lie from `lower` to `upper`, both included. Condition: both are in the range,
+    /// and `lower` is at most `upper`.
+    fn width(lower: &Self, upper: &Self) -> Self::Output
+        requires in_range { IsInRange whole (value lower.now, value upper.now) }
+        requires in_order { value lower.now ≤ℤ value upper.now }
+        ensures { Self.Output.size result ≡ width_of (value lower.now, value upper.now) }
+    {
+        let last = (upper.number() - lower.number()) as u128;
+        Self::Output::from_number(last + 1).unwrap()
+    }
+
+    /// The value of 0.
+    fn zero() -> Self
+        ensures { value result ≡ pos 0 }
+    {
+        Self::from_number(0).unwrap()
+    }
+
+    /// The value of 1.
+    fn one() -> Self
+        ensures { value result ≡ pos 1 }
+    {
+        Self::from_number(1).unwrap()
+    }
+
+    /// The sum; none exactly where it is not in the range.
+    fn checked_add(self, other: Self) -> Option<Self>
+        ensures known { IsSome result ↔ IsBetween whole (value self +ℤ value other) }
+        ensures same_number { IfSome result (λ x. value x ≡ value self +ℤ value other) }
+    {
+        Self::from_number(self.number().checked_add(other.number())?)
+    }
+
+    /// The difference; none exactly where it is not in the range.
+    fn checked_sub(self, other: Self) -> Option<Self>
+        ensures known { IsSome result ↔ IsBetween whole (value self -ℤ value other) }
+        ensures same_number { IfSome result (λ x. value x ≡ value self -ℤ value other) }
+    {
+        Self::from_number(self.number().checked_sub(other.number())?)
+    }
+
+    /// The product; none exactly where it is not in the range. Two numbers of 64 bits can have a
+    /// product beyond 128 bits, which is outside every range.
+    fn checked_mul(self, other: Self) -> Option<Self>
+        ensures known { IsSome result ↔ IsBetween whole (value self *ℤ value other) }
+        ensures same_number { IfSome result (λ x. value x ≡ value self *ℤ value other) }
+    {
+        Self::from_number(self.number().checked_mul(other.number())?)
+    }
+
+    /// Order and equality of values are those of their numbers.
+    ghost ordered: { OrdersByNumber value Self.eq Self.partial_cmp Self.cmp };
+
+    /// A number belongs to one value only.
+    ghost at_value: { (x : Self) → at (value x) ≡ x };
+
+    ghost range: { IsBoundRange whole };
+
+    ghost countable: { width_of whole ≤ Self.Output.greatest };
+}

@@ -1,0 +1,215 @@
+//! The signed integers as bounds: from the least value plus 1 to the greatest.
+ghost use Rattle.std.specs.Prelude.{◌-◌, ◌^◌, negsuc, pos, refl};
+ghost use Rattle.ivl_interval.specs.IntegerLaws.{signed_order, range_i8, countable_i8, range_i16, countable_i16, range_i32, countable_i32, range_i64, countable_i64};
+
+use crate::width::Width;
+
+impl Width for i8 {
+    type Output = u8;
+
+    ghost value = { λ x. x };
+
+    ghost at = { λ z. z };
+
+    ghost whole = { (negsuc (2 ^ 7 - 2), pos (2 ^ 7 - 1)) };
+
+    fn min_value() -> i8 {
+        i8::MIN + 1
+    }
+
+    fn max_value() -> i8 {
+        i8::MAX
+    }
+
+    fn number(self) -> i128 {
+        self as i128
+    }
+
+    fn from_number(number: i128) -> Option<i8> {
+        i8::try_from(number).ok().filter(|x| *x != i8::MIN)
+    }
+
+    fn zero() -> i8 {
+        0
+    }
+
+    fn one() -> i8 {
+        1
+    }
+
+    ghost ordered = { signed_order };
+
+    ghost at_value = { λ x. refl };
+
+    ghost range = { range_i8 };
+
+    ghost countable = { countable_i8 };
+}
+
+impl Width for i16 {
+    type Output = u16;
+
+    ghost value = { λ x. x };
+
+    ghost at = { λ z. z };
+
+    ghost whole = { (negsuc (2 ^ 15 - 2), pos (2 ^ 15 - 1)) };
+
+    fn min_value() -> i16 {
+        i16::MIN + 1
+    }
+
+    fn max_value() -> i16 {
+        i16::MAX
+    }
+
+    fn number(self) -> i128 {
+        self as i128
+    }
+
+    fn from_number(number: i128) -> Option<i16> {
+        i16::try_from(number).ok().filter(|x| *x != i16::MIN)
+    }
+
+    fn zero() -> i16 {
+        0
+    }
+
+    fn one() -> i16 {
+        1
+    }
+
+    ghost ordered = { signed_order };
+
+    ghost at_value = { λ x. refl };
+
+    ghost range = { range_i16 };
+
+    ghost countable = { countable_i16 };
+}
+
+impl Width for i32 {
+    type Output = u32;
+
+    ghost value = { λ x. x };
+
+    ghost at = { λ z. z };
+
+    ghost whole = { (negsuc (2 ^ 31 - 2), pos (2 ^ 31 - 1)) };
+
+    fn min_value() -> i32 {
+        i32::MIN + 1
+    }
+
+    fn max_value() -> i32 {
+        i32::MAX
+    }
+
+    fn number(self) -> i128 {
+        self as i128
+    }
+
+    fn from_number(number: i128) -> Option<i32> {
+        i32::try_from(number).ok().filter(|x| *x != i32::MIN)
+    }
+
+    fn zero() -> i32 {
+        0
+    }
+
+    fn one() -> i32 {
+        1
+    }
+
+    ghost ordered = { signed_order };
+
+    ghost at_value = { λ x. refl };
+
+    ghost range = { range_i32 };
+
+    ghost countable = { countable_i32 };
+}
+
+impl Width for i64 {
+    type Output = u64;
+
+    ghost value = { λ x. x };
+
+    ghost at = { λ z. z };
+
+    ghost whole = { (negsuc (2 ^ 63 - 2), pos (2 ^ 63 - 1)) };
+
+    fn min_value() -> i64 {
+        i64::MIN + 1
+    }
+
+    fn max_value() -> i64 {
+        i64::MAX
+    }
+
+    fn number(self) -> i128 {
+        self as i128
+    }
+
+    fn from_number(number: i128) -> Option<i64> {
+        i64::try_from(number).ok().filter(|x| *x != i64::MIN)
+    }
+
+    fn zero() -> i64 {
+        0
+    }
+
+    fn one() -> i64 {
+        1
+    }
+
+    ghost ordered = { signed_order };
+
+    ghost at_value = { λ x. refl };
+
+    ghost range = { range_i64 };
+
+    ghost countable = { countable_i64 };
+}
+
+impl Width for isize {
+    type Output = usize;
+
+    ghost value = { λ x. x };
+
+    ghost at = { λ z. z };
+
+    ghost whole = { (negsuc (2 ^ 63 - 2), pos (2 ^ 63 - 1)) };
+
+    fn min_value() -> isize {
+        isize::MIN + 1
+    }
+
+    fn max_value() -> isize {
+        isize::MAX
+    }
+
+    fn number(self) -> i128 {
+        self as i128
+    }
+
+    fn from_number(number: i128) -> Option<isize> {
+        isize::try_from(number).ok().filter(|x| *x != isize::MIN)
+    }
+
+    fn zero() -> isize {
+        0
+    }
+
+    fn one() -> isize {
+        1
+    }
+
+    ghost ordered = { signed_order };
+
+    ghost at_value = { λ x. refl };
+
+    ghost range = { range_i64 };
+
+    ghost countable = { countable_i64 };
+}

@@ -1,0 +1,115 @@
+//! The unsigned integers as sizes.
+ghost use Rattle.std.specs.Prelude.{◌-◌, ◌^◌};
+ghost use Rattle.ivl_interval.specs.IntegerLaws.{size_order, fits_u8, fits_u16, fits_u32, fits_u64};
+
+use crate::width::SizeNumber;
+
+impl SizeNumber for u8 {
+    ghost size = { λ x. x };
+
+    ghost greatest = { 2 ^ 8 - 1 };
+
+    fn number(self) -> u128 {
+        self as u128
+    }
+
+    fn from_number(number: u128) -> Option<u8> {
+        u8::try_from(number).ok()
+    }
+
+    fn zero() -> u8 {
+        0
+    }
+
+    ghost ordered = { size_order };
+
+    ghost bounded = { fits_u8 };
+}
+
+impl SizeNumber for u16 {
+    ghost size = { λ x. x };
+
+    ghost greatest = { 2 ^ 16 - 1 };
+
+    fn number(self) -> u128 {
+        self as u128
+    }
+
+    fn from_number(number: u128) -> Option<u16> {
+        u16::try_from(number).ok()
+    }
+
+    fn zero() -> u16 {
+        0
+    }
+
+    ghost ordered = { size_order };
+
+    ghost bounded = { fits_u16 };
+}
+
+impl SizeNumber for u32 {
+    ghost size = { λ x. x };
+
+    ghost greatest = { 2 ^ 32 - 1 };
+
+    fn number(self) -> u128 {
+        self as u128
+    }
+
+    fn from_number(number: u128) -> Option<u32> {
+        u32::try_from(number).ok()
+    }
+
+    fn zero() -> u32 {
+        0
+    }
+
+    ghost ordered = { size_order };
+
+    ghost bounded = { fits_u32 };
+}
+
+impl SizeNumber for u64 {
+    ghost size = { λ x. x };
+
+    ghost greatest = { 2 ^ 64 - 1 };
+
+    fn number(self) -> u128 {
+        self as u128
+    }
+
+    fn from_number(number: u128) -> Option<u64> {
+        u64::try_from(number).ok()
+    }
+
+    fn zero() -> u64 {
+        0
+    }
+
+    ghost ordered = { size_order };
+
+    ghost bounded = { fits_u64 };
+}
+
+impl SizeNumber for usize {
+    ghost size = { λ x. x };
+
+    ghost greatest = { 2 ^ 64 - 1 };
+
+    fn number(self) -> u128 {
+        self as u128
+    }
+
+    fn from_number(number: u128) -> Option<usize> {
+        usize::try_from(number).ok()
+    }
+
+    fn zero() -> usize {
+        0
+    }
+
+    ghost ordered = { size_order };
+
+    ghost bounded = { fits_u64 };
+}

@@ -1,0 +1,235 @@
+//! The unsigned integers as bounds: from 0 to the greatest value less 1.
+ghost use Rattle.std.specs.Prelude.{◌-◌, ◌^◌, pos, refl, unsigned_abs};
+ghost use Rattle.ivl_interval.specs.IntegerLaws.{unsigned_order, range_u8, countable_u8, range_u16, countable_u16, range_u32, countable_u32, range_u64, countable_u64};
+
+use crate::width::Width;
+
+impl Width for u8 {
+    type Output = u8;
+
+    ghost value = { pos };
+
+    ghost at = { unsigned_abs };
+
+    ghost whole = { (pos 0, pos (2 ^ 8 - 2)) };
+
+    fn min_value() -> u8 {
+        u8::MIN
+    }
+
+    fn max_value() -> u8 {
+        u8::MAX - 1
+    }
+
+    fn number(self) -> i128 {
+        self as i128
+    }
+
+    fn from_number(number: i128) -> Option<u8> {
+        u8::try_from(number).ok().filter(|x| *x < u8::MAX)
+    }
+
+    fn width(lower: &u8, upper: &u8) -> u8 {
+        *upper - *lower + 1
+    }
+
+    fn zero() -> u8 {
+        0
+    }
+
+    fn one() -> u8 {
+        1
+    }
+
+    ghost ordered = { unsigned_order };
+
+    ghost at_value = { λ x. refl };
+
+    ghost range = { range_u8 };
+
+    ghost countable = { countable_u8 };
+}
+
+impl Width for u16 {
+    type Output = u16;
+
+    ghost value = { pos };
+
+    ghost at = { unsigned_abs };
+
+    ghost whole = { (pos 0, pos (2 ^ 16 - 2)) };
+
+    fn min_value() -> u16 {
+        u16::MIN
+    }
+
+    fn max_value() -> u16 {
+        u16::MAX - 1
+    }
+
+    fn number(self) -> i128 {
+        self as i128
+    }
+
+    fn from_number(number: i128) -> Option<u16> {
+        u16::try_from(number).ok().filter(|x| *x < u16::MAX)
+    }
+
+    fn width(lower: &u16, upper: &u16) -> u16 {
+        *upper - *lower + 1
+    }
+
+    fn zero() -> u16 {
+        0
+    }
+
+    fn one() -> u16 {
+        1
+    }
+
+    ghost ordered = { unsigned_order };
+
+    ghost at_value = { λ x. refl };
+
+    ghost range = { range_u16 };
+
+    ghost countable = { countable_u16 };
+}
+
+impl Width for u32 {
+    type Output = u32;
+
+    ghost value = { pos };
+
+    ghost at = { unsigned_abs };
+
+    ghost whole = { (pos 0, pos (2 ^ 32 - 2)) };
+
+    fn min_value() -> u32 {
+        u32::MIN
+    }
+
+    fn max_value() -> u32 {
+        u32::MAX - 1
+    }
+
+    fn number(self) -> i128 {
+        self as i128
+    }
+
+    fn from_number(number: i128) -> Option<u32> {
+        u32::try_from(number).ok().filter(|x| *x < u32::MAX)
+    }
+
+    fn width(lower: &u32, upper: &u32) -> u32 {
+        *upper - *lower + 1
+    }
+
+    fn zero() -> u32 {
+        0
+    }
+
+    fn one() -> u32 {
+        1
+    }
+
+    ghost ordered = { unsigned_order };
+
+    ghost at_value = { λ x. refl };
+
+    ghost range = { range_u32 };
+
+    ghost countable = { countable_u32 };
+}
+
+impl Width for u64 {
+    type Output = u64;
+
+    ghost value = { pos };
+
+    ghost at = { unsigned_abs };
+
+    ghost whole = { (pos 0, pos (2 ^ 64 - 2)) };
+
+    fn min_value() -> u64 {
+        u64::MIN
+    }
+
+    fn max_value() -> u64 {
+        u64::MAX - 1
+    }
+
+    fn number(self) -> i128 {
+        self as i128
+    }
+
+    fn from_number(number: i128) -> Option<u64> {
+        u64::try_from(number).ok().filter(|x| *x < u64::MAX)
+    }
+
+    fn width(lower: &u64, upper: &u64) -> u64 {
+        *upper - *lower + 1
+    }
+
+    fn zero() -> u64 {
+        0
+    }
+
+    fn one() -> u64 {
+        1
+    }
+
+    ghost ordered = { unsigned_order };
+
+    ghost at_value = { λ x. refl };
+
+    ghost range = { range_u64 };
+
+    ghost countable = { countable_u64 };
+}
+
+impl Width for usize {
+    type Output = usize;
+
+    ghost value = { pos };
+
+    ghost at = { unsigned_abs };
+
+    ghost whole = { (pos 0, pos (2 ^ 64 - 2)) };
+
+    fn min_value() -> usize {
+        usize::MIN
+    }
+
+    fn max_value() -> usize {
+        usize::MAX - 1
+    }
+
+    fn number(self) -> i128 {
+        self as i128
+    }
+
+    fn from_number(number: i128) -> Option<usize> {
+        usize::try_from(number).ok().filter(|x| *x < usize::MAX)
+    }
+
+    fn width(lower: &usize, upper: &usize) -> usize {
+        *upper - *lower + 1
+    }
+
+    fn zero() -> usize {
+        0
+    }
+
+    fn one() -> usize {
+        1
+    }
+
+    ghost ordered = { unsigned_order };
+
+    ghost at_value = { λ x. refl };
+
+    ghost range = { range_u64 };
+
+    ghost countable = { countable_u64 };
+}
