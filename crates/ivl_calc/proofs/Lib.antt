@@ -1,0 +1,5 @@
+pub mod Registers
+pub mod Elements
+pub mod Gathering
+pub mod Runs
+pub mod Steps

@@ -1,5 +1,5 @@
 -- What the code's commands and replies stand for, by the numbers of bounds and of sizes.
-use Rattle.std.specs.Prelude.{ℕ, ℤ, List, map, option_map}
+use Rattle.std.specs.Prelude.{ℕ, ℤ, List, map}
 use Rattle.ivl_calc.specs.Actions.{pairs, union, has, size, same, show, Action, make, ask, Answer, done, flag, sized, runs, refused}
 use Rattle.ivl_calc.specs.declared.command.Command.{Command}
 use Rattle.ivl_calc.specs.declared.command.Command.TheVariants as commands

@@ -15,7 +15,9 @@ use intervallum::width::Width;
 use std::alloc::{AllocError, Global};
 use std::marker::Model;
 
-/// A fixed number of registers, each a set. A contract sees the list of their run lists.
+/// A fixed number of registers, each a set, which commands read and write.
+///
+/// Registers are named by their indexes from 0. A contract sees the list of their run lists.
 #[derive(Drop)]
 pub struct Calc<B: Width> {
     alloc: Global,
@@ -29,7 +31,12 @@ impl<B: Width> Model for Calc<B> {
 }
 
 impl<B: Width> Calc<B> {
-    /// A number of registers, all empty.
+    /// A number of registers, all empty; there may be none. `O(registers)`, in memory for the list
+    /// of the registers.
+    ///
+    /// # Errors
+    ///
+    /// `AllocError` where that memory is refused.
     pub fn new(alloc: Global, registers: usize) -> Result<Calc<B>, AllocError>
         ensures { IfOk result (λ c. c ≡ replicate registers []) }
     {
@@ -43,14 +50,14 @@ impl<B: Width> Calc<B> {
         })
     }
 
-    /// How many registers there are.
+    /// How many registers there are. It never changes. `O(1)`, takes no memory.
     pub fn registers(&self) -> usize
         ensures { result ≡ length self.now }
     {
         self.registers.len()
     }
 
-    /// The set in a register, if there is one of that index.
+    /// The set in a register; none exactly where the index has no register. `O(1)`, takes no memory.
     pub fn get(&self, register: usize) -> Option<&IntervalSet<B>>
         ensures known { IsSome result ↔ (register < length self.now) }
         ensures value { IfSome result (λ set. set.now ≡ slice_index_or self.now register []) }
@@ -58,21 +65,40 @@ impl<B: Width> Calc<B> {
         self.registers.get(register)
     }
 
-    /// Carries out one command. After a refusal the registers are as they were.
+    /// Carries out one command. [`Refusal`] says what is refused, and in which order; a refused
+    /// command leaves all registers as they were.
+    ///
+    /// | Command | Cost | Memory |
+    /// |---|---|---|
+    /// | `Set` of `k` pairs | `k` unions, each linear in the runs so far | the runs so far, twice |
+    /// | `Union` | linear in the runs of both | the runs of both |
+    /// | `Has` | that of `contains` | none |
+    /// | `Size` | `O(1)` | none |
+    /// | `Same` | linear in the runs | none |
+    /// | `Show` | linear in the runs | a copy of them |
     pub fn apply(&mut self, command: &Command<B>) -> Reply<B>
         ensures { MayStep B.whole self.old (action_of B.value command.now) (answer_of B.value B.Output.size result) self.new }
     {
         match command {
-            Command::Set(r, list) => set_at(self.alloc, &mut self.registers, *r, list),
-            Command::Union(r, a, b) => unite_at(&mut self.registers, *r, *a, *b),
-            Command::Has(a, v) => has_at(&self.registers, *a, *v),
-            Command::Size(a) => size_at(&self.registers, *a),
-            Command::Same(a, b) => same_at(&self.registers, *a, *b),
-            Command::Show(a) => show_at(self.alloc, &self.registers, *a),
+            Command::Set(target, list) => set_at(self.alloc, &mut self.registers, *target, list),
+            Command::Union(target, left, right) => {
+                unite_at(&mut self.registers, *target, *left, *right)
+            }
+            Command::Has(register, item) => has_at(&self.registers, *register, *item),
+            Command::Size(register) => size_at(&self.registers, *register),
+            Command::Same(left, right) => same_at(&self.registers, *left, *right),
+            Command::Show(register) => show_at(self.alloc, &self.registers, *register),
         }
     }
 
-    /// Carries out the commands one by one. Room for the replies is reserved first: after an error no
+    /// Carries out the commands one by one, and answers their replies in order. A command that is
+    /// refused, also for want of memory, leaves the registers, and the next goes on from there.
+    ///
+    /// Costs what the commands cost, and takes memory for one reply a command besides.
+    ///
+    /// # Errors
+    ///
+    /// `AllocError` where room for the replies is refused. It is asked for first: after an error no
     /// command has run.
     pub fn run(&mut self, commands: &[Command<B>]) -> Result<Vec<Reply<B>>, AllocError>
         ensures ran { IfOk result (λ replies. Run B.whole self.old (map (action_of B.value) commands.now)
@@ -91,20 +117,21 @@ impl<B: Width> Calc<B> {
 fn set_at<B: Width>(
     alloc: Global,
     registers: &mut [IntervalSet<B>],
-    r: usize,
+    target: usize,
     list: &[(B, B)],
 ) -> Reply<B>
-    ensures { MayStep B.whole registers.old (make r (pairs (number_pairs B.value list.now))) (answer_of B.value B.Output.size result) registers.new }
+    ensures { MayStep B.whole registers.old (make target (pairs (number_pairs B.value list.now))) (answer_of B.value B.Output.size result) registers.new }
 {
-    if r >= registers.len() {
+    if target >= registers.len() {
         return Reply::Refused(Refusal::Register);
     }
     if !are_in_range(list) {
         return Reply::Refused(Refusal::Range);
     }
+    // The register is written only once the whole set is there.
     match set_of(alloc, list) {
         Ok(set) => {
-            registers[r] = set;
+            registers[target] = set;
             Reply::Done
         }
         Err(_) => Reply::Refused(Refusal::Memory),
@@ -132,68 +159,63 @@ fn set_of<B: Width>(alloc: Global, list: &[(B, B)]) -> Result<IntervalSet<B>, Al
     Ok(set)
 }
 
-fn unite_at<B: Width>(registers: &mut [IntervalSet<B>], r: usize, a: usize, b: usize) -> Reply<B>
-    ensures { MayStep B.whole registers.old (make r (union a b)) (answer_of B.value B.Output.size result) registers.new }
+fn unite_at<B: Width>(
+    registers: &mut [IntervalSet<B>],
+    target: usize,
+    left: usize,
+    right: usize,
+) -> Reply<B>
+    ensures { MayStep B.whole registers.old (make target (union left right)) (answer_of B.value B.Output.size result) registers.new }
 {
     let count = registers.len();
-    if r >= count || a >= count || b >= count {
+    if target >= count || left >= count || right >= count {
         return Reply::Refused(Refusal::Register);
     }
-    match registers[a].union(&registers[b]) {
+    // The target may be one of the operands, so both are read before it is written.
+    match registers[left].union(&registers[right]) {
         Ok(set) => {
-            registers[r] = set;
+            registers[target] = set;
             Reply::Done
         }
         Err(_) => Reply::Refused(Refusal::Memory),
     }
 }
 
-fn has_at<B: Width>(registers: &[IntervalSet<B>], a: usize, v: B) -> Reply<B>
-    ensures { MayStep B.whole registers.now (ask (has a (B.value v))) (answer_of B.value B.Output.size result) registers.now }
+fn has_at<B: Width>(registers: &[IntervalSet<B>], register: usize, item: B) -> Reply<B>
+    ensures { MayStep B.whole registers.now (ask (has register (B.value item))) (answer_of B.value B.Output.size result) registers.now }
 {
-    match registers.get(a) {
-        Some(set) => Reply::Flag(set.contains(&v)),
+    match registers.get(register) {
+        Some(set) => Reply::Flag(set.contains(&item)),
         None => Reply::Refused(Refusal::Register),
     }
 }
 
-fn size_at<B: Width>(registers: &[IntervalSet<B>], a: usize) -> Reply<B>
-    ensures { MayStep B.whole registers.now (ask (size a)) (answer_of B.value B.Output.size result) registers.now }
+fn size_at<B: Width>(registers: &[IntervalSet<B>], register: usize) -> Reply<B>
+    ensures { MayStep B.whole registers.now (ask (size register)) (answer_of B.value B.Output.size result) registers.now }
 {
-    match registers.get(a) {
+    match registers.get(register) {
         Some(set) => Reply::Size(set.size()),
         None => Reply::Refused(Refusal::Register),
     }
 }
 
-fn same_at<B: Width>(registers: &[IntervalSet<B>], a: usize, b: usize) -> Reply<B>
-    ensures { MayStep B.whole registers.now (ask (same a b)) (answer_of B.value B.Output.size result) registers.now }
+fn same_at<B: Width>(registers: &[IntervalSet<B>], left: usize, right: usize) -> Reply<B>
+    ensures { MayStep B.whole registers.now (ask (same left right)) (answer_of B.value B.Output.size result) registers.now }
 {
-    match (registers.get(a), registers.get(b)) {
-        (Some(first), Some(second)) => Reply::Flag(first == second),
+    match (registers.get(left), registers.get(right)) {
+        (Some(first), Some(second)) => Reply::Flag(*first == *second),
         _ => Reply::Refused(Refusal::Register),
     }
 }
 
-fn show_at<B: Width>(alloc: Global, registers: &[IntervalSet<B>], a: usize) -> Reply<B>
-    ensures { MayStep B.whole registers.now (ask (show a)) (answer_of B.value B.Output.size result) registers.now }
+fn show_at<B: Width>(alloc: Global, registers: &[IntervalSet<B>], register: usize) -> Reply<B>
+    ensures { MayStep B.whole registers.now (ask (show register)) (answer_of B.value B.Output.size result) registers.now }
 {
-    let Some(set) = registers.get(a) else {
+    let Some(set) = registers.get(register) else {
         return Reply::Refused(Refusal::Register);
     };
-    match runs_of(alloc, set) {
+    match Vec::from_slice(alloc, set.iter().as_slice()) {
         Ok(runs) => Reply::Runs(runs),
         Err(_) => Reply::Refused(Refusal::Memory),
     }
-}
-
-/// A copy of the runs of a set.
-fn runs_of<B: Width>(alloc: Global, set: &IntervalSet<B>) -> Result<Vec<Interval<B>>, AllocError>
-    ensures { IfOk result (λ runs. IsRunsOf runs.items (Covers set.now)) }
-{
-    let mut runs = Vec::with_capacity(alloc, set.interval_count())?;
-    for run in set.iter() {
-        runs.push(*run)?;
-    }
-    Ok(runs)
 }

@@ -7,6 +7,8 @@
 mod calc;
 mod command;
 mod reply;
+#[cfg(test)]
+mod tests;
 
 pub use calc::Calc;
 pub use command::Command;

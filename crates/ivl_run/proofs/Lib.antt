@@ -1,0 +1,5 @@
+pub mod Answered
+pub mod Cuts
+pub mod Shown
+pub mod Splits
+pub mod Pairs

@@ -1,0 +1,11 @@
+use Rattle.std.proofs.Common.{lit<, rules}
+use borrow.Author.Tests.{tests}
+use Rattle.std.proofs.lemmas.Iterator.Consumers.{map_from_collect, YieldsList-from_filter}
+use Rattle.std.proofs.lemmas.Iterator.Splits.{YieldsList-from_str_split}
+use Rattle.ivl_run.specs.Lines.{is_not_empty}
+use Rattle.ivl_run.proofs.lines.split_words.Goals as goal
+
+pub returns : goal.returns
+returns c =
+    map_from_collect _ c.collect.ensures.ran
+    (YieldsList-from_filter _ is_not_empty (YieldsList-from_str_split 32 c.args.text.now (lit< tt) (cc) (cc) (cc)) c.filter.ensures.closure (λ x b q k. search (rules, tests)))

@@ -1,0 +1,91 @@
+//! The command that a line's words are: its name, and after it the words of its form.
+ghost use Rattle.std.specs.Prelude.{◌≡◌, IfOk, map, option_map};
+ghost use Rattle.ivl_run.specs.Commands.{action_from, register_of, register_alone_of, two_registers_of, three_registers_of, register_and_number_of, set_of};
+ghost use Rattle.ivl_run.specs.View.{action_of};
+
+use crate::numbers::{number_from, pairs_from};
+use ivl_calc::Command;
+use std::alloc::{AllocError, Global};
+
+/// The command of this name and the words after it, or `None` where that is no command.
+pub fn command_from(
+    alloc: Global,
+    name: &str,
+    words: &[&str],
+) -> Result<Option<Command<i64>>, AllocError>
+    ensures { IfOk result (λ command. option_map action_of command
+        ≡ action_from name.now (map (λ w. w.now) words.now)) }
+{
+    match name {
+        "set" => set_from(alloc, words),
+        "union" => Ok(three_registers(words).map(|(r, a, b)| Command::Union(r, a, b))),
+        "has" => Ok(register_and_number(words).map(|(a, v)| Command::Has(a, v))),
+        "size" => Ok(register_alone(words).map(Command::Size)),
+        "show" => Ok(register_alone(words).map(Command::Show)),
+        "same" => Ok(two_registers(words).map(|(a, b)| Command::Same(a, b))),
+        _ => Ok(None),
+    }
+}
+
+// `set r l u l u ..`
+#[tactic(auto, using(crate::proofs::Pairs::number_pairs_same))]
+fn set_from(alloc: Global, words: &[&str]) -> Result<Option<Command<i64>>, AllocError>
+    ensures { IfOk result (λ command. option_map action_of command
+        ≡ set_of (map (λ w. w.now) words.now)) }
+{
+    let Some((first, rest)) = words.split_first() else {
+        return Ok(None);
+    };
+    let Some(r) = register_from(first) else {
+        return Ok(None);
+    };
+    match pairs_from(alloc, rest)? {
+        Some(pairs) => Ok(Some(Command::Set(r, pairs))),
+        None => Ok(None),
+    }
+}
+
+fn register_alone(words: &[&str]) -> Option<usize>
+    ensures { result ≡ register_alone_of (map (λ w. w.now) words.now) }
+{
+    match words {
+        [a] => register_from(a),
+        _ => None,
+    }
+}
+
+fn two_registers(words: &[&str]) -> Option<(usize, usize)>
+    ensures { result ≡ two_registers_of (map (λ w. w.now) words.now) }
+{
+    match words {
+        [a, b] => Some((register_from(a)?, register_from(b)?)),
+        _ => None,
+    }
+}
+
+fn three_registers(words: &[&str]) -> Option<(usize, usize, usize)>
+    ensures { result ≡ three_registers_of (map (λ w. w.now) words.now) }
+{
+    match words {
+        [r, a, b] => Some((register_from(r)?, register_from(a)?, register_from(b)?)),
+        _ => None,
+    }
+}
+
+fn register_and_number(words: &[&str]) -> Option<(usize, i64)>
+    ensures { result ≡ register_and_number_of (map (λ w. w.now) words.now) }
+{
+    match words {
+        [a, v] => Some((register_from(a)?, number_from(v)?)),
+        _ => None,
+    }
+}
+
+fn register_from(word: &str) -> Option<usize>
+    ensures { result ≡ register_of word.now }
+{
+    match word.as_bytes() {
+        [letter @ b'a'..=b'z'] => Some((*letter - b'a') as usize),
+        _ => None,
+    }
+}

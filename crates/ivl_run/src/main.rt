@@ -1,0 +1,28 @@
+//! Reads command lines from standard input, over 26 registers that hold sets of whole numbers, and prints one answer
+//! line for each.
+#![tactic(auto)]
+
+mod commands;
+mod engine;
+mod lines;
+mod numbers;
+mod replies;
+#[cfg(test)]
+mod tests;
+
+use engine::{SessionFault, outcome, session};
+use std::io;
+use std::io::BufWriter;
+use std::process::ExitCode;
+
+fn main(rt: HostRuntime) -> io::Result<ExitCode> {
+    let ended = match BufWriter::new(rt.alloc(), rt.stdout()) {
+        Ok(mut writer) => session(rt.alloc(), &mut rt.stdin(), &mut writer),
+        Err(_) => Err(SessionFault::Memory),
+    };
+    let (status, line) = outcome(&ended);
+    if !line.is_empty() {
+        eprintln!(rt; "{line}")?;
+    }
+    Ok(ExitCode::from(status))
+}

@@ -1,0 +1,62 @@
+//! The text of a reply.
+ghost use Rattle.std.specs.Prelude.{◌≡◌, ◌≤ℤ◌, ◌++◌, All, OnOk, flat_map, codes};
+ghost use Rattle.std.specs.Io.KnownBytes.{Appends};
+ghost use Rattle.ivl_run.specs.Printed.{printed, refusal_text, run_text, runs_text, HasRunsInOrder};
+ghost use Rattle.ivl_run.specs.Session.{with_newline};
+ghost use Rattle.ivl_run.specs.View.{answer_of};
+
+use intervallum::interval::Interval;
+use intervallum::ops::Bounded;
+use ivl_calc::{Refusal, Reply};
+use std::io;
+use std::io::Write;
+
+/// Writes the reply, and a newline.
+pub fn write_reply<W: Write>(writer: &mut W, reply: &Reply<i64>) -> io::Result<()>
+    requires { HasRunsInOrder (answer_of reply.now) }
+    ensures { OnOk result (Appends (W.contents writer.old) (W.contents writer.new)
+        (with_newline (printed (answer_of reply.now)))) }
+{
+    match reply {
+        Reply::Done => writer.write_all(b"ok")?,
+        Reply::Flag(true) => writer.write_all(b"yes")?,
+        Reply::Flag(false) => writer.write_all(b"no")?,
+        Reply::Size(n) => write!(writer, "{n}")?,
+        Reply::Runs(runs) => write_runs(writer, runs)?,
+        Reply::Refused(why) => writer.write_all(refusal_bytes(*why))?,
+    }
+    writer.write_all(b"\n")
+}
+
+fn refusal_bytes(why: Refusal) -> &'static [u8]
+    ensures { result.now ≡ refusal_text why }
+{
+    match why {
+        Refusal::Register => b"refused 1 register",
+        Refusal::Range => b"refused 2 range",
+        Refusal::Fit => b"refused 3 fit",
+        Refusal::Memory => b"refused 4 memory",
+    }
+}
+
+fn write_runs<W: Write>(writer: &mut W, runs: &[Interval<i64>]) -> io::Result<()>
+    requires { All (λ p. p.0 ≤ℤ p.1) runs.now }
+    ensures { OnOk result (Appends (W.contents writer.old) (W.contents writer.new) (runs_text runs.now)) }
+{
+    if let [run] = runs {
+        return write_run(writer, run);
+    }
+    writer.write_all(b"{")?;
+    for run in runs {
+        write_run(writer, run)?;
+    }
+    writer.write_all(b"}")
+}
+
+fn write_run<W: Write>(writer: &mut W, run: &Interval<i64>) -> io::Result<()>
+    requires { run.now.0 ≤ℤ run.now.1 }
+    ensures { OnOk result (Appends (W.contents writer.old) (W.contents writer.new) (run_text run.now)) }
+{
+    let (l, u) = (run.lower(), run.upper());
+    write!(writer, "[{l}..{u}]")
+}
