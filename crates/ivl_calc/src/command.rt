@@ -1,7 +1,9 @@
 //! The commands.
 
 /// A command over registers, which are named by their indexes from 0. The register that is written
-/// stands first; the operands are read before it is written.
+/// stands first, and may be an operand too: operands are read before it is written.
+///
+/// [`Calc::apply`](crate::Calc::apply) says what each costs.
 #[derive(Drop)]
 pub enum Command<B> {
     /// The register gets the union of the pairs. A pair whose first is above its second adds nothing.

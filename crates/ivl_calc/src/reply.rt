@@ -16,7 +16,7 @@ pub enum Refusal {
     /// A result does not lie in the range.
     #[error("refused 3 fit")]
     Fit,
-    /// A growth was refused.
+    /// Memory that the command asked for was refused. `Set`, `Union` and `Show` ask for some.
     #[error("refused 4 memory")]
     Memory,
 }
@@ -32,6 +32,6 @@ pub enum Reply<B: Width> {
     Size(B::Output),
     /// The runs, ascending.
     Runs(Vec<Interval<B>>),
-    /// Nothing was done.
+    /// The command was refused, and all registers are as they were.
     Refused(Refusal),
 }
