@@ -1,0 +1,16 @@
+pub mod Runs
+pub mod Counts
+pub mod Intervals
+pub mod Widths
+pub mod Orders
+pub mod Products
+pub mod Merging
+pub mod Walks
+pub mod Lengths
+pub mod SetLaws
+pub mod Spans
+pub mod Places
+pub mod ByPlace
+pub mod Ends
+pub mod Ranges
+pub mod Adding

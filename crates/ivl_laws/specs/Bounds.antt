@@ -2,7 +2,7 @@
 --     width_of p      the upper less the lower plus one; none where the pair is crossed
 --     IsBoundRange whole      the range holds 0 and 1, and lies in the 64-bit numbers
 --     OrdersByNumber, OrdersByCount      the tests of a type answer as those of the numbers of its values
-use Rattle.std.specs.Prelude.{◌≡◌, ℕ, ◌+◌, ◌-◌, ◌^◌, ℤ, pos, negsuc, ◌+ℤ◌, ◌-ℤ◌, ◌≤ℤ◌, Bool, Option, Some, nat_eq}
+use Rattle.std.specs.Prelude.{◌≡◌, ℕ, ◌-◌, ◌^◌, ℤ, pos, negsuc, ◌+ℤ◌, ◌-ℤ◌, ◌≤ℤ◌, Bool, Option, Some, nat_eq}
 use Rattle.std.specs.declared.cmp.Ordering.{Ordering}
 use Rattle.std.specs.Ordering.{int_cmp, int_eq, nat_cmp}
 

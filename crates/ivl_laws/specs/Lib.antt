@@ -2,3 +2,4 @@ pub mod Sets
 pub mod Runs
 pub mod Counts
 pub mod Bounds
+pub mod Arithmetic

@@ -2,11 +2,10 @@
 //! nothing: its contract is the law.
 #![tactic(auto)]
 
-ghost use Rattle.std.specs.Prelude.{◌≡◌};
-
-/// A set and itself.
-pub fn placeholder() -> u8
-    ensures { result ≡ 0 }
-{
-    0
-}
+pub mod algebra;
+pub mod arithmetic;
+pub mod hulls;
+pub mod lattice;
+pub mod run_lists;
+pub mod sets;
+pub mod sizes;

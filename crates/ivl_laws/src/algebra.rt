@@ -1,0 +1,49 @@
+//! Laws of union, intersection, difference and complement.
+ghost use Rattle.std.specs.Prelude.{◌↔◌, ℤ, pos, ◌+ℤ◌, ◌-ℤ◌, List};
+ghost use Rattle.ivl_laws.specs.Runs.{Covers};
+ghost use Rattle.ivl_laws.specs.Sets.{Above, AtLeast, AtMost, Below, Complement, Intersection, IsBetween, IsSubset, SameMembers, SymmetricDifference, Union, Without};
+
+use crate::sets::NumberSet;
+
+/// What two sets do not have together is what neither has.
+pub fn complement_of_union<S: NumberSet, T: NumberSet>()
+    ensures { (whole : ℤ × ℤ) → SameMembers (Complement whole (Union S.members T.members))
+        (Intersection (Complement whole S.members) (Complement whole T.members)) }
+{}
+
+/// What two sets do not share is what one of them lacks.
+pub fn complement_of_intersection()
+    ensures { (whole : ℤ × ℤ) (L M : List (ℤ × ℤ)) → SameMembers (Complement whole (Intersection (Covers L) (Covers M)))
+        (Union (Complement whole (Covers L)) (Complement whole (Covers M))) }
+{}
+
+/// The complement of a complement is the set itself.
+pub fn complement_twice()
+    ensures { (whole : ℤ × ℤ) (L : List (ℤ × ℤ)) → IsSubset (Covers L) (IsBetween whole) →
+        SameMembers (Complement whole (Complement whole (Covers L))) (Covers L) }
+{}
+
+/// A set is a subset of another exactly where their union is the other.
+pub fn subset_by_union<S: NumberSet, T: NumberSet>()
+    ensures { IsSubset S.members T.members ↔ SameMembers (Union S.members T.members) T.members }
+{}
+
+/// A difference is the part of the complement, and a symmetric one what the union has beside the intersection.
+pub fn differences_by_complement<S: NumberSet, T: NumberSet>()
+    ensures difference { (whole : ℤ × ℤ) → IsSubset S.members (IsBetween whole) →
+        SameMembers (Without S.members T.members) (Intersection S.members (Complement whole T.members)) }
+    ensures symmetric { SameMembers (SymmetricDifference S.members T.members)
+        (Without (Union S.members T.members) (Intersection S.members T.members)) }
+{}
+
+/// What a set within a range has on one side of a number is what it shares with an interval.
+pub fn shrinks_are_cuts<S: NumberSet>()
+    ensures at_least { (whole : ℤ × ℤ) (v : ℤ) → IsSubset S.members (IsBetween whole) →
+        SameMembers (AtLeast v S.members) (Intersection S.members (IsBetween (v, whole.1))) }
+    ensures at_most { (whole : ℤ × ℤ) (v : ℤ) → IsSubset S.members (IsBetween whole) →
+        SameMembers (AtMost v S.members) (Intersection S.members (IsBetween (whole.0, v))) }
+    ensures above { (whole : ℤ × ℤ) (v : ℤ) → IsSubset S.members (IsBetween whole) →
+        SameMembers (Above v S.members) (Intersection S.members (IsBetween (v +ℤ pos 1, whole.1))) }
+    ensures below { (whole : ℤ × ℤ) (v : ℤ) → IsSubset S.members (IsBetween whole) →
+        SameMembers (Below v S.members) (Intersection S.members (IsBetween (whole.0, v -ℤ pos 1))) }
+{}
