@@ -9,8 +9,11 @@ use std::alloc::AllocError;
 use std::marker::Model;
 
 mod bounds;
+mod conversions;
 mod sets;
+mod shrinks;
 mod text;
+mod values;
 
 /// The whole numbers from a lower to an upper bound, both included; no number where the two cross.
 ///
