@@ -1,5 +1,5 @@
 -- Intervals as pairs of numbers.
-use Rattle.std.proofs.Common.{◌≡◌, ℕ, ℤ, pos, ◌+ℤ◌, ◌-ℤ◌, ◌≤ℤ◌, ◌<ℤ◌, ◌↔◌, IsTrue, Bool, not, true, false, arith, refl, ◌∙◌, sym, subst}
+use Rattle.std.proofs.Common.{◌≡◌, ℕ, ℤ, pos, ◌+ℤ◌, ◌-ℤ◌, ◌≤ℤ◌, ◌<ℤ◌, ◌↔◌, IsTrue, Bool, not, true, false, arith, refl, ◌∙◌, sym}
 use Rattle.std.specs.Int.{int_max, int_min}
 use Rattle.std.proofs.lemmas.Int.{ints, clamps, by_lt_z}
 use Rattle.ivl_laws.specs.Sets.{Above, Below, HasNone, HasSome, IsBetween, IsCrossed, IsHullOf, IsProperSubset, IsSubset, Only, SameMembers, Intersection, Union, Without}

@@ -8,8 +8,10 @@ use crate::width::Width;
 use std::alloc::AllocError;
 use std::marker::Model;
 
+mod arithmetic;
 mod bounds;
 mod conversions;
+mod fits;
 mod sets;
 mod shrinks;
 mod text;
