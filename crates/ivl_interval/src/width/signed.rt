@@ -29,6 +29,10 @@ impl Width for i8 {
         i8::try_from(number).ok().filter(|x| *x != i8::MIN)
     }
 
+    fn width(lower: &i8, upper: &i8) -> u8 {
+        upper.abs_diff(*lower) + 1
+    }
+
     fn zero() -> i8 {
         0
     }
@@ -86,6 +90,10 @@ impl Width for i16 {
 
     fn from_number(number: i128) -> Option<i16> {
         i16::try_from(number).ok().filter(|x| *x != i16::MIN)
+    }
+
+    fn width(lower: &i16, upper: &i16) -> u16 {
+        upper.abs_diff(*lower) + 1
     }
 
     fn zero() -> i16 {
@@ -147,6 +155,10 @@ impl Width for i32 {
         i32::try_from(number).ok().filter(|x| *x != i32::MIN)
     }
 
+    fn width(lower: &i32, upper: &i32) -> u32 {
+        upper.abs_diff(*lower) + 1
+    }
+
     fn zero() -> i32 {
         0
     }
@@ -206,6 +218,10 @@ impl Width for i64 {
         i64::try_from(number).ok().filter(|x| *x != i64::MIN)
     }
 
+    fn width(lower: &i64, upper: &i64) -> u64 {
+        upper.abs_diff(*lower) + 1
+    }
+
     fn zero() -> i64 {
         0
     }
@@ -263,6 +279,10 @@ impl Width for isize {
 
     fn from_number(number: i128) -> Option<isize> {
         isize::try_from(number).ok().filter(|x| *x != isize::MIN)
+    }
+
+    fn width(lower: &isize, upper: &isize) -> usize {
+        upper.abs_diff(*lower) + 1
     }
 
     fn zero() -> isize {
