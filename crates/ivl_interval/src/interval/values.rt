@@ -202,7 +202,7 @@ impl<B: Width> Disjoint<Interval<B>> for Optional<B> {
 
     /// True exactly where the value is absent or no member of `other`.
     fn is_disjoint(&self, other: &Interval<B>) -> bool {
-        !self.overlap(other)
+        other.is_disjoint(self)
     }
 }
 
@@ -213,10 +213,7 @@ impl<B: Width> Overlap<Interval<B>> for Optional<B> {
 
     /// True exactly where there is a value and it is a member of `other`.
     fn overlap(&self, other: &Interval<B>) -> bool {
-        match self.as_ref() {
-            Some(x) => other.contains(x),
-            None => false,
-        }
+        other.overlap(self)
     }
 }
 
@@ -256,10 +253,10 @@ impl<B: Width> Difference<Interval<B>> for Optional<B> {
         ensures members { SameMembers (Held (option_map B.value result)) (Without (Held (option_map B.value self.now)) (IsBetween other.now)) }
         ensures chosen { (result ≡ self.now) ⊎ (result ≡ None) }
     {
-        if self.overlap(other) {
-            Optional::empty()
-        } else {
+        if self.is_disjoint(other) {
             *self
+        } else {
+            Optional::empty()
         }
     }
 }
