@@ -1,21 +1,18 @@
 -- Intervals as pairs of numbers.
-use Rattle.std.proofs.Common.{◌≡◌, ℤ, ◌≤ℤ◌, ◌<ℤ◌, ◌↔◌, IsTrue, Bool, true, false, arith, refl, ◌∙◌, sym, inl, inr}
+use Rattle.std.proofs.Common.{◌≡◌, ℕ, ℤ, pos, ◌+ℤ◌, ◌-ℤ◌, ◌≤ℤ◌, ◌<ℤ◌, ◌↔◌, IsTrue, Bool, not, true, false, arith, refl, ◌∙◌, sym}
 use Rattle.std.specs.Int.{int_max, int_min}
 use Rattle.std.proofs.lemmas.Int.{ints, clamps, by_lt_z}
-use Rattle.ivl_laws.specs.Sets.{HasNone, HasSome, IsBetween, IsCrossed, IsHullOf, Only, SameMembers, Intersection, Union}
+use Rattle.ivl_laws.specs.Sets.{Above, Below, HasNone, HasSome, IsBetween, IsCrossed, IsHullOf, IsProperSubset, IsSubset, Only, SameMembers, Intersection, Union, Without}
+use Rattle.ivl_laws.specs.Bounds.{width_of}
+use Rattle.ivl_laws.specs.Counts.{IsCountOf}
+use Rattle.ivl_laws.proofs.Intervals.{none_is_crossed, not_crossed, IsCountOf-width_of}
+use Rattle.ivl_laws.proofs.Spans.{IsHullOf-same, hull_of_between, hull_of_open}
 use Rattle.ivl_interval.specs.SameInterval.{same_interval}
 
-pub none_is_crossed : (p : ℤ × ℤ) → HasNone (IsBetween p) ↔ IsCrossed p
-none_is_crossed p = (
-  λ n. by_lt_z p.1 p.0 (λ l. l) (λ k. absurd (n p.0 (omega (arith, ints), k))),
-  λ c z m. omega (arith, ints, c, m.0, m.1),
-)
+-- ---- how many members
 
-pub some_is_ordered : (p : ℤ × ℤ) → HasSome (IsBetween p) → p.0 ≤ℤ p.1
-some_is_ordered p (z, m) = omega (arith, ints, m.0, m.1)
-
-pub ordered_by_not_crossed : (p : ℤ × ℤ) → ¬ (IsCrossed p) → p.0 ≤ℤ p.1
-ordered_by_not_crossed p n = by_lt_z p.1 p.0 (λ c. absurd (n c)) (λ k. k)
+pub count_by_width : (p : ℤ × ℤ) (n : ℕ) → n ≡ width_of p → IsCountOf n (IsBetween p)
+count_by_width p n e = rw e (IsCountOf-width_of p)
 
 -- ---- one member
 
@@ -102,34 +99,104 @@ common_pair a b al au bl bu l u ea eb el eu =
 
 -- ---- hulls
 
-pub hull_of_crossed_left : (a b : ℤ × ℤ) → IsCrossed a → IsHullOf b (Union (IsBetween a) (IsBetween b))
-hull_of_crossed_left a b e = record {
-  holds = λ z h. elim h [ inl p ↦ absurd (omega (arith, ints)) | inr p ↦ p ];
-  ends = λ o. (inr (omega (arith, ints), omega (arith, ints)), inr (omega (arith, ints), omega (arith, ints)));
-}
-
-pub hull_of_crossed_right : (a b : ℤ × ℤ) → IsCrossed b → IsHullOf a (Union (IsBetween a) (IsBetween b))
-hull_of_crossed_right a b e = record {
-  holds = λ z h. elim h [ inl p ↦ p | inr p ↦ absurd (omega (arith, ints)) ];
-  ends = λ o. (inl (omega (arith, ints), omega (arith, ints)), inl (omega (arith, ints), omega (arith, ints)));
-}
-
-lower_is_member : (a b : ℤ × ℤ) (l : ℤ) → a.0 ≤ℤ a.1 → b.0 ≤ℤ b.1 → l ≡ int_min a.0 b.0 → Union (IsBetween a) (IsBetween b) l
-lower_is_member a b l o p e =
-    by_lt_z b.0 a.0 (λ k. inr (omega (arith, ints, clamps), omega (arith, ints, clamps))) (λ k. inl (omega (arith, ints, clamps), omega (arith, ints, clamps)))
-
-upper_is_member : (a b : ℤ × ℤ) (u : ℤ) → a.0 ≤ℤ a.1 → b.0 ≤ℤ b.1 → u ≡ int_max a.1 b.1 → Union (IsBetween a) (IsBetween b) u
-upper_is_member a b u o p e =
-    by_lt_z a.1 b.1 (λ k. inr (omega (arith, ints, clamps), omega (arith, ints, clamps))) (λ k. inl (omega (arith, ints, clamps), omega (arith, ints, clamps)))
-
-hull_of_bounds : (a b : ℤ × ℤ) (l u : ℤ) → a.0 ≤ℤ a.1 → b.0 ≤ℤ b.1 → l ≡ int_min a.0 b.0 → u ≡ int_max a.1 b.1
-    → IsHullOf (l, u) (Union (IsBetween a) (IsBetween b))
-hull_of_bounds a b l u o p el eu = record {
-  holds = λ z h. elim h [ inl k ↦ (omega (arith, ints, clamps, k.0), omega (arith, ints, clamps, k.1)) | inr k ↦ (omega (arith, ints, clamps, k.0), omega (arith, ints, clamps, k.1)) ];
-  ends = λ _. (lower_is_member a b l o p el, upper_is_member a b u o p eu);
-}
-
 pub hull_of_pairs : (a b : ℤ × ℤ) (al au bl bu l u : ℤ) → (al, au) ≡ a → (bl, bu) ≡ b → ¬ IsCrossed a → ¬ IsCrossed b
     → l ≡ int_min al bl → u ≡ int_max au bu → IsHullOf (l, u) (Union (IsBetween a) (IsBetween b))
 hull_of_pairs a b al au bl bu l u ea eb na nb el eu =
-    hull_of_bounds a b l u (ordered_by_not_crossed a na) (ordered_by_not_crossed b nb) (rw (← ea, ← eb) el) (rw (← ea, ← eb) eu)
+    let e : l ≡ int_min a.0 b.0 = rw (← ea, ← eb) el in
+    let f : u ≡ int_max a.1 b.1 = rw (← ea, ← eb) eu in
+    rw (e, f) (hull_of_open a b (not_crossed a na) (not_crossed b nb))
+
+-- ---- a test and what it tells
+
+pub none_of_same : (S T : ℤ → Type 0) (r : Bool) → SameMembers S T → (IsTrue r ↔ HasNone S) → IsTrue r ↔ HasNone T
+none_of_same S T r s e = ((λ t z m. e.0 t z ((s z).1 m)), (λ n. e.1 (λ z m. n z ((s z).0 m))))
+
+pub some_of_same : (S : ℤ → Type 0) (p : ℤ × ℤ) (r : Bool) → SameMembers (IsBetween p) S → (IsTrue r ↔ IsCrossed p) → IsTrue (not r) ↔ HasSome S
+some_of_same S p true s e = (λ h. let k : ◌≡◌ {A = Bool} false true = h in absurd (cc), λ h. let m = (s h.0).1 h.1 in absurd ((none_is_crossed p).1 (e.0 refl) h.0 m))
+some_of_same S p false s e = (
+  λ h. by_lt_z p.1 p.0 (λ k. absurd (let f = e.1 k in cc)) (λ k. (p.0, (s p.0).0 (omega (arith, ints), k))),
+  λ h. refl,
+)
+
+-- ---- a test that is false
+
+pub not_that : {P : Type 0} (r : Bool) → (IsTrue r ↔ P) → r ≡ false → ¬ P
+not_that r e f h = let t = e.1 h in let u : ◌≡◌ {A = Bool} true false = sym t ∙ f in cc
+
+pub not_below : (a b : ℤ) (r : Bool) → (IsTrue r ↔ (a <ℤ b)) → r ≡ false → b ≤ℤ a
+not_below a b r e f = by_lt_z a b (λ k. absurd (not_that r e f k)) (λ k. k)
+
+pub not_at_most : (a b : ℤ) (r : Bool) → (IsTrue r ↔ (a ≤ℤ b)) → r ≡ false → b <ℤ a
+not_at_most a b r e f = by_lt_z b a (λ k. k) (λ k. absurd (not_that r e f k))
+
+-- ---- cuts at a value
+
+pub above_none : (p r : ℤ × ℤ) (v : ℤ) → IsCrossed r → p.1 ≤ℤ v → SameMembers (IsBetween r) (Above v (IsBetween p))
+above_none p r v c h z = ((λ b. absurd ((none_is_crossed r).1 c z b)), (λ (b, k). absurd (omega (arith, ints, b.1, k, h))))
+
+pub above_rest : (p r : ℤ × ℤ) (v : ℤ) → p.0 ≤ℤ v → r.0 ≡ (v +ℤ pos 1) → r.1 ≡ p.1 → SameMembers (IsBetween r) (Above v (IsBetween p))
+above_rest p r v h e f z = (
+  λ b. ((omega (arith, ints, b.0, e, h), omega (arith, ints, b.1, f)), omega (arith, ints, b.0, e)),
+  λ (b, k). (omega (arith, ints, k, e), omega (arith, ints, b.1, f)),
+)
+
+pub below_none : (p r : ℤ × ℤ) (v : ℤ) → IsCrossed r → v ≤ℤ p.0 → SameMembers (IsBetween r) (Below v (IsBetween p))
+below_none p r v c h z = ((λ b. absurd ((none_is_crossed r).1 c z b)), (λ (b, k). absurd (omega (arith, ints, b.0, k, h))))
+
+pub below_rest : (p r : ℤ × ℤ) (v : ℤ) → v ≤ℤ p.1 → r.0 ≡ p.0 → r.1 ≡ (v -ℤ pos 1) → SameMembers (IsBetween r) (Below v (IsBetween p))
+below_rest p r v h e f z = (
+  λ b. ((omega (arith, ints, b.0, e), omega (arith, ints, b.1, f, h)), omega (arith, ints, b.1, f)),
+  λ (b, k). (omega (arith, ints, b.0, e), omega (arith, ints, k, f)),
+)
+
+pub common_with_value : (p r : ℤ × ℤ) (pl pu v l u : ℤ) → (pl, pu) ≡ p → r ≡ (l, u)
+    → l ≡ int_max pl v → u ≡ int_min pu v → SameMembers (IsBetween r) (Intersection (IsBetween p) (Only v))
+common_with_value p r pl pu v l u ep er el eu =
+    rw (← ep, er, el, eu) (λ z. (
+      λ m. ((omega (arith, ints, clamps), omega (arith, ints, clamps)), omega (arith, ints, clamps)),
+      λ m. (omega (arith, ints, clamps), omega (arith, ints, clamps)),
+    ))
+
+-- ---- an interval without one value
+
+hull_of_same : (S : ℤ → Type 0) (r : ℤ × ℤ) → SameMembers (IsBetween r) S → IsHullOf r S
+hull_of_same S r s = IsHullOf-same (IsBetween r) S r s (hull_of_between r)
+
+pub without_lower : (p r : ℤ × ℤ) (v : ℤ) → v ≡ p.0 → SameMembers (IsBetween r) (Above v (IsBetween p)) → IsHullOf r (Without (IsBetween p) (Only v))
+without_lower p r v e s = hull_of_same (Without (IsBetween p) (Only v)) r (λ z. (
+  λ b. let (m, k) = (s z).0 b in (m, λ f. omega (arith, ints, k, f)),
+  λ (m, n). (s z).1 (m, by_lt_z v z (λ k. k) (λ k. absurd (n (omega (arith, ints, k, m.0, e))))),
+))
+
+pub without_upper : (p r : ℤ × ℤ) (v : ℤ) → v ≡ p.1 → SameMembers (IsBetween r) (Below v (IsBetween p)) → IsHullOf r (Without (IsBetween p) (Only v))
+without_upper p r v e s = hull_of_same (Without (IsBetween p) (Only v)) r (λ z. (
+  λ b. let (m, k) = (s z).0 b in (m, λ f. omega (arith, ints, k, f)),
+  λ (m, n). (s z).1 (m, by_lt_z z v (λ k. k) (λ k. absurd (n (omega (arith, ints, k, m.1, e))))),
+))
+
+pub without_inner : (p : ℤ × ℤ) (v : ℤ) → ¬ (v ≡ p.0) → ¬ (v ≡ p.1) → IsHullOf p (Without (IsBetween p) (Only v))
+without_inner p v l u = record {
+  holds = λ z m. m.0;
+  ends = λ o. (((omega (arith, ints), o), λ e. l (sym e)), ((o, omega (arith, ints)), λ e. u (sym e)));
+}
+
+-- ---- inclusion
+
+pub subset_by_upper : (a b : ℤ × ℤ) (r : Bool) → a.0 ≤ℤ a.1 → b.0 ≤ℤ a.0 → (IsTrue r ↔ (a.1 ≤ℤ b.1)) → IsTrue r ↔ IsSubset (IsBetween a) (IsBetween b)
+subset_by_upper a b r o l e = (
+  λ t z m. (omega (arith, ints, l, m.0), omega (arith, ints, e.0 t, m.1)),
+  λ s. e.1 (s a.1 (o, omega (arith, ints))).1,
+)
+
+pub subset_by_lower : (a b : ℤ × ℤ) (r : Bool) → a.0 ≤ℤ a.1 → r ≡ false → (IsTrue r ↔ (b.0 ≤ℤ a.0)) → IsTrue r ↔ IsSubset (IsBetween a) (IsBetween b)
+subset_by_lower a b r o f e = (
+  λ t. absurd (let k : ◌≡◌ {A = Bool} true false = sym t ∙ f in cc),
+  λ s. e.1 (s a.0 (omega (arith, ints), o)).0,
+)
+
+pub proper_by_same : (S T : ℤ → Type 0) (r : Bool) → IsSubset S T → (IsTrue r ↔ SameMembers S T) → IsTrue (not r) ↔ IsProperSubset S T
+proper_by_same S T true i e = (λ h. let k : ◌≡◌ {A = Bool} false true = h in absurd (cc), λ p. absurd (p.1 (e.0 refl)))
+proper_by_same S T false i e = (λ _. (i, λ s. let k = e.1 s in absurd (cc)), λ _. refl)
+
+pub proper_by_test : (a b : ℤ × ℤ) (r : Bool) → IsSubset (IsBetween a) (IsBetween b) → r ≡ not (same_interval a b) → IsTrue r ↔ IsProperSubset (IsBetween a) (IsBetween b)
+proper_by_test a b r i e = rw e (proper_by_same (IsBetween a) (IsBetween b) (same_interval a b) i (same_interval_members a b _ refl))

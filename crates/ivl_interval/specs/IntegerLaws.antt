@@ -1,15 +1,27 @@
 -- The laws of bounds and sizes at the integer types.
-use Rattle.std.specs.Prelude.{◌≡◌, ℕ, pos, negsuc, refl, nat_eq, Some, ◌-◌, ◌^◌, ◌<◌, ◌≤◌}
-use Rattle.std.specs.Ordering.{int_cmp, int_eq, nat_cmp}
-use Rattle.std.proofs.Common.{ap, arith, lit<, lit≤}
-use Rattle.std.proofs.lemmas.Bool.Decides.{nat_tests}
+use Rattle.std.specs.Prelude.{◌≡◌, ℕ, pos, negsuc, refl, nat_eq, Some, ◌-◌, ◌^◌, ◌<◌, ◌≤◌, ◌<ℤ◌}
+use Rattle.std.specs.declared.cmp.Ordering.{Ordering}
+use Rattle.std.specs.declared.cmp.Ordering.TheVariants.{Less, Equal, Greater}
+use Rattle.std.specs.Ordering.{int_cmp, int_eq, is_eq, nat_cmp, MatchOrdering}
+use Rattle.std.specs.Cmp.{int_cmp_is, ranks, unsigned_ties}
+use Rattle.std.proofs.Common.{ap, ◌∙◌, lit<, lit≤}
+use lib.Dec.{lt→ltb}
 use Rattle.ivl_laws.specs.Bounds.{width_of, OrdersByNumber, OrdersByCount, IsBoundRange}
 
+below : (x y : ℕ) → x < y → pos x <ℤ pos y
+below x y h = record { lt = lt→ltb x y h }
+
+-- where one natural number lies beside another, so does the whole number of the one beside that of the other
+as_whole : (x y : ℕ) (r : Ordering) → MatchOrdering r (x < y) (x ≡ y) (y < x) → MatchOrdering r (pos x <ℤ pos y) (pos x ≡ pos y) (pos y <ℤ pos x)
+as_whole x y Less h = below x y h
+as_whole x y Equal h = ap pos h
+as_whole x y Greater h = below y x h
+
 nat_cmp_is_int_cmp : (x y : ℕ) → nat_cmp x y ≡ int_cmp (pos x) (pos y)
-nat_cmp_is_int_cmp x y = grind (arith, nat_tests)
+nat_cmp_is_int_cmp x y = int_cmp_is (pos x) (pos y) (nat_cmp x y) (as_whole x y (nat_cmp x y) (ranks x y))
 
 nat_eq_is_int_eq : (x y : ℕ) → nat_eq x y ≡ int_eq (pos x) (pos y)
-nat_eq_is_int_eq x y = grind (arith, nat_tests)
+nat_eq_is_int_eq x y = unsigned_ties x y ∙ ap is_eq (nat_cmp_is_int_cmp x y)
 
 pub signed_order : OrdersByNumber (λ x. x) int_eq (λ x y. Some (int_cmp x y)) int_cmp
 signed_order = record { equal = λ _ _. refl; partial = λ _ _. refl; total = λ _ _. refl }

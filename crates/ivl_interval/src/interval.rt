@@ -8,9 +8,14 @@ use crate::width::Width;
 use std::alloc::AllocError;
 use std::marker::Model;
 
+mod arithmetic;
 mod bounds;
+mod conversions;
+mod fits;
 mod sets;
+mod shrinks;
 mod text;
+mod values;
 
 /// The whole numbers from a lower to an upper bound, both included; no number where the two cross.
 ///

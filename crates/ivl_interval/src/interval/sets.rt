@@ -1,10 +1,37 @@
-//! Intervals as sets: what two of them have in common, and what holds them both.
-ghost use Rattle.std.specs.Prelude.{⊤};
+//! Intervals as sets: what two of them have in common, what one leaves of the other, what holds them
+//! both, and which includes which.
+ghost use Rattle.std.specs.Prelude.{◌≡◌, ◌≤ℤ◌, ◌<ℤ◌, ◌+ℤ◌, ◌-ℤ◌, pos, ⊤};
 ghost use Rattle.ivl_laws.specs.Sets.{IsBetween, IsHullOf, SameMembers};
 
 use crate::interval::Interval;
-use crate::ops::{Hull, Intersection, IsEmpty, Range};
+use crate::kleene::SKleene;
+use crate::ops::{
+    Contains, Difference, Disjoint, Empty, Entailment, Hull, Intersection, IsEmpty, Join, Meet,
+    Overlap, ProperSubset, Range, Subset,
+};
 use crate::width::Width;
+
+impl<B: Width> Disjoint<Interval<B>> for Interval<B> {
+    ghost members = { IsBetween };
+
+    ghost other_members = { IsBetween };
+
+    /// True exactly where no number is a member of both.
+    fn is_disjoint(&self, other: &Interval<B>) -> bool {
+        self.intersection(other).is_empty()
+    }
+}
+
+impl<B: Width> Overlap<Interval<B>> for Interval<B> {
+    ghost members = { IsBetween };
+
+    ghost other_members = { IsBetween };
+
+    /// True exactly where some number is a member of both.
+    fn overlap(&self, other: &Interval<B>) -> bool {
+        !self.intersection(other).is_empty()
+    }
+}
 
 impl<B: Width> Intersection<Interval<B>> for Interval<B> {
     type Output = Interval<B>;
@@ -22,6 +49,56 @@ impl<B: Width> Intersection<Interval<B>> for Interval<B> {
             ub: self.ub.min(other.ub),
         }
     }
+}
+
+impl<B: Width> Difference<Interval<B>> for Interval<B> {
+    type Output = Interval<B>;
+
+    ghost members = { IsBetween };
+
+    ghost other_members = { IsBetween };
+
+    ghost answers = { IsHullOf };
+
+    /// The least interval that holds the members that are not in `other`. So a hole in the middle is
+    /// not cut: `[0..9]` without `[4..5]` is `[0..9]`.
+    ///
+    /// The original overflows where `other` starts at an unsigned 0 or ends at a signed greatest
+    /// value; here every two intervals have an answer.
+    fn difference(&self, other: &Interval<B>) -> Interval<B> {
+        if self.is_empty() {
+            return *self;
+        }
+        let at_lower = other.contains(&self.lb);
+        let at_upper = other.contains(&self.ub);
+        if at_lower && at_upper {
+            return Self::empty();
+        }
+        if at_lower {
+            // `other` ends below the upper bound, so the next number is in the range
+            return Self::new(successor(other.ub), self.ub);
+        }
+        if at_upper {
+            return Self::new(self.lb, predecessor(other.lb));
+        }
+        *self
+    }
+}
+
+/// The value of the next number.
+pub(super) fn successor<B: Width>(x: B) -> B
+    requires { (B.whole.0 ≤ℤ B.value x) × (B.value x <ℤ B.whole.1) }
+    ensures { B.value result ≡ B.value x +ℤ pos 1 }
+{
+    x.checked_add(B::one()).unwrap()
+}
+
+/// The value of the number before.
+pub(super) fn predecessor<B: Width>(x: B) -> B
+    requires { (B.whole.0 <ℤ B.value x) × (B.value x ≤ℤ B.whole.1) }
+    ensures { B.value result ≡ B.value x -ℤ pos 1 }
+{
+    x.checked_sub(B::one()).unwrap()
 }
 
 impl<B: Width> Hull<Interval<B>> for Interval<B> {
@@ -44,5 +121,68 @@ impl<B: Width> Hull<Interval<B>> for Interval<B> {
             return *self;
         }
         Self::new(self.lb.min(other.lb), self.ub.max(other.ub))
+    }
+}
+
+impl<B: Width> Subset for Interval<B> {
+    ghost members = { IsBetween };
+
+    /// True exactly where each member is a member of `other`, so always where there is none.
+    fn is_subset(&self, other: &Interval<B>) -> bool {
+        if self.is_empty() {
+            return true;
+        }
+        other.lb <= self.lb && self.ub <= other.ub
+    }
+}
+
+impl<B: Width> ProperSubset for Interval<B> {
+    ghost members = { IsBetween };
+
+    /// True exactly where each member is a member of `other`, and `other` has more.
+    fn is_proper_subset(&self, other: &Interval<B>) -> bool {
+        self.is_subset(other) && self != other
+    }
+}
+
+impl<B: Width> Join for Interval<B> {
+    type Output = Interval<B>;
+
+    ghost members = { IsBetween };
+
+    ghost answers = { λ p S. SameMembers (IsBetween p) S };
+
+    /// The intersection.
+    fn join(self, other: Interval<B>) -> Interval<B> {
+        self.intersection(&other)
+    }
+}
+
+impl<B: Width> Meet for Interval<B> {
+    type Output = Interval<B>;
+
+    ghost members = { IsBetween };
+
+    ghost answers = { IsHullOf };
+
+    /// The hull.
+    fn meet(self, other: Interval<B>) -> Interval<B> {
+        self.hull(&other)
+    }
+}
+
+impl<B: Width> Entailment for Interval<B> {
+    ghost members = { IsBetween };
+
+    /// `True` where `other` includes this interval, else `False` where this one includes `other`, else
+    /// `Unknown`. So `[1..2]` entails `[0..10]`.
+    fn entail(&self, other: &Interval<B>) -> SKleene {
+        if self.is_subset(other) {
+            SKleene::True
+        } else if other.is_subset(self) {
+            SKleene::False
+        } else {
+            SKleene::Unknown
+        }
     }
 }

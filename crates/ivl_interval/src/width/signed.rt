@@ -29,12 +29,33 @@ impl Width for i8 {
         i8::try_from(number).ok().filter(|x| *x != i8::MIN)
     }
 
+    fn width(lower: &i8, upper: &i8) -> u8 {
+        upper.abs_diff(*lower) + 1
+    }
+
     fn zero() -> i8 {
         0
     }
 
     fn one() -> i8 {
         1
+    }
+
+    fn checked_add(self, other: i8) -> Option<i8> {
+        i8::checked_add(self, other).filter(|x| *x != i8::MIN)
+    }
+
+    fn checked_sub(self, other: i8) -> Option<i8> {
+        i8::checked_sub(self, other).filter(|x| *x != i8::MIN)
+    }
+
+    fn checked_mul(self, other: i8) -> Option<i8> {
+        let product = self as i16 * other as i16;
+        if (i8::MIN as i16) < product && product <= i8::MAX as i16 {
+            Some(product as i8)
+        } else {
+            None
+        }
     }
 
     ghost ordered = { signed_order };
@@ -71,12 +92,33 @@ impl Width for i16 {
         i16::try_from(number).ok().filter(|x| *x != i16::MIN)
     }
 
+    fn width(lower: &i16, upper: &i16) -> u16 {
+        upper.abs_diff(*lower) + 1
+    }
+
     fn zero() -> i16 {
         0
     }
 
     fn one() -> i16 {
         1
+    }
+
+    fn checked_add(self, other: i16) -> Option<i16> {
+        i16::checked_add(self, other).filter(|x| *x != i16::MIN)
+    }
+
+    fn checked_sub(self, other: i16) -> Option<i16> {
+        i16::checked_sub(self, other).filter(|x| *x != i16::MIN)
+    }
+
+    fn checked_mul(self, other: i16) -> Option<i16> {
+        let product = self as i32 * other as i32;
+        if (i16::MIN as i32) < product && product <= i16::MAX as i32 {
+            Some(product as i16)
+        } else {
+            None
+        }
     }
 
     ghost ordered = { signed_order };
@@ -113,12 +155,33 @@ impl Width for i32 {
         i32::try_from(number).ok().filter(|x| *x != i32::MIN)
     }
 
+    fn width(lower: &i32, upper: &i32) -> u32 {
+        upper.abs_diff(*lower) + 1
+    }
+
     fn zero() -> i32 {
         0
     }
 
     fn one() -> i32 {
         1
+    }
+
+    fn checked_add(self, other: i32) -> Option<i32> {
+        i32::checked_add(self, other).filter(|x| *x != i32::MIN)
+    }
+
+    fn checked_sub(self, other: i32) -> Option<i32> {
+        i32::checked_sub(self, other).filter(|x| *x != i32::MIN)
+    }
+
+    fn checked_mul(self, other: i32) -> Option<i32> {
+        let product = self as i64 * other as i64;
+        if (i32::MIN as i64) < product && product <= i32::MAX as i64 {
+            Some(product as i32)
+        } else {
+            None
+        }
     }
 
     ghost ordered = { signed_order };
@@ -155,12 +218,33 @@ impl Width for i64 {
         i64::try_from(number).ok().filter(|x| *x != i64::MIN)
     }
 
+    fn width(lower: &i64, upper: &i64) -> u64 {
+        upper.abs_diff(*lower) + 1
+    }
+
     fn zero() -> i64 {
         0
     }
 
     fn one() -> i64 {
         1
+    }
+
+    fn checked_add(self, other: i64) -> Option<i64> {
+        i64::checked_add(self, other).filter(|x| *x != i64::MIN)
+    }
+
+    fn checked_sub(self, other: i64) -> Option<i64> {
+        i64::checked_sub(self, other).filter(|x| *x != i64::MIN)
+    }
+
+    fn checked_mul(self, other: i64) -> Option<i64> {
+        let product = self as i128 * other as i128;
+        if (i64::MIN as i128) < product && product <= i64::MAX as i128 {
+            Some(product as i64)
+        } else {
+            None
+        }
     }
 
     ghost ordered = { signed_order };
@@ -197,12 +281,33 @@ impl Width for isize {
         isize::try_from(number).ok().filter(|x| *x != isize::MIN)
     }
 
+    fn width(lower: &isize, upper: &isize) -> usize {
+        upper.abs_diff(*lower) + 1
+    }
+
     fn zero() -> isize {
         0
     }
 
     fn one() -> isize {
         1
+    }
+
+    fn checked_add(self, other: isize) -> Option<isize> {
+        isize::checked_add(self, other).filter(|x| *x != isize::MIN)
+    }
+
+    fn checked_sub(self, other: isize) -> Option<isize> {
+        isize::checked_sub(self, other).filter(|x| *x != isize::MIN)
+    }
+
+    fn checked_mul(self, other: isize) -> Option<isize> {
+        let product = self as i128 * other as i128;
+        if (isize::MIN as i128) < product && product <= isize::MAX as i128 {
+            Some(product as isize)
+        } else {
+            None
+        }
     }
 
     ghost ordered = { signed_order };

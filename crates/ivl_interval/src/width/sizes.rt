@@ -21,6 +21,14 @@ impl SizeNumber for u8 {
         0
     }
 
+    fn checked_add(self, other: u8) -> Option<u8> {
+        u8::checked_add(self, other)
+    }
+
+    fn checked_sub(self, other: u8) -> Option<u8> {
+        u8::checked_sub(self, other)
+    }
+
     ghost ordered = { size_order };
 
     ghost bounded = { fits_u8 };
@@ -41,6 +49,14 @@ impl SizeNumber for u16 {
 
     fn zero() -> u16 {
         0
+    }
+
+    fn checked_add(self, other: u16) -> Option<u16> {
+        u16::checked_add(self, other)
+    }
+
+    fn checked_sub(self, other: u16) -> Option<u16> {
+        u16::checked_sub(self, other)
     }
 
     ghost ordered = { size_order };
@@ -65,6 +81,14 @@ impl SizeNumber for u32 {
         0
     }
 
+    fn checked_add(self, other: u32) -> Option<u32> {
+        u32::checked_add(self, other)
+    }
+
+    fn checked_sub(self, other: u32) -> Option<u32> {
+        u32::checked_sub(self, other)
+    }
+
     ghost ordered = { size_order };
 
     ghost bounded = { fits_u32 };
@@ -87,6 +111,14 @@ impl SizeNumber for u64 {
         0
     }
 
+    fn checked_add(self, other: u64) -> Option<u64> {
+        u64::checked_add(self, other)
+    }
+
+    fn checked_sub(self, other: u64) -> Option<u64> {
+        u64::checked_sub(self, other)
+    }
+
     ghost ordered = { size_order };
 
     ghost bounded = { fits_u64 };
@@ -107,6 +139,14 @@ impl SizeNumber for usize {
 
     fn zero() -> usize {
         0
+    }
+
+    fn checked_add(self, other: usize) -> Option<usize> {
+        usize::checked_add(self, other)
+    }
+
+    fn checked_sub(self, other: usize) -> Option<usize> {
+        usize::checked_sub(self, other)
     }
 
     ghost ordered = { size_order };

@@ -41,6 +41,20 @@ impl Width for u8 {
         1
     }
 
+    fn checked_add(self, other: u8) -> Option<u8> {
+        u8::checked_add(self, other).filter(|x| *x < u8::MAX)
+    }
+
+    fn checked_sub(self, other: u8) -> Option<u8> {
+        u8::checked_sub(self, other).filter(|x| *x < u8::MAX)
+    }
+
+    fn checked_mul(self, other: u8) -> Option<u8> {
+        u8::try_from(self as u16 * other as u16)
+            .ok()
+            .filter(|x| *x < u8::MAX)
+    }
+
     ghost ordered = { unsigned_order };
 
     ghost at_value = { λ x. refl };
@@ -85,6 +99,20 @@ impl Width for u16 {
 
     fn one() -> u16 {
         1
+    }
+
+    fn checked_add(self, other: u16) -> Option<u16> {
+        u16::checked_add(self, other).filter(|x| *x < u16::MAX)
+    }
+
+    fn checked_sub(self, other: u16) -> Option<u16> {
+        u16::checked_sub(self, other).filter(|x| *x < u16::MAX)
+    }
+
+    fn checked_mul(self, other: u16) -> Option<u16> {
+        u16::try_from(self as u32 * other as u32)
+            .ok()
+            .filter(|x| *x < u16::MAX)
     }
 
     ghost ordered = { unsigned_order };
@@ -133,6 +161,20 @@ impl Width for u32 {
         1
     }
 
+    fn checked_add(self, other: u32) -> Option<u32> {
+        u32::checked_add(self, other).filter(|x| *x < u32::MAX)
+    }
+
+    fn checked_sub(self, other: u32) -> Option<u32> {
+        u32::checked_sub(self, other).filter(|x| *x < u32::MAX)
+    }
+
+    fn checked_mul(self, other: u32) -> Option<u32> {
+        u32::try_from(self as u64 * other as u64)
+            .ok()
+            .filter(|x| *x < u32::MAX)
+    }
+
     ghost ordered = { unsigned_order };
 
     ghost at_value = { λ x. refl };
@@ -179,6 +221,20 @@ impl Width for u64 {
         1
     }
 
+    fn checked_add(self, other: u64) -> Option<u64> {
+        u64::checked_add(self, other).filter(|x| *x < u64::MAX)
+    }
+
+    fn checked_sub(self, other: u64) -> Option<u64> {
+        u64::checked_sub(self, other).filter(|x| *x < u64::MAX)
+    }
+
+    fn checked_mul(self, other: u64) -> Option<u64> {
+        u64::try_from(self as u128 * other as u128)
+            .ok()
+            .filter(|x| *x < u64::MAX)
+    }
+
     ghost ordered = { unsigned_order };
 
     ghost at_value = { λ x. refl };
@@ -223,6 +279,20 @@ impl Width for usize {
 
     fn one() -> usize {
         1
+    }
+
+    fn checked_add(self, other: usize) -> Option<usize> {
+        usize::checked_add(self, other).filter(|x| *x < usize::MAX)
+    }
+
+    fn checked_sub(self, other: usize) -> Option<usize> {
+        usize::checked_sub(self, other).filter(|x| *x < usize::MAX)
+    }
+
+    fn checked_mul(self, other: usize) -> Option<usize> {
+        usize::try_from(self as u128 * other as u128)
+            .ok()
+            .filter(|x| *x < usize::MAX)
     }
 
     ghost ordered = { unsigned_order };

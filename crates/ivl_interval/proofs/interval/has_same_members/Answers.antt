@@ -1,5 +1,5 @@
 use Rattle.std.proofs.Common.{rules}
-use Rattle.ivl_interval.proofs.Orders.{eq_number}
+use Rattle.ivl_laws.proofs.Orders.{eq_number}
 use Rattle.ivl_interval.proofs.Pairs.{same_by_bounds, same_by_crossed, same_by_lower}
 use Rattle.ivl_interval.proofs.interval.has_same_members.Goals as goal
 

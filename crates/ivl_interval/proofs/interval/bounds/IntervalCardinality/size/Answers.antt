@@ -1,6 +1,6 @@
 use Rattle.std.proofs.Common.{rules}
-use Rattle.ivl_interval.proofs.Counts.{IsCountOf-between}
+use Rattle.ivl_interval.proofs.Pairs.{count_by_width}
 use Rattle.ivl_interval.proofs.interval.bounds.IntervalCardinality.size.Goals as goal
 
 pub returns-else-is_empty-clause-members : goal.returns-else-is_empty-clause-members
-returns-else-is_empty-clause-members g c = IsCountOf-between c.args.self.now _ (search rules)
+returns-else-is_empty-clause-members g c = count_by_width c.args.self.now _ (search rules)

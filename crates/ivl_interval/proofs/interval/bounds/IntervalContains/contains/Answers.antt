@@ -1,5 +1,5 @@
 use Rattle.std.proofs.Common.{rules, IsTrue}
-use Rattle.ivl_interval.proofs.Orders.{le_number}
+use Rattle.ivl_laws.proofs.Orders.{le_number}
 use Rattle.ivl_interval.proofs.interval.bounds.IntervalContains.contains.Goals as goal
 
 pub returns-then-le : goal.returns-then-le

@@ -1,6 +1,6 @@
 use Rattle.std.proofs.Common.{rules, ◌↔◌, IsTrue}
 use Rattle.ivl_laws.specs.Sets.{IsCrossed}
-use Rattle.ivl_interval.proofs.Pairs.{none_is_crossed}
+use Rattle.ivl_laws.proofs.Intervals.{none_is_crossed}
 use Rattle.ivl_interval.proofs.interval.bounds.IntervalIsEmpty.is_empty.Goals as goal
 
 pub returns-clause-members : goal.returns-clause-members

@@ -1,5 +1,5 @@
 use Rattle.std.proofs.Common.{◌≡◌, ◌↔◌, IsTrue}
-use Rattle.ivl_interval.proofs.Orders.{eq_number}
+use Rattle.ivl_laws.proofs.Orders.{eq_number}
 use Rattle.ivl_interval.proofs.Pairs.{only_by_bounds}
 use Rattle.ivl_interval.proofs.interval.bounds.IntervalIsSingleton.is_singleton.Goals as goal
 

@@ -1,5 +1,5 @@
 use Rattle.std.proofs.Common.{rules}
-use Rattle.ivl_interval.proofs.Orders.{max_number, min_number}
+use Rattle.ivl_laws.proofs.Orders.{max_number, min_number}
 use Rattle.ivl_interval.proofs.Pairs.{hull_of_pairs}
 use Rattle.ivl_interval.proofs.interval.sets.IntervalHull.hull.Goals as goal
 

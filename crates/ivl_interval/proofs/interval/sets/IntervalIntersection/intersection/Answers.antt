@@ -1,4 +1,4 @@
-use Rattle.ivl_interval.proofs.Orders.{max_number, min_number}
+use Rattle.ivl_laws.proofs.Orders.{max_number, min_number}
 use Rattle.ivl_interval.proofs.Pairs.{common_pair}
 use Rattle.ivl_interval.proofs.interval.sets.IntervalIntersection.intersection.Goals as goal
 

@@ -1,0 +1,425 @@
+//! Sums, differences and products of intervals, and of an interval with a value.
+//!
+//! Each operand is owned or borrowed. The condition of each call is that its results are in the range:
+//! `fits_add`, `fits_sub` and `fits_mul` test it, and with an empty operand it always holds. The value
+//! itself may lie outside the range: `[1..5] + (-128i8)` is allowed. An empty operand gives an interval
+//! with no member.
+//!
+//! The original can't be asked beforehand whether a result fits.
+ghost use Rattle.std.specs.Prelude.{◌≡◌, ◌+ℤ◌, ◌-ℤ◌, ◌*ℤ◌};
+ghost use Rattle.ivl_laws.specs.Sets.{Differences, ExactProducts, IsBetween, IsHullOf, IsSubset, Only, SameMembers, Sums};
+
+use crate::interval::Interval;
+use crate::ops::{Empty, IsEmpty, Range};
+use crate::width::Width;
+use std::ops::{Add, Mul, Sub};
+
+/// The sums of a member of each.
+fn sums<B: Width>(a: Interval<B>, b: Interval<B>) -> Interval<B>
+    requires { IsSubset (Sums (IsBetween a) (IsBetween b)) (IsBetween B.whole) }
+    ensures { SameMembers (IsBetween result) (Sums (IsBetween a) (IsBetween b)) }
+{
+    if a.is_empty() || b.is_empty() {
+        return Interval::empty();
+    }
+    Interval::new(sum(a.lb, b.lb), sum(a.ub, b.ub))
+}
+
+/// The sums of a member and the value.
+fn sums_with<B: Width>(a: Interval<B>, x: B) -> Interval<B>
+    requires { IsSubset (Sums (IsBetween a) (Only (B.value x))) (IsBetween B.whole) }
+    ensures { SameMembers (IsBetween result) (Sums (IsBetween a) (Only (B.value x))) }
+{
+    if a.is_empty() {
+        return a;
+    }
+    Interval::new(sum(a.lb, x), sum(a.ub, x))
+}
+
+fn sum<B: Width>(x: B, y: B) -> B
+    requires { IsBetween B.whole (B.value x +ℤ B.value y) }
+    ensures { B.value result ≡ B.value x +ℤ B.value y }
+{
+    x.checked_add(y).unwrap()
+}
+
+/// The differences of a member of each.
+fn differences<B: Width>(a: Interval<B>, b: Interval<B>) -> Interval<B>
+    requires { IsSubset (Differences (IsBetween a) (IsBetween b)) (IsBetween B.whole) }
+    ensures { SameMembers (IsBetween result) (Differences (IsBetween a) (IsBetween b)) }
+{
+    if a.is_empty() || b.is_empty() {
+        return Interval::empty();
+    }
+    Interval::new(difference(a.lb, b.ub), difference(a.ub, b.lb))
+}
+
+/// The differences of a member and the value.
+fn differences_with<B: Width>(a: Interval<B>, x: B) -> Interval<B>
+    requires { IsSubset (Differences (IsBetween a) (Only (B.value x))) (IsBetween B.whole) }
+    ensures { SameMembers (IsBetween result) (Differences (IsBetween a) (Only (B.value x))) }
+{
+    if a.is_empty() {
+        return a;
+    }
+    Interval::new(difference(a.lb, x), difference(a.ub, x))
+}
+
+fn difference<B: Width>(x: B, y: B) -> B
+    requires { IsBetween B.whole (B.value x -ℤ B.value y) }
+    ensures { B.value result ≡ B.value x -ℤ B.value y }
+{
+    x.checked_sub(y).unwrap()
+}
+
+/// The least interval that holds the products of a member of each. Every product lies between two of
+/// those of the bounds, whatever the signs are.
+fn products<B: Width>(a: Interval<B>, b: Interval<B>) -> Interval<B>
+    requires { IsSubset (ExactProducts (IsBetween a) (IsBetween b)) (IsBetween B.whole) }
+    ensures { IsHullOf result (ExactProducts (IsBetween a) (IsBetween b)) }
+{
+    if a.is_empty() || b.is_empty() {
+        return Interval::empty();
+    }
+    let low_low = product(a.lb, b.lb);
+    let low_high = product(a.lb, b.ub);
+    let high_low = product(a.ub, b.lb);
+    let high_high = product(a.ub, b.ub);
+    let least = low_low.min(low_high).min(high_low.min(high_high));
+    let greatest = low_low.max(low_high).max(high_low.max(high_high));
+    Interval::new(least, greatest)
+}
+
+/// The least interval that holds the products of a member and the value.
+fn products_with<B: Width>(a: Interval<B>, x: B) -> Interval<B>
+    requires { IsSubset (ExactProducts (IsBetween a) (Only (B.value x))) (IsBetween B.whole) }
+    ensures { IsHullOf result (ExactProducts (IsBetween a) (Only (B.value x))) }
+{
+    if a.is_empty() {
+        return a;
+    }
+    let low = product(a.lb, x);
+    let high = product(a.ub, x);
+    Interval::new(low.min(high), low.max(high))
+}
+
+fn product<B: Width>(x: B, y: B) -> B
+    requires { IsBetween B.whole (B.value x *ℤ B.value y) }
+    ensures { B.value result ≡ B.value x *ℤ B.value y }
+{
+    x.checked_mul(y).unwrap()
+}
+
+impl<B: Width> Add<Interval<B>> for Interval<B> {
+    type Output = Interval<B>;
+
+    ghost can_add = { λ a b. IsSubset (Sums (IsBetween a) (IsBetween b)) (IsBetween B.whole) };
+
+    ghost add_gives = { λ a b r. SameMembers (IsBetween r) (Sums (IsBetween a) (IsBetween b)) };
+
+    /// The sums of a member of each, and nothing else. Condition: `fits_add`.
+    fn add(self, rhs: Interval<B>) -> Interval<B> {
+        sums(self, rhs)
+    }
+}
+
+impl<B: Width> Add<&Interval<B>> for Interval<B> {
+    type Output = Interval<B>;
+
+    ghost can_add = { λ a b. IsSubset (Sums (IsBetween a) (IsBetween b.now)) (IsBetween B.whole) };
+
+    ghost add_gives = { λ a b r. SameMembers (IsBetween r) (Sums (IsBetween a) (IsBetween b.now)) };
+
+    /// The sums of a member of each, and nothing else. Condition: `fits_add`.
+    fn add(self, rhs: &Interval<B>) -> Interval<B> {
+        sums(self, *rhs)
+    }
+}
+
+impl<B: Width> Add<Interval<B>> for &Interval<B> {
+    type Output = Interval<B>;
+
+    ghost can_add = { λ a b. IsSubset (Sums (IsBetween a.now) (IsBetween b)) (IsBetween B.whole) };
+
+    ghost add_gives = { λ a b r. SameMembers (IsBetween r) (Sums (IsBetween a.now) (IsBetween b)) };
+
+    /// The sums of a member of each, and nothing else. Condition: `fits_add`.
+    fn add(self, rhs: Interval<B>) -> Interval<B> {
+        sums(*self, rhs)
+    }
+}
+
+impl<B: Width> Add<&Interval<B>> for &Interval<B> {
+    type Output = Interval<B>;
+
+    ghost can_add = { λ a b. IsSubset (Sums (IsBetween a.now) (IsBetween b.now)) (IsBetween B.whole) };
+
+    ghost add_gives = { λ a b r. SameMembers (IsBetween r) (Sums (IsBetween a.now) (IsBetween b.now)) };
+
+    /// The sums of a member of each, and nothing else. Condition: `fits_add`.
+    fn add(self, rhs: &Interval<B>) -> Interval<B> {
+        sums(*self, *rhs)
+    }
+}
+
+impl<B: Width> Add<B> for Interval<B> {
+    type Output = Interval<B>;
+
+    ghost can_add = { λ a x. IsSubset (Sums (IsBetween a) (Only (B.value x))) (IsBetween B.whole) };
+
+    ghost add_gives = { λ a x r. SameMembers (IsBetween r) (Sums (IsBetween a) (Only (B.value x))) };
+
+    /// The sums of a member and the value. Condition: `fits_add`.
+    fn add(self, rhs: B) -> Interval<B> {
+        sums_with(self, rhs)
+    }
+}
+
+impl<B: Width> Add<&B> for Interval<B> {
+    type Output = Interval<B>;
+
+    ghost can_add = { λ a x. IsSubset (Sums (IsBetween a) (Only (B.value x.now))) (IsBetween B.whole) };
+
+    ghost add_gives = { λ a x r. SameMembers (IsBetween r) (Sums (IsBetween a) (Only (B.value x.now))) };
+
+    /// The sums of a member and the value. Condition: `fits_add`.
+    fn add(self, rhs: &B) -> Interval<B> {
+        sums_with(self, *rhs)
+    }
+}
+
+impl<B: Width> Add<B> for &Interval<B> {
+    type Output = Interval<B>;
+
+    ghost can_add = { λ a x. IsSubset (Sums (IsBetween a.now) (Only (B.value x))) (IsBetween B.whole) };
+
+    ghost add_gives = { λ a x r. SameMembers (IsBetween r) (Sums (IsBetween a.now) (Only (B.value x))) };
+
+    /// The sums of a member and the value. Condition: `fits_add`.
+    fn add(self, rhs: B) -> Interval<B> {
+        sums_with(*self, rhs)
+    }
+}
+
+impl<B: Width> Add<&B> for &Interval<B> {
+    type Output = Interval<B>;
+
+    ghost can_add = { λ a x. IsSubset (Sums (IsBetween a.now) (Only (B.value x.now))) (IsBetween B.whole) };
+
+    ghost add_gives = { λ a x r. SameMembers (IsBetween r) (Sums (IsBetween a.now) (Only (B.value x.now))) };
+
+    /// The sums of a member and the value. Condition: `fits_add`.
+    fn add(self, rhs: &B) -> Interval<B> {
+        sums_with(*self, *rhs)
+    }
+}
+
+impl<B: Width> Sub<Interval<B>> for Interval<B> {
+    type Output = Interval<B>;
+
+    ghost can_sub = { λ a b. IsSubset (Differences (IsBetween a) (IsBetween b)) (IsBetween B.whole) };
+
+    ghost sub_gives = { λ a b r. SameMembers (IsBetween r) (Differences (IsBetween a) (IsBetween b)) };
+
+    /// The differences of a member of each, and nothing else. Condition: `fits_sub`.
+    fn sub(self, rhs: Interval<B>) -> Interval<B> {
+        differences(self, rhs)
+    }
+}
+
+impl<B: Width> Sub<&Interval<B>> for Interval<B> {
+    type Output = Interval<B>;
+
+    ghost can_sub = { λ a b. IsSubset (Differences (IsBetween a) (IsBetween b.now)) (IsBetween B.whole) };
+
+    ghost sub_gives = { λ a b r. SameMembers (IsBetween r) (Differences (IsBetween a) (IsBetween b.now)) };
+
+    /// The differences of a member of each, and nothing else. Condition: `fits_sub`.
+    fn sub(self, rhs: &Interval<B>) -> Interval<B> {
+        differences(self, *rhs)
+    }
+}
+
+impl<B: Width> Sub<Interval<B>> for &Interval<B> {
+    type Output = Interval<B>;
+
+    ghost can_sub = { λ a b. IsSubset (Differences (IsBetween a.now) (IsBetween b)) (IsBetween B.whole) };
+
+    ghost sub_gives = { λ a b r. SameMembers (IsBetween r) (Differences (IsBetween a.now) (IsBetween b)) };
+
+    /// The differences of a member of each, and nothing else. Condition: `fits_sub`.
+    fn sub(self, rhs: Interval<B>) -> Interval<B> {
+        differences(*self, rhs)
+    }
+}
+
+impl<B: Width> Sub<&Interval<B>> for &Interval<B> {
+    type Output = Interval<B>;
+
+    ghost can_sub = { λ a b. IsSubset (Differences (IsBetween a.now) (IsBetween b.now)) (IsBetween B.whole) };
+
+    ghost sub_gives = { λ a b r. SameMembers (IsBetween r) (Differences (IsBetween a.now) (IsBetween b.now)) };
+
+    /// The differences of a member of each, and nothing else. Condition: `fits_sub`.
+    fn sub(self, rhs: &Interval<B>) -> Interval<B> {
+        differences(*self, *rhs)
+    }
+}
+
+impl<B: Width> Sub<B> for Interval<B> {
+    type Output = Interval<B>;
+
+    ghost can_sub = { λ a x. IsSubset (Differences (IsBetween a) (Only (B.value x))) (IsBetween B.whole) };
+
+    ghost sub_gives = { λ a x r. SameMembers (IsBetween r) (Differences (IsBetween a) (Only (B.value x))) };
+
+    /// The differences of a member and the value. Condition: `fits_sub`.
+    fn sub(self, rhs: B) -> Interval<B> {
+        differences_with(self, rhs)
+    }
+}
+
+impl<B: Width> Sub<&B> for Interval<B> {
+    type Output = Interval<B>;
+
+    ghost can_sub = { λ a x. IsSubset (Differences (IsBetween a) (Only (B.value x.now))) (IsBetween B.whole) };
+
+    ghost sub_gives = { λ a x r. SameMembers (IsBetween r) (Differences (IsBetween a) (Only (B.value x.now))) };
+
+    /// The differences of a member and the value. Condition: `fits_sub`.
+    fn sub(self, rhs: &B) -> Interval<B> {
+        differences_with(self, *rhs)
+    }
+}
+
+impl<B: Width> Sub<B> for &Interval<B> {
+    type Output = Interval<B>;
+
+    ghost can_sub = { λ a x. IsSubset (Differences (IsBetween a.now) (Only (B.value x))) (IsBetween B.whole) };
+
+    ghost sub_gives = { λ a x r. SameMembers (IsBetween r) (Differences (IsBetween a.now) (Only (B.value x))) };
+
+    /// The differences of a member and the value. Condition: `fits_sub`.
+    fn sub(self, rhs: B) -> Interval<B> {
+        differences_with(*self, rhs)
+    }
+}
+
+impl<B: Width> Sub<&B> for &Interval<B> {
+    type Output = Interval<B>;
+
+    ghost can_sub = { λ a x. IsSubset (Differences (IsBetween a.now) (Only (B.value x.now))) (IsBetween B.whole) };
+
+    ghost sub_gives = { λ a x r. SameMembers (IsBetween r) (Differences (IsBetween a.now) (Only (B.value x.now))) };
+
+    /// The differences of a member and the value. Condition: `fits_sub`.
+    fn sub(self, rhs: &B) -> Interval<B> {
+        differences_with(*self, *rhs)
+    }
+}
+
+impl<B: Width> Mul<Interval<B>> for Interval<B> {
+    type Output = Interval<B>;
+
+    ghost can_mul = { λ a b. IsSubset (ExactProducts (IsBetween a) (IsBetween b)) (IsBetween B.whole) };
+
+    ghost mul_gives = { λ a b r. IsHullOf r (ExactProducts (IsBetween a) (IsBetween b)) };
+
+    /// The least interval that holds the products of a member of each. Condition: `fits_mul`.
+    fn mul(self, rhs: Interval<B>) -> Interval<B> {
+        products(self, rhs)
+    }
+}
+
+impl<B: Width> Mul<&Interval<B>> for Interval<B> {
+    type Output = Interval<B>;
+
+    ghost can_mul = { λ a b. IsSubset (ExactProducts (IsBetween a) (IsBetween b.now)) (IsBetween B.whole) };
+
+    ghost mul_gives = { λ a b r. IsHullOf r (ExactProducts (IsBetween a) (IsBetween b.now)) };
+
+    /// The least interval that holds the products of a member of each. Condition: `fits_mul`.
+    fn mul(self, rhs: &Interval<B>) -> Interval<B> {
+        products(self, *rhs)
+    }
+}
+
+impl<B: Width> Mul<Interval<B>> for &Interval<B> {
+    type Output = Interval<B>;
+
+    ghost can_mul = { λ a b. IsSubset (ExactProducts (IsBetween a.now) (IsBetween b)) (IsBetween B.whole) };
+
+    ghost mul_gives = { λ a b r. IsHullOf r (ExactProducts (IsBetween a.now) (IsBetween b)) };
+
+    /// The least interval that holds the products of a member of each. Condition: `fits_mul`.
+    fn mul(self, rhs: Interval<B>) -> Interval<B> {
+        products(*self, rhs)
+    }
+}
+
+impl<B: Width> Mul<&Interval<B>> for &Interval<B> {
+    type Output = Interval<B>;
+
+    ghost can_mul = { λ a b. IsSubset (ExactProducts (IsBetween a.now) (IsBetween b.now)) (IsBetween B.whole) };
+
+    ghost mul_gives = { λ a b r. IsHullOf r (ExactProducts (IsBetween a.now) (IsBetween b.now)) };
+
+    /// The least interval that holds the products of a member of each. Condition: `fits_mul`.
+    fn mul(self, rhs: &Interval<B>) -> Interval<B> {
+        products(*self, *rhs)
+    }
+}
+
+impl<B: Width> Mul<B> for Interval<B> {
+    type Output = Interval<B>;
+
+    ghost can_mul = { λ a x. IsSubset (ExactProducts (IsBetween a) (Only (B.value x))) (IsBetween B.whole) };
+
+    ghost mul_gives = { λ a x r. IsHullOf r (ExactProducts (IsBetween a) (Only (B.value x))) };
+
+    /// The least interval that holds the products of a member and the value. Condition: `fits_mul`.
+    ///
+    /// In the original a negative value crosses the bounds of an interval of several members.
+    fn mul(self, rhs: B) -> Interval<B> {
+        products_with(self, rhs)
+    }
+}
+
+impl<B: Width> Mul<&B> for Interval<B> {
+    type Output = Interval<B>;
+
+    ghost can_mul = { λ a x. IsSubset (ExactProducts (IsBetween a) (Only (B.value x.now))) (IsBetween B.whole) };
+
+    ghost mul_gives = { λ a x r. IsHullOf r (ExactProducts (IsBetween a) (Only (B.value x.now))) };
+
+    /// The least interval that holds the products of a member and the value. Condition: `fits_mul`.
+    fn mul(self, rhs: &B) -> Interval<B> {
+        products_with(self, *rhs)
+    }
+}
+
+impl<B: Width> Mul<B> for &Interval<B> {
+    type Output = Interval<B>;
+
+    ghost can_mul = { λ a x. IsSubset (ExactProducts (IsBetween a.now) (Only (B.value x))) (IsBetween B.whole) };
+
+    ghost mul_gives = { λ a x r. IsHullOf r (ExactProducts (IsBetween a.now) (Only (B.value x))) };
+
+    /// The least interval that holds the products of a member and the value. Condition: `fits_mul`.
+    fn mul(self, rhs: B) -> Interval<B> {
+        products_with(*self, rhs)
+    }
+}
+
+impl<B: Width> Mul<&B> for &Interval<B> {
+    type Output = Interval<B>;
+
+    ghost can_mul = { λ a x. IsSubset (ExactProducts (IsBetween a.now) (Only (B.value x.now))) (IsBetween B.whole) };
+
+    ghost mul_gives = { λ a x r. IsHullOf r (ExactProducts (IsBetween a.now) (Only (B.value x.now))) };
+
+    /// The least interval that holds the products of a member and the value. Condition: `fits_mul`.
+    fn mul(self, rhs: &B) -> Interval<B> {
+        products_with(*self, *rhs)
+    }
+}

@@ -1,0 +1,123 @@
+//! Values that are read as an interval.
+ghost use Rattle.std.specs.Prelude.{◌≡◌, ◌≤ℤ◌, pos, ⊤};
+ghost use Rattle.std.specs.Range.{range_inclusive_end, range_inclusive_start};
+ghost use Rattle.ivl_laws.specs.Sets.{IsBetween, IsCrossed, IsInRange, SameMembers};
+
+use crate::interval::Interval;
+use crate::ops::{Empty, Range, Singleton, ToInterval};
+use crate::width::Width;
+use std::ops::{RangeFrom, RangeInclusive, RangeToInclusive};
+
+impl<B: Width> ToInterval<B> for Interval<B> {
+    ghost can_convert = { λ _. ⊤ };
+
+    ghost interval = { λ p. p };
+
+    /// The interval itself.
+    fn to_interval(self) -> Interval<B>
+        ensures members { SameMembers (IsBetween result) (IsBetween self) }
+        ensures bounds { self.0 ≤ℤ self.1 → result ≡ self }
+        ensures value { result ≡ self }
+    {
+        self
+    }
+}
+
+impl<B: Width> ToInterval<B> for (B, B) {
+    ghost can_convert = { λ bounds. IsInRange B.whole (B.value bounds.0, B.value bounds.1) };
+
+    ghost interval = { λ bounds. (B.value bounds.0, B.value bounds.1) };
+
+    /// The numbers from the first bound to the second; none where they cross. Condition:
+    /// `Interval::in_range` of the two.
+    fn to_interval(self) -> Interval<B>
+        requires { IsInRange B.whole (B.value self.0, B.value self.1) }
+        ensures members { SameMembers (IsBetween result) (IsBetween (B.value self.0, B.value self.1)) }
+        ensures bounds { B.value self.0 ≤ℤ B.value self.1 → result ≡ (B.value self.0, B.value self.1) }
+        ensures value { result ≡ (B.value self.0, B.value self.1) }
+    {
+        Interval::new(self.0, self.1)
+    }
+}
+
+impl<B: Width> ToInterval<B> for () {
+    ghost can_convert = { λ _. ⊤ };
+
+    ghost interval = { λ _. (pos 1, pos 0) };
+
+    /// No number.
+    fn to_interval(self) -> Interval<B>
+        ensures members { SameMembers (IsBetween result) (IsBetween (pos 1, pos 0)) }
+        ensures bounds { pos 1 ≤ℤ pos 0 → result ≡ (pos 1, pos 0) }
+        ensures crossed { IsCrossed result }
+    {
+        Interval::empty()
+    }
+}
+
+impl<B: Width> ToInterval<B> for B {
+    ghost can_convert = { λ x. IsBetween B.whole (B.value x) };
+
+    ghost interval = { λ x. (B.value x, B.value x) };
+
+    /// The value alone. Condition: it is in the range, which `Interval::whole().contains(&value)`
+    /// tests.
+    fn to_interval(self) -> Interval<B>
+        requires { IsBetween B.whole (B.value self) }
+        ensures members { SameMembers (IsBetween result) (IsBetween (B.value self, B.value self)) }
+        ensures bounds { B.value self ≤ℤ B.value self → result ≡ (B.value self, B.value self) }
+        ensures value { result ≡ (B.value self, B.value self) }
+    {
+        Interval::singleton(self)
+    }
+}
+
+impl<B: Width> ToInterval<B> for RangeInclusive<B> {
+    ghost can_convert = { λ range. IsInRange B.whole (B.value (range_inclusive_start range), B.value (range_inclusive_end range)) };
+
+    ghost interval = { λ range. (B.value (range_inclusive_start range), B.value (range_inclusive_end range)) };
+
+    /// The numbers from the start to the end of `a..=b`; none where they cross. Condition:
+    /// `Interval::in_range` of the two.
+    fn to_interval(self) -> Interval<B>
+        requires { IsInRange B.whole (B.value (range_inclusive_start self), B.value (range_inclusive_end self)) }
+        ensures members { SameMembers (IsBetween result) (IsBetween (B.value (range_inclusive_start self), B.value (range_inclusive_end self))) }
+        ensures bounds { B.value (range_inclusive_start self) ≤ℤ B.value (range_inclusive_end self) → result ≡ (B.value (range_inclusive_start self), B.value (range_inclusive_end self)) }
+        ensures value { result ≡ (B.value (range_inclusive_start self), B.value (range_inclusive_end self)) }
+    {
+        let (start, end) = self.into_inner();
+        Interval::new(start, end)
+    }
+}
+
+impl<B: Width> ToInterval<B> for RangeFrom<B> {
+    ghost can_convert = { λ range. IsBetween B.whole (B.value range.start) };
+
+    ghost interval = { λ range. (B.value range.start, B.whole.1) };
+
+    /// The numbers of the range from the start of `a..` on. Condition: the start is in the range.
+    fn to_interval(self) -> Interval<B>
+        requires { IsBetween B.whole (B.value self.start) }
+        ensures members { SameMembers (IsBetween result) (IsBetween (B.value self.start, B.whole.1)) }
+        ensures bounds { B.value self.start ≤ℤ B.whole.1 → result ≡ (B.value self.start, B.whole.1) }
+        ensures value { result ≡ (B.value self.start, B.whole.1) }
+    {
+        Interval::new(self.start, B::max_value())
+    }
+}
+
+impl<B: Width> ToInterval<B> for RangeToInclusive<B> {
+    ghost can_convert = { λ range. IsBetween B.whole (B.value range.end) };
+
+    ghost interval = { λ range. (B.whole.0, B.value range.end) };
+
+    /// The numbers of the range up to the end of `..=b`. Condition: the end is in the range.
+    fn to_interval(self) -> Interval<B>
+        requires { IsBetween B.whole (B.value self.end) }
+        ensures members { SameMembers (IsBetween result) (IsBetween (B.whole.0, B.value self.end)) }
+        ensures bounds { B.whole.0 ≤ℤ B.value self.end → result ≡ (B.whole.0, B.value self.end) }
+        ensures value { result ≡ (B.whole.0, B.value self.end) }
+    {
+        Interval::new(B::min_value(), self.end)
+    }
+}

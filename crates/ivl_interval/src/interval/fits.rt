@@ -1,0 +1,98 @@
+//! Whether the results of arithmetic are in the range.
+//!
+//! Each call is a few tests of the bounds: the least and the greatest result are results of bounds.
+ghost use Rattle.std.specs.Prelude.{◌↔◌, ◌+ℤ◌, ◌-ℤ◌, ◌*ℤ◌, IsTrue};
+ghost use Rattle.ivl_laws.specs.Sets.{IsBetween, Only};
+
+use crate::interval::Interval;
+use crate::ops::{Fits, IsEmpty};
+use crate::width::Width;
+
+impl<B: Width> Fits<Interval<B>> for Interval<B> {
+    ghost whole = { B.whole };
+
+    ghost members = { IsBetween };
+
+    ghost other_members = { IsBetween };
+
+    /// True exactly where `self + other` may be called.
+    fn fits_add(&self, other: &Interval<B>) -> bool {
+        if self.is_empty() || other.is_empty() {
+            return true;
+        }
+        has_sum(self.lb, other.lb) && has_sum(self.ub, other.ub)
+    }
+
+    /// True exactly where `self - other` may be called.
+    fn fits_sub(&self, other: &Interval<B>) -> bool {
+        if self.is_empty() || other.is_empty() {
+            return true;
+        }
+        has_difference(self.lb, other.ub) && has_difference(self.ub, other.lb)
+    }
+
+    /// True exactly where `self * other` may be called.
+    fn fits_mul(&self, other: &Interval<B>) -> bool {
+        if self.is_empty() || other.is_empty() {
+            return true;
+        }
+        has_products(self.lb, other) && has_products(self.ub, other)
+    }
+}
+
+impl<B: Width> Fits<B> for Interval<B> {
+    ghost whole = { B.whole };
+
+    ghost members = { IsBetween };
+
+    ghost other_members = { λ x. Only (B.value x) };
+
+    /// True exactly where `self + *other` may be called; `other` may lie outside the range.
+    fn fits_add(&self, other: &B) -> bool {
+        if self.is_empty() {
+            return true;
+        }
+        has_sum(self.lb, *other) && has_sum(self.ub, *other)
+    }
+
+    /// True exactly where `self - *other` may be called; `other` may lie outside the range.
+    fn fits_sub(&self, other: &B) -> bool {
+        if self.is_empty() {
+            return true;
+        }
+        has_difference(self.lb, *other) && has_difference(self.ub, *other)
+    }
+
+    /// True exactly where `self * *other` may be called; `other` may lie outside the range.
+    fn fits_mul(&self, other: &B) -> bool {
+        if self.is_empty() {
+            return true;
+        }
+        has_product(self.lb, *other) && has_product(self.ub, *other)
+    }
+}
+
+fn has_sum<B: Width>(x: B, y: B) -> bool
+    ensures { IsTrue result ↔ IsBetween B.whole (B.value x +ℤ B.value y) }
+{
+    x.checked_add(y).is_some()
+}
+
+fn has_difference<B: Width>(x: B, y: B) -> bool
+    ensures { IsTrue result ↔ IsBetween B.whole (B.value x -ℤ B.value y) }
+{
+    x.checked_sub(y).is_some()
+}
+
+fn has_product<B: Width>(x: B, y: B) -> bool
+    ensures { IsTrue result ↔ IsBetween B.whole (B.value x *ℤ B.value y) }
+{
+    x.checked_mul(y).is_some()
+}
+
+/// The products of a value and both bounds are in the range.
+fn has_products<B: Width>(x: B, b: &Interval<B>) -> bool
+    ensures { IsTrue result ↔ (IsBetween B.whole (B.value x *ℤ b.now.0) × IsBetween B.whole (B.value x *ℤ b.now.1)) }
+{
+    has_product(x, b.lb) && has_product(x, b.ub)
+}

@@ -1,0 +1,262 @@
+//! Intervals beside a single value, or a value that may be absent, on either side.
+ghost use Rattle.std.specs.Prelude.{◌≡◌, ◌⊎◌, None, option_map, ⊤};
+ghost use Rattle.ivl_laws.specs.Sets.{Held, Intersection, IsBetween, IsHullOf, Only, SameMembers, Without};
+
+use crate::interval::Interval;
+use crate::ops::{
+    Contains, Difference, Disjoint, Empty, Hull, Intersection, Overlap, Range, Singleton,
+    StrictShrinkLeft, StrictShrinkRight,
+};
+use crate::optional::Optional;
+use crate::width::Width;
+
+impl<B: Width> Disjoint<B> for Interval<B> {
+    ghost members = { IsBetween };
+
+    ghost other_members = { λ x. Only (B.value x) };
+
+    /// True exactly where the value is no member.
+    fn is_disjoint(&self, other: &B) -> bool {
+        !self.contains(other)
+    }
+}
+
+impl<B: Width> Overlap<B> for Interval<B> {
+    ghost members = { IsBetween };
+
+    ghost other_members = { λ x. Only (B.value x) };
+
+    /// True exactly where the value is a member.
+    fn overlap(&self, other: &B) -> bool {
+        self.contains(other)
+    }
+}
+
+impl<B: Width> Intersection<B> for Interval<B> {
+    type Output = Interval<B>;
+
+    ghost members = { IsBetween };
+
+    ghost other_members = { λ x. Only (B.value x) };
+
+    ghost answers = { λ p S. SameMembers (IsBetween p) S };
+
+    /// The value alone where it is a member, else no number; for any value of its type.
+    fn intersection(&self, other: &B) -> Interval<B> {
+        Self::new(self.lb.max(*other), self.ub.min(*other))
+    }
+}
+
+impl<B: Width> Difference<B> for Interval<B> {
+    type Output = Interval<B>;
+
+    ghost members = { IsBetween };
+
+    ghost other_members = { λ x. Only (B.value x) };
+
+    ghost answers = { IsHullOf };
+
+    /// The least interval that holds the members but the value; for any value of its type.
+    ///
+    /// The original adds to a stored lower bound or takes from a stored upper one that equals the
+    /// value, and so overflows at `empty().difference(&0)` of `u32` and at
+    /// `singleton(127).difference(&127)` of `i8`; both are empty here.
+    fn difference(&self, other: &B) -> Interval<B> {
+        if *other == self.lb {
+            self.strict_shrink_left(*other)
+        } else if *other == self.ub {
+            self.strict_shrink_right(*other)
+        } else {
+            *self
+        }
+    }
+}
+
+impl<B: Width> Hull<B> for Interval<B> {
+    type Output = Interval<B>;
+
+    ghost members = { IsBetween };
+
+    ghost other_members = { λ x. Only (B.value x) };
+
+    ghost can_join = { λ _ x. IsBetween B.whole (B.value x) };
+
+    ghost answers = { IsHullOf };
+
+    /// The least interval that holds the members and the value. Condition: the value is in the range,
+    /// which `whole().contains(other)` tests.
+    ///
+    /// In the original the condition stands in no signature.
+    fn hull(&self, other: &B) -> Interval<B> {
+        self.hull(&Self::singleton(*other))
+    }
+}
+
+impl<B: Width> Disjoint<Optional<B>> for Interval<B> {
+    ghost members = { IsBetween };
+
+    ghost other_members = { λ o. Held (option_map B.value o) };
+
+    /// True exactly where the value is absent or no member.
+    fn is_disjoint(&self, other: &Optional<B>) -> bool {
+        !self.overlap(other)
+    }
+}
+
+impl<B: Width> Overlap<Optional<B>> for Interval<B> {
+    ghost members = { IsBetween };
+
+    ghost other_members = { λ o. Held (option_map B.value o) };
+
+    /// True exactly where there is a value and it is a member.
+    fn overlap(&self, other: &Optional<B>) -> bool {
+        match other.as_ref() {
+            Some(x) => self.contains(x),
+            None => false,
+        }
+    }
+}
+
+impl<B: Width> Intersection<Optional<B>> for Interval<B> {
+    type Output = Interval<B>;
+
+    ghost members = { IsBetween };
+
+    ghost other_members = { λ o. Held (option_map B.value o) };
+
+    ghost answers = { λ p S. SameMembers (IsBetween p) S };
+
+    /// The value alone where there is one and it is a member, else no number.
+    fn intersection(&self, other: &Optional<B>) -> Interval<B> {
+        match other.as_ref() {
+            Some(x) => self.intersection(x),
+            None => Self::empty(),
+        }
+    }
+}
+
+impl<B: Width> Difference<Optional<B>> for Interval<B> {
+    type Output = Interval<B>;
+
+    ghost members = { IsBetween };
+
+    ghost other_members = { λ o. Held (option_map B.value o) };
+
+    ghost answers = { IsHullOf };
+
+    /// The least interval that holds the members but the value; where there is none, the interval.
+    fn difference(&self, other: &Optional<B>) -> Interval<B> {
+        match other.as_ref() {
+            Some(x) => self.difference(x),
+            None => *self,
+        }
+    }
+}
+
+impl<B: Width> Disjoint<Interval<B>> for B {
+    ghost members = { λ x. Only (B.value x) };
+
+    ghost other_members = { IsBetween };
+
+    /// True exactly where the value is no member of `other`.
+    fn is_disjoint(&self, other: &Interval<B>) -> bool {
+        !other.contains(self)
+    }
+}
+
+impl<B: Width> Overlap<Interval<B>> for B {
+    ghost members = { λ x. Only (B.value x) };
+
+    ghost other_members = { IsBetween };
+
+    /// True exactly where the value is a member of `other`.
+    fn overlap(&self, other: &Interval<B>) -> bool {
+        other.contains(self)
+    }
+}
+
+impl<B: Width> Hull<Interval<B>> for B {
+    type Output = Interval<B>;
+
+    ghost members = { λ x. Only (B.value x) };
+
+    ghost other_members = { IsBetween };
+
+    ghost can_join = { λ x _. IsBetween B.whole (B.value x) };
+
+    ghost answers = { IsHullOf };
+
+    /// The least interval that holds the value and the members of `other`. Condition: the value is in
+    /// the range, which `whole().contains(self)` tests.
+    ///
+    /// The original has this for the ten integer types alone, and the condition stands in no signature.
+    fn hull(&self, other: &Interval<B>) -> Interval<B> {
+        Interval::singleton(*self).hull(other)
+    }
+}
+
+impl<B: Width> Disjoint<Interval<B>> for Optional<B> {
+    ghost members = { λ o. Held (option_map B.value o) };
+
+    ghost other_members = { IsBetween };
+
+    /// True exactly where the value is absent or no member of `other`.
+    fn is_disjoint(&self, other: &Interval<B>) -> bool {
+        other.is_disjoint(self)
+    }
+}
+
+impl<B: Width> Overlap<Interval<B>> for Optional<B> {
+    ghost members = { λ o. Held (option_map B.value o) };
+
+    ghost other_members = { IsBetween };
+
+    /// True exactly where there is a value and it is a member of `other`.
+    fn overlap(&self, other: &Interval<B>) -> bool {
+        other.overlap(self)
+    }
+}
+
+impl<B: Width> Intersection<Interval<B>> for Optional<B> {
+    type Output = Optional<B>;
+
+    ghost members = { λ o. Held (option_map B.value o) };
+
+    ghost other_members = { IsBetween };
+
+    ghost answers = { λ o S. SameMembers (Held (option_map B.value o)) S };
+
+    /// The value itself where it is a member of `other`, else none.
+    fn intersection(&self, other: &Interval<B>) -> Optional<B>
+        ensures members { SameMembers (Held (option_map B.value result)) (Intersection (Held (option_map B.value self.now)) (IsBetween other.now)) }
+        ensures chosen { (result ≡ self.now) ⊎ (result ≡ None) }
+    {
+        if self.overlap(other) {
+            *self
+        } else {
+            Optional::empty()
+        }
+    }
+}
+
+impl<B: Width> Difference<Interval<B>> for Optional<B> {
+    type Output = Optional<B>;
+
+    ghost members = { λ o. Held (option_map B.value o) };
+
+    ghost other_members = { IsBetween };
+
+    ghost answers = { λ o S. SameMembers (Held (option_map B.value o)) S };
+
+    /// The value itself where it is no member of `other`, else none.
+    fn difference(&self, other: &Interval<B>) -> Optional<B>
+        ensures members { SameMembers (Held (option_map B.value result)) (Without (Held (option_map B.value self.now)) (IsBetween other.now)) }
+        ensures chosen { (result ≡ self.now) ⊎ (result ≡ None) }
+    {
+        if self.is_disjoint(other) {
+            *self
+        } else {
+            Optional::empty()
+        }
+    }
+}
