@@ -21,8 +21,9 @@ two_registers_of (a ∷ b ∷ []) = option_and_then (λ x. option_map (λ y. (x,
 two_registers_of _ = None
 
 abbrev pub three_registers_of : List (List ℕ) → Option (ℕ × ℕ × ℕ)
-three_registers_of (r ∷ words) = option_and_then (λ x. option_map (λ p. (x, p.0, p.1)) (two_registers_of words)) (register_of r)
-three_registers_of [] = None
+three_registers_of (r ∷ a ∷ b ∷ []) =
+    option_and_then (λ x. option_and_then (λ y. option_map (λ z. (x, y, z)) (register_of b)) (register_of a)) (register_of r)
+three_registers_of _ = None
 
 abbrev pub register_and_number_of : List (List ℕ) → Option (ℕ × ℤ)
 register_and_number_of (a ∷ v ∷ []) = option_and_then (λ x. option_map (λ z. (x, z)) (number_of v)) (register_of a)

@@ -8,6 +8,10 @@ use ivl_calc::Command;
 use std::alloc::{AllocError, Global};
 
 /// The command of this name and the words after it, or `None` where that is no command.
+///
+/// # Errors
+///
+/// Where the numbers of `set` find no memory.
 pub fn command_from(
     alloc: Global,
     name: &str,

@@ -18,7 +18,11 @@ pub enum Line {
     Command(Command<i64>),
 }
 
-/// What the line says, which no newline ends here. It takes the time that its bytes take to read.
+/// What the line says, without the newline that ended it. The time is linear in its length.
+///
+/// # Errors
+///
+/// Where its words or its numbers find no memory.
 pub fn read_line(alloc: Global, line: &[u8]) -> Result<Line, AllocError>
     ensures { IfOk result (λ read. view_of read ≡ reading_of line.now) }
 {

@@ -4,7 +4,7 @@ ghost use Rattle.ivl_run.specs.Numbers.{number_of, pair_of, pairs_of};
 
 use std::alloc::{AllocError, Global};
 
-/// The number that the word is: an optional minus sign and one or more digits.
+/// The number that the word is, an optional minus sign and one or more digits; `None` where it is none of `i64`.
 pub fn number_from(word: &str) -> Option<i64>
     ensures { result ≡ number_of word.now }
 {
@@ -15,6 +15,10 @@ pub fn number_from(word: &str) -> Option<i64>
 }
 
 /// The words as numbers, two by two; `None` where one is no number, or their count is odd.
+///
+/// # Errors
+///
+/// Where the pairs find no memory.
 pub fn pairs_from(alloc: Global, words: &[&str]) -> Result<Option<Vec<(i64, i64)>>, AllocError>
     ensures { IfOk result (λ pairs. option_map (λ v. v.items) pairs
         ≡ pairs_of (map (λ w. w.now) words.now)) }

@@ -12,6 +12,10 @@ use std::io;
 use std::io::Write;
 
 /// Writes the reply, and a newline.
+///
+/// # Errors
+///
+/// That of a write. Some of the text may be written then.
 pub fn write_reply<W: Write>(writer: &mut W, reply: &Reply<i64>) -> io::Result<()>
     requires { HasRunsInOrder (answer_of reply.now) }
     ensures { OnOk result (Appends (W.contents writer.old) (W.contents writer.new)
