@@ -8,18 +8,18 @@ use Rattle.ivl_laws.specs.Counts.{IsIn, IsDistinct, IsCountOf}
 -- ---- lists of distinct numbers
 
 -- the list without one place of x
-without : (x : ℤ) (ys : List ℤ) → IsIn ys x → List ℤ
+pub without : (x : ℤ) (ys : List ℤ) → IsIn ys x → List ℤ
 without x [] h = absurd h
 without x (y ∷ ys) (inl e) = ys
 without x (y ∷ ys) (inr h) = y ∷ without x ys h
 
-length-without : (x : ℤ) (ys : List ℤ) (h : IsIn ys x) → length ys ≡ suc (length (without x ys h))
+pub length-without : (x : ℤ) (ys : List ℤ) (h : IsIn ys x) → length ys ≡ suc (length (without x ys h))
 unfolding without
 length-without x [] h = absurd h
 length-without x (y ∷ ys) (inl e) = refl
 length-without x (y ∷ ys) (inr h) = ap suc (length-without x ys h)
 
-in_without : (x z : ℤ) (ys : List ℤ) (h : IsIn ys x) → ¬ (z ≡ x) → IsIn ys z → IsIn (without x ys h) z
+pub in_without : (x z : ℤ) (ys : List ℤ) (h : IsIn ys x) → ¬ (z ≡ x) → IsIn ys z → IsIn (without x ys h) z
 unfolding without
 in_without x z [] h n i = absurd h
 in_without x z (y ∷ ys) (inl e) n (inl f) = absurd (n (f ∙ sym e))
@@ -45,19 +45,19 @@ decide_in (y ∷ ys) x = by (ℤ_discrete x y) (decide_in ys x)
     by (no n) (inl i) = inl (inr i)
     by (no n) (inr m) = inr (⊎_elim n m)
 
-pub in-append_left : (xs ys : List ℤ) (z : ℤ) → IsIn xs z → IsIn (xs ++ ys) z
-in-append_left [] ys z h = absurd h
-in-append_left (x ∷ xs) ys z (inl e) = inl e
-in-append_left (x ∷ xs) ys z (inr h) = inr (in-append_left xs ys z h)
+pub in-append_left : {X : Type 0} (xs ys : List X) (x : X) → IsIn xs x → IsIn (xs ++ ys) x
+in-append_left [] ys x h = absurd h
+in-append_left (y ∷ xs) ys x (inl e) = inl e
+in-append_left (y ∷ xs) ys x (inr h) = inr (in-append_left xs ys x h)
 
-pub in-append_right : (xs ys : List ℤ) (z : ℤ) → IsIn ys z → IsIn (xs ++ ys) z
-in-append_right [] ys z h = h
-in-append_right (x ∷ xs) ys z h = inr (in-append_right xs ys z h)
+pub in-append_right : {X : Type 0} (xs ys : List X) (x : X) → IsIn ys x → IsIn (xs ++ ys) x
+in-append_right [] ys x h = h
+in-append_right (y ∷ xs) ys x h = inr (in-append_right xs ys x h)
 
-pub in-append : (xs ys : List ℤ) (z : ℤ) → IsIn (xs ++ ys) z → IsIn xs z ⊎ IsIn ys z
-in-append [] ys z h = inr h
-in-append (x ∷ xs) ys z (inl e) = inl (inl e)
-in-append (x ∷ xs) ys z (inr h) = ⊎_elim (λ a. inl (inr a)) (λ b. inr b) (in-append xs ys z h)
+pub in-append : {X : Type 0} (xs ys : List X) (x : X) → IsIn (xs ++ ys) x → IsIn xs x ⊎ IsIn ys x
+in-append [] ys x h = inr h
+in-append (y ∷ xs) ys x (inl e) = inl (inl e)
+in-append (y ∷ xs) ys x (inr h) = ⊎_elim (λ a. inl (inr a)) (λ b. inr b) (in-append xs ys x h)
 
 pub IsDistinct-append : (xs ys : List ℤ) → IsDistinct xs → IsDistinct ys → ((z : ℤ) → IsIn xs z → IsIn ys z → ⊥) → IsDistinct (xs ++ ys)
 IsDistinct-append [] ys d e f = e
@@ -109,27 +109,27 @@ IsCountOf-apart S T m n f (xs, dx, ix, ex) (ys, dy, iy, ey) = (
 )
 
 -- n numbers from l on
-ascending : ℤ → ℕ → List ℤ
+pub ascending : ℤ → ℕ → List ℤ
 ascending l zero = []
 ascending l (suc n) = l ∷ ascending (l +ℤ pos 1) n
 
-in_ascending : (l : ℤ) (n : ℕ) (z : ℤ) → IsIn (ascending l n) z → (l ≤ℤ z) × (z <ℤ (l +ℤ pos n))
+pub in_ascending : (l : ℤ) (n : ℕ) (z : ℤ) → IsIn (ascending l n) z → (l ≤ℤ z) × (z <ℤ (l +ℤ pos n))
 unfolding ascending
 in_ascending l zero z i = absurd i
 in_ascending l (suc n) z (inl e) = (omega (arith, ints), omega (arith, ints))
 in_ascending l (suc n) z (inr i) = let ih = in_ascending (l +ℤ pos 1) n z i in let a = ih.0 in let b = ih.1 in (omega (arith, ints), omega (arith, ints))
 
-ascending_has : (l : ℤ) (n : ℕ) (z : ℤ) → l ≤ℤ z → z <ℤ (l +ℤ pos n) → IsIn (ascending l n) z
+pub ascending_has : (l : ℤ) (n : ℕ) (z : ℤ) → l ≤ℤ z → z <ℤ (l +ℤ pos n) → IsIn (ascending l n) z
 unfolding ascending
 ascending_has l zero z h k = absurd (omega (arith, ints))
 ascending_has l (suc n) z h k = by_lt_z l z (λ lt. inr (ascending_has (l +ℤ pos 1) n z (omega (arith, ints)) (omega (arith, ints)))) (λ le. inl (omega (arith, ints)))
 
-ascending_is_distinct : (l : ℤ) (n : ℕ) → IsDistinct (ascending l n)
+pub ascending_is_distinct : (l : ℤ) (n : ℕ) → IsDistinct (ascending l n)
 unfolding ascending
 ascending_is_distinct l zero = tt
 ascending_is_distinct l (suc n) = ((λ i. let h = (in_ascending (l +ℤ pos 1) n l i).0 in omega (arith, ints)), ascending_is_distinct (l +ℤ pos 1) n)
 
-length-ascending : (l : ℤ) (n : ℕ) → length (ascending l n) ≡ n
+pub length-ascending : (l : ℤ) (n : ℕ) → length (ascending l n) ≡ n
 unfolding ascending
 length-ascending l zero = refl
 length-ascending l (suc n) = ap suc (length-ascending (l +ℤ pos 1) n)

@@ -28,7 +28,7 @@ abbrev pub IsOfEnds : (ℤ → ℤ → ℤ) → List (ℤ × ℤ) → List (ℤ 
 IsOfEnds op L M t = (x : ℤ) × (y : ℤ) × IsEndIn L x × IsEndIn M y × (op x y ≡ t)
 
 -- where both ends of f p q are results of ends of p and q, the ends of the runs of what the list covers are such results
-ends_by_pairs : (op : ℤ → ℤ → ℤ) (f : ℤ × ℤ → ℤ × ℤ → ℤ × ℤ) (R L M : List (ℤ × ℤ)) (r : ℤ × ℤ) →
+pub ends_by_pairs : (op : ℤ → ℤ → ℤ) (f : ℤ × ℤ → ℤ × ℤ → ℤ × ℤ) (R L M : List (ℤ × ℤ)) (r : ℤ × ℤ) →
     ((p q : ℤ × ℤ) → IsIn L p → IsIn M q → IsOfEnds op L M (f p q).0 × IsOfEnds op L M (f p q).1) → IsRunsOf R (Covers (pairwise f L M)) → IsIn R r → IsOfEnds op L M r.0 × IsOfEnds op L M r.1
 ends_by_pairs op f R L M r g h i =
     let (s, j, b, e) = lower_of_some R (pairwise f L M) r h i in

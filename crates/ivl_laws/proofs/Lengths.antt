@@ -26,15 +26,15 @@ abbrev pub after_ends : List (ℤ × ℤ) → List ℤ
 after_ends [] = []
 after_ends (p ∷ L) = (p.1 +ℤ pos 1) ∷ after_ends L
 
-length-starts : (L : List (ℤ × ℤ)) → length (starts L) ≡ length L
+pub length-starts : (L : List (ℤ × ℤ)) → length (starts L) ≡ length L
 length-starts [] = refl
 length-starts (p ∷ L) = ap suc (length-starts L)
 
-length-after_ends : (L : List (ℤ × ℤ)) → length (after_ends L) ≡ length L
+pub length-after_ends : (L : List (ℤ × ℤ)) → length (after_ends L) ≡ length L
 length-after_ends [] = refl
 length-after_ends (p ∷ L) = ap suc (length-after_ends L)
 
-start_is_covered : (L : List (ℤ × ℤ)) (z : ℤ) → IsMaximal L → IsIn (starts L) z → Covers L z
+pub start_is_covered : (L : List (ℤ × ℤ)) (z : ℤ) → IsMaximal L → IsIn (starts L) z → Covers L z
 start_is_covered [] z m i = absurd i
 start_is_covered (p ∷ L) z m (inl e) = let open_pair = m.0 in inl (omega (arith, ints), omega (arith, ints))
 start_is_covered (p ∷ L) z m (inr i) = inr (start_is_covered L z m.2 i)
@@ -49,7 +49,7 @@ free_below (p ∷ L) z m (inr i) (inl b) =
     omega (arith, ints)
 free_below (p ∷ L) z m (inr i) (inr c) = free_below L z m.2 i c
 
-starts_are_distinct : (L : List (ℤ × ℤ)) → IsMaximal L → IsDistinct (starts L)
+pub starts_are_distinct : (L : List (ℤ × ℤ)) → IsMaximal L → IsDistinct (starts L)
 starts_are_distinct [] m = tt
 starts_are_distinct (p ∷ L) m =
     ((λ i. let far = covered_after p.1 L p.0 m.1 m.2 (start_is_covered L p.0 m.2 i) in let open_pair = m.0 in omega (arith, ints)), starts_are_distinct L m.2)
@@ -63,7 +63,7 @@ start_of (p ∷ L) z (inl b) n = by_lt_z p.0 z
 start_of (p ∷ L) z (inr c) n = inr (start_of L z c (λ d. n (inr d)))
 
 -- one that is free while its predecessor is covered follows an upper end
-end_of : (L : List (ℤ × ℤ)) (z : ℤ) → Covers L (z -ℤ pos 1) → ¬ (Covers L z) → IsIn (after_ends L) z
+pub end_of : (L : List (ℤ × ℤ)) (z : ℤ) → Covers L (z -ℤ pos 1) → ¬ (Covers L z) → IsIn (after_ends L) z
 end_of [] z c n = c
 end_of (p ∷ L) z (inl b) n = by_lt_z p.1 z
     (λ lt. let high = b.1 in inl (omega (arith, ints)))
@@ -115,7 +115,7 @@ length_of_complement p L R r =
 
 -- ---- the places of results over each pair of runs
 
-length-map : {X Y : Type 0} (f : X → Y) (xs : List X) → length (map f xs) ≡ length xs
+pub length-map : {X Y : Type 0} (f : X → Y) (xs : List X) → length (map f xs) ≡ length xs
 length-map f [] = refl
 length-map f (x ∷ xs) = ap suc (length-map f xs)
 

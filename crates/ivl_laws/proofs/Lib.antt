@@ -14,3 +14,8 @@ pub mod ByPlace
 pub mod Ends
 pub mod Ranges
 pub mod Adding
+pub mod Results
+pub mod ExamplesSets
+pub mod ExamplesArithmetic
+pub mod ExamplesRuns
+pub mod ExamplesCounts

@@ -64,19 +64,19 @@ next_starts p q L m = let a = m.0 in let b = m.1 in omega (arith, ints)
 
 -- ---- one more run at the end
 
-StartsAfter-push : (u : ℤ) (L : List (ℤ × ℤ)) (p : ℤ × ℤ) (M : List (ℤ × ℤ)) → StartsAfter u (L ++ p ∷ []) → StartsAfter u ((L ++ p ∷ []) ++ M)
+pub StartsAfter-push : (u : ℤ) (L : List (ℤ × ℤ)) (p : ℤ × ℤ) (M : List (ℤ × ℤ)) → StartsAfter u (L ++ p ∷ []) → StartsAfter u ((L ++ p ∷ []) ++ M)
 StartsAfter-push u [] p M s = s
 StartsAfter-push u (q ∷ L) p M s = s
 
-StartsAfter-joined : (u : ℤ) (L : List (ℤ × ℤ)) (p : ℤ × ℤ) (v : ℤ) → StartsAfter u (L ++ p ∷ []) → StartsAfter u (L ++ (p.0, v) ∷ [])
+pub StartsAfter-joined : (u : ℤ) (L : List (ℤ × ℤ)) (p : ℤ × ℤ) (v : ℤ) → StartsAfter u (L ++ p ∷ []) → StartsAfter u (L ++ (p.0, v) ∷ [])
 StartsAfter-joined u [] p v s = s
 StartsAfter-joined u (q ∷ L) p v s = s
 
-maximal_apart : (L : List (ℤ × ℤ)) (p q : ℤ × ℤ) → IsMaximal (L ++ p ∷ []) → (p.1 +ℤ pos 2) ≤ℤ q.0 → q.0 ≤ℤ q.1 → IsMaximal ((L ++ p ∷ []) ++ q ∷ [])
+pub maximal_apart : (L : List (ℤ × ℤ)) (p q : ℤ × ℤ) → IsMaximal (L ++ p ∷ []) → (p.1 +ℤ pos 2) ≤ℤ q.0 → q.0 ≤ℤ q.1 → IsMaximal ((L ++ p ∷ []) ++ q ∷ [])
 maximal_apart [] p q m h k = (m.0, h, (k, tt, tt))
 maximal_apart (r ∷ L) p q m h k = (m.0, StartsAfter-push r.1 L p (q ∷ []) m.1, maximal_apart L p q m.2 h k)
 
-maximal_joined : (L : List (ℤ × ℤ)) (p : ℤ × ℤ) (u : ℤ) → IsMaximal (L ++ p ∷ []) → p.1 ≤ℤ u → IsMaximal (L ++ (p.0, u) ∷ [])
+pub maximal_joined : (L : List (ℤ × ℤ)) (p : ℤ × ℤ) (u : ℤ) → IsMaximal (L ++ p ∷ []) → p.1 ≤ℤ u → IsMaximal (L ++ (p.0, u) ∷ [])
 maximal_joined [] p u m h = let a = m.0 in (omega (arith, ints), tt, tt)
 maximal_joined (r ∷ L) p u m h = (m.0, StartsAfter-joined r.1 L p u m.1, maximal_joined L p u m.2 h)
 
@@ -88,10 +88,14 @@ first_run q h = record {
 }
 
 -- a run that leaves a number free after the last one
-pub run_apart : (L : List (ℤ × ℤ)) (p q : ℤ × ℤ) → IsMaximal (L ++ p ∷ []) → (p.1 +ℤ pos 2) ≤ℤ q.0 → q.0 ≤ℤ q.1 → IsRunsOf ((L ++ p ∷ []) ++ q ∷ []) (Union (Covers (L ++ p ∷ [])) (IsBetween q))
+pub run_apart : (L : List (ℤ × ℤ)) (p q : ℤ × ℤ) → IsMaximal (L ++ p ∷ []) → (p.1 +ℤ pos 2) ≤ℤ q.0 → q.0 ≤ℤ q.1 →
+    IsRunsOf ((L ++ p ∷ []) ++ q ∷ []) (Union (Covers (L ++ p ∷ [])) (IsBetween q))
 run_apart L p q m h k = record {
   maximal = maximal_apart L p q m h k;
-  members = λ z. ((λ c. ⊎_elim (λ a. inl a) (⊎_elim (λ b. inr b) (λ n. absurd n)) (covers-append (L ++ p ∷ []) (q ∷ []) z c)), ⊎_elim (λ c. covers-append_left (L ++ p ∷ []) (q ∷ []) z c) (λ b. covers-append_right (L ++ p ∷ []) (q ∷ []) z (inl b)));
+  members = λ z. (
+    (λ c. ⊎_elim (λ a. inl a) (⊎_elim (λ b. inr b) (λ n. absurd n)) (covers-append (L ++ p ∷ []) (q ∷ []) z c)),
+    ⊎_elim (λ c. covers-append_left (L ++ p ∷ []) (q ∷ []) z c) (λ b. covers-append_right (L ++ p ∷ []) (q ∷ []) z (inl b)),
+  );
 }
 
 -- two runs that overlap or touch are one
@@ -105,12 +109,13 @@ joined_between p q z h k o = (there, back)
     back (inl (a, b)) = (a, omega (arith, ints, clamps))
     back (inr (a, b)) = (omega (arith, ints), omega (arith, ints, clamps))
 
-last_open : (L : List (ℤ × ℤ)) (p : ℤ × ℤ) → IsMaximal (L ++ p ∷ []) → p.0 ≤ℤ p.1
+pub last_open : (L : List (ℤ × ℤ)) (p : ℤ × ℤ) → IsMaximal (L ++ p ∷ []) → p.0 ≤ℤ p.1
 last_open [] p m = m.0
 last_open (r ∷ L) p m = last_open L p m.2
 
 -- a run that starts no lower than the last one and overlaps or touches it
-pub run_joined : (L : List (ℤ × ℤ)) (p q : ℤ × ℤ) → IsMaximal (L ++ p ∷ []) → p.0 ≤ℤ q.0 → q.0 ≤ℤ (p.1 +ℤ pos 1) → IsRunsOf (L ++ (p.0, int_max p.1 q.1) ∷ []) (Union (Covers (L ++ p ∷ [])) (IsBetween q))
+pub run_joined : (L : List (ℤ × ℤ)) (p q : ℤ × ℤ) → IsMaximal (L ++ p ∷ []) → p.0 ≤ℤ q.0 → q.0 ≤ℤ (p.1 +ℤ pos 1) →
+    IsRunsOf (L ++ (p.0, int_max p.1 q.1) ∷ []) (Union (Covers (L ++ p ∷ [])) (IsBetween q))
 run_joined L p q m h k = record {
   maximal = maximal_joined L p (int_max p.1 q.1) m (omega (arith, ints, clamps));
   members = λ z. (back z, there z);
@@ -141,20 +146,20 @@ run_within L p q m h k = record {
 
 -- ---- the same, where the last run is read by its place
 
-get_or-last : {X : Type 0} (xs : List X) (x d : X) (k : ℕ) → k + 1 ≡ length (xs ++ x ∷ []) → get_or (xs ++ x ∷ []) k d ≡ x
+pub get_or-last : {X : Type 0} (xs : List X) (x d : X) (k : ℕ) → k + 1 ≡ length (xs ++ x ∷ []) → get_or (xs ++ x ∷ []) k d ≡ x
 get_or-last [] x d zero e = refl
 get_or-last [] x d (suc k) e = absurd (omega arith)
 get_or-last (y ∷ xs) x d zero e = let n = length-append xs (x ∷ []) in absurd (omega arith)
 get_or-last (y ∷ xs) x d (suc k) e = get_or-last xs x d k (omega arith)
 
-set_at_last : {X : Type 0} (xs : List X) (x y : X) (k : ℕ) → k + 1 ≡ length (xs ++ x ∷ []) → set (xs ++ x ∷ []) k y ≡ xs ++ y ∷ []
+pub set_at_last : {X : Type 0} (xs : List X) (x y : X) (k : ℕ) → k + 1 ≡ length (xs ++ x ∷ []) → set (xs ++ x ∷ []) k y ≡ xs ++ y ∷ []
 set_at_last [] x y zero e = refl
 set_at_last [] x y (suc k) e = absurd (omega arith)
 set_at_last (w ∷ xs) x y zero e = let n = length-append xs (x ∷ []) in absurd (omega arith)
 set_at_last {X} (w ∷ xs) x y (suc k) e = ap {B = List X} (λ r. w ∷ r) (set_at_last xs x y k (omega arith))
 
 -- a list that has a last place is some list with one more element
-by_last : (P : List (ℤ × ℤ) → Type 0) (L : List (ℤ × ℤ)) (k : ℕ) → k + 1 ≡ length L → ((M : List (ℤ × ℤ)) (p : ℤ × ℤ) → k + 1 ≡ length (M ++ p ∷ []) → P (M ++ p ∷ [])) → P L
+pub by_last : (P : List (ℤ × ℤ) → Type 0) (L : List (ℤ × ℤ)) (k : ℕ) → k + 1 ≡ length L → ((M : List (ℤ × ℤ)) (p : ℤ × ℤ) → k + 1 ≡ length (M ++ p ∷ []) → P (M ++ p ∷ [])) → P L
 by_last P [] k e f = absurd (omega arith)
 by_last P (x ∷ xs) k e f =
     let (M, p, same) = last_splits x xs in
@@ -165,17 +170,21 @@ StartsBy-at_last [] k d n e s = absurd (omega arith)
 StartsBy-at_last (p ∷ L) zero d n e s = s.0
 StartsBy-at_last (p ∷ L) (suc k) d n e s = StartsBy-at_last L k d n (omega arith) s.1
 
-pub run_apart_at : (L : List (ℤ × ℤ)) (k : ℕ) (d q : ℤ × ℤ) → k + 1 ≡ length L → IsMaximal L → ((get_or L k d).1 +ℤ pos 2) ≤ℤ q.0 → q.0 ≤ℤ q.1 → IsRunsOf (L ++ q ∷ []) (Union (Covers L) (IsBetween q))
+pub run_apart_at : (L : List (ℤ × ℤ)) (k : ℕ) (d q : ℤ × ℤ) → k + 1 ≡ length L → IsMaximal L → ((get_or L k d).1 +ℤ pos 2) ≤ℤ q.0 → q.0 ≤ℤ q.1 →
+    IsRunsOf (L ++ q ∷ []) (Union (Covers L) (IsBetween q))
 run_apart_at L k d q e = by_last (λ l. IsMaximal l → ((get_or l k d).1 +ℤ pos 2) ≤ℤ q.0 → q.0 ≤ℤ q.1 → IsRunsOf (l ++ q ∷ []) (Union (Covers l) (IsBetween q))) L k e
     (λ M p f m h o. run_apart M p q m (subst (λ (r : ℤ × ℤ). (r.1 +ℤ pos 2) ≤ℤ q.0) (get_or-last M p d k f) h) o)
 
-pub run_joined_at : (L : List (ℤ × ℤ)) (k : ℕ) (d q r : ℤ × ℤ) → k + 1 ≡ length L → IsMaximal L → StartsBy q.0 L → q.0 ≤ℤ ((get_or L k d).1 +ℤ pos 1) → r.0 ≡ (get_or L k d).0 → r.1 ≡ int_max (get_or L k d).1 q.1 →
+pub run_joined_at : (L : List (ℤ × ℤ)) (k : ℕ) (d q r : ℤ × ℤ) → k + 1 ≡ length L → IsMaximal L → StartsBy q.0 L → q.0 ≤ℤ ((get_or L k d).1 +ℤ pos 1) →
+    r.0 ≡ (get_or L k d).0 → r.1 ≡ int_max (get_or L k d).1 q.1 →
     IsRunsOf (set L k r) (Union (Covers L) (IsBetween q))
 run_joined_at L k d q r e m s h low high = by_last
     (λ l. IsMaximal l → StartsBy q.0 l → q.0 ≤ℤ ((get_or l k d).1 +ℤ pos 1) → r.0 ≡ (get_or l k d).0 → r.1 ≡ int_max (get_or l k d).1 q.1 → IsRunsOf (set l k r) (Union (Covers l) (IsBetween q)))
     L k e by m s h low high
   where
-    by : (M : List (ℤ × ℤ)) (p : ℤ × ℤ) → k + 1 ≡ length (M ++ p ∷ []) → IsMaximal (M ++ p ∷ []) → StartsBy q.0 (M ++ p ∷ []) → q.0 ≤ℤ ((get_or (M ++ p ∷ []) k d).1 +ℤ pos 1) → r.0 ≡ (get_or (M ++ p ∷ []) k d).0 → r.1 ≡ int_max (get_or (M ++ p ∷ []) k d).1 q.1 → IsRunsOf (set (M ++ p ∷ []) k r) (Union (Covers (M ++ p ∷ [])) (IsBetween q))
+    by : (M : List (ℤ × ℤ)) (p : ℤ × ℤ) → k + 1 ≡ length (M ++ p ∷ []) → IsMaximal (M ++ p ∷ []) → StartsBy q.0 (M ++ p ∷ []) →
+        q.0 ≤ℤ ((get_or (M ++ p ∷ []) k d).1 +ℤ pos 1) → r.0 ≡ (get_or (M ++ p ∷ []) k d).0 → r.1 ≡ int_max (get_or (M ++ p ∷ []) k d).1 q.1 →
+        IsRunsOf (set (M ++ p ∷ []) k r) (Union (Covers (M ++ p ∷ [])) (IsBetween q))
     by M p f m s h low high =
         let last = get_or-last M p d k f in
         let lower = subst (λ (t : ℤ × ℤ). r.0 ≡ t.0) last low in

@@ -8,19 +8,19 @@ use Rattle.std.proofs.lemmas.Int.{ints, by_lt_z}
 use Rattle.std.proofs.Math.Bool.{true≢false}
 use Rattle.ivl_laws.specs.Bounds.{OrdersByNumber}
 
-int_le_is : (a b : ℤ) (r : Bool) → r ≡ is_le (int_cmp a b) → IsTrue r ↔ (a ≤ℤ b)
+pub int_le_is : (a b : ℤ) (r : Bool) → r ≡ is_le (int_cmp a b) → IsTrue r ↔ (a ≤ℤ b)
 int_le_is a b r e = grind (arith, ints)
 
-int_lt_is : (a b : ℤ) (r : Bool) → r ≡ is_lt (int_cmp a b) → IsTrue r ↔ (a <ℤ b)
+pub int_lt_is : (a b : ℤ) (r : Bool) → r ≡ is_lt (int_cmp a b) → IsTrue r ↔ (a <ℤ b)
 int_lt_is a b r e = grind (arith, ints)
 
-int_ge_is : (a b : ℤ) (r : Bool) → r ≡ is_ge (int_cmp a b) → IsTrue r ↔ (b ≤ℤ a)
+pub int_ge_is : (a b : ℤ) (r : Bool) → r ≡ is_ge (int_cmp a b) → IsTrue r ↔ (b ≤ℤ a)
 int_ge_is a b r e = grind (arith, ints)
 
-int_gt_is : (a b : ℤ) (r : Bool) → r ≡ is_gt (int_cmp a b) → IsTrue r ↔ (b <ℤ a)
+pub int_gt_is : (a b : ℤ) (r : Bool) → r ≡ is_gt (int_cmp a b) → IsTrue r ↔ (b <ℤ a)
 int_gt_is a b r e = grind (arith, ints)
 
-int_eq_is : (a b : ℤ) (r : Bool) → r ≡ int_eq a b → IsTrue r ↔ (a ≡ b)
+pub int_eq_is : (a b : ℤ) (r : Bool) → r ≡ int_eq a b → IsTrue r ↔ (a ≡ b)
 int_eq_is a b r e = grind (arith, ints)
 
 module _ {K : Type 0} {number : K → ℤ} {eq : K → K → Bool} {partial : K → K → Option Ordering} {total : K → K → Ordering}
@@ -40,13 +40,13 @@ module _ {K : Type 0} {number : K → ℤ} {eq : K → K → Bool} {partial : K 
   pub eq_number : r ≡ eq x y → IsTrue r ↔ (number x ≡ number y)
   eq_number e = int_eq_is (number x) (number y) r (e ∙ o.equal x y)
 
-int_max_cases : (a b : ℤ) (p : Bool) → p ≡ is_lt (int_cmp b a) → cond p a b ≡ int_max a b
+pub int_max_cases : (a b : ℤ) (p : Bool) → p ≡ is_lt (int_cmp b a) → cond p a b ≡ int_max a b
 int_max_cases a b p e = grind (arith, ints)
 
-int_min_cases : (a b : ℤ) (p : Bool) → p ≡ is_lt (int_cmp b a) → cond p b a ≡ int_min a b
+pub int_min_cases : (a b : ℤ) (p : Bool) → p ≡ is_lt (int_cmp b a) → cond p b a ≡ int_min a b
 int_min_cases a b p e = grind (arith, ints)
 
-number_of_cond : {K : Type 0} (number : K → ℤ) (p : Bool) (x y : K) → number (cond p x y) ≡ cond p (number x) (number y)
+pub number_of_cond : {K : Type 0} (number : K → ℤ) (p : Bool) (x y : K) → number (cond p x y) ≡ cond p (number x) (number y)
 number_of_cond number true x y = refl
 number_of_cond number false x y = refl
 
@@ -58,7 +58,7 @@ module _ {K : Type 0} {number : K → ℤ} {eq : K → K → Bool} {partial : K 
   pub min_number : r ≡ ord_min total x y → number r ≡ int_min (number x) (number y)
   min_number e = ap number e ∙ number_of_cond number _ y x ∙ int_min_cases (number x) (number y) _ (ap is_lt (o.total y x))
 
-not_le : (a b : ℤ) (r : Bool) → (IsTrue r ↔ (a ≤ℤ b)) → r ≡ false → b <ℤ a
+pub not_le : (a b : ℤ) (r : Bool) → (IsTrue r ↔ (a ≤ℤ b)) → r ≡ false → b <ℤ a
 not_le a b true h e = absurd (true≢false e)
 not_le a b false h e = by_lt_z b a (λ k. k) (λ k. absurd (true≢false (sym (h.1 k))))
 

@@ -2,13 +2,13 @@
 use Rattle.std.proofs.Common.{◌≡◌, ℕ, suc, zero, ◌+◌, ◌*◌, ◌<◌, inl, inr, ℤ, pos, ◌+ℤ◌, ◌-ℤ◌, ◌≤ℤ◌, List, [], ◌∷◌, ◌++◌, map, take, drop, length, get_or, refl, ap, sym, subst, ◌∙◌, arith, Contains, IsPermutation}
 use Rattle.std.proofs.lemmas.Int.{ints, by_lt_z}
 use Rattle.std.proofs.lemmas.List.Sorted.{Contains-permutation, IsPermutation-sym}
-use Rattle.ivl_laws.specs.Sets.{IsBetween, SameMembers}
+use Rattle.ivl_laws.specs.Sets.{IsBetween, IsSubset, SameMembers}
 use Rattle.ivl_laws.specs.Runs.{Covers, StartsAfter, IsMaximal, IsRunsOf}
 use Rattle.ivl_laws.specs.Counts.{IsIn}
 use Rattle.ivl_laws.specs.Arithmetic.{pairwise}
 use Rattle.ivl_laws.proofs.Runs.{covered_after, ≤ℤ_antisymm, lower_end, upper_end}
 use Rattle.ivl_laws.proofs.Products.{covered_by_one, one_covers, open_in}
-use Rattle.ivl_laws.proofs.Lengths.{starts, free_below}
+use Rattle.ivl_laws.proofs.Lengths.{starts, free_below, length-map}
 
 -- ---- `IsIn` and std's `Contains`
 
@@ -26,7 +26,7 @@ contains_from_in (y ∷ xs) x (inl e) = (0, omega arith, sym e)
 contains_from_in (y ∷ xs) x (inr i) = let (k, h, e) = contains_from_in xs x i in (suc k, omega arith, e)
 
 -- the same pairs in another order cover the same numbers
-covers_more : (L M : List (ℤ × ℤ)) → IsPermutation L M → (z : ℤ) → Covers L z → Covers M z
+pub covers_more : (L M : List (ℤ × ℤ)) → IsPermutation L M → (z : ℤ) → Covers L z → Covers M z
 covers_more L M h z c = let (p, i, b) = covered_by_one L z c in one_covers M p z (in_from_contains M p (Contains-permutation L M p h (contains_from_in L p i))) b
 
 pub covers-permutation : (L M : List (ℤ × ℤ)) → IsPermutation L M → SameMembers (Covers L) (Covers M)
@@ -56,7 +56,8 @@ runs_ascend (p ∷ L) (suc i) zero d m h k = absurd (omega arith)
 runs_ascend (p ∷ L) (suc i) (suc j) d m h k = runs_ascend L i j d m.2 (omega arith) (omega arith)
 
 -- a list is maximal where each run is one and leaves a number free before the next
-pub maximal_from_places : (L : List (ℤ × ℤ)) (d : ℤ × ℤ) → ((i : ℕ) → i < length L → (get_or L i d).0 ≤ℤ (get_or L i d).1) → ((i : ℕ) → i + 1 < length L → ((get_or L i d).1 +ℤ pos 2) ≤ℤ (get_or L (i + 1) d).0) → IsMaximal L
+pub maximal_from_places : (L : List (ℤ × ℤ)) (d : ℤ × ℤ) → ((i : ℕ) → i < length L → (get_or L i d).0 ≤ℤ (get_or L i d).1) →
+    ((i : ℕ) → i + 1 < length L → ((get_or L i d).1 +ℤ pos 2) ≤ℤ (get_or L (i + 1) d).0) → IsMaximal L
 maximal_from_places [] d f g = tt
 maximal_from_places (p ∷ []) d f g = (f 0 (omega arith), tt, tt)
 maximal_from_places (p ∷ q ∷ L) d f g = (
@@ -66,30 +67,46 @@ maximal_from_places (p ∷ q ∷ L) d f g = (
       (λ i h. let e : suc i + 1 ≡ suc (i + 1) = omega arith in subst (λ (k : ℕ). ((get_or (p ∷ q ∷ L) (suc i) d).1 +ℤ pos 2) ≤ℤ (get_or (p ∷ q ∷ L) k d).0) e (g (suc i) (omega arith))),
 )
 
-pub maximal_drop : (n : ℕ) (L : List (ℤ × ℤ)) → IsMaximal L → IsMaximal (drop n L)
-maximal_drop zero L m = m
-maximal_drop (suc n) [] m = tt
-maximal_drop (suc n) (p ∷ L) m = maximal_drop n L m.2
+pub IsMaximal-drop : (L : List (ℤ × ℤ)) (k : ℕ) → IsMaximal L → IsMaximal (drop k L)
+IsMaximal-drop [] zero m = tt
+IsMaximal-drop [] (suc k) m = tt
+IsMaximal-drop (p ∷ L) zero m = m
+IsMaximal-drop (p ∷ L) (suc k) m = IsMaximal-drop L k m.2
 
-StartsAfter-take : (u : ℤ) (n : ℕ) (L : List (ℤ × ℤ)) → StartsAfter u L → StartsAfter u (take n L)
-StartsAfter-take u zero L s = tt
-StartsAfter-take u (suc n) [] s = tt
-StartsAfter-take u (suc n) (p ∷ L) s = s
+pub covers-drop : (L : List (ℤ × ℤ)) (k : ℕ) → IsSubset (Covers (drop k L)) (Covers L)
+covers-drop [] zero z c = c
+covers-drop [] (suc k) z c = c
+covers-drop (p ∷ L) zero z c = c
+covers-drop (p ∷ L) (suc k) z c = inr (covers-drop L k z c)
 
-pub maximal_take : (n : ℕ) (L : List (ℤ × ℤ)) → IsMaximal L → IsMaximal (take n L)
-maximal_take zero L m = tt
-maximal_take (suc n) [] m = tt
-maximal_take (suc n) (p ∷ L) m = (m.0, StartsAfter-take p.1 n L m.1, maximal_take n L m.2)
+pub StartsAfter-take : (u : ℤ) (L : List (ℤ × ℤ)) (k : ℕ) → StartsAfter u L → StartsAfter u (take k L)
+StartsAfter-take u [] zero s = tt
+StartsAfter-take u [] (suc k) s = tt
+StartsAfter-take u (p ∷ L) zero s = tt
+StartsAfter-take u (p ∷ L) (suc k) s = s
+
+pub IsMaximal-take : (L : List (ℤ × ℤ)) (k : ℕ) → IsMaximal L → IsMaximal (take k L)
+IsMaximal-take [] zero m = tt
+IsMaximal-take [] (suc k) m = tt
+IsMaximal-take (p ∷ L) zero m = tt
+IsMaximal-take (p ∷ L) (suc k) m = (m.0, StartsAfter-take p.1 L k m.1, IsMaximal-take L k m.2)
+
+pub covers-take : (L : List (ℤ × ℤ)) (k : ℕ) → IsSubset (Covers (take k L)) (Covers L)
+covers-take [] zero z c = c
+covers-take [] (suc k) z c = c
+covers-take (p ∷ L) zero z c = absurd c
+covers-take (p ∷ L) (suc k) z (inl b) = inl b
+covers-take (p ∷ L) (suc k) z (inr c) = inr (covers-take L k z c)
 
 -- ---- the ends of runs
 
-start_in : (L : List (ℤ × ℤ)) (p : ℤ × ℤ) → IsIn L p → IsIn (starts L) p.0
+pub start_in : (L : List (ℤ × ℤ)) (p : ℤ × ℤ) → IsIn L p → IsIn (starts L) p.0
 start_in [] p i = absurd i
 start_in (q ∷ L) p (inl e) = inl (ap (λ (r : ℤ × ℤ). r.0) e)
 start_in (q ∷ L) p (inr i) = inr (start_in L p i)
 
 -- the number above an end is not covered
-free_above_end : (L : List (ℤ × ℤ)) (p : ℤ × ℤ) → IsMaximal L → IsIn L p → ¬ (Covers L (p.1 +ℤ pos 1))
+pub free_above_end : (L : List (ℤ × ℤ)) (p : ℤ × ℤ) → IsMaximal L → IsIn L p → ¬ (Covers L (p.1 +ℤ pos 1))
 free_above_end [] p m i c = absurd i
 free_above_end (q ∷ L) p m (inl e) (inl b) = let high = b.1 in let f = ap (λ (r : ℤ × ℤ). r.1) e in omega (arith, ints)
 free_above_end (q ∷ L) p m (inl e) (inr c) = let f = ap (λ (r : ℤ × ℤ). r.1) e in let far = covered_after q.1 L (p.1 +ℤ pos 1) m.1 m.2 c in omega (arith, ints)
@@ -127,27 +144,24 @@ upper_of_some R N r h i =
 
 -- ---- the places of results over each pair of runs
 
-get_or-map : {X Y : Type 0} (f : X → Y) (xs : List X) (j : ℕ) (d : X) (e : Y) → j < length xs → get_or (map f xs) j e ≡ f (get_or xs j d)
+pub get_or-map : {X Y : Type 0} (f : X → Y) (xs : List X) (j : ℕ) (d : X) (e : Y) → j < length xs → get_or (map f xs) j e ≡ f (get_or xs j d)
 get_or-map f [] j d e h = absurd (omega arith)
 get_or-map f (x ∷ xs) zero d e h = refl
 get_or-map f (x ∷ xs) (suc j) d e h = get_or-map f xs j d e (omega arith)
 
-get_or-append_left : {X : Type 0} (xs ys : List X) (j : ℕ) (d : X) → j < length xs → get_or (xs ++ ys) j d ≡ get_or xs j d
+pub get_or-append_left : {X : Type 0} (xs ys : List X) (j : ℕ) (d : X) → j < length xs → get_or (xs ++ ys) j d ≡ get_or xs j d
 get_or-append_left [] ys j d h = absurd (omega arith)
 get_or-append_left (x ∷ xs) ys zero d h = refl
 get_or-append_left (x ∷ xs) ys (suc j) d h = get_or-append_left xs ys j d (omega arith)
 
-get_or-append_right : {X : Type 0} (xs ys : List X) (k j : ℕ) (d : X) → k ≡ length xs + j → get_or (xs ++ ys) k d ≡ get_or ys j d
+pub get_or-append_right : {X : Type 0} (xs ys : List X) (k j : ℕ) (d : X) → k ≡ length xs + j → get_or (xs ++ ys) k d ≡ get_or ys j d
 get_or-append_right [] ys k j d h = ap (λ n. get_or ys n d) (omega arith)
 get_or-append_right (x ∷ xs) ys zero j d h = absurd (omega arith)
 get_or-append_right (x ∷ xs) ys (suc k) j d h = get_or-append_right xs ys k j d (omega arith)
 
-length-map : {X Y : Type 0} (f : X → Y) (xs : List X) → length (map f xs) ≡ length xs
-length-map f [] = refl
-length-map f (x ∷ xs) = ap suc (length-map f xs)
-
 -- the result of run i of L and run j of M stands at place i * length M + j
-pub get_or-pairwise : (f : ℤ × ℤ → ℤ × ℤ → ℤ × ℤ) (L M : List (ℤ × ℤ)) (i j : ℕ) (d : ℤ × ℤ) → i < length L → j < length M → get_or (pairwise f L M) (i * length M + j) d ≡ f (get_or L i d) (get_or M j d)
+pub get_or-pairwise : (f : ℤ × ℤ → ℤ × ℤ → ℤ × ℤ) (L M : List (ℤ × ℤ)) (i j : ℕ) (d : ℤ × ℤ) → i < length L → j < length M →
+    get_or (pairwise f L M) (i * length M + j) d ≡ f (get_or L i d) (get_or M j d)
 get_or-pairwise f [] M i j d h k = absurd (omega arith)
 get_or-pairwise f (p ∷ L) M zero j d h k =
     let n = length-map (f p) M in

@@ -1,5 +1,5 @@
 -- Lemmas on products of numbers that lie between two others.
-use Rattle.std.proofs.Common.{◌≡◌, suc, zero, ◌⊎◌, ◌↔◌, inl, inr, ⊎_elim, ℤ, pos, negsuc, ◌+ℤ◌, ◌-ℤ◌, ◌*ℤ◌, ◌≤ℤ◌, List, [], ◌∷◌, ◌++◌, map, cond, true, false, refl, ap, sym, subst, arith, mul-le-mul_right}
+use Rattle.std.proofs.Common.{◌≡◌, suc, zero, ◌⊎◌, ◌↔◌, inl, inr, ⊎_elim, ℤ, pos, negsuc, ◌+ℤ◌, ◌-ℤ◌, ◌*ℤ◌, ◌≤ℤ◌, List, [], ◌∷◌, map, cond, true, false, refl, ap, sym, subst, arith, mul-le-mul_right}
 use Rattle.std.proofs.lemmas.Int.{ints, clamps, by_lt_z}
 use Rattle.std.specs.Int.{int_min, int_max}
 use Rattle.std.specs.Int.RustNames.{int_lt}
@@ -7,6 +7,7 @@ use Rattle.ivl_laws.specs.Sets.{IsBetween, SameMembers, InOneRun, Products, Exac
 use Rattle.ivl_laws.specs.Runs.{Covers, IsMaximal}
 use Rattle.ivl_laws.specs.Counts.{IsIn}
 use Rattle.ivl_laws.specs.Arithmetic.{CoversBoth, pairwise, interval_sum, interval_difference, corner_hull}
+use Rattle.ivl_laws.proofs.Counts.{in-append_left, in-append_right, in-append}
 use Rattle.ivl_laws.proofs.Runs.{covered_after, ≤ℤ_trans, lower_end, upper_end}
 use borrow.Author.Differences.{le_out}
 use lib.IntN.{*ℤ_comm}
@@ -41,20 +42,20 @@ times_within a b x y h k = by_lt_z y (pos 0)
 
 -- ---- the hull of the products of two intervals
 
-by_min : (P : ℤ → Type 0) (a b : ℤ) → P a → P b → P (int_min a b)
+pub by_min : (P : ℤ → Type 0) (a b : ℤ) → P a → P b → P (int_min a b)
 by_min P a b x y = elim (int_lt b a) as (λ t. P (cond t b a)) [ true ↦ y | false ↦ x ]
 
-by_max : (P : ℤ → Type 0) (a b : ℤ) → P a → P b → P (int_max a b)
+pub by_max : (P : ℤ → Type 0) (a b : ℤ) → P a → P b → P (int_max a b)
 by_max P a b x y = elim (int_lt b a) as (λ t. P (cond t a b)) [ true ↦ x | false ↦ y ]
 
-min_of_four : (a b c d s t x : ℤ) → int_min s t ≤ℤ x → int_min a b ≤ℤ s → int_min c d ≤ℤ t → int_min (int_min a b) (int_min c d) ≤ℤ x
+pub min_of_four : (a b c d s t x : ℤ) → int_min s t ≤ℤ x → int_min a b ≤ℤ s → int_min c d ≤ℤ t → int_min (int_min a b) (int_min c d) ≤ℤ x
 min_of_four a b c d s t x h k l = omega (arith, ints, clamps)
 
-max_of_four : (a b c d s t x : ℤ) → x ≤ℤ int_max s t → s ≤ℤ int_max a b → t ≤ℤ int_max c d → x ≤ℤ int_max (int_max a b) (int_max c d)
+pub max_of_four : (a b c d s t x : ℤ) → x ≤ℤ int_max s t → s ≤ℤ int_max a b → t ≤ℤ int_max c d → x ≤ℤ int_max (int_max a b) (int_max c d)
 max_of_four a b c d s t x h k l = omega (arith, ints, clamps)
 
 -- the same for the second factor
-times_within_right : (c d y x : ℤ) → c ≤ℤ y → y ≤ℤ d → (int_min (x *ℤ c) (x *ℤ d) ≤ℤ (x *ℤ y)) × ((x *ℤ y) ≤ℤ int_max (x *ℤ c) (x *ℤ d))
+pub times_within_right : (c d y x : ℤ) → c ≤ℤ y → y ≤ℤ d → (int_min (x *ℤ c) (x *ℤ d) ≤ℤ (x *ℤ y)) × ((x *ℤ y) ≤ℤ int_max (x *ℤ c) (x *ℤ d))
 times_within_right c d y x h k = rw (*ℤ_comm x c, *ℤ_comm x d, *ℤ_comm x y) (times_within c d y x h k)
 
 -- each product lies between the least and the greatest of the four products of the ends
@@ -96,7 +97,7 @@ both_covered (p ∷ L) x y (inl c) z (inr b) = inl (≤ℤ_trans p.0 y z c.1.0 b
 both_covered (p ∷ L) x y (inr c) z b = inr (both_covered L x y c z b)
 
 -- the first number above a run is not covered
-free_above : (p : ℤ × ℤ) (L : List (ℤ × ℤ)) → IsMaximal (p ∷ L) → ¬ (Covers (p ∷ L) (p.1 +ℤ pos 1))
+pub free_above : (p : ℤ × ℤ) (L : List (ℤ × ℤ)) → IsMaximal (p ∷ L) → ¬ (Covers (p ∷ L) (p.1 +ℤ pos 1))
 free_above p L m (inl b) = let high = b.1 in omega (arith, ints)
 free_above p L m (inr c) = let far = covered_after p.1 L (p.1 +ℤ pos 1) m.1 m.2 c in omega (arith, ints)
 
@@ -161,26 +162,12 @@ open_in [] p m i = absurd i
 open_in (q ∷ L) p m (inl e) = subst (λ (r : ℤ × ℤ). r.0 ≤ℤ r.1) (sym e) m.0
 open_in (q ∷ L) p m (inr i) = open_in L p m.2 i
 
-in-append_left : {X : Type 0} (xs ys : List X) (x : X) → IsIn xs x → IsIn (xs ++ ys) x
-in-append_left [] ys x h = absurd h
-in-append_left (y ∷ xs) ys x (inl e) = inl e
-in-append_left (y ∷ xs) ys x (inr h) = inr (in-append_left xs ys x h)
-
-in-append_right : {X : Type 0} (xs ys : List X) (x : X) → IsIn ys x → IsIn (xs ++ ys) x
-in-append_right [] ys x h = h
-in-append_right (y ∷ xs) ys x h = inr (in-append_right xs ys x h)
-
-in-append : {X : Type 0} (xs ys : List X) (x : X) → IsIn (xs ++ ys) x → IsIn xs x ⊎ IsIn ys x
-in-append [] ys x h = inr h
-in-append (y ∷ xs) ys x (inl e) = inl (inl e)
-in-append (y ∷ xs) ys x (inr h) = ⊎_elim (λ a. inl (inr a)) (λ b. inr b) (in-append xs ys x h)
-
-in-map : {X Y : Type 0} (f : X → Y) (xs : List X) (x : X) → IsIn xs x → IsIn (map f xs) (f x)
+pub in-map : {X Y : Type 0} (f : X → Y) (xs : List X) (x : X) → IsIn xs x → IsIn (map f xs) (f x)
 in-map f [] x h = absurd h
 in-map f (y ∷ xs) x (inl e) = inl (ap f e)
 in-map f (y ∷ xs) x (inr h) = inr (in-map f xs x h)
 
-in_map : {X Y : Type 0} (f : X → Y) (xs : List X) (y : Y) → IsIn (map f xs) y → (x : X) × IsIn xs x × (y ≡ f x)
+pub in_map : {X Y : Type 0} (f : X → Y) (xs : List X) (y : Y) → IsIn (map f xs) y → (x : X) × IsIn xs x × (y ≡ f x)
 in_map f [] y h = absurd h
 in_map f (x ∷ xs) y (inl e) = (x, inl refl, e)
 in_map f (x ∷ xs) y (inr h) = let (w, i, e) = in_map f xs y h in (w, inr i, e)

@@ -1,5 +1,5 @@
 -- Lists of runs within a range, and the shortest lists.
-use Rattle.std.proofs.Common.{◌≡◌, ◌↔◌, inl, inr, ⊎_elim, ℕ, suc, zero, ◌+◌, ◌<◌, ℤ, ◌≤ℤ◌, List, [], ◌∷◌, length, get_or, drop, refl, arith}
+use Rattle.std.proofs.Common.{◌≡◌, ◌↔◌, inl, inr, ⊎_elim, ℕ, suc, zero, ◌+◌, ◌<◌, ℤ, ◌≤ℤ◌, List, [], ◌∷◌, length, get_or, drop, take, refl, arith}
 use Rattle.std.proofs.lemmas.Int.{ints}
 use Rattle.ivl_laws.specs.Sets.{IsBetween, IsInRange, IsSubset, HasNone}
 use Rattle.ivl_laws.specs.Runs.{Covers, IsMaximal, IsRunsOf, IsRunListIn}
@@ -7,7 +7,7 @@ use Rattle.ivl_laws.specs.Counts.{IsIn}
 use Rattle.ivl_laws.proofs.Runs.{lower_end, upper_end, covered_from, covered_after}
 use Rattle.ivl_laws.proofs.Intervals.{within_is_in_range, in_range_is_within}
 use Rattle.ivl_laws.proofs.Products.{one_covers, open_in}
-use Rattle.ivl_laws.proofs.Places.{in_at}
+use Rattle.ivl_laws.proofs.Places.{in_at, IsMaximal-drop, IsMaximal-take, covers-drop, covers-take}
 
 -- ---- the bounds of the runs
 
@@ -46,22 +46,13 @@ IsRunsOf-none S n = record { maximal = tt; members = λ z. ((λ c. absurd c), n 
 pub IsRunsOf-one : (p : ℤ × ℤ) → p.0 ≤ℤ p.1 → IsRunsOf (p ∷ []) (IsBetween p)
 IsRunsOf-one p o = record { maximal = (o, tt, tt); members = λ z. (⊎_elim (λ b. b) (λ c. absurd c), λ b. inl b) }
 
--- ---- the rest of a list from a place on
-
-pub IsMaximal-drop : (L : List (ℤ × ℤ)) (k : ℕ) → IsMaximal L → IsMaximal (drop k L)
-IsMaximal-drop [] zero m = tt
-IsMaximal-drop [] (suc k) m = tt
-IsMaximal-drop (p ∷ L) zero m = m
-IsMaximal-drop (p ∷ L) (suc k) m = IsMaximal-drop L k m.2
-
-pub covers-drop : (L : List (ℤ × ℤ)) (k : ℕ) → IsSubset (Covers (drop k L)) (Covers L)
-covers-drop [] zero z c = c
-covers-drop [] (suc k) z c = c
-covers-drop (p ∷ L) zero z c = c
-covers-drop (p ∷ L) (suc k) z c = inr (covers-drop L k z c)
+-- ---- the rest of a list from a place on, and the runs before it
 
 pub IsRunListIn-drop : (whole : ℤ × ℤ) (L : List (ℤ × ℤ)) (k : ℕ) → IsRunListIn whole L → IsRunListIn whole (drop k L)
 IsRunListIn-drop whole L k r = record { maximal = IsMaximal-drop L k r.maximal; within = λ z c. r.within z (covers-drop L k z c) }
+
+pub IsRunListIn-take : (whole : ℤ × ℤ) (L : List (ℤ × ℤ)) (k : ℕ) → IsRunListIn whole L → IsRunListIn whole (take k L)
+IsRunListIn-take whole L k r = record { maximal = IsMaximal-take L k r.maximal; within = λ z c. r.within z (covers-take L k z c) }
 
 -- ---- the least and the greatest number of a list
 

@@ -39,7 +39,7 @@ pub pair_same : (p q : ℤ × ℤ) → p.0 ≡ q.0 → p.1 ≡ q.1 → p ≡ q
 pair_same p q e f = λ i. (e i, f i)
 
 -- where one list covers what the other covers, its first run reaches at least as far
-first_ends : (p q : ℤ × ℤ) (L M : List (ℤ × ℤ)) → IsMaximal (p ∷ L) → IsMaximal (q ∷ M) → p.0 ≡ q.0 → ((z : ℤ) → Covers (q ∷ M) z → Covers (p ∷ L) z) → q.1 ≤ℤ p.1
+pub first_ends : (p q : ℤ × ℤ) (L M : List (ℤ × ℤ)) → IsMaximal (p ∷ L) → IsMaximal (q ∷ M) → p.0 ≡ q.0 → ((z : ℤ) → Covers (q ∷ M) z → Covers (p ∷ L) z) → q.1 ≤ℤ p.1
 first_ends p q L M m n e f = by_lt_z p.1 q.1 (λ lt. absurd (gap lt (f (p.1 +ℤ pos 1) (inl (inside lt))))) (λ le. le)
   where
     inside : p.1 <ℤ q.1 → IsBetween q (p.1 +ℤ pos 1)
@@ -50,7 +50,7 @@ first_ends p q L M m n e f = by_lt_z p.1 q.1 (λ lt. absurd (gap lt (f (p.1 +ℤ
     gap lt (inr c) = let far = covered_after p.1 L (p.1 +ℤ pos 1) m.1 m.2 c in omega (arith, ints)
 
 -- a number of the rest is in no first pair that ends where this one does
-of_rest : (p q : ℤ × ℤ) (L M : List (ℤ × ℤ)) → IsMaximal (p ∷ L) → p.1 ≡ q.1 → (z : ℤ) → Covers L z → Covers (q ∷ M) z → Covers M z
+pub of_rest : (p q : ℤ × ℤ) (L M : List (ℤ × ℤ)) → IsMaximal (p ∷ L) → p.1 ≡ q.1 → (z : ℤ) → Covers L z → Covers (q ∷ M) z → Covers M z
 of_rest p q L M m e z c (inl b) =
     let far = covered_after p.1 L z m.1 m.2 c in
     let high = b.1 in
@@ -73,7 +73,7 @@ runs_are_unique (p ∷ L) (q ∷ M) m n h =
 pub ≤ℤ_prop : (a b : ℤ) → IsProp (a ≤ℤ b)
 ≤ℤ_prop a b h k = λ i. record { le = T_prop (le_z a b) h.le k.le i }
 
-StartsAfter_prop : (u : ℤ) (L : List (ℤ × ℤ)) → IsProp (StartsAfter u L)
+pub StartsAfter_prop : (u : ℤ) (L : List (ℤ × ℤ)) → IsProp (StartsAfter u L)
 StartsAfter_prop u [] = Unit-prop
 StartsAfter_prop u (p ∷ L) = ≤ℤ_prop (u +ℤ pos 2) p.0
 

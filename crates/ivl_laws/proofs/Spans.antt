@@ -151,7 +151,7 @@ pub meet_comm : (p q r : ℤ × ℤ) → IsHullOf r (Union (IsBetween p) (IsBetw
 meet_comm p q r = IsHullOf-same (Union (IsBetween p) (IsBetween q)) (Union (IsBetween q) (IsBetween p)) r (union_comm (IsBetween p) (IsBetween q))
 
 -- the hull of a hull and one more interval is the span of all three
-span_of_three : (p q s pq l : ℤ × ℤ) → IsHullOf pq (Union (IsBetween p) (IsBetween q)) → IsHullOf l (Union (IsBetween pq) (IsBetween s)) →
+pub span_of_three : (p q s pq l : ℤ × ℤ) → IsHullOf pq (Union (IsBetween p) (IsBetween q)) → IsHullOf l (Union (IsBetween pq) (IsBetween s)) →
     SameMembers (IsBetween l) (Span (Union (Span (Union (IsBetween p) (IsBetween q))) (IsBetween s)))
 span_of_three p q s pq l h k =
     (hull_is_span (Union (Span (Union (IsBetween p) (IsBetween q))) (IsBetween s)) l).0
@@ -183,7 +183,8 @@ pub join-meet : (p q m : ℤ × ℤ) → IsHullOf m (Union (IsBetween p) (IsBetw
 join-meet p q m h z = ((λ (b, c). b), (λ b. (b, h.holds z (inl b))))
 
 -- the hull of an interval and a part of it is the interval
-pub meet-join : (p q j r : ℤ × ℤ) → SameMembers (IsBetween j) (Intersection (IsBetween p) (IsBetween q)) → IsHullOf r (Union (IsBetween p) (IsBetween j)) → SameMembers (IsBetween r) (IsBetween p)
+pub meet-join : (p q j r : ℤ × ℤ) → SameMembers (IsBetween j) (Intersection (IsBetween p) (IsBetween q)) → IsHullOf r (Union (IsBetween p) (IsBetween j)) →
+    SameMembers (IsBetween r) (IsBetween p)
 meet-join p q j r e h = hull_is_unique (Union (IsBetween p) (IsBetween j)) r p h record {
   holds = λ z. ⊎_elim (λ b. b) (λ b. ((e z).0 b).0);
   ends = λ o. (inl (lower_end p o), inl (upper_end p o));

@@ -21,15 +21,15 @@ abbrev pub StartsBefore : List (ℤ × ℤ) → List (ℤ × ℤ) → Type 0
 StartsBefore written [] = Unit {0}
 StartsBefore written (p ∷ rest) = StartsBy p.0 written
 
-StartsBefore-from : (written rest : List (ℤ × ℤ)) (n : ℤ) → StartsBy n written → StartsFrom n rest → StartsBefore written rest
+pub StartsBefore-from : (written rest : List (ℤ × ℤ)) (n : ℤ) → StartsBy n written → StartsFrom n rest → StartsBefore written rest
 StartsBefore-from written [] n s f = tt
 StartsBefore-from written (p ∷ rest) n s f = StartsBy-more written n p.0 s f
 
-StartsFrom-rest : (p : ℤ × ℤ) (rest : List (ℤ × ℤ)) → IsMaximal (p ∷ rest) → StartsFrom p.1 rest
+pub StartsFrom-rest : (p : ℤ × ℤ) (rest : List (ℤ × ℤ)) → IsMaximal (p ∷ rest) → StartsFrom p.1 rest
 StartsFrom-rest p [] m = tt
 StartsFrom-rest p (q ∷ rest) m = let far = m.1 in omega (arith, ints)
 
-StartsFrom-more : (m n : ℤ) (rest : List (ℤ × ℤ)) → m ≤ℤ n → StartsFrom n rest → StartsFrom m rest
+pub StartsFrom-more : (m n : ℤ) (rest : List (ℤ × ℤ)) → m ≤ℤ n → StartsFrom n rest → StartsFrom m rest
 StartsFrom-more m n [] h f = tt
 StartsFrom-more m n (p ∷ rest) h f = omega (arith, ints)
 
@@ -102,7 +102,8 @@ uniting_next written added A B A' B' p S u (inr (e, f, h)) r s =
     subst (λ (a : List (ℤ × ℤ)). IsUniting added a B' S) f
     (uniting_swaps added B' A S (uniting_takes written added p B' A S (uniting_swaps written A (p ∷ B') S (subst (λ (b : List (ℤ × ℤ)). IsUniting written A b S) e u)) h r s))
 
-pub uniting_has_room : (written : List (ℤ × ℤ)) (A B A' B' : List (ℤ × ℤ)) (p : ℤ × ℤ) (S : ℤ → Type 0) → IsUniting written A B S → TakesFirst A B A' B' p → StartsBy p.0 written × (p.0 ≤ℤ p.1)
+pub uniting_has_room : (written : List (ℤ × ℤ)) (A B A' B' : List (ℤ × ℤ)) (p : ℤ × ℤ) (S : ℤ → Type 0) → IsUniting written A B S → TakesFirst A B A' B' p →
+    StartsBy p.0 written × (p.0 ≤ℤ p.1)
 uniting_has_room written A B A' B' p S u (inl (e, f, h)) = let v = subst (λ (a : List (ℤ × ℤ)). IsUniting written a B S) e u in (v.before_first, v.first.0)
 uniting_has_room written A B A' B' p S u (inr (e, f, h)) = let v = subst (λ (b : List (ℤ × ℤ)). IsUniting written A b S) e u in (v.before_second, v.second.0)
 
@@ -154,7 +155,7 @@ meeting_swaps written A B S u = record {
     other (p ∷ A) [] s = tt
     other (p ∷ A) (q ∷ B) s = StartsBy-more written (int_max p.0 q.0) (int_max q.0 p.0) s (omega (arith, ints, clamps))
 
-later_starts : (written : List (ℤ × ℤ)) (p q : ℤ × ℤ) (A B : List (ℤ × ℤ)) (n : ℤ) → IsMaximal (p ∷ A) → StartsBy n written → n ≤ℤ int_max p.1 q.0 → StartsBeforeLater written A (q ∷ B)
+pub later_starts : (written : List (ℤ × ℤ)) (p q : ℤ × ℤ) (A B : List (ℤ × ℤ)) (n : ℤ) → IsMaximal (p ∷ A) → StartsBy n written → n ≤ℤ int_max p.1 q.0 → StartsBeforeLater written A (q ∷ B)
 later_starts written p q [] B n m s h = tt
 later_starts written p q (r ∷ A) B n m s h = let far = m.1 in StartsBy-more written n (int_max r.0 q.0) s (omega (arith, ints, clamps))
 
@@ -242,7 +243,8 @@ module _ (written : List (ℤ × ℤ)) (next high : ℤ) (p : ℤ × ℤ) (rest 
   }
 
 -- the gap above the last run is added
-pub leaving_ends : (written added : List (ℤ × ℤ)) (next high : ℤ) (S : ℤ → Type 0) → IsLeaving written next high [] S → IsRunsOf added (Union (Covers written) (IsBetween (next, high))) → IsRunsOf added S
+pub leaving_ends : (written added : List (ℤ × ℤ)) (next high : ℤ) (S : ℤ → Type 0) → IsLeaving written next high [] S →
+    IsRunsOf added (Union (Covers written) (IsBetween (next, high))) → IsRunsOf added S
 leaving_ends written added next high S u r = record {
   maximal = r.maximal;
   members = λ z. ((λ c. (u.members z).1 (⊎_elim (λ w. inl w) (λ b. inr (b, λ n. n)) ((r.members z).0 c))), (λ s. (r.members z).1 (⊎_elim (λ c. inl c) (λ b. inr b.0) ((u.members z).0 s))));
@@ -253,8 +255,12 @@ leaving_ends written added next high S u r = record {
 pub gathering_begins : IsRunsOf [] (Covers [])
 gathering_begins = record { maximal = tt; members = λ z. ((λ c. c), (λ c. c)) }
 
-pub gathering_takes : (written added done more : List (ℤ × ℤ)) (p : ℤ × ℤ) → more ≡ done ++ p ∷ [] → IsRunsOf written (Covers done) → IsRunsOf added (Union (Covers written) (IsBetween p)) → IsRunsOf added (Covers more)
+pub gathering_takes : (written added done more : List (ℤ × ℤ)) (p : ℤ × ℤ) → more ≡ done ++ p ∷ [] → IsRunsOf written (Covers done) →
+    IsRunsOf added (Union (Covers written) (IsBetween p)) → IsRunsOf added (Covers more)
 gathering_takes written added done more p e r s = subst (λ (l : List (ℤ × ℤ)). IsRunsOf added (Covers l)) (sym e) (record {
   maximal = s.maximal;
-  members = λ z. ((λ c. ⊎_elim (λ w. covers-append_left done (p ∷ []) z ((r.members z).0 w)) (λ b. covers-append_right done (p ∷ []) z (inl b)) ((s.members z).0 c)), (λ c. (s.members z).1 (⊎_elim (λ a. inl ((r.members z).1 a)) (⊎_elim (λ b. inr b) (λ n. absurd n)) (covers-append done (p ∷ []) z c))));
+  members = λ z. (
+    (λ c. ⊎_elim (λ w. covers-append_left done (p ∷ []) z ((r.members z).0 w)) (λ b. covers-append_right done (p ∷ []) z (inl b)) ((s.members z).0 c)),
+    (λ c. (s.members z).1 (⊎_elim (λ a. inl ((r.members z).1 a)) (⊎_elim (λ b. inr b) (λ n. absurd n)) (covers-append done (p ∷ []) z c))),
+  );
 })

@@ -1,9 +1,9 @@
 -- The widths of the runs of a list together, which is how many numbers a maximal list covers.
-use Rattle.std.proofs.Common.{◌≡◌, ◌↔◌, inl, inr, ℕ, zero, suc, ◌+◌, ◌≤◌, ◌<◌, ℤ, List, [], ◌∷◌, length, get_or, take, sum_by, Option, Some, IfSome, ap, sym, subst, ◌∙◌, arith, take_all}
+use Rattle.std.proofs.Common.{◌≡◌, ◌↔◌, ℕ, ◌+◌, ◌≤◌, ◌<◌, ℤ, List, [], ◌∷◌, length, get_or, take, sum_by, Option, Some, IfSome, ap, sym, subst, ◌∙◌, arith, take_all}
 use Rattle.std.proofs.lemmas.Int.{ints}
 use Rattle.std.proofs.lemmas.List.Sums.{sum_by-cons, sum_by_more, sum_by-take-le}
 use Rattle.ivl_laws.specs.Sets.{IsBetween, IsSubset}
-use Rattle.ivl_laws.specs.Runs.{Covers, StartsAfter, IsMaximal, IsRunListIn}
+use Rattle.ivl_laws.specs.Runs.{Covers, IsMaximal, IsRunListIn}
 use Rattle.ivl_laws.specs.Counts.{IsCountOf}
 use Rattle.ivl_laws.specs.Bounds.{width_of}
 use Rattle.ivl_laws.proofs.Runs.{covered_after}
@@ -34,25 +34,6 @@ pub total_width-le : (whole : ℤ × ℤ) (L : List (ℤ × ℤ)) → IsMaximal 
 total_width-le whole L m f = count_is_monotone (Covers L) (IsBetween whole) (total_width L) (width_of whole) f (IsCountOf-total_width L m) (IsCountOf-width_of whole)
 
 -- ---- the first runs of a list
-
-StartsAfter-take : (u : ℤ) (L : List (ℤ × ℤ)) (k : ℕ) → StartsAfter u L → StartsAfter u (take k L)
-StartsAfter-take u [] zero s = tt
-StartsAfter-take u [] (suc k) s = tt
-StartsAfter-take u (p ∷ L) zero s = tt
-StartsAfter-take u (p ∷ L) (suc k) s = s
-
-pub IsMaximal-take : (L : List (ℤ × ℤ)) (k : ℕ) → IsMaximal L → IsMaximal (take k L)
-IsMaximal-take [] zero m = tt
-IsMaximal-take [] (suc k) m = tt
-IsMaximal-take (p ∷ L) zero m = tt
-IsMaximal-take (p ∷ L) (suc k) m = (m.0, StartsAfter-take p.1 L k m.1, IsMaximal-take L k m.2)
-
-pub covers-take : (L : List (ℤ × ℤ)) (k : ℕ) → IsSubset (Covers (take k L)) (Covers L)
-covers-take [] zero z c = c
-covers-take [] (suc k) z c = c
-covers-take (p ∷ L) zero z c = absurd c
-covers-take (p ∷ L) (suc k) z (inl b) = inl b
-covers-take (p ∷ L) (suc k) z (inr c) = inr (covers-take L k z c)
 
 pub total_width-next : (L : List (ℤ × ℤ)) (i : ℕ) (r : ℤ × ℤ) → i < length L → r ≡ get_or L i r → total_width (take (i + 1) L) ≡ total_width (take i L) + width_of r
 total_width-next L i r h e = sum_by_more width_of L i r h ∙ ap (λ q. total_width (take i L) + width_of q) (sym e)
