@@ -2,7 +2,7 @@
 use Rattle.std.proofs.Common.{◌≡◌, ℕ, ℤ, pos, ◌+ℤ◌, ◌-ℤ◌, ◌≤ℤ◌, ◌<ℤ◌, ◌↔◌, IsTrue, Bool, not, true, false, arith, refl, ◌∙◌, sym}
 use Rattle.std.specs.Int.{int_max, int_min}
 use Rattle.std.proofs.lemmas.Int.{ints, clamps, by_lt_z}
-use Rattle.ivl_laws.specs.Sets.{Above, Below, HasNone, HasSome, IsBetween, IsCrossed, IsHullOf, IsProperSubset, IsSubset, Only, SameMembers, Intersection, Union, Without}
+use Rattle.ivl_laws.specs.Sets.{Above, Below, HasSome, IsBetween, IsCrossed, IsHullOf, IsProperSubset, IsSubset, Only, SameMembers, Intersection, Union, Without}
 use Rattle.ivl_laws.specs.Bounds.{width_of}
 use Rattle.ivl_laws.specs.Counts.{IsCountOf}
 use Rattle.ivl_laws.proofs.Intervals.{none_is_crossed, not_crossed, IsCountOf-width_of}
@@ -108,9 +108,6 @@ hull_of_pairs a b al au bl bu l u ea eb na nb el eu =
 
 -- ---- a test and what it tells
 
-pub none_of_same : (S T : ℤ → Type 0) (r : Bool) → SameMembers S T → (IsTrue r ↔ HasNone S) → IsTrue r ↔ HasNone T
-none_of_same S T r s e = ((λ t z m. e.0 t z ((s z).1 m)), (λ n. e.1 (λ z m. n z ((s z).0 m))))
-
 pub some_of_same : (S : ℤ → Type 0) (p : ℤ × ℤ) (r : Bool) → SameMembers (IsBetween p) S → (IsTrue r ↔ IsCrossed p) → IsTrue (not r) ↔ HasSome S
 some_of_same S p true s e = (λ h. let k : ◌≡◌ {A = Bool} false true = h in absurd (cc), λ h. let m = (s h.0).1 h.1 in absurd ((none_is_crossed p).1 (e.0 refl) h.0 m))
 some_of_same S p false s e = (
@@ -194,7 +191,7 @@ subset_by_lower a b r o f e = (
   λ s. e.1 (s a.0 (omega (arith, ints), o)).0,
 )
 
-pub proper_by_same : (S T : ℤ → Type 0) (r : Bool) → IsSubset S T → (IsTrue r ↔ SameMembers S T) → IsTrue (not r) ↔ IsProperSubset S T
+proper_by_same : (S T : ℤ → Type 0) (r : Bool) → IsSubset S T → (IsTrue r ↔ SameMembers S T) → IsTrue (not r) ↔ IsProperSubset S T
 proper_by_same S T true i e = (λ h. let k : ◌≡◌ {A = Bool} false true = h in absurd (cc), λ p. absurd (p.1 (e.0 refl)))
 proper_by_same S T false i e = (λ _. (i, λ s. let k = e.1 s in absurd (cc)), λ _. refl)
 
