@@ -1,5 +1,5 @@
 //! The signed integers as bounds: from the least value plus 1 to the greatest.
-ghost use Rattle.std.specs.Prelude.{◌-◌, ◌^◌, negsuc, pos, refl};
+ghost use Rattle.std.specs.Prelude.{◌≡◌, ◌-◌, ◌^◌, negsuc, pos, refl};
 ghost use Rattle.ivl_interval.specs.IntegerLaws.{signed_order, range_i8, countable_i8, range_i16, countable_i16, range_i32, countable_i32, range_i64, countable_i64};
 
 use crate::width::Width;
@@ -13,11 +13,15 @@ impl Width for i8 {
 
     ghost whole = { (negsuc (2 ^ 7 - 2), pos (2 ^ 7 - 1)) };
 
-    fn min_value() -> i8 {
+    fn min_value() -> i8
+        ensures { result ≡ negsuc (2 ^ 7 - 2) }
+    {
         i8::MIN + 1
     }
 
-    fn max_value() -> i8 {
+    fn max_value() -> i8
+        ensures { result ≡ pos (2 ^ 7 - 1) }
+    {
         i8::MAX
     }
 
@@ -76,11 +80,15 @@ impl Width for i16 {
 
     ghost whole = { (negsuc (2 ^ 15 - 2), pos (2 ^ 15 - 1)) };
 
-    fn min_value() -> i16 {
+    fn min_value() -> i16
+        ensures { result ≡ negsuc (2 ^ 15 - 2) }
+    {
         i16::MIN + 1
     }
 
-    fn max_value() -> i16 {
+    fn max_value() -> i16
+        ensures { result ≡ pos (2 ^ 15 - 1) }
+    {
         i16::MAX
     }
 
@@ -139,11 +147,15 @@ impl Width for i32 {
 
     ghost whole = { (negsuc (2 ^ 31 - 2), pos (2 ^ 31 - 1)) };
 
-    fn min_value() -> i32 {
+    fn min_value() -> i32
+        ensures { result ≡ negsuc (2 ^ 31 - 2) }
+    {
         i32::MIN + 1
     }
 
-    fn max_value() -> i32 {
+    fn max_value() -> i32
+        ensures { result ≡ pos (2 ^ 31 - 1) }
+    {
         i32::MAX
     }
 
@@ -202,11 +214,15 @@ impl Width for i64 {
 
     ghost whole = { (negsuc (2 ^ 63 - 2), pos (2 ^ 63 - 1)) };
 
-    fn min_value() -> i64 {
+    fn min_value() -> i64
+        ensures { result ≡ negsuc (2 ^ 63 - 2) }
+    {
         i64::MIN + 1
     }
 
-    fn max_value() -> i64 {
+    fn max_value() -> i64
+        ensures { result ≡ pos (2 ^ 63 - 1) }
+    {
         i64::MAX
     }
 
@@ -265,11 +281,15 @@ impl Width for isize {
 
     ghost whole = { (negsuc (2 ^ 63 - 2), pos (2 ^ 63 - 1)) };
 
-    fn min_value() -> isize {
+    fn min_value() -> isize
+        ensures { result ≡ negsuc (2 ^ 63 - 2) }
+    {
         isize::MIN + 1
     }
 
-    fn max_value() -> isize {
+    fn max_value() -> isize
+        ensures { result ≡ pos (2 ^ 63 - 1) }
+    {
         isize::MAX
     }
 

@@ -1,5 +1,5 @@
 //! The unsigned integers as bounds: from 0 to the greatest value less 1.
-ghost use Rattle.std.specs.Prelude.{◌-◌, ◌^◌, pos, refl, unsigned_abs};
+ghost use Rattle.std.specs.Prelude.{◌≡◌, ◌-◌, ◌^◌, pos, refl, unsigned_abs};
 ghost use Rattle.ivl_interval.specs.IntegerLaws.{unsigned_order, range_u8, countable_u8, range_u16, countable_u16, range_u32, countable_u32, range_u64, countable_u64};
 
 use crate::width::Width;
@@ -13,11 +13,15 @@ impl Width for u8 {
 
     ghost whole = { (pos 0, pos (2 ^ 8 - 2)) };
 
-    fn min_value() -> u8 {
+    fn min_value() -> u8
+        ensures { result ≡ 0 }
+    {
         u8::MIN
     }
 
-    fn max_value() -> u8 {
+    fn max_value() -> u8
+        ensures { result ≡ 2 ^ 8 - 2 }
+    {
         u8::MAX - 1
     }
 
@@ -73,11 +77,15 @@ impl Width for u16 {
 
     ghost whole = { (pos 0, pos (2 ^ 16 - 2)) };
 
-    fn min_value() -> u16 {
+    fn min_value() -> u16
+        ensures { result ≡ 0 }
+    {
         u16::MIN
     }
 
-    fn max_value() -> u16 {
+    fn max_value() -> u16
+        ensures { result ≡ 2 ^ 16 - 2 }
+    {
         u16::MAX - 1
     }
 
@@ -133,11 +141,15 @@ impl Width for u32 {
 
     ghost whole = { (pos 0, pos (2 ^ 32 - 2)) };
 
-    fn min_value() -> u32 {
+    fn min_value() -> u32
+        ensures { result ≡ 0 }
+    {
         u32::MIN
     }
 
-    fn max_value() -> u32 {
+    fn max_value() -> u32
+        ensures { result ≡ 2 ^ 32 - 2 }
+    {
         u32::MAX - 1
     }
 
@@ -193,11 +205,15 @@ impl Width for u64 {
 
     ghost whole = { (pos 0, pos (2 ^ 64 - 2)) };
 
-    fn min_value() -> u64 {
+    fn min_value() -> u64
+        ensures { result ≡ 0 }
+    {
         u64::MIN
     }
 
-    fn max_value() -> u64 {
+    fn max_value() -> u64
+        ensures { result ≡ 2 ^ 64 - 2 }
+    {
         u64::MAX - 1
     }
 
@@ -253,11 +269,15 @@ impl Width for usize {
 
     ghost whole = { (pos 0, pos (2 ^ 64 - 2)) };
 
-    fn min_value() -> usize {
+    fn min_value() -> usize
+        ensures { result ≡ 0 }
+    {
         usize::MIN
     }
 
-    fn max_value() -> usize {
+    fn max_value() -> usize
+        ensures { result ≡ 2 ^ 64 - 2 }
+    {
         usize::MAX - 1
     }
 
