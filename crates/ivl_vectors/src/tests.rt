@@ -1,6 +1,11 @@
 //! Tests of the interval crates through their public calls. Expected values are worked by hand.
+mod arithmetic;
+mod conversions;
+mod ends;
 mod fixtures;
+mod intervals;
 mod own_types;
 mod ranges;
 mod touching;
 mod unions;
+mod values;

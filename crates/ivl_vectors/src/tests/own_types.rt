@@ -1,10 +1,13 @@
 //! Sets and intervals over the two types of bounds of this crate.
 
-use super::fixtures::{has_runs, set_of};
+use super::fixtures::{has_runs, interval_of, pair_of, products, products_with, set_of, sums_with};
 use crate::bit::Bit;
 use crate::narrow::Narrow;
 use intervallum::interval::Interval;
-use intervallum::ops::{Cardinality, Contains, Empty, Intersection, Union, Whole};
+use intervallum::ops::{
+    Cardinality, Contains, Empty, Fits, Intersection, ShrinkLeft, ShrinkRight, StrictShrinkLeft,
+    StrictShrinkRight, Union, Whole,
+};
 use intervallum::width::Width;
 use std::test::Fail;
 
@@ -59,4 +62,33 @@ fn texts_of_intervals(rt: HostRuntime) -> Result<(), Fail> {
     let none = bits.intersection(&Interval::empty());
     assert_eq!(rt; format!(in alloc; "{none}")?.as_str(), "{}");
     Ok(())
+}
+
+#[test]
+fn narrow_cuts(rt: HostRuntime) {
+    let (whole, all) = (Interval::<Narrow>::whole(), Some((-100, 100)));
+    assert_eq!(rt; pair_of(&whole.strict_shrink_left(narrow(-5000))), all);
+    assert_eq!(rt; pair_of(&whole.strict_shrink_right(narrow(5000))), all);
+    assert_eq!(rt; pair_of(&whole.shrink_left(narrow(101))), None);
+    assert_eq!(rt; pair_of(&whole.shrink_right(narrow(-101))), None);
+    assert_eq!(rt; pair_of(&whole.strict_shrink_left(narrow(100))), None);
+}
+
+#[test]
+fn narrow_arithmetic(rt: HostRuntime) {
+    let (low, high) = (
+        interval_of(&rt, (-100, -100)),
+        interval_of::<Narrow>(&rt, (100, 100)),
+    );
+    assert_eq!(rt; sums_with(&rt, &low, narrow(150)), Some((50, 50)));
+    assert!(rt; !high.fits_add(&narrow(1)) && high.fits_add(&narrow(-200)));
+    let fifty = interval_of(&rt, (50, 50));
+    assert_eq!(rt; products_with(&rt, &fifty, narrow(2)), Some((100, 100)));
+}
+
+#[test]
+fn bit_arithmetic(rt: HostRuntime) {
+    let (one, both) = (interval_of::<Bit>(&rt, (1, 1)), Interval::whole());
+    assert!(rt; !one.fits_add(&one) && one.fits_sub(&both) && !both.fits_sub(&one));
+    assert_eq!(rt; products(&rt, &both, &both), Some((0, 1)));
 }

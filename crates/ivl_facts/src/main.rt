@@ -1,0 +1,82 @@
+//! Replays answers of the original crate: each line of a file is a call, its operands, and what the
+//! original answered. Prints each line that has another answer here, and how many agree.
+#![tactic(auto)]
+
+mod answer;
+mod calls;
+mod fact;
+
+use anyhow::{Context, Result, ensure};
+use fact::Fact;
+use intervallum::width::Width;
+use std::alloc::{AllocError, Global};
+use std::env;
+use std::fmt::Display;
+use std::fs::File;
+use std::io::{BufRead, BufReader};
+use std::str::FromStr;
+
+/// How the lines of a file went.
+#[derive(Default, Drop)]
+struct Tally {
+    agreeing: u64,
+    differing: u64,
+    of_sets: u64,
+}
+
+/// What a call answers here, as the file writes it, and what is written where there is no answer.
+fn text_of_answer<B>(alloc: Global, fact: &Fact<'_>) -> Result<String, AllocError>
+where
+    B: Width + FromStr + Display,
+    B::Err: Drop,
+{
+    match calls::answer::<B>(fact) {
+        Some(answer) => answer.to_text(alloc),
+        None => String::from_str(alloc, "no answer"),
+    }
+}
+
+/// What a call answers here, at the type that the line names.
+fn replay(alloc: Global, fact: &Fact<'_>) -> Result<String, AllocError> {
+    match fact.type_name {
+        "i8" => text_of_answer::<i8>(alloc, fact),
+        "i32" => text_of_answer::<i32>(alloc, fact),
+        "i64" => text_of_answer::<i64>(alloc, fact),
+        "u8" => text_of_answer::<u8>(alloc, fact),
+        "u64" => text_of_answer::<u64>(alloc, fact),
+        _ => String::from_str(alloc, "no such type"),
+    }
+}
+
+/// Replays one line, prints it where the answer differs, and counts it.
+fn take(rt: &(impl Print + AllocGlobal), line: &str, tally: &mut Tally) -> Result<()> {
+    if line.starts_with('#') {
+        return Ok(());
+    }
+    let fact = Fact::parse(line).context(format_args!("reading {line:?}"))?;
+    if fact.is_of_sets() {
+        tally.of_sets = tally.of_sets.saturating_add(1);
+        return Ok(());
+    }
+    let here = replay(rt.alloc(), &fact)?;
+    if here.as_str() == fact.answer {
+        tally.agreeing = tally.agreeing.saturating_add(1);
+    } else {
+        tally.differing = tally.differing.saturating_add(1);
+        println!(rt; "{line}, but here {here}")?;
+    }
+    Ok(())
+}
+
+fn main(rt: HostRuntime) -> Result<()> {
+    let path = env::args(&rt)?.nth(1).context("give the file of facts")?;
+    let file = File::open(&rt, path.as_str())?;
+    let mut tally = Tally::default();
+    for line in BufReader::new(rt.alloc(), file)?.lines(rt.alloc()) {
+        take(&rt, line?.as_str(), &mut tally)?;
+    }
+    println!(rt; "{} lines agree", tally.agreeing)?;
+    println!(rt; "{} lines on sets are not replayed yet", tally.of_sets)?;
+    ensure!(tally.differing == 0, "{} lines differ", tally.differing);
+    Ok(())
+}
