@@ -9,6 +9,7 @@ pub mod cuts;
 pub mod operands;
 pub mod optionals;
 pub mod pairs;
+pub mod text;
 pub mod values;
 
 use crate::callers;

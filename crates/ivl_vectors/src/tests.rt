@@ -4,6 +4,7 @@ mod conversions;
 mod ends;
 mod fixtures;
 mod intervals;
+mod operands;
 mod own_types;
 mod ranges;
 mod touching;
