@@ -5,3 +5,4 @@ pub mod Pushing
 pub mod Sweeping
 pub mod Images
 pub mod Fitting
+pub mod Writing

@@ -11,6 +11,7 @@ mod arithmetic;
 mod conversions;
 mod fits;
 mod runs;
+mod text;
 
 use crate::interval::Interval;
 use crate::ops::{Cardinality, Collection, Contains, IsEmpty, Range};
