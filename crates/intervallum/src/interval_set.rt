@@ -7,11 +7,16 @@ ghost use Rattle.intervallum.specs.Equality.{same_runs};
 ghost use Rattle.intervallum.specs.EqualityLaws.{same_runs_equiv, same_runs_laws};
 
 mod algebra;
+mod arithmetic;
+mod conversions;
+mod fits;
 mod runs;
+mod text;
 
 use crate::interval::Interval;
 use crate::ops::{Cardinality, Collection, Contains, IsEmpty, Range};
 use crate::width::{SizeNumber, Width};
+pub use conversions::{IntoRuns, ToIntervalSet};
 use std::alloc::{AllocError, Global};
 use std::marker::Model;
 

@@ -17,6 +17,7 @@ pub use ivl_interval::{interval, kleene, ops, optional, width};
 
 pub mod interval_set;
 pub mod steps;
+pub mod sweep;
 
 pub use interval::Interval;
 pub use interval_set::IntervalSet;

@@ -19,6 +19,13 @@ impl<B: Width> IntervalSet<B> {
         &self.intervals
     }
 
+    /// The runs by value.
+    pub(crate) fn into_runs(self) -> Vec<Interval<B>>
+        ensures { result.items ≡ self }
+    {
+        self.intervals
+    }
+
     /// The allocator that the set keeps.
     pub(crate) fn allocator(&self) -> Global {
         *self.intervals.allocator()

@@ -1,0 +1,8 @@
+use Rattle.ivl_laws.specs.Runs.{Covers}
+use Rattle.intervallum.proofs.Fitting.{told, sums_by_hulls}
+use Rattle.intervallum.proofs.interval_set.fits.IntervalSetAnyFits.fits_add.Goals as goal
+
+pub returns : goal.returns
+returns g c =
+    told c.fits_add.ensures
+    (sums_by_hulls (Covers c.args.self.now) (Covers c.args.other.now) c.span.result c.span-2.result g.B.Width.whole c.span.ensures c.span-2.ensures)

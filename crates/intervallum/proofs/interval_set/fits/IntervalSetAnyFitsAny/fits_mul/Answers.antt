@@ -1,0 +1,9 @@
+use Rattle.ivl_laws.specs.Sets.{Only}
+use Rattle.ivl_laws.specs.Runs.{Covers}
+use Rattle.intervallum.proofs.Fitting.{told, products_by_hull}
+use Rattle.intervallum.proofs.interval_set.fits.IntervalSetAnyFitsAny.fits_mul.Goals as goal
+
+pub returns : goal.returns
+returns g c =
+    told c.fits_mul.ensures
+    (products_by_hull (Covers c.args.self.now) (Only (g.B.Width.value c.args.other.now)) c.span.result g.B.Width.whole c.span.ensures)

@@ -1,0 +1,368 @@
+//! Sums, differences and products of sets, and of a set with a value.
+//!
+//! Each operand is owned or borrowed. The condition of each call is that its results are in the range:
+//! `fits_add`, `fits_sub` and `fits_mul` test it, and with an empty operand it always holds. Each call
+//! answers a new set, in memory that it asks for; the operands stay as they are, and an owned one is
+//! let go.
+//!
+//! Sums and differences are those of a member of each. A product set holds, for each pair of runs, all
+//! numbers from the least to the greatest product of the two: `{[1..2]} * {[10..10]}` is `{[10..20]}`.
+//!
+//! The original can't be asked beforehand whether a result fits, and has no error for want of memory.
+ghost use Rattle.std.specs.Prelude.{IfOk};
+ghost use Rattle.ivl_laws.specs.Sets.{Differences, ExactProducts, IsBetween, IsSubset, Only, Products, Sums};
+ghost use Rattle.ivl_laws.specs.Runs.{Covers, IsRunsOf};
+
+use super::IntervalSet;
+use crate::sweep::{Op, combine, combine_with};
+use crate::width::Width;
+use std::alloc::AllocError;
+use std::ops::{Add, Mul, Sub};
+
+impl<B: Width> Add<IntervalSet<B>> for IntervalSet<B> {
+    type Output = Result<IntervalSet<B>, AllocError>;
+
+    ghost can_add = { λ a b. IsSubset (Sums (Covers a) (Covers b)) (IsBetween B.whole) };
+
+    ghost add_gives = { λ a b r. IfOk r (λ L. IsRunsOf L (Sums (Covers a) (Covers b))) };
+
+    /// The sums of a member of each. Condition: `fits_add`.
+    ///
+    /// `O(n m log (n m))` for `n` and `m` runs, in memory for twice `n * m` runs.
+    fn add(self, rhs: IntervalSet<B>) -> Result<IntervalSet<B>, AllocError> {
+        combine(&self, &rhs, Op::Sum)
+    }
+}
+
+impl<B: Width> Add<&IntervalSet<B>> for IntervalSet<B> {
+    type Output = Result<IntervalSet<B>, AllocError>;
+
+    ghost can_add = { λ a b. IsSubset (Sums (Covers a) (Covers b.now)) (IsBetween B.whole) };
+
+    ghost add_gives = { λ a b r. IfOk r (λ L. IsRunsOf L (Sums (Covers a) (Covers b.now))) };
+
+    /// The sums of a member of each. Condition: `fits_add`.
+    ///
+    /// `O(n m log (n m))` for `n` and `m` runs, in memory for twice `n * m` runs.
+    fn add(self, rhs: &IntervalSet<B>) -> Result<IntervalSet<B>, AllocError> {
+        combine(&self, rhs, Op::Sum)
+    }
+}
+
+impl<B: Width> Add<IntervalSet<B>> for &IntervalSet<B> {
+    type Output = Result<IntervalSet<B>, AllocError>;
+
+    ghost can_add = { λ a b. IsSubset (Sums (Covers a.now) (Covers b)) (IsBetween B.whole) };
+
+    ghost add_gives = { λ a b r. IfOk r (λ L. IsRunsOf L (Sums (Covers a.now) (Covers b))) };
+
+    /// The sums of a member of each. Condition: `fits_add`.
+    ///
+    /// `O(n m log (n m))` for `n` and `m` runs, in memory for twice `n * m` runs.
+    fn add(self, rhs: IntervalSet<B>) -> Result<IntervalSet<B>, AllocError> {
+        combine(self, &rhs, Op::Sum)
+    }
+}
+
+impl<B: Width> Add<&IntervalSet<B>> for &IntervalSet<B> {
+    type Output = Result<IntervalSet<B>, AllocError>;
+
+    ghost can_add = { λ a b. IsSubset (Sums (Covers a.now) (Covers b.now)) (IsBetween B.whole) };
+
+    ghost add_gives = { λ a b r. IfOk r (λ L. IsRunsOf L (Sums (Covers a.now) (Covers b.now))) };
+
+    /// The sums of a member of each. Condition: `fits_add`.
+    ///
+    /// `O(n m log (n m))` for `n` and `m` runs, in memory for twice `n * m` runs.
+    fn add(self, rhs: &IntervalSet<B>) -> Result<IntervalSet<B>, AllocError> {
+        combine(self, rhs, Op::Sum)
+    }
+}
+
+impl<B: Width> Add<B> for IntervalSet<B> {
+    type Output = Result<IntervalSet<B>, AllocError>;
+
+    ghost can_add = { λ a x. IsSubset (Sums (Covers a) (Only (B.value x))) (IsBetween B.whole) };
+
+    ghost add_gives = { λ a x r. IfOk r (λ L. IsRunsOf L (Sums (Covers a) (Only (B.value x)))) };
+
+    /// The sums of a member and the value. Condition: `fits_add`, where the value
+    /// itself may lie outside the range. `O(n)` for `n` runs, in memory for as many.
+    fn add(self, rhs: B) -> Result<IntervalSet<B>, AllocError> {
+        combine_with(&self, rhs, Op::Sum)
+    }
+}
+
+impl<B: Width> Add<&B> for IntervalSet<B> {
+    type Output = Result<IntervalSet<B>, AllocError>;
+
+    ghost can_add = { λ a x. IsSubset (Sums (Covers a) (Only (B.value x.now))) (IsBetween B.whole) };
+
+    ghost add_gives = { λ a x r. IfOk r (λ L. IsRunsOf L (Sums (Covers a) (Only (B.value x.now)))) };
+
+    /// The sums of a member and the value. Condition: `fits_add`, where the value
+    /// itself may lie outside the range. `O(n)` for `n` runs, in memory for as many.
+    fn add(self, rhs: &B) -> Result<IntervalSet<B>, AllocError> {
+        combine_with(&self, *rhs, Op::Sum)
+    }
+}
+
+impl<B: Width> Add<B> for &IntervalSet<B> {
+    type Output = Result<IntervalSet<B>, AllocError>;
+
+    ghost can_add = { λ a x. IsSubset (Sums (Covers a.now) (Only (B.value x))) (IsBetween B.whole) };
+
+    ghost add_gives = { λ a x r. IfOk r (λ L. IsRunsOf L (Sums (Covers a.now) (Only (B.value x)))) };
+
+    /// The sums of a member and the value. Condition: `fits_add`, where the value
+    /// itself may lie outside the range. `O(n)` for `n` runs, in memory for as many.
+    fn add(self, rhs: B) -> Result<IntervalSet<B>, AllocError> {
+        combine_with(self, rhs, Op::Sum)
+    }
+}
+
+impl<B: Width> Add<&B> for &IntervalSet<B> {
+    type Output = Result<IntervalSet<B>, AllocError>;
+
+    ghost can_add = { λ a x. IsSubset (Sums (Covers a.now) (Only (B.value x.now))) (IsBetween B.whole) };
+
+    ghost add_gives = { λ a x r. IfOk r (λ L. IsRunsOf L (Sums (Covers a.now) (Only (B.value x.now)))) };
+
+    /// The sums of a member and the value. Condition: `fits_add`, where the value
+    /// itself may lie outside the range. `O(n)` for `n` runs, in memory for as many.
+    fn add(self, rhs: &B) -> Result<IntervalSet<B>, AllocError> {
+        combine_with(self, *rhs, Op::Sum)
+    }
+}
+
+impl<B: Width> Sub<IntervalSet<B>> for IntervalSet<B> {
+    type Output = Result<IntervalSet<B>, AllocError>;
+
+    ghost can_sub = { λ a b. IsSubset (Differences (Covers a) (Covers b)) (IsBetween B.whole) };
+
+    ghost sub_gives = { λ a b r. IfOk r (λ L. IsRunsOf L (Differences (Covers a) (Covers b))) };
+
+    /// The differences of a member of each. Condition: `fits_sub`.
+    ///
+    /// `O(n m log (n m))` for `n` and `m` runs, in memory for twice `n * m` runs.
+    fn sub(self, rhs: IntervalSet<B>) -> Result<IntervalSet<B>, AllocError> {
+        combine(&self, &rhs, Op::Difference)
+    }
+}
+
+impl<B: Width> Sub<&IntervalSet<B>> for IntervalSet<B> {
+    type Output = Result<IntervalSet<B>, AllocError>;
+
+    ghost can_sub = { λ a b. IsSubset (Differences (Covers a) (Covers b.now)) (IsBetween B.whole) };
+
+    ghost sub_gives = { λ a b r. IfOk r (λ L. IsRunsOf L (Differences (Covers a) (Covers b.now))) };
+
+    /// The differences of a member of each. Condition: `fits_sub`.
+    ///
+    /// `O(n m log (n m))` for `n` and `m` runs, in memory for twice `n * m` runs.
+    fn sub(self, rhs: &IntervalSet<B>) -> Result<IntervalSet<B>, AllocError> {
+        combine(&self, rhs, Op::Difference)
+    }
+}
+
+impl<B: Width> Sub<IntervalSet<B>> for &IntervalSet<B> {
+    type Output = Result<IntervalSet<B>, AllocError>;
+
+    ghost can_sub = { λ a b. IsSubset (Differences (Covers a.now) (Covers b)) (IsBetween B.whole) };
+
+    ghost sub_gives = { λ a b r. IfOk r (λ L. IsRunsOf L (Differences (Covers a.now) (Covers b))) };
+
+    /// The differences of a member of each. Condition: `fits_sub`.
+    ///
+    /// `O(n m log (n m))` for `n` and `m` runs, in memory for twice `n * m` runs.
+    fn sub(self, rhs: IntervalSet<B>) -> Result<IntervalSet<B>, AllocError> {
+        combine(self, &rhs, Op::Difference)
+    }
+}
+
+impl<B: Width> Sub<&IntervalSet<B>> for &IntervalSet<B> {
+    type Output = Result<IntervalSet<B>, AllocError>;
+
+    ghost can_sub = { λ a b. IsSubset (Differences (Covers a.now) (Covers b.now)) (IsBetween B.whole) };
+
+    ghost sub_gives = { λ a b r. IfOk r (λ L. IsRunsOf L (Differences (Covers a.now) (Covers b.now))) };
+
+    /// The differences of a member of each. Condition: `fits_sub`.
+    ///
+    /// `O(n m log (n m))` for `n` and `m` runs, in memory for twice `n * m` runs.
+    fn sub(self, rhs: &IntervalSet<B>) -> Result<IntervalSet<B>, AllocError> {
+        combine(self, rhs, Op::Difference)
+    }
+}
+
+impl<B: Width> Sub<B> for IntervalSet<B> {
+    type Output = Result<IntervalSet<B>, AllocError>;
+
+    ghost can_sub = { λ a x. IsSubset (Differences (Covers a) (Only (B.value x))) (IsBetween B.whole) };
+
+    ghost sub_gives = { λ a x r. IfOk r (λ L. IsRunsOf L (Differences (Covers a) (Only (B.value x)))) };
+
+    /// The differences of a member and the value. Condition: `fits_sub`, where the value
+    /// itself may lie outside the range. `O(n)` for `n` runs, in memory for as many.
+    fn sub(self, rhs: B) -> Result<IntervalSet<B>, AllocError> {
+        combine_with(&self, rhs, Op::Difference)
+    }
+}
+
+impl<B: Width> Sub<&B> for IntervalSet<B> {
+    type Output = Result<IntervalSet<B>, AllocError>;
+
+    ghost can_sub = { λ a x. IsSubset (Differences (Covers a) (Only (B.value x.now))) (IsBetween B.whole) };
+
+    ghost sub_gives = { λ a x r. IfOk r (λ L. IsRunsOf L (Differences (Covers a) (Only (B.value x.now)))) };
+
+    /// The differences of a member and the value. Condition: `fits_sub`, where the value
+    /// itself may lie outside the range. `O(n)` for `n` runs, in memory for as many.
+    fn sub(self, rhs: &B) -> Result<IntervalSet<B>, AllocError> {
+        combine_with(&self, *rhs, Op::Difference)
+    }
+}
+
+impl<B: Width> Sub<B> for &IntervalSet<B> {
+    type Output = Result<IntervalSet<B>, AllocError>;
+
+    ghost can_sub = { λ a x. IsSubset (Differences (Covers a.now) (Only (B.value x))) (IsBetween B.whole) };
+
+    ghost sub_gives = { λ a x r. IfOk r (λ L. IsRunsOf L (Differences (Covers a.now) (Only (B.value x)))) };
+
+    /// The differences of a member and the value. Condition: `fits_sub`, where the value
+    /// itself may lie outside the range. `O(n)` for `n` runs, in memory for as many.
+    fn sub(self, rhs: B) -> Result<IntervalSet<B>, AllocError> {
+        combine_with(self, rhs, Op::Difference)
+    }
+}
+
+impl<B: Width> Sub<&B> for &IntervalSet<B> {
+    type Output = Result<IntervalSet<B>, AllocError>;
+
+    ghost can_sub = { λ a x. IsSubset (Differences (Covers a.now) (Only (B.value x.now))) (IsBetween B.whole) };
+
+    ghost sub_gives = { λ a x r. IfOk r (λ L. IsRunsOf L (Differences (Covers a.now) (Only (B.value x.now)))) };
+
+    /// The differences of a member and the value. Condition: `fits_sub`, where the value
+    /// itself may lie outside the range. `O(n)` for `n` runs, in memory for as many.
+    fn sub(self, rhs: &B) -> Result<IntervalSet<B>, AllocError> {
+        combine_with(self, *rhs, Op::Difference)
+    }
+}
+
+impl<B: Width> Mul<IntervalSet<B>> for IntervalSet<B> {
+    type Output = Result<IntervalSet<B>, AllocError>;
+
+    ghost can_mul = { λ a b. IsSubset (ExactProducts (Covers a) (Covers b)) (IsBetween B.whole) };
+
+    ghost mul_gives = { λ a b r. IfOk r (λ L. IsRunsOf L (Products (Covers a) (Covers b))) };
+
+    /// For each pair of runs, the numbers from the least to the greatest product. Condition: `fits_mul`.
+    ///
+    /// `O(n m log (n m))` for `n` and `m` runs, in memory for twice `n * m` runs.
+    fn mul(self, rhs: IntervalSet<B>) -> Result<IntervalSet<B>, AllocError> {
+        combine(&self, &rhs, Op::Product)
+    }
+}
+
+impl<B: Width> Mul<&IntervalSet<B>> for IntervalSet<B> {
+    type Output = Result<IntervalSet<B>, AllocError>;
+
+    ghost can_mul = { λ a b. IsSubset (ExactProducts (Covers a) (Covers b.now)) (IsBetween B.whole) };
+
+    ghost mul_gives = { λ a b r. IfOk r (λ L. IsRunsOf L (Products (Covers a) (Covers b.now))) };
+
+    /// For each pair of runs, the numbers from the least to the greatest product. Condition: `fits_mul`.
+    ///
+    /// `O(n m log (n m))` for `n` and `m` runs, in memory for twice `n * m` runs.
+    fn mul(self, rhs: &IntervalSet<B>) -> Result<IntervalSet<B>, AllocError> {
+        combine(&self, rhs, Op::Product)
+    }
+}
+
+impl<B: Width> Mul<IntervalSet<B>> for &IntervalSet<B> {
+    type Output = Result<IntervalSet<B>, AllocError>;
+
+    ghost can_mul = { λ a b. IsSubset (ExactProducts (Covers a.now) (Covers b)) (IsBetween B.whole) };
+
+    ghost mul_gives = { λ a b r. IfOk r (λ L. IsRunsOf L (Products (Covers a.now) (Covers b))) };
+
+    /// For each pair of runs, the numbers from the least to the greatest product. Condition: `fits_mul`.
+    ///
+    /// `O(n m log (n m))` for `n` and `m` runs, in memory for twice `n * m` runs.
+    fn mul(self, rhs: IntervalSet<B>) -> Result<IntervalSet<B>, AllocError> {
+        combine(self, &rhs, Op::Product)
+    }
+}
+
+impl<B: Width> Mul<&IntervalSet<B>> for &IntervalSet<B> {
+    type Output = Result<IntervalSet<B>, AllocError>;
+
+    ghost can_mul = { λ a b. IsSubset (ExactProducts (Covers a.now) (Covers b.now)) (IsBetween B.whole) };
+
+    ghost mul_gives = { λ a b r. IfOk r (λ L. IsRunsOf L (Products (Covers a.now) (Covers b.now))) };
+
+    /// For each pair of runs, the numbers from the least to the greatest product. Condition: `fits_mul`.
+    ///
+    /// `O(n m log (n m))` for `n` and `m` runs, in memory for twice `n * m` runs.
+    fn mul(self, rhs: &IntervalSet<B>) -> Result<IntervalSet<B>, AllocError> {
+        combine(self, rhs, Op::Product)
+    }
+}
+
+impl<B: Width> Mul<B> for IntervalSet<B> {
+    type Output = Result<IntervalSet<B>, AllocError>;
+
+    ghost can_mul = { λ a x. IsSubset (ExactProducts (Covers a) (Only (B.value x))) (IsBetween B.whole) };
+
+    ghost mul_gives = { λ a x r. IfOk r (λ L. IsRunsOf L (Products (Covers a) (Only (B.value x)))) };
+
+    /// For each run, the numbers from the least to the greatest product with the value. Condition: `fits_mul`, where the value
+    /// itself may lie outside the range. `O(n)` for `n` runs, in memory for as many.
+    fn mul(self, rhs: B) -> Result<IntervalSet<B>, AllocError> {
+        combine_with(&self, rhs, Op::Product)
+    }
+}
+
+impl<B: Width> Mul<&B> for IntervalSet<B> {
+    type Output = Result<IntervalSet<B>, AllocError>;
+
+    ghost can_mul = { λ a x. IsSubset (ExactProducts (Covers a) (Only (B.value x.now))) (IsBetween B.whole) };
+
+    ghost mul_gives = { λ a x r. IfOk r (λ L. IsRunsOf L (Products (Covers a) (Only (B.value x.now)))) };
+
+    /// For each run, the numbers from the least to the greatest product with the value. Condition: `fits_mul`, where the value
+    /// itself may lie outside the range. `O(n)` for `n` runs, in memory for as many.
+    fn mul(self, rhs: &B) -> Result<IntervalSet<B>, AllocError> {
+        combine_with(&self, *rhs, Op::Product)
+    }
+}
+
+impl<B: Width> Mul<B> for &IntervalSet<B> {
+    type Output = Result<IntervalSet<B>, AllocError>;
+
+    ghost can_mul = { λ a x. IsSubset (ExactProducts (Covers a.now) (Only (B.value x))) (IsBetween B.whole) };
+
+    ghost mul_gives = { λ a x r. IfOk r (λ L. IsRunsOf L (Products (Covers a.now) (Only (B.value x)))) };
+
+    /// For each run, the numbers from the least to the greatest product with the value. Condition: `fits_mul`, where the value
+    /// itself may lie outside the range. `O(n)` for `n` runs, in memory for as many.
+    fn mul(self, rhs: B) -> Result<IntervalSet<B>, AllocError> {
+        combine_with(self, rhs, Op::Product)
+    }
+}
+
+impl<B: Width> Mul<&B> for &IntervalSet<B> {
+    type Output = Result<IntervalSet<B>, AllocError>;
+
+    ghost can_mul = { λ a x. IsSubset (ExactProducts (Covers a.now) (Only (B.value x.now))) (IsBetween B.whole) };
+
+    ghost mul_gives = { λ a x r. IfOk r (λ L. IsRunsOf L (Products (Covers a.now) (Only (B.value x.now)))) };
+
+    /// For each run, the numbers from the least to the greatest product with the value. Condition: `fits_mul`, where the value
+    /// itself may lie outside the range. `O(n)` for `n` runs, in memory for as many.
+    fn mul(self, rhs: &B) -> Result<IntervalSet<B>, AllocError> {
+        combine_with(self, *rhs, Op::Product)
+    }
+}

@@ -1,0 +1,204 @@
+//! Sets taken apart into their runs, extended by intervals, and made of pairs.
+ghost use Rattle.std.specs.Prelude.{◌≡◌, ℤ, List, [], ◌∷◌, All, map, IfOk, OnOk, OnErr};
+ghost use Rattle.std.specs.Iterator.{Drains, IsFinite, YieldsFirst, YieldsLast, item_count};
+ghost use Rattle.ivl_laws.specs.Sets.{IsInRange, Union};
+ghost use Rattle.ivl_laws.specs.Runs.{Covers, IsRunsOf};
+
+use super::IntervalSet;
+use crate::interval::Interval;
+use crate::ops::{Range, Union};
+use crate::sweep::coalesce;
+use crate::width::Width;
+use std::alloc::{AllocError, Global};
+use std::marker::Model;
+use std::vec;
+
+/// The runs of a set by value, ascending, from both ends. A contract sees the runs that are left.
+#[derive(Drop)]
+pub struct IntoRuns<B: Width> {
+    runs: vec::IntoIter<Interval<B>>,
+}
+
+impl<B: Width> Model for IntoRuns<B> {
+    ghost use Rattle.std.specs.Prelude.{ℤ, List};
+    ghost use Rattle.std.specs.Vec.Iter.{into_iter_items};
+
+    ghost Value = { List (ℤ × ℤ) };
+
+    ghost view = { λ it. into_iter_items it.runs };
+}
+
+impl<B: Width> IntoRuns<B> {
+    pub(super) fn new(intervals: Vec<Interval<B>>) -> Self
+        ensures { result ≡ intervals.items }
+    {
+        IntoRuns {
+            runs: intervals.into_iter(),
+        }
+    }
+}
+
+impl<B: Width> Iterator for IntoRuns<B> {
+    type Item = Interval<B>;
+
+    ghost next_gives = { YieldsFirst (λ rest. rest) };
+
+    ghost remaining = { item_count (λ rest. rest) };
+
+    /// The first of the runs that are left.
+    fn next(&mut self) -> Option<Interval<B>> {
+        self.runs.next()
+    }
+}
+
+impl<B: Width> DoubleEndedIterator for IntoRuns<B> {
+    ghost next_back_gives = { YieldsLast (λ rest. rest) };
+
+    /// The last of the runs that are left.
+    fn next_back(&mut self) -> Option<Interval<B>> {
+        self.runs.next_back()
+    }
+}
+
+impl<B: Width> IntoIterator for IntervalSet<B> {
+    type Item = Interval<B>;
+
+    type IntoIter = IntoRuns<B>;
+
+    ghost into_iter_gives = { λ s it. it ≡ s };
+
+    /// The runs, ascending, from both ends. Takes no memory.
+    fn into_iter(self) -> IntoRuns<B> {
+        IntoRuns::new(self.into_runs())
+    }
+}
+
+impl<'a, B: Width> IntoIterator for &'a IntervalSet<B> {
+    type Item = &'a Interval<B>;
+
+    type IntoIter = std::slice::Iter<'a, Interval<B>>;
+
+    ghost into_iter_gives = { λ s it. it.rest.now ≡ s.now };
+
+    /// The runs, ascending, from both ends.
+    fn into_iter(self) -> std::slice::Iter<'a, Interval<B>> {
+        self.iter()
+    }
+}
+
+impl<B: Width> IntervalSet<B> {
+    /// Adds the members of every interval that an iterator gives, in any order; an interval with no
+    /// member adds nothing.
+    ///
+    /// All items are gathered first and the set is changed last: after an error, which is want of
+    /// memory, it is as it was. `O(k log k + n)` for `k` items and `n` runs, in memory for `2 k + n` runs
+    /// besides what the gathering of the items leaves over.
+    ///
+    /// In the original the items have to come in ascending order.
+    pub fn extend<I: Iterator<Item = Interval<B>> + Drop>(
+        &mut self,
+        iterator: I,
+    ) -> Result<(), AllocError>
+        requires can { I.can_next iterator }
+        requires ends { IsFinite (I.remaining iterator) }
+        ensures ok { OnOk result ((items : List (ℤ × ℤ)) × Drains I.next_gives iterator items × IsRunsOf self.new (Union (Covers self.old) (Covers items))) }
+        ensures err { OnErr result (self.new ≡ self.old) }
+    {
+        let added = gathered(self.allocator(), iterator)?;
+        let all = self.union(&added)?;
+        *self = all;
+        Ok(())
+    }
+}
+
+/// The set of the members of all items.
+fn gathered<B: Width, I: Iterator<Item = Interval<B>> + Drop>(
+    alloc: Global,
+    iterator: I,
+) -> Result<IntervalSet<B>, AllocError>
+    requires can { I.can_next iterator }
+    requires ends { IsFinite (I.remaining iterator) }
+    ensures { IfOk result (λ L. (items : List (ℤ × ℤ)) × Drains I.next_gives iterator items × IsRunsOf L (Covers items)) }
+{
+    let mut list = Vec::new(alloc);
+    for run in iterator {
+        list.push(run)?;
+    }
+    coalesce(alloc, list)
+}
+
+/// A value that is read as a set.
+pub trait ToIntervalSet<B: Width> {
+    /// The bounds of each pair are those of an interval.
+    ghost can_convert: { Self → Type 0 };
+
+    /// The pairs of numbers that the value stands for.
+    ghost pairs: { Self → List (ℤ × ℤ) };
+
+    /// The set of the members of every pair. Condition: no bound is outside the range, which
+    /// `Interval::in_range` tests. Pairs may stand in any order and overlap; a pair whose bounds cross
+    /// adds nothing.
+    ///
+    /// `O(n log n)` for `n` pairs, in memory for twice as many runs. The original refuses a crossed pair
+    /// and pairs that are not ascending.
+    fn to_interval_set(self, alloc: Global) -> Result<IntervalSet<B>, AllocError>
+        requires { can_convert self }
+        ensures { IfOk result (λ L. IsRunsOf L (Covers (pairs self))) };
+}
+
+impl<B: Width> ToIntervalSet<B> for (B, B) {
+    ghost can_convert = { λ p. IsInRange B.whole (B.value p.0, B.value p.1) };
+
+    ghost pairs = { λ p. (B.value p.0, B.value p.1) ∷ [] };
+
+    /// The set of the numbers from the first to the second.
+    fn to_interval_set(self, alloc: Global) -> Result<IntervalSet<B>, AllocError> {
+        let mut list = Vec::with_capacity(alloc, 1)?;
+        list.push(Interval::new(self.0, self.1))?;
+        coalesce(alloc, list)
+    }
+}
+
+impl<B: Width> ToIntervalSet<B> for &[(B, B)] {
+    ghost can_convert = { λ s. All (λ p. IsInRange B.whole (B.value p.0, B.value p.1)) s.now };
+
+    ghost pairs = { λ s. map (λ p. (B.value p.0, B.value p.1)) s.now };
+
+    /// The set of the members of every pair.
+    fn to_interval_set(self, alloc: Global) -> Result<IntervalSet<B>, AllocError> {
+        of_pairs(alloc, self)
+    }
+}
+
+impl<B: Width> ToIntervalSet<B> for Vec<(B, B)> {
+    ghost can_convert = { λ v. All (λ p. IsInRange B.whole (B.value p.0, B.value p.1)) v.items };
+
+    ghost pairs = { λ v. map (λ p. (B.value p.0, B.value p.1)) v.items };
+
+    /// The set of the members of every pair.
+    fn to_interval_set(self, alloc: Global) -> Result<IntervalSet<B>, AllocError> {
+        of_pairs(alloc, &self)
+    }
+}
+
+impl<B: Width, const N: usize> ToIntervalSet<B> for [(B, B); N] {
+    ghost can_convert = { λ a. All (λ p. IsInRange B.whole (B.value p.0, B.value p.1)) a };
+
+    ghost pairs = { λ a. map (λ p. (B.value p.0, B.value p.1)) a };
+
+    /// The set of the members of every pair.
+    fn to_interval_set(self, alloc: Global) -> Result<IntervalSet<B>, AllocError> {
+        of_pairs(alloc, &self)
+    }
+}
+
+fn of_pairs<B: Width>(alloc: Global, pairs: &[(B, B)]) -> Result<IntervalSet<B>, AllocError>
+    requires { All (λ p. IsInRange B.whole (B.value p.0, B.value p.1)) pairs.now }
+    ensures { IfOk result (λ L. IsRunsOf L (Covers (map (λ p. (B.value p.0, B.value p.1)) pairs.now))) }
+{
+    let mut list = Vec::with_capacity(alloc, pairs.len())?;
+    for (lower, upper) in pairs {
+        list.push(Interval::new(*lower, *upper))?;
+    }
+    coalesce(alloc, list)
+}

@@ -1,0 +1,69 @@
+//! Whether the results of arithmetic of sets are in the range.
+//!
+//! Each call looks at the ends of the sets alone: the least and the greatest result are results of
+//! ends. No call takes memory.
+ghost use Rattle.ivl_laws.specs.Sets.{IsHullOf, Only};
+ghost use Rattle.ivl_laws.specs.Runs.{Covers};
+
+use super::IntervalSet;
+use crate::interval::Interval;
+use crate::ops::{Bounded, Empty, Fits, Range};
+use crate::width::Width;
+
+impl<B: Width> Fits<IntervalSet<B>> for IntervalSet<B> {
+    ghost whole = { B.whole };
+
+    ghost members = { Covers };
+
+    ghost other_members = { Covers };
+
+    /// True exactly where `self + other` may be called. `O(1)`.
+    fn fits_add(&self, other: &IntervalSet<B>) -> bool {
+        span(self).fits_add(&span(other))
+    }
+
+    /// True exactly where `self - other` may be called. `O(1)`.
+    fn fits_sub(&self, other: &IntervalSet<B>) -> bool {
+        span(self).fits_sub(&span(other))
+    }
+
+    /// True exactly where `self * other` may be called. `O(1)`.
+    fn fits_mul(&self, other: &IntervalSet<B>) -> bool {
+        span(self).fits_mul(&span(other))
+    }
+}
+
+impl<B: Width> Fits<B> for IntervalSet<B> {
+    ghost whole = { B.whole };
+
+    ghost members = { Covers };
+
+    ghost other_members = { λ x. Only (B.value x) };
+
+    /// True exactly where `self + *other` may be called; `other` may lie outside the range. `O(1)`.
+    fn fits_add(&self, other: &B) -> bool {
+        span(self).fits_add(other)
+    }
+
+    /// True exactly where `self - *other` may be called; `other` may lie outside the range. `O(1)`.
+    fn fits_sub(&self, other: &B) -> bool {
+        span(self).fits_sub(other)
+    }
+
+    /// True exactly where `self * *other` may be called; `other` may lie outside the range. `O(1)`.
+    fn fits_mul(&self, other: &B) -> bool {
+        span(self).fits_mul(other)
+    }
+}
+
+/// The least interval that holds a set.
+fn span<B: Width>(set: &IntervalSet<B>) -> Interval<B>
+    ensures { IsHullOf result (Covers set.now) }
+{
+    let runs = set.as_runs();
+    let count = runs.len();
+    if count == 0 {
+        return Interval::empty();
+    }
+    Interval::new(runs[0].lower(), runs[count - 1].upper())
+}

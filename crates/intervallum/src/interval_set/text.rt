@@ -1,0 +1,25 @@
+//! The text of a set.
+ghost use Rattle.ivl_interval.specs.Text.{interval_text};
+ghost use Rattle.intervallum.specs.Text.{set_text};
+
+use super::IntervalSet;
+use crate::width::Width;
+use std::fmt;
+
+impl<B: Width + fmt::Display> fmt::Display for IntervalSet<B> {
+    ghost output = { set_text (λ p. interval_text p (B.output (B.at p.0)) (B.output (B.at p.1))) };
+
+    /// `{}` where there is no member, `[1..5]` for one run, and `{[1..2][5..5]}` for more. Width and
+    /// fill of the formatter have no effect.
+    fn fmt<W: fmt::Write>(&self, f: &mut fmt::Formatter<W>) -> fmt::Result {
+        let runs = self.as_runs();
+        if runs.len() == 1 {
+            return write!(f, "{}", runs[0]);
+        }
+        f.write_str("{")?;
+        for run in runs {
+            write!(f, "{run}")?;
+        }
+        f.write_str("}")
+    }
+}
