@@ -2,3 +2,5 @@ pub mod Equality
 pub mod Walking
 pub mod Joining
 pub mod Pushing
+pub mod Searching
+pub mod Finding

@@ -1,3 +1,4 @@
 pub mod Counted
 pub mod Equality
 pub mod EqualityLaws
+pub mod Places

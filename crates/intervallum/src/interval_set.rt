@@ -7,10 +7,11 @@ ghost use Rattle.intervallum.specs.Equality.{same_runs};
 ghost use Rattle.intervallum.specs.EqualityLaws.{same_runs_equiv, same_runs_laws};
 
 mod algebra;
+mod reading;
 mod runs;
 
 use crate::interval::Interval;
-use crate::ops::{Cardinality, Collection, Contains, IsEmpty, Range};
+use crate::ops::{Cardinality, Collection, IsEmpty, Range};
 use crate::width::{SizeNumber, Width};
 use std::alloc::{AllocError, Global};
 use std::marker::Model;
@@ -107,18 +108,6 @@ impl<B: Width> IsEmpty for IntervalSet<B> {
         ensures none { IsTrue result ↔ (self.now ≡ []) }
     {
         self.intervals.is_empty()
-    }
-}
-
-impl<B: Width> Contains for IntervalSet<B> {
-    /// Walks the runs from the left: `O(n)`.
-    fn contains(&self, item: &B) -> bool {
-        for run in &self.intervals {
-            if run.contains(item) {
-                return true;
-            }
-        }
-        false
     }
 }
 
