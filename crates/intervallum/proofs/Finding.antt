@@ -1,5 +1,5 @@
 -- What a place in the runs of a set tells of its members.
-use Rattle.std.proofs.Common.{◌≡◌, ◌↔◌, ⊎_elim, ℕ, zero, suc, ◌+◌, ◌-◌, ◌<◌, ℤ, pos, ◌+ℤ◌, ◌≤ℤ◌, Bool, true, false, IsTrue, List, [], ◌∷◌, length, get_or, Some, refl, sym, subst, arith, inl, inr}
+use Rattle.std.proofs.Common.{◌≡◌, ◌↔◌, ◌∙◌, ap, take, drop, ⊎_elim, ℕ, zero, suc, ◌+◌, ◌-◌, ◌<◌, ◌≤◌, ℤ, pos, ◌+ℤ◌, ◌≤ℤ◌, Bool, true, false, IsTrue, List, [], ◌∷◌, length, get_or, Some, refl, sym, subst, arith, inl, inr}
 use Rattle.std.proofs.lemmas.Int.{ints, by_lt_z}
 use Rattle.std.specs.Prelude.{slice_get, IsSomeAnd}
 use Rattle.ivl_laws.specs.Sets.{IsBetween, IsSubset, HasSome, Only, SameMembers}
@@ -7,7 +7,8 @@ use Rattle.ivl_laws.specs.Runs.{Covers, IsMaximal}
 use Rattle.ivl_laws.specs.Counts.{IsIn}
 use Rattle.ivl_laws.proofs.Runs.{lower_end, upper_end}
 use Rattle.ivl_laws.proofs.Products.{one_covers}
-use Rattle.ivl_laws.proofs.Places.{free_above_end}
+use Rattle.ivl_laws.proofs.Places.{free_above_end, covers_at, covers-take}
+use Rattle.ivl_laws.proofs.Ranges.{first_is_least, last_is_greatest}
 
 pub covered_at_place : (L : List (ℤ × ℤ)) (i : ℕ) (v : ℤ) → IsSomeAnd (slice_get L i) (λ run. IsBetween run v) → Covers L v
 covered_at_place [] i v h = absurd h
@@ -86,3 +87,49 @@ many_runs_are_not_one L M e n m =
         let far = m.1 in
         let o = m.0 in
         omega (arith, ints, a, b, far, o)
+
+-- ---- the ends of a set
+
+pub least_of_first : (L M : List (ℤ × ℤ)) (d : ℤ × ℤ) (x : ℤ) → L ≡ M → IsMaximal L → HasSome (Covers M) → d ≡ get_or L 0 d → x ≡ d.0 →
+    Covers M x × ((z : ℤ) → Covers M z → x ≤ℤ z)
+least_of_first L M d x e m h is ex =
+    let k = first_is_least L d m (some_has_length L M e h) in
+    let f : (get_or L 0 d).0 ≡ x = ap (λ (r : ℤ × ℤ). r.0) (sym is) ∙ sym ex in
+    let P : ℤ → Type 0 = λ y. Covers L y × ((z : ℤ) → Covers L z → y ≤ℤ z) in
+    let Q : List (ℤ × ℤ) → Type 0 = λ N. Covers N x × ((z : ℤ) → Covers N z → x ≤ℤ z) in
+    subst Q e (subst P f k)
+
+pub greatest_of_last : (L M : List (ℤ × ℤ)) (k : ℕ) (d : ℤ × ℤ) (x : ℤ) → L ≡ M → IsMaximal L → k + 1 ≡ length L → d ≡ get_or L k d → x ≡ d.1 →
+    Covers M x × ((z : ℤ) → Covers M z → z ≤ℤ x)
+greatest_of_last L M k d x e m n is ex =
+    let g = last_is_greatest L k d m n in
+    let f : (get_or L k d).1 ≡ x = ap (λ (r : ℤ × ℤ). r.1) (sym is) ∙ sym ex in
+    let P : ℤ → Type 0 = λ y. Covers L y × ((z : ℤ) → Covers L z → z ≤ℤ y) in
+    let Q : List (ℤ × ℤ) → Type 0 = λ N. Covers N x × ((z : ℤ) → Covers N z → z ≤ℤ x) in
+    subst Q e (subst P f g)
+
+-- ---- inclusion run by run
+
+pub included_more : (L : List (ℤ × ℤ)) (k : ℕ) (d : ℤ × ℤ) (S : ℤ → Type 0) → k < length L → IsSubset (Covers (take k L)) S → IsSubset (IsBetween (get_or L k d)) S →
+    IsSubset (Covers (take (k + 1) L)) S
+included_more [] k d S h f r z c = absurd (omega arith)
+included_more (p ∷ L) zero d S h f r z (inl b) = r z b
+included_more (p ∷ L) zero d S h f r z (inr c) = absurd c
+included_more (p ∷ L) (suc k) d S h f r z c =
+    let e : suc k + 1 ≡ suc (k + 1) = omega arith in
+    let P : ℕ → Type 0 = λ n. Covers (take n (p ∷ L)) z in
+    ⊎_elim (λ b. f z (inl b)) (λ t. included_more L k d S (omega arith) (λ w u. f w (inr u)) r z t) (subst P e c)
+
+take_all : (L : List (ℤ × ℤ)) (k : ℕ) (z : ℤ) → length L ≤ k → Covers L z → Covers (take k L) z
+take_all [] zero z h c = c
+take_all [] (suc k) z h c = c
+take_all (p ∷ L) zero z h c = absurd (omega arith)
+take_all (p ∷ L) (suc k) z h (inl b) = inl b
+take_all (p ∷ L) (suc k) z h (inr c) = inr (take_all L k z (omega arith) c)
+
+pub all_included : (L : List (ℤ × ℤ)) (k : ℕ) (S : ℤ → Type 0) → length L ≤ k → IsSubset (Covers (take k L)) S → IsTrue true ↔ IsSubset (Covers L) S
+all_included L k S h f = ((λ _ z c. f z (take_all L k z h c)), (λ _. refl))
+
+pub one_not_included : (L : List (ℤ × ℤ)) (k : ℕ) (d : ℤ × ℤ) (S : ℤ → Type 0) (t : Bool) → k < length L → (IsTrue t ↔ IsSubset (IsBetween (get_or L k d)) S) → t ≡ false →
+    IsTrue false ↔ IsSubset (Covers L) S
+one_not_included L k d S t h i e = ((λ f. absurd (cc)), (λ s. absurd (let u = i.1 (λ z b. s z (covers_at L k d z h b)) in cc)))

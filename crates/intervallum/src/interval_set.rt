@@ -7,6 +7,7 @@ ghost use Rattle.intervallum.specs.Equality.{same_runs};
 ghost use Rattle.intervallum.specs.EqualityLaws.{same_runs_equiv, same_runs_laws};
 
 mod algebra;
+mod bounds;
 mod reading;
 mod runs;
 

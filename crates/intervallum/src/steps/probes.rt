@@ -53,6 +53,7 @@ impl<'a, B: Width> Probes<'a, B> {
         requires { i < length self.old.runs }
         ensures run { slice_get self.old.runs i ≡ Some result }
         ensures has_member { result.0 ≤ℤ result.1 }
+        ensures runs { IsRunListIn B.whole self.old.runs }
         ensures same { self.new.runs ≡ self.old.runs }
         ensures looks { self.new.looks ≡ self.old.looks + 1 }
     {
