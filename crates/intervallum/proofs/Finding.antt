@@ -68,9 +68,9 @@ one_run_is_one (p ∷ []) M d t e n is k m =
     subst P e (
       λ u. let f = k'.0 u in (p.0, λ z. (⊎_elim (λ b. omega (arith, ints, b.0, b.1, f)) (λ c. absurd c), λ w. inl (omega (arith, ints, w), omega (arith, ints, w, f)))),
       λ (x, s).
-        let a : p.0 ≡ x = (s p.0).0 (inl (lower_end p m.0)) in
-        let b : p.1 ≡ x = (s p.1).0 (inl (upper_end p m.0)) in
-        k'.1 (omega (arith, ints, a, b)),
+          let a : p.0 ≡ x = (s p.0).0 (inl (lower_end p m.0)) in
+          let b : p.1 ≡ x = (s p.1).0 (inl (upper_end p m.0)) in
+          k'.1 (omega (arith, ints, a, b)),
     )
 
 pub many_runs_are_not_one : (L M : List (ℤ × ℤ)) → L ≡ M → ¬ (length L ≡ 1) → IsMaximal L → IsTrue false ↔ ((x : ℤ) × SameMembers (Covers M) (Only x))
@@ -120,16 +120,22 @@ included_more (p ∷ L) (suc k) d S h f r z c =
     let P : ℕ → Type 0 = λ n. Covers (take n (p ∷ L)) z in
     ⊎_elim (λ b. f z (inl b)) (λ t. included_more L k d S (omega arith) (λ w u. f w (inr u)) r z t) (subst P e c)
 
-take_all : (L : List (ℤ × ℤ)) (k : ℕ) (z : ℤ) → length L ≤ k → Covers L z → Covers (take k L) z
-take_all [] zero z h c = c
-take_all [] (suc k) z h c = c
-take_all (p ∷ L) zero z h c = absurd (omega arith)
-take_all (p ∷ L) (suc k) z h (inl b) = inl b
-take_all (p ∷ L) (suc k) z h (inr c) = inr (take_all L k z (omega arith) c)
-
-pub all_included : (L : List (ℤ × ℤ)) (k : ℕ) (S : ℤ → Type 0) → length L ≤ k → IsSubset (Covers (take k L)) S → IsTrue true ↔ IsSubset (Covers L) S
-all_included L k S h f = ((λ _ z c. f z (take_all L k z h c)), (λ _. refl))
-
-pub one_not_included : (L : List (ℤ × ℤ)) (k : ℕ) (d : ℤ × ℤ) (S : ℤ → Type 0) (t : Bool) → k < length L → (IsTrue t ↔ IsSubset (IsBetween (get_or L k d)) S) → t ≡ false →
+one_not_included : (L : List (ℤ × ℤ)) (k : ℕ) (d : ℤ × ℤ) (S : ℤ → Type 0) (t : Bool) → k < length L → (IsTrue t ↔ IsSubset (IsBetween (get_or L k d)) S) → t ≡ false →
     IsTrue false ↔ IsSubset (Covers L) S
 one_not_included L k d S t h i e = ((λ f. absurd (cc)), (λ s. absurd (let u = i.1 (λ z b. s z (covers_at L k d z h b)) in cc)))
+
+-- a run that the test refuses, and one that it lets through
+pub one_run_not_included : (L L' R M : List (ℤ × ℤ)) (k : ℕ) (d : ℤ × ℤ) (t : Bool) → L ≡ L' → R ≡ M → k < length L → d ≡ get_or L k d →
+    (IsTrue t ↔ IsSubset (IsBetween d) (Covers R)) → t ≡ false → IsTrue false ↔ IsSubset (Covers L') (Covers M)
+one_run_not_included L L' R M k d t e f h is i n =
+    let P : List (ℤ × ℤ) → Type 0 = λ N. IsTrue t ↔ IsSubset (IsBetween d) (Covers N) in
+    let Q : ℤ × ℤ → Type 0 = λ r. IsTrue t ↔ IsSubset (IsBetween r) (Covers M) in
+    let R' : List (ℤ × ℤ) → Type 0 = λ N. IsTrue false ↔ IsSubset (Covers N) (Covers M) in
+    subst R' e (one_not_included L k d (Covers M) t h (subst Q is (subst P f i)) n)
+
+pub holds_at : (L R M : List (ℤ × ℤ)) (k : ℕ) (d : ℤ × ℤ) (t : Bool) → R ≡ M → d ≡ get_or L k d →
+    (IsTrue t ↔ IsSubset (IsBetween d) (Covers R)) → t ≡ true → IsSubset (IsBetween (get_or L k d)) (Covers M)
+holds_at L R M k d t f is i n =
+    let P : List (ℤ × ℤ) → Type 0 = λ N. IsSubset (IsBetween d) (Covers N) in
+    let Q : ℤ × ℤ → Type 0 = λ r. IsSubset (IsBetween r) (Covers M) in
+    subst Q is (subst P f (i.0 n))

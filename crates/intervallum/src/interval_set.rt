@@ -8,6 +8,8 @@ ghost use Rattle.intervallum.specs.EqualityLaws.{same_runs_equiv, same_runs_laws
 
 mod algebra;
 mod bounds;
+mod inclusion;
+mod operands;
 mod reading;
 mod runs;
 

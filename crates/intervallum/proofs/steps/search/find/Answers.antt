@@ -16,12 +16,18 @@ search-preserved-then-lt g c =
     let P : ℤ → Type 0 = λ z. v <ℤ z in
     let b : v <ℤ c.look-run.result.0 = subst P c.lower.ensures.value ((lt_number g.met.B.Width.ordered _ _ _ c.lt.ensures).0 c.if-lt.true) in
     let Q : ℤ × ℤ → Type 0 = λ r. v <ℤ r.0 in
-    let from = above_from v L i c.look-run.result (omega (arith, inv.1, t)) (subst Q (sym (get_or_from_slice_get L i c.look-run.result c.look-run.result seen)) b) inv.3 in
-    (omega arith, omega (arith, inv.1, t), c.look-run.ensures.same ∙ inv.2, inv.3, inv.4, from,
-     λ digits h.
-       let p = inv.6 digits h in
-       let q = shrink _ (i - c.search.low) p.0 (omega (arith, t)) p.2 (omega arith) in
-       (q.0, omega (arith, p.1, q.1, c.look-run.ensures.looks), q.2))
+    let from = above_from v L i c.look-run.result (omega (arith, inv.1, t)) (subst Q (sym (get_or_from_slice_get L i c.look-run.result c.look-run.result seen)) b) inv.3 in (
+      omega arith,
+      omega (arith, inv.1, t),
+      c.look-run.ensures.same ∙ inv.2,
+      inv.3,
+      inv.4,
+      from,
+      λ digits h.
+          let p = inv.6 digits h in
+          let q = shrink _ (i - c.search.low) p.0 (omega (arith, t)) p.2 (omega arith) in
+          (q.0, omega (arith, p.1, q.1, c.look-run.ensures.looks), q.2),
+    )
 
 pub search-preserved : goal.search-preserved
 search-preserved g c =
@@ -36,12 +42,18 @@ search-preserved g c =
     let Q : ℤ × ℤ → Type 0 = λ r. r.1 <ℤ v in
     let to = below_to v L i c.look-run.result (omega (arith, inv.1, t)) (subst Q (sym (get_or_from_slice_get L i c.look-run.result c.look-run.result seen)) b) inv.3 in
     let R : ℕ → Type 0 = λ k. EndBelow v (take k L) in
-    let more : suc i ≡ i + 1 = omega arith in
-    (omega (arith, t), inv.1, c.look-run.ensures.same ∙ inv.2, inv.3, subst R more to, inv.5,
-     λ digits h.
-       let p = inv.6 digits h in
-       let q = shrink _ (c.search.high - (i + 1)) p.0 (omega (arith, t)) p.2 (omega arith) in
-       (q.0, omega (arith, p.1, q.1, c.look-run.ensures.looks), q.2))
+    let more : suc i ≡ i + 1 = omega arith in (
+      omega (arith, t),
+      inv.1,
+      c.look-run.ensures.same ∙ inv.2,
+      inv.3,
+      subst R more to,
+      inv.5,
+      λ digits h.
+          let p = inv.6 digits h in
+          let q = shrink _ (c.search.high - (i + 1)) p.0 (omega (arith, t)) p.2 (omega arith) in
+          (q.0, omega (arith, p.1, q.1, c.look-run.ensures.looks), q.2),
+    )
 
 pub returns-clause-place : goal.returns-clause-place
 returns-clause-place g c =
