@@ -6,3 +6,5 @@ pub mod Sweeping
 pub mod Images
 pub mod Fitting
 pub mod Writing
+pub mod Searching
+pub mod Finding

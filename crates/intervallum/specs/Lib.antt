@@ -4,3 +4,4 @@ pub mod EqualityLaws
 pub mod Starts
 pub mod Sweeps
 pub mod Text
+pub mod Places

@@ -8,13 +8,17 @@ ghost use Rattle.intervallum.specs.EqualityLaws.{same_runs_equiv, same_runs_laws
 
 mod algebra;
 mod arithmetic;
+mod bounds;
 mod conversions;
 mod fits;
+mod inclusion;
+mod operands;
+mod reading;
 mod runs;
 mod text;
 
 use crate::interval::Interval;
-use crate::ops::{Cardinality, Collection, Contains, IsEmpty, Range};
+use crate::ops::{Cardinality, Collection, IsEmpty, Range};
 use crate::width::{SizeNumber, Width};
 pub use conversions::{IntoRuns, ToIntervalSet};
 use std::alloc::{AllocError, Global};
@@ -112,18 +116,6 @@ impl<B: Width> IsEmpty for IntervalSet<B> {
         ensures none { IsTrue result ↔ (self.now ≡ []) }
     {
         self.intervals.is_empty()
-    }
-}
-
-impl<B: Width> Contains for IntervalSet<B> {
-    /// Walks the runs from the left: `O(n)`.
-    fn contains(&self, item: &B) -> bool {
-        for run in &self.intervals {
-            if run.contains(item) {
-                return true;
-            }
-        }
-        false
     }
 }
 

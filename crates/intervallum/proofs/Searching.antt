@@ -1,0 +1,66 @@
+-- What one look tells of the runs on one side of it.
+use Rattle.std.proofs.Common.{◌≡◌, ℕ, zero, suc, ◌+◌, ◌*◌, ◌^◌, ◌<◌, ◌≤◌, ℤ, pos, ◌+ℤ◌, ◌≤ℤ◌, ◌<ℤ◌, List, [], ◌∷◌, length, get_or, take, drop, arith, refl, inl, inr, true, false}
+use Rattle.std.specs.Prelude.{int_lt}
+use Rattle.std.proofs.lemmas.Int.{ints}
+use native.Mathlib.Numerals.{unary_clauses}
+use Rattle.ivl_laws.specs.Sets.{IsBetween}
+use Rattle.ivl_laws.specs.Runs.{Covers, IsMaximal, runs_below}
+
+int_lt_false : (a b : ℤ) → b <ℤ a → int_lt a b ≡ false
+int_lt_false a b h = grind (arith, ints)
+
+int_lt_true : (a b : ℤ) → a <ℤ b → int_lt a b ≡ true
+int_lt_true a b h = grind (arith, ints)
+
+-- half as many numbers take one digit less
+pub shrink : (n s rest : ℕ) → 0 < n → n < 2 ^ rest → 2 * s ≤ n → (r : ℕ) × (rest ≡ r + 1) × (s < 2 ^ r)
+shrink n s zero h k l = absurd (omega (arith, k))
+shrink n s (suc r) h k l = (r, omega arith, let k' = simp unary_clauses at k in omega (arith, k', l))
+
+abbrev pub EndBelow : ℤ → List (ℤ × ℤ) → Type 0
+EndBelow v [] = Unit {0}
+EndBelow v (r ∷ L) = (r.1 <ℤ v) × EndBelow v L
+
+abbrev pub StartAbove : ℤ → List (ℤ × ℤ) → Type 0
+StartAbove v [] = Unit {0}
+StartAbove v (r ∷ L) = (v <ℤ r.0) × StartAbove v L
+
+above_after : (v : ℤ) (r : ℤ × ℤ) (L : List (ℤ × ℤ)) → v <ℤ r.0 → IsMaximal (r ∷ L) → StartAbove v L
+above_after v r [] h m = tt
+above_after v r (q ∷ L) h m =
+    let k : v <ℤ q.0 = omega (arith, ints, h, m.0, m.1) in
+    (k, above_after v q L k m.2)
+
+pub above_from : (v : ℤ) (L : List (ℤ × ℤ)) (i : ℕ) (d : ℤ × ℤ) → i < length L → v <ℤ (get_or L i d).0 → IsMaximal L → StartAbove v (drop i L)
+above_from v [] i d h b m = absurd (omega arith)
+above_from v (r ∷ L) zero d h b m = (b, above_after v r L b m)
+above_from v (r ∷ L) (suc i) d h b m = above_from v L i d (omega arith) b m.2
+
+later_end : (r : ℤ × ℤ) (L : List (ℤ × ℤ)) (i : ℕ) (d : ℤ × ℤ) → i < length L → IsMaximal (r ∷ L) → r.1 ≤ℤ (get_or L i d).1
+later_end r [] i d h m = absurd (omega arith)
+later_end r (q ∷ L) zero d h m = omega (arith, ints, m.1, m.2.0)
+later_end r (q ∷ L) (suc i) d h m =
+    let k = later_end q L i d (omega arith) m.2 in
+    omega (arith, ints, m.1, m.2.0, k)
+
+pub below_to : (v : ℤ) (L : List (ℤ × ℤ)) (i : ℕ) (d : ℤ × ℤ) → i < length L → (get_or L i d).1 <ℤ v → IsMaximal L → EndBelow v (take (suc i) L)
+below_to v [] i d h b m = absurd (omega arith)
+below_to v (r ∷ L) zero d h b m = (b, tt)
+below_to v (r ∷ L) (suc i) d h b m =
+    (let k = later_end r L i d (omega arith) m in omega (arith, ints, k, b), below_to v L i d (omega arith) b m.2)
+
+none_above : (v : ℤ) (L : List (ℤ × ℤ)) → StartAbove v L → IsMaximal L → (¬ Covers L v) × (runs_below v L ≡ 0)
+none_above v [] a m = (λ h. h, refl)
+none_above v (r ∷ L) a m =
+    let k = none_above v L a.1 m.2 in
+    let e : int_lt r.1 v ≡ false = int_lt_false r.1 v (omega (arith, ints, a.0, m.0)) in
+    (λ h. elim h [ inl i ↦ omega (arith, ints, i.0, a.0) | inr j ↦ k.0 j ], rw (e, k.1) (omega arith))
+
+pub gap_at : (v : ℤ) (L : List (ℤ × ℤ)) (i : ℕ) → i ≤ length L → EndBelow v (take i L) → StartAbove v (drop i L) → IsMaximal L
+    → (¬ Covers L v) × (runs_below v L ≡ i)
+gap_at v L zero h b a m = none_above v L a m
+gap_at v [] (suc i) h b a m = absurd (omega arith)
+gap_at v (r ∷ L) (suc i) h b a m =
+    let k = gap_at v L i (omega arith) b.1 a m.2 in
+    let e : int_lt r.1 v ≡ true = int_lt_true r.1 v b.0 in
+    (λ c. elim c [ inl j ↦ omega (arith, ints, j.1, b.0) | inr j ↦ k.0 j ], rw (e, k.1) (omega arith))

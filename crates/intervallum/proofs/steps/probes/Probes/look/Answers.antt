@@ -1,0 +1,9 @@
+use Rattle.std.proofs.Common.{ℤ, ◌≤ℤ◌, ◌<◌, List, length, ap, sym, subst}
+use Rattle.ivl_laws.proofs.Places.{open_at}
+use Rattle.intervallum.proofs.steps.probes.Probes.look.Goals as goal
+
+pub returns-clause-has_member : goal.returns-clause-has_member
+returns-clause-has_member g c =
+    let P : ℤ × ℤ → Type 0 = λ r. r.0 ≤ℤ r.1 in
+    let Q : List (ℤ × ℤ) → Type 0 = λ L. c.args.i < length L in
+    subst P (sym c.index-runs-i.is) (open_at c.self.inside.runs.now c.args.i c.index-runs-i.result c.self.invariant.maximal (subst Q (sym (ap (λ s. s.runs) c.self.view_is)) c.requires))

@@ -1,0 +1,81 @@
+//! Sets of one run, and the least and the greatest member of a set.
+ghost use Rattle.std.specs.Prelude.{◌≡◌, ℤ, ◌≤ℤ◌, [], ◌∷◌, IfOk};
+ghost use Rattle.ivl_laws.specs.Sets.{HasSome, IsBetween};
+ghost use Rattle.ivl_laws.specs.Runs.{Covers};
+
+use super::IntervalSet;
+use crate::ops::{Bounded, IsSingleton};
+use crate::width::Width;
+use std::alloc::{AllocError, Global};
+
+impl<B: Width> IntervalSet<B> {
+    /// The set of `x` alone. Condition: `x` is in the range, which `Interval::whole().contains(&x)`
+    /// tests. Takes memory for one run.
+    ///
+    /// In the original the condition stands in no signature.
+    pub fn singleton(alloc: Global, x: B) -> Result<Self, AllocError>
+        requires { IsBetween B.whole (B.value x) }
+        ensures { IfOk result (λ L. L ≡ (B.value x, B.value x) ∷ []) }
+    {
+        Self::new(alloc, x, x)
+    }
+
+    /// The range of `B`, as one run. Takes memory for one run.
+    pub fn whole(alloc: Global) -> Result<Self, AllocError>
+        ensures { IfOk result (λ L. L ≡ B.whole ∷ []) }
+    {
+        Self::new(alloc, B::min_value(), B::max_value())
+    }
+
+    /// The range of `B`, which every set entails. Takes memory for one run.
+    pub fn bot(alloc: Global) -> Result<Self, AllocError>
+        ensures { IfOk result (λ L. L ≡ B.whole ∷ []) }
+    {
+        Self::whole(alloc)
+    }
+
+    /// The set with no member, which entails every other. Takes no memory.
+    pub fn top(alloc: Global) -> Self
+        ensures { result ≡ [] }
+    {
+        Self::empty(alloc)
+    }
+}
+
+impl<B: Width> Bounded for IntervalSet<B> {
+    /// The least member: the start of the first run. Condition: there is a member, which `is_empty`
+    /// tests. `O(1)`.
+    ///
+    /// In the original the condition stands in no signature.
+    fn lower(&self) -> B
+        requires { HasSome (Covers self.now) }
+        ensures member { Covers self.now (B.value result) }
+        ensures least { (z : ℤ) → Covers self.now z → B.value result ≤ℤ z }
+    {
+        let first = self.intervals[0];
+        first.lower()
+    }
+
+    /// The greatest member: the end of the last run. Condition: there is a member, which `is_empty`
+    /// tests. `O(1)`.
+    fn upper(&self) -> B
+        requires { HasSome (Covers self.now) }
+        ensures member { Covers self.now (B.value result) }
+        ensures greatest { (z : ℤ) → Covers self.now z → z ≤ℤ B.value result }
+    {
+        let last = self.intervals[self.intervals.len() - 1];
+        last.upper()
+    }
+}
+
+impl<B: Width> IsSingleton for IntervalSet<B> {
+    ghost members = { Covers };
+
+    /// True exactly where there is one member and no other. `O(1)`.
+    fn is_singleton(&self) -> bool {
+        if self.intervals.len() != 1 {
+            return false;
+        }
+        self.intervals[0].is_singleton()
+    }
+}

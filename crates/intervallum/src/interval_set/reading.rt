@@ -1,0 +1,48 @@
+//! Whether values are members of a set.
+ghost use Rattle.std.specs.Prelude.{option_map};
+ghost use Rattle.ivl_laws.specs.Sets.{Held, Only};
+ghost use Rattle.ivl_laws.specs.Runs.{Covers};
+
+use super::IntervalSet;
+use crate::ops::{Contains, Overlap};
+use crate::optional::Optional;
+use crate::steps::{Place, Probes, find};
+use crate::width::Width;
+
+impl<B: Width> Contains for IntervalSet<B> {
+    /// True exactly where `item` is a member; it may be any value of its type. Searches by halves:
+    /// `O(log n)`, with no memory.
+    fn contains(&self, item: &B) -> bool {
+        let mut runs = Probes::new(self);
+        match find(&mut runs, *item) {
+            Place::In(_) => true,
+            Place::Gap(_) => false,
+        }
+    }
+}
+
+impl<B: Width> Overlap<B> for IntervalSet<B> {
+    ghost members = { Covers };
+
+    ghost other_members = { λ x. Only (B.value x) };
+
+    /// True exactly where the value is a member; any value of its type may be asked for. `O(log n)`,
+    /// with no memory.
+    fn overlap(&self, other: &B) -> bool {
+        self.contains(other)
+    }
+}
+
+impl<B: Width> Overlap<Optional<B>> for IntervalSet<B> {
+    ghost members = { Covers };
+
+    ghost other_members = { λ o. Held (option_map B.value o) };
+
+    /// True exactly where there is a value and it is a member. `O(log n)`, with no memory.
+    fn overlap(&self, other: &Optional<B>) -> bool {
+        match other.as_ref() {
+            Some(x) => self.contains(x),
+            None => false,
+        }
+    }
+}

@@ -1,0 +1,65 @@
+//! The runs of a set, seen one by one, each by a look that contracts count.
+ghost use Rattle.std.specs.Prelude.{◌≡◌, ◌+◌, ◌<◌, ◌≤ℤ◌, Some, length, slice_get};
+ghost use Rattle.ivl_laws.specs.Runs.{IsRunListIn};
+
+use crate::interval::Interval;
+use crate::interval_set::IntervalSet;
+use crate::width::Width;
+use http_server::Log;
+use std::marker::Model;
+
+/// The runs of a set. A contract sees them, and how often one was looked at; at run time nothing
+/// counts. Takes no memory.
+#[derive(Drop)]
+pub struct Probes<'a, B: Width> {
+    runs: &'a [Interval<B>],
+    looks: Log<(), ()>,
+}
+
+impl<'a, B: Width> Model for Probes<'a, B> {
+    ghost use Rattle.std.specs.Prelude.{length};
+    ghost use Rattle.ivl_laws.specs.Runs.{IsRunListIn};
+    ghost use Rattle.intervallum.specs.Counted.{Search};
+
+    ghost Value = { Search };
+
+    ghost view = { λ p. record { runs = p.runs.now; looks = length p.looks.items } };
+
+    ghost invariant = { λ p. IsRunListIn B.whole p.runs.now };
+}
+
+impl<'a, B: Width> Probes<'a, B> {
+    /// The runs of the set, with no look taken.
+    pub fn new(set: &'a IntervalSet<B>) -> Probes<'a, B>
+        ensures runs { result.runs ≡ set.now }
+        ensures looks { result.looks ≡ 0 }
+    {
+        Probes {
+            runs: set.as_runs(),
+            looks: Log::new(),
+        }
+    }
+
+    /// How many runs there are. This is no look.
+    pub fn len(&self) -> usize
+        ensures value { result ≡ length self.now.runs }
+        ensures runs { IsRunListIn B.whole self.now.runs }
+    {
+        self.runs.len()
+    }
+
+    /// Run number `i`, from 0, by one look. Condition: `i` is less than `len()`.
+    pub fn look(&mut self, i: usize) -> Interval<B>
+        requires { i < length self.old.runs }
+        ensures run { slice_get self.old.runs i ≡ Some result }
+        ensures has_member { result.0 ≤ℤ result.1 }
+        ensures runs { IsRunListIn B.whole self.old.runs }
+        ensures same { self.new.runs ≡ self.old.runs }
+        ensures looks { self.new.looks ≡ self.old.looks + 1 }
+    {
+        let runs = self.runs;
+        let run = runs[i];
+        self.looks = self.looks.and(&(), &());
+        run
+    }
+}
