@@ -191,7 +191,7 @@ subset_by_lower a b r o f e = (
   λ s. e.1 (s a.0 (omega (arith, ints), o)).0,
 )
 
-proper_by_same : (S T : ℤ → Type 0) (r : Bool) → IsSubset S T → (IsTrue r ↔ SameMembers S T) → IsTrue (not r) ↔ IsProperSubset S T
+pub proper_by_same : (S T : ℤ → Type 0) (r : Bool) → IsSubset S T → (IsTrue r ↔ SameMembers S T) → IsTrue (not r) ↔ IsProperSubset S T
 proper_by_same S T true i e = (λ h. let k : ◌≡◌ {A = Bool} false true = h in absurd (cc), λ p. absurd (p.1 (e.0 refl)))
 proper_by_same S T false i e = (λ _. (i, λ s. let k = e.1 s in absurd (cc)), λ _. refl)
 
