@@ -4,3 +4,4 @@ pub mod Joining
 pub mod Pushing
 pub mod Searching
 pub mod Finding
+pub mod Cutting

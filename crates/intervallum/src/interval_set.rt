@@ -12,6 +12,7 @@ mod inclusion;
 mod operands;
 mod reading;
 mod runs;
+mod shrinks;
 
 use crate::interval::Interval;
 use crate::ops::{Cardinality, Collection, IsEmpty, Range};
