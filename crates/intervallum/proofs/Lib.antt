@@ -8,3 +8,4 @@ pub mod Fitting
 pub mod Writing
 pub mod Searching
 pub mod Finding
+pub mod Cutting

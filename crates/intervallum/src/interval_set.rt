@@ -15,6 +15,7 @@ mod inclusion;
 mod operands;
 mod reading;
 mod runs;
+mod shrinks;
 mod text;
 
 use crate::interval::Interval;

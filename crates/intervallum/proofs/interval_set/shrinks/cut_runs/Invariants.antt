@@ -1,0 +1,9 @@
+use Rattle.std.proofs.Common.{drop}
+use Rattle.ivl_laws.specs.Sets.{Intersection, IsBetween}
+use Rattle.ivl_laws.specs.Runs.{Covers}
+use Rattle.intervallum.proofs.Cutting.{IsCutting}
+use Rattle.intervallum.proofs.interval_set.shrinks.cut_runs.Given as goal
+
+-- what is written and what is left to cut make up the answer
+abbrev pub invariant-loop-run : goal.invariant-loop-run
+invariant-loop-run g l = IsCutting l.set (drop l.run-index l.fn.runs) (IsBetween l.fn.window) (Intersection (Covers l.fn.runs) (IsBetween l.fn.window))
