@@ -2,3 +2,8 @@ pub mod Equality
 pub mod Walking
 pub mod Joining
 pub mod Pushing
+pub mod Stretching
+pub mod Combining
+pub mod Numbers
+pub mod RunBounds
+pub mod Singles

@@ -1,3 +1,5 @@
 pub mod Counted
 pub mod Equality
 pub mod EqualityLaws
+pub mod Stretches
+pub mod Choices

@@ -7,7 +7,10 @@ ghost use Rattle.intervallum.specs.Equality.{same_runs};
 ghost use Rattle.intervallum.specs.EqualityLaws.{same_runs_equiv, same_runs_laws};
 
 mod algebra;
+mod copies;
+mod lattice;
 mod runs;
+mod values;
 
 use crate::interval::Interval;
 use crate::ops::{Cardinality, Collection, Contains, IsEmpty, Range};
