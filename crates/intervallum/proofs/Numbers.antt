@@ -1,5 +1,5 @@
 -- Numbers of the range as a program holds them in 128 bits.
-use Rattle.std.proofs.Common.{◌≡◌, ◌<◌, ℤ, pos, ◌+ℤ◌, ◌-ℤ◌, ◌≤ℤ◌, ◌<ℤ◌, IsTrue, SFits, to_z, of_z, arith, refl}
+use Rattle.std.proofs.Common.{◌≡◌, ◌<◌, ℤ, pos, ◌+ℤ◌, ◌-ℤ◌, ◌≤ℤ◌, IsTrue, SFits, to_z, of_z, arith, refl}
 use Rattle.std.proofs.lemmas.Int.{ints, clamps, to_z-of_z}
 use lib.Signed.{le_z}
 use mir.Syntax.{w128}

@@ -1,10 +1,10 @@
 -- How many runs a difference has: each of its ends is an end of one of the two sets.
-use Rattle.std.proofs.Common.{◌≡◌, ◌↔◌, ◌⊎◌, inl, inr, ⊎_elim, ◌+◌, ◌*◌, ◌≤◌, ℤ, pos, ◌+ℤ◌, ◌-ℤ◌, List, [], ◌∷◌, ◌++◌, length, length-append, arith, subst, sym}
-use Rattle.std.proofs.lemmas.Int.{ints, by_lt_z}
+use Rattle.std.proofs.Common.{◌≡◌, ◌↔◌, ◌⊎◌, inl, inr, ⊎_elim, ◌+◌, ◌≤◌, ℤ, pos, ◌+ℤ◌, ◌-ℤ◌, List, [], ◌∷◌, ◌++◌, length, length-append, arith}
+use Rattle.std.proofs.lemmas.Int.{ints}
 use Rattle.ivl_laws.specs.Sets.{Without, SymmetricDifference}
 use Rattle.ivl_laws.specs.Runs.{Covers, IsMaximal, IsRunsOf}
 use Rattle.ivl_laws.specs.Counts.{IsIn, IsDistinct}
-use Rattle.ivl_laws.proofs.Runs.{covered_after, covered_from}
+use Rattle.ivl_laws.proofs.Runs.{covered_after}
 use Rattle.ivl_laws.proofs.Counts.{length-le, in-append, in-append_left, in-append_right, IsDistinct-append}
 use Rattle.ivl_laws.proofs.Lengths.{decide_covers, starts, after_ends, length-starts, length-after_ends, length_by_starts, start_of, end_of, start_is_covered, free_below, starts_are_distinct}
 

@@ -1,9 +1,8 @@
 -- What the first run of a walk says of the numbers from one on.
-use Rattle.std.proofs.Common.{◌≡◌, ◌≢◌, ◌↔◌, ℤ, pos, ◌+ℤ◌, ◌-ℤ◌, ◌≤ℤ◌, ◌<ℤ◌, List, [], ◌∷◌, Some, None, Bool, true, false, IsTrue, inl, inr, ⊎_elim, arith, refl, sym, subst, true≢false}
+use Rattle.std.proofs.Common.{◌≡◌, ◌≢◌, ◌↔◌, ℤ, ◌≤ℤ◌, ◌<ℤ◌, List, [], ◌∷◌, Some, None, true, false, inl, inr, ⊎_elim, arith, refl, sym, subst, true≢false}
 use Rattle.std.proofs.lemmas.Int.{ints, by_lt_z}
 use Rattle.std.specs.Prelude.{slice_get}
-use Rattle.ivl_laws.specs.Sets.{IsBetween}
-use Rattle.ivl_laws.specs.Runs.{Covers, IsMaximal}
+use Rattle.ivl_laws.specs.Runs.{IsMaximal}
 use Rattle.ivl_laws.proofs.Runs.{covered_from}
 use Rattle.intervallum.specs.Stretches.{EndsBelow, EndsFrom, AgreesFrom, AgreesUpTo}
 

@@ -40,11 +40,10 @@ impl<B: Width> Intersection<IntervalSet<B>> for IntervalSet<B> {
 
     ghost answers = { λ r S. IfOk r (λ L. IsRunsOf L S) };
 
-    /// The members of both sets.
-    /// `O(n + m)`, in memory that is reserved once for `n + m` runs. An error is memory that was refused;
-    /// neither set is changed.
+    /// The members of both sets. `O(n + m)`, in memory that is reserved once for
+    /// `n + m` runs. An error is memory that was refused; neither set is changed.
     ///
-    /// In the original memory is taken without an error, and the answer comes as a plain set.
+    /// In the original a refused allocation ends the program, so the answer is a plain set.
     fn intersection(&self, other: &IntervalSet<B>) -> Result<IntervalSet<B>, AllocError>
         ensures members { IfOk result (λ L. IsRunsOf L (Intersection (Covers self.now) (Covers other.now))) }
         ensures runs_at_most { IfOk result (λ L. length L ≤ length self.now + length other.now) }
@@ -62,12 +61,10 @@ impl<B: Width> Difference<IntervalSet<B>> for IntervalSet<B> {
 
     ghost answers = { λ r S. IfOk r (λ L. IsRunsOf L S) };
 
-    /// The members that are not in `other`.
-    /// `O(n + m)`, in memory that is reserved once for `n + m` runs. An error is memory that was refused;
-    /// neither set is changed.
+    /// The members that are not in `other`. `O(n + m)`, in memory that is reserved once for
+    /// `n + m` runs. An error is memory that was refused; neither set is changed.
     ///
-    /// In the original memory is taken without an error, and
-    /// the complement of `other` is built first; here no other set is built.
+    /// The original builds the complement of `other` first; here no other set is built.
     fn difference(&self, other: &IntervalSet<B>) -> Result<IntervalSet<B>, AllocError>
         ensures members { IfOk result (λ L. IsRunsOf L (Without (Covers self.now) (Covers other.now))) }
         ensures runs_at_most { IfOk result (λ L. length L ≤ length self.now + length other.now) }
@@ -87,12 +84,10 @@ impl<B: Width> SymmetricDifference<IntervalSet<B>> for IntervalSet<B> {
 
     ghost answers = { λ r S. IfOk r (λ L. IsRunsOf L S) };
 
-    /// The members of one set that are not in the other.
-    /// `O(n + m)`, in memory that is reserved once for `n + m` runs. An error is memory that was refused;
-    /// neither set is changed.
+    /// The members of one set that are not in the other. `O(n + m)`, in memory that is reserved once for
+    /// `n + m` runs. An error is memory that was refused; neither set is changed.
     ///
-    /// In the original memory is taken without an error, and
-    /// the union, the intersection and their difference are built; here no other set is built.
+    /// The original builds the union, the intersection and their difference; here no other set is built.
     fn symmetric_difference(&self, other: &IntervalSet<B>) -> Result<IntervalSet<B>, AllocError>
         ensures members { IfOk result (λ L. IsRunsOf L (SymmetricDifference (Covers self.now) (Covers other.now))) }
         ensures runs_at_most { IfOk result (λ L. length L ≤ length self.now + length other.now) }

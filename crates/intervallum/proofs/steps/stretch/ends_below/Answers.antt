@@ -1,6 +1,5 @@
 use Rattle.ivl_laws.proofs.Intervals.{some_is_not_crossed}
 use Rattle.intervallum.proofs.Walking.{first_is_open}
-use Rattle.intervallum.proofs.Stretching.{ends_below_first}
 use Rattle.intervallum.proofs.steps.stretch.ends_below.Goals as goal
 
 pub upper-requires : goal.upper-requires
