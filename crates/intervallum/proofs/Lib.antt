@@ -9,3 +9,8 @@ pub mod Writing
 pub mod Searching
 pub mod Finding
 pub mod Cutting
+pub mod Stretching
+pub mod Combining
+pub mod Numbers
+pub mod RunBounds
+pub mod Singles

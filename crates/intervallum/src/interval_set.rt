@@ -10,13 +10,16 @@ mod algebra;
 mod arithmetic;
 mod bounds;
 mod conversions;
+mod copies;
 mod fits;
 mod inclusion;
+mod lattice;
 mod operands;
 mod reading;
 mod runs;
 mod shrinks;
 mod text;
+mod values;
 
 use crate::interval::Interval;
 use crate::ops::{Cardinality, Collection, IsEmpty, Range};

@@ -1,10 +1,13 @@
 //! Walks over the runs of sets from the left, and a search in them. How many steps these take is part
 //! of the contracts.
+mod combine;
 mod merge;
 mod probes;
 mod search;
+mod stretch;
 mod walk;
 
+pub use combine::{common, have_common, one_alone, without};
 pub use merge::unite;
 pub use probes::Probes;
 pub use search::{Place, find};

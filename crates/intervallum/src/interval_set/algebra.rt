@@ -1,11 +1,13 @@
 //! Operations on sets, by members.
-ghost use Rattle.std.specs.Prelude.{◌≤◌, ◌+◌, IfOk, length, ⊤};
-ghost use Rattle.ivl_laws.specs.Sets.{Union};
+ghost use Rattle.std.specs.Prelude.{◌↔◌, ◌≤◌, ◌+◌, IfOk, IsTrue, length, ⊤};
+ghost use Rattle.ivl_laws.specs.Sets.{Complement, HasNone, HasSome, Intersection, SymmetricDifference, Union, Without};
 ghost use Rattle.ivl_laws.specs.Runs.{Covers, IsRunsOf};
 
 use super::IntervalSet;
-use crate::ops::Union;
-use crate::steps::{Walk, unite};
+use crate::ops::{
+    Complement, Difference, Disjoint, Intersection, Overlap, SymmetricDifference, Union,
+};
+use crate::steps::{Walk, common, have_common, one_alone, unite, without};
 use crate::width::Width;
 use std::alloc::AllocError;
 
@@ -26,5 +28,118 @@ impl<B: Width> Union<IntervalSet<B>> for IntervalSet<B> {
         ensures runs_at_most { IfOk result (λ L. length L ≤ length self.now + length other.now) }
     {
         unite(Walk::new(self), Walk::new(other))
+    }
+}
+
+impl<B: Width> Intersection<IntervalSet<B>> for IntervalSet<B> {
+    type Output = Result<IntervalSet<B>, AllocError>;
+
+    ghost members = { Covers };
+
+    ghost other_members = { Covers };
+
+    ghost answers = { λ r S. IfOk r (λ L. IsRunsOf L S) };
+
+    /// The members of both sets. `O(n + m)`, in memory that is reserved once for
+    /// `n + m` runs. An error is memory that was refused; neither set is changed.
+    ///
+    /// In the original a refused allocation ends the program, so the answer is a plain set.
+    fn intersection(&self, other: &IntervalSet<B>) -> Result<IntervalSet<B>, AllocError>
+        ensures members { IfOk result (λ L. IsRunsOf L (Intersection (Covers self.now) (Covers other.now))) }
+        ensures runs_at_most { IfOk result (λ L. length L ≤ length self.now + length other.now) }
+    {
+        common(Walk::new(self), Walk::new(other))
+    }
+}
+
+impl<B: Width> Difference<IntervalSet<B>> for IntervalSet<B> {
+    type Output = Result<IntervalSet<B>, AllocError>;
+
+    ghost members = { Covers };
+
+    ghost other_members = { Covers };
+
+    ghost answers = { λ r S. IfOk r (λ L. IsRunsOf L S) };
+
+    /// The members that are not in `other`. `O(n + m)`, in memory that is reserved once for
+    /// `n + m` runs. An error is memory that was refused; neither set is changed.
+    ///
+    /// The original builds the complement of `other` first; here no other set is built.
+    fn difference(&self, other: &IntervalSet<B>) -> Result<IntervalSet<B>, AllocError>
+        ensures members { IfOk result (λ L. IsRunsOf L (Without (Covers self.now) (Covers other.now))) }
+        ensures runs_at_most { IfOk result (λ L. length L ≤ length self.now + length other.now) }
+    {
+        without(Walk::new(self), Walk::new(other))
+    }
+}
+
+impl<B: Width> SymmetricDifference<IntervalSet<B>> for IntervalSet<B> {
+    type Output = Result<IntervalSet<B>, AllocError>;
+
+    ghost members = { Covers };
+
+    ghost other_members = { Covers };
+
+    ghost can_unite = { λ _ _. ⊤ };
+
+    ghost answers = { λ r S. IfOk r (λ L. IsRunsOf L S) };
+
+    /// The members of one set that are not in the other. `O(n + m)`, in memory that is reserved once for
+    /// `n + m` runs. An error is memory that was refused; neither set is changed.
+    ///
+    /// The original builds the union, the intersection and their difference; here no other set is built.
+    fn symmetric_difference(&self, other: &IntervalSet<B>) -> Result<IntervalSet<B>, AllocError>
+        ensures members { IfOk result (λ L. IsRunsOf L (SymmetricDifference (Covers self.now) (Covers other.now))) }
+        ensures runs_at_most { IfOk result (λ L. length L ≤ length self.now + length other.now) }
+    {
+        one_alone(Walk::new(self), Walk::new(other))
+    }
+}
+
+impl<B: Width> Complement for IntervalSet<B> {
+    type Output = Result<IntervalSet<B>, AllocError>;
+
+    ghost whole = { B.whole };
+
+    ghost members = { Covers };
+
+    ghost answers = { λ r S. IfOk r (λ L. IsRunsOf L S) };
+
+    /// The numbers of the range that are no members. `O(n)`, in memory that is reserved once for
+    /// `n + 1` runs, and for one run that holds the range meanwhile.
+    fn complement(&self) -> Result<IntervalSet<B>, AllocError>
+        ensures members { IfOk result (λ L. IsRunsOf L (Complement B.whole (Covers self.now))) }
+        ensures runs_at_most { IfOk result (λ L. length L ≤ length self.now + 1) }
+    {
+        let whole = IntervalSet::whole_range(self.allocator())?;
+        without(Walk::new(&whole), Walk::new(self))
+    }
+}
+
+impl<B: Width> Disjoint<IntervalSet<B>> for IntervalSet<B> {
+    ghost members = { Covers };
+
+    ghost other_members = { Covers };
+
+    /// True exactly where no number is a member of both. `O(n + m)`, and no memory; stops at the first
+    /// common member.
+    fn is_disjoint(&self, other: &IntervalSet<B>) -> bool
+        ensures { IsTrue result ↔ HasNone (Intersection (Covers self.now) (Covers other.now)) }
+    {
+        !have_common(Walk::new(self), Walk::new(other))
+    }
+}
+
+impl<B: Width> Overlap<IntervalSet<B>> for IntervalSet<B> {
+    ghost members = { Covers };
+
+    ghost other_members = { Covers };
+
+    /// True exactly where some number is a member of both. `O(n + m)`, and no memory; stops at the
+    /// first common member.
+    fn overlap(&self, other: &IntervalSet<B>) -> bool
+        ensures { IsTrue result ↔ HasSome (Intersection (Covers self.now) (Covers other.now)) }
+    {
+        have_common(Walk::new(self), Walk::new(other))
     }
 }

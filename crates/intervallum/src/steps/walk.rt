@@ -70,6 +70,13 @@ impl<'a, B: Width> Walk<'a, B> {
         self.runs.len() - self.taken
     }
 
+    /// The runs that are left are in the range. This does nothing: its contract is the fact.
+    pub fn in_range(&self)
+        ensures { IsRunListIn B.whole self.now.left }
+    {
+        let _taken = self.taken;
+    }
+
     /// The allocator of the set.
     pub fn alloc(&self) -> Global {
         self.alloc

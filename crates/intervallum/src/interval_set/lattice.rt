@@ -1,0 +1,44 @@
+//! Sets as pieces of information: what two of them say together, and what they agree on.
+ghost use Rattle.std.specs.Prelude.{◌≤◌, ◌+◌, IfOk, length};
+ghost use Rattle.ivl_laws.specs.Sets.{Intersection, Union};
+ghost use Rattle.ivl_laws.specs.Runs.{Covers, IsRunsOf};
+
+use super::IntervalSet;
+use crate::ops::{Join, Meet};
+use crate::steps::{Walk, common, unite};
+use crate::width::Width;
+use std::alloc::AllocError;
+
+impl<B: Width> Join for IntervalSet<B> {
+    type Output = Result<IntervalSet<B>, AllocError>;
+
+    ghost members = { Covers };
+
+    ghost answers = { λ r S. IfOk r (λ L. IsRunsOf L S) };
+
+    /// The members of both sets: the intersection. `O(n + m)`, in memory that is reserved once for
+    /// `n + m` runs. An error is memory that was refused.
+    fn join(self, other: IntervalSet<B>) -> Result<IntervalSet<B>, AllocError>
+        ensures members { IfOk result (λ L. IsRunsOf L (Intersection (Covers self) (Covers other))) }
+        ensures runs_at_most { IfOk result (λ L. length L ≤ length self + length other) }
+    {
+        common(Walk::new(&self), Walk::new(&other))
+    }
+}
+
+impl<B: Width> Meet for IntervalSet<B> {
+    type Output = Result<IntervalSet<B>, AllocError>;
+
+    ghost members = { Covers };
+
+    ghost answers = { λ r S. IfOk r (λ L. IsRunsOf L S) };
+
+    /// The members of either set: the union. `O(n + m)`, in memory that is reserved once for `n + m`
+    /// runs. An error is memory that was refused.
+    fn meet(self, other: IntervalSet<B>) -> Result<IntervalSet<B>, AllocError>
+        ensures members { IfOk result (λ L. IsRunsOf L (Union (Covers self) (Covers other))) }
+        ensures runs_at_most { IfOk result (λ L. length L ≤ length self + length other) }
+    {
+        unite(Walk::new(&self), Walk::new(&other))
+    }
+}

@@ -1,0 +1,116 @@
+//! Sets beside a single value.
+ghost use Rattle.std.specs.Prelude.{◌≤◌, ◌+◌, IfOk, length};
+ghost use Rattle.ivl_laws.specs.Sets.{Intersection, IsBetween, Only, SymmetricDifference, Union, Without};
+ghost use Rattle.ivl_laws.specs.Runs.{Covers, IsRunsOf};
+
+use super::IntervalSet;
+use crate::interval::Interval;
+use crate::ops::{Difference, Intersection, SymmetricDifference, Union};
+use crate::steps::{Walk, common, one_alone, unite, without};
+use crate::width::Width;
+use std::alloc::AllocError;
+
+impl<B: Width> Union<B> for IntervalSet<B> {
+    type Output = Result<IntervalSet<B>, AllocError>;
+
+    ghost members = { Covers };
+
+    ghost other_members = { λ v. Only (B.value v) };
+
+    ghost can_unite = { λ _ v. IsBetween B.whole (B.value v) };
+
+    ghost answers = { λ r S. IfOk r (λ L. IsRunsOf L S) };
+
+    /// The members, and the value. `O(n)`, in memory
+    /// for `n + 1` runs, and for one run that holds the value meanwhile. An error is memory that was
+    /// refused; the set is not changed.
+    ///
+    /// Condition: the value is in the range, which `Interval::in_range(value, value)` tests. The original
+    /// has no such condition in its signature.
+    fn union(&self, other: &B) -> Result<IntervalSet<B>, AllocError>
+        requires { IsBetween B.whole (B.value other.now) }
+        ensures members { IfOk result (λ L. IsRunsOf L (Union (Covers self.now) (Only (B.value other.now)))) }
+        ensures runs_at_most { IfOk result (λ L. length L ≤ length self.now + 1) }
+    {
+        let single = IntervalSet::new(self.allocator(), *other, *other)?;
+        unite(Walk::new(self), Walk::new(&single))
+    }
+}
+
+impl<B: Width> SymmetricDifference<B> for IntervalSet<B> {
+    type Output = Result<IntervalSet<B>, AllocError>;
+
+    ghost members = { Covers };
+
+    ghost other_members = { λ v. Only (B.value v) };
+
+    ghost can_unite = { λ _ v. IsBetween B.whole (B.value v) };
+
+    ghost answers = { λ r S. IfOk r (λ L. IsRunsOf L S) };
+
+    /// The members without the value where it is one, else with it. `O(n)`, in memory
+    /// for `n + 1` runs, and for one run that holds the value meanwhile. An error is memory that was
+    /// refused; the set is not changed.
+    ///
+    /// Condition: the value is in the range, which `Interval::in_range(value, value)` tests. The original
+    /// has no such condition in its signature.
+    fn symmetric_difference(&self, other: &B) -> Result<IntervalSet<B>, AllocError>
+        requires { IsBetween B.whole (B.value other.now) }
+        ensures members { IfOk result (λ L. IsRunsOf L (SymmetricDifference (Covers self.now) (Only (B.value other.now)))) }
+        ensures runs_at_most { IfOk result (λ L. length L ≤ length self.now + 1) }
+    {
+        let single = IntervalSet::new(self.allocator(), *other, *other)?;
+        one_alone(Walk::new(self), Walk::new(&single))
+    }
+}
+
+impl<B: Width> Intersection<B> for IntervalSet<B> {
+    type Output = Result<IntervalSet<B>, AllocError>;
+
+    ghost members = { Covers };
+
+    ghost other_members = { λ v. Only (B.value v) };
+
+    ghost answers = { λ r S. IfOk r (λ L. IsRunsOf L S) };
+
+    /// The value alone where it is a member, else none; for any value of its type. `O(n)`, in memory
+    /// for `n + 1` runs, and for one run that holds the value meanwhile. An error is memory that was
+    /// refused; the set is not changed.
+    fn intersection(&self, other: &B) -> Result<IntervalSet<B>, AllocError>
+        ensures members { IfOk result (λ L. IsRunsOf L (Intersection (Covers self.now) (Only (B.value other.now)))) }
+        ensures runs_at_most { IfOk result (λ L. length L ≤ length self.now + 1) }
+    {
+        let members = Walk::new(self);
+        members.in_range();
+        if Interval::in_range(*other, *other) {
+            let single = IntervalSet::new(self.allocator(), *other, *other)?;
+            common(members, Walk::new(&single))
+        } else {
+            IntervalSet::with_room(self.allocator(), 0)
+        }
+    }
+}
+
+impl<B: Width> Difference<B> for IntervalSet<B> {
+    type Output = Result<IntervalSet<B>, AllocError>;
+
+    ghost members = { Covers };
+
+    ghost other_members = { λ v. Only (B.value v) };
+
+    ghost answers = { λ r S. IfOk r (λ L. IsRunsOf L S) };
+
+    /// The members but the value; for any value of its type. `O(n)`, in memory
+    /// for `n + 1` runs, and for one run that holds the value meanwhile. An error is memory that was
+    /// refused; the set is not changed.
+    fn difference(&self, other: &B) -> Result<IntervalSet<B>, AllocError>
+        ensures members { IfOk result (λ L. IsRunsOf L (Without (Covers self.now) (Only (B.value other.now)))) }
+        ensures runs_at_most { IfOk result (λ L. length L ≤ length self.now + 1) }
+    {
+        if !Interval::in_range(*other, *other) {
+            return self.try_clone();
+        }
+        let single = IntervalSet::new(self.allocator(), *other, *other)?;
+        without(Walk::new(self), Walk::new(&single))
+    }
+}
