@@ -96,7 +96,3 @@ cutting_ends written L k W T h u =
       maximal = e.maximal;
       members = λ z. ((λ c. (e.members z).0 (inl c)), (λ t. ⊎_elim (λ c. c) (λ x. absurd x.0) ((e.members z).1 t)));
     }
-
--- a cut by what a window keeps of the range is a cut of a set in the range
-pub cut_by_window : (S V W K : ℤ → Type 0) (L : List (ℤ × ℤ)) → IsSubset S V → ((z : ℤ) → W z ↔ (V z × K z)) → IsRunsOf L (Intersection S W) → IsRunsOf L (λ z. S z × K z)
-cut_by_window S V W K L h e r = IsRunsOf-same (Intersection S W) (λ z. S z × K z) L (λ z. ((λ (s, w). (s, ((e z).0 w).1)), (λ (s, k). (s, (e z).1 (h z s, k))))) r
