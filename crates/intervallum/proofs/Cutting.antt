@@ -1,12 +1,11 @@
 -- Runs taken one by one, and cut by an interval.
-use Rattle.std.proofs.Common.{◌≡◌, ◌↔◌, ⊎_elim, ◌⊎◌, ℕ, zero, suc, ◌+◌, ◌<◌, ◌≤◌, ℤ, pos, ◌+ℤ◌, ◌≤ℤ◌, Bool, true, false, IsTrue, List, [], ◌∷◌, length, get_or, drop, refl, sym, subst, arith, inl, inr}
+use Rattle.std.proofs.Common.{◌≡◌, ◌↔◌, ⊎_elim, ◌⊎◌, ℕ, zero, suc, ◌+◌, ◌<◌, ◌≤◌, ℤ, ◌≤ℤ◌, List, [], ◌∷◌, length, get_or, drop, refl, sym, subst, arith, inl, inr}
 use Rattle.std.proofs.lemmas.Int.{ints}
-use Rattle.ivl_laws.specs.Sets.{IsBetween, IsCrossed, IsSubset, SameMembers, Intersection, Union, AtLeast, AtMost, Above, Below}
+use Rattle.ivl_laws.specs.Sets.{IsBetween, IsCrossed, SameMembers, Intersection, Union}
 use Rattle.ivl_laws.specs.Runs.{Covers, IsMaximal, IsRunsOf, StartsBy}
 use Rattle.ivl_laws.proofs.Runs.{covered_after, lower_end}
 use Rattle.ivl_laws.proofs.Merging.{StartsBy-more}
 use Rattle.ivl_laws.proofs.Intervals.{none_is_crossed}
-use Rattle.ivl_laws.proofs.SetLaws.{IsRunsOf-same}
 
 -- what is written and what is left to cut by W make up T
 pub record IsCutting (written left : List (ℤ × ℤ)) (W T : ℤ → Type 0) : Type 0 where
