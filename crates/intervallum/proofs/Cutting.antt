@@ -1,12 +1,11 @@
 -- Runs taken one by one, and cut by an interval.
-use Rattle.std.proofs.Common.{◌≡◌, ◌↔◌, ⊎_elim, ◌⊎◌, ℕ, zero, suc, ◌+◌, ◌<◌, ◌≤◌, ℤ, pos, ◌+ℤ◌, ◌≤ℤ◌, Bool, true, false, IsTrue, List, [], ◌∷◌, length, get_or, drop, refl, sym, subst, arith, inl, inr}
+use Rattle.std.proofs.Common.{◌≡◌, ◌↔◌, ⊎_elim, ◌⊎◌, ℕ, zero, suc, ◌+◌, ◌<◌, ◌≤◌, ℤ, ◌≤ℤ◌, List, [], ◌∷◌, length, get_or, drop, refl, sym, subst, arith, inl, inr}
 use Rattle.std.proofs.lemmas.Int.{ints}
-use Rattle.ivl_laws.specs.Sets.{IsBetween, IsCrossed, IsSubset, SameMembers, Intersection, Union, AtLeast, AtMost, Above, Below}
+use Rattle.ivl_laws.specs.Sets.{IsBetween, IsCrossed, SameMembers, Intersection, Union}
 use Rattle.ivl_laws.specs.Runs.{Covers, IsMaximal, IsRunsOf, StartsBy}
 use Rattle.ivl_laws.proofs.Runs.{covered_after, lower_end}
 use Rattle.ivl_laws.proofs.Merging.{StartsBy-more}
 use Rattle.ivl_laws.proofs.Intervals.{none_is_crossed}
-use Rattle.ivl_laws.proofs.SetLaws.{IsRunsOf-same}
 
 -- what is written and what is left to cut by W make up T
 pub record IsCutting (written left : List (ℤ × ℤ)) (W T : ℤ → Type 0) : Type 0 where
@@ -96,7 +95,3 @@ cutting_ends written L k W T h u =
       maximal = e.maximal;
       members = λ z. ((λ c. (e.members z).0 (inl c)), (λ t. ⊎_elim (λ c. c) (λ x. absurd x.0) ((e.members z).1 t)));
     }
-
--- a cut by what a window keeps of the range is a cut of a set in the range
-pub cut_by_window : (S V W K : ℤ → Type 0) (L : List (ℤ × ℤ)) → IsSubset S V → ((z : ℤ) → W z ↔ (V z × K z)) → IsRunsOf L (Intersection S W) → IsRunsOf L (λ z. S z × K z)
-cut_by_window S V W K L h e r = IsRunsOf-same (Intersection S W) (λ z. S z × K z) L (λ z. ((λ (s, w). (s, ((e z).0 w).1)), (λ (s, k). (s, (e z).1 (h z s, k))))) r

@@ -1,5 +1,5 @@
 -- What a place in the runs of a set tells of its members.
-use Rattle.std.proofs.Common.{◌≡◌, ◌↔◌, ◌∙◌, ap, take, drop, ⊎_elim, ℕ, zero, suc, ◌+◌, ◌-◌, ◌<◌, ◌≤◌, ℤ, pos, ◌+ℤ◌, ◌≤ℤ◌, Bool, true, false, IsTrue, List, [], ◌∷◌, length, get_or, Some, refl, sym, subst, arith, inl, inr}
+use Rattle.std.proofs.Common.{◌≡◌, ◌↔◌, ◌∙◌, ap, take, ⊎_elim, ℕ, zero, suc, ◌+◌, ◌<◌, ℤ, pos, ◌+ℤ◌, ◌≤ℤ◌, Bool, true, false, IsTrue, List, [], ◌∷◌, length, get_or, Some, refl, sym, subst, arith, inl, inr}
 use Rattle.std.proofs.lemmas.Int.{ints, by_lt_z}
 use Rattle.std.specs.Prelude.{slice_get, IsSomeAnd}
 use Rattle.ivl_laws.specs.Sets.{IsBetween, IsSubset, HasSome, Only, SameMembers}
@@ -7,7 +7,7 @@ use Rattle.ivl_laws.specs.Runs.{Covers, IsMaximal}
 use Rattle.ivl_laws.specs.Counts.{IsIn}
 use Rattle.ivl_laws.proofs.Runs.{lower_end, upper_end}
 use Rattle.ivl_laws.proofs.Products.{one_covers}
-use Rattle.ivl_laws.proofs.Places.{free_above_end, covers_at, covers-take}
+use Rattle.ivl_laws.proofs.Places.{free_above_end, covers_at}
 use Rattle.ivl_laws.proofs.Ranges.{first_is_least, last_is_greatest}
 
 pub covered_at_place : (L : List (ℤ × ℤ)) (i : ℕ) (v : ℤ) → IsSomeAnd (slice_get L i) (λ run. IsBetween run v) → Covers L v

@@ -4,7 +4,7 @@ use Rattle.ivl_laws.specs.Runs.{Covers}
 use Rattle.ivl_laws.proofs.Places.{covers_at}
 use Rattle.ivl_laws.proofs.Intervals.{not_crossed}
 use Rattle.ivl_interval.proofs.Pairs.{not_that}
-use Rattle.intervallum.proofs.Cutting.{IsCutting, cutting_begins, cutting_next, cutting_passes, cutting_starts, cutting_ends}
+use Rattle.intervallum.proofs.Cutting.{IsCutting, cutting_next, cutting_passes, cutting_starts}
 use Rattle.intervallum.proofs.interval_set.shrinks.cut_runs.Goals as goal
 use Rattle.intervallum.proofs.interval_set.shrinks.cut_runs.Goals.{then-not-is_empty+in_ok-push_run, else-not-is_empty}
 

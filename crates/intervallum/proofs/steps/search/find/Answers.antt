@@ -1,5 +1,4 @@
-use Rattle.std.proofs.Common.{rules, ◌≡◌, ℕ, suc, ◌+◌, ◌-◌, ◌/◌, ◌<◌, ◌≤◌, ℤ, ◌<ℤ◌, List, length, slice_get, Some, take, drop, arith, subst, sym, ◌∙◌}
-use Rattle.std.proofs.lemmas.Int.{ints}
+use Rattle.std.proofs.Common.{rules, ◌≡◌, ℕ, suc, ◌+◌, ◌-◌, ◌/◌, ◌<◌, ℤ, ◌<ℤ◌, List, slice_get, Some, take, drop, arith, subst, sym, ◌∙◌}
 use Rattle.std.proofs.lemmas.Option.{get_or_from_slice_get}
 use Rattle.ivl_laws.proofs.Orders.{lt_number}
 use Rattle.intervallum.proofs.Searching.{above_from, below_to, gap_at, shrink, EndBelow, StartAbove}

@@ -1,4 +1,4 @@
-use Rattle.std.proofs.Common.{◌≡◌, ◌+◌, ◌-◌, ℤ, ◌≤ℤ◌, length, sym, subst, arith}
+use Rattle.std.proofs.Common.{◌-◌, ℤ, ◌≤ℤ◌, sym, subst, arith}
 use Rattle.ivl_laws.proofs.Places.{open_at}
 use Rattle.ivl_laws.proofs.Intervals.{some_is_not_crossed}
 use Rattle.intervallum.proofs.Finding.{greatest_of_last, some_has_length}

@@ -1,4 +1,4 @@
-use Rattle.std.proofs.Common.{◌≡◌, length, arith}
+use Rattle.std.proofs.Common.{arith}
 use Rattle.intervallum.proofs.Finding.{one_run_is_one, many_runs_are_not_one}
 use Rattle.intervallum.proofs.interval_set.bounds.IntervalSetIsSingleton.is_singleton.Goals as goal
 

@@ -1,5 +1,4 @@
-use Rattle.std.proofs.Common.{◌≡◌, ℤ, ◌≤ℤ◌, List, sym, subst, ◌∙◌}
-use Rattle.ivl_laws.specs.Sets.{IsBetween, IsSubset}
+use Rattle.std.proofs.Common.{ℤ, ◌≤ℤ◌, sym, subst, ◌∙◌}
 use Rattle.ivl_laws.specs.Runs.{Covers}
 use Rattle.ivl_laws.proofs.Places.{open_at}
 use Rattle.intervallum.proofs.Finding.{included_more, one_run_not_included, holds_at}

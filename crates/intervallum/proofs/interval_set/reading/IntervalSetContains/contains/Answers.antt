@@ -1,4 +1,3 @@
-use Rattle.std.proofs.Common.{ap, sym, ◌∙◌}
 use Rattle.intervallum.proofs.Finding.{found, not_found}
 use Rattle.intervallum.proofs.interval_set.reading.IntervalSetContains.contains.Goals as goal
 
