@@ -1,6 +1,6 @@
 -- The results over each pair of runs, for each operation.
-use Rattle.std.proofs.Common.{◌≡◌, ℕ, ◌+◌, ◌<◌, ◌≤◌, ℤ, pos, ◌≤ℤ◌, List, [], ◌∷◌, ◌++◌, map, take, length, get_or, take_all, refl, sym, ap, ◌∙◌, subst}
-use Rattle.ivl_laws.specs.Sets.{IsBetween, IsSubset, SameMembers, Sums, Differences, ExactProducts, Products, IsHullOf, Only}
+use Rattle.std.proofs.Common.{◌≡◌, ℕ, ◌<◌, ◌≤◌, ℤ, pos, ◌≤ℤ◌, List, [], ◌∷◌, take, length, get_or, take_all, sym, ap, ◌∙◌, subst}
+use Rattle.ivl_laws.specs.Sets.{IsBetween, IsSubset, SameMembers, Sums, Differences, ExactProducts, IsHullOf, Only}
 use Rattle.ivl_laws.specs.Runs.{Covers, IsMaximal}
 use Rattle.ivl_laws.specs.Arithmetic.{pairwise}
 use Rattle.ivl_laws.proofs.Lengths.{length-pairwise}
@@ -10,7 +10,7 @@ use Rattle.ivl_laws.proofs.Results.{sum_is_interval_sum, difference_is_interval_
 use lib.Signed.{≤ℤ_refl}
 use Rattle.ivl_laws.proofs.Runs.{≤ℤ_antisymm}
 use Rattle.ivl_laws.proofs.Spans.{IsHullOf-same}
-use Rattle.ivl_laws.proofs.SetLaws.{sums_are_monotone, differences_are_monotone, exact_products_are_monotone, sums-only, differences-only, exact_products-only, products-only}
+use Rattle.ivl_laws.proofs.SetLaws.{sums_are_monotone, differences_are_monotone, exact_products_are_monotone, sums-only, differences-only, products-only}
 use Rattle.intervallum.specs.Sweeps.{IsResultOf, ResultsBy, ExactResultsBy, AreImages, result_of, run_at}
 use Rattle.intervallum.specs.declared.sweep.Op.{Op}
 use Rattle.intervallum.specs.declared.sweep.Op.TheVariants.{Sum, Difference, Product}

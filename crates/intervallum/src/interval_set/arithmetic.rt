@@ -87,7 +87,7 @@ impl<B: Width> Add<B> for IntervalSet<B> {
     ghost add_gives = { λ a x r. IfOk r (λ L. IsRunsOf L (Sums (Covers a) (Only (B.value x)))) };
 
     /// The sums of a member and the value. Condition: `fits_add`, where the value
-    /// itself may lie outside the range. `O(n)` for `n` runs, in memory for as many.
+    /// itself may lie outside the range. `O(n log n)` for `n` runs, in memory for twice as many.
     fn add(self, rhs: B) -> Result<IntervalSet<B>, AllocError> {
         combine_with(&self, rhs, Op::Sum)
     }
@@ -101,7 +101,7 @@ impl<B: Width> Add<&B> for IntervalSet<B> {
     ghost add_gives = { λ a x r. IfOk r (λ L. IsRunsOf L (Sums (Covers a) (Only (B.value x.now)))) };
 
     /// The sums of a member and the value. Condition: `fits_add`, where the value
-    /// itself may lie outside the range. `O(n)` for `n` runs, in memory for as many.
+    /// itself may lie outside the range. `O(n log n)` for `n` runs, in memory for twice as many.
     fn add(self, rhs: &B) -> Result<IntervalSet<B>, AllocError> {
         combine_with(&self, *rhs, Op::Sum)
     }
@@ -115,7 +115,7 @@ impl<B: Width> Add<B> for &IntervalSet<B> {
     ghost add_gives = { λ a x r. IfOk r (λ L. IsRunsOf L (Sums (Covers a.now) (Only (B.value x)))) };
 
     /// The sums of a member and the value. Condition: `fits_add`, where the value
-    /// itself may lie outside the range. `O(n)` for `n` runs, in memory for as many.
+    /// itself may lie outside the range. `O(n log n)` for `n` runs, in memory for twice as many.
     fn add(self, rhs: B) -> Result<IntervalSet<B>, AllocError> {
         combine_with(self, rhs, Op::Sum)
     }
@@ -129,7 +129,7 @@ impl<B: Width> Add<&B> for &IntervalSet<B> {
     ghost add_gives = { λ a x r. IfOk r (λ L. IsRunsOf L (Sums (Covers a.now) (Only (B.value x.now)))) };
 
     /// The sums of a member and the value. Condition: `fits_add`, where the value
-    /// itself may lie outside the range. `O(n)` for `n` runs, in memory for as many.
+    /// itself may lie outside the range. `O(n log n)` for `n` runs, in memory for twice as many.
     fn add(self, rhs: &B) -> Result<IntervalSet<B>, AllocError> {
         combine_with(self, *rhs, Op::Sum)
     }
@@ -203,7 +203,7 @@ impl<B: Width> Sub<B> for IntervalSet<B> {
     ghost sub_gives = { λ a x r. IfOk r (λ L. IsRunsOf L (Differences (Covers a) (Only (B.value x)))) };
 
     /// The differences of a member and the value. Condition: `fits_sub`, where the value
-    /// itself may lie outside the range. `O(n)` for `n` runs, in memory for as many.
+    /// itself may lie outside the range. `O(n log n)` for `n` runs, in memory for twice as many.
     fn sub(self, rhs: B) -> Result<IntervalSet<B>, AllocError> {
         combine_with(&self, rhs, Op::Difference)
     }
@@ -217,7 +217,7 @@ impl<B: Width> Sub<&B> for IntervalSet<B> {
     ghost sub_gives = { λ a x r. IfOk r (λ L. IsRunsOf L (Differences (Covers a) (Only (B.value x.now)))) };
 
     /// The differences of a member and the value. Condition: `fits_sub`, where the value
-    /// itself may lie outside the range. `O(n)` for `n` runs, in memory for as many.
+    /// itself may lie outside the range. `O(n log n)` for `n` runs, in memory for twice as many.
     fn sub(self, rhs: &B) -> Result<IntervalSet<B>, AllocError> {
         combine_with(&self, *rhs, Op::Difference)
     }
@@ -231,7 +231,7 @@ impl<B: Width> Sub<B> for &IntervalSet<B> {
     ghost sub_gives = { λ a x r. IfOk r (λ L. IsRunsOf L (Differences (Covers a.now) (Only (B.value x)))) };
 
     /// The differences of a member and the value. Condition: `fits_sub`, where the value
-    /// itself may lie outside the range. `O(n)` for `n` runs, in memory for as many.
+    /// itself may lie outside the range. `O(n log n)` for `n` runs, in memory for twice as many.
     fn sub(self, rhs: B) -> Result<IntervalSet<B>, AllocError> {
         combine_with(self, rhs, Op::Difference)
     }
@@ -245,7 +245,7 @@ impl<B: Width> Sub<&B> for &IntervalSet<B> {
     ghost sub_gives = { λ a x r. IfOk r (λ L. IsRunsOf L (Differences (Covers a.now) (Only (B.value x.now)))) };
 
     /// The differences of a member and the value. Condition: `fits_sub`, where the value
-    /// itself may lie outside the range. `O(n)` for `n` runs, in memory for as many.
+    /// itself may lie outside the range. `O(n log n)` for `n` runs, in memory for twice as many.
     fn sub(self, rhs: &B) -> Result<IntervalSet<B>, AllocError> {
         combine_with(self, *rhs, Op::Difference)
     }
@@ -319,7 +319,7 @@ impl<B: Width> Mul<B> for IntervalSet<B> {
     ghost mul_gives = { λ a x r. IfOk r (λ L. IsRunsOf L (Products (Covers a) (Only (B.value x)))) };
 
     /// For each run, the numbers from the least to the greatest product with the value. Condition: `fits_mul`, where the value
-    /// itself may lie outside the range. `O(n)` for `n` runs, in memory for as many.
+    /// itself may lie outside the range. `O(n log n)` for `n` runs, in memory for twice as many.
     fn mul(self, rhs: B) -> Result<IntervalSet<B>, AllocError> {
         combine_with(&self, rhs, Op::Product)
     }
@@ -333,7 +333,7 @@ impl<B: Width> Mul<&B> for IntervalSet<B> {
     ghost mul_gives = { λ a x r. IfOk r (λ L. IsRunsOf L (Products (Covers a) (Only (B.value x.now)))) };
 
     /// For each run, the numbers from the least to the greatest product with the value. Condition: `fits_mul`, where the value
-    /// itself may lie outside the range. `O(n)` for `n` runs, in memory for as many.
+    /// itself may lie outside the range. `O(n log n)` for `n` runs, in memory for twice as many.
     fn mul(self, rhs: &B) -> Result<IntervalSet<B>, AllocError> {
         combine_with(&self, *rhs, Op::Product)
     }
@@ -347,7 +347,7 @@ impl<B: Width> Mul<B> for &IntervalSet<B> {
     ghost mul_gives = { λ a x r. IfOk r (λ L. IsRunsOf L (Products (Covers a.now) (Only (B.value x)))) };
 
     /// For each run, the numbers from the least to the greatest product with the value. Condition: `fits_mul`, where the value
-    /// itself may lie outside the range. `O(n)` for `n` runs, in memory for as many.
+    /// itself may lie outside the range. `O(n log n)` for `n` runs, in memory for twice as many.
     fn mul(self, rhs: B) -> Result<IntervalSet<B>, AllocError> {
         combine_with(self, rhs, Op::Product)
     }
@@ -361,7 +361,7 @@ impl<B: Width> Mul<&B> for &IntervalSet<B> {
     ghost mul_gives = { λ a x r. IfOk r (λ L. IsRunsOf L (Products (Covers a.now) (Only (B.value x.now)))) };
 
     /// For each run, the numbers from the least to the greatest product with the value. Condition: `fits_mul`, where the value
-    /// itself may lie outside the range. `O(n)` for `n` runs, in memory for as many.
+    /// itself may lie outside the range. `O(n log n)` for `n` runs, in memory for twice as many.
     fn mul(self, rhs: &B) -> Result<IntervalSet<B>, AllocError> {
         combine_with(self, *rhs, Op::Product)
     }

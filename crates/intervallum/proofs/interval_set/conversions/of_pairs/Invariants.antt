@@ -1,6 +1,4 @@
 use Rattle.std.proofs.Common.{◌≡◌, map, take}
-use Rattle.ivl_laws.specs.Runs.{Covers}
-use Rattle.ivl_laws.specs.Sets.{SameMembers}
 use Rattle.intervallum.proofs.interval_set.conversions.of_pairs.Given as goal
 
 abbrev pub invariant-loop-lower : goal.invariant-loop-lower

@@ -1,4 +1,4 @@
-use Rattle.std.proofs.Common.{ℤ, List, map, subst}
+use Rattle.std.proofs.Common.{map, subst}
 use Rattle.std.proofs.lemmas.Result.{IfOk-weaker}
 use Rattle.ivl_laws.specs.Runs.{Covers, IsRunsOf}
 use Rattle.intervallum.proofs.interval_set.conversions.VecTuple2ToIntervalSet.to_interval_set.Goals as goal
