@@ -9,13 +9,14 @@
 //! let b = IntervalSet::new(alloc, 3, 5)?;
 //! let both = a.union(&b)?;                  // [1..5], one run
 //! assert_eq!(rt; both.interval_count(), 1);
-//! assert_eq!(rt; both.size(), 5);
+//! assert_eq!(rt; both.size(), 5u32);
 //! ```
 #![tactic(auto)]
 
 pub use ivl_interval::{interval, kleene, ops, optional, width};
 
 pub mod interval_set;
+pub mod prelude;
 pub mod steps;
 pub mod sweep;
 

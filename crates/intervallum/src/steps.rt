@@ -1,5 +1,5 @@
-//! Walks over the runs of sets from the left, and a search in them. How many steps these take is part
-//! of the contracts.
+//! Walks over the runs of sets from the left, and a search in them. A contract sees how often a walk
+//! has advanced and how often a search has looked.
 mod combine;
 mod merge;
 mod probes;
