@@ -43,7 +43,7 @@ impl<B: Width> Intersection<IntervalSet<B>> for IntervalSet<B> {
     /// The members of both sets. `O(n + m)`, in memory that is reserved once for
     /// `n + m` runs. An error is memory that was refused; neither set is changed.
     ///
-    /// In the original a refused allocation ends the program, so the answer is a plain set.
+    /// The original answers a plain set, and has no error for want of memory.
     fn intersection(&self, other: &IntervalSet<B>) -> Result<IntervalSet<B>, AllocError>
         ensures members { IfOk result (λ L. IsRunsOf L (Intersection (Covers self.now) (Covers other.now))) }
         ensures runs_at_most { IfOk result (λ L. length L ≤ length self.now + length other.now) }
@@ -64,7 +64,7 @@ impl<B: Width> Difference<IntervalSet<B>> for IntervalSet<B> {
     /// The members that are not in `other`. `O(n + m)`, in memory that is reserved once for
     /// `n + m` runs. An error is memory that was refused; neither set is changed.
     ///
-    /// The original builds the complement of `other` first; here no other set is built.
+    /// No other set is built on the way.
     fn difference(&self, other: &IntervalSet<B>) -> Result<IntervalSet<B>, AllocError>
         ensures members { IfOk result (λ L. IsRunsOf L (Without (Covers self.now) (Covers other.now))) }
         ensures runs_at_most { IfOk result (λ L. length L ≤ length self.now + length other.now) }
@@ -87,7 +87,7 @@ impl<B: Width> SymmetricDifference<IntervalSet<B>> for IntervalSet<B> {
     /// The members of one set that are not in the other. `O(n + m)`, in memory that is reserved once for
     /// `n + m` runs. An error is memory that was refused; neither set is changed.
     ///
-    /// The original builds the union, the intersection and their difference; here no other set is built.
+    /// No other set is built on the way.
     fn symmetric_difference(&self, other: &IntervalSet<B>) -> Result<IntervalSet<B>, AllocError>
         ensures members { IfOk result (λ L. IsRunsOf L (SymmetricDifference (Covers self.now) (Covers other.now))) }
         ensures runs_at_most { IfOk result (λ L. length L ≤ length self.now + length other.now) }

@@ -94,7 +94,7 @@ impl<B: Width> IntervalSet<B> {
     /// memory, it is as it was. `O(k log k + n)` for `k` items and `n` runs, in memory for `2 k + n` runs
     /// besides what the gathering of the items leaves over.
     ///
-    /// In the original the items have to come in ascending order.
+    /// The original is not meant for an interval with no member, and cannot tell want of memory.
     pub fn extend<I: Iterator<Item = Interval<B>> + Drop>(
         &mut self,
         iterator: I,
@@ -139,8 +139,8 @@ pub trait ToIntervalSet<B: Width> {
     /// `Interval::in_range` tests. Pairs may stand in any order and overlap; a pair whose bounds cross
     /// adds nothing.
     ///
-    /// `O(n log n)` for `n` pairs, in memory for twice as many runs. The original refuses a crossed pair
-    /// and pairs that are not ascending.
+    /// `O(n log n)` for `n` pairs, in memory for twice as many runs. The original is not meant for a
+    /// crossed pair.
     fn to_interval_set(self, alloc: Global) -> Result<IntervalSet<B>, AllocError>
         requires { can_convert self }
         ensures { IfOk result (λ L. IsRunsOf L (Covers (pairs self))) };
