@@ -1,10 +1,11 @@
 //! What a call answers, and how the file writes it.
 
 use intervallum::interval::Interval;
+use intervallum::interval_set::IntervalSet;
 use intervallum::kleene::SKleene;
-use intervallum::ops::{Bounded, IsEmpty};
+use intervallum::ops::{Bounded, Cardinality, IsEmpty};
 use intervallum::optional::Optional;
-use intervallum::width::Width;
+use intervallum::width::{SizeNumber, Width};
 use std::alloc::{AllocError, Global};
 use std::fmt::Display;
 
@@ -16,6 +17,10 @@ pub enum Answer<B: Width> {
     Truth(bool),
     Entailment(SKleene),
     Size(u128),
+    Set(IntervalSet<B>),
+    Count(usize),
+    /// A set as it is displayed.
+    Displayed(IntervalSet<B>),
 }
 
 impl<B: Width + Display> Answer<B> {
@@ -30,6 +35,9 @@ impl<B: Width + Display> Answer<B> {
             Answer::Truth(truth) => String::from_str(alloc, if *truth { "yes" } else { "no" }),
             Answer::Entailment(answer) => String::from_str(alloc, entailment_text(*answer)),
             Answer::Size(size) => format!(in alloc; "{size}"),
+            Answer::Set(set) => set_text(alloc, set),
+            Answer::Count(count) => format!(in alloc; "{count}"),
+            Answer::Displayed(set) => format!(in alloc; "{set}"),
         }
     }
 }
@@ -43,6 +51,20 @@ fn interval_text<B: Width + Display>(
         return String::from_str(alloc, "-");
     }
     format!(in alloc; "{} {}", interval.lower(), interval.upper())
+}
+
+/// `-` for no member, else the bounds of each run; and then the size.
+fn set_text<B: Width + Display>(alloc: Global, set: &IntervalSet<B>) -> Result<String, AllocError> {
+    if set.is_empty() {
+        return String::from_str(alloc, "- # 0");
+    }
+    let mut text = String::new(alloc);
+    for run in set {
+        let bounds = interval_text(alloc, run)?;
+        text.push_str(bounds.as_str())?;
+        text.push(' ')?;
+    }
+    format!(in alloc; "{text}# {}", set.size().number())
 }
 
 fn entailment_text(answer: SKleene) -> &'static str {

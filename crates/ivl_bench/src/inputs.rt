@@ -1,0 +1,150 @@
+//! The operands, the same at each run: numbers of a linear congruential generator.
+
+use anyhow::{Context, Result, ensure};
+use intervallum::interval::Interval;
+use intervallum::interval_set::{IntervalSet, ToIntervalSet};
+use intervallum::ops::{Intersection, Range};
+use std::alloc::{AllocError, Global};
+
+/// The sets and numbers that the calls are given.
+#[derive(Drop)]
+pub struct Inputs {
+    pub alloc: Global,
+    pub a: IntervalSet<i64>,
+    pub b: IntervalSet<i64>,
+    pub clone_of_a: IntervalSet<i64>,
+    pub in_both: IntervalSet<i64>,
+    /// The bounds of the runs of `a`, shuffled.
+    pub pairs: Vec<(i64, i64)>,
+    /// The runs of `a`, shuffled the same.
+    pub runs: Vec<Interval<i64>>,
+    pub probes: Vec<i64>,
+    pub middle: i64,
+    pub left: IntervalSet<i64>,
+    pub right: IntervalSet<i64>,
+}
+
+impl Inputs {
+    /// The operands for sets of `n` runs.
+    pub fn new(alloc: Global, n: u32) -> Result<Inputs> {
+        let mut pairs = dense(alloc, n, 1)?;
+        let a = set_of(alloc, &pairs)?;
+        let b = set_of(alloc, &dense(alloc, n, 2)?)?;
+        let (lower, _) = *pairs.first().context("there are no runs")?;
+        let (_, upper) = *pairs.last().context("there are no runs")?;
+        shuffle(&mut pairs, 3);
+        Ok(Inputs {
+            alloc,
+            clone_of_a: a.try_clone()?,
+            in_both: a.intersection(&b)?,
+            runs: runs_of(alloc, &pairs)?,
+            pairs,
+            probes: probes(alloc, lower.saturating_sub(5), upper.saturating_add(5))?,
+            middle: lower.saturating_add(upper) / 2,
+            left: set_of(alloc, &apart(alloc, n, 1, n)?)?,
+            right: set_of(alloc, &apart(alloc, n, 2, 1)?)?,
+            a,
+            b,
+        })
+    }
+}
+
+/// A linear congruential generator.
+#[derive(Drop)]
+struct Generator {
+    state: u64,
+}
+
+impl Generator {
+    fn new(seed: u64) -> Generator {
+        Generator { state: seed }
+    }
+
+    /// The upper bits of the next state.
+    fn next(&mut self) -> u32 {
+        self.state = self
+            .state
+            .wrapping_mul(6_364_136_223_846_793_005)
+            .wrapping_add(1_442_695_040_888_963_407);
+        (self.state >> 33) as u32
+    }
+}
+
+/// Runs with small gaps.
+fn dense(alloc: Global, n: u32, seed: u64) -> Result<Vec<(i64, i64)>, AllocError> {
+    let mut generator = Generator::new(seed);
+    let mut position = i64::from(n) * -4;
+    let mut pairs = Vec::new(alloc);
+    for _ in 0..n {
+        let gap = i64::from(2 + generator.next() % 9);
+        let length = i64::from(generator.next() % 8);
+        let lower = position.saturating_add(gap);
+        position = lower.saturating_add(length);
+        pairs.push((lower, position))?;
+    }
+    Ok(pairs)
+}
+
+/// Runs of one or two members, which start at each multiple of `8 * step`. Where the one set has `m`
+/// runs at step 1 and the other has step `m`, their sum has a run for each pair of runs.
+fn apart(alloc: Global, n: u32, seed: u64, step: u32) -> Result<Vec<(i64, i64)>, AllocError> {
+    let mut generator = Generator::new(seed);
+    let mut pairs = Vec::new(alloc);
+    for i in 0..n {
+        let lower = i64::from(i)
+            .saturating_mul(i64::from(step))
+            .saturating_mul(8);
+        let upper = lower.saturating_add(i64::from(generator.next() % 2));
+        pairs.push((lower, upper))?;
+    }
+    Ok(pairs)
+}
+
+fn shuffle(pairs: &mut [(i64, i64)], seed: u64) {
+    let mut generator = Generator::new(seed);
+    for i in (1..pairs.len()).rev() {
+        let j = generator.next() as usize % (i + 1);
+        pairs.swap(i, j);
+    }
+}
+
+/// A thousand numbers from `lower` to `upper`.
+fn probes(alloc: Global, lower: i64, upper: i64) -> Result<Vec<i64>> {
+    let count = u32::try_from(upper.saturating_sub(lower).saturating_add(1))
+        .ok()
+        .context("the probes are too far apart")?
+        .max(1);
+    let mut generator = Generator::new(5);
+    let mut probes = Vec::new(alloc);
+    for _ in 0..1000 {
+        probes.push(lower.saturating_add(i64::from(generator.next() % count)))?;
+    }
+    Ok(probes)
+}
+
+fn set_of(alloc: Global, pairs: &[(i64, i64)]) -> Result<IntervalSet<i64>> {
+    of_pairs(alloc, pairs)?.context("a bound is out of range")
+}
+
+/// The set of the pairs; none where a bound is out of range.
+pub fn of_pairs(
+    alloc: Global,
+    pairs: &[(i64, i64)],
+) -> Result<Option<IntervalSet<i64>>, AllocError> {
+    if !pairs
+        .iter()
+        .all(|&(lower, upper)| Interval::in_range(lower, upper))
+    {
+        return Ok(None);
+    }
+    Ok(Some(pairs.to_interval_set(alloc)?))
+}
+
+fn runs_of(alloc: Global, pairs: &[(i64, i64)]) -> Result<Vec<Interval<i64>>> {
+    let mut runs = Vec::new(alloc);
+    for &(lower, upper) in pairs {
+        ensure!(Interval::in_range(lower, upper), "a bound is out of range");
+        runs.push(Interval::new(lower, upper))?;
+    }
+    Ok(runs)
+}

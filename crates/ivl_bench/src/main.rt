@@ -1,0 +1,62 @@
+//! Times the public calls on sets of `i64`.
+//!
+//! Without arguments, prints what each call answers at two sizes of its inputs, and no time. With the
+//! arguments `time SECONDS GREATEST_N`, prints for each call a line `name n ns_per_operation runs size`.
+#![tactic(auto)]
+
+mod inputs;
+mod measures;
+mod timing;
+
+use anyhow::{Context, Result, bail};
+use inputs::Inputs;
+use measures::Measure;
+use std::env;
+use std::time::Duration;
+use timing::Limits;
+
+/// Prints what each call answers: its runs and its size, or its one number.
+fn print_answers(rt: &(impl Print + AllocGlobal), n: u32) -> Result<()> {
+    let inputs = Inputs::new(rt.alloc(), n)?;
+    for measure in Measure::ALL {
+        if measure.is_for(n) {
+            let outcome = measure.run(&inputs)?;
+            let text = outcome.to_text(rt.alloc())?;
+            println!(rt; "{} {n} {text}", measure.name())?;
+        }
+    }
+    Ok(())
+}
+
+fn main(rt: HostRuntime) -> Result<()> {
+    let mut arguments = env::args(&rt)?.skip(1);
+    let Some(word) = arguments.next() else {
+        print_answers(&rt, 10)?;
+        return print_answers(&rt, 100);
+    };
+    if word.as_str() != "time" {
+        bail!("the arguments are: time SECONDS GREATEST_N");
+    }
+    let seconds = arguments.next().context("give the seconds")?;
+    let greatest = arguments.next().context("give the greatest n")?;
+    let seconds = seconds
+        .as_str()
+        .parse()
+        .ok()
+        .context("reading the seconds")?;
+    let least = Duration::try_from_secs_f64(seconds)
+        .ok()
+        .context("the seconds do not fit")?;
+    let limits = Limits::new(least);
+    let greatest: u32 = greatest
+        .as_str()
+        .parse()
+        .ok()
+        .context("reading the greatest n")?;
+    for n in [10, 100, 300, 1_000, 10_000] {
+        if n <= greatest {
+            timing::print_times(&rt, n, &limits)?;
+        }
+    }
+    Ok(())
+}

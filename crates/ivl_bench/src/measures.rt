@@ -1,0 +1,213 @@
+//! The calls that are measured, by their names.
+
+use crate::inputs::{Inputs, of_pairs};
+use intervallum::interval::Interval;
+use intervallum::interval_set::IntervalSet;
+use intervallum::ops::{
+    Cardinality, Complement, Contains, Difference, Fits, Intersection, Range, ShrinkLeft, Subset,
+    SymmetricDifference, Union,
+};
+use intervallum::width::SizeNumber;
+use std::alloc::{AllocError, Global};
+
+/// A call on sets.
+#[derive(Clone, Copy)]
+pub enum Measure {
+    BuildExtend,
+    BuildPairs,
+    ExtendOne,
+    Clone,
+    Union,
+    Intersection,
+    Difference,
+    Symmetric,
+    Complement,
+    ShrinkLeft,
+    PlusValue,
+    TimesValue,
+    Contains,
+    EqualYes,
+    EqualNo,
+    Subset,
+    PlusDense,
+    MinusDense,
+    TimesDense,
+    PlusSparse,
+    TimesSparse,
+}
+
+/// What a call answers.
+#[derive(Drop)]
+pub enum Outcome {
+    Set(IntervalSet<i64>),
+    Number(u64),
+    DoesNotFit,
+}
+
+impl Outcome {
+    /// The number of runs and the size of a set, or the one number.
+    pub fn to_text(&self, alloc: Global) -> Result<String, AllocError> {
+        match self {
+            Outcome::Set(set) => {
+                format!(in alloc; "{} {}", set.interval_count(), set.size().number())
+            }
+            Outcome::Number(number) => format!(in alloc; "{number}"),
+            Outcome::DoesNotFit => String::from_str(alloc, "does not fit"),
+        }
+    }
+}
+
+impl Measure {
+    pub const ALL: [Measure; 21] = [
+        Measure::BuildExtend,
+        Measure::BuildPairs,
+        Measure::ExtendOne,
+        Measure::Clone,
+        Measure::Union,
+        Measure::Intersection,
+        Measure::Difference,
+        Measure::Symmetric,
+        Measure::Complement,
+        Measure::ShrinkLeft,
+        Measure::PlusValue,
+        Measure::TimesValue,
+        Measure::Contains,
+        Measure::EqualYes,
+        Measure::EqualNo,
+        Measure::Subset,
+        Measure::PlusDense,
+        Measure::MinusDense,
+        Measure::TimesDense,
+        Measure::PlusSparse,
+        Measure::TimesSparse,
+    ];
+
+    pub fn name(self) -> &'static str {
+        match self {
+            Measure::BuildExtend => "build_extend",
+            Measure::BuildPairs => "build_pairs",
+            Measure::ExtendOne => "extend_one",
+            Measure::Clone => "clone",
+            Measure::Union => "union",
+            Measure::Intersection => "intersection",
+            Measure::Difference => "difference",
+            Measure::Symmetric => "symmetric",
+            Measure::Complement => "complement",
+            Measure::ShrinkLeft => "shrink_left",
+            Measure::PlusValue => "plus_value",
+            Measure::TimesValue => "times_value",
+            Measure::Contains => "contains",
+            Measure::EqualYes => "equal_yes",
+            Measure::EqualNo => "equal_no",
+            Measure::Subset => "subset",
+            Measure::PlusDense => "plus_dense",
+            Measure::MinusDense => "minus_dense",
+            Measure::TimesDense => "times_dense",
+            Measure::PlusSparse => "plus_sparse",
+            Measure::TimesSparse => "times_sparse",
+        }
+    }
+
+    /// Whether the call is measured for sets of `n` runs: the others only where they end soon, and
+    /// 300 runs for one call alone.
+    pub fn is_for(self, n: u32) -> bool {
+        match self {
+            Measure::PlusDense | Measure::MinusDense | Measure::TimesDense => {
+                n <= 1000 && n != 300
+            }
+            Measure::PlusSparse => n <= 300,
+            Measure::TimesSparse => n <= 100,
+            _ => n != 300,
+        }
+    }
+
+    /// How many operations one run of the call stands for.
+    pub fn operations(self) -> u64 {
+        match self {
+            Measure::Contains => 1000,
+            _ => 1,
+        }
+    }
+
+    /// Makes the call.
+    pub fn run(self, inputs: &Inputs) -> Result<Outcome, AllocError> {
+        let (a, b) = (&inputs.a, &inputs.b);
+        Ok(match self {
+            Measure::BuildExtend => Outcome::Set(built(inputs)?),
+            Measure::BuildPairs => match of_pairs(inputs.alloc, &inputs.pairs)? {
+                Some(set) => Outcome::Set(set),
+                None => Outcome::DoesNotFit,
+            },
+            Measure::ExtendOne => Outcome::Set(extended(a)?),
+            Measure::Clone => Outcome::Set(a.try_clone()?),
+            Measure::Union => Outcome::Set(a.union(b)?),
+            Measure::Intersection => Outcome::Set(a.intersection(b)?),
+            Measure::Difference => Outcome::Set(a.difference(b)?),
+            Measure::Symmetric => Outcome::Set(a.symmetric_difference(b)?),
+            Measure::Complement => Outcome::Set(a.complement()?),
+            Measure::ShrinkLeft => Outcome::Set(a.shrink_left(inputs.middle)?),
+            Measure::PlusValue if a.fits_add(&7) => Outcome::Set((a + 7)?),
+            Measure::TimesValue if a.fits_mul(&3) => Outcome::Set((a * 3)?),
+            Measure::PlusValue | Measure::TimesValue => Outcome::DoesNotFit,
+            Measure::Contains => Outcome::Number(hits(a, &inputs.probes)),
+            Measure::EqualYes => Outcome::Number(u64::from(*a == inputs.clone_of_a)),
+            Measure::EqualNo => Outcome::Number(u64::from(a == b)),
+            Measure::Subset => Outcome::Number(u64::from(inputs.in_both.is_subset(a))),
+            Measure::PlusDense => sum(a, b)?,
+            Measure::MinusDense => difference(a, b)?,
+            Measure::TimesDense => product(a, b)?,
+            Measure::PlusSparse => sum(&inputs.left, &inputs.right)?,
+            Measure::TimesSparse => product(&inputs.left, &inputs.right)?,
+        })
+    }
+}
+
+/// An empty set, extended by all runs.
+fn built(inputs: &Inputs) -> Result<IntervalSet<i64>, AllocError> {
+    let mut set = IntervalSet::empty(inputs.alloc);
+    set.extend(inputs.runs.iter().copied())?;
+    Ok(set)
+}
+
+/// A copy, extended by one run.
+fn extended(set: &IntervalSet<i64>) -> Result<IntervalSet<i64>, AllocError> {
+    let mut copy = set.try_clone()?;
+    let added = [Interval::new(0, 1)];
+    copy.extend(added.iter().copied())?;
+    Ok(copy)
+}
+
+/// How many of the numbers are members.
+fn hits(set: &IntervalSet<i64>, probes: &[i64]) -> u64 {
+    let mut hits: u64 = 0;
+    for probe in probes {
+        if set.contains(probe) {
+            hits = hits.saturating_add(1);
+        }
+    }
+    hits
+}
+
+fn sum(a: &IntervalSet<i64>, b: &IntervalSet<i64>) -> Result<Outcome, AllocError> {
+    if a.fits_add(b) {
+        Ok(Outcome::Set((a + b)?))
+    } else {
+        Ok(Outcome::DoesNotFit)
+    }
+}
+
+fn difference(a: &IntervalSet<i64>, b: &IntervalSet<i64>) -> Result<Outcome, AllocError> {
+    if a.fits_sub(b) {
+        Ok(Outcome::Set((a - b)?))
+    } else {
+        Ok(Outcome::DoesNotFit)
+    }
+}
+
+fn product(a: &IntervalSet<i64>, b: &IntervalSet<i64>) -> Result<Outcome, AllocError> {
+    if a.fits_mul(b) {
+        Ok(Outcome::Set((a * b)?))
+    } else {
+        Ok(Outcome::DoesNotFit)
+    }
+}

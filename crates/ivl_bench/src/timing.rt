@@ -1,0 +1,78 @@
+//! How long calls take.
+
+use crate::inputs::Inputs;
+use crate::measures::Measure;
+use anyhow::Result;
+use std::rt::Clock;
+use std::time::{Duration, Instant};
+
+/// How long a measure lasts.
+#[derive(Clone, Copy)]
+pub struct Limits {
+    /// A repetition lasts at least that long.
+    least: Duration,
+    /// A call that lasts longer is made once.
+    once: Duration,
+}
+
+impl Limits {
+    pub fn new(least: Duration) -> Limits {
+        Limits {
+            least,
+            once: Duration::from_secs(2),
+        }
+    }
+}
+
+/// Prints a line for each call at sets of `n` runs: `name n ns_per_operation runs size`.
+pub fn print_times(rt: &(impl Print + AllocGlobal + Clock), n: u32, limits: &Limits) -> Result<()> {
+    let inputs = Inputs::new(rt.alloc(), n)?;
+    for measure in Measure::ALL {
+        if measure.is_for(n) {
+            let time = least_time(rt, measure, &inputs, limits)?;
+            let outcome = measure.run(&inputs)?;
+            let text = outcome.to_text(rt.alloc())?;
+            println!(rt; "{} {n} {time} {text}", measure.name())?;
+        }
+    }
+    Ok(())
+}
+
+/// The least nanoseconds that an operation takes, of three repetitions.
+fn least_time(
+    clock: &impl Clock,
+    measure: Measure,
+    inputs: &Inputs,
+    limits: &Limits,
+) -> Result<u128> {
+    let mut count = 1;
+    let mut time = duration(clock, measure, inputs, count)?;
+    if time > limits.once {
+        return Ok(per_operation(time, measure, count));
+    }
+    for _ in 0..40 {
+        if time >= limits.least {
+            break;
+        }
+        count = 2u64.saturating_mul(count);
+        time = duration(clock, measure, inputs, count)?;
+    }
+    for _ in 0..2 {
+        time = time.min(duration(clock, measure, inputs, count)?);
+    }
+    Ok(per_operation(time, measure, count))
+}
+
+/// How long a number of calls takes.
+fn duration(clock: &impl Clock, measure: Measure, inputs: &Inputs, count: u64) -> Result<Duration> {
+    let start = Instant::now(clock)?;
+    for _ in 0..count {
+        measure.run(inputs)?;
+    }
+    Ok(start.elapsed(clock)?)
+}
+
+fn per_operation(time: Duration, measure: Measure, count: u64) -> u128 {
+    let operations = count.saturating_mul(measure.operations());
+    time.as_nanos() / u128::from(operations.max(1))
+}
