@@ -7,6 +7,7 @@ mod intervals;
 mod operands;
 mod own_types;
 mod ranges;
+mod set_arithmetic;
 mod set_fixtures;
 mod set_values;
 mod sets;

@@ -2,6 +2,7 @@
 
 use super::fixtures::pair_of;
 use super::set_fixtures::{check_text, ints};
+use crate::sets::cuts::place_in_set;
 use intervallum::interval::Interval;
 use intervallum::interval_set::{IntervalSet, ToIntervalSet};
 use intervallum::kleene::SKleene;
@@ -9,6 +10,7 @@ use intervallum::ops::{
     Empty, Entailment, IsEmpty, IsSingleton, Join, Meet, Range, ShrinkLeft, ShrinkRight,
     StrictShrinkLeft, StrictShrinkRight,
 };
+use intervallum::steps::Place;
 use std::test::Fail;
 
 #[test]
@@ -66,4 +68,15 @@ fn information(rt: HostRuntime) -> Result<(), Fail> {
     check_text(&rt, &low.join(more)?, "[1..2]")?;
     let (a, b) = (ints(&rt, &[(1, 2)])?, ints(&rt, &[(3, 3), (6, 6)])?);
     check_text(&rt, &a.meet(b)?, "{[1..3][6..6]}")
+}
+
+#[test]
+fn places(rt: HostRuntime) -> Result<(), Fail> {
+    let set = ints(&rt, &[(1, 2), (5, 6), (9, 9), (20, 30)])?;
+    assert_eq!(rt; place_in_set(&set, 0), Place::Gap(0));
+    assert_eq!(rt; place_in_set(&set, 5), Place::In(1));
+    assert_eq!(rt; place_in_set(&set, 7), Place::Gap(2));
+    assert_eq!(rt; place_in_set(&set, 20), Place::In(3));
+    assert_eq!(rt; place_in_set(&set, 31), Place::Gap(4));
+    Ok(())
 }
