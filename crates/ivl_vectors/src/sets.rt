@@ -4,6 +4,10 @@ ghost use Rattle.ivl_laws.specs.Sets.{IsInRange, SameMembers, Union};
 ghost use Rattle.ivl_laws.specs.Runs.{Covers, IsRunListIn, IsRunsOf};
 ghost use Rattle.ivl_laws.specs.Counts.{IsCountOf};
 
+pub mod arithmetic;
+pub mod cuts;
+pub mod pairs;
+
 use crate::callers;
 use intervallum::interval::Interval;
 use intervallum::interval_set::IntervalSet;
