@@ -53,3 +53,17 @@ pub fn products_with_value_fit<B: Width>(a: &IntervalSet<B>, x: &B) -> bool
 {
     callers::fits_mul_by_bound(a, x)
 }
+
+/// Each sum with a value is in the range; the value itself may lie outside.
+pub fn sums_with_value_fit<B: Width>(a: &IntervalSet<B>, x: &B) -> bool
+    ensures { IsTrue result ↔ IsSubset (Sums (Covers a.now) (Only (B.value x.now))) (IsBetween B.whole) }
+{
+    callers::fits_add_by_bound(a, x)
+}
+
+/// Each difference with a value is in the range; the value itself may lie outside.
+pub fn differences_with_value_fit<B: Width>(a: &IntervalSet<B>, x: &B) -> bool
+    ensures { IsTrue result ↔ IsSubset (Differences (Covers a.now) (Only (B.value x.now))) (IsBetween B.whole) }
+{
+    callers::fits_sub_by_bound(a, x)
+}
