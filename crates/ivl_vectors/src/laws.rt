@@ -3,6 +3,8 @@ ghost use Rattle.std.specs.Prelude.{◌≡◌, ◌↔◌, ◌⊎◌, IfOk, IsTru
 ghost use Rattle.ivl_laws.specs.Sets.{SameMembers};
 ghost use Rattle.ivl_laws.specs.Runs.{Covers};
 
+pub mod algebra;
+
 use intervallum::interval_set::IntervalSet;
 use intervallum::ops::{Cardinality, Contains, Union};
 use intervallum::width::Width;

@@ -5,7 +5,9 @@ ghost use Rattle.ivl_laws.specs.Runs.{Covers, IsRunListIn, IsRunsOf};
 ghost use Rattle.ivl_laws.specs.Counts.{IsCountOf};
 
 pub mod arithmetic;
+pub mod building;
 pub mod cuts;
+pub mod ends;
 pub mod pairs;
 
 use crate::callers;

@@ -1,0 +1,69 @@
+//! The ends of a set, and whether the results of arithmetic are in the range.
+ghost use Rattle.std.specs.Prelude.{◌↔◌, ◌≤ℤ◌, ℤ, IsTrue};
+ghost use Rattle.ivl_laws.specs.Sets.{Differences, ExactProducts, HasSome, IsBetween, IsSubset, Only, Sums};
+ghost use Rattle.ivl_laws.specs.Runs.{Covers};
+
+use crate::callers::arithmetic as callers;
+use intervallum::interval_set::IntervalSet;
+use intervallum::ops::Bounded;
+use intervallum::width::Width;
+
+/// The least number that the runs cover.
+pub fn least_of_set<B: Width>(set: &IntervalSet<B>) -> B
+    requires { HasSome (Covers set.now) }
+    ensures member { Covers set.now (B.value result) }
+    ensures least { (z : ℤ) → Covers set.now z → B.value result ≤ℤ z }
+{
+    set.lower()
+}
+
+/// The greatest number that the runs cover.
+pub fn greatest_of_set<B: Width>(set: &IntervalSet<B>) -> B
+    requires { HasSome (Covers set.now) }
+    ensures member { Covers set.now (B.value result) }
+    ensures greatest { (z : ℤ) → Covers set.now z → z ≤ℤ B.value result }
+{
+    set.upper()
+}
+
+/// Each sum is in the range.
+pub fn sums_fit<B: Width>(a: &IntervalSet<B>, b: &IntervalSet<B>) -> bool
+    ensures { IsTrue result ↔ IsSubset (Sums (Covers a.now) (Covers b.now)) (IsBetween B.whole) }
+{
+    callers::fits_add_by_bound(a, b)
+}
+
+/// Each difference is in the range.
+pub fn differences_fit<B: Width>(a: &IntervalSet<B>, b: &IntervalSet<B>) -> bool
+    ensures { IsTrue result ↔ IsSubset (Differences (Covers a.now) (Covers b.now)) (IsBetween B.whole) }
+{
+    callers::fits_sub_by_bound(a, b)
+}
+
+/// Each product is in the range.
+pub fn products_fit<B: Width>(a: &IntervalSet<B>, b: &IntervalSet<B>) -> bool
+    ensures { IsTrue result ↔ IsSubset (ExactProducts (Covers a.now) (Covers b.now)) (IsBetween B.whole) }
+{
+    callers::fits_mul_by_bound(a, b)
+}
+
+/// Each product with a value is in the range; the value itself may lie outside.
+pub fn products_with_value_fit<B: Width>(a: &IntervalSet<B>, x: &B) -> bool
+    ensures { IsTrue result ↔ IsSubset (ExactProducts (Covers a.now) (Only (B.value x.now))) (IsBetween B.whole) }
+{
+    callers::fits_mul_by_bound(a, x)
+}
+
+/// Each sum with a value is in the range; the value itself may lie outside.
+pub fn sums_with_value_fit<B: Width>(a: &IntervalSet<B>, x: &B) -> bool
+    ensures { IsTrue result ↔ IsSubset (Sums (Covers a.now) (Only (B.value x.now))) (IsBetween B.whole) }
+{
+    callers::fits_add_by_bound(a, x)
+}
+
+/// Each difference with a value is in the range; the value itself may lie outside.
+pub fn differences_with_value_fit<B: Width>(a: &IntervalSet<B>, x: &B) -> bool
+    ensures { IsTrue result ↔ IsSubset (Differences (Covers a.now) (Only (B.value x.now))) (IsBetween B.whole) }
+{
+    callers::fits_sub_by_bound(a, x)
+}
