@@ -1,10 +1,10 @@
 //! Each form of the operands of arithmetic, and the laws of unions, at one type.
 
 use super::fixtures::{has_runs, set_of};
-use crate::intervals::operands;
-use crate::{laws, sets};
 use intervallum::interval::Interval;
 use intervallum::ops::{Fits, Range};
+use ivl_callers::intervals::operands;
+use ivl_callers::{laws, sets};
 use std::test::Fail;
 
 #[test]

@@ -2,12 +2,12 @@
 
 use super::fixtures::{interval_of, set_of};
 use super::set_fixtures::{check_text, ints};
-use crate::sets::cuts::place_in_set;
 use intervallum::interval::Interval;
 use intervallum::interval_set::{IntervalSet, ToIntervalSet};
 use intervallum::ops::Range;
 use intervallum::steps::{Place, Walk};
 use intervallum::width::Width;
+use ivl_callers::sets::cuts::place_in_set;
 use std::alloc::Global;
 use std::process::Abort;
 use std::test::Fail;

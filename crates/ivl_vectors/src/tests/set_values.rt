@@ -2,7 +2,6 @@
 
 use super::fixtures::pair_of;
 use super::set_fixtures::{check_text, ints};
-use crate::sets::cuts::place_in_set;
 use intervallum::interval::Interval;
 use intervallum::interval_set::{IntervalSet, ToIntervalSet};
 use intervallum::kleene::SKleene;
@@ -11,6 +10,7 @@ use intervallum::ops::{
     StrictShrinkLeft, StrictShrinkRight,
 };
 use intervallum::steps::Place;
+use ivl_callers::sets::cuts::place_in_set;
 use std::test::Fail;
 
 #[test]
