@@ -1,11 +1,10 @@
 -- Laws of run lists that the calls of sets answer.
 use Rattle.std.proofs.Common.{◌≡◌, ◌+◌, inl, inr, ⊎_elim, ℕ, ℤ, List, [], ◌∷◌, sym, subst}
-use Rattle.ivl_laws.specs.Sets.{Complement, ExactProducts, Intersection, IsBetween, IsSubset, Only, Products, SameMembers, Union}
+use Rattle.ivl_laws.specs.Sets.{Complement, Intersection, IsBetween, IsSubset, Only, SameMembers, Union}
 use Rattle.ivl_laws.specs.Runs.{Covers, IsRunListIn, IsRunsOf}
 use Rattle.ivl_laws.specs.Counts.{IsCountOf}
 use Rattle.ivl_laws.proofs.Counts.{IsCountOf-same, union_and_intersection}
 use Rattle.ivl_laws.proofs.Lengths.{decide_covers}
-use Rattle.ivl_laws.proofs.SetLaws.{exact_products-only, products-only}
 
 -- R is the complement of A, and S that of R
 pub complement_of_complement : (whole : ℤ × ℤ) (A R S : List (ℤ × ℤ)) → IsRunListIn whole A
@@ -36,15 +35,20 @@ counts_add_up A B U M a b u m p q ca cb cu cm =
     (IsCountOf-same (Covers U) (Union (Covers A) (Covers B)) u p.members cu)
     (IsCountOf-same (Covers M) (Intersection (Covers A) (Covers B)) m q.members cm)
 
-module _ (A L : List (ℤ × ℤ)) (x : ℤ) (e : L ≡ (x, x) ∷ []) where
-  -- products with the list of one number fit where those with the number do
-  pub products_with_one_fit : (whole : ℤ × ℤ) → IsSubset (ExactProducts (Covers A) (Only x)) (IsBetween whole)
-      → IsSubset (ExactProducts (Covers A) (Covers L)) (IsBetween whole)
-  products_with_one_fit whole h z m = h z ((exact_products-only (Covers A) x z).1 (subst (λ (M : List (ℤ × ℤ)). ExactProducts (Covers A) (Covers M) z) e m))
+-- F with the list of one number beside F with that number alone
+module _ (F : (ℤ → Type 0) → (ℤ → Type 0) → ℤ → Type 0) (A L : List (ℤ × ℤ)) (x : ℤ) (e : L ≡ (x, x) ∷ [])
+    (alone : SameMembers (F (Covers A) (Only x)) (F (Covers A) (Covers ((x, x) ∷ [])))) where
+  as_list : (z : ℤ) → F (Covers A) (Only x) z → F (Covers A) (Covers L) z
+  as_list z m = subst (λ (M : List (ℤ × ℤ)). F (Covers A) (Covers M) z) (sym e) ((alone z).0 m)
 
-  pub products_with_one_agree : (P Q : List (ℤ × ℤ)) → IsRunsOf P (Products (Covers A) (Only x)) → IsRunsOf Q (Products (Covers A) (Covers L))
-      → SameMembers (Covers P) (Covers Q)
-  products_with_one_agree P Q p q z = (
-    (λ m. (q.members z).1 (subst (λ (M : List (ℤ × ℤ)). Products (Covers A) (Covers M) z) (sym e) ((products-only (Covers A) x z).0 ((p.members z).0 m)))),
-    (λ m. (p.members z).1 ((products-only (Covers A) x z).1 (subst (λ (M : List (ℤ × ℤ)). Products (Covers A) (Covers M) z) e ((q.members z).0 m)))),
+  as_number : (z : ℤ) → F (Covers A) (Covers L) z → F (Covers A) (Only x) z
+  as_number z m = (alone z).1 (subst (λ (M : List (ℤ × ℤ)). F (Covers A) (Covers M) z) e m)
+
+  pub results_with_one_fit : (whole : ℤ × ℤ) → IsSubset (F (Covers A) (Only x)) (IsBetween whole) → IsSubset (F (Covers A) (Covers L)) (IsBetween whole)
+  results_with_one_fit whole h z m = h z (as_number z m)
+
+  pub results_with_one_agree : (P Q : List (ℤ × ℤ)) → IsRunsOf P (F (Covers A) (Only x)) → IsRunsOf Q (F (Covers A) (Covers L)) → SameMembers (Covers P) (Covers Q)
+  results_with_one_agree P Q p q z = (
+    (λ m. (q.members z).1 (as_list z ((p.members z).0 m))),
+    (λ m. (p.members z).1 (as_number z ((q.members z).0 m))),
   )

@@ -1,6 +1,6 @@
 //! Laws that tie the calls of sets together.
 ghost use Rattle.std.specs.Prelude.{◌≡◌, ◌+◌, ◌↔◌, IfOk, IsTrue};
-ghost use Rattle.ivl_laws.specs.Sets.{ExactProducts, IsBetween, IsSubset, Only};
+ghost use Rattle.ivl_laws.specs.Sets.{Differences, ExactProducts, IsBetween, IsSubset, Only, Sums};
 ghost use Rattle.ivl_laws.specs.Runs.{Covers};
 
 use super::same_members_are_equal;
@@ -85,5 +85,37 @@ pub fn products_with_value_alone<B: Width>(
     let one = IntervalSet::singleton(alloc, x)?;
     let by_value = (a * x)?;
     let by_set = (a * &one)?;
+    Ok(same_members_are_equal(&by_value, &by_set))
+}
+
+/// The sums with a value of the range are those with the set of that value alone.
+pub fn sums_with_value_alone<B: Width>(
+    alloc: Global,
+    a: &IntervalSet<B>,
+    x: B,
+) -> Result<bool, AllocError>
+    requires in_range { IsBetween B.whole (B.value x) }
+    requires fits { IsSubset (Sums (Covers a.now) (Only (B.value x))) (IsBetween B.whole) }
+    ensures { IfOk result IsTrue }
+{
+    let one = IntervalSet::singleton(alloc, x)?;
+    let by_value = (a + x)?;
+    let by_set = (a + &one)?;
+    Ok(same_members_are_equal(&by_value, &by_set))
+}
+
+/// The differences with a value of the range are those with the set of that value alone.
+pub fn differences_with_value_alone<B: Width>(
+    alloc: Global,
+    a: &IntervalSet<B>,
+    x: B,
+) -> Result<bool, AllocError>
+    requires in_range { IsBetween B.whole (B.value x) }
+    requires fits { IsSubset (Differences (Covers a.now) (Only (B.value x))) (IsBetween B.whole) }
+    ensures { IfOk result IsTrue }
+{
+    let one = IntervalSet::singleton(alloc, x)?;
+    let by_value = (a - x)?;
+    let by_set = (a - &one)?;
     Ok(same_members_are_equal(&by_value, &by_set))
 }

@@ -1,6 +1,6 @@
 //! Sets made of lists and pairs, taken apart into runs, and the results over each pair of runs.
-ghost use Rattle.std.specs.Prelude.{◌≡◌, ◌*◌, All, IfOk, OnErr, length, map};
-ghost use Rattle.ivl_laws.specs.Sets.{Differences, ExactProducts, Intersection, IsBetween, IsInRange, IsSubset, Products, SameMembers, Sums};
+ghost use Rattle.std.specs.Prelude.{◌≡◌, ◌*◌, All, IfOk, OnErr, OnOk, length, map};
+ghost use Rattle.ivl_laws.specs.Sets.{Differences, ExactProducts, Intersection, IsBetween, IsInRange, IsSubset, Products, SameMembers, Sums, Union};
 ghost use Rattle.ivl_laws.specs.Runs.{Covers, IsRunsOf};
 
 use intervallum::interval::Interval;
@@ -28,12 +28,13 @@ pub fn set_of_intervals<B: Width>(
     coalesce(alloc, list)
 }
 
-/// After an error the set is as it was.
-pub fn set_after_error<B: Width>(
+/// The set gets the members of every interval; after an error it is as it was.
+pub fn set_extended<B: Width>(
     set: &mut IntervalSet<B>,
     list: Vec<Interval<B>>,
 ) -> Result<(), AllocError>
-    ensures { OnErr result (set.new ≡ set.old) }
+    ensures ok { OnOk result (IsRunsOf set.new (Union (Covers set.old) (Covers list.items))) }
+    ensures err { OnErr result (set.new ≡ set.old) }
 {
     set.extend(list.into_iter())
 }
