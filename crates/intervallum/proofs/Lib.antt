@@ -14,3 +14,5 @@ pub mod Combining
 pub mod Numbers
 pub mod RunBounds
 pub mod Singles
+pub mod Building
+pub mod Meeting

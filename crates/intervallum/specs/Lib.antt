@@ -7,3 +7,4 @@ pub mod Text
 pub mod Places
 pub mod Stretches
 pub mod Choices
+pub mod Sides

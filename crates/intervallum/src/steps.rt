@@ -7,7 +7,7 @@ mod search;
 mod stretch;
 mod walk;
 
-pub use combine::{common, have_common, one_alone, without};
+pub use combine::{common, free, have_common, one_alone, without};
 pub use merge::unite;
 pub use probes::Probes;
 pub use search::{Place, find};

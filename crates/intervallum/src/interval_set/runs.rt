@@ -64,7 +64,7 @@ impl<B: Width> IntervalSet<B> {
     }
 
     /// Adds a run at the end, where it joins with no other.
-    fn push_apart(&mut self, run: Interval<B>) -> Result<(), AllocError>
+    pub(crate) fn push_apart(&mut self, run: Interval<B>) -> Result<(), AllocError>
         requires within { IsSubset (IsBetween run) (IsBetween B.whole) }
         requires apart { AddsRun self.old run (self.old ++ run ∷ []) }
         ensures ok { OnOk result (AddsRun self.old run self.new) }

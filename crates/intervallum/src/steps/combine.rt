@@ -1,15 +1,16 @@
 //! Two walks, and the numbers that are kept of them.
-ghost use Rattle.std.specs.Prelude.{◌≡◌, ◌↔◌, ◌+◌, ◌≤◌, ◌≤ℤ◌, IfOk, IsTrue, OnErr, OnOk, length};
-ghost use Rattle.ivl_laws.specs.Sets.{HasSome, Intersection, IsBetween, SymmetricDifference, Without};
-ghost use Rattle.ivl_laws.specs.Runs.{Covers, IsRunsOf, StartsBy};
+ghost use Rattle.std.specs.Prelude.{◌≡◌, ◌↔◌, ◌+◌, ◌≤◌, ◌≤ℤ◌, IfOk, IsTrue, MatchOption, OnErr, OnOk, Some, length, pos, slice_get};
+ghost use Rattle.ivl_laws.specs.Sets.{Complement, HasNone, HasSome, Intersection, IsBetween, SymmetricDifference, Union, Without};
+ghost use Rattle.ivl_laws.specs.Runs.{Covers, IsRunListIn, IsRunsOf, StartsBy};
 ghost use Rattle.intervallum.specs.Choices.{IsKept};
+ghost use Rattle.intervallum.specs.Sides.{IsBelow};
 ghost use Rattle.intervallum.specs.Stretches.{AddsIf};
 
 use super::stretch::stretch_from;
 use super::walk::Walk;
 use crate::interval::Interval;
 use crate::interval_set::IntervalSet;
-use crate::ops::Range;
+use crate::ops::{Bounded, Intersection, IsEmpty, Range, StrictShrinkLeft, StrictShrinkRight, Whole};
 use crate::width::Width;
 use std::alloc::AllocError;
 
@@ -24,13 +25,71 @@ enum Choice {
 /// The members that the runs left in two walks have in common. Advances once for each of these runs
 /// at most, and takes memory once, for as many runs. The set has the allocator of the first walk.
 pub fn common<B: Width>(
-    first: Walk<'_, B>,
-    second: Walk<'_, B>,
+    mut first: Walk<'_, B>,
+    mut second: Walk<'_, B>,
 ) -> Result<IntervalSet<B>, AllocError>
     ensures members { IfOk result (λ L. IsRunsOf L (Intersection (Covers first.entry.left) (Covers second.entry.left))) }
     ensures runs_at_most { IfOk result (λ L. length L ≤ length first.entry.left + length second.entry.left) }
 {
-    combine(Choice::Common, first, second)
+    let room = first.left().saturating_add(second.left());
+    let mut set = IntervalSet::with_room(first.alloc(), room)?;
+    'walk: while let Some(runs) = heads(&first, &second) {
+        let (a, b) = runs;
+        push_part(&mut set, a.intersection(&b))?;
+        if a.upper() <= b.upper() {
+            first.advance();
+        } else {
+            second.advance();
+        }
+    }
+    Ok(set)
+}
+
+/// The numbers of the range that no run covers of those that are left in a walk. Advances once for
+/// each of these runs, and takes memory once, for one run more. The set has the allocator of the walk.
+pub fn free<B: Width>(mut walk: Walk<'_, B>) -> Result<IntervalSet<B>, AllocError>
+    ensures members { IfOk result (λ L. IsRunsOf L (Complement B.whole (Covers walk.entry.left))) }
+    ensures runs_at_most { IfOk result (λ L. length L ≤ length walk.entry.left + 1) }
+{
+    let room = walk.left().saturating_add(1);
+    let mut set = IntervalSet::with_room(walk.alloc(), room)?;
+    let mut rest = Interval::whole();
+    'walk: while let Some(run) = walk.peek() {
+        push_part(&mut set, rest.strict_shrink_right(run.lower()))?;
+        rest = rest.strict_shrink_left(run.upper());
+        walk.advance();
+    }
+    push_part(&mut set, rest)?;
+    Ok(set)
+}
+
+/// The first runs of two walks, where both have one.
+fn heads<B: Width>(
+    first: &Walk<'_, B>,
+    second: &Walk<'_, B>,
+) -> Option<(Interval<B>, Interval<B>)>
+    ensures heads { MatchOption result
+        (HasNone (Intersection (Covers first.now.left) (Covers second.now.left)))
+        (λ runs. (Some runs.0 ≡ slice_get first.now.left 0) × (Some runs.1 ≡ slice_get second.now.left 0)) }
+    ensures within { IsRunListIn B.whole first.now.left × IsRunListIn B.whole second.now.left }
+{
+    second.in_range();
+    let a = first.peek()?;
+    let b = second.peek()?;
+    Some((a, b))
+}
+
+/// Adds the members of an interval, if it has any, at least two above those that are there.
+fn push_part<B: Width>(set: &mut IntervalSet<B>, part: Interval<B>) -> Result<(), AllocError>
+    requires apart { IsBelow (pos 2) (Covers set.old) (IsBetween part) }
+    ensures { OnOk result (IsRunsOf set.new (Union (Covers set.old) (IsBetween part))) }
+{
+    set.as_runs();
+    if part.is_empty() {
+        return Ok(());
+    }
+    part.in_whole();
+    set.push_apart(part)
 }
 
 /// The members that the first walk has left and the second has not. Steps and memory are those of

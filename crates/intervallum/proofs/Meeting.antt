@@ -1,0 +1,83 @@
+-- What two lists of runs have in common, from the left: of their first runs, the one that ends first is done.
+use Rattle.std.proofs.Common.{◌≡◌, ◌⊎◌, inl, inr, ⊎_elim, ℤ, pos, ◌+ℤ◌, ◌≤ℤ◌, ◌<ℤ◌, List, [], ◌∷◌, Some, None, sym, subst, arith}
+use Rattle.std.proofs.lemmas.Int.{ints}
+use Rattle.std.specs.Prelude.{slice_get}
+use Rattle.ivl_laws.specs.Sets.{HasNone, IsBetween, IsSubset, Intersection, SameMembers, Union}
+use Rattle.ivl_laws.specs.Runs.{Covers, IsMaximal, IsRunsOf}
+use Rattle.ivl_laws.proofs.Runs.{covered_after}
+use Rattle.intervallum.specs.Sides.{IsBelow}
+use Rattle.intervallum.proofs.Building.{IsBuilding, building_same, building_takes}
+use Rattle.intervallum.proofs.Walking.{is_first}
+
+-- the first run of a list is among what the list covers
+pub first_covers : (L : List (ℤ × ℤ)) (p : ℤ × ℤ) → Some p ≡ slice_get L 0 → IsSubset (IsBetween p) (Covers L)
+first_covers [] p e z i = absurd (cc)
+first_covers (q ∷ L) p e z i = let same : p ≡ q = cc in inl (subst (λ (t : ℤ × ℤ). IsBetween t z) same i)
+
+module _ (p q r : ℤ × ℤ) (A B : List (ℤ × ℤ)) (m : IsMaximal (p ∷ A)) (n : IsMaximal (q ∷ B)) (h : p.1 ≤ℤ q.1)
+    (e : SameMembers (IsBetween r) (Intersection (IsBetween p) (IsBetween q))) where
+  there : (z : ℤ) → Intersection (Covers (p ∷ A)) (Covers (q ∷ B)) z → Union (IsBetween r) (Intersection (Covers A) (Covers (q ∷ B))) z
+  there z (inl b, inl c) = inl ((e z).1 (b, c))
+  there z (inl b, inr c) = let far = covered_after q.1 B z n.1 n.2 c in let high = b.1 in absurd (omega (arith, ints))
+  there z (inr b, c) = inr (b, c)
+
+  back : (z : ℤ) → Union (IsBetween r) (Intersection (Covers A) (Covers (q ∷ B))) z → Intersection (Covers (p ∷ A)) (Covers (q ∷ B)) z
+  back z (inl i) = let (x, y) = (e z).0 i in (inl x, inl y)
+  back z (inr (b, c)) = (inr b, c)
+
+  meeting_parts : SameMembers (Intersection (Covers (p ∷ A)) (Covers (q ∷ B))) (Union (IsBetween r) (Intersection (Covers A) (Covers (q ∷ B))))
+  meeting_parts z = (there z, back z)
+
+  meeting_below : IsBelow (pos 2) (IsBetween r) (Intersection (Covers A) (Covers (q ∷ B)))
+  meeting_below x y i c = let high = ((e x).0 i).0.1 in let far = covered_after p.1 A y m.1 m.2 c.0 in omega (arith, ints)
+
+turned : (S T : ℤ → Type 0) → SameMembers (Intersection S T) (Intersection T S)
+turned S T z = ((λ (s, t). (t, s)), (λ (t, s). (s, t)))
+
+module _ (W W' A A' B : List (ℤ × ℤ)) (p q r : ℤ × ℤ) (S : ℤ → Type 0) (m : IsMaximal A) (n : IsMaximal B) (e : Some p ≡ slice_get A 0) (f : Some q ≡ slice_get B 0)
+    (u : IsBuilding (pos 2) W (Intersection (Covers A) (Covers B)) S) (added : IsRunsOf W' (Union (Covers W) (IsBetween r)))
+    (shared : SameMembers (IsBetween r) (Intersection (IsBetween p) (IsBetween q))) (left : (x : ℤ × ℤ) × (A ≡ x ∷ A')) (h : p.1 ≤ℤ q.1) where
+  pub meets_first : IsBuilding (pos 2) W' (Intersection (Covers A') (Covers B)) S
+  meets_first = by A B (is_first A A' p left.0 e left.1) m n f u
+    where
+      by : (A B : List (ℤ × ℤ)) → A ≡ p ∷ A' → IsMaximal A → IsMaximal B → Some q ≡ slice_get B 0 → IsBuilding (pos 2) W (Intersection (Covers A) (Covers B)) S → IsBuilding (pos 2) W' (Intersection (Covers A') (Covers B)) S
+      by A [] s m n f u = absurd (cc)
+      by A (y ∷ B) s m n f u =
+          let same : y ≡ q = cc in
+          let mm : IsMaximal (p ∷ A') = subst IsMaximal s m in
+          let nn : IsMaximal (q ∷ B) = subst (λ (t : ℤ × ℤ). IsMaximal (t ∷ B)) same n in
+          let uu : IsBuilding (pos 2) W (Intersection (Covers (p ∷ A')) (Covers (q ∷ B))) S = subst (λ (t : ℤ × ℤ). IsBuilding (pos 2) W (Intersection (Covers (p ∷ A')) (Covers (t ∷ B))) S) same
+          (subst (λ (L : List (ℤ × ℤ)). IsBuilding (pos 2) W (Intersection (Covers L) (Covers (y ∷ B))) S) s u) in
+          subst (λ (t : ℤ × ℤ). IsBuilding (pos 2) W' (Intersection (Covers A') (Covers (t ∷ B))) S) (sym same)
+          (building_takes (pos 2) W W' _ (IsBetween r) _ S uu (meeting_parts p q r A' B mm nn h shared) (meeting_below p q r A' B mm nn h shared) added)
+
+-- the same, where the second list's first run ends first
+pub meets_second : (W W' A B B' : List (ℤ × ℤ)) (p q r : ℤ × ℤ) (S : ℤ → Type 0) → IsMaximal A → IsMaximal B → Some p ≡ slice_get A 0 → Some q ≡ slice_get B 0 →
+    IsBuilding (pos 2) W (Intersection (Covers A) (Covers B)) S → IsRunsOf W' (Union (Covers W) (IsBetween r)) →
+    SameMembers (IsBetween r) (Intersection (IsBetween p) (IsBetween q)) → (x : ℤ × ℤ) × (B ≡ x ∷ B') → q.1 ≤ℤ p.1 → IsBuilding (pos 2) W' (Intersection (Covers A) (Covers B')) S
+meets_second W W' A B B' p q r S m n e f u added shared left h =
+    building_same (pos 2) W' _ _ S (turned (Covers B') (Covers A))
+    (meets_first W W' B B' A q p r S n m f e (building_same (pos 2) W _ _ S (turned (Covers A) (Covers B)) u) added
+    (λ z. ((λ i. let (x, y) = (shared z).0 i in (y, x)), (λ (y, x). (shared z).1 (x, y)))) left h)
+
+-- what the two first runs have in common, both lists have
+pub meeting_part : (A B : List (ℤ × ℤ)) (p q r : ℤ × ℤ) → Some p ≡ slice_get A 0 → Some q ≡ slice_get B 0 → SameMembers (IsBetween r) (Intersection (IsBetween p) (IsBetween q)) →
+    IsSubset (IsBetween r) (Intersection (Covers A) (Covers B))
+meeting_part A B p q r e f shared z i = let (x, y) = (shared z).0 i in (first_covers A p e z x, first_covers B q f z y)
+
+-- two values whose numbers are the upper ends of two runs
+pub ends_by : (x y a b : ℤ) → x ≡ a → y ≡ b → x ≤ℤ y → a ≤ℤ b
+ends_by x y a b e f h = omega (arith, ints)
+
+pub ends_past : (x y a b : ℤ) → x ≡ a → y ≡ b → y <ℤ x → b ≤ℤ a
+ends_past x y a b e f h = omega (arith, ints)
+
+-- ---- a list that has nothing left
+
+pub none_first : (A B : List (ℤ × ℤ)) → None ≡ slice_get A 0 → HasNone (Intersection (Covers A) (Covers B))
+none_first [] B e z (a, b) = a
+none_first (p ∷ A) B e z i = absurd (cc)
+
+pub none_second : (A B : List (ℤ × ℤ)) → None ≡ slice_get B 0 → HasNone (Intersection (Covers A) (Covers B))
+none_second A [] e z (a, b) = b
+none_second A (p ∷ B) e z i = absurd (cc)
