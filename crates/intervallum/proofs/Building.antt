@@ -27,6 +27,13 @@ building_ends gap written rest S u n = record {
   members = λ z. ((λ c. (u.members z).1 (inl c)), (λ s. ⊎_elim (λ c. c) (λ r. absurd (n z r)) ((u.members z).0 s)));
 }
 
+-- all of the rest is written
+pub building_done : (gap : ℤ) (written added : List (ℤ × ℤ)) (rest S : ℤ → Type 0) → IsBuilding gap written rest S → IsRunsOf added (Union (Covers written) rest) → IsRunsOf added S
+building_done gap written added rest S u r = record {
+  maximal = r.maximal;
+  members = λ z. ((λ c. (u.members z).1 ((r.members z).0 c)), (λ s. (r.members z).1 ((u.members z).0 s)));
+}
+
 -- the same rest, told in another way
 pub building_same : (gap : ℤ) (written : List (ℤ × ℤ)) (rest rest' S : ℤ → Type 0) → SameMembers rest rest' → IsBuilding gap written rest S → IsBuilding gap written rest' S
 building_same gap written rest rest' S e u = record {

@@ -16,3 +16,4 @@ pub mod RunBounds
 pub mod Singles
 pub mod Building
 pub mod Meeting
+pub mod Parting

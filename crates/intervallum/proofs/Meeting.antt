@@ -1,10 +1,11 @@
 -- What two lists of runs have in common, from the left: of their first runs, the one that ends first is done.
 use Rattle.std.proofs.Common.{◌≡◌, ◌⊎◌, inl, inr, ⊎_elim, ℤ, pos, ◌+ℤ◌, ◌≤ℤ◌, ◌<ℤ◌, List, [], ◌∷◌, Some, None, sym, subst, arith}
-use Rattle.std.proofs.lemmas.Int.{ints}
+use Rattle.std.proofs.lemmas.Int.{ints, clamps}
+use Rattle.std.specs.Int.{int_max}
 use Rattle.std.specs.Prelude.{slice_get}
-use Rattle.ivl_laws.specs.Sets.{HasNone, IsBetween, IsSubset, Intersection, SameMembers, Union}
+use Rattle.ivl_laws.specs.Sets.{HasNone, HasSome, IsBetween, IsSubset, Intersection, SameMembers, Union}
 use Rattle.ivl_laws.specs.Runs.{Covers, IsMaximal, IsRunsOf}
-use Rattle.ivl_laws.proofs.Runs.{covered_after}
+use Rattle.ivl_laws.proofs.Runs.{covered_after, covered_from}
 use Rattle.intervallum.specs.Sides.{IsBelow}
 use Rattle.intervallum.proofs.Building.{IsBuilding, building_same, building_takes}
 use Rattle.intervallum.proofs.Walking.{is_first}
@@ -69,6 +70,9 @@ meeting_part A B p q r e f shared z i = let (x, y) = (shared z).0 i in (first_co
 pub ends_by : (x y a b : ℤ) → x ≡ a → y ≡ b → x ≤ℤ y → a ≤ℤ b
 ends_by x y a b e f h = omega (arith, ints)
 
+pub ends_before : (x y a b : ℤ) → x ≡ a → y ≡ b → x <ℤ y → a <ℤ b
+ends_before x y a b e f h = omega (arith, ints)
+
 pub ends_past : (x y a b : ℤ) → x ≡ a → y ≡ b → y <ℤ x → b ≤ℤ a
 ends_past x y a b e f h = omega (arith, ints)
 
@@ -81,3 +85,40 @@ none_first (p ∷ A) B e z i = absurd (cc)
 pub none_second : (A B : List (ℤ × ℤ)) → None ≡ slice_get B 0 → HasNone (Intersection (Covers A) (Covers B))
 none_second A [] e z (a, b) = b
 none_second A (p ∷ B) e z i = absurd (cc)
+
+-- ---- two lists whose first runs lie apart, or meet
+
+drops : (p q : ℤ × ℤ) (A B : List (ℤ × ℤ)) → IsMaximal (q ∷ B) → p.1 <ℤ q.0 → SameMembers (Intersection (Covers A) (Covers (q ∷ B))) (Intersection (Covers (p ∷ A)) (Covers (q ∷ B)))
+drops p q A B n h z = (
+  (λ (a, b). (inr a, b)),
+  (λ (a, b). (⊎_elim (λ i. let high = i.1 in let low = covered_from q B z n b in absurd (omega (arith, ints))) (λ c. c) a, b)),
+)
+
+-- a first run that ends below the other one
+pub drops_first : (A A' B : List (ℤ × ℤ)) (p q : ℤ × ℤ) → IsMaximal B → Some p ≡ slice_get A 0 → Some q ≡ slice_get B 0 → (x : ℤ × ℤ) × (A ≡ x ∷ A') → p.1 <ℤ q.0 →
+    SameMembers (Intersection (Covers A') (Covers B)) (Intersection (Covers A) (Covers B))
+drops_first A A' [] p q n e f left h = absurd (cc)
+drops_first A A' (y ∷ B) p q n e f (x, g) h =
+    let same : q ≡ y = cc in
+    let low : p.1 <ℤ y.0 = subst (λ (t : ℤ × ℤ). p.1 <ℤ t.0) same h in
+    subst (λ (L : List (ℤ × ℤ)). SameMembers (Intersection (Covers A') (Covers (y ∷ B))) (Intersection (Covers L) (Covers (y ∷ B)))) (sym (is_first A A' p x e g))
+    (drops p y A' B n low)
+
+pub drops_second : (A B B' : List (ℤ × ℤ)) (p q : ℤ × ℤ) → IsMaximal A → Some p ≡ slice_get A 0 → Some q ≡ slice_get B 0 → (x : ℤ × ℤ) × (B ≡ x ∷ B') → q.1 <ℤ p.0 →
+    SameMembers (Intersection (Covers A) (Covers B')) (Intersection (Covers A) (Covers B))
+drops_second A B B' p q m e f left h z =
+    let same = drops_first B B' A q p m f e left h z in
+    ((λ (a, b). let (y, x) = same.0 (b, a) in (x, y)), (λ (a, b). let (y, x) = same.1 (b, a) in (x, y)))
+
+-- neither ends below the other
+pub meet_here : (A B : List (ℤ × ℤ)) (p q : ℤ × ℤ) → Some p ≡ slice_get A 0 → Some q ≡ slice_get B 0 → p.0 ≤ℤ p.1 → q.0 ≤ℤ q.1 → q.0 ≤ℤ p.1 → p.0 ≤ℤ q.1 →
+    HasSome (Intersection (Covers A) (Covers B))
+meet_here A B p q e f o o' h k =
+    let v = int_max p.0 q.0 in
+    (v, (first_covers A p e v (omega (arith, ints, clamps), omega (arith, ints, clamps)), first_covers B q f v (omega (arith, ints, clamps), omega (arith, ints, clamps))))
+
+pub has_some_same : (S T : ℤ → Type 0) → SameMembers S T → HasSome S → HasSome T
+has_some_same S T e (z, s) = (z, (e z).0 s)
+
+pub has_none_same : (S T : ℤ → Type 0) → SameMembers S T → HasNone S → ¬ (HasSome T)
+has_none_same S T e n (z, t) = n z ((e z).1 t)

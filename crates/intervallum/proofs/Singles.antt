@@ -2,13 +2,12 @@
 use Rattle.std.proofs.Common.{◌≡◌, ◌↔◌, ℤ, List, [], ◌∷◌, Bool, true, false, not, IsTrue, inl, inr, ⊎_elim, refl, sym, subst, ◌∙◌, true≢false}
 use Rattle.std.specs.Prelude.{Result, IfOk}
 use Rattle.std.proofs.lemmas.Result.{IfOk-weaker}
-use Rattle.ivl_laws.specs.Sets.{IsBetween, IsInRange, Only, Intersection, Complement, SameMembers, HasNone, HasSome, Union, Without}
+use Rattle.ivl_laws.specs.Sets.{IsBetween, IsInRange, Only, Intersection, SameMembers, HasNone, HasSome, Union}
 use Rattle.ivl_laws.specs.Runs.{Covers, IsRunsOf, IsRunListIn}
 use Rattle.ivl_laws.proofs.SetLaws.{IsRunsOf-same, only_is_covered}
 use Rattle.ivl_laws.proofs.Ranges.{IsRunsOf-none}
 use Rattle.intervallum.specs.Choices.{IsKept}
 use Rattle.intervallum.specs.declared.steps.combine.Choice.{Choice}
-use Rattle.intervallum.specs.declared.steps.combine.Choice.TheVariants.{FirstAlone}
 use Rattle.intervallum.proofs.Combining.{kept_same}
 
 same_list : (A L : List (ℤ × ℤ)) → A ≡ L → SameMembers (Covers A) (Covers L)
@@ -16,9 +15,6 @@ same_list A L e = subst (λ (M : List (ℤ × ℤ)). SameMembers (Covers A) (Cov
 
 same_only : (M : List (ℤ × ℤ)) (v : ℤ) → M ≡ (v, v) ∷ [] → SameMembers (Covers M) (Only v)
 same_only M v e = subst (λ (N : List (ℤ × ℤ)). SameMembers (Covers N) (Only v)) (sym e) (λ z. ((only_is_covered v z).1, (only_is_covered v z).0))
-
-same_run : (M : List (ℤ × ℤ)) (p : ℤ × ℤ) → M ≡ p ∷ [] → SameMembers (Covers M) (IsBetween p)
-same_run M p e = subst (λ (N : List (ℤ × ℤ)). SameMembers (Covers N) (IsBetween p)) (sym e) (λ z. (⊎_elim (λ b. b) (λ n. absurd n), λ b. inl b))
 
 turned : {P Q : Type 0} → P ↔ Q → Q ↔ P
 turned e = (e.1, e.0)
@@ -38,11 +34,6 @@ united_with_one r A M L v e f =
     let p = same_list A L e in
     let q = same_only M v f in
     IfOk-weaker r _ _ (λ N i. IsRunsOf-same _ _ N (λ z. (⊎_elim (λ a. inl ((p z).0 a)) (λ b. inr ((q z).0 b)), ⊎_elim (λ a. inl ((p z).1 a)) (λ b. inr ((q z).1 b)))) i)
-
-pub complement_of : {E : Type 0} (r : Result (List (ℤ × ℤ)) E) (whole : ℤ × ℤ) (A M L : List (ℤ × ℤ)) → A ≡ L → M ≡ whole ∷ [] →
-    IfOk r (λ N. IsRunsOf N (Without (Covers M) (Covers A))) → IfOk r (λ N. IsRunsOf N (Complement whole (Covers L)))
-complement_of r whole A M L e f =
-    IfOk-weaker r _ _ (λ N i. IsRunsOf-same _ _ N (kept_sets FirstAlone (Covers M) (IsBetween whole) (Covers A) (Covers L) (same_run M whole f) (same_list A L e)) i)
 
 -- a value outside the range is no member
 pub common_with_none : {E : Type 0} (r : Result (List (ℤ × ℤ)) E) (whole : ℤ × ℤ) (A L : List (ℤ × ℤ)) (v : ℤ) (b : Bool) → A ≡ L → IsRunListIn whole A →

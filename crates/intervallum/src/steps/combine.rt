@@ -120,18 +120,15 @@ pub fn one_alone<B: Width>(
 pub fn have_common<B: Width>(mut first: Walk<'_, B>, mut second: Walk<'_, B>) -> bool
     ensures { IsTrue result ↔ HasSome (Intersection (Covers first.entry.left) (Covers second.entry.left)) }
 {
-    first.in_range();
-    second.in_range();
-    let end = B::max_value().number();
-    let mut next = B::min_value().number();
-    'walk: while next <= end {
-        let a = stretch_from(&mut first, next);
-        let b = stretch_from(&mut second, next);
-        if keeps(Choice::Common, a.is_member, b.is_member) {
+    'walk: while let Some(runs) = heads(&first, &second) {
+        let (a, b) = runs;
+        if a.upper() < b.lower() {
+            first.advance();
+        } else if b.upper() < a.lower() {
+            second.advance();
+        } else {
             return true;
         }
-        let last = a.last.min(b.last);
-        next = last + 1;
     }
     false
 }

@@ -1,0 +1,66 @@
+-- What a list of runs leaves of an interval or of another list, from the left.
+use Rattle.std.proofs.Common.{◌≡◌, ◌↔◌, ◌⊎◌, inl, inr, ⊎_elim, ℤ, pos, ◌+ℤ◌, ◌≤ℤ◌, ◌<ℤ◌, List, [], ◌∷◌, Some, None, sym, subst, arith}
+use Rattle.std.proofs.lemmas.Int.{ints, by_lt_z}
+use Rattle.std.specs.Prelude.{slice_get}
+use Rattle.ivl_laws.specs.Sets.{Above, Below, IsBetween, IsSubset, SameMembers, Union, Without}
+use Rattle.ivl_laws.specs.Runs.{Covers, IsMaximal, IsRunsOf}
+use Rattle.ivl_laws.proofs.Runs.{covered_after, covered_from}
+use Rattle.intervallum.specs.Sides.{IsBelow}
+use Rattle.intervallum.proofs.Building.{IsBuilding, building_takes}
+use Rattle.intervallum.proofs.Walking.{is_first}
+
+-- ---- an interval without the runs of a list
+
+-- below is what of p lies below the first run, and above what lies above it
+module _ (p q below above : ℤ × ℤ) (B : List (ℤ × ℤ)) (n : IsMaximal (q ∷ B))
+    (d : SameMembers (IsBetween below) (Below q.0 (IsBetween p))) (a : SameMembers (IsBetween above) (Above q.1 (IsBetween p))) where
+  there : (z : ℤ) → Without (IsBetween p) (Covers (q ∷ B)) z → Union (IsBetween below) (Without (IsBetween above) (Covers B)) z
+  there z (i, f) = by_lt_z z q.0
+      (λ lt. inl ((d z).1 (i, lt)))
+      (λ le. by_lt_z q.1 z
+      (λ lt. inr ((a z).1 (i, lt), λ c. f (inr c)))
+      (λ high. absurd (f (inl (le, high)))))
+
+  back : (z : ℤ) → Union (IsBetween below) (Without (IsBetween above) (Covers B)) z → Without (IsBetween p) (Covers (q ∷ B)) z
+  back z (inl i) = let (x, lt) = (d z).0 i in (x, λ c. let low = covered_from q B z n c in omega (arith, ints))
+  back z (inr (i, f)) = let (x, lt) = (a z).0 i in (x, ⊎_elim (λ b. let high = b.1 in omega (arith, ints)) f)
+
+  pub parts_of_one : SameMembers (Without (IsBetween p) (Covers (q ∷ B))) (Union (IsBetween below) (Without (IsBetween above) (Covers B)))
+  parts_of_one z = (there z, back z)
+
+  pub parts_apart : IsBelow (pos 2) (IsBetween below) (Without (IsBetween above) (Covers B))
+  parts_apart x y i j = let low = ((d x).0 i).1 in let high = ((a y).0 j.0).1 in let o = n.0 in omega (arith, ints)
+
+-- what lies below the first run is left
+pub freed_below : (B : List (ℤ × ℤ)) (p q below : ℤ × ℤ) → IsMaximal B → Some q ≡ slice_get B 0 → SameMembers (IsBetween below) (Below q.0 (IsBetween p)) →
+    IsSubset (IsBetween below) (Without (IsBetween p) (Covers B))
+freed_below [] p q below n f d z i = absurd (cc)
+freed_below (y ∷ B) p q below n f d z i =
+    let same : q ≡ y = cc in
+    let (x, lt) = (d z).0 i in
+    let low : z <ℤ y.0 = subst (λ (t : ℤ × ℤ). z <ℤ t.0) same lt in
+    (x, λ c. let from = covered_from y B z n c in omega (arith, ints))
+
+-- the first run takes its numbers from the interval
+pub frees : (W W' B B' : List (ℤ × ℤ)) (p q below above : ℤ × ℤ) (S : ℤ → Type 0) → IsMaximal B → Some q ≡ slice_get B 0 →
+    SameMembers (IsBetween below) (Below q.0 (IsBetween p)) → SameMembers (IsBetween above) (Above q.1 (IsBetween p)) →
+    IsBuilding (pos 2) W (Without (IsBetween p) (Covers B)) S → IsRunsOf W' (Union (Covers W) (IsBetween below)) → (x : ℤ × ℤ) × (B ≡ x ∷ B') →
+    IsBuilding (pos 2) W' (Without (IsBetween above) (Covers B')) S
+frees W W' B B' p q below above S n f d a u added (x, e) =
+    let first = is_first B B' q x f e in
+    let nn : IsMaximal (q ∷ B') = subst IsMaximal first n in
+    let uu : IsBuilding (pos 2) W (Without (IsBetween p) (Covers (q ∷ B'))) S = subst (λ (L : List (ℤ × ℤ)). IsBuilding (pos 2) W (Without (IsBetween p) (Covers L)) S) first u in
+    building_takes (pos 2) W W' _ (IsBetween below) _ S uu (parts_of_one p q below above B' nn d a) (parts_apart p q below above B' nn d a) added
+
+-- where no run is left, all of the interval is
+pub all_left : (p : ℤ × ℤ) (B : List (ℤ × ℤ)) → None ≡ slice_get B 0 → SameMembers (Without (IsBetween p) (Covers B)) (IsBetween p)
+all_left p [] e z = ((λ w. w.0), (λ i. (i, λ c. c)))
+all_left p (q ∷ B) e z = absurd (cc)
+
+-- ---- a cut at a value whose number is an end of a run
+
+pub cut_below : (r p : ℤ × ℤ) (x y : ℤ) → x ≡ y → SameMembers (IsBetween r) (Below x (IsBetween p)) → SameMembers (IsBetween r) (Below y (IsBetween p))
+cut_below r p x y e h = subst (λ (t : ℤ). SameMembers (IsBetween r) (Below t (IsBetween p))) e h
+
+pub cut_above : (r p : ℤ × ℤ) (x y : ℤ) → x ≡ y → SameMembers (IsBetween r) (Above x (IsBetween p)) → SameMembers (IsBetween r) (Above y (IsBetween p))
+cut_above r p x y e h = subst (λ (t : ℤ). SameMembers (IsBetween r) (Above t (IsBetween p))) e h
