@@ -21,6 +21,10 @@ building_begins gap written S e = subst (λ (L : List (ℤ × ℤ)). IsBuilding 
   members = λ z. ((λ s. inr s), ⊎_elim (λ c. absurd c) (λ s. s));
 })
 
+-- a rest that lies above a list is added to it
+pub building_goes_on : (gap : ℤ) (written : List (ℤ × ℤ)) (rest : ℤ → Type 0) → IsMaximal written → IsBelow gap (Covers written) rest → IsBuilding gap written rest (Union (Covers written) rest)
+building_goes_on gap written rest m b = record { maximal = m; below = b; members = λ z. ((λ s. s), (λ s. s)) }
+
 pub building_ends : (gap : ℤ) (written : List (ℤ × ℤ)) (rest S : ℤ → Type 0) → IsBuilding gap written rest S → HasNone rest → IsRunsOf written S
 building_ends gap written rest S u n = record {
   maximal = u.maximal;
@@ -68,7 +72,7 @@ ends_apart [] q m o b = (o, tt, tt)
 ends_apart (p ∷ []) q m o b = (m.0, b p.1 q.0 (inl (upper_end p m.0)) (lower_end q o), (o, tt, tt))
 ends_apart (p ∷ r ∷ L) q m o b = (m.0, m.1, ends_apart (r ∷ L) q m.2 o (λ x y c i. b x y (inr c) i))
 
-pub starts_below : (gap : ℤ) (L : List (ℤ × ℤ)) (n : ℤ) → pos 0 ≤ℤ gap → IsMaximal L → ((x : ℤ) → Covers L x → (x +ℤ gap) ≤ℤ n) → StartsBy n L
+starts_below : (gap : ℤ) (L : List (ℤ × ℤ)) (n : ℤ) → pos 0 ≤ℤ gap → IsMaximal L → ((x : ℤ) → Covers L x → (x +ℤ gap) ≤ℤ n) → StartsBy n L
 starts_below gap [] n g m b = tt
 starts_below gap (p ∷ L) n g m b = (let low = b p.0 (inl (lower_end p m.0)) in omega (arith, ints), starts_below gap L n g m.2 (λ x c. b x (inr c)))
 
@@ -88,6 +92,14 @@ adds_above L q m o b = record {
   starts = starts_more L q (starts_below (pos 2) L q.0 (omega (arith, ints)) m (λ x c. b x q.0 c (lower_end q o)));
 }
 
+-- a run above a list starts no lower than its runs
+pub starts_by : (L : List (ℤ × ℤ)) (q : ℤ × ℤ) → IsMaximal L → q.0 ≤ℤ q.1 → IsBelow (pos 1) (Covers L) (IsBetween q) → StartsBy q.0 L
+starts_by L q m o b = starts_below (pos 1) L q.0 (omega (arith, ints)) m (λ x c. b x q.0 c (lower_end q o))
+
 -- an interval that has no member adds none
 pub adds_none : (L : List (ℤ × ℤ)) (S : ℤ → Type 0) → IsMaximal L → HasNone S → IsRunsOf L (Union (Covers L) S)
 adds_none L S m n = record { maximal = m; members = λ z. ((λ c. inl c), ⊎_elim (λ c. c) (λ s. absurd (n z s))) }
+
+-- a gap of two is one of one
+pub nearer : (S T : ℤ → Type 0) → IsBelow (pos 2) S T → IsBelow (pos 1) S T
+nearer S T b x y s t = let far = b x y s t in omega (arith, ints)
