@@ -15,3 +15,4 @@ pub mod Building
 pub mod Meeting
 pub mod Leading
 pub mod Parting
+pub mod Alternating

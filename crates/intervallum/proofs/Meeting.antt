@@ -66,12 +66,15 @@ pub meeting_part : (A B : List (ℤ × ℤ)) (p q r : ℤ × ℤ) → Some p ≡
     IsSubset (IsBetween r) (Intersection (Covers A) (Covers B))
 meeting_part A B p q r e f shared z i = let (x, y) = (shared z).0 i in (first_covers A p e z x, first_covers B q f z y)
 
--- two values whose numbers are the upper ends of two runs
+-- two values whose numbers are ends of two runs
 pub ends_by : (x y a b : ℤ) → x ≡ a → y ≡ b → x ≤ℤ y → a ≤ℤ b
 ends_by x y a b e f h = omega (arith, ints)
 
 pub ends_before : (x y a b : ℤ) → x ≡ a → y ≡ b → x <ℤ y → a <ℤ b
 ends_before x y a b e f h = omega (arith, ints)
+
+pub starts_before : (x y a b : ℤ) → x ≡ a → y ≡ b → x <ℤ y → a ≤ℤ b
+starts_before x y a b e f h = omega (arith, ints)
 
 pub ends_past : (x y a b : ℤ) → x ≡ a → y ≡ b → y <ℤ x → b ≤ℤ a
 ends_past x y a b e f h = omega (arith, ints)
