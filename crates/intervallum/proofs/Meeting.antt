@@ -1,13 +1,15 @@
 -- What two lists of runs have in common, from the left: of their first runs, the one that ends first is done.
-use Rattle.std.proofs.Common.{◌≡◌, ◌⊎◌, inl, inr, ⊎_elim, ℤ, pos, ◌+ℤ◌, ◌≤ℤ◌, ◌<ℤ◌, List, [], ◌∷◌, Some, None, sym, subst, arith}
+use Rattle.std.proofs.Common.{◌≡◌, ◌⊎◌, inl, inr, ⊎_elim, ℤ, pos, ◌+ℤ◌, ◌≤ℤ◌, ◌<ℤ◌, List, [], ◌∷◌, Option, Some, None, sym, subst, arith}
 use Rattle.std.proofs.lemmas.Int.{ints, clamps}
 use Rattle.std.specs.Int.{int_max}
 use Rattle.std.specs.Prelude.{slice_get}
 use Rattle.ivl_laws.specs.Sets.{HasNone, HasSome, IsBetween, IsSubset, Intersection, SameMembers, Union}
 use Rattle.ivl_laws.specs.Runs.{Covers, IsMaximal, IsRunsOf}
 use Rattle.ivl_laws.proofs.Runs.{covered_after, covered_from}
+use Rattle.intervallum.specs.Led.{led_by}
 use Rattle.intervallum.specs.Sides.{IsBelow}
-use Rattle.intervallum.proofs.Building.{IsBuilding, building_same, building_takes}
+use Rattle.intervallum.proofs.Building.{IsBuilding, building_below, building_same, building_takes}
+use Rattle.intervallum.proofs.Leading.{IsLed, leads, leads_none, open_held}
 use Rattle.intervallum.proofs.Walking.{is_first}
 
 -- the first run of a list is among what the list covers
@@ -35,36 +37,44 @@ module _ (p q r : ℤ × ℤ) (A B : List (ℤ × ℤ)) (m : IsMaximal (p ∷ A)
 turned : (S T : ℤ → Type 0) → SameMembers (Intersection S T) (Intersection T S)
 turned S T z = ((λ (s, t). (t, s)), (λ (t, s). (s, t)))
 
-module _ (W W' A A' B : List (ℤ × ℤ)) (p q r : ℤ × ℤ) (S : ℤ → Type 0) (m : IsMaximal A) (n : IsMaximal B) (e : Some p ≡ slice_get A 0) (f : Some q ≡ slice_get B 0)
-    (u : IsBuilding (pos 2) W (Intersection (Covers A) (Covers B)) S) (added : IsRunsOf W' (Union (Covers W) (IsBetween r)))
-    (shared : SameMembers (IsBetween r) (Intersection (IsBetween p) (IsBetween q))) (left : (x : ℤ × ℤ) × (A ≡ x ∷ A')) (h : p.1 ≤ℤ q.1) where
-  pub meets_first : IsBuilding (pos 2) W' (Intersection (Covers A') (Covers B)) S
-  meets_first = by A B (is_first A A' p left.0 e left.1) m n f u
-    where
-      by : (A B : List (ℤ × ℤ)) → A ≡ p ∷ A' → IsMaximal A → IsMaximal B → Some q ≡ slice_get B 0 → IsBuilding (pos 2) W (Intersection (Covers A) (Covers B)) S → IsBuilding (pos 2) W' (Intersection (Covers A') (Covers B)) S
-      by A [] s m n f u = absurd (cc)
-      by A (y ∷ B) s m n f u =
-          let same : y ≡ q = cc in
-          let mm : IsMaximal (p ∷ A') = subst IsMaximal s m in
-          let nn : IsMaximal (q ∷ B) = subst (λ (t : ℤ × ℤ). IsMaximal (t ∷ B)) same n in
-          let uu : IsBuilding (pos 2) W (Intersection (Covers (p ∷ A')) (Covers (q ∷ B))) S = subst (λ (t : ℤ × ℤ). IsBuilding (pos 2) W (Intersection (Covers (p ∷ A')) (Covers (t ∷ B))) S) same
-          (subst (λ (L : List (ℤ × ℤ)). IsBuilding (pos 2) W (Intersection (Covers L) (Covers (y ∷ B))) S) s u) in
-          subst (λ (t : ℤ × ℤ). IsBuilding (pos 2) W' (Intersection (Covers A') (Covers (t ∷ B))) S) (sym same)
-          (building_takes (pos 2) W W' _ (IsBetween r) _ S uu (meeting_parts p q r A' B mm nn h shared) (meeting_below p q r A' B mm nn h shared) added)
+-- ---- the same, where the two first runs are held
 
--- the same, where the second list's first run ends first
-pub meets_second : (W W' A B B' : List (ℤ × ℤ)) (p q r : ℤ × ℤ) (S : ℤ → Type 0) → IsMaximal A → IsMaximal B → Some p ≡ slice_get A 0 → Some q ≡ slice_get B 0 →
-    IsBuilding (pos 2) W (Intersection (Covers A) (Covers B)) S → IsRunsOf W' (Union (Covers W) (IsBetween r)) →
-    SameMembers (IsBetween r) (Intersection (IsBetween p) (IsBetween q)) → (x : ℤ × ℤ) × (B ≡ x ∷ B') → q.1 ≤ℤ p.1 → IsBuilding (pos 2) W' (Intersection (Covers A) (Covers B')) S
-meets_second W W' A B B' p q r S m n e f u added shared left h =
-    building_same (pos 2) W' _ _ S (turned (Covers B') (Covers A))
-    (meets_first W W' B B' A q p r S n m f e (building_same (pos 2) W _ _ S (turned (Covers A) (Covers B)) u) added
-    (λ z. ((λ i. let (x, y) = (shared z).0 i in (y, x)), (λ (y, x). (shared z).1 (x, y)))) left h)
+-- what is still to write
+abbrev pub rest_common : Option (ℤ × ℤ) → List (ℤ × ℤ) → Option (ℤ × ℤ) → List (ℤ × ℤ) → ℤ → Type 0
+rest_common a A b B = Intersection (Covers (led_by a A)) (Covers (led_by b B))
 
--- what the two first runs have in common, both lists have
-pub meeting_part : (A B : List (ℤ × ℤ)) (p q r : ℤ × ℤ) → Some p ≡ slice_get A 0 → Some q ≡ slice_get B 0 → SameMembers (IsBetween r) (Intersection (IsBetween p) (IsBetween q)) →
-    IsSubset (IsBetween r) (Intersection (Covers A) (Covers B))
-meeting_part A B p q r e f shared z i = let (x, y) = (shared z).0 i in (first_covers A p e z x, first_covers B q f z y)
+common_turned : (W : List (ℤ × ℤ)) (a b : Option (ℤ × ℤ)) (A B : List (ℤ × ℤ)) (S : ℤ → Type 0) → IsBuilding (pos 2) W (rest_common a A b B) S → IsBuilding (pos 2) W (rest_common b B a A) S
+common_turned W a b A B S u = building_same (pos 2) W _ _ S (turned (Covers (led_by a A)) (Covers (led_by b B))) u
+
+module _ (W : List (ℤ × ℤ)) (a b : Option (ℤ × ℤ)) (A B : List (ℤ × ℤ)) (p q r : ℤ × ℤ) (S : ℤ → Type 0) (e : a ≡ Some p) (f : b ≡ Some q)
+    (l : IsLed a A) (k : IsLed b B) (u : IsBuilding (pos 2) W (rest_common a A b B) S) (shared : SameMembers (IsBetween r) (Intersection (IsBetween p) (IsBetween q))) where
+  opened : IsBuilding (pos 2) W (Intersection (Covers (p ∷ A)) (Covers (q ∷ B))) S
+  opened = subst (λ (L : List (ℤ × ℤ)). IsBuilding (pos 2) W (Intersection (Covers (p ∷ A)) (Covers L)) S) (leads b q B f)
+      (subst (λ (L : List (ℤ × ℤ)). IsBuilding (pos 2) W (Intersection (Covers L) (Covers (led_by b B))) S) (leads a p A e) u)
+
+  pub shared_is_above : IsBelow (pos 2) (Covers W) (IsBetween r)
+  shared_is_above = building_below (pos 2) W _ _ S opened (λ z i. let (x, y) = (shared z).0 i in (inl x, inl y))
+
+  pub common_first : (W' : List (ℤ × ℤ)) → IsRunsOf W' (Union (Covers W) (IsBetween r)) → (a' : Option (ℤ × ℤ)) (A' : List (ℤ × ℤ)) → A ≡ led_by a' A' → p.1 ≤ℤ q.1 →
+      IsBuilding (pos 2) W' (rest_common a' A' b B) S
+  common_first W' added a' A' t h =
+      let m = open_held a p A l e in
+      let n = open_held b q B k f in
+      let next = building_takes (pos 2) W W' _ (IsBetween r) _ S opened (meeting_parts p q r A B m n h shared) (meeting_below p q r A B m n h shared) added in
+      subst (λ (L : List (ℤ × ℤ)). IsBuilding (pos 2) W' (Intersection (Covers L) (Covers (led_by b B))) S) t
+      (subst (λ (L : List (ℤ × ℤ)). IsBuilding (pos 2) W' (Intersection (Covers A) (Covers L)) S) (sym (leads b q B f)) next)
+
+pub common_second : (W W' : List (ℤ × ℤ)) (a b b' : Option (ℤ × ℤ)) (A B B' : List (ℤ × ℤ)) (p q r : ℤ × ℤ) (S : ℤ → Type 0) → a ≡ Some p → b ≡ Some q → IsLed a A → IsLed b B →
+    IsBuilding (pos 2) W (rest_common a A b B) S → SameMembers (IsBetween r) (Intersection (IsBetween p) (IsBetween q)) → IsRunsOf W' (Union (Covers W) (IsBetween r)) →
+    B ≡ led_by b' B' → q.1 ≤ℤ p.1 → IsBuilding (pos 2) W' (rest_common a A b' B') S
+common_second W W' a b b' A B B' p q r S e f l k u shared added t h =
+    common_turned W' b' a B' A S
+    (common_first W b a B A q p r S f e k l (common_turned W a b A B S u) (λ z. ((λ i. let (x, y) = (shared z).0 i in (y, x)), (λ (y, x). (shared z).1 (x, y)))) W' added b' B' t h)
+
+-- where one of the two lists is at its end, nothing is left
+pub no_common : (a b : Option (ℤ × ℤ)) (A B : List (ℤ × ℤ)) → IsLed a A → IsLed b B → (a ≡ None) ⊎ (b ≡ None) → HasNone (rest_common a A b B)
+no_common a b A B l k (inl e) z i = subst (λ (L : List (ℤ × ℤ)). Covers L z) (leads_none a A l e) i.0
+no_common a b A B l k (inr e) z i = subst (λ (L : List (ℤ × ℤ)). Covers L z) (leads_none b B k e) i.1
 
 -- two values whose numbers are ends of two runs
 pub ends_by : (x y a b : ℤ) → x ≡ a → y ≡ b → x ≤ℤ y → a ≤ℤ b

@@ -22,16 +22,18 @@ pub fn common<B: Width>(
 {
     let room = first.left().saturating_add(second.left());
     let mut set = IntervalSet::with_room(first.alloc(), room)?;
-    'walk: while let Some(runs) = heads(&first, &second) {
-        let (a, b) = runs;
-        push_part(&mut set, a.intersection(&b))?;
-        if a.upper() <= b.upper() {
-            first.advance();
+    let mut a = first.take();
+    let mut b = second.take();
+    'walk: while let Some(runs) = a.zip(b) {
+        let (run, other) = runs;
+        push_part(&mut set, run.intersection(&other))?;
+        if run.upper() <= other.upper() {
+            a = first.take();
         } else {
-            second.advance();
+            b = second.take();
         }
     }
-    Ok(set)
+    Ok(set.fitted())
 }
 
 /// The numbers of the range that no run covers of those that are left in a walk. Advances once for
@@ -49,7 +51,7 @@ pub fn free<B: Width>(mut walk: Walk<'_, B>) -> Result<IntervalSet<B>, AllocErro
         walk.advance();
     }
     push_part(&mut set, rest)?;
-    Ok(set)
+    Ok(set.fitted())
 }
 
 /// The first runs of two walks, where both have one.

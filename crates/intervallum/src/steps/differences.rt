@@ -37,7 +37,7 @@ pub fn without<B: Width>(
         }
     }
     push_rest(&mut set, a, first)?;
-    Ok(set)
+    Ok(set.fitted())
 }
 
 /// The members that one walk has left and the other has not. Steps and memory are those of `without`.
@@ -68,7 +68,7 @@ pub fn one_alone<B: Width>(
     }
     push_rest(&mut set, a, first)?;
     push_rest(&mut set, b, second)?;
-    Ok(set)
+    Ok(set.fitted())
 }
 
 /// What one of two runs has below the start of the other.

@@ -33,11 +33,11 @@ push_part-requires-2 g c = record {
 
 pub returns-clause-members : goal.returns-clause-members
 returns-clause-members g c =
-    building_done (pos 2) c.walk.set c.push_part-2.new.set (IsBetween c.walk.rest) (Complement g.B.Width.whole (Covers c.args.walk.left))
-    (building_same (pos 2) c.walk.set _ _ _ (all_left c.walk.rest c.walk.walk.left c.in_default.ensures.first) c.walk.invariant) c.in_ok-push_part-2.ensures
+    rw c.fitted.ensures (building_done (pos 2) c.walk.set c.push_part-2.new.set (IsBetween c.walk.rest) (Complement g.B.Width.whole (Covers c.args.walk.left))
+    (building_same (pos 2) c.walk.set _ _ _ (all_left c.walk.rest c.walk.walk.left c.in_default.ensures.first) c.walk.invariant) c.in_ok-push_part-2.ensures)
 
 pub returns-clause-runs_at_most : goal.returns-clause-runs_at_most
 returns-clause-runs_at_most g c =
-    length_of_complement g.B.Width.whole c.args.walk.left c.push_part-2.new.set
+    rw c.fitted.ensures (length_of_complement g.B.Width.whole c.args.walk.left c.push_part-2.new.set
     (building_done (pos 2) c.walk.set c.push_part-2.new.set (IsBetween c.walk.rest) (Complement g.B.Width.whole (Covers c.args.walk.left))
-    (building_same (pos 2) c.walk.set _ _ _ (all_left c.walk.rest c.walk.walk.left c.in_default.ensures.first) c.walk.invariant) c.in_ok-push_part-2.ensures)
+    (building_same (pos 2) c.walk.set _ _ _ (all_left c.walk.rest c.walk.walk.left c.in_default.ensures.first) c.walk.invariant) c.in_ok-push_part-2.ensures))

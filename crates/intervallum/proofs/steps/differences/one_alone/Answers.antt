@@ -101,14 +101,14 @@ returns-clause-members g c =
     let ended = zip_none c.walk.a c.walk.b (sym c.zip.ensures ∙ c.in_default.is) in
     let rest = building_same (pos 1) c.walk.set _ _ _ (alone_at_end c.walk.a c.walk.b c.walk.first.left c.walk.second.left c.walk.invariant.first c.walk.invariant.second ended) c.walk.invariant.state in
     let apart = apart_at_end (pos 1) c.walk.a c.walk.b c.walk.first.left c.walk.second.left c.walk.invariant.first c.walk.invariant.second ended in
-    building_done (pos 1) c.push_rest.new.set c.push_rest-2.new.set _ _
-    (building_takes (pos 1) c.walk.set c.push_rest.new.set _ _ _ _ rest (λ z. ((λ s. s), (λ s. s))) apart c.in_ok-push_rest.ensures) c.in_ok-push_rest-2.ensures
+    rw c.fitted.ensures (building_done (pos 1) c.push_rest.new.set c.push_rest-2.new.set _ _
+    (building_takes (pos 1) c.walk.set c.push_rest.new.set _ _ _ _ rest (λ z. ((λ s. s), (λ s. s))) apart c.in_ok-push_rest.ensures) c.in_ok-push_rest-2.ensures)
 
 pub returns-clause-runs_at_most : goal.returns-clause-runs_at_most
 returns-clause-runs_at_most g c =
     let ended = zip_none c.walk.a c.walk.b (sym c.zip.ensures ∙ c.in_default.is) in
     let rest = building_same (pos 1) c.walk.set _ _ _ (alone_at_end c.walk.a c.walk.b c.walk.first.left c.walk.second.left c.walk.invariant.first c.walk.invariant.second ended) c.walk.invariant.state in
     let apart = apart_at_end (pos 1) c.walk.a c.walk.b c.walk.first.left c.walk.second.left c.walk.invariant.first c.walk.invariant.second ended in
-    length_of_one_alone c.args.first.left c.args.second.left c.push_rest-2.new.set
+    rw c.fitted.ensures (length_of_one_alone c.args.first.left c.args.second.left c.push_rest-2.new.set
     (building_done (pos 1) c.push_rest.new.set c.push_rest-2.new.set _ _
-    (building_takes (pos 1) c.walk.set c.push_rest.new.set _ _ _ _ rest (λ z. ((λ s. s), (λ s. s))) apart c.in_ok-push_rest.ensures) c.in_ok-push_rest-2.ensures)
+    (building_takes (pos 1) c.walk.set c.push_rest.new.set _ _ _ _ rest (λ z. ((λ s. s), (λ s. s))) apart c.in_ok-push_rest.ensures) c.in_ok-push_rest-2.ensures))

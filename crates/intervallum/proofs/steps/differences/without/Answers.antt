@@ -74,11 +74,11 @@ pub returns-clause-members : goal.returns-clause-members
 returns-clause-members g c =
     let ended = zip_none c.walk.a c.walk.b (sym c.zip.ensures ∙ c.in_default.is) in
     let alone = left_alone c.walk.a c.walk.b c.walk.first.left c.walk.second.left c.walk.invariant.first c.walk.invariant.second ended in
-    building_done (pos 2) c.walk.set c.push_rest.new.set _ _ (building_same (pos 2) c.walk.set _ _ _ alone c.walk.invariant.state) c.in_ok-push_rest.ensures
+    rw c.fitted.ensures (building_done (pos 2) c.walk.set c.push_rest.new.set _ _ (building_same (pos 2) c.walk.set _ _ _ alone c.walk.invariant.state) c.in_ok-push_rest.ensures)
 
 pub returns-clause-runs_at_most : goal.returns-clause-runs_at_most
 returns-clause-runs_at_most g c =
     let ended = zip_none c.walk.a c.walk.b (sym c.zip.ensures ∙ c.in_default.is) in
     let alone = left_alone c.walk.a c.walk.b c.walk.first.left c.walk.second.left c.walk.invariant.first c.walk.invariant.second ended in
-    length_of_without c.args.first.left c.args.second.left c.push_rest.new.set
-    (building_done (pos 2) c.walk.set c.push_rest.new.set _ _ (building_same (pos 2) c.walk.set _ _ _ alone c.walk.invariant.state) c.in_ok-push_rest.ensures)
+    rw c.fitted.ensures (length_of_without c.args.first.left c.args.second.left c.push_rest.new.set
+    (building_done (pos 2) c.walk.set c.push_rest.new.set _ _ (building_same (pos 2) c.walk.set _ _ _ alone c.walk.invariant.state) c.in_ok-push_rest.ensures))
