@@ -9,8 +9,10 @@ pub mod Writing
 pub mod Searching
 pub mod Finding
 pub mod Cutting
-pub mod Stretching
-pub mod Combining
-pub mod Numbers
 pub mod RunBounds
 pub mod Singles
+pub mod Building
+pub mod Meeting
+pub mod Leading
+pub mod Parting
+pub mod Alternating

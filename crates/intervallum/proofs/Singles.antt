@@ -1,15 +1,11 @@
--- Sets beside one run, which holds a value or the range.
+-- Sets beside one run, which holds a value.
 use Rattle.std.proofs.Common.{◌≡◌, ◌↔◌, ℤ, List, [], ◌∷◌, Bool, true, false, not, IsTrue, inl, inr, ⊎_elim, refl, sym, subst, ◌∙◌, true≢false}
 use Rattle.std.specs.Prelude.{Result, IfOk}
 use Rattle.std.proofs.lemmas.Result.{IfOk-weaker}
-use Rattle.ivl_laws.specs.Sets.{IsBetween, IsInRange, Only, Intersection, Complement, SameMembers, HasNone, HasSome, Union, Without}
+use Rattle.ivl_laws.specs.Sets.{IsBetween, IsInRange, Only, Intersection, SameMembers, HasNone, HasSome, SymmetricDifference, Union, Without}
 use Rattle.ivl_laws.specs.Runs.{Covers, IsRunsOf, IsRunListIn}
 use Rattle.ivl_laws.proofs.SetLaws.{IsRunsOf-same, only_is_covered}
 use Rattle.ivl_laws.proofs.Ranges.{IsRunsOf-none}
-use Rattle.intervallum.specs.Choices.{IsKept}
-use Rattle.intervallum.specs.declared.steps.combine.Choice.{Choice}
-use Rattle.intervallum.specs.declared.steps.combine.Choice.TheVariants.{FirstAlone}
-use Rattle.intervallum.proofs.Combining.{kept_same}
 
 same_list : (A L : List (ℤ × ℤ)) → A ≡ L → SameMembers (Covers A) (Covers L)
 same_list A L e = subst (λ (M : List (ℤ × ℤ)). SameMembers (Covers A) (Covers M)) e (λ z. ((λ c. c), (λ c. c)))
@@ -17,20 +13,29 @@ same_list A L e = subst (λ (M : List (ℤ × ℤ)). SameMembers (Covers A) (Cov
 same_only : (M : List (ℤ × ℤ)) (v : ℤ) → M ≡ (v, v) ∷ [] → SameMembers (Covers M) (Only v)
 same_only M v e = subst (λ (N : List (ℤ × ℤ)). SameMembers (Covers N) (Only v)) (sym e) (λ z. ((only_is_covered v z).1, (only_is_covered v z).0))
 
-same_run : (M : List (ℤ × ℤ)) (p : ℤ × ℤ) → M ≡ p ∷ [] → SameMembers (Covers M) (IsBetween p)
-same_run M p e = subst (λ (N : List (ℤ × ℤ)). SameMembers (Covers N) (IsBetween p)) (sym e) (λ z. (⊎_elim (λ b. b) (λ n. absurd n), λ b. inl b))
+pub common_with_one : {E : Type 0} (r : Result (List (ℤ × ℤ)) E) (A M L : List (ℤ × ℤ)) (v : ℤ) → A ≡ L → M ≡ (v, v) ∷ [] →
+    IfOk r (λ N. IsRunsOf N (Intersection (Covers A) (Covers M))) → IfOk r (λ N. IsRunsOf N (Intersection (Covers L) (Only v)))
+common_with_one r A M L v e f =
+    let p = same_list A L e in
+    let q = same_only M v f in
+    IfOk-weaker r _ _ (λ N i. IsRunsOf-same _ _ N (λ z. ((λ (a, b). ((p z).0 a, (q z).0 b)), (λ (a, b). ((p z).1 a, (q z).1 b)))) i)
 
-turned : {P Q : Type 0} → P ↔ Q → Q ↔ P
-turned e = (e.1, e.0)
+pub left_by_one : {E : Type 0} (r : Result (List (ℤ × ℤ)) E) (A M L : List (ℤ × ℤ)) (v : ℤ) → A ≡ L → M ≡ (v, v) ∷ [] →
+    IfOk r (λ N. IsRunsOf N (Without (Covers A) (Covers M))) → IfOk r (λ N. IsRunsOf N (Without (Covers L) (Only v)))
+left_by_one r A M L v e f =
+    let p = same_list A L e in
+    let q = same_only M v f in
+    IfOk-weaker r _ _ (λ N i. IsRunsOf-same _ _ N (λ z. ((λ (a, n). ((p z).0 a, λ b. n ((q z).1 b))), (λ (a, n). ((p z).1 a, λ b. n ((q z).0 b))))) i)
 
-kept_sets : (choice : Choice) (S S' T T' : ℤ → Type 0) → SameMembers S S' → SameMembers T T' →
-    SameMembers (λ z. IsKept choice (S z) (T z)) (λ z. IsKept choice (S' z) (T' z))
-kept_sets choice S S' T T' e f z = ((λ k. kept_same choice (e z) (f z) k), (λ k. kept_same choice (turned (e z)) (turned (f z)) k))
-
-pub kept_beside_one : {E : Type 0} (r : Result (List (ℤ × ℤ)) E) (choice : Choice) (A M L : List (ℤ × ℤ)) (v : ℤ) → A ≡ L → M ≡ (v, v) ∷ [] →
-    IfOk r (λ N. IsRunsOf N (λ z. IsKept choice (Covers A z) (Covers M z))) → IfOk r (λ N. IsRunsOf N (λ z. IsKept choice (Covers L z) (Only v z)))
-kept_beside_one r choice A M L v e f =
-    IfOk-weaker r _ _ (λ N i. IsRunsOf-same _ _ N (kept_sets choice (Covers A) (Covers L) (Covers M) (Only v) (same_list A L e) (same_only M v f)) i)
+pub alone_with_one : {E : Type 0} (r : Result (List (ℤ × ℤ)) E) (A M L : List (ℤ × ℤ)) (v : ℤ) → A ≡ L → M ≡ (v, v) ∷ [] →
+    IfOk r (λ N. IsRunsOf N (SymmetricDifference (Covers A) (Covers M))) → IfOk r (λ N. IsRunsOf N (SymmetricDifference (Covers L) (Only v)))
+alone_with_one r A M L v e f =
+    let p = same_list A L e in
+    let q = same_only M v f in
+    IfOk-weaker r _ _ (λ N i. IsRunsOf-same _ _ N (λ z. (
+      ⊎_elim (λ (a, n). inl ((p z).0 a, λ b. n ((q z).1 b))) (λ (b, n). inr ((q z).0 b, λ a. n ((p z).1 a))),
+      ⊎_elim (λ (a, n). inl ((p z).1 a, λ b. n ((q z).0 b))) (λ (b, n). inr ((q z).1 b, λ a. n ((p z).0 a))),
+    )) i)
 
 pub united_with_one : {E : Type 0} (r : Result (List (ℤ × ℤ)) E) (A M L : List (ℤ × ℤ)) (v : ℤ) → A ≡ L → M ≡ (v, v) ∷ [] →
     IfOk r (λ N. IsRunsOf N (Union (Covers A) (Covers M))) → IfOk r (λ N. IsRunsOf N (Union (Covers L) (Only v)))
@@ -38,11 +43,6 @@ united_with_one r A M L v e f =
     let p = same_list A L e in
     let q = same_only M v f in
     IfOk-weaker r _ _ (λ N i. IsRunsOf-same _ _ N (λ z. (⊎_elim (λ a. inl ((p z).0 a)) (λ b. inr ((q z).0 b)), ⊎_elim (λ a. inl ((p z).1 a)) (λ b. inr ((q z).1 b)))) i)
-
-pub complement_of : {E : Type 0} (r : Result (List (ℤ × ℤ)) E) (whole : ℤ × ℤ) (A M L : List (ℤ × ℤ)) → A ≡ L → M ≡ whole ∷ [] →
-    IfOk r (λ N. IsRunsOf N (Without (Covers M) (Covers A))) → IfOk r (λ N. IsRunsOf N (Complement whole (Covers L)))
-complement_of r whole A M L e f =
-    IfOk-weaker r _ _ (λ N i. IsRunsOf-same _ _ N (kept_sets FirstAlone (Covers M) (IsBetween whole) (Covers A) (Covers L) (same_run M whole f) (same_list A L e)) i)
 
 -- a value outside the range is no member
 pub common_with_none : {E : Type 0} (r : Result (List (ℤ × ℤ)) E) (whole : ℤ × ℤ) (A L : List (ℤ × ℤ)) (v : ℤ) (b : Bool) → A ≡ L → IsRunListIn whole A →

@@ -28,7 +28,7 @@ starts_with : (L : List (ℤ × ℤ)) (b : ℤ × ℤ) (v : ℤ) → Some b ≡ 
 starts_with [] b v e h = tt
 starts_with (p ∷ L) b v e h = let same : b ≡ p = cc in subst (λ (t : ℤ × ℤ). v ≤ℤ t.0) same h
 
-is_first : (L rest : List (ℤ × ℤ)) (a x : ℤ × ℤ) → Some a ≡ slice_get L 0 → L ≡ x ∷ rest → L ≡ a ∷ rest
+pub is_first : (L rest : List (ℤ × ℤ)) (a x : ℤ × ℤ) → Some a ≡ slice_get L 0 → L ≡ x ∷ rest → L ≡ a ∷ rest
 is_first [] rest a x e f = absurd (cc)
 is_first (p ∷ L) rest a x e f = cc
 

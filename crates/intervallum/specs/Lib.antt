@@ -5,5 +5,5 @@ pub mod Starts
 pub mod Sweeps
 pub mod Text
 pub mod Places
-pub mod Stretches
-pub mod Choices
+pub mod Sides
+pub mod Led

@@ -1,13 +1,14 @@
 //! Walks over the runs of sets from the left, and a search in them. A contract sees how often a walk
 //! has advanced and how often a search has looked.
 mod combine;
+mod differences;
 mod merge;
 mod probes;
 mod search;
-mod stretch;
 mod walk;
 
-pub use combine::{common, have_common, one_alone, without};
+pub use combine::{common, free, have_common};
+pub use differences::{one_alone, without};
 pub use merge::unite;
 pub use probes::Probes;
 pub use search::{Place, find};

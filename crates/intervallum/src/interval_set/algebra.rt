@@ -7,7 +7,7 @@ use super::IntervalSet;
 use crate::ops::{
     Complement, Difference, Disjoint, Intersection, Overlap, SymmetricDifference, Union,
 };
-use crate::steps::{Walk, common, have_common, one_alone, unite, without};
+use crate::steps::{Walk, common, free, have_common, one_alone, unite, without};
 use crate::width::Width;
 use std::alloc::AllocError;
 
@@ -106,13 +106,12 @@ impl<B: Width> Complement for IntervalSet<B> {
     ghost answers = { λ r S. IfOk r (λ L. IsRunsOf L S) };
 
     /// The numbers of the range that are no members. `O(n)`, in memory that is reserved once for
-    /// `n + 1` runs, and for one run that holds the range meanwhile.
+    /// `n + 1` runs.
     fn complement(&self) -> Result<IntervalSet<B>, AllocError>
         ensures members { IfOk result (λ L. IsRunsOf L (Complement B.whole (Covers self.now))) }
         ensures runs_at_most { IfOk result (λ L. length L ≤ length self.now + 1) }
     {
-        let whole = IntervalSet::whole_range(self.allocator())?;
-        without(Walk::new(&whole), Walk::new(self))
+        free(Walk::new(self))
     }
 }
 

@@ -1,9 +1,9 @@
-//! Sets that are made from a set or from the range.
-ghost use Rattle.std.specs.Prelude.{◌≡◌, ◌∷◌, [], IfOk};
+//! A set that is made from a set.
+ghost use Rattle.std.specs.Prelude.{◌≡◌, IfOk};
 
 use super::IntervalSet;
 use crate::width::Width;
-use std::alloc::{AllocError, Global};
+use std::alloc::AllocError;
 
 impl<B: Width> IntervalSet<B> {
     /// The same set once more. `O(n)`, in memory for `n` runs. An error is memory that was refused.
@@ -15,12 +15,5 @@ impl<B: Width> IntervalSet<B> {
             intervals,
             size: self.size,
         })
-    }
-
-    /// The numbers of the range, as one run.
-    pub(crate) fn whole_range(alloc: Global) -> Result<Self, AllocError>
-        ensures { IfOk result (λ L. L ≡ B.whole ∷ []) }
-    {
-        IntervalSet::new(alloc, <B as Width>::min_value(), <B as Width>::max_value())
     }
 }

@@ -41,6 +41,17 @@ impl<B: Width> IntervalSet<B> {
         })
     }
 
+    /// The same set, which gives memory back where it has room for more than twice as many runs. Where
+    /// that is refused, the set keeps its room.
+    pub(crate) fn fitted(mut self) -> Self
+        ensures { result ≡ self }
+    {
+        if self.intervals.capacity() / 2 > self.intervals.len() {
+            self.intervals.shrink_to_fit();
+        }
+        self
+    }
+
     /// Adds the members of a run that starts no lower than the last run does, joined with that one
     /// where the two overlap or touch.
     pub(crate) fn push_run(&mut self, run: Interval<B>) -> Result<(), AllocError>
@@ -64,7 +75,7 @@ impl<B: Width> IntervalSet<B> {
     }
 
     /// Adds a run at the end, where it joins with no other.
-    fn push_apart(&mut self, run: Interval<B>) -> Result<(), AllocError>
+    pub(crate) fn push_apart(&mut self, run: Interval<B>) -> Result<(), AllocError>
         requires within { IsSubset (IsBetween run) (IsBetween B.whole) }
         requires apart { AddsRun self.old run (self.old ++ run ∷ []) }
         ensures ok { OnOk result (AddsRun self.old run self.new) }

@@ -25,7 +25,7 @@ pub fn unite<B: Width>(
     'walk: while let Some(run) = take_first(&mut first, &mut second) {
         set.push_run(run)?;
     }
-    Ok(set)
+    Ok(set.fitted())
 }
 
 /// Takes the run that starts first away from the two walks.

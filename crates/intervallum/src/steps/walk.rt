@@ -1,6 +1,7 @@
 //! A walk over the runs of a set, from the left.
-ghost use Rattle.std.specs.Prelude.{◌≡◌, ◌≢◌, ℕ, ◌+◌, ◌≤◌, ℤ, [], ◌∷◌, length, slice_get};
+ghost use Rattle.std.specs.Prelude.{◌≡◌, ◌≢◌, ℕ, ◌+◌, ◌≤◌, ℤ, [], ◌∷◌, None, length, slice_get};
 ghost use Rattle.ivl_laws.specs.Runs.{IsRunListIn};
+ghost use Rattle.intervallum.specs.Led.{led_by};
 
 use crate::interval::Interval;
 use crate::interval_set::IntervalSet;
@@ -59,6 +60,17 @@ impl<'a, B: Width> Walk<'a, B> {
         ensures count { self.new.count ≡ self.old.count }
     {
         self.taken += 1;
+    }
+
+    /// Takes the first of the runs away, if one is left.
+    pub(crate) fn take(&mut self) -> Option<Interval<B>>
+        ensures taken { self.old.left ≡ led_by result self.new.left }
+        ensures none { (result ≡ None) → (self.new.left ≡ []) }
+        ensures runs { IsRunListIn B.whole self.old.left }
+    {
+        let run = self.peek()?;
+        self.advance();
+        Some(run)
     }
 
     /// How many runs are left: with the advances made, they are the runs of the set.

@@ -1,79 +1,59 @@
-use Rattle.std.proofs.Common.{pos, ◌+ℤ◌, ◌∙◌, [], sym, SFits, to_z, of_z, arith, refl, true≢false}
-use Rattle.std.proofs.lemmas.Int.{ints, clamps, to_z-of_z}
-use mir.Syntax.{w128}
-use Rattle.intervallum.specs.declared.steps.combine.Choice.TheVariants.{Common}
-use Rattle.intervallum.proofs.Joining.{bound_fits}
-use Rattle.intervallum.proofs.Numbers.{above_fits, ends_of, shorter}
-use Rattle.intervallum.proofs.Combining.{last_of, agrees_cut, adds_none, combining_begins, combining_next, combining_ends, common_found}
+use Rattle.std.proofs.Common.{refl, sym, true≢false}
+use Rattle.ivl_laws.specs.Sets.{Intersection}
+use Rattle.ivl_laws.specs.Runs.{Covers}
+use Rattle.ivl_laws.proofs.Intervals.{some_is_not_crossed}
+use Rattle.ivl_laws.proofs.Orders.{lt_number}
+use Rattle.ivl_laws.proofs.SetLaws.{same_members_trans}
+use Rattle.ivl_interval.proofs.Pairs.{not_below}
+use Rattle.intervallum.proofs.Meeting.{drops_first, drops_second, ends_before, ends_by, has_none_same, has_some_same, meet_here}
+use Rattle.intervallum.proofs.Walking.{first_is_open}
 use Rattle.intervallum.proofs.steps.combine.have_common.Goals as goal
 
-pub walk-init : goal.walk-init
-walk-init g c = record {
-  ends = (ends_of g.B.Width.whole g.met.B.Width.range).1 c.number-end.result (c.number-end.ensures ∙ c.max_value.ensures);
-  state = combining_begins Common [] g.B.Width.whole _ c.args.first.left c.args.second.left refl ((ends_of g.B.Width.whole g.met.B.Width.range).0 c.number-next.result (c.number-next.ensures ∙ c.min_value.ensures)) c.in_range.ensures c.in_range-2.ensures;
-}
+pub upper-requires : goal.upper-requires
+upper-requires g c = (some_is_not_crossed c.in-Some.runs.0).1 (first_is_open c.walk.first.left _ c.in-Some.ensures.heads.0 c.in-Some.ensures.within.0.maximal)
 
-pub returns-then-keeps : goal.returns-then-keeps
-returns-then-keeps g c = (
-  λ t. common_found g.B.Width.whole (to_z w128 c.walk.next-bits) _ _ _ _ _ _ _ c.keeps.result c.walk.invariant.state c.stretch_from-a.ensures.bounds.0 c.stretch_from-b.ensures.bounds.0
-      c.stretch_from-a.ensures.alike c.stretch_from-b.ensures.alike c.keeps.ensures c.if-keeps.true,
-  λ h. refl,
-)
+pub lower-requires : goal.lower-requires
+lower-requires g c = (some_is_not_crossed c.in-Some.runs.1).1 (first_is_open c.walk.second.left _ c.in-Some.ensures.heads.1 c.in-Some.ensures.within.1.maximal)
 
-pub overflow_add-next : goal.overflow_add-next
-overflow_add-next g c =
-    let W = g.B.Width.whole in
-    let r = g.met.B.Width.range in
-    let a = c.stretch_from-a.ensures.bounds in
-    let b = c.stretch_from-b.ensures.bounds in
-    let low = c.walk.invariant.state.from in
-    let fits_a : SFits w128 c.stretch_from-a.result.last = bound_fits W _ r (omega (arith, ints, a.0), a.1) in
-    let fits_b : SFits w128 c.stretch_from-b.result.last = bound_fits W _ r (omega (arith, ints, b.0), b.1) in
-    let value = c.min-last.ensures.value in
-    let last = last_of W _ c.min-last.result c.stretch_from-a.result.last c.stretch_from-b.result.last (to_z w128 (of_z w128 c.min-last.result)) r low a b (omega (arith, ints, clamps)) refl in
-    above_fits W (to_z w128 (of_z w128 c.min-last.result)) r last.within
-
-pub walk-smaller : goal.walk-smaller
-walk-smaller g c =
-    let W = g.B.Width.whole in
-    let r = g.met.B.Width.range in
-    let a = c.stretch_from-a.ensures.bounds in
-    let b = c.stretch_from-b.ensures.bounds in
-    let low = c.walk.invariant.state.from in
-    let fits_a : SFits w128 c.stretch_from-a.result.last = bound_fits W _ r (omega (arith, ints, a.0), a.1) in
-    let fits_b : SFits w128 c.stretch_from-b.result.last = bound_fits W _ r (omega (arith, ints, b.0), b.1) in
-    let value = c.min-last.ensures.value in
-    let last = last_of W _ c.min-last.result c.stretch_from-a.result.last c.stretch_from-b.result.last (to_z w128 (of_z w128 c.min-last.result)) r low a b (omega (arith, ints, clamps)) refl in
-    let fits = above_fits W (to_z w128 (of_z w128 c.min-last.result)) r last.within in
-    shorter (to_z w128 (of_z w128 c.number-end.result)) (to_z w128 c.walk.next-bits) (to_z w128 (of_z w128 c.min-last.result)) (to_z w128 (of_z w128 (to_z w128 (of_z w128 c.min-last.result) +ℤ pos 1)))
-    c.walk-test.true last.from (to_z-of_z w128 (to_z w128 (of_z w128 c.min-last.result) +ℤ pos 1) fits)
+pub walk-preserved-then-lt : goal.walk-preserved-then-lt
+walk-preserved-then-lt g c =
+    let S = Intersection (Covers c.args.first.left) (Covers c.args.second.left) in
+    let test = (lt_number g.met.B.Width.ordered _ _ _ c.lt.ensures).0 c.if-lt.true in
+    same_members_trans _ _ S
+    (drops_first c.walk.first.left c.advance.new.self.left c.walk.second.left c.in-Some.runs.0 c.in-Some.runs.1 c.in-Some.ensures.within.1.maximal
+    c.in-Some.ensures.heads.0 c.in-Some.ensures.heads.1 c.advance.ensures.left
+    (ends_before (g.B.Width.value c.upper.result) (g.B.Width.value c.lower.result) c.in-Some.runs.0.1 c.in-Some.runs.1.0 c.upper.ensures.value c.lower.ensures.value test))
+    c.walk.invariant
 
 pub walk-preserved : goal.walk-preserved
 walk-preserved g c =
-    let W = g.B.Width.whole in
-    let r = g.met.B.Width.range in
-    let a = c.stretch_from-a.ensures.bounds in
-    let b = c.stretch_from-b.ensures.bounds in
-    let low = c.walk.invariant.state.from in
-    let fits_a : SFits w128 c.stretch_from-a.result.last = bound_fits W _ r (omega (arith, ints, a.0), a.1) in
-    let fits_b : SFits w128 c.stretch_from-b.result.last = bound_fits W _ r (omega (arith, ints, b.0), b.1) in
-    let value = c.min-last.ensures.value in
-    let last = last_of W _ c.min-last.result c.stretch_from-a.result.last c.stretch_from-b.result.last (to_z w128 (of_z w128 c.min-last.result)) r low a b (omega (arith, ints, clamps)) refl in
-    let fits = above_fits W (to_z w128 (of_z w128 c.min-last.result)) r last.within in
-    record {
-      ends = c.walk.invariant.ends;
-      state = combining_next Common [] [] W (to_z w128 c.walk.next-bits) (to_z w128 (of_z w128 c.min-last.result)) _
-          c.walk.first.left c.walk.second.left c.stretch_from-a.new.walk.left c.stretch_from-b.new.walk.left _
-          c.stretch_from-a.result.is_member c.stretch_from-b.result.is_member c.keeps.result
-          c.walk.invariant.state last.from (to_z-of_z w128 (to_z w128 (of_z w128 c.min-last.result) +ℤ pos 1) fits)
-          (agrees_cut _ _ _ _ _ c.stretch_from-a.ensures.alike last.first) (agrees_cut _ _ _ _ _ c.stretch_from-b.ensures.alike last.second)
-          c.stretch_from-a.ensures.same c.stretch_from-b.ensures.same c.stretch_from-a.ensures.runs c.stretch_from-b.ensures.runs
-          c.keeps.ensures (adds_none c.keeps.result _ c.if-keeps.false);
-    }
+    let S = Intersection (Covers c.args.first.left) (Covers c.args.second.left) in
+    let test = (lt_number g.met.B.Width.ordered _ _ _ c.lt-else-lt.ensures).0 c.if-lt-2.true in
+    same_members_trans _ _ S
+    (drops_second c.walk.first.left c.walk.second.left c.advance-then-lt-2.new.self.left c.in-Some.runs.0 c.in-Some.runs.1 c.in-Some.ensures.within.0.maximal
+    c.in-Some.ensures.heads.0 c.in-Some.ensures.heads.1 c.advance-then-lt-2.ensures.left
+    (ends_before (g.B.Width.value c.upper-else-lt.result) (g.B.Width.value c.lower-else-lt.result) c.in-Some.runs.1.1 c.in-Some.runs.0.0 c.upper-else-lt.ensures.value c.lower-else-lt.ensures.value test))
+    c.walk.invariant
+
+pub returns-else-lt-2 : goal.returns-else-lt-2
+returns-else-lt-2 g c =
+    let S = Intersection (Covers c.args.first.left) (Covers c.args.second.left) in
+    let a = c.in-Some.runs.0 in
+    let b = c.in-Some.runs.1 in
+    let first = not_below _ _ _ (lt_number g.met.B.Width.ordered _ _ _ c.lt.ensures) c.if-lt.false in
+    let second = not_below _ _ _ (lt_number g.met.B.Width.ordered _ _ _ c.lt-else-lt.ensures) c.if-lt-2.false in
+    (
+      (λ t. has_some_same _ S c.walk.invariant
+          (meet_here c.walk.first.left c.walk.second.left a b c.in-Some.ensures.heads.0 c.in-Some.ensures.heads.1
+          (first_is_open c.walk.first.left _ c.in-Some.ensures.heads.0 c.in-Some.ensures.within.0.maximal)
+          (first_is_open c.walk.second.left _ c.in-Some.ensures.heads.1 c.in-Some.ensures.within.1.maximal)
+          (ends_by (g.B.Width.value c.lower.result) (g.B.Width.value c.upper.result) b.0 a.1 c.lower.ensures.value c.upper.ensures.value first)
+          (ends_by (g.B.Width.value c.lower-else-lt.result) (g.B.Width.value c.upper-else-lt.result) a.0 b.1 c.lower-else-lt.ensures.value c.upper-else-lt.ensures.value second))),
+      (λ h. refl),
+    )
 
 pub returns : goal.returns
-returns g c =
-    let ends = c.walk.invariant.ends in
-    let test = c.walk-test.false in
-    let all = combining_ends Common [] g.B.Width.whole (to_z w128 c.walk.next-bits) c.walk.first.left c.walk.second.left _ c.walk.invariant.state (omega (arith, ints)) in
-    (λ t. absurd (true≢false (sym t)), λ (z, s). absurd ((all.members z).1 s))
+returns g c = (
+  λ t. absurd (true≢false (sym t)),
+  λ h. absurd (has_none_same _ (Intersection (Covers c.args.first.left) (Covers c.args.second.left)) c.walk.invariant c.in_default.ensures.heads h),
+)

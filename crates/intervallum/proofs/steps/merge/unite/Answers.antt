@@ -20,9 +20,9 @@ done : (L A B : List (ℤ × ℤ)) (S : ℤ → Type 0) → A ≡ [] → B ≡ [
 done L A B S e f u = uniting_ends L S (subst (λ (M : List (ℤ × ℤ)). IsUniting L [] M S) f (subst (λ (M : List (ℤ × ℤ)). IsUniting L M B S) e u))
 
 pub returns-clause-members : goal.returns-clause-members
-returns-clause-members g c = done c.walk.set c.walk.first.left c.walk.second.left _ c.in_default.ensures.taken.0 c.in_default.ensures.taken.1 c.walk.invariant
+returns-clause-members g c = rw c.fitted.ensures (done c.walk.set c.walk.first.left c.walk.second.left _ c.in_default.ensures.taken.0 c.in_default.ensures.taken.1 c.walk.invariant)
 
 pub returns-clause-runs_at_most : goal.returns-clause-runs_at_most
 returns-clause-runs_at_most g c =
-    length_of_union c.args.first.left c.args.second.left c.walk.set
-    (done c.walk.set c.walk.first.left c.walk.second.left _ c.in_default.ensures.taken.0 c.in_default.ensures.taken.1 c.walk.invariant)
+    rw c.fitted.ensures (length_of_union c.args.first.left c.args.second.left c.walk.set
+    (done c.walk.set c.walk.first.left c.walk.second.left _ c.in_default.ensures.taken.0 c.in_default.ensures.taken.1 c.walk.invariant))

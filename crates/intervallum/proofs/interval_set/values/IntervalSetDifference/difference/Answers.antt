@@ -1,7 +1,6 @@
 use Rattle.std.proofs.Common.{◌∙◌}
-use Rattle.intervallum.specs.declared.steps.combine.Choice.TheVariants.{FirstAlone}
-use Rattle.intervallum.proofs.Singles.{kept_beside_one}
+use Rattle.intervallum.proofs.Singles.{left_by_one}
 use Rattle.intervallum.proofs.interval_set.values.IntervalSetDifference.difference.Goals as goal
 
 pub returns-clause-members : goal.returns-clause-members
-returns-clause-members g c = kept_beside_one c.without.result FirstAlone c.new-2.result.left c.new-3.result.left c.args.self.now (g.B.Width.value c.args.other.now) c.new-2.ensures.left (c.new-3.ensures.left ∙ c.in_ok-single.ensures) c.without.ensures.members
+returns-clause-members g c = left_by_one c.without.result c.new-2.result.left c.new-3.result.left c.args.self.now (g.B.Width.value c.args.other.now) c.new-2.ensures.left (c.new-3.ensures.left ∙ c.in_ok-single.ensures) c.without.ensures.members
