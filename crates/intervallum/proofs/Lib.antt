@@ -14,3 +14,4 @@ pub mod Combining
 pub mod Numbers
 pub mod RunBounds
 pub mod Singles
+pub mod Windows
