@@ -15,3 +15,4 @@ pub mod Numbers
 pub mod RunBounds
 pub mod Singles
 pub mod Windows
+pub mod Turning
