@@ -97,6 +97,7 @@ fn runs_before<B: Width>(probes: &mut Probes<'_, B>, value: B) -> usize
     ensures at_most { result ≤ length probes.old.runs }
     ensures same { probes.new.runs ≡ probes.old.runs }
 {
+    // the runs are those of a set, which the count tells
     let _count = probes.len();
     match find(probes, value) {
         Place::In(i) => i,
@@ -110,6 +111,7 @@ fn runs_up_to<B: Width>(probes: &mut Probes<'_, B>, value: B) -> usize
     ensures at_most { result ≤ length probes.old.runs }
     ensures same { probes.new.runs ≡ probes.old.runs }
 {
+    // the runs are those of a set, and no more than can be counted
     let _count = probes.len();
     match find(probes, value) {
         Place::In(i) => i + 1,
