@@ -1,15 +1,17 @@
 -- Equality of run lists as a test, and of the sets that they hold.
-use Rattle.std.proofs.Common.{◌≡◌, ◌↔◌, ◌≤ℤ◌, ℕ, ℤ, Bool, true, false, IsTrue, ◌&&◌, List, [], ◌∷◌, refl, sym, ap, ◌∙◌, subst, arith}
+use Rattle.std.proofs.Common.{◌≡◌, ◌↔◌, ◌<◌, ◌≤ℤ◌, ℕ, ℤ, Bool, true, false, IsTrue, not, ◌&&◌, List, [], ◌∷◌, refl, sym, ap, ◌∙◌, subst, arith}
 use Rattle.std.proofs.lemmas.Int.{ints, by_lt_z}
 use Rattle.std.proofs.lemmas.Bool.Decides.{nat_tests}
 use Rattle.std.specs.Prelude.{Option, nat_eq}
 use Rattle.std.specs.declared.cmp.Ordering.{Ordering}
+use Rattle.std.specs.Ordering.{nat_cmp, partial_gt, is_some_and, is_gt}
+use Rattle.std.proofs.Math.Bool.{true≢false}
 use Rattle.ivl_laws.specs.Bounds.{OrdersByCount}
-use Rattle.ivl_laws.specs.Sets.{IsBetween, SameMembers}
+use Rattle.ivl_laws.specs.Sets.{IsBetween, IsSubset, IsProperSubset, SameMembers}
 use Rattle.ivl_laws.specs.Runs.{Covers, IsMaximal}
 use Rattle.ivl_laws.specs.Counts.{IsCountOf}
 use Rattle.ivl_laws.proofs.Runs.{pair_same, runs_are_unique}
-use Rattle.ivl_laws.proofs.Counts.{count_is_unique}
+use Rattle.ivl_laws.proofs.Counts.{IsCountOf-same, count_is_monotone, count_is_unique, same_count_same_members}
 use Rattle.ivl_interval.specs.SameInterval.{same_interval}
 use Rattle.ivl_interval.proofs.Pairs.{same_interval_members}
 use Rattle.intervallum.specs.Equality.{same_runs}
@@ -69,3 +71,37 @@ not_equal m n r e f h = grind (arith, nat_tests)
 pub sizes_differ : {N : Type 0} {size : N → ℕ} {eq : N → N → Bool} {partial : N → N → Option Ordering} {total : N → N → Ordering}
     (o : OrdersByCount size eq partial total) (x y : N) (r : Bool) → r ≡ eq x y → r ≡ false → ¬ (size x ≡ size y)
 sizes_differ {size = size} o x y r e f = not_equal (size x) (size y) r (e ∙ o.equal x y) f
+
+more_by_count : (a b : ℕ) (r : Bool) → r ≡ is_gt (nat_cmp a b) → r ≡ true → b < a
+more_by_count a b r e f = grind (arith, nat_tests)
+
+-- a set with more members than another one is no subset of it
+pub larger_is_no_subset : {N : Type 0} {size : N → ℕ} {eq : N → N → Bool} {partial : N → N → Option Ordering} {total : N → N → Ordering}
+    (o : OrdersByCount size eq partial total) (x y : N) (r : Bool) (S T : ℤ → Type 0) → r ≡ partial_gt partial x y → r ≡ true → IsCountOf (size x) S → IsCountOf (size y) T →
+    IsTrue false ↔ IsSubset S T
+larger_is_no_subset {size = size} o x y r S T e f a b =
+    let more = more_by_count (size x) (size y) r (e ∙ ap (is_some_and is_gt) (o.partial x y)) f in
+    ((λ h. absurd (true≢false (sym h))), (λ s. let le = count_is_monotone S T (size x) (size y) s a b in absurd (omega arith)))
+
+-- ---- a subset is a proper one exactly where the sizes differ
+
+counts_differ : (a b : ℕ) (r : Bool) → r ≡ not (nat_eq a b) → r ≡ true → ¬ (a ≡ b)
+counts_differ a b r e f h = grind (arith, nat_tests)
+
+counts_agree : (a b : ℕ) (r : Bool) → r ≡ not (nat_eq a b) → r ≡ false → a ≡ b
+counts_agree a b r e f = grind (arith, nat_tests)
+
+module _ {N : Type 0} {size : N → ℕ} {eq : N → N → Bool} {partial : N → N → Option Ordering} {total : N → N → Ordering}
+    (o : OrdersByCount size eq partial total) (x y : N) (r : Bool) (S T : ℤ → Type 0) (e : r ≡ not (eq x y)) (a : IsCountOf (size x) S) (b : IsCountOf (size y) T) where
+  pub proper_by_size : (t : Bool) → r ≡ true → (IsTrue t ↔ IsSubset S T) → IsTrue t ↔ IsProperSubset S T
+  proper_by_size t f k = (
+    (λ h. (k.0 h, λ same. counts_differ (size x) (size y) r (e ∙ ap not (o.equal x y)) f (count_is_unique T (size x) (size y) (IsCountOf-same S T (size x) same a) b))),
+    (λ p. k.1 p.0),
+  )
+
+  pub not_proper_by_size : r ≡ false → IsTrue r ↔ IsProperSubset S T
+  not_proper_by_size f = (
+    (λ h. absurd (true≢false (sym h ∙ f))),
+    (λ p. absurd (p.1 (same_count_same_members S T (size x) p.0 a
+        (subst (λ n. IsCountOf n T) (sym (counts_agree (size x) (size y) r (e ∙ ap not (o.equal x y)) f)) b)))),
+  )

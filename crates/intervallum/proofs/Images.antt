@@ -118,9 +118,5 @@ results_with_value op L L' E v i e l h is =
     (subst (λ (N : List (ℤ × ℤ)). SameMembers (Covers N) (ResultsBy op (Covers L) (Only v))) (sym whole)
     (λ z. ((λ c. (results_with op (Covers L) v z).0 ((there z).0 c)), (λ r. (there z).1 ((results_with op (Covers L) v z).1 r)))))
 
-pub row_fits_with : (op : Op) (L L' : List (ℤ × ℤ)) (T W : ℤ → Type 0) (i : ℕ) (p : ℤ × ℤ) → L ≡ L' → i < length L → p ≡ get_or L i p → IsSubset (ExactResultsBy op (Covers L') T) W →
-    IsSubset (ExactResultsBy op (IsBetween p) T) W
-row_fits_with op L L' T W i p e h is fits = row_fits op L T W i p h is (subst (λ (N : List (ℤ × ℤ)). IsSubset (ExactResultsBy op (Covers N) T) W) (sym e) fits)
-
 pub open_here_seen : (L L' : List (ℤ × ℤ)) (i : ℕ) (p : ℤ × ℤ) → L ≡ L' → IsMaximal L' → i < length L → p ≡ get_or L i p → p.0 ≤ℤ p.1
 open_here_seen L L' i p e m h is = open_here L i p (subst IsMaximal (sym e) m) h is

@@ -16,3 +16,5 @@ pub mod Meeting
 pub mod Leading
 pub mod Parting
 pub mod Alternating
+pub mod Windows
+pub mod Turning

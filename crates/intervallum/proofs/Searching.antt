@@ -4,11 +4,12 @@ use Rattle.std.specs.Prelude.{int_lt}
 use Rattle.std.proofs.lemmas.Int.{ints}
 use native.Mathlib.Numerals.{unary_clauses}
 use Rattle.ivl_laws.specs.Runs.{Covers, IsMaximal, runs_below}
+use Rattle.intervallum.specs.Places.{EndBelow, StartAbove}
 
-int_lt_false : (a b : ℤ) → b <ℤ a → int_lt a b ≡ false
+pub int_lt_false : (a b : ℤ) → b <ℤ a → int_lt a b ≡ false
 int_lt_false a b h = grind (arith, ints)
 
-int_lt_true : (a b : ℤ) → a <ℤ b → int_lt a b ≡ true
+pub int_lt_true : (a b : ℤ) → a <ℤ b → int_lt a b ≡ true
 int_lt_true a b h = grind (arith, ints)
 
 -- half as many numbers take one digit less
@@ -16,15 +17,7 @@ pub shrink : (n s rest : ℕ) → 0 < n → n < 2 ^ rest → 2 * s ≤ n → (r 
 shrink n s zero h k l = absurd (omega (arith, k))
 shrink n s (suc r) h k l = (r, omega arith, let k' = simp unary_clauses at k in omega (arith, k', l))
 
-abbrev pub EndBelow : ℤ → List (ℤ × ℤ) → Type 0
-EndBelow v [] = Unit {0}
-EndBelow v (r ∷ L) = (r.1 <ℤ v) × EndBelow v L
-
-abbrev pub StartAbove : ℤ → List (ℤ × ℤ) → Type 0
-StartAbove v [] = Unit {0}
-StartAbove v (r ∷ L) = (v <ℤ r.0) × StartAbove v L
-
-above_after : (v : ℤ) (r : ℤ × ℤ) (L : List (ℤ × ℤ)) → v <ℤ r.0 → IsMaximal (r ∷ L) → StartAbove v L
+pub above_after : (v : ℤ) (r : ℤ × ℤ) (L : List (ℤ × ℤ)) → v <ℤ r.0 → IsMaximal (r ∷ L) → StartAbove v L
 above_after v r [] h m = tt
 above_after v r (q ∷ L) h m =
     let k : v <ℤ q.0 = omega (arith, ints, h, m.0, m.1) in
@@ -48,7 +41,7 @@ below_to v (r ∷ L) zero d h b m = (b, tt)
 below_to v (r ∷ L) (suc i) d h b m =
     (let k = later_end r L i d (omega arith) m in omega (arith, ints, k, b), below_to v L i d (omega arith) b m.2)
 
-none_above : (v : ℤ) (L : List (ℤ × ℤ)) → StartAbove v L → IsMaximal L → (¬ Covers L v) × (runs_below v L ≡ 0)
+pub none_above : (v : ℤ) (L : List (ℤ × ℤ)) → StartAbove v L → IsMaximal L → (¬ Covers L v) × (runs_below v L ≡ 0)
 none_above v [] a m = (λ h. h, refl)
 none_above v (r ∷ L) a m =
     let k = none_above v L a.1 m.2 in

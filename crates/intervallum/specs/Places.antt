@@ -1,5 +1,7 @@
 -- Where a number stands in a list of runs.
-use Rattle.std.specs.Prelude.{◌≡◌, ℤ, List, slice_get, IsSomeAnd}
+--     IsPlaceOf runs v place      the run that has v, or how many runs lie below v where none has
+--     EndBelow v L, StartAbove v L      each pair ends below v; each starts above v
+use Rattle.std.specs.Prelude.{◌≡◌, ℤ, ◌<ℤ◌, List, [], ◌∷◌, slice_get, IsSomeAnd}
 use Rattle.ivl_laws.specs.Sets.{IsBetween}
 use Rattle.ivl_laws.specs.Runs.{Covers, runs_below}
 use Rattle.intervallum.specs.declared.steps.search.Place.{Place}
@@ -9,3 +11,11 @@ use Rattle.intervallum.specs.declared.steps.search.Place.TheVariants.{In, Gap}
 abbrev pub IsPlaceOf : List (ℤ × ℤ) → ℤ → Place → Type 0
 IsPlaceOf runs v (In i) = IsSomeAnd (slice_get runs i) (λ run. IsBetween run v)
 IsPlaceOf runs v (Gap i) = (¬ (Covers runs v)) × (runs_below v runs ≡ i)
+
+abbrev pub EndBelow : ℤ → List (ℤ × ℤ) → Type 0
+EndBelow v [] = Unit {0}
+EndBelow v (r ∷ L) = (r.1 <ℤ v) × EndBelow v L
+
+abbrev pub StartAbove : ℤ → List (ℤ × ℤ) → Type 0
+StartAbove v [] = Unit {0}
+StartAbove v (r ∷ L) = (v <ℤ r.0) × StartAbove v L

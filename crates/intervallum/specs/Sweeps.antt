@@ -4,7 +4,8 @@
 --     ExactResultsBy op S T      the results over one member of each, which have to fit
 --     AreImages op L M entries      one entry for each pair of runs: that of run i of L and run j of M stands at place i * m + j
 --     result_of op p q      the pair that holds the results of two runs
-use Rattle.std.specs.Prelude.{◌≡◌, ℕ, ◌+◌, ◌*◌, ◌<◌, ℤ, List, length, slice_index_or, pos}
+--     TurnsOrder op v      the results with v descend where the runs ascend
+use Rattle.std.specs.Prelude.{◌≡◌, ℕ, ◌+◌, ◌*◌, ◌<◌, ℤ, ◌<ℤ◌, List, length, slice_index_or, pos}
 use Rattle.ivl_laws.specs.Sets.{IsBetween, SameMembers, Sums, Differences, ExactProducts, Products, IsHullOf}
 use Rattle.ivl_laws.specs.Runs.{Covers}
 use Rattle.ivl_laws.specs.Arithmetic.{interval_sum, interval_difference, corner_hull}
@@ -39,3 +40,8 @@ abbrev pub result_of : Op → ℤ × ℤ → ℤ × ℤ → ℤ × ℤ
 result_of Sum = interval_sum
 result_of Difference = interval_difference
 result_of Product = corner_hull
+
+abbrev pub TurnsOrder : Op → ℤ → Type 0
+TurnsOrder Sum v = ⊥
+TurnsOrder Difference v = ⊥
+TurnsOrder Product v = v <ℤ pos 0

@@ -32,7 +32,7 @@ use std::marker::Model;
 ///
 /// The runs are intervals of the range that are not empty; they ascend, and at least one number is
 /// missing between neighbours. The number of members is kept beside them.
-#[derive(Drop)]
+#[derive(Drop, Debug)]
 pub struct IntervalSet<B: Width> {
     intervals: Vec<Interval<B>>,
     size: B::Output,

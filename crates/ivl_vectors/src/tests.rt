@@ -1,6 +1,7 @@
 //! Tests of the interval crates through their public calls. Expected values are worked by hand.
 mod arithmetic;
 mod conversions;
+mod debug_texts;
 mod ends;
 mod fixtures;
 mod intervals;

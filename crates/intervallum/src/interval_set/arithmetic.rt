@@ -9,7 +9,7 @@
 //! numbers from the least to the greatest product of the two: `{[1..2]} * {[10..10]}` is `{[10..20]}`.
 //!
 //! The original can't be asked beforehand whether a result fits, and has no error for want of memory.
-ghost use Rattle.std.specs.Prelude.{IfOk};
+ghost use Rattle.std.specs.Prelude.{◌≤◌, IfOk, length};
 ghost use Rattle.ivl_laws.specs.Sets.{Differences, ExactProducts, IsBetween, IsSubset, Only, Products, Sums};
 ghost use Rattle.ivl_laws.specs.Runs.{Covers, IsRunsOf};
 
@@ -87,8 +87,12 @@ impl<B: Width> Add<B> for IntervalSet<B> {
     ghost add_gives = { λ a x r. IfOk r (λ L. IsRunsOf L (Sums (Covers a) (Only (B.value x)))) };
 
     /// The sums of a member and the value. Condition: `fits_add`, where the value
-    /// itself may lie outside the range. `O(n log n)` for `n` runs, in memory for twice as many.
-    fn add(self, rhs: B) -> Result<IntervalSet<B>, AllocError> {
+    /// itself may lie outside the range. `O(n)` for `n` runs, in memory for as many.
+    fn add(self, rhs: B) -> Result<IntervalSet<B>, AllocError>
+        requires { IsSubset (Sums (Covers self) (Only (B.value rhs))) (IsBetween B.whole) }
+        ensures members { IfOk result (λ L. IsRunsOf L (Sums (Covers self) (Only (B.value rhs)))) }
+        ensures runs_at_most { IfOk result (λ L. length L ≤ length self) }
+    {
         combine_with(&self, rhs, Op::Sum)
     }
 }
@@ -101,8 +105,12 @@ impl<B: Width> Add<&B> for IntervalSet<B> {
     ghost add_gives = { λ a x r. IfOk r (λ L. IsRunsOf L (Sums (Covers a) (Only (B.value x.now)))) };
 
     /// The sums of a member and the value. Condition: `fits_add`, where the value
-    /// itself may lie outside the range. `O(n log n)` for `n` runs, in memory for twice as many.
-    fn add(self, rhs: &B) -> Result<IntervalSet<B>, AllocError> {
+    /// itself may lie outside the range. `O(n)` for `n` runs, in memory for as many.
+    fn add(self, rhs: &B) -> Result<IntervalSet<B>, AllocError>
+        requires { IsSubset (Sums (Covers self) (Only (B.value rhs.now))) (IsBetween B.whole) }
+        ensures members { IfOk result (λ L. IsRunsOf L (Sums (Covers self) (Only (B.value rhs.now)))) }
+        ensures runs_at_most { IfOk result (λ L. length L ≤ length self) }
+    {
         combine_with(&self, *rhs, Op::Sum)
     }
 }
@@ -115,8 +123,12 @@ impl<B: Width> Add<B> for &IntervalSet<B> {
     ghost add_gives = { λ a x r. IfOk r (λ L. IsRunsOf L (Sums (Covers a.now) (Only (B.value x)))) };
 
     /// The sums of a member and the value. Condition: `fits_add`, where the value
-    /// itself may lie outside the range. `O(n log n)` for `n` runs, in memory for twice as many.
-    fn add(self, rhs: B) -> Result<IntervalSet<B>, AllocError> {
+    /// itself may lie outside the range. `O(n)` for `n` runs, in memory for as many.
+    fn add(self, rhs: B) -> Result<IntervalSet<B>, AllocError>
+        requires { IsSubset (Sums (Covers self.now) (Only (B.value rhs))) (IsBetween B.whole) }
+        ensures members { IfOk result (λ L. IsRunsOf L (Sums (Covers self.now) (Only (B.value rhs)))) }
+        ensures runs_at_most { IfOk result (λ L. length L ≤ length self.now) }
+    {
         combine_with(self, rhs, Op::Sum)
     }
 }
@@ -129,8 +141,12 @@ impl<B: Width> Add<&B> for &IntervalSet<B> {
     ghost add_gives = { λ a x r. IfOk r (λ L. IsRunsOf L (Sums (Covers a.now) (Only (B.value x.now)))) };
 
     /// The sums of a member and the value. Condition: `fits_add`, where the value
-    /// itself may lie outside the range. `O(n log n)` for `n` runs, in memory for twice as many.
-    fn add(self, rhs: &B) -> Result<IntervalSet<B>, AllocError> {
+    /// itself may lie outside the range. `O(n)` for `n` runs, in memory for as many.
+    fn add(self, rhs: &B) -> Result<IntervalSet<B>, AllocError>
+        requires { IsSubset (Sums (Covers self.now) (Only (B.value rhs.now))) (IsBetween B.whole) }
+        ensures members { IfOk result (λ L. IsRunsOf L (Sums (Covers self.now) (Only (B.value rhs.now)))) }
+        ensures runs_at_most { IfOk result (λ L. length L ≤ length self.now) }
+    {
         combine_with(self, *rhs, Op::Sum)
     }
 }
@@ -203,8 +219,12 @@ impl<B: Width> Sub<B> for IntervalSet<B> {
     ghost sub_gives = { λ a x r. IfOk r (λ L. IsRunsOf L (Differences (Covers a) (Only (B.value x)))) };
 
     /// The differences of a member and the value. Condition: `fits_sub`, where the value
-    /// itself may lie outside the range. `O(n log n)` for `n` runs, in memory for twice as many.
-    fn sub(self, rhs: B) -> Result<IntervalSet<B>, AllocError> {
+    /// itself may lie outside the range. `O(n)` for `n` runs, in memory for as many.
+    fn sub(self, rhs: B) -> Result<IntervalSet<B>, AllocError>
+        requires { IsSubset (Differences (Covers self) (Only (B.value rhs))) (IsBetween B.whole) }
+        ensures members { IfOk result (λ L. IsRunsOf L (Differences (Covers self) (Only (B.value rhs)))) }
+        ensures runs_at_most { IfOk result (λ L. length L ≤ length self) }
+    {
         combine_with(&self, rhs, Op::Difference)
     }
 }
@@ -217,8 +237,12 @@ impl<B: Width> Sub<&B> for IntervalSet<B> {
     ghost sub_gives = { λ a x r. IfOk r (λ L. IsRunsOf L (Differences (Covers a) (Only (B.value x.now)))) };
 
     /// The differences of a member and the value. Condition: `fits_sub`, where the value
-    /// itself may lie outside the range. `O(n log n)` for `n` runs, in memory for twice as many.
-    fn sub(self, rhs: &B) -> Result<IntervalSet<B>, AllocError> {
+    /// itself may lie outside the range. `O(n)` for `n` runs, in memory for as many.
+    fn sub(self, rhs: &B) -> Result<IntervalSet<B>, AllocError>
+        requires { IsSubset (Differences (Covers self) (Only (B.value rhs.now))) (IsBetween B.whole) }
+        ensures members { IfOk result (λ L. IsRunsOf L (Differences (Covers self) (Only (B.value rhs.now)))) }
+        ensures runs_at_most { IfOk result (λ L. length L ≤ length self) }
+    {
         combine_with(&self, *rhs, Op::Difference)
     }
 }
@@ -231,8 +255,12 @@ impl<B: Width> Sub<B> for &IntervalSet<B> {
     ghost sub_gives = { λ a x r. IfOk r (λ L. IsRunsOf L (Differences (Covers a.now) (Only (B.value x)))) };
 
     /// The differences of a member and the value. Condition: `fits_sub`, where the value
-    /// itself may lie outside the range. `O(n log n)` for `n` runs, in memory for twice as many.
-    fn sub(self, rhs: B) -> Result<IntervalSet<B>, AllocError> {
+    /// itself may lie outside the range. `O(n)` for `n` runs, in memory for as many.
+    fn sub(self, rhs: B) -> Result<IntervalSet<B>, AllocError>
+        requires { IsSubset (Differences (Covers self.now) (Only (B.value rhs))) (IsBetween B.whole) }
+        ensures members { IfOk result (λ L. IsRunsOf L (Differences (Covers self.now) (Only (B.value rhs)))) }
+        ensures runs_at_most { IfOk result (λ L. length L ≤ length self.now) }
+    {
         combine_with(self, rhs, Op::Difference)
     }
 }
@@ -245,8 +273,12 @@ impl<B: Width> Sub<&B> for &IntervalSet<B> {
     ghost sub_gives = { λ a x r. IfOk r (λ L. IsRunsOf L (Differences (Covers a.now) (Only (B.value x.now)))) };
 
     /// The differences of a member and the value. Condition: `fits_sub`, where the value
-    /// itself may lie outside the range. `O(n log n)` for `n` runs, in memory for twice as many.
-    fn sub(self, rhs: &B) -> Result<IntervalSet<B>, AllocError> {
+    /// itself may lie outside the range. `O(n)` for `n` runs, in memory for as many.
+    fn sub(self, rhs: &B) -> Result<IntervalSet<B>, AllocError>
+        requires { IsSubset (Differences (Covers self.now) (Only (B.value rhs.now))) (IsBetween B.whole) }
+        ensures members { IfOk result (λ L. IsRunsOf L (Differences (Covers self.now) (Only (B.value rhs.now)))) }
+        ensures runs_at_most { IfOk result (λ L. length L ≤ length self.now) }
+    {
         combine_with(self, *rhs, Op::Difference)
     }
 }
@@ -319,8 +351,12 @@ impl<B: Width> Mul<B> for IntervalSet<B> {
     ghost mul_gives = { λ a x r. IfOk r (λ L. IsRunsOf L (Products (Covers a) (Only (B.value x)))) };
 
     /// For each run, the numbers from the least to the greatest product with the value. Condition: `fits_mul`, where the value
-    /// itself may lie outside the range. `O(n log n)` for `n` runs, in memory for twice as many.
-    fn mul(self, rhs: B) -> Result<IntervalSet<B>, AllocError> {
+    /// itself may lie outside the range. `O(n)` for `n` runs, in memory for as many.
+    fn mul(self, rhs: B) -> Result<IntervalSet<B>, AllocError>
+        requires { IsSubset (ExactProducts (Covers self) (Only (B.value rhs))) (IsBetween B.whole) }
+        ensures members { IfOk result (λ L. IsRunsOf L (Products (Covers self) (Only (B.value rhs)))) }
+        ensures runs_at_most { IfOk result (λ L. length L ≤ length self) }
+    {
         combine_with(&self, rhs, Op::Product)
     }
 }
@@ -333,8 +369,12 @@ impl<B: Width> Mul<&B> for IntervalSet<B> {
     ghost mul_gives = { λ a x r. IfOk r (λ L. IsRunsOf L (Products (Covers a) (Only (B.value x.now)))) };
 
     /// For each run, the numbers from the least to the greatest product with the value. Condition: `fits_mul`, where the value
-    /// itself may lie outside the range. `O(n log n)` for `n` runs, in memory for twice as many.
-    fn mul(self, rhs: &B) -> Result<IntervalSet<B>, AllocError> {
+    /// itself may lie outside the range. `O(n)` for `n` runs, in memory for as many.
+    fn mul(self, rhs: &B) -> Result<IntervalSet<B>, AllocError>
+        requires { IsSubset (ExactProducts (Covers self) (Only (B.value rhs.now))) (IsBetween B.whole) }
+        ensures members { IfOk result (λ L. IsRunsOf L (Products (Covers self) (Only (B.value rhs.now)))) }
+        ensures runs_at_most { IfOk result (λ L. length L ≤ length self) }
+    {
         combine_with(&self, *rhs, Op::Product)
     }
 }
@@ -347,8 +387,12 @@ impl<B: Width> Mul<B> for &IntervalSet<B> {
     ghost mul_gives = { λ a x r. IfOk r (λ L. IsRunsOf L (Products (Covers a.now) (Only (B.value x)))) };
 
     /// For each run, the numbers from the least to the greatest product with the value. Condition: `fits_mul`, where the value
-    /// itself may lie outside the range. `O(n log n)` for `n` runs, in memory for twice as many.
-    fn mul(self, rhs: B) -> Result<IntervalSet<B>, AllocError> {
+    /// itself may lie outside the range. `O(n)` for `n` runs, in memory for as many.
+    fn mul(self, rhs: B) -> Result<IntervalSet<B>, AllocError>
+        requires { IsSubset (ExactProducts (Covers self.now) (Only (B.value rhs))) (IsBetween B.whole) }
+        ensures members { IfOk result (λ L. IsRunsOf L (Products (Covers self.now) (Only (B.value rhs)))) }
+        ensures runs_at_most { IfOk result (λ L. length L ≤ length self.now) }
+    {
         combine_with(self, rhs, Op::Product)
     }
 }
@@ -361,8 +405,12 @@ impl<B: Width> Mul<&B> for &IntervalSet<B> {
     ghost mul_gives = { λ a x r. IfOk r (λ L. IsRunsOf L (Products (Covers a.now) (Only (B.value x.now)))) };
 
     /// For each run, the numbers from the least to the greatest product with the value. Condition: `fits_mul`, where the value
-    /// itself may lie outside the range. `O(n log n)` for `n` runs, in memory for twice as many.
-    fn mul(self, rhs: &B) -> Result<IntervalSet<B>, AllocError> {
+    /// itself may lie outside the range. `O(n)` for `n` runs, in memory for as many.
+    fn mul(self, rhs: &B) -> Result<IntervalSet<B>, AllocError>
+        requires { IsSubset (ExactProducts (Covers self.now) (Only (B.value rhs.now))) (IsBetween B.whole) }
+        ensures members { IfOk result (λ L. IsRunsOf L (Products (Covers self.now) (Only (B.value rhs.now)))) }
+        ensures runs_at_most { IfOk result (λ L. length L ≤ length self.now) }
+    {
         combine_with(self, *rhs, Op::Product)
     }
 }

@@ -51,6 +51,7 @@ impl<B: Width> Bounded for IntervalSet<B> {
         requires { HasSome (Covers self.now) }
         ensures member { Covers self.now (B.value result) }
         ensures least { (z : ℤ) → Covers self.now z → B.value result ≤ℤ z }
+        ensures in_range { IsBetween B.whole (B.value result) }
     {
         let first = self.intervals[0];
         first.lower()
@@ -62,6 +63,7 @@ impl<B: Width> Bounded for IntervalSet<B> {
         requires { HasSome (Covers self.now) }
         ensures member { Covers self.now (B.value result) }
         ensures greatest { (z : ℤ) → Covers self.now z → z ≤ℤ B.value result }
+        ensures in_range { IsBetween B.whole (B.value result) }
     {
         let last = self.intervals[self.intervals.len() - 1];
         last.upper()

@@ -6,16 +6,20 @@ ghost use Rattle.ivl_laws.specs.Runs.{Covers};
 use super::IntervalSet;
 use crate::interval::Interval;
 use crate::kleene::SKleene;
-use crate::ops::{Bounded, Entailment, ProperSubset, Subset};
+use crate::ops::{Bounded, Cardinality, Entailment, ProperSubset, Subset};
 use crate::steps::{Place, Probes, find};
 use crate::width::Width;
 
 impl<B: Width> Subset for IntervalSet<B> {
     ghost members = { Covers };
 
-    /// True exactly where each member is a member of `other`, so always where there is none. Searches
-    /// each run in `other`: `O(n log m)`, with no memory.
+    /// True exactly where each member is a member of `other`, so always where there is none. Looks at
+    /// no run where this set has more members, and else searches each of its runs in `other`:
+    /// `O(n log m)`, with no memory.
     fn is_subset(&self, other: &IntervalSet<B>) -> bool {
+        if self.size() > other.size() {
+            return false;
+        }
         let mut runs = Probes::new(other);
         for run in self.as_runs() {
             if !holds(&mut runs, run) {
@@ -45,9 +49,9 @@ impl<B: Width> ProperSubset for IntervalSet<B> {
     ghost members = { Covers };
 
     /// True exactly where each member is a member of `other`, and `other` has more. `O(n log m)`,
-    /// with no memory.
+    /// with no memory; no run is looked at where the sizes are equal.
     fn is_proper_subset(&self, other: &IntervalSet<B>) -> bool {
-        self.is_subset(other) && !self.eq(other)
+        self.size() != other.size() && self.is_subset(other)
     }
 }
 

@@ -1,13 +1,16 @@
 //! Sets cut at a value, from either side, with or without the value.
-ghost use Rattle.std.specs.Prelude.{IfOk};
-ghost use Rattle.ivl_laws.specs.Sets.{Intersection, IsBetween};
+ghost use Rattle.std.specs.Prelude.{◌≡◌, ◌≤◌, IfOk, length, take, drop};
+ghost use Rattle.ivl_laws.specs.Sets.{Above, AtLeast, AtMost, Below, Intersection, IsBetween};
 ghost use Rattle.ivl_laws.specs.Runs.{Covers, IsRunListIn, IsRunsOf};
+ghost use Rattle.intervallum.specs.Places.{EndBelow, StartAbove};
 
 use super::IntervalSet;
 use crate::interval::Interval;
 use crate::ops::{
-    Intersection, IsEmpty, ShrinkLeft, ShrinkRight, StrictShrinkLeft, StrictShrinkRight, Whole,
+    Bounded, Intersection, IsEmpty, ShrinkLeft, ShrinkRight, StrictShrinkLeft, StrictShrinkRight,
+    Whole,
 };
+use crate::steps::{Place, Probes, find};
 use crate::width::Width;
 use std::alloc::{AllocError, Global};
 
@@ -16,9 +19,12 @@ impl<B: Width> ShrinkLeft for IntervalSet<B> {
 
     ghost answers = { λ r S. IfOk r (λ L. IsRunsOf L S) };
 
-    /// The members that are at least `lower`, which may be any value of its type. `O(n)`, in memory
-    /// that is reserved once.
-    fn shrink_left(&self, lower: B) -> Result<IntervalSet<B>, AllocError> {
+    /// The members that are at least `lower`, which may be any value of its type. Searches by
+    /// halves: `O(log n + k)` where `k` runs stay, in memory that is reserved once for `k` runs.
+    fn shrink_left(&self, lower: B) -> Result<IntervalSet<B>, AllocError>
+        ensures members { IfOk result (λ L. IsRunsOf L (AtLeast (B.value lower) (Covers self.now))) }
+        ensures runs_at_most { IfOk result (λ L. length L ≤ length self.now) }
+    {
         cut(self, &Interval::whole().shrink_left(lower))
     }
 }
@@ -28,9 +34,12 @@ impl<B: Width> ShrinkRight for IntervalSet<B> {
 
     ghost answers = { λ r S. IfOk r (λ L. IsRunsOf L S) };
 
-    /// The members that are at most `upper`, which may be any value of its type. `O(n)`, in memory
-    /// that is reserved once.
-    fn shrink_right(&self, upper: B) -> Result<IntervalSet<B>, AllocError> {
+    /// The members that are at most `upper`, which may be any value of its type. Searches by
+    /// halves: `O(log n + k)` where `k` runs stay, in memory that is reserved once for `k` runs.
+    fn shrink_right(&self, upper: B) -> Result<IntervalSet<B>, AllocError>
+        ensures members { IfOk result (λ L. IsRunsOf L (AtMost (B.value upper) (Covers self.now))) }
+        ensures runs_at_most { IfOk result (λ L. length L ≤ length self.now) }
+    {
         cut(self, &Interval::whole().shrink_right(upper))
     }
 }
@@ -40,9 +49,12 @@ impl<B: Width> StrictShrinkLeft for IntervalSet<B> {
 
     ghost answers = { λ r S. IfOk r (λ L. IsRunsOf L S) };
 
-    /// The members above `lower`, which may be any value of its type. `O(n)`, in memory that is
-    /// reserved once.
-    fn strict_shrink_left(&self, lower: B) -> Result<IntervalSet<B>, AllocError> {
+    /// The members above `lower`, which may be any value of its type. Searches by
+    /// halves: `O(log n + k)` where `k` runs stay, in memory that is reserved once for `k` runs.
+    fn strict_shrink_left(&self, lower: B) -> Result<IntervalSet<B>, AllocError>
+        ensures members { IfOk result (λ L. IsRunsOf L (Above (B.value lower) (Covers self.now))) }
+        ensures runs_at_most { IfOk result (λ L. length L ≤ length self.now) }
+    {
         cut(self, &Interval::whole().strict_shrink_left(lower))
     }
 }
@@ -52,9 +64,12 @@ impl<B: Width> StrictShrinkRight for IntervalSet<B> {
 
     ghost answers = { λ r S. IfOk r (λ L. IsRunsOf L S) };
 
-    /// The members below `upper`, which may be any value of its type. `O(n)`, in memory that is
-    /// reserved once.
-    fn strict_shrink_right(&self, upper: B) -> Result<IntervalSet<B>, AllocError> {
+    /// The members below `upper`, which may be any value of its type. Searches by
+    /// halves: `O(log n + k)` where `k` runs stay, in memory that is reserved once for `k` runs.
+    fn strict_shrink_right(&self, upper: B) -> Result<IntervalSet<B>, AllocError>
+        ensures members { IfOk result (λ L. IsRunsOf L (Below (B.value upper) (Covers self.now))) }
+        ensures runs_at_most { IfOk result (λ L. length L ≤ length self.now) }
+    {
         cut(self, &Interval::whole().strict_shrink_right(upper))
     }
 }
@@ -63,8 +78,45 @@ impl<B: Width> StrictShrinkRight for IntervalSet<B> {
 fn cut<B: Width>(set: &IntervalSet<B>, window: &Interval<B>) -> Result<IntervalSet<B>, AllocError>
     ensures members { IfOk result (λ L. IsRunsOf L (Intersection (Covers set.now) (IsBetween window.now))) }
     ensures within { IsRunListIn B.whole set.now }
+    ensures runs_at_most { IfOk result (λ L. length L ≤ length set.now) }
 {
-    cut_runs(set.allocator(), set.as_runs(), window)
+    let runs = set.as_runs();
+    if window.is_empty() {
+        return IntervalSet::with_room(set.allocator(), 0);
+    }
+    let mut probes = Probes::new(set);
+    let start = runs_before(&mut probes, window.lower());
+    let end = runs_up_to(&mut probes, window.upper());
+    let kept = &runs[start..end];
+    cut_runs(set.allocator(), kept, window)
+}
+
+/// How many runs of a set lie below a value.
+fn runs_before<B: Width>(probes: &mut Probes<'_, B>, value: B) -> usize
+    ensures count { EndBelow (B.value value) (take result probes.old.runs) }
+    ensures at_most { result ≤ length probes.old.runs }
+    ensures same { probes.new.runs ≡ probes.old.runs }
+{
+    // the runs are those of a set, which the count tells
+    let _count = probes.len();
+    match find(probes, value) {
+        Place::In(i) => i,
+        Place::Gap(i) => i,
+    }
+}
+
+/// How many runs of a set start at a value or below.
+fn runs_up_to<B: Width>(probes: &mut Probes<'_, B>, value: B) -> usize
+    ensures count { StartAbove (B.value value) (drop result probes.old.runs) }
+    ensures at_most { result ≤ length probes.old.runs }
+    ensures same { probes.new.runs ≡ probes.old.runs }
+{
+    // the runs are those of a set, and no more than can be counted
+    let _count = probes.len();
+    match find(probes, value) {
+        Place::In(i) => i + 1,
+        Place::Gap(i) => i,
+    }
 }
 
 /// The numbers of runs that lie in an interval.
@@ -74,7 +126,8 @@ fn cut_runs<B: Width>(
     window: &Interval<B>,
 ) -> Result<IntervalSet<B>, AllocError>
     requires { IsRunListIn B.whole runs.now }
-    ensures { IfOk result (λ L. IsRunsOf L (Intersection (Covers runs.now) (IsBetween window.now))) }
+    ensures members { IfOk result (λ L. IsRunsOf L (Intersection (Covers runs.now) (IsBetween window.now))) }
+    ensures runs_at_most { IfOk result (λ L. length L ≤ length runs.now) }
 {
     let mut set = IntervalSet::with_room(alloc, runs.len())?;
     for run in runs {

@@ -1,7 +1,8 @@
 use Rattle.std.proofs.Common.{rules, ◌≡◌, ℕ, suc, ◌+◌, ◌-◌, ◌/◌, ◌<◌, ℤ, ◌<ℤ◌, List, slice_get, Some, take, drop, arith, subst, sym, ◌∙◌}
 use Rattle.std.proofs.lemmas.Option.{get_or_from_slice_get}
 use Rattle.ivl_laws.proofs.Orders.{lt_number}
-use Rattle.intervallum.proofs.Searching.{above_from, below_to, gap_at, shrink, EndBelow, StartAbove}
+use Rattle.intervallum.specs.Places.{EndBelow, StartAbove}
+use Rattle.intervallum.proofs.Searching.{above_from, below_to, gap_at, shrink}
 use Rattle.intervallum.proofs.steps.search.find.Goals as goal
 
 pub search-preserved-then-lt : goal.search-preserved-then-lt

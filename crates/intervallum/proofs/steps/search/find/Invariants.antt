@@ -1,6 +1,6 @@
 use Rattle.std.proofs.Common.{◌≡◌, ℕ, ◌+◌, ◌-◌, ◌^◌, ◌<◌, ◌≤◌, length, take, drop}
 use Rattle.ivl_laws.specs.Runs.{IsMaximal}
-use Rattle.intervallum.proofs.Searching.{EndBelow, StartAbove}
+use Rattle.intervallum.specs.Places.{EndBelow, StartAbove}
 use Rattle.intervallum.proofs.steps.search.find.Given as goal
 
 abbrev pub invariant-search : goal.invariant-search

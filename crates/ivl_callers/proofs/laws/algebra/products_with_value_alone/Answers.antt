@@ -9,4 +9,4 @@ mul-requires-2 g c = results_with_one_fit ExactProducts _ _ _ c.in_ok-one.ensure
 
 pub same_members_are_equal-requires : goal.same_members_are_equal-requires
 same_members_are_equal-requires g c =
-    results_with_one_agree Products _ _ _ c.in_ok-one.ensures (products-only (Covers c.args.a.now) _) _ _ c.in_ok-by_value.ensures c.in_ok-by_set.ensures
+    results_with_one_agree Products _ _ _ c.in_ok-one.ensures (products-only (Covers c.args.a.now) _) _ _ c.in_ok-by_value.ensures.members c.in_ok-by_set.ensures

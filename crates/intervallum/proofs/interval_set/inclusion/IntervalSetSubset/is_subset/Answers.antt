@@ -1,6 +1,7 @@
 use Rattle.std.proofs.Common.{ℤ, ◌≤ℤ◌, sym, subst, ◌∙◌}
 use Rattle.ivl_laws.specs.Runs.{Covers}
 use Rattle.ivl_laws.proofs.Places.{open_at}
+use Rattle.intervallum.proofs.Equality.{larger_is_no_subset}
 use Rattle.intervallum.proofs.Finding.{included_more, one_run_not_included, holds_at}
 use Rattle.intervallum.proofs.interval_set.inclusion.IntervalSetSubset.is_subset.Goals as goal
 
@@ -24,3 +25,7 @@ loop-run-preserved g c =
           (holds_at c.as_runs-run-items.result.now c.loop-run.runs.runs c.args.other.now c.loop-run.run-index c.run-item.result c.holds.result inv.0 c.run-item.is
           c.holds.ensures.members c.if-not-holds.false),
     )
+
+pub returns-then-gt : goal.returns-then-gt
+returns-then-gt g c =
+    larger_is_no_subset g.met.B.Output.SizeNumber.ordered _ _ _ (Covers c.args.self.now) (Covers c.args.other.now) c.gt.ensures c.if-gt.true c.size.ensures c.size-2.ensures

@@ -1,0 +1,37 @@
+use Rattle.std.proofs.Common.{◌-◌, sym, subst}
+use Rattle.ivl_laws.specs.Runs.{IsRunListIn}
+use Rattle.ivl_laws.proofs.Adding.{untrue}
+use Rattle.ivl_laws.proofs.Intervals.{not_crossed, some_is_not_crossed}
+use Rattle.intervallum.proofs.Windows.{is_window, cut_from_part, part_is_run_list}
+use Rattle.intervallum.proofs.interval_set.shrinks.cut.Goals as goal
+
+pub lower-requires : goal.lower-requires
+lower-requires g c = (some_is_not_crossed c.args.window.now).1 (not_crossed c.args.window.now (untrue _ c.if-is_empty.false c.is_empty.ensures.crossed))
+
+pub slice_bounds-kept-count : goal.slice_bounds-kept-count
+slice_bounds-kept-count g c =
+    (is_window c.args.set.now c.new-probes.result.runs c.runs_before-start.new.probes.runs c.args.window.now _ _ c.runs_before-start.result c.runs_up_to-end.result
+    c.as_runs-runs.ensures.runs.maximal c.new-probes.ensures.runs c.runs_before-start.ensures.same
+    (not_crossed c.args.window.now (untrue _ c.if-is_empty.false c.is_empty.ensures.crossed)) c.lower.ensures.value c.upper.ensures.value
+    c.runs_before-start.ensures.at_most c.runs_before-start.ensures.count c.runs_up_to-end.ensures.count).in_order
+
+pub slice_bounds-kept-start : goal.slice_bounds-kept-start
+slice_bounds-kept-start g c =
+    (is_window c.args.set.now c.new-probes.result.runs c.runs_before-start.new.probes.runs c.args.window.now _ _ c.runs_before-start.result c.runs_up_to-end.result
+    c.as_runs-runs.ensures.runs.maximal c.new-probes.ensures.runs c.runs_before-start.ensures.same
+    (not_crossed c.args.window.now (untrue _ c.if-is_empty.false c.is_empty.ensures.crossed)) c.lower.ensures.value c.upper.ensures.value
+    c.runs_before-start.ensures.at_most c.runs_before-start.ensures.count c.runs_up_to-end.ensures.count).in_order
+
+pub cut_runs-requires : goal.cut_runs-requires
+cut_runs-requires g c =
+    part_is_run_list g.B.Width.whole c.as_runs-runs.result.now c.runs_before-start.result (c.runs_up_to-end.result - c.runs_before-start.result)
+    (subst (IsRunListIn g.B.Width.whole) (sym c.as_runs-runs.ensures.same) c.as_runs-runs.ensures.runs)
+
+pub returns-clause-members : goal.returns-clause-members
+returns-clause-members g c =
+    cut_from_part c.cut_runs.result c.as_runs-runs.result.now c.args.set.now c.args.window.now c.runs_before-start.result c.runs_up_to-end.result c.as_runs-runs.ensures.same
+    (is_window c.args.set.now c.new-probes.result.runs c.runs_before-start.new.probes.runs c.args.window.now _ _ c.runs_before-start.result c.runs_up_to-end.result
+    c.as_runs-runs.ensures.runs.maximal c.new-probes.ensures.runs c.runs_before-start.ensures.same
+    (not_crossed c.args.window.now (untrue _ c.if-is_empty.false c.is_empty.ensures.crossed)) c.lower.ensures.value c.upper.ensures.value
+    c.runs_before-start.ensures.at_most c.runs_before-start.ensures.count c.runs_up_to-end.ensures.count)
+    c.cut_runs.ensures.members
