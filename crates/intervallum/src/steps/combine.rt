@@ -7,7 +7,9 @@ ghost use Rattle.intervallum.specs.Sides.{IsBelow};
 use super::walk::Walk;
 use crate::interval::Interval;
 use crate::interval_set::IntervalSet;
-use crate::ops::{Bounded, Intersection, IsEmpty, Range, StrictShrinkLeft, StrictShrinkRight, Whole};
+use crate::ops::{
+    Bounded, Intersection, IsEmpty, Range, StrictShrinkLeft, StrictShrinkRight, Whole,
+};
 use crate::width::Width;
 use std::alloc::AllocError;
 
@@ -55,10 +57,7 @@ pub fn free<B: Width>(mut walk: Walk<'_, B>) -> Result<IntervalSet<B>, AllocErro
 }
 
 /// The first runs of two walks, where both have one.
-fn heads<B: Width>(
-    first: &Walk<'_, B>,
-    second: &Walk<'_, B>,
-) -> Option<(Interval<B>, Interval<B>)>
+fn heads<B: Width>(first: &Walk<'_, B>, second: &Walk<'_, B>) -> Option<(Interval<B>, Interval<B>)>
     ensures heads { MatchOption result
         (HasNone (Intersection (Covers first.now.left) (Covers second.now.left)))
         (λ runs. (Some runs.0 ≡ slice_get first.now.left 0) × (Some runs.1 ≡ slice_get second.now.left 0)) }
@@ -71,7 +70,10 @@ fn heads<B: Width>(
 }
 
 /// Adds the members of an interval, if it has any, at least two above those that are there.
-pub(super) fn push_part<B: Width>(set: &mut IntervalSet<B>, part: Interval<B>) -> Result<(), AllocError>
+pub(super) fn push_part<B: Width>(
+    set: &mut IntervalSet<B>,
+    part: Interval<B>,
+) -> Result<(), AllocError>
     requires apart { IsBelow (pos 2) (Covers set.old) (IsBetween part) }
     ensures { OnOk result (IsRunsOf set.new (Union (Covers set.old) (IsBetween part))) }
 {

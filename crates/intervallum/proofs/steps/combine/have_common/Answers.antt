@@ -41,8 +41,7 @@ returns-else-lt-2 g c =
     let a = c.in-Some.runs.0 in
     let b = c.in-Some.runs.1 in
     let first = not_below _ _ _ (lt_number g.met.B.Width.ordered _ _ _ c.lt.ensures) c.if-lt.false in
-    let second = not_below _ _ _ (lt_number g.met.B.Width.ordered _ _ _ c.lt-else-lt.ensures) c.if-lt-2.false in
-    (
+    let second = not_below _ _ _ (lt_number g.met.B.Width.ordered _ _ _ c.lt-else-lt.ensures) c.if-lt-2.false in (
       (λ t. has_some_same _ S c.walk.invariant
           (meet_here c.walk.first.left c.walk.second.left a b c.in-Some.ensures.heads.0 c.in-Some.ensures.heads.1
           (first_is_open c.walk.first.left _ c.in-Some.ensures.heads.0 c.in-Some.ensures.within.0.maximal)
