@@ -1,7 +1,7 @@
 -- What one of two lists has and the other has not, from the left.
-use Rattle.std.proofs.Common.{◌≡◌, ◌⊎◌, ◌↔◌, inl, inr, ⊎_elim, ℤ, pos, ◌+ℤ◌, ◌≤ℤ◌, ◌<ℤ◌, List, [], ◌∷◌, Option, Some, None, sym, subst, arith}
+use Rattle.std.proofs.Common.{◌≡◌, ◌⊎◌, inl, inr, ⊎_elim, ℤ, pos, ◌≤ℤ◌, ◌<ℤ◌, List, ◌∷◌, Option, Some, None, sym, subst, arith}
 use Rattle.std.proofs.lemmas.Int.{ints, by_lt_z}
-use Rattle.ivl_laws.specs.Sets.{Above, Below, HasNone, IsBetween, IsSubset, SameMembers, SymmetricDifference, Union, Without}
+use Rattle.ivl_laws.specs.Sets.{Above, Below, IsBetween, IsSubset, SameMembers, SymmetricDifference, Union}
 use Rattle.ivl_laws.specs.Runs.{Covers, IsMaximal, IsRunsOf}
 use Rattle.ivl_laws.proofs.Runs.{covered_after, covered_from}
 use Rattle.intervallum.specs.Led.{led_by}

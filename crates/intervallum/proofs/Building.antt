@@ -1,9 +1,9 @@
 -- What a walk keeps that writes a set from left to right: what is written lies below what is still to write.
 use Rattle.std.proofs.Common.{◌≡◌, ◌↔◌, ◌⊎◌, inl, inr, ⊎_elim, ℤ, pos, ◌+ℤ◌, ◌≤ℤ◌, List, [], ◌∷◌, ◌++◌, sym, subst, arith}
-use Rattle.std.proofs.lemmas.Int.{ints, by_lt_z}
+use Rattle.std.proofs.lemmas.Int.{ints}
 use lib.Signed.{≤ℤ_refl}
 use Rattle.ivl_laws.specs.Sets.{IsBetween, IsSubset, HasNone, SameMembers, Union}
-use Rattle.ivl_laws.specs.Runs.{Covers, StartsAfter, StartsBy, IsMaximal, IsRunsOf, AddsRun}
+use Rattle.ivl_laws.specs.Runs.{Covers, StartsBy, IsMaximal, IsRunsOf, AddsRun}
 use Rattle.ivl_laws.proofs.Runs.{lower_end, upper_end}
 use Rattle.ivl_laws.proofs.Merging.{covers-append, covers-append_left, covers-append_right}
 use Rattle.intervallum.specs.Sides.{IsBelow}

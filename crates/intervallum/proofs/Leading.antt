@@ -1,7 +1,7 @@
 -- A run that is held beside the rest of its list.
-use Rattle.std.proofs.Common.{◌≡◌, ◌⊎◌, inl, inr, ℕ, ◌+◌, ◌<◌, ◌≤ℤ◌, ℤ, pos, List, [], ◌∷◌, Option, Some, None, length, refl, sym, subst, ap, arith}
+use Rattle.std.proofs.Common.{◌≡◌, ◌⊎◌, inl, inr, ℤ, List, [], ◌∷◌, Option, Some, None, refl, subst, ap}
 use Rattle.std.specs.Option.{option_zip}
-use Rattle.ivl_laws.specs.Runs.{Covers, IsMaximal}
+use Rattle.ivl_laws.specs.Runs.{IsMaximal}
 use Rattle.intervallum.specs.Led.{led_by}
 
 -- the list that is left to read is maximal, and at its end where no run is held

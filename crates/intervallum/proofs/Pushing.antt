@@ -1,10 +1,10 @@
 -- What pushing a run does to the list of a set and to the number of its members.
-use Rattle.std.proofs.Common.{◌≡◌, ⊎_elim, ℕ, ◌+◌, ◌<◌, ◌≤◌, ℤ, pos, ◌+ℤ◌, ◌-ℤ◌, ◌≤ℤ◌, ◌<ℤ◌, List, [], ◌∷◌, ◌++◌, length, get_or, set, refl, sym, ap, subst, ◌∙◌, arith}
+use Rattle.std.proofs.Common.{◌≡◌, ⊎_elim, ℕ, ◌+◌, ◌≤◌, ℤ, pos, ◌+ℤ◌, ◌≤ℤ◌, List, [], ◌∷◌, ◌++◌, length, get_or, set, ap, subst, ◌∙◌, arith}
 use Rattle.std.proofs.lemmas.Int.{ints, clamps, by_lt_z}
 use Rattle.std.proofs.lemmas.List.Sums.{sum_by_push, sum_by-set}
 use Rattle.std.specs.Int.{int_max}
 use Rattle.ivl_laws.specs.Sets.{IsBetween, IsSubset}
-use Rattle.ivl_laws.specs.Runs.{Covers, IsMaximal, IsRunListIn, StartsBy, AddsRun}
+use Rattle.ivl_laws.specs.Runs.{Covers, IsRunListIn, StartsBy, AddsRun}
 use Rattle.ivl_laws.specs.Counts.{IsCountOf}
 use Rattle.ivl_laws.specs.Bounds.{width_of}
 use Rattle.ivl_laws.proofs.Intervals.{width_of-filled, width_of-crossed}

@@ -2,7 +2,7 @@
 use Rattle.std.proofs.Common.{◌≡◌, ◌↔◌, ℤ, List, [], ◌∷◌, Bool, true, false, not, IsTrue, inl, inr, ⊎_elim, refl, sym, subst, ◌∙◌, true≢false}
 use Rattle.std.specs.Prelude.{Result, IfOk}
 use Rattle.std.proofs.lemmas.Result.{IfOk-weaker}
-use Rattle.ivl_laws.specs.Sets.{IsBetween, IsInRange, Only, Intersection, SameMembers, HasNone, HasSome, SymmetricDifference, Union, Without}
+use Rattle.ivl_laws.specs.Sets.{IsInRange, Only, Intersection, SameMembers, HasNone, HasSome, SymmetricDifference, Union, Without}
 use Rattle.ivl_laws.specs.Runs.{Covers, IsRunsOf, IsRunListIn}
 use Rattle.ivl_laws.proofs.SetLaws.{IsRunsOf-same, only_is_covered}
 use Rattle.ivl_laws.proofs.Ranges.{IsRunsOf-none}

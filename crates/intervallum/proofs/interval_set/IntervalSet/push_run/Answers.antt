@@ -1,10 +1,10 @@
-use Rattle.std.proofs.Common.{◌≡◌, ◌+◌, ◌-◌, ◌∙◌, ℤ, List, [], ◌∷◌, ◌++◌, length, set, refl, ap, subst, arith}
+use Rattle.std.proofs.Common.{◌≡◌, ◌-◌, ◌∙◌, ℤ, List, [], ◌∷◌, ◌++◌, set, refl, ap, subst, arith}
 use Rattle.std.specs.Int.{int_max}
 use Rattle.ivl_laws.specs.Runs.{AddsRun, StartsBy}
 use Rattle.ivl_laws.proofs.Adding.{last_is_open, adds_to_none, adds_past_last, untrue}
 use Rattle.ivl_laws.proofs.Intervals.{some_is_not_crossed}
 use Rattle.ivl_laws.proofs.Orders.{max_number}
-use Rattle.intervallum.proofs.Pushing.{grows_apart, grows_joined, both_ends}
+use Rattle.intervallum.proofs.Pushing.{grows_joined, both_ends}
 use Rattle.intervallum.proofs.interval_set.IntervalSet.push_run.Goals as goal
 use Rattle.intervallum.proofs.interval_set.IntervalSet.push_run.Goals.{then-count-gt0+else-joins, else-count-gt0}
 

@@ -1,6 +1,6 @@
 use Rattle.std.proofs.Common.{pos}
-use Rattle.ivl_laws.specs.Sets.{Complement, IsBetween, Union, Without}
-use Rattle.ivl_laws.specs.Runs.{Covers, IsRunsOf}
+use Rattle.ivl_laws.specs.Sets.{Complement, IsBetween}
+use Rattle.ivl_laws.specs.Runs.{Covers}
 use Rattle.ivl_laws.proofs.Intervals.{some_is_not_crossed}
 use Rattle.ivl_laws.proofs.Lengths.{length_of_complement}
 use Rattle.intervallum.proofs.Building.{building_below, building_done, building_same}

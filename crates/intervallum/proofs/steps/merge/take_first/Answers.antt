@@ -1,8 +1,8 @@
-use Rattle.std.proofs.Common.{◌≤ℤ◌, ◌<ℤ◌, ◌∙◌, sym, arith}
+use Rattle.std.proofs.Common.{◌∙◌, sym, arith}
 use Rattle.std.proofs.lemmas.Int.{ints}
 use Rattle.ivl_laws.proofs.Intervals.{some_is_not_crossed}
 use Rattle.ivl_laws.proofs.Orders.{le_number, not_le_number}
-use Rattle.intervallum.proofs.Walking.{first_is_open, nothing_left, takes_first, takes_second, takes_only_first, takes_only_second}
+use Rattle.intervallum.proofs.Walking.{first_is_open, nothing_left, takes_first, takes_second}
 use Rattle.intervallum.proofs.steps.merge.take_first.Goals as goal
 
 pub lower-requires : goal.lower-requires

@@ -1,5 +1,5 @@
 use Rattle.std.proofs.Common.{length, ◌+◌}
-use Rattle.ivl_laws.specs.Sets.{IsSubset, IsBetween, Union}
+use Rattle.ivl_laws.specs.Sets.{Union}
 use Rattle.ivl_laws.specs.Runs.{Covers}
 use Rattle.ivl_laws.proofs.Walks.{IsUniting}
 use Rattle.intervallum.proofs.steps.merge.unite.Given as goal
