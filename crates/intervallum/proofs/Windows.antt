@@ -5,13 +5,14 @@ use Rattle.std.proofs.lemmas.List.{drop-drop}
 use Rattle.std.proofs.lemmas.Result.{IfOk-weaker}
 use Rattle.std.specs.Prelude.{slice_get, IsSomeAnd, Result, IfOk, if◌then◌else◌}
 use Rattle.ivl_laws.specs.Sets.{IsBetween, SameMembers, Intersection, Union}
-use Rattle.ivl_laws.specs.Runs.{Covers, IsMaximal, IsRunsOf, IsRunListIn, runs_below}
+use Rattle.ivl_laws.specs.Runs.{Covers, IsMaximal, IsRunsOf, IsRunListIn, StartsBy, runs_below}
 use Rattle.ivl_laws.proofs.Runs.{covered_after}
 use Rattle.ivl_laws.proofs.Places.{covers-take, covers-drop}
 use Rattle.ivl_laws.proofs.Lengths.{length_of_union}
 use Rattle.ivl_laws.proofs.SetLaws.{IsRunsOf-same}
 use Rattle.ivl_laws.proofs.Ranges.{IsRunListIn-drop, IsRunListIn-take}
 use Rattle.intervallum.specs.Places.{EndBelow, StartAbove}
+use Rattle.intervallum.specs.Stretches.{EndsFrom}
 use Rattle.intervallum.proofs.Searching.{above_after, none_above, int_lt_true}
 use Rattle.intervallum.proofs.Finding.{covered_at_place}
 
@@ -19,6 +20,8 @@ use Rattle.intervallum.proofs.Finding.{covered_at_place}
 
 pub record IsSplitAt (v : ℤ) (L : List (ℤ × ℤ)) (i j : ℕ) : Type 0 where
   pub below : EndBelow v (take i L)
+  pub rest : EndsFrom v (drop i L)
+  pub starts : StartsBy v (take j L)
   pub above : StartAbove v (drop j L)
   pub at_most : j ≤ length L
 
@@ -28,35 +31,38 @@ after_run v r (q ∷ L) h m = let k : v <ℤ q.0 = omega (arith, ints, h, m.1) i
 
 pub split_by_run : (L : List (ℤ × ℤ)) (i : ℕ) (v : ℤ) → IsMaximal L → IsSomeAnd (slice_get L i) (λ run. IsBetween run v) → IsSplitAt v L i (i + 1)
 split_by_run [] i v m h = absurd h
-split_by_run (p ∷ L) zero v m h = record { below = tt; above = after_run v p L h.1 m; at_most = omega arith }
+split_by_run (p ∷ L) zero v m h = record { below = tt; rest = h.1; starts = (h.0, tt); above = after_run v p L h.1 m; at_most = omega arith }
 split_by_run (p ∷ L) (suc i) v m h =
     let u = split_by_run L i v m.2 h in
     let le = u.at_most in
     let far = covered_after p.1 L v m.1 m.2 (covered_at_place L i v h) in
+    let o = m.0 in
     let e : suc i + 1 ≡ suc (i + 1) = omega arith in
     record {
       below = (omega (arith, ints), u.below);
+      rest = u.rest;
+      starts = subst (λ (n : ℕ). StartsBy v (take n (p ∷ L))) (sym e) (omega (arith, ints), u.starts);
       above = subst (λ (n : ℕ). StartAbove v (drop n (p ∷ L))) (sym e) u.above;
       at_most = omega arith;
     }
 
-past : (p : ℤ × ℤ) (L : List (ℤ × ℤ)) (j : ℕ) (v : ℤ) → p.1 <ℤ v → 1 + runs_below v L ≡ j → ((i : ℕ) → runs_below v L ≡ i → IsSplitAt v L i i) → IsSplitAt v (p ∷ L) j j
-past p L zero v lt e f = absurd (omega arith)
-past p L (suc j) v lt e f =
+past : (p : ℤ × ℤ) (L : List (ℤ × ℤ)) (j : ℕ) (v : ℤ) → p.0 ≤ℤ p.1 → p.1 <ℤ v → 1 + runs_below v L ≡ j → ((i : ℕ) → runs_below v L ≡ i → IsSplitAt v L i i) → IsSplitAt v (p ∷ L) j j
+past p L zero v o lt e f = absurd (omega arith)
+past p L (suc j) v o lt e f =
     let u = f j (omega arith) in
     let le = u.at_most in
-    record { below = (lt, u.below); above = u.above; at_most = omega arith }
+    record { below = (lt, u.below); rest = u.rest; starts = (omega (arith, ints), u.starts); above = u.above; at_most = omega arith }
 
 pub split_by_gap : (L : List (ℤ × ℤ)) (i : ℕ) (v : ℤ) → IsMaximal L → ¬ (Covers L v) → runs_below v L ≡ i → IsSplitAt v L i i
-split_by_gap [] zero v m n e = record { below = tt; above = tt; at_most = omega arith }
+split_by_gap [] zero v m n e = record { below = tt; rest = tt; starts = tt; above = tt; at_most = omega arith }
 split_by_gap [] (suc i) v m n e = absurd (omega arith)
 split_by_gap (p ∷ L) i v m n e = by_lt_z p.1 v
-    (λ lt. past p L i v lt (ap (λ b. (if b then 1 else 0) + runs_below v L) (sym (int_lt_true p.1 v lt)) ∙ e) (λ j f. split_by_gap L j v m.2 (λ c. n (inr c)) f))
+    (λ lt. past p L i v m.0 lt (ap (λ b. (if b then 1 else 0) + runs_below v L) (sym (int_lt_true p.1 v lt)) ∙ e) (λ j f. split_by_gap L j v m.2 (λ c. n (inr c)) f))
     (λ le.
     let k : v <ℤ p.0 = by_lt_z v p.0 (λ lt. lt) (λ low. absurd (n (inl (low, le)))) in
     let above : StartAbove v (p ∷ L) = (k, above_after v p L k m) in
     let none : 0 ≡ i = sym (none_above v (p ∷ L) above m).1 ∙ e in
-    subst (λ (j : ℕ). IsSplitAt v (p ∷ L) j j) none (record { below = tt; above = above; at_most = omega arith }))
+    subst (λ (j : ℕ). IsSplitAt v (p ∷ L) j j) none (record { below = tt; rest = le; starts = tt; above = above; at_most = omega arith }))
 
 -- ---- the runs between the two places
 

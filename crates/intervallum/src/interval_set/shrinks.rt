@@ -1,8 +1,9 @@
 //! Sets cut at a value, from either side, with or without the value.
 ghost use Rattle.std.specs.Prelude.{◌≡◌, ◌≤◌, IfOk, length, take, drop};
 ghost use Rattle.ivl_laws.specs.Sets.{Above, AtLeast, AtMost, Below, Intersection, IsBetween};
-ghost use Rattle.ivl_laws.specs.Runs.{Covers, IsRunListIn, IsRunsOf};
+ghost use Rattle.ivl_laws.specs.Runs.{Covers, IsRunListIn, IsRunsOf, StartsBy};
 ghost use Rattle.intervallum.specs.Places.{EndBelow, StartAbove};
+ghost use Rattle.intervallum.specs.Stretches.{EndsFrom};
 
 use super::IntervalSet;
 use crate::interval::Interval;
@@ -93,7 +94,8 @@ fn cut<B: Width>(set: &IntervalSet<B>, window: &Interval<B>) -> Result<IntervalS
 
 /// How many runs of a set lie below a value.
 fn runs_before<B: Width>(probes: &mut Probes<'_, B>, value: B) -> usize
-    ensures count { EndBelow (B.value value) (take result probes.old.runs) }
+    ensures below { EndBelow (B.value value) (take result probes.old.runs) }
+    ensures rest { EndsFrom (B.value value) (drop result probes.old.runs) }
     ensures at_most { result ≤ length probes.old.runs }
     ensures same { probes.new.runs ≡ probes.old.runs }
 {
@@ -107,7 +109,8 @@ fn runs_before<B: Width>(probes: &mut Probes<'_, B>, value: B) -> usize
 
 /// How many runs of a set start at a value or below.
 fn runs_up_to<B: Width>(probes: &mut Probes<'_, B>, value: B) -> usize
-    ensures count { StartAbove (B.value value) (drop result probes.old.runs) }
+    ensures starts { StartsBy (B.value value) (take result probes.old.runs) }
+    ensures above { StartAbove (B.value value) (drop result probes.old.runs) }
     ensures at_most { result ≤ length probes.old.runs }
     ensures same { probes.new.runs ≡ probes.old.runs }
 {

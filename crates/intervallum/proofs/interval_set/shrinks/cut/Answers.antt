@@ -13,14 +13,14 @@ slice_bounds-kept-count g c =
     (is_window c.args.set.now c.new-probes.result.runs c.runs_before-start.new.probes.runs c.args.window.now _ _ c.runs_before-start.result c.runs_up_to-end.result
     c.as_runs-runs.ensures.runs.maximal c.new-probes.ensures.runs c.runs_before-start.ensures.same
     (not_crossed c.args.window.now (untrue _ c.if-is_empty.false c.is_empty.ensures.crossed)) c.lower.ensures.value c.upper.ensures.value
-    c.runs_before-start.ensures.at_most c.runs_before-start.ensures.count c.runs_up_to-end.ensures.count).in_order
+    c.runs_before-start.ensures.at_most c.runs_before-start.ensures.below c.runs_up_to-end.ensures.above).in_order
 
 pub slice_bounds-kept-start : goal.slice_bounds-kept-start
 slice_bounds-kept-start g c =
     (is_window c.args.set.now c.new-probes.result.runs c.runs_before-start.new.probes.runs c.args.window.now _ _ c.runs_before-start.result c.runs_up_to-end.result
     c.as_runs-runs.ensures.runs.maximal c.new-probes.ensures.runs c.runs_before-start.ensures.same
     (not_crossed c.args.window.now (untrue _ c.if-is_empty.false c.is_empty.ensures.crossed)) c.lower.ensures.value c.upper.ensures.value
-    c.runs_before-start.ensures.at_most c.runs_before-start.ensures.count c.runs_up_to-end.ensures.count).in_order
+    c.runs_before-start.ensures.at_most c.runs_before-start.ensures.below c.runs_up_to-end.ensures.above).in_order
 
 pub cut_runs-requires : goal.cut_runs-requires
 cut_runs-requires g c =
@@ -33,5 +33,5 @@ returns-clause-members g c =
     (is_window c.args.set.now c.new-probes.result.runs c.runs_before-start.new.probes.runs c.args.window.now _ _ c.runs_before-start.result c.runs_up_to-end.result
     c.as_runs-runs.ensures.runs.maximal c.new-probes.ensures.runs c.runs_before-start.ensures.same
     (not_crossed c.args.window.now (untrue _ c.if-is_empty.false c.is_empty.ensures.crossed)) c.lower.ensures.value c.upper.ensures.value
-    c.runs_before-start.ensures.at_most c.runs_before-start.ensures.count c.runs_up_to-end.ensures.count)
+    c.runs_before-start.ensures.at_most c.runs_before-start.ensures.below c.runs_up_to-end.ensures.above)
     c.cut_runs.ensures.members
