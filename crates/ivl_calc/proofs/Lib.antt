@@ -3,3 +3,5 @@ pub mod Elements
 pub mod Gathering
 pub mod Runs
 pub mod Steps
+pub mod Clipping
+pub mod Writes
