@@ -1,7 +1,5 @@
-pub mod Registers
-pub mod Elements
-pub mod Gathering
-pub mod Runs
-pub mod Steps
 pub mod Clipping
+pub mod Elements
+pub mod Registers
+pub mod Runs
 pub mod Writes

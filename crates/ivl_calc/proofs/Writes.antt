@@ -1,5 +1,5 @@
 -- A register that is written is a step, once for each way to make a set.
-use Rattle.std.proofs.Common.{◌≡◌, ◌∙◌, ◌↔◌, inl, inr, ℕ, ◌<◌, ℤ, Bool, IsTrue, List, [], ◌∷◌, length, slice_set, refl, Result, Ok, Err}
+use Rattle.std.proofs.Common.{◌≡◌, ◌↔◌, inl, inr, ℕ, ◌<◌, ℤ, Bool, IsTrue, List, [], ◌∷◌, length, slice_set, refl, Result, Ok, Err}
 use Rattle.std.specs.Prelude.{All, IfOk, OnErr}
 use Rattle.ivl_laws.specs.Sets.{IsBetween, IsSubset, HasSome, Without, Only}
 use Rattle.ivl_laws.specs.Runs.{IsRunsOf}
@@ -13,7 +13,7 @@ use Rattle.ivl_calc.specs.declared.calc.making.Part.TheVariants as parts
 use Rattle.ivl_calc.specs.declared.reply.Refusal.TheVariants.{Register, Fit, Memory}
 use Rattle.ivl_calc.specs.Actions.{Making, union, intersection, difference, symmetric, at_least, at_most, above, below, plus_value, minus_value, times_value, make, Answer, done, cut, refused}
 use Rattle.ivl_calc.specs.Makings.{MergedBy, PartBy, of_two, of_part, of_value}
-use Rattle.ivl_calc.specs.Step.{MayStep, MembersAt, Made, IsAllowed, IsReportOf, LacksMemory}
+use Rattle.ivl_calc.specs.Step.{MayStep, MembersAt, Made, IsAllowed, IsReportOf}
 
 -- ---- what is refused
 

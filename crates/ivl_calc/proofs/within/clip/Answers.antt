@@ -1,4 +1,4 @@
-use Rattle.std.proofs.Common.{◌≡◌, ◌∙◌, ap, sym, subst}
+use Rattle.std.proofs.Common.{◌∙◌, ap, sym, subst}
 use Rattle.std.proofs.Math.Bool.{true≢false}
 use Rattle.std.specs.Option.{IsSome}
 use Rattle.ivl_laws.specs.Sets.{IsBetween}

@@ -2,7 +2,7 @@ use Rattle.std.proofs.Common.{◌∙◌}
 use Rattle.std.proofs.lemmas.Result.{IfOk-weaker}
 use Rattle.intervallum.proofs.Images.{open_here_seen}
 use Rattle.ivl_laws.specs.Runs.{Covers}
-use Rattle.ivl_laws.proofs.SetLaws.{IsRunsOf-same, same_members_sym}
+use Rattle.ivl_laws.proofs.SetLaws.{IsRunsOf-same}
 use Rattle.ivl_calc.specs.Within.{Clipped, SumsBy, sum_by}
 use Rattle.ivl_calc.proofs.Clipping.{clipped_sums, rows_grow}
 use Rattle.ivl_calc.proofs.within.combine.Goals as goal

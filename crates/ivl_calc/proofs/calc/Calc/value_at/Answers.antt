@@ -1,8 +1,5 @@
 use Rattle.std.proofs.Common.{◌≡◌, [], sym, arith, slice_index_or}
-use Rattle.ivl_laws.specs.Sets.{IsBetween, IsSubset, Only}
 use Rattle.ivl_laws.proofs.Adding.{untrue}
-use Rattle.intervallum.specs.Sweeps.{ExactResultsBy}
-use Rattle.ivl_calc.specs.Step.{MembersAt}
 use Rattle.ivl_calc.proofs.Registers.{register_seen}
 use Rattle.ivl_calc.proofs.Writes.{value_unfit, writes_value}
 use Rattle.ivl_calc.proofs.calc.Calc.value_at.Goals as goal
