@@ -1,4 +1,5 @@
 pub mod Clipping
+pub mod Determined
 pub mod Elements
 pub mod Registers
 pub mod Runs
