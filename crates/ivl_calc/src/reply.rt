@@ -13,7 +13,8 @@ pub enum Refusal {
     /// A pair is not in the range of the bounds.
     #[error("refused 2 range")]
     Range,
-    /// A result does not lie in the range.
+    /// A product, or a result with a value, does not lie in the range. `Plus` and `Minus` of two
+    /// registers are clipped in place of that.
     #[error("refused 3 fit")]
     Fit,
     /// Memory that the command asked for was refused. `Show` and what writes a register ask for some.
@@ -22,7 +23,7 @@ pub enum Refusal {
 }
 
 /// What a command answers.
-#[derive(Debug, PartialEq, Drop)]
+#[derive(Debug, PartialEq, Eq, Drop)]
 pub enum Reply<B: Width> {
     /// A register was written.
     Done,

@@ -13,7 +13,7 @@ use intervallum::width::Width;
 use std::alloc::AllocError;
 
 /// What is made of two numbers.
-#[derive(Clone, Copy, PartialEq, Eq, Debug)]
+#[derive(Clone, Copy)]
 pub(crate) enum Combined {
     Sum,
     Difference,

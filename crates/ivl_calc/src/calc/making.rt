@@ -24,7 +24,7 @@ use intervallum::width::Width;
 use std::alloc::AllocError;
 
 /// What is made of two sets by one walk over both.
-#[derive(Clone, Copy, PartialEq, Eq, Debug)]
+#[derive(Clone, Copy)]
 pub(super) enum Merge {
     Union,
     Intersection,
@@ -33,7 +33,7 @@ pub(super) enum Merge {
 }
 
 /// Which members of a set are kept, by a value.
-#[derive(Clone, Copy, PartialEq, Eq, Debug)]
+#[derive(Clone, Copy)]
 pub(super) enum Part {
     AtLeast,
     AtMost,
