@@ -1,6 +1,6 @@
 //! The command that a line's words are: its name, and after it the words of its form.
 ghost use Rattle.std.specs.Prelude.{◌≡◌, IfOk, map, option_map};
-ghost use Rattle.ivl_run.specs.Commands.{action_from, register_of, register_alone_of, two_registers_of, three_registers_of, register_and_number_of, set_of};
+ghost use Rattle.ivl_run.specs.Commands.{action_from, looked_up, commands, register_of, register_alone_of, two_registers_of, three_registers_of, register_and_number_of, two_registers_and_number_of, of_pairs};
 ghost use Rattle.ivl_run.specs.View.{action_of};
 
 use crate::numbers::{number_from, pairs_from};
@@ -22,12 +22,40 @@ pub fn command_from(
 {
     match name {
         "set" => set_from(alloc, words),
-        "union" => Ok(three_registers(words).map(|(r, a, b)| Command::Union(r, a, b))),
-        "has" => Ok(register_and_number(words).map(|(a, v)| Command::Has(a, v))),
-        "size" => Ok(register_alone(words).map(Command::Size)),
-        "show" => Ok(register_alone(words).map(Command::Show)),
-        "same" => Ok(two_registers(words).map(|(a, b)| Command::Same(a, b))),
-        _ => Ok(None),
+        _ => Ok(command_by_name(name, words)),
+    }
+}
+
+// All names but `set`, each with the form of the words after it.
+fn command_by_name(name: &str, words: &[&str]) -> Option<Command<i64>>
+    ensures { option_map action_of result ≡ looked_up commands name.now (map (λ w. w.now) words.now) }
+{
+    match name {
+        "union" => three_registers(words).map(|(r, a, b)| Command::Union(r, a, b)),
+        "inter" => three_registers(words).map(|(r, a, b)| Command::Inter(r, a, b)),
+        "diff" => three_registers(words).map(|(r, a, b)| Command::Diff(r, a, b)),
+        "sym" => three_registers(words).map(|(r, a, b)| Command::Sym(r, a, b)),
+        "comp" => two_registers(words).map(|(r, a)| Command::Comp(r, a)),
+        "left" => two_registers_and_number(words).map(|(r, a, v)| Command::Left(r, a, v)),
+        "right" => two_registers_and_number(words).map(|(r, a, v)| Command::Right(r, a, v)),
+        "sleft" => two_registers_and_number(words).map(|(r, a, v)| Command::StrictLeft(r, a, v)),
+        "sright" => two_registers_and_number(words).map(|(r, a, v)| Command::StrictRight(r, a, v)),
+        "plus" => three_registers(words).map(|(r, a, b)| Command::Plus(r, a, b)),
+        "minus" => three_registers(words).map(|(r, a, b)| Command::Minus(r, a, b)),
+        "times" => three_registers(words).map(|(r, a, b)| Command::Times(r, a, b)),
+        "plusv" => two_registers_and_number(words).map(|(r, a, v)| Command::PlusValue(r, a, v)),
+        "minusv" => two_registers_and_number(words).map(|(r, a, v)| Command::MinusValue(r, a, v)),
+        "timesv" => two_registers_and_number(words).map(|(r, a, v)| Command::TimesValue(r, a, v)),
+        "has" => register_and_number(words).map(|(a, v)| Command::Has(a, v)),
+        "size" => register_alone(words).map(Command::Size),
+        "count" => register_alone(words).map(Command::Count),
+        "low" => register_alone(words).map(Command::Low),
+        "high" => register_alone(words).map(Command::High),
+        "same" => two_registers(words).map(|(a, b)| Command::Same(a, b)),
+        "sub" => two_registers(words).map(|(a, b)| Command::Sub(a, b)),
+        "meets" => two_registers(words).map(|(a, b)| Command::Meets(a, b)),
+        "show" => register_alone(words).map(Command::Show),
+        _ => None,
     }
 }
 
@@ -35,7 +63,7 @@ pub fn command_from(
 #[tactic(auto, using(crate::proofs::Pairs::number_pairs_same))]
 fn set_from(alloc: Global, words: &[&str]) -> Result<Option<Command<i64>>, AllocError>
     ensures { IfOk result (λ command. option_map action_of command
-        ≡ set_of (map (λ w. w.now) words.now)) }
+        ≡ of_pairs (map (λ w. w.now) words.now)) }
 {
     let Some((first, rest)) = words.split_first() else {
         return Ok(None);
@@ -81,6 +109,15 @@ fn register_and_number(words: &[&str]) -> Option<(usize, i64)>
 {
     match words {
         [a, v] => Some((register_from(a)?, number_from(v)?)),
+        _ => None,
+    }
+}
+
+fn two_registers_and_number(words: &[&str]) -> Option<(usize, usize, i64)>
+    ensures { result ≡ two_registers_and_number_of (map (λ w. w.now) words.now) }
+{
+    match words {
+        [r, a, v] => Some((register_from(r)?, register_from(a)?, number_from(v)?)),
         _ => None,
     }
 }

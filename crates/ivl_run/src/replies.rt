@@ -23,9 +23,14 @@ pub fn write_reply<W: Write>(writer: &mut W, reply: &Reply<i64>) -> io::Result<(
 {
     match reply {
         Reply::Done => writer.write_all(b"ok")?,
+        Reply::Cut(true) => writer.write_all(b"cut")?,
+        Reply::Cut(false) => writer.write_all(b"ok")?,
         Reply::Flag(true) => writer.write_all(b"yes")?,
         Reply::Flag(false) => writer.write_all(b"no")?,
         Reply::Size(n) => write!(writer, "{n}")?,
+        Reply::Count(n) => write!(writer, "{n}")?,
+        Reply::Value(Some(item)) => write!(writer, "{item}")?,
+        Reply::Value(None) => writer.write_all(b"none")?,
         Reply::Runs(runs) => write_runs(writer, runs)?,
         Reply::Refused(why) => writer.write_all(refusal_bytes(*why))?,
     }
