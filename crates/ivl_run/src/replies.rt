@@ -1,12 +1,11 @@
 //! The text of a reply.
 ghost use Rattle.std.specs.Prelude.{◌≡◌, ◌≤ℤ◌, ◌++◌, All, OnOk, flat_map, codes};
 ghost use Rattle.std.specs.Io.KnownBytes.{Appends};
-ghost use Rattle.ivl_run.specs.Printed.{printed, refusal_text, run_text, runs_text, HasRunsInOrder};
+ghost use Rattle.ivl_run.specs.Printed.{printed, refusal_text, runs_text, HasRunsInOrder};
 ghost use Rattle.ivl_run.specs.Session.{with_newline};
 ghost use Rattle.ivl_run.specs.View.{answer_of};
 
 use intervallum::interval::Interval;
-use intervallum::ops::Bounded;
 use ivl_calc::{Refusal, Reply};
 use std::io;
 use std::io::Write;
@@ -48,24 +47,17 @@ fn refusal_bytes(why: Refusal) -> &'static [u8]
     }
 }
 
+// In braces, unless there is just one run.
 fn write_runs<W: Write>(writer: &mut W, runs: &[Interval<i64>]) -> io::Result<()>
     requires { All (λ p. p.0 ≤ℤ p.1) runs.now }
     ensures { OnOk result (Appends (W.contents writer.old) (W.contents writer.new) (runs_text runs.now)) }
 {
     if let [run] = runs {
-        return write_run(writer, run);
+        return write!(writer, "{run}");
     }
     writer.write_all(b"{")?;
     for run in runs {
-        write_run(writer, run)?;
+        write!(writer, "{run}")?;
     }
     writer.write_all(b"}")
-}
-
-fn write_run<W: Write>(writer: &mut W, run: &Interval<i64>) -> io::Result<()>
-    requires { run.now.0 ≤ℤ run.now.1 }
-    ensures { OnOk result (Appends (W.contents writer.old) (W.contents writer.new) (run_text run.now)) }
-{
-    let (l, u) = (run.lower(), run.upper());
-    write!(writer, "[{l}..{u}]")
 }
