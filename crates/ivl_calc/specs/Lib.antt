@@ -1,3 +1,5 @@
 pub mod Actions
+pub mod Makings
 pub mod Step
 pub mod View
+pub mod Within

@@ -13,6 +13,7 @@ use Rattle.std.specs.Prelude.{◌≡◌, ℕ, ℤ, ◌≤ℤ◌, ◌<◌, ◌⊎
 use Rattle.ivl_laws.specs.Sets.{IsBetween, IsInRange, Only, HasNone, HasSome, IsSubset, SameMembers, Union, Intersection, Without, SymmetricDifference, Complement, AtLeast, AtMost, Above, Below, Sums, Differences, ExactProducts, Products}
 use Rattle.ivl_laws.specs.Runs.{Covers, IsRunsOf}
 use Rattle.ivl_laws.specs.Counts.{IsCountOf}
+use Rattle.ivl_calc.specs.Within.{Clipped}
 use Rattle.ivl_calc.specs.declared.reply.Refusal.{Refusal}
 use Rattle.ivl_calc.specs.declared.reply.Refusal.TheVariants.{Register, Range, Fit, Memory}
 use Rattle.ivl_calc.specs.Actions.{Making, pairs, union, intersection, difference, symmetric, complement, at_least, at_most, above, below, plus, minus, times, plus_value, minus_value, times_value, Question, has, size, count, low, high, same, subset, meets, show, Action, make, ask, Answer, done, cut, flag, sized, counted, value, runs, refused}
@@ -21,10 +22,6 @@ abbrev pub MembersAt : List (List (ℤ × ℤ)) → ℕ → ℤ → Type 0
 MembersAt s r = Covers (slice_index_or s r [])
 
 -- ---- what is made
-
--- the members of S in the range
-abbrev pub Clipped : ℤ × ℤ → (ℤ → Type 0) → ℤ → Type 0
-Clipped whole S = Intersection S (IsBetween whole)
 
 abbrev pub Made : ℤ × ℤ → List (List (ℤ × ℤ)) → Making → ℤ → Type 0
 Made whole s (pairs list) = Covers list

@@ -1,17 +1,17 @@
 //! The registers, and what each command does to them.
 ghost use Rattle.std.specs.Prelude.{◌≡◌, ◌↔◌, ◌<◌, ℤ, List, [], All, replicate, map, length, slice_index_or, IsSome, IsTrue, IfOk, IfSome, OnErr};
-ghost use Rattle.ivl_laws.specs.Sets.{IsInRange};
-ghost use Rattle.ivl_laws.specs.Runs.{Covers, IsRunsOf};
-ghost use Rattle.ivl_calc.specs.Actions.{pairs, union, has, size, same, show, make, ask};
 ghost use Rattle.ivl_calc.specs.Step.{MayStep, Run};
-ghost use Rattle.ivl_calc.specs.View.{action_of, answer_of, number_pairs};
+ghost use Rattle.ivl_calc.specs.View.{action_of, answer_of};
+
+mod asking;
+mod making;
 
 use crate::command::Command;
-use crate::reply::{Refusal, Reply};
-use intervallum::interval::Interval;
+use crate::reply::Reply;
 use intervallum::interval_set::IntervalSet;
-use intervallum::ops::{Cardinality, Contains, Union};
+use intervallum::sweep::Op;
 use intervallum::width::Width;
+use making::{Merge, Part};
 use std::alloc::{AllocError, Global};
 use std::marker::Model;
 
@@ -65,29 +65,55 @@ impl<B: Width> Calc<B> {
         self.registers.get(register)
     }
 
-    /// Carries out one command. [`Refusal`] says what is refused, and in which order; a refused
+    /// Carries out one command. [`Refusal`](crate::Refusal) says what is refused, and in which order; a refused
     /// command leaves all registers as they were.
+    ///
+    /// The costs are for `n` and `m` runs of the registers that are read. What writes a register
+    /// makes the new set first, and then puts it in place of the old one.
     ///
     /// | Command | Cost | Memory |
     /// |---|---|---|
-    /// | `Set` of `k` pairs | `k` unions, each linear in the runs so far | the runs so far, twice |
-    /// | `Union` | linear in the runs of both | the runs of both |
-    /// | `Has` | that of `contains` | none |
-    /// | `Size` | `O(1)` | none |
-    /// | `Same` | linear in the runs | none |
-    /// | `Show` | linear in the runs | a copy of them |
+    /// | `Set` of `k` pairs | `O(k log k)` | twice `k` runs |
+    /// | `Union`, `Inter`, `Diff`, `Sym` | `O(n + m)` | `n + m` runs |
+    /// | `Comp` | `O(n)` | `n + 2` runs |
+    /// | `Left`, `Right`, `StrictLeft`, `StrictRight` | `O(n)` | `n` runs |
+    /// | `Plus`, `Minus`, `Times` | `O(n m log (n m))` | twice `n * m` runs |
+    /// | `PlusValue`, `MinusValue`, `TimesValue` | `O(n log n)` | twice `n` runs |
+    /// | `Has` | `O(log n)` | none |
+    /// | `Size`, `Count`, `Low`, `High` | `O(1)` | none |
+    /// | `Same` | `O(n)`, `O(1)` where the sizes differ | none |
+    /// | `Sub` | `O(n log m)` | none |
+    /// | `Meets` | `O(n + m)` | none |
+    /// | `Show` | `O(n)` | a copy of the runs |
     pub fn apply(&mut self, command: &Command<B>) -> Reply<B>
         ensures { MayStep B.whole self.old (action_of B.value command.now) (answer_of B.value B.Output.size result) self.new }
     {
         match command {
-            Command::Set(target, list) => set_at(self.alloc, &mut self.registers, *target, list),
-            Command::Union(target, left, right) => {
-                unite_at(&mut self.registers, *target, *left, *right)
-            }
-            Command::Has(register, item) => has_at(&self.registers, *register, *item),
-            Command::Size(register) => size_at(&self.registers, *register),
-            Command::Same(left, right) => same_at(&self.registers, *left, *right),
-            Command::Show(register) => show_at(self.alloc, &self.registers, *register),
+            Command::Set(r, list) => self.set_at(*r, list),
+            Command::Union(r, a, b) => self.merge_at(*r, *a, *b, Merge::Union),
+            Command::Inter(r, a, b) => self.merge_at(*r, *a, *b, Merge::Intersection),
+            Command::Diff(r, a, b) => self.merge_at(*r, *a, *b, Merge::Difference),
+            Command::Sym(r, a, b) => self.merge_at(*r, *a, *b, Merge::SymmetricDifference),
+            Command::Comp(r, a) => self.complement_at(*r, *a),
+            Command::Left(r, a, v) => self.part_at(*r, *a, *v, Part::AtLeast),
+            Command::Right(r, a, v) => self.part_at(*r, *a, *v, Part::AtMost),
+            Command::StrictLeft(r, a, v) => self.part_at(*r, *a, *v, Part::Above),
+            Command::StrictRight(r, a, v) => self.part_at(*r, *a, *v, Part::Below),
+            Command::Plus(r, a, b) => self.plus_at(*r, *a, *b),
+            Command::Minus(r, a, b) => self.minus_at(*r, *a, *b),
+            Command::Times(r, a, b) => self.times_at(*r, *a, *b),
+            Command::PlusValue(r, a, v) => self.value_at(*r, *a, *v, Op::Sum),
+            Command::MinusValue(r, a, v) => self.value_at(*r, *a, *v, Op::Difference),
+            Command::TimesValue(r, a, v) => self.value_at(*r, *a, *v, Op::Product),
+            Command::Has(a, v) => self.has_at(*a, *v),
+            Command::Size(a) => self.size_at(*a),
+            Command::Count(a) => self.count_at(*a),
+            Command::Low(a) => self.low_at(*a),
+            Command::High(a) => self.high_at(*a),
+            Command::Same(a, b) => self.same_at(*a, *b),
+            Command::Sub(a, b) => self.subset_at(*a, *b),
+            Command::Meets(a, b) => self.meets_at(*a, *b),
+            Command::Show(a) => self.show_at(*a),
         }
     }
 
@@ -112,110 +138,12 @@ impl<B: Width> Calc<B> {
         }
         Ok(replies)
     }
-}
 
-fn set_at<B: Width>(
-    alloc: Global,
-    registers: &mut [IntervalSet<B>],
-    target: usize,
-    list: &[(B, B)],
-) -> Reply<B>
-    ensures { MayStep B.whole registers.old (make target (pairs (number_pairs B.value list.now))) (answer_of B.value B.Output.size result) registers.new }
-{
-    if target >= registers.len() {
-        return Reply::Refused(Refusal::Register);
-    }
-    if !are_in_range(list) {
-        return Reply::Refused(Refusal::Range);
-    }
-    // The register is written only once the whole set is there.
-    match set_of(alloc, list) {
-        Ok(set) => {
-            registers[target] = set;
-            Reply::Done
-        }
-        Err(_) => Reply::Refused(Refusal::Memory),
-    }
-}
-
-/// Each pair may be the bounds of an interval.
-fn are_in_range<B: Width>(list: &[(B, B)]) -> bool
-    ensures { IsTrue result ↔ All (IsInRange B.whole) (number_pairs B.value list.now) }
-{
-    list.iter().all(|&(lb, ub)| Interval::in_range(lb, ub))
-}
-
-/// The union of the pairs. One whose first is above its second adds nothing.
-fn set_of<B: Width>(alloc: Global, list: &[(B, B)]) -> Result<IntervalSet<B>, AllocError>
-    requires { All (IsInRange B.whole) (number_pairs B.value list.now) }
-    ensures { IfOk result (λ L. IsRunsOf L (Covers (number_pairs B.value list.now))) }
-{
-    let mut set = IntervalSet::empty(alloc);
-    for &(lb, ub) in list {
-        if lb <= ub {
-            set = set.union(&IntervalSet::new(alloc, lb, ub)?)?;
-        }
-    }
-    Ok(set)
-}
-
-fn unite_at<B: Width>(
-    registers: &mut [IntervalSet<B>],
-    target: usize,
-    left: usize,
-    right: usize,
-) -> Reply<B>
-    ensures { MayStep B.whole registers.old (make target (union left right)) (answer_of B.value B.Output.size result) registers.new }
-{
-    let count = registers.len();
-    if target >= count || left >= count || right >= count {
-        return Reply::Refused(Refusal::Register);
-    }
-    // The target may be one of the operands, so both are read before it is written.
-    match registers[left].union(&registers[right]) {
-        Ok(set) => {
-            registers[target] = set;
-            Reply::Done
-        }
-        Err(_) => Reply::Refused(Refusal::Memory),
-    }
-}
-
-fn has_at<B: Width>(registers: &[IntervalSet<B>], register: usize, item: B) -> Reply<B>
-    ensures { MayStep B.whole registers.now (ask (has register (B.value item))) (answer_of B.value B.Output.size result) registers.now }
-{
-    match registers.get(register) {
-        Some(set) => Reply::Flag(set.contains(&item)),
-        None => Reply::Refused(Refusal::Register),
-    }
-}
-
-fn size_at<B: Width>(registers: &[IntervalSet<B>], register: usize) -> Reply<B>
-    ensures { MayStep B.whole registers.now (ask (size register)) (answer_of B.value B.Output.size result) registers.now }
-{
-    match registers.get(register) {
-        Some(set) => Reply::Size(set.size()),
-        None => Reply::Refused(Refusal::Register),
-    }
-}
-
-fn same_at<B: Width>(registers: &[IntervalSet<B>], left: usize, right: usize) -> Reply<B>
-    ensures { MayStep B.whole registers.now (ask (same left right)) (answer_of B.value B.Output.size result) registers.now }
-{
-    match (registers.get(left), registers.get(right)) {
-        (Some(first), Some(second)) => Reply::Flag(*first == *second),
-        _ => Reply::Refused(Refusal::Register),
-    }
-}
-
-fn show_at<B: Width>(alloc: Global, registers: &[IntervalSet<B>], register: usize) -> Reply<B>
-    ensures { MayStep B.whole registers.now (ask (show register)) (answer_of B.value B.Output.size result) registers.now }
-{
-    let Some(set) = registers.get(register) else {
-        return Reply::Refused(Refusal::Register);
-    };
-    match Vec::from_slice(alloc, set.iter().as_slice()) {
-        Ok(runs) => Reply::Runs(runs),
-        Err(_) => Reply::Refused(Refusal::Memory),
+    /// Each index has a register.
+    fn has_registers<const N: usize>(&self, indexes: [usize; N]) -> bool
+        ensures { IsTrue result ↔ All (λ r. r < length self.now) indexes }
+    {
+        let count = self.registers();
+        indexes.iter().all(|&index| index < count)
     }
 }

@@ -1,7 +1,8 @@
 //! A calculator over registers that hold interval sets.
 //!
 //! What a list of commands answers is what it would answer over plain sets of numbers: that is the
-//! contract of [`Calc::run`].
+//! contract of [`Calc::run`]. [`within`] has the sums and differences of sets that are cut at the
+//! ends of the range.
 //!
 //! ```
 //! let mut calc = Calc::new(alloc, 2)?;
@@ -16,6 +17,7 @@ mod command;
 mod reply;
 #[cfg(test)]
 mod tests;
+pub mod within;
 
 pub use calc::Calc;
 pub use command::Command;

@@ -22,7 +22,7 @@ pub enum Refusal {
 }
 
 /// What a command answers.
-#[derive(Drop)]
+#[derive(Debug, PartialEq, Drop)]
 pub enum Reply<B: Width> {
     /// A register was written.
     Done,

@@ -1,0 +1,20 @@
+-- Sums and differences as far as they lie in the range.
+--     Clipped whole S      the members of S in the range
+--     SumsBy op S T      the sums, or the differences, of a member of each
+--     sum_by op p q      the pair that holds those of two intervals that are not crossed
+use Rattle.std.specs.Prelude.{ℤ}
+use Rattle.ivl_laws.specs.Sets.{IsBetween, Intersection, Sums, Differences}
+use Rattle.ivl_laws.specs.Arithmetic.{interval_sum, interval_difference}
+use Rattle.ivl_calc.specs.declared.within.Combined.{Combined}
+use Rattle.ivl_calc.specs.declared.within.Combined.TheVariants.{Sum, Difference}
+
+abbrev pub Clipped : ℤ × ℤ → (ℤ → Type 0) → ℤ → Type 0
+Clipped whole S = Intersection S (IsBetween whole)
+
+abbrev pub SumsBy : Combined → (ℤ → Type 0) → (ℤ → Type 0) → ℤ → Type 0
+SumsBy Sum = Sums
+SumsBy Difference = Differences
+
+abbrev pub sum_by : Combined → ℤ × ℤ → ℤ × ℤ → ℤ × ℤ
+sum_by Sum = interval_sum
+sum_by Difference = interval_difference
