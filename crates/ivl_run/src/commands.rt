@@ -1,9 +1,11 @@
 //! The command that a line's words are: its name, and after it the words of its form.
-ghost use Rattle.std.specs.Prelude.{◌≡◌, IfOk, map, option_map};
+ghost use Rattle.std.specs.Prelude.{◌≡◌, IfOk, option_map};
 ghost use Rattle.ivl_run.specs.Commands.{action_from, looked_up, commands, register_of, register_alone_of, two_registers_of, three_registers_of, register_and_number_of, two_registers_and_number_of, of_pairs};
+ghost use Rattle.ivl_run.specs.Lines.{words_between};
 ghost use Rattle.ivl_run.specs.View.{action_of};
 
 use crate::numbers::{number_from, pairs_from};
+use crate::words::{next_word, one_word, three_words, two_words};
 use ivl_calc::Command;
 use std::alloc::{AllocError, Global};
 
@@ -11,14 +13,14 @@ use std::alloc::{AllocError, Global};
 ///
 /// # Errors
 ///
-/// Where the numbers of `set` find no memory.
+/// Where the numbers of `set` find no memory; no other command asks for any.
 pub fn command_from(
     alloc: Global,
     name: &str,
-    words: &[&str],
+    words: &str,
 ) -> Result<Option<Command<i64>>, AllocError>
     ensures { IfOk result (λ command. option_map action_of command
-        ≡ action_from name.now (map (λ w. w.now) words.now)) }
+        ≡ action_from name.now (words_between words.now)) }
 {
     match name {
         "set" => set_from(alloc, words),
@@ -27,8 +29,8 @@ pub fn command_from(
 }
 
 // All names but `set`, each with the form of the words after it.
-fn command_by_name(name: &str, words: &[&str]) -> Option<Command<i64>>
-    ensures { option_map action_of result ≡ looked_up commands name.now (map (λ w. w.now) words.now) }
+fn command_by_name(name: &str, words: &str) -> Option<Command<i64>>
+    ensures { option_map action_of result ≡ looked_up commands name.now (words_between words.now) }
 {
     match name {
         "union" => three_registers(words).map(|(r, a, b)| Command::Union(r, a, b)),
@@ -61,11 +63,11 @@ fn command_by_name(name: &str, words: &[&str]) -> Option<Command<i64>>
 
 // `set r l u l u ..`
 #[tactic(auto, using(crate::proofs::Pairs::number_pairs_same))]
-fn set_from(alloc: Global, words: &[&str]) -> Result<Option<Command<i64>>, AllocError>
+fn set_from(alloc: Global, words: &str) -> Result<Option<Command<i64>>, AllocError>
     ensures { IfOk result (λ command. option_map action_of command
-        ≡ of_pairs (map (λ w. w.now) words.now)) }
+        ≡ of_pairs (words_between words.now)) }
 {
-    let Some((first, rest)) = words.split_first() else {
+    let Some((first, rest)) = next_word(words) else {
         return Ok(None);
     };
     let Some(r) = register_from(first) else {
@@ -77,49 +79,38 @@ fn set_from(alloc: Global, words: &[&str]) -> Result<Option<Command<i64>>, Alloc
     }
 }
 
-fn register_alone(words: &[&str]) -> Option<usize>
-    ensures { result ≡ register_alone_of (map (λ w. w.now) words.now) }
+fn register_alone(words: &str) -> Option<usize>
+    ensures { result ≡ register_alone_of (words_between words.now) }
 {
-    match words {
-        [a] => register_from(a),
-        _ => None,
-    }
+    register_from(one_word(words)?)
 }
 
-fn two_registers(words: &[&str]) -> Option<(usize, usize)>
-    ensures { result ≡ two_registers_of (map (λ w. w.now) words.now) }
+fn two_registers(words: &str) -> Option<(usize, usize)>
+    ensures { result ≡ two_registers_of (words_between words.now) }
 {
-    match words {
-        [a, b] => Some((register_from(a)?, register_from(b)?)),
-        _ => None,
-    }
+    let (a, b) = two_words(words)?;
+    Some((register_from(a)?, register_from(b)?))
 }
 
-fn three_registers(words: &[&str]) -> Option<(usize, usize, usize)>
-    ensures { result ≡ three_registers_of (map (λ w. w.now) words.now) }
+fn three_registers(words: &str) -> Option<(usize, usize, usize)>
+    ensures { result ≡ three_registers_of (words_between words.now) }
 {
-    match words {
-        [r, a, b] => Some((register_from(r)?, register_from(a)?, register_from(b)?)),
-        _ => None,
-    }
+    let (r, a, b) = three_words(words)?;
+    Some((register_from(r)?, register_from(a)?, register_from(b)?))
 }
 
-fn register_and_number(words: &[&str]) -> Option<(usize, i64)>
-    ensures { result ≡ register_and_number_of (map (λ w. w.now) words.now) }
+fn register_and_number(words: &str) -> Option<(usize, i64)>
+    ensures { result ≡ register_and_number_of (words_between words.now) }
 {
-    match words {
-        [a, v] => Some((register_from(a)?, number_from(v)?)),
-        _ => None,
-    }
+    let (a, v) = two_words(words)?;
+    Some((register_from(a)?, number_from(v)?))
 }
 
-fn two_registers_and_number(words: &[&str]) -> Option<(usize, usize, i64)>
-    ensures { result ≡ two_registers_and_number_of (map (λ w. w.now) words.now) }
+fn two_registers_and_number(words: &str) -> Option<(usize, usize, i64)>
+    ensures { result ≡ two_registers_and_number_of (words_between words.now) }
 {
-    match words {
-        [r, a, v] => Some((register_from(r)?, register_from(a)?, number_from(v)?)),
-        _ => None,
-    }
+    let (r, a, v) = three_words(words)?;
+    Some((register_from(r)?, register_from(a)?, number_from(v)?))
 }
 
 fn register_from(word: &str) -> Option<usize>
