@@ -1,5 +1,6 @@
-pub mod Registers
+pub mod Clipping
+pub mod Determined
 pub mod Elements
-pub mod Gathering
+pub mod Registers
 pub mod Runs
-pub mod Steps
+pub mod Writes

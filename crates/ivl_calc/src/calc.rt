@@ -141,7 +141,7 @@ impl<B: Width> Calc<B> {
 
     /// Each index has a register.
     fn has_registers<const N: usize>(&self, indexes: [usize; N]) -> bool
-        ensures { IsTrue result ↔ All (λ r. r < length self.now) indexes }
+        ensures { IsTrue result ↔ All (λ r. r < length self.now) indexes.entry }
     {
         let count = self.registers();
         indexes.iter().all(|&index| index < count)

@@ -14,6 +14,7 @@
 
 mod calc;
 mod command;
+pub mod laws;
 mod reply;
 #[cfg(test)]
 mod tests;

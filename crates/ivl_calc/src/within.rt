@@ -1,5 +1,5 @@
 //! Sums and differences of sets, as far as they lie in the range.
-ghost use Rattle.std.specs.Prelude.{◌↔◌, ◌≤ℤ◌, IfOk, IsTrue, OnOk};
+ghost use Rattle.std.specs.Prelude.{◌↔◌, ◌≤ℤ◌, IfOk, IsTrue, OnOk, map};
 ghost use Rattle.ivl_laws.specs.Sets.{Differences, HasSome, Intersection, IsBetween, SameMembers, Sums, Union, Without};
 ghost use Rattle.ivl_laws.specs.Runs.{Covers, IsMaximal, IsRunsOf};
 ghost use Rattle.ivl_calc.specs.Within.{Clipped, SumsBy, sum_by};
@@ -63,7 +63,9 @@ fn combine<B: Width>(
     b: &IntervalSet<B>,
     op: Combined,
 ) -> Result<IntervalSet<B>, AllocError>
-    ensures { IfOk result (λ L. IsRunsOf L (Clipped B.whole (SumsBy op (Covers a.now) (Covers b.now)))) }
+    ensures members { IfOk result (λ L. IsRunsOf L (Clipped B.whole (SumsBy op (Covers a.now) (Covers b.now)))) }
+    ensures left { IsMaximal a.now }
+    ensures right { IsMaximal b.now }
 {
     let alloc = Walk::new(a).alloc();
     let left = a.iter().as_slice();
@@ -85,7 +87,7 @@ fn push_row<B: Width>(
 ) -> Result<(), AllocError>
     requires filled { run.0 ≤ℤ run.1 }
     requires right { IsMaximal right.now }
-    ensures { OnOk result (SameMembers (Covers entries.new.items) (Union (Covers entries.old.items) (Clipped B.whole (SumsBy op (IsBetween run) (Covers right.now))))) }
+    ensures { OnOk result (SameMembers (Covers entries.new.items) (Union (Covers entries.old.items) (Clipped B.whole (Covers (map (sum_by op run) right.now))))) }
 {
     for other in right {
         entries.push(image(run, *other, op))?;

@@ -8,7 +8,7 @@ ghost use Rattle.ivl_calc.specs.View.{answer_of};
 use super::Calc;
 use crate::reply::{Refusal, Reply};
 use intervallum::interval_set::IntervalSet;
-use intervallum::ops::{Bounded, Cardinality, Contains, IsEmpty, Overlap, Subset};
+use intervallum::ops::{Bounded, Cardinality, Contains, Overlap, Subset};
 use intervallum::width::Width;
 
 impl<B: Width> Calc<B> {
@@ -101,7 +101,7 @@ impl<B: Width> Calc<B> {
 fn least<B: Width>(set: &IntervalSet<B>) -> Option<B>
     ensures { IsEndOf IsLeast (Covers set.now) (option_map B.value result) }
 {
-    if set.is_empty() {
+    if set.interval_count() == 0 {
         None
     } else {
         Some(set.lower())
@@ -112,7 +112,7 @@ fn least<B: Width>(set: &IntervalSet<B>) -> Option<B>
 fn greatest<B: Width>(set: &IntervalSet<B>) -> Option<B>
     ensures { IsEndOf IsGreatest (Covers set.now) (option_map B.value result) }
 {
-    if set.is_empty() {
+    if set.interval_count() == 0 {
         None
     } else {
         Some(set.upper())

@@ -117,10 +117,11 @@ impl<B: Width> Calc<B> {
         if !self.has_registers([target, left, right]) {
             return Reply::Refused(Refusal::Register);
         }
-        if !self.registers[left].fits_mul(&self.registers[right]) {
+        let (first, second) = (&self.registers[left], &self.registers[right]);
+        if !first.fits_mul(second) {
             return Reply::Refused(Refusal::Fit);
         }
-        let made = &self.registers[left] * &self.registers[right];
+        let made = first * second;
         self.put(target, made)
     }
 
@@ -130,10 +131,11 @@ impl<B: Width> Calc<B> {
         if !self.has_registers([target, source]) {
             return Reply::Refused(Refusal::Register);
         }
-        if !fits(&self.registers[source], value, op) {
+        let set = &self.registers[source];
+        if !fits(set, value, op) {
             return Reply::Refused(Refusal::Fit);
         }
-        let made = combined(&self.registers[source], value, op);
+        let made = combined(set, value, op);
         self.put(target, made)
     }
 

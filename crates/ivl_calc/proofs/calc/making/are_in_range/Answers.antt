@@ -3,7 +3,7 @@ use borrow.Author.Tests.{tests}
 use Rattle.std.proofs.lemmas.Iterator.{cases_from_all, YieldsList-from_slice}
 use Rattle.ivl_laws.specs.Sets.{IsInRange}
 use Rattle.ivl_calc.proofs.Elements.{tells_all}
-use Rattle.ivl_calc.proofs.calc.are_in_range.Goals as goal
+use Rattle.ivl_calc.proofs.calc.making.are_in_range.Goals as goal
 
 pub returns : goal.returns
 returns g c =
