@@ -48,9 +48,9 @@ module _ (w : ℤ × ℤ) (old A B entries new : List (ℤ × ℤ)) where
 pushed : (w : ℤ × ℤ) (entries new : List (ℤ × ℤ)) (e q : ℤ × ℤ) → new ≡ entries ++ e ∷ [] → SameMembers (IsBetween e) (Clipped w (IsBetween q))
     → SameMembers (Covers new) (Union (Covers entries) (Clipped w (Covers (q ∷ []))))
 pushed w entries new e q is h = subst (λ (n : List (ℤ × ℤ)). SameMembers (Covers n) (Union (Covers entries) (Clipped w (Covers (q ∷ []))))) (sym is) (λ z. (
-    (λ c. ⊎_elim (λ o. inl o) (⊎_elim (λ b. let k = (h z).0 b in inr (inl k.0, k.1)) (λ n. absurd n)) (covers-append entries (e ∷ []) z c)),
-    ⊎_elim (λ o. covers-append_left entries (e ∷ []) z o) (λ k. ⊎_elim (λ b. covers-append_right entries (e ∷ []) z (inl ((h z).1 (b, k.1)))) (λ n. absurd n) k.0),
-  ))
+  (λ c. ⊎_elim (λ o. inl o) (⊎_elim (λ b. let k = (h z).0 b in inr (inl k.0, k.1)) (λ n. absurd n)) (covers-append entries (e ∷ []) z c)),
+  ⊎_elim (λ o. covers-append_left entries (e ∷ []) z o) (λ k. ⊎_elim (λ b. covers-append_right entries (e ∷ []) z (inl ((h z).1 (b, k.1)))) (λ n. absurd n) k.0),
+))
 
 pub row_grows : (w : ℤ × ℤ) (f : ℤ × ℤ → ℤ × ℤ) (old entries new xs : List (ℤ × ℤ)) (j : ℕ) (x e : ℤ × ℤ) → j < length xs → x ≡ get_or xs j x → new ≡ entries ++ e ∷ []
     → SameMembers (IsBetween e) (Clipped w (IsBetween (f x)))
@@ -91,12 +91,12 @@ cut_or_within : (w : ℤ × ℤ) (L : List (ℤ × ℤ)) → IsSubset (Covers L)
 cut_or_within w [] = inl (λ z n. absurd n)
 cut_or_within w (p ∷ L) = ⊎_elim
     (λ within. by_lt_z p.1 p.0
-        (λ crossed. inl (λ z. ⊎_elim (λ b. absurd ((none_is_crossed p).1 crossed z b)) (within z)))
-        (λ filled. by_lt_z p.0 w.0
-            (λ low. inr (p.0, (inl (lower_end p filled), λ b. let k = b.0 in omega (arith, ints))))
-            (λ low. by_lt_z w.1 p.1
-                (λ high. inr (p.1, (inl (upper_end p filled), λ b. let k = b.1 in omega (arith, ints))))
-                (λ high. inl (λ z. ⊎_elim (in_range_is_within w p (low, high) z) (within z))))))
+    (λ crossed. inl (λ z. ⊎_elim (λ b. absurd ((none_is_crossed p).1 crossed z b)) (within z)))
+    (λ filled. by_lt_z p.0 w.0
+    (λ low. inr (p.0, (inl (lower_end p filled), λ b. let k = b.0 in omega (arith, ints))))
+    (λ low. by_lt_z w.1 p.1
+    (λ high. inr (p.1, (inl (upper_end p filled), λ b. let k = b.1 in omega (arith, ints))))
+    (λ high. inl (λ z. ⊎_elim (in_range_is_within w p (low, high) z) (within z))))))
     (λ (z, (c, n)). inr (z, (inr c, n)))
     (cut_or_within w L)
 
