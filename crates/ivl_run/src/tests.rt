@@ -15,7 +15,17 @@ fn write_line(text: &mut Vec<u8>, line: &str) -> Result<(), AllocError> {
     Ok(())
 }
 
-// One session over the lines, each of which has this answer.
+// What a session has written is the answers of the table, one a line.
+fn assert_written(rt: &impl Abort, written: &[u8], table: &[(&str, &str)]) {
+    let text = str::from_utf8(written).unwrap_or("no UTF-8");
+    let mut answers = text.lines();
+    for (line, answer) in table {
+        assert_eq!(rt; answers.next(), Some(*answer), "after `{line}`");
+    }
+    assert!(rt; answers.next().is_none());
+}
+
+// One session over the lines of the table answers each as it says there.
 fn assert_answers(rt: &impl Abort, alloc: Global, table: &[(&str, &str)]) -> Result<(), Fail> {
     let mut input = Vec::new(alloc);
     for (line, _) in table {
@@ -24,12 +34,7 @@ fn assert_answers(rt: &impl Abort, alloc: Global, table: &[(&str, &str)]) -> Res
     let mut written = Vec::new(alloc);
     let ended = session(alloc, &mut input.as_slice(), &mut written);
     assert_eq!(rt; ended, Ok(()));
-    let text = str::from_utf8(&written).unwrap_or("no UTF-8");
-    let mut answers = text.lines();
-    for (line, answer) in table {
-        assert_eq!(rt; answers.next(), Some(*answer), "after `{line}`");
-    }
-    assert!(rt; answers.next().is_none());
+    assert_written(rt, &written, table);
     Ok(())
 }
 

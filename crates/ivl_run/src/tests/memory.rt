@@ -1,7 +1,7 @@
 //! Sessions in which one request for memory is refused, as `rt try --test --fail-alloc N` does.
 use crate::engine::{SessionFault, session};
 use crate::tests::tables::EVERY_COMMAND;
-use crate::tests::write_line;
+use crate::tests::{assert_written, write_line};
 use std::alloc::Global;
 use std::test::Fail;
 
@@ -25,7 +25,8 @@ fn refused_line(written: &[u8]) -> Option<usize> {
         .position(|line| line == b"refused 4 memory".as_slice())
 }
 
-// A session ends in want of memory, or one command is refused and the others answer as if it had not been there.
+// A session ends in want of memory, or one command is refused and the others answer as if it had not been there, or
+// all are answered.
 #[test]
 fn one_refused_request(rt: HostRuntime) -> Result<(), Fail> {
     let written = match answers_without(rt.alloc(), None) {
@@ -36,6 +37,7 @@ fn one_refused_request(rt: HostRuntime) -> Result<(), Fail> {
         }
     };
     let Some(refused) = refused_line(&written) else {
+        assert_written(&rt, &written, EVERY_COMMAND);
         return Ok(());
     };
     let Ok(others) = answers_without(rt.alloc(), Some(refused)) else {
