@@ -1,9 +1,11 @@
 //! The command that a line's words are: its name, and after it the words of its form.
-ghost use Rattle.std.specs.Prelude.{◌≡◌, IfOk, map, option_map};
-ghost use Rattle.ivl_run.specs.Commands.{action_from, register_of, register_alone_of, two_registers_of, three_registers_of, register_and_number_of, set_of};
+ghost use Rattle.std.specs.Prelude.{◌≡◌, IfOk, option_map};
+ghost use Rattle.ivl_run.specs.Commands.{action_from, looked_up, commands, register_of, register_alone_of, two_registers_of, three_registers_of, register_and_number_of, two_registers_and_number_of, of_pairs};
+ghost use Rattle.ivl_run.specs.Lines.{words_between};
 ghost use Rattle.ivl_run.specs.View.{action_of};
 
 use crate::numbers::{number_from, pairs_from};
+use crate::words::{next_word, one_word, three_words, two_words};
 use ivl_calc::Command;
 use std::alloc::{AllocError, Global};
 
@@ -11,33 +13,61 @@ use std::alloc::{AllocError, Global};
 ///
 /// # Errors
 ///
-/// Where the numbers of `set` find no memory.
+/// Where the numbers of `set` find no memory; no other command asks for any.
 pub fn command_from(
     alloc: Global,
     name: &str,
-    words: &[&str],
+    words: &str,
 ) -> Result<Option<Command<i64>>, AllocError>
     ensures { IfOk result (λ command. option_map action_of command
-        ≡ action_from name.now (map (λ w. w.now) words.now)) }
+        ≡ action_from name.now (words_between words.now)) }
 {
     match name {
         "set" => set_from(alloc, words),
-        "union" => Ok(three_registers(words).map(|(r, a, b)| Command::Union(r, a, b))),
-        "has" => Ok(register_and_number(words).map(|(a, v)| Command::Has(a, v))),
-        "size" => Ok(register_alone(words).map(Command::Size)),
-        "show" => Ok(register_alone(words).map(Command::Show)),
-        "same" => Ok(two_registers(words).map(|(a, b)| Command::Same(a, b))),
-        _ => Ok(None),
+        _ => Ok(command_by_name(name, words)),
+    }
+}
+
+// All names but `set`, each with the form of the words after it.
+fn command_by_name(name: &str, words: &str) -> Option<Command<i64>>
+    ensures { option_map action_of result ≡ looked_up commands name.now (words_between words.now) }
+{
+    match name {
+        "union" => three_registers(words).map(|(r, a, b)| Command::Union(r, a, b)),
+        "inter" => three_registers(words).map(|(r, a, b)| Command::Inter(r, a, b)),
+        "diff" => three_registers(words).map(|(r, a, b)| Command::Diff(r, a, b)),
+        "sym" => three_registers(words).map(|(r, a, b)| Command::Sym(r, a, b)),
+        "comp" => two_registers(words).map(|(r, a)| Command::Comp(r, a)),
+        "left" => two_registers_and_number(words).map(|(r, a, v)| Command::Left(r, a, v)),
+        "right" => two_registers_and_number(words).map(|(r, a, v)| Command::Right(r, a, v)),
+        "sleft" => two_registers_and_number(words).map(|(r, a, v)| Command::StrictLeft(r, a, v)),
+        "sright" => two_registers_and_number(words).map(|(r, a, v)| Command::StrictRight(r, a, v)),
+        "plus" => three_registers(words).map(|(r, a, b)| Command::Plus(r, a, b)),
+        "minus" => three_registers(words).map(|(r, a, b)| Command::Minus(r, a, b)),
+        "times" => three_registers(words).map(|(r, a, b)| Command::Times(r, a, b)),
+        "plusv" => two_registers_and_number(words).map(|(r, a, v)| Command::PlusValue(r, a, v)),
+        "minusv" => two_registers_and_number(words).map(|(r, a, v)| Command::MinusValue(r, a, v)),
+        "timesv" => two_registers_and_number(words).map(|(r, a, v)| Command::TimesValue(r, a, v)),
+        "has" => register_and_number(words).map(|(a, v)| Command::Has(a, v)),
+        "size" => register_alone(words).map(Command::Size),
+        "count" => register_alone(words).map(Command::Count),
+        "low" => register_alone(words).map(Command::Low),
+        "high" => register_alone(words).map(Command::High),
+        "same" => two_registers(words).map(|(a, b)| Command::Same(a, b)),
+        "sub" => two_registers(words).map(|(a, b)| Command::Sub(a, b)),
+        "meets" => two_registers(words).map(|(a, b)| Command::Meets(a, b)),
+        "show" => register_alone(words).map(Command::Show),
+        _ => None,
     }
 }
 
 // `set r l u l u ..`
 #[tactic(auto, using(crate::proofs::Pairs::number_pairs_same))]
-fn set_from(alloc: Global, words: &[&str]) -> Result<Option<Command<i64>>, AllocError>
+fn set_from(alloc: Global, words: &str) -> Result<Option<Command<i64>>, AllocError>
     ensures { IfOk result (λ command. option_map action_of command
-        ≡ set_of (map (λ w. w.now) words.now)) }
+        ≡ of_pairs (words_between words.now)) }
 {
-    let Some((first, rest)) = words.split_first() else {
+    let Some((first, rest)) = next_word(words) else {
         return Ok(None);
     };
     let Some(r) = register_from(first) else {
@@ -49,40 +79,38 @@ fn set_from(alloc: Global, words: &[&str]) -> Result<Option<Command<i64>>, Alloc
     }
 }
 
-fn register_alone(words: &[&str]) -> Option<usize>
-    ensures { result ≡ register_alone_of (map (λ w. w.now) words.now) }
+fn register_alone(words: &str) -> Option<usize>
+    ensures { result ≡ register_alone_of (words_between words.now) }
 {
-    match words {
-        [a] => register_from(a),
-        _ => None,
-    }
+    register_from(one_word(words)?)
 }
 
-fn two_registers(words: &[&str]) -> Option<(usize, usize)>
-    ensures { result ≡ two_registers_of (map (λ w. w.now) words.now) }
+fn two_registers(words: &str) -> Option<(usize, usize)>
+    ensures { result ≡ two_registers_of (words_between words.now) }
 {
-    match words {
-        [a, b] => Some((register_from(a)?, register_from(b)?)),
-        _ => None,
-    }
+    let (a, b) = two_words(words)?;
+    Some((register_from(a)?, register_from(b)?))
 }
 
-fn three_registers(words: &[&str]) -> Option<(usize, usize, usize)>
-    ensures { result ≡ three_registers_of (map (λ w. w.now) words.now) }
+fn three_registers(words: &str) -> Option<(usize, usize, usize)>
+    ensures { result ≡ three_registers_of (words_between words.now) }
 {
-    match words {
-        [r, a, b] => Some((register_from(r)?, register_from(a)?, register_from(b)?)),
-        _ => None,
-    }
+    let (r, a, b) = three_words(words)?;
+    Some((register_from(r)?, register_from(a)?, register_from(b)?))
 }
 
-fn register_and_number(words: &[&str]) -> Option<(usize, i64)>
-    ensures { result ≡ register_and_number_of (map (λ w. w.now) words.now) }
+fn register_and_number(words: &str) -> Option<(usize, i64)>
+    ensures { result ≡ register_and_number_of (words_between words.now) }
 {
-    match words {
-        [a, v] => Some((register_from(a)?, number_from(v)?)),
-        _ => None,
-    }
+    let (a, v) = two_words(words)?;
+    Some((register_from(a)?, number_from(v)?))
+}
+
+fn two_registers_and_number(words: &str) -> Option<(usize, usize, i64)>
+    ensures { result ≡ two_registers_and_number_of (words_between words.now) }
+{
+    let (r, a, v) = three_words(words)?;
+    Some((register_from(r)?, register_from(a)?, number_from(v)?))
 }
 
 fn register_from(word: &str) -> Option<usize>

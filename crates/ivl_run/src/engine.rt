@@ -47,7 +47,7 @@ const PIECE: usize = 65536;
 /// # Errors
 ///
 /// `Read` where a read failed, or the reader still gave bytes after 2^64 - 1 reads; an interrupted read is read again.
-/// `Write` where a write or a flush failed. `Memory` where a line or its words found no memory.
+/// `Write` where a write or a flush failed. `Memory` where a line or the numbers of a `set` found no memory.
 pub fn session<R: Read, W: Write>(
     alloc: Global,
     reader: &mut R,

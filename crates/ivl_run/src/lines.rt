@@ -1,12 +1,11 @@
 //! What a line says.
-ghost use Rattle.std.specs.Prelude.{◌≡◌, ◌==◌, IfOk, map, filter};
-ghost use Rattle.std.specs.List.{slice_split};
+ghost use Rattle.std.specs.Prelude.{◌≡◌, IfOk};
 ghost use Rattle.std.specs.Str.Lines.{strip_carriage_return};
-ghost use Rattle.ivl_run.specs.Lines.{is_not_empty};
 ghost use Rattle.ivl_run.specs.Reading.{reading_of};
 ghost use Rattle.ivl_run.specs.View.{view_of};
 
 use crate::commands::command_from;
+use crate::words::next_word;
 use ivl_calc::Command;
 use std::alloc::{AllocError, Global};
 
@@ -22,20 +21,19 @@ pub enum Line {
 ///
 /// # Errors
 ///
-/// Where its words or its numbers find no memory.
+/// Where the numbers of a `set` find no memory.
 pub fn read_line(alloc: Global, line: &[u8]) -> Result<Line, AllocError>
     ensures { IfOk result (λ read. view_of read ≡ reading_of line.now) }
 {
     let Ok(text) = str::from_utf8(line) else {
         return Ok(Line::Bad);
     };
-    let words = split_words(alloc, without_return(text))?;
-    match words.split_first() {
-        Some((name, rest)) => match command_from(alloc, name, rest)? {
-            Some(command) => Ok(Line::Command(command)),
-            None => Ok(Line::Bad),
-        },
-        None => Ok(Line::Blank),
+    let Some((name, words)) = next_word(without_return(text)) else {
+        return Ok(Line::Blank);
+    };
+    match command_from(alloc, name, words)? {
+        Some(command) => Ok(Line::Command(command)),
+        None => Ok(Line::Bad),
     }
 }
 
@@ -46,13 +44,4 @@ fn without_return(text: &str) -> &str
         Some(front) => front,
         None => text,
     }
-}
-
-fn split_words(alloc: Global, text: &str) -> Result<Vec<&str>, AllocError>
-    ensures { IfOk result (λ words. map (λ w. w.now) words.items
-        ≡ filter is_not_empty (slice_split (λ b. b == 32) text.entry.now)) }
-{
-    text.split(' ')
-        .filter(|word| !word.is_empty())
-        .collect(alloc)
 }

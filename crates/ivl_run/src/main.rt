@@ -9,6 +9,7 @@ mod numbers;
 mod replies;
 #[cfg(test)]
 mod tests;
+mod words;
 
 use engine::{SessionFault, outcome, session};
 use std::io;

@@ -1,7 +1,9 @@
 //! The numbers on a line.
-ghost use Rattle.std.specs.Prelude.{◌≡◌, IfOk, map, option_map};
+ghost use Rattle.std.specs.Prelude.{◌≡◌, IfOk, option_map};
+ghost use Rattle.ivl_run.specs.Lines.{words_between};
 ghost use Rattle.ivl_run.specs.Numbers.{number_of, pair_of, pairs_of};
 
+use crate::words::next_word;
 use std::alloc::{AllocError, Global};
 
 /// The number that the word is, an optional minus sign and one or more digits; `None` where it is none of `i64`.
@@ -14,25 +16,26 @@ pub fn number_from(word: &str) -> Option<i64>
     word.parse().ok()
 }
 
-/// The words as numbers, two by two; `None` where one is no number, or their count is odd.
+/// The words of the text as numbers, two by two; `None` where one is no number, or their count is odd.
 ///
 /// # Errors
 ///
 /// Where the pairs find no memory.
-pub fn pairs_from(alloc: Global, words: &[&str]) -> Result<Option<Vec<(i64, i64)>>, AllocError>
+pub fn pairs_from(alloc: Global, text: &str) -> Result<Option<Vec<(i64, i64)>>, AllocError>
     ensures { IfOk result (λ pairs. option_map (λ v. v.items) pairs
-        ≡ pairs_of (map (λ w. w.now) words.now)) }
+        ≡ pairs_of (words_between text.now)) }
 {
-    if words.len() % 2 != 0 {
-        return Ok(None);
-    }
-    let count = words.len() / 2;
-    let mut pairs = Vec::with_capacity(alloc, count)?;
-    for i in 0..count {
-        match pair_from(words[2 * i], words[2 * i + 1]) {
+    let mut pairs = Vec::new(alloc);
+    let mut rest = text;
+    while let Some((l, after)) = next_word(rest) {
+        let Some((u, after)) = next_word(after) else {
+            return Ok(None);
+        };
+        match pair_from(l, u) {
             Some(pair) => pairs.push(pair)?,
             None => return Ok(None),
         }
+        rest = after;
     }
     Ok(Some(pairs))
 }

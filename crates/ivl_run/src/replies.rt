@@ -1,12 +1,11 @@
 //! The text of a reply.
 ghost use Rattle.std.specs.Prelude.{◌≡◌, ◌≤ℤ◌, ◌++◌, All, OnOk, flat_map, codes};
 ghost use Rattle.std.specs.Io.KnownBytes.{Appends};
-ghost use Rattle.ivl_run.specs.Printed.{printed, refusal_text, run_text, runs_text, HasRunsInOrder};
+ghost use Rattle.ivl_run.specs.Printed.{printed, refusal_text, runs_text, HasRunsInOrder};
 ghost use Rattle.ivl_run.specs.Session.{with_newline};
 ghost use Rattle.ivl_run.specs.View.{answer_of};
 
 use intervallum::interval::Interval;
-use intervallum::ops::Bounded;
 use ivl_calc::{Refusal, Reply};
 use std::io;
 use std::io::Write;
@@ -23,9 +22,14 @@ pub fn write_reply<W: Write>(writer: &mut W, reply: &Reply<i64>) -> io::Result<(
 {
     match reply {
         Reply::Done => writer.write_all(b"ok")?,
+        Reply::Cut(true) => writer.write_all(b"cut")?,
+        Reply::Cut(false) => writer.write_all(b"ok")?,
         Reply::Flag(true) => writer.write_all(b"yes")?,
         Reply::Flag(false) => writer.write_all(b"no")?,
         Reply::Size(n) => write!(writer, "{n}")?,
+        Reply::Count(n) => write!(writer, "{n}")?,
+        Reply::Value(Some(item)) => write!(writer, "{item}")?,
+        Reply::Value(None) => writer.write_all(b"none")?,
         Reply::Runs(runs) => write_runs(writer, runs)?,
         Reply::Refused(why) => writer.write_all(refusal_bytes(*why))?,
     }
@@ -43,24 +47,17 @@ fn refusal_bytes(why: Refusal) -> &'static [u8]
     }
 }
 
+// In braces, unless there is just one run.
 fn write_runs<W: Write>(writer: &mut W, runs: &[Interval<i64>]) -> io::Result<()>
     requires { All (λ p. p.0 ≤ℤ p.1) runs.now }
     ensures { OnOk result (Appends (W.contents writer.old) (W.contents writer.new) (runs_text runs.now)) }
 {
     if let [run] = runs {
-        return write_run(writer, run);
+        return write!(writer, "{run}");
     }
     writer.write_all(b"{")?;
     for run in runs {
-        write_run(writer, run)?;
+        write!(writer, "{run}")?;
     }
     writer.write_all(b"}")
-}
-
-fn write_run<W: Write>(writer: &mut W, run: &Interval<i64>) -> io::Result<()>
-    requires { run.now.0 ≤ℤ run.now.1 }
-    ensures { OnOk result (Appends (W.contents writer.old) (W.contents writer.new) (run_text run.now)) }
-{
-    let (l, u) = (run.lower(), run.upper());
-    write!(writer, "[{l}..{u}]")
 }

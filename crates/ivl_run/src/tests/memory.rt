@@ -1,0 +1,55 @@
+//! Sessions in which one request for memory is refused, as `rt try --test --fail-alloc N` does.
+use crate::engine::{SessionFault, session};
+use crate::tests::tables::EVERY_COMMAND;
+use crate::tests::{assert_written, write_line};
+use std::alloc::Global;
+use std::test::Fail;
+
+// What a session answers to the lines of the table but one, unless an `Err` ends it.
+fn answers_without(alloc: Global, left_out: Option<usize>) -> Result<Vec<u8>, SessionFault> {
+    let mut input = Vec::new(alloc);
+    for (i, (line, _)) in EVERY_COMMAND.iter().enumerate() {
+        if left_out != Some(i) {
+            write_line(&mut input, line)?;
+        }
+    }
+    let mut written = Vec::with_capacity(alloc, 4096)?;
+    session(alloc, &mut input.as_slice(), &mut written)?;
+    Ok(written)
+}
+
+// The place of the answer that says that memory was refused.
+fn refused_line(written: &[u8]) -> Option<usize> {
+    written
+        .split(|b| *b == b'\n')
+        .position(|line| line == b"refused 4 memory".as_slice())
+}
+
+// A session ends in want of memory, or one command is refused and the others answer as if it had not been there, or
+// all are answered.
+#[test]
+fn one_refused_request(rt: HostRuntime) -> Result<(), Fail> {
+    let written = match answers_without(rt.alloc(), None) {
+        Ok(written) => written,
+        Err(fault) => {
+            assert_eq!(rt; fault, SessionFault::Memory);
+            return Ok(());
+        }
+    };
+    let Some(refused) = refused_line(&written) else {
+        assert_written(&rt, &written, EVERY_COMMAND);
+        return Ok(());
+    };
+    let Ok(others) = answers_without(rt.alloc(), Some(refused)) else {
+        assert!(rt; false, "a second request was refused");
+        return Ok(());
+    };
+    let mut rest = others.split(|b| *b == b'\n');
+    for (i, line) in written.split(|b| *b == b'\n').enumerate() {
+        if i != refused {
+            assert_eq!(rt; Some(line), rest.next(), "after line {i}");
+        }
+    }
+    assert!(rt; rest.next().is_none());
+    Ok(())
+}
