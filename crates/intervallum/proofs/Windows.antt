@@ -11,8 +11,7 @@ use Rattle.ivl_laws.proofs.Places.{covers-take, covers-drop}
 use Rattle.ivl_laws.proofs.Lengths.{length_of_union}
 use Rattle.ivl_laws.proofs.SetLaws.{IsRunsOf-same}
 use Rattle.ivl_laws.proofs.Ranges.{IsRunListIn-drop, IsRunListIn-take}
-use Rattle.intervallum.specs.Places.{EndBelow, StartAbove}
-use Rattle.intervallum.specs.Stretches.{EndsFrom}
+use Rattle.intervallum.specs.Places.{EndBelow, EndsFrom, StartAbove}
 use Rattle.intervallum.proofs.Searching.{above_after, none_above, int_lt_true}
 use Rattle.intervallum.proofs.Finding.{covered_at_place}
 

@@ -1,7 +1,8 @@
 -- Where a number stands in a list of runs.
 --     IsPlaceOf runs v place      the run that has v, or how many runs lie below v where none has
 --     EndBelow v L, StartAbove v L      each pair ends below v; each starts above v
-use Rattle.std.specs.Prelude.{◌≡◌, ℤ, ◌<ℤ◌, List, [], ◌∷◌, slice_get, IsSomeAnd}
+--     EndsFrom v L      the first pair, if there is one, ends at v or above
+use Rattle.std.specs.Prelude.{◌≡◌, ℤ, ◌≤ℤ◌, ◌<ℤ◌, List, [], ◌∷◌, slice_get, IsSomeAnd}
 use Rattle.ivl_laws.specs.Sets.{IsBetween}
 use Rattle.ivl_laws.specs.Runs.{Covers, runs_below}
 use Rattle.intervallum.specs.declared.steps.search.Place.{Place}
@@ -19,3 +20,7 @@ EndBelow v (r ∷ L) = (r.1 <ℤ v) × EndBelow v L
 abbrev pub StartAbove : ℤ → List (ℤ × ℤ) → Type 0
 StartAbove v [] = Unit {0}
 StartAbove v (r ∷ L) = (v <ℤ r.0) × StartAbove v L
+
+abbrev pub EndsFrom : ℤ → List (ℤ × ℤ) → Type 0
+EndsFrom v [] = Unit {0}
+EndsFrom v (r ∷ L) = v ≤ℤ r.1

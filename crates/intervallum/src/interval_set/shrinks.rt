@@ -2,8 +2,7 @@
 ghost use Rattle.std.specs.Prelude.{◌≡◌, ◌≤◌, IfOk, length, take, drop};
 ghost use Rattle.ivl_laws.specs.Sets.{Above, AtLeast, AtMost, Below, Intersection, IsBetween};
 ghost use Rattle.ivl_laws.specs.Runs.{Covers, IsRunListIn, IsRunsOf, StartsBy};
-ghost use Rattle.intervallum.specs.Places.{EndBelow, StartAbove};
-ghost use Rattle.intervallum.specs.Stretches.{EndsFrom};
+ghost use Rattle.intervallum.specs.Places.{EndBelow, EndsFrom, StartAbove};
 
 use super::IntervalSet;
 use crate::interval::Interval;
