@@ -233,7 +233,7 @@ fn tables(rt: HostRuntime) -> Result<(), Fail> {
 
 // Pieces that end within a line lose nothing, and with ample memory nothing is refused.
 #[test]
-fn a_thousand_lines(rt: HostRuntime) -> Result<(), Fail> {
+fn thousands_of_lines(rt: HostRuntime) -> Result<(), Fail> {
     let mut table = Vec::new(rt.alloc());
     for _ in 0..100 {
         table.extend_from_slice(EVERY_COMMAND)?;
