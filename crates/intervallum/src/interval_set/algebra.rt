@@ -7,7 +7,7 @@ use super::IntervalSet;
 use crate::ops::{
     Complement, Difference, Disjoint, Intersection, Overlap, SymmetricDifference, Union,
 };
-use crate::steps::{Walk, common, free, have_common, one_alone, unite, without};
+use crate::steps::{Walk, common, gaps, have_common, one_alone, unite, without};
 use crate::width::Width;
 use std::alloc::AllocError;
 
@@ -111,7 +111,7 @@ impl<B: Width> Complement for IntervalSet<B> {
         ensures members { IfOk result (λ L. IsRunsOf L (Complement B.whole (Covers self.now))) }
         ensures runs_at_most { IfOk result (λ L. length L ≤ length self.now + 1) }
     {
-        free(Walk::new(self))
+        gaps(Walk::new(self))
     }
 }
 
