@@ -7,7 +7,7 @@ mod probes;
 mod search;
 mod walk;
 
-pub use combine::{common, free, have_common};
+pub use combine::{common, gaps, have_common};
 pub use differences::{one_alone, without};
 pub use merge::unite;
 pub use probes::Probes;

@@ -7,7 +7,7 @@ use super::IntervalSet;
 use crate::ops::{
     Complement, Difference, Disjoint, Intersection, Overlap, SymmetricDifference, Union,
 };
-use crate::steps::{Walk, common, free, have_common, one_alone, unite, without};
+use crate::steps::{Walk, common, gaps, have_common, one_alone, unite, without};
 use crate::width::Width;
 use std::alloc::AllocError;
 
@@ -22,7 +22,8 @@ impl<B: Width> Union<IntervalSet<B>> for IntervalSet<B> {
 
     ghost answers = { λ r S. IfOk r (λ L. IsRunsOf L S) };
 
-    /// The members of either set. `O(n + m)`, in memory that is reserved once for `n + m` runs.
+    /// The members of either set. `O(n + m)`, in memory that is reserved once for `n + m` runs, of which
+    /// the answer keeps about twice its own at most.
     fn union(&self, other: &IntervalSet<B>) -> Result<IntervalSet<B>, AllocError>
         ensures members { IfOk result (λ L. IsRunsOf L (Union (Covers self.now) (Covers other.now))) }
         ensures runs_at_most { IfOk result (λ L. length L ≤ length self.now + length other.now) }
@@ -41,7 +42,8 @@ impl<B: Width> Intersection<IntervalSet<B>> for IntervalSet<B> {
     ghost answers = { λ r S. IfOk r (λ L. IsRunsOf L S) };
 
     /// The members of both sets. `O(n + m)`, in memory that is reserved once for
-    /// `n + m` runs. An error is memory that was refused; neither set is changed.
+    /// `n + m` runs, of which the answer keeps about twice its own at most. An error is memory that was
+    /// refused; neither set is changed.
     ///
     /// The original answers a plain set, and has no error for want of memory.
     fn intersection(&self, other: &IntervalSet<B>) -> Result<IntervalSet<B>, AllocError>
@@ -62,7 +64,8 @@ impl<B: Width> Difference<IntervalSet<B>> for IntervalSet<B> {
     ghost answers = { λ r S. IfOk r (λ L. IsRunsOf L S) };
 
     /// The members that are not in `other`. `O(n + m)`, in memory that is reserved once for
-    /// `n + m` runs. An error is memory that was refused; neither set is changed.
+    /// `n + m` runs, of which the answer keeps about twice its own at most. An error is memory that was
+    /// refused; neither set is changed.
     ///
     /// No other set is built on the way.
     fn difference(&self, other: &IntervalSet<B>) -> Result<IntervalSet<B>, AllocError>
@@ -85,7 +88,8 @@ impl<B: Width> SymmetricDifference<IntervalSet<B>> for IntervalSet<B> {
     ghost answers = { λ r S. IfOk r (λ L. IsRunsOf L S) };
 
     /// The members of one set that are not in the other. `O(n + m)`, in memory that is reserved once for
-    /// `n + m` runs. An error is memory that was refused; neither set is changed.
+    /// `n + m` runs, of which the answer keeps about twice its own at most. An error is memory that was
+    /// refused; neither set is changed.
     ///
     /// No other set is built on the way.
     fn symmetric_difference(&self, other: &IntervalSet<B>) -> Result<IntervalSet<B>, AllocError>
@@ -111,7 +115,7 @@ impl<B: Width> Complement for IntervalSet<B> {
         ensures members { IfOk result (λ L. IsRunsOf L (Complement B.whole (Covers self.now))) }
         ensures runs_at_most { IfOk result (λ L. length L ≤ length self.now + 1) }
     {
-        free(Walk::new(self))
+        gaps(Walk::new(self))
     }
 }
 

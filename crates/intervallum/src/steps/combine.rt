@@ -40,7 +40,7 @@ pub fn common<B: Width>(
 
 /// The numbers of the range that no run covers of those that are left in a walk. Advances once for
 /// each of these runs, and takes memory once, for one run more. The set has the allocator of the walk.
-pub fn free<B: Width>(mut walk: Walk<'_, B>) -> Result<IntervalSet<B>, AllocError>
+pub fn gaps<B: Width>(mut walk: Walk<'_, B>) -> Result<IntervalSet<B>, AllocError>
     ensures members { IfOk result (λ L. IsRunsOf L (Complement B.whole (Covers walk.entry.left))) }
     ensures runs_at_most { IfOk result (λ L. length L ≤ length walk.entry.left + 1) }
 {

@@ -6,7 +6,7 @@ use Rattle.ivl_laws.proofs.Lengths.{length_of_complement}
 use Rattle.intervallum.proofs.Building.{building_below, building_done, building_same}
 use Rattle.intervallum.proofs.Parting.{all_left, cut_above, cut_below, freed_below, frees}
 use Rattle.intervallum.proofs.Walking.{first_is_open}
-use Rattle.intervallum.proofs.steps.combine.free.Goals as goal
+use Rattle.intervallum.proofs.steps.combine.gaps.Goals as goal
 
 pub lower-requires : goal.lower-requires
 lower-requires g c = (some_is_not_crossed c.in-Some.run').1 (first_is_open c.walk.walk.left _ c.in-Some.ensures.first c.in-Some.ensures.runs.maximal)

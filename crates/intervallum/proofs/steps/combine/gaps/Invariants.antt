@@ -2,7 +2,7 @@ use Rattle.std.proofs.Common.{length, pos}
 use Rattle.ivl_laws.specs.Sets.{Complement, IsBetween, Without}
 use Rattle.ivl_laws.specs.Runs.{Covers}
 use Rattle.intervallum.proofs.Building.{IsBuilding}
-use Rattle.intervallum.proofs.steps.combine.free.Given as goal
+use Rattle.intervallum.proofs.steps.combine.gaps.Given as goal
 
 -- what is written, and what the runs that are left leave of the rest, make up the answer
 abbrev pub invariant-walk : goal.invariant-walk
