@@ -1,4 +1,4 @@
-use Rattle.std.proofs.Common.{◌≡◌, ◌∙◌, false, refl, sym, ap}
+use Rattle.std.proofs.Common.{◌≡◌, ◌∙◌, false, sym}
 use Rattle.intervallum.specs.Equality.{same_runs}
 use Rattle.intervallum.proofs.Equality.{same_runs_seen, same_runs-counts, sizes_differ}
 use Rattle.intervallum.proofs.interval_set.IntervalSetPartialEq.eq.Goals as goal
