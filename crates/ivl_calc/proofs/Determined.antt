@@ -8,7 +8,7 @@ use Rattle.ivl_laws.proofs.Runs.{≤ℤ_antisymm}
 use Rattle.ivl_laws.proofs.SetLaws.{IsRunsOf-unique, same_members_refl}
 use Rattle.ivl_calc.specs.declared.reply.Refusal.{Refusal}
 use Rattle.ivl_calc.specs.declared.reply.Refusal.TheVariants.{Register, Range, Fit, Memory}
-use Rattle.ivl_calc.specs.Actions.{Making, pairs, union, intersection, difference, symmetric, complement, at_least, at_most, above, below, plus, minus, times, plus_value, minus_value, times_value, Question, has, size, count, low, high, same, subset, meets, show, Action, make, ask, Answer, done, cut, flag, sized, counted, value, runs, refused}
+use Rattle.ivl_calc.specs.Actions.{Making, pairs, union, intersection, difference, symmetric, complement, at_least, at_most, above, below, plus, minus, times, plus_value, minus_value, times_value, Question, has, size, count, low, high, same, subset, meets, show, Action, make, ask, Answer, cut, flag, sized, counted, value, runs, refused}
 use Rattle.ivl_calc.specs.Step.{Made, IsReportOf, IsPut, IsLeast, IsGreatest, IsEndOf, Tells, TellsCut, IsAnswerTo, IsRefusedFor, IsAllowed, IsEffectOf, MembersAt, MayStep, Run}
 
 -- ---- flags, lists and ends
