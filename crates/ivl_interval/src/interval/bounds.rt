@@ -21,6 +21,14 @@ impl<B: Width> Interval<B> {
         lb >= B::min_value() && ub <= B::max_value()
     }
 
+    /// The lower bound as it is stored, also where there is no member. Intervals can be put in order
+    /// by it without a test of each; what is least in an interval is told by `lower`.
+    pub fn lower_bound(&self) -> B
+        ensures { B.value result ≡ self.now.0 }
+    {
+        self.lb
+    }
+
     /// Each member is in the range. This does nothing: its contract is the fact.
     pub fn in_whole(self)
         ensures { IsSubset (IsBetween self) (IsBetween B.whole) }
