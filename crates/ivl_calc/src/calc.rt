@@ -75,10 +75,10 @@ impl<B: Width> Calc<B> {
     /// |---|---|---|
     /// | `Set` of `k` pairs | `O(k log k)` | twice `k` runs |
     /// | `Union`, `Inter`, `Diff`, `Sym` | `O(n + m)` | `n + m` runs |
-    /// | `Comp` | `O(n)` | `n + 2` runs |
-    /// | `Left`, `Right`, `StrictLeft`, `StrictRight` | `O(n)` | `n` runs |
+    /// | `Comp` | `O(n)` | `n + 1` runs |
+    /// | `Left`, `Right`, `StrictLeft`, `StrictRight`, where `k` runs stay | `O(log n + k)` | `k` runs |
     /// | `Plus`, `Minus`, `Times` | `O(n m log (n m))` | twice `n * m` runs |
-    /// | `PlusValue`, `MinusValue`, `TimesValue` | `O(n log n)` | twice `n` runs |
+    /// | `PlusValue`, `MinusValue`, `TimesValue` | `O(n)` | `n` runs |
     /// | `Has` | `O(log n)` | none |
     /// | `Size`, `Count`, `Low`, `High` | `O(1)` | none |
     /// | `Same` | `O(n)`, `O(1)` where the sizes differ | none |
