@@ -35,5 +35,9 @@ fn sets_and_small_values(rt: HostRuntime) -> Result<(), Fail> {
     check_debug(&rt, &SKleene::Unknown, "Unknown")?;
     check_debug(&rt, &Place::Gap(3), "Gap(3)")?;
     check_debug(&rt, &Op::Product, "Product")?;
-    check_debug(&rt, &Optional::singleton(-7i32), "Optional { value: Some(-7) }")
+    check_debug(
+        &rt,
+        &Optional::singleton(-7i32),
+        "Optional { value: Some(-7) }",
+    )
 }
