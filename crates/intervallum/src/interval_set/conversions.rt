@@ -177,7 +177,7 @@ impl<B: Width> ToIntervalSet<B> for Vec<(B, B)> {
 
     /// The set of the members of every pair.
     fn to_interval_set(self, alloc: Global) -> Result<IntervalSet<B>, AllocError> {
-        of_pairs(alloc, &self)
+        of_pairs(alloc, self.as_slice())
     }
 }
 
