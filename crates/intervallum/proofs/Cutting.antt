@@ -14,14 +14,6 @@ pub record IsCutting (written left : List (ℤ × ℤ)) (W T : ℤ → Type 0) :
   pub starts : (z : ℤ) → Covers left z → StartsBy z written
   pub members : (z : ℤ) → (Covers written z ⊎ (Covers left z × W z)) ↔ T z
 
-pub cutting_begins : (L : List (ℤ × ℤ)) (W : ℤ → Type 0) → IsMaximal L → IsCutting [] L W (Intersection (Covers L) W)
-cutting_begins L W m = record {
-  maximal = tt;
-  after = m;
-  starts = λ z c. tt;
-  members = λ z. (⊎_elim (λ c. absurd c) (λ t. t), λ t. inr t);
-}
-
 cutting_takes : (written added : List (ℤ × ℤ)) (p part : ℤ × ℤ) (L : List (ℤ × ℤ)) (W T : ℤ → Type 0) → IsCutting written (p ∷ L) W T →
     SameMembers (IsBetween part) (Intersection (IsBetween p) W) → part.0 ≤ℤ part.1 → IsRunsOf added (Union (Covers written) (IsBetween part)) → StartsBy part.0 added → IsCutting added L W T
 cutting_takes written added p part L W T u s o r b = record {
@@ -86,12 +78,3 @@ no_more [] zero h = refl
 no_more [] (suc k) h = refl
 no_more (p ∷ L) zero h = absurd (omega arith)
 no_more (p ∷ L) (suc k) h = no_more L k (omega arith)
-
-pub cutting_ends : (written L : List (ℤ × ℤ)) (k : ℕ) (W T : ℤ → Type 0) → length L ≤ k → IsCutting written (drop k L) W T → IsRunsOf written T
-cutting_ends written L k W T h u =
-    let P : List (ℤ × ℤ) → Type 0 = λ M. IsCutting written M W T in
-    let e = subst P (no_more L k h) u in
-    record {
-      maximal = e.maximal;
-      members = λ z. ((λ c. (e.members z).0 (inl c)), (λ t. ⊎_elim (λ c. c) (λ x. absurd x.0) ((e.members z).1 t)));
-    }

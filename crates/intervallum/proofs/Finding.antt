@@ -49,9 +49,6 @@ held_by L i q r v b c t m o e h ev eb ec k =
           (λ le. le)),
     )
 
-pub not_held : (L : List (ℤ × ℤ)) (r : ℤ × ℤ) (v : ℤ) → r.0 ≤ℤ r.1 → v ≡ r.0 → ¬ (Covers L v) → IsTrue false ↔ IsSubset (IsBetween r) (Covers L)
-not_held L r v o e n = ((λ h. absurd (cc)), (λ s. absurd (n (subst (Covers L) (sym e) (s r.0 (lower_end r o))))))
-
 pub some_has_length : (L M : List (ℤ × ℤ)) → L ≡ M → HasSome (Covers M) → 0 < length L
 some_has_length [] M e h = absurd (subst (λ (N : List (ℤ × ℤ)). Covers N h.0) (sym e) h.1)
 some_has_length (p ∷ L) M e h = omega arith

@@ -1,10 +1,10 @@
 -- Lemmas for a walk that builds a maximal list from left to right.
-use Rattle.std.proofs.Common.{◌≡◌, ◌⊎◌, ◌↔◌, inl, inr, ⊎_elim, ℤ, pos, ◌+ℤ◌, ◌-ℤ◌, ◌≤ℤ◌, List, [], ◌∷◌, ◌++◌, set, length, refl, ap, arith, get_or, length-append, subst, sym, ◌∙◌, suc, zero, ℕ, ◌+◌}
+use Rattle.std.proofs.Common.{◌≡◌, ◌⊎◌, ◌↔◌, inl, inr, ⊎_elim, ℤ, pos, ◌+ℤ◌, ◌≤ℤ◌, List, [], ◌∷◌, ◌++◌, set, length, refl, ap, arith, get_or, length-append, subst, sym, ◌∙◌, suc, zero, ℕ, ◌+◌}
 use Rattle.std.proofs.lemmas.Int.{ints, clamps, by_lt_z}
 use Rattle.std.specs.Int.{int_min, int_max}
-use Rattle.ivl_laws.specs.Sets.{IsBetween, Union, Intersection, Complement}
+use Rattle.ivl_laws.specs.Sets.{IsBetween, Union}
 use Rattle.ivl_laws.specs.Runs.{Covers, StartsAfter, StartsBy, IsMaximal, IsRunsOf}
-use Rattle.ivl_laws.proofs.Runs.{covered_after, covered_from, pair_same}
+use Rattle.ivl_laws.proofs.Runs.{pair_same}
 
 -- ---- joined lists
 
@@ -22,10 +22,6 @@ covers-append [] M z c = inr c
 covers-append (p ∷ L) M z (inl b) = inl (inl b)
 covers-append (p ∷ L) M z (inr c) = ⊎_elim (λ a. inl (inr a)) (λ b. inr b) (covers-append L M z c)
 
-pub set-last : {X : Type 0} (xs : List X) (x y : X) → set (xs ++ x ∷ []) (length xs) y ≡ xs ++ y ∷ []
-set-last [] x y = refl
-set-last {X} (w ∷ xs) x y = ap {B = List X} (λ r. w ∷ r) (set-last xs x y)
-
 -- a list that is not empty has a last element
 pub last_splits : {X : Type 0} (x : X) (xs : List X) → (ys : List X) × (y : X) × (x ∷ xs ≡ ys ++ y ∷ [])
 last_splits x [] = ([], x, refl)
@@ -40,27 +36,6 @@ StartsBy-more (p ∷ L) m n s h = let a = s.0 in (omega (arith, ints), StartsBy-
 pub StartsBy-push : (L : List (ℤ × ℤ)) (q : ℤ × ℤ) (n : ℤ) → StartsBy n L → q.0 ≤ℤ n → StartsBy n (L ++ q ∷ [])
 StartsBy-push [] q n s h = (h, tt)
 StartsBy-push (p ∷ L) q n s h = (s.0, StartsBy-push L q n s.1 h)
-
--- another upper end of the last pair changes no start
-pub StartsBy-joined : (L : List (ℤ × ℤ)) (p : ℤ × ℤ) (u n : ℤ) → StartsBy n (L ++ p ∷ []) → StartsBy n (L ++ (p.0, u) ∷ [])
-StartsBy-joined [] p u n s = s
-StartsBy-joined (q ∷ L) p u n s = (s.0, StartsBy-joined L p u n s.1)
-
--- in a maximal list the last pair starts last
-pub StartsBy-last : (L : List (ℤ × ℤ)) (p : ℤ × ℤ) → IsMaximal (L ++ p ∷ []) → StartsBy p.0 (L ++ p ∷ [])
-StartsBy-last [] p m = (omega (arith, ints), tt)
-StartsBy-last (q ∷ L) p m =
-    let open_pair = m.0 in
-    let far = covered_after q.1 (L ++ p ∷ []) p.0 m.1 m.2 (covers-append_right L (p ∷ []) p.0 (inl (last_covers L p m.2))) in
-    (omega (arith, ints), StartsBy-last L p m.2)
-  where
-    last_covers : (L : List (ℤ × ℤ)) (p : ℤ × ℤ) → IsMaximal (L ++ p ∷ []) → IsBetween p p.0
-    last_covers [] p m = (omega (arith, ints), m.0)
-    last_covers (r ∷ L) p m = last_covers L p m.2
-
--- the next run of a maximal list starts later
-pub next_starts : (p q : ℤ × ℤ) (L : List (ℤ × ℤ)) → IsMaximal (p ∷ q ∷ L) → p.0 ≤ℤ q.0
-next_starts p q L m = let a = m.0 in let b = m.1 in omega (arith, ints)
 
 -- ---- one more run at the end
 
@@ -211,45 +186,11 @@ StartsBy-set [] k r n s h = tt
 StartsBy-set (p ∷ L) zero r n s h = (h, s.1)
 StartsBy-set (p ∷ L) (suc k) r n s h = (s.0, StartsBy-set L k r n s.1 h)
 
--- ---- steps of a walk over two maximal lists
+-- ---- what two runs have in common
 
--- the overlap of two intervals
+-- the numbers from the later start to the earlier end
 pub overlap_between : (p q : ℤ × ℤ) (z : ℤ) → IsBetween (int_max p.0 q.0, int_min p.1 q.1) z ↔ (IsBetween p z × IsBetween q z)
 overlap_between p q z = (
   (λ b. let l = b.0 in let u = b.1 in ((omega (arith, ints, clamps), omega (arith, ints, clamps)), (omega (arith, ints, clamps), omega (arith, ints, clamps)))),
   (λ b. let w = b.0.0 in let x = b.0.1 in let y = b.1.0 in let v = b.1.1 in (omega (arith, ints, clamps), omega (arith, ints, clamps))),
 )
-
--- of two first runs, the one that ends first meets no other run
-pub common_step : (p q : ℤ × ℤ) (L M : List (ℤ × ℤ)) (z : ℤ) → IsMaximal (q ∷ M) → p.1 ≤ℤ q.1 →
-    Intersection (Covers (p ∷ L)) (Covers (q ∷ M)) z ↔ (IsBetween (int_max p.0 q.0, int_min p.1 q.1) z ⊎ Intersection (Covers L) (Covers (q ∷ M)) z)
-common_step p q L M z m h = (there, back)
-  where
-    there : Intersection (Covers (p ∷ L)) (Covers (q ∷ M)) z → IsBetween (int_max p.0 q.0, int_min p.1 q.1) z ⊎ Intersection (Covers L) (Covers (q ∷ M)) z
-    there (inl b, inl c) = inl ((overlap_between p q z).1 (b, c))
-    there (inl b, inr c) = let far = covered_after q.1 M z m.1 m.2 c in let high = b.1 in absurd (omega (arith, ints))
-    there (inr b, c) = inr (b, c)
-
-    back : IsBetween (int_max p.0 q.0, int_min p.1 q.1) z ⊎ Intersection (Covers L) (Covers (q ∷ M)) z → Intersection (Covers (p ∷ L)) (Covers (q ∷ M)) z
-    back (inl b) = let (x, y) = (overlap_between p q z).0 b in (inl x, inl y)
-    back (inr (b, c)) = (inr b, c)
-
--- what a run leaves of an interval: the gap below it, and what lies above it
-pub complement_step : (c h : ℤ) (p : ℤ × ℤ) (L : List (ℤ × ℤ)) (z : ℤ) → IsMaximal (p ∷ L) → c ≤ℤ (p.1 +ℤ pos 1) → p.0 ≤ℤ h →
-    Complement (c, h) (Covers (p ∷ L)) z ↔ (IsBetween (c, p.0 -ℤ pos 1) z ⊎ Complement (p.1 +ℤ pos 1, h) (Covers L) z)
-complement_step c h p L z m s w = (there, back)
-  where
-    there : Complement (c, h) (Covers (p ∷ L)) z → IsBetween (c, p.0 -ℤ pos 1) z ⊎ Complement (p.1 +ℤ pos 1, h) (Covers L) z
-    there ((a, b), n) = by_lt_z z p.0
-        (λ lt. inl (a, omega (arith, ints)))
-        (λ le. by_lt_z p.1 z
-        (λ lt. inr ((omega (arith, ints), b), λ r. n (inr r)))
-        (λ high. absurd (n (inl (le, high)))))
-
-    back : IsBetween (c, p.0 -ℤ pos 1) z ⊎ Complement (p.1 +ℤ pos 1, h) (Covers L) z → Complement (c, h) (Covers (p ∷ L)) z
-    back (inl (a, b)) = ((a, omega (arith, ints)), λ r. let low = covered_from p L z m r in omega (arith, ints))
-    back (inr ((a, b), n)) = ((omega (arith, ints), b), ⊎_elim (λ i. let high = i.1 in omega (arith, ints)) n)
-
--- no run left
-pub complement_end : (c h z : ℤ) → Complement (c, h) (Covers []) z ↔ IsBetween (c, h) z
-complement_end c h z = ((λ b. b.0), (λ b. (b, λ n. n)))
