@@ -1,6 +1,6 @@
 //! A set of whole numbers as a list of runs.
 ghost use Rattle.std.specs.Prelude.{◌≡◌, ◌↔◌, ℤ, List, [], ◌∷◌, ◌≤ℤ◌, IsTrue, IfOk, length};
-ghost use Rattle.ivl_laws.specs.Sets.{HasNone, IsBetween, IsInRange, SameMembers};
+ghost use Rattle.ivl_laws.specs.Sets.{HasNone, HasSome, IsBetween, IsInRange, SameMembers};
 ghost use Rattle.ivl_laws.specs.Runs.{Covers, IsRunListIn};
 ghost use Rattle.ivl_laws.specs.Counts.{IsCountOf};
 ghost use Rattle.intervallum.specs.Equality.{same_runs};
@@ -117,6 +117,7 @@ impl<B: Width> IsEmpty for IntervalSet<B> {
     /// `O(1)`.
     fn is_empty(&self) -> bool
         ensures members { IsTrue result ↔ HasNone (Covers self.now) }
+        ensures filled { ¬ (IsTrue result) → HasSome (Covers self.now) }
         ensures none { IsTrue result ↔ (self.now ≡ []) }
     {
         self.intervals.is_empty()

@@ -14,6 +14,7 @@ pub mod values;
 
 use crate::callers;
 use intervallum::interval::Interval;
+use intervallum::ops::{Bounded, IsEmpty};
 use intervallum::width::Width;
 
 /// The pair is crossed.
@@ -110,4 +111,14 @@ pub fn intervals_equal<B: Width>(a: &Interval<B>, b: &Interval<B>) -> bool
     ensures { IsTrue result ↔ SameMembers (IsBetween a.now) (IsBetween b.now) }
 {
     *a == *b
+}
+
+/// The least member, or another value where there is none.
+pub fn least_or<B: Width>(a: &Interval<B>, other: B) -> B {
+    if a.is_empty() { other } else { a.lower() }
+}
+
+/// The least member, or another value where there is none.
+pub fn least_of<B: Width>(a: &intervallum::interval_set::IntervalSet<B>, other: B) -> B {
+    if a.is_empty() { other } else { a.lower() }
 }

@@ -5,7 +5,7 @@ use Rattle.std.proofs.lemmas.Int.{ints, clamps, by_lt_z}
 use Rattle.ivl_laws.specs.Sets.{Above, Below, HasSome, IsBetween, IsCrossed, IsHullOf, IsProperSubset, IsSubset, Only, SameMembers, Intersection, Union, Without}
 use Rattle.ivl_laws.specs.Bounds.{width_of}
 use Rattle.ivl_laws.specs.Counts.{IsCountOf}
-use Rattle.ivl_laws.proofs.Intervals.{none_is_crossed, not_crossed, IsCountOf-width_of}
+use Rattle.ivl_laws.proofs.Intervals.{none_is_crossed, not_crossed, some_is_not_crossed, IsCountOf-width_of}
 use Rattle.ivl_laws.proofs.Spans.{IsHullOf-same, hull_of_between, hull_of_open}
 use Rattle.ivl_interval.specs.SameInterval.{same_interval}
 
@@ -197,3 +197,11 @@ proper_by_same S T false i e = (λ _. (i, λ s. let k = e.1 s in absurd (cc)), �
 
 pub proper_by_test : (a b : ℤ × ℤ) (r : Bool) → IsSubset (IsBetween a) (IsBetween b) → r ≡ not (same_interval a b) → IsTrue r ↔ IsProperSubset (IsBetween a) (IsBetween b)
 proper_by_test a b r i e = rw e (proper_by_same (IsBetween a) (IsBetween b) (same_interval a b) i (same_interval_members a b _ refl))
+
+-- where both ends of one interval are in another, nothing of it is outside
+pub nothing_is_left : (p q r : ℤ × ℤ) → IsBetween q p.0 → IsBetween q p.1 → IsCrossed r → IsHullOf r (Without (IsBetween p) (IsBetween q))
+nothing_is_left p q r low high crossed = record {
+  holds = λ z w. let from = low.0 in let up_to = high.1 in let above = w.0.0 in let below = w.0.1 in
+      absurd (w.1 (omega (arith, ints), omega (arith, ints)));
+  ends = λ h. let some = (some_is_not_crossed r).1 h in absurd ((none_is_crossed r).1 crossed some.0 some.1);
+}

@@ -126,7 +126,8 @@ pub trait IsEmpty {
 
     /// True exactly where there is no member.
     fn is_empty(&self) -> bool
-        ensures { IsTrue result ↔ HasNone (members self.now) };
+        ensures members { IsTrue result ↔ HasNone (members self.now) }
+        ensures filled { ¬ (IsTrue result) → HasSome (members self.now) };
 }
 
 /// Whether a set has exactly one member.

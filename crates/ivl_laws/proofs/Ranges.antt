@@ -1,7 +1,7 @@
 -- Lists of runs within a range, and the shortest lists.
 use Rattle.std.proofs.Common.{◌≡◌, ◌↔◌, inl, inr, ⊎_elim, ℕ, suc, zero, ◌+◌, ◌<◌, ℤ, ◌≤ℤ◌, List, [], ◌∷◌, length, get_or, drop, take, refl, arith}
 use Rattle.std.proofs.lemmas.Int.{ints}
-use Rattle.ivl_laws.specs.Sets.{IsBetween, IsInRange, IsSubset, HasNone}
+use Rattle.ivl_laws.specs.Sets.{IsBetween, IsInRange, IsSubset, HasNone, HasSome}
 use Rattle.ivl_laws.specs.Runs.{Covers, IsMaximal, IsRunsOf, IsRunListIn}
 use Rattle.ivl_laws.specs.Counts.{IsIn}
 use Rattle.ivl_laws.proofs.Runs.{lower_end, upper_end, covered_from, covered_after}
@@ -59,6 +59,10 @@ IsRunListIn-take whole L k r = record { maximal = IsMaximal-take L k r.maximal; 
 pub none_is_nil : (L : List (ℤ × ℤ)) → IsMaximal L → HasNone (Covers L) ↔ (L ≡ [])
 none_is_nil [] m = ((λ n. refl), (λ e z c. c))
 none_is_nil (p ∷ L) m = ((λ n. absurd (n p.0 (inl (lower_end p m.0)))), (λ e. cc))
+
+pub some_is_filled : (L : List (ℤ × ℤ)) → IsMaximal L → ¬ (L ≡ []) → HasSome (Covers L)
+some_is_filled [] m n = absurd (n refl)
+some_is_filled (p ∷ L) m n = (p.0, inl (lower_end p m.0))
 
 -- the lower bound of the first run is the least
 pub first_is_least : (L : List (ℤ × ℤ)) (d : ℤ × ℤ) → IsMaximal L → 0 < length L → Covers L (get_or L 0 d).0 × ((z : ℤ) → Covers L z → (get_or L 0 d).0 ≤ℤ z)

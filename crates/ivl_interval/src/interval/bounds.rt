@@ -178,6 +178,7 @@ impl<B: Width> IsEmpty for Interval<B> {
     /// True exactly where there is no member: the lower bound is above the upper.
     fn is_empty(&self) -> bool
         ensures members { IsTrue result ↔ HasNone (IsBetween self.now) }
+        ensures filled { ¬ (IsTrue result) → HasSome (IsBetween self.now) }
         ensures crossed { IsTrue result ↔ IsCrossed self.now }
     {
         self.lb > self.ub

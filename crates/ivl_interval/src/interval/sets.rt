@@ -1,7 +1,7 @@
 //! Intervals as sets: what two of them have in common, what one leaves of the other, what holds them
 //! both, and which includes which.
 ghost use Rattle.std.specs.Prelude.{◌≡◌, ◌≤ℤ◌, ◌<ℤ◌, ◌+ℤ◌, ◌-ℤ◌, pos, ⊤};
-ghost use Rattle.ivl_laws.specs.Sets.{IsBetween, IsHullOf, SameMembers};
+ghost use Rattle.ivl_laws.specs.Sets.{IsBetween, IsHullOf, SameMembers, Without};
 
 use crate::interval::Interval;
 use crate::kleene::SKleene;
@@ -69,20 +69,28 @@ impl<B: Width> Difference<Interval<B>> for Interval<B> {
         if self.is_empty() {
             return *self;
         }
-        let at_lower = other.contains(&self.lb);
-        let at_upper = other.contains(&self.ub);
-        if at_lower && at_upper {
-            return Self::empty();
-        }
-        if at_lower {
-            // `other` ends below the upper bound, so the next number is in the range
-            return Self::new(successor(other.ub), self.ub);
-        }
-        if at_upper {
-            return Self::new(self.lb, predecessor(other.lb));
-        }
-        *self
+        cut_away(self, other)
     }
+}
+
+/// The least interval that holds the members of the first that are not in the other.
+fn cut_away<B: Width>(first: &Interval<B>, other: &Interval<B>) -> Interval<B>
+    requires { first.now.0 ≤ℤ first.now.1 }
+    ensures { IsHullOf result (Without (IsBetween first.now) (IsBetween other.now)) }
+{
+    let at_lower = other.contains(&first.lb);
+    let at_upper = other.contains(&first.ub);
+    if at_lower && at_upper {
+        return Interval::empty();
+    }
+    if at_lower {
+        // `other` ends below the upper bound, so the next number is in the range
+        return Interval::new(successor(other.ub), first.ub);
+    }
+    if at_upper {
+        return Interval::new(first.lb, predecessor(other.lb));
+    }
+    *first
 }
 
 /// The value of the next number.
