@@ -10,3 +10,4 @@ pub mod intervals;
 pub mod laws;
 pub mod ranges;
 pub mod sets;
+pub mod tested;

@@ -4,8 +4,8 @@ ghost use Rattle.ivl_laws.specs.Runs.{IsRunListIn};
 
 use crate::interval::Interval;
 use crate::interval_set::IntervalSet;
-use crate::width::Width;
 use crate::steps::looks::Looks;
+use crate::width::Width;
 use std::marker::Model;
 
 /// The runs of a set. A contract sees them, and how often one was looked at; at run time nothing

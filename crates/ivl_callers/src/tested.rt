@@ -1,0 +1,113 @@
+//! Each condition of a call is met after its public test: the callers here have no condition of
+//! their own, and none of them wants a proof by hand.
+ghost use Rattle.std.specs.Prelude.{◌≡◌, ◌⊎◌, ◌≤ℤ◌, ◌∷◌, [], ℤ, ⊤, MatchOption, IfOk};
+ghost use Rattle.ivl_laws.specs.Sets.{Differences, ExactProducts, IsBetween, IsHullOf, IsInRange, Only, SameMembers, Sums, Union};
+ghost use Rattle.ivl_laws.specs.Runs.{Covers, IsRunsOf};
+
+use intervallum::interval::Interval;
+use intervallum::interval_set::IntervalSet;
+use intervallum::ops::{Bounded, Contains, Fits, IsEmpty, Range, Singleton, Union, Whole};
+use intervallum::width::Width;
+use std::alloc::{AllocError, Global};
+
+/// The interval of two bounds, if `in_range` lets it be made.
+pub fn interval_if_in_range<B: Width>(lb: B, ub: B) -> Option<Interval<B>>
+    ensures { MatchOption result (¬ (IsInRange B.whole (B.value lb, B.value ub))) (λ r. SameMembers (IsBetween r) (IsBetween (B.value lb, B.value ub))) }
+{
+    if Interval::in_range(lb, ub) {
+        Some(Interval::new(lb, ub))
+    } else {
+        None
+    }
+}
+
+/// The interval of one value, if `whole` contains it.
+pub fn interval_if_contained<B: Width>(value: B) -> Option<Interval<B>>
+    ensures { MatchOption result (¬ (IsBetween B.whole (B.value value))) (λ r. r ≡ (B.value value, B.value value)) }
+{
+    if Interval::whole().contains(&value) {
+        Some(Interval::singleton(value))
+    } else {
+        None
+    }
+}
+
+/// The least member of an interval, or another value where `is_empty` tells that there is none.
+pub fn least_or<B: Width>(a: &Interval<B>, other: B) -> B
+    ensures one { (B.value result ≡ B.value other) ⊎ IsBetween a.now (B.value result) }
+    ensures least { (z : ℤ) → IsBetween a.now z → B.value result ≤ℤ z }
+{
+    if a.is_empty() { other } else { a.lower() }
+}
+
+/// The greatest member of a set, or another value where `is_empty` tells that there is none.
+pub fn greatest_or<B: Width>(set: &IntervalSet<B>, other: B) -> B
+    ensures one { (B.value result ≡ B.value other) ⊎ Covers set.now (B.value result) }
+    ensures greatest { (z : ℤ) → Covers set.now z → z ≤ℤ B.value result }
+{
+    if set.is_empty() { other } else { set.upper() }
+}
+
+/// The set of one run, if its bounds are in the range and in order.
+pub fn run_if_in_order<B: Width>(
+    alloc: Global,
+    lb: B,
+    ub: B,
+) -> Result<Option<IntervalSet<B>>, AllocError>
+    ensures { IfOk result (λ o. MatchOption o ⊤ (λ L. L ≡ (B.value lb, B.value ub) ∷ [])) }
+{
+    if lb <= ub && Interval::in_range(lb, ub) {
+        Ok(Some(IntervalSet::new(alloc, lb, ub)?))
+    } else {
+        Ok(None)
+    }
+}
+
+/// A set and a value, if `in_range` tells that the value is in the range.
+pub fn with_value<B: Width>(
+    set: &IntervalSet<B>,
+    value: B,
+) -> Result<Option<IntervalSet<B>>, AllocError>
+    ensures { IfOk result (λ o. MatchOption o ⊤ (λ L. IsRunsOf L (Union (Covers set.now) (Only (B.value value))))) }
+{
+    if Interval::in_range(value, value) {
+        Ok(Some(set.union(&value)?))
+    } else {
+        Ok(None)
+    }
+}
+
+/// The sums of two sets, if `fits_add` tells that each is in the range.
+pub fn sums_if_they_fit<B: Width>(
+    a: &IntervalSet<B>,
+    b: &IntervalSet<B>,
+) -> Result<Option<IntervalSet<B>>, AllocError>
+    ensures { IfOk result (λ o. MatchOption o ⊤ (λ L. IsRunsOf L (Sums (Covers a.now) (Covers b.now)))) }
+{
+    if a.fits_add(b) {
+        Ok(Some((a + b)?))
+    } else {
+        Ok(None)
+    }
+}
+
+/// The differences of a set and a value, if `fits_sub` tells that each is in the range.
+pub fn differences_if_they_fit<B: Width>(
+    set: &IntervalSet<B>,
+    value: B,
+) -> Result<Option<IntervalSet<B>>, AllocError>
+    ensures { IfOk result (λ o. MatchOption o ⊤ (λ L. IsRunsOf L (Differences (Covers set.now) (Only (B.value value))))) }
+{
+    if set.fits_sub(&value) {
+        Ok(Some((set - value)?))
+    } else {
+        Ok(None)
+    }
+}
+
+/// The hull of the products of two intervals, if `fits_mul` tells that each is in the range.
+pub fn products_if_they_fit<B: Width>(a: &Interval<B>, b: &Interval<B>) -> Option<Interval<B>>
+    ensures { MatchOption result ⊤ (λ r. IsHullOf r (ExactProducts (IsBetween a.now) (IsBetween b.now))) }
+{
+    if a.fits_mul(b) { Some(a * b) } else { None }
+}
