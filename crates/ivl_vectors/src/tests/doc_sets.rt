@@ -124,8 +124,10 @@ fn runs_of_a_set_taken_apart(rt: HostRuntime) -> Result<(), Fail> {
 #[test]
 fn operations(rt: HostRuntime) -> Result<(), Fail> {
     let alloc = rt.alloc();
-    let a = IntervalSet::new(alloc, 1, 5)?;
-    let b = IntervalSet::new(alloc, 4, 9)?;
+    let (a, b) = (
+        IntervalSet::new(alloc, 1, 5)?,
+        IntervalSet::new(alloc, 4, 9)?,
+    );
     assert!(rt; a.union(&b)? == IntervalSet::new(alloc, 1, 9)?);
     assert!(rt; a.intersection(&b)? == IntervalSet::new(alloc, 4, 5)?);
     assert!(rt; a.difference(&b)? == IntervalSet::new(alloc, 1, 3)?);
@@ -266,8 +268,10 @@ fn conversions(rt: HostRuntime) -> Result<(), Fail> {
 #[test]
 fn two_walks(rt: HostRuntime) -> Result<(), Fail> {
     let alloc = rt.alloc();
-    let a = IntervalSet::new(alloc, 1, 5)?;
-    let b = IntervalSet::new(alloc, 4, 9)?;
+    let (a, b) = (
+        IntervalSet::new(alloc, 1, 5)?,
+        IntervalSet::new(alloc, 4, 9)?,
+    );
     let both = common(Walk::new(&a), Walk::new(&b))?;
     assert!(rt; both == IntervalSet::new(alloc, 4, 5)?);
     assert!(rt; have_common(Walk::new(&a), Walk::new(&b)));
@@ -286,6 +290,7 @@ fn two_walks(rt: HostRuntime) -> Result<(), Fail> {
 fn a_walk(rt: HostRuntime) -> Result<(), Fail> {
     let alloc = rt.alloc();
     let a: IntervalSet<i32> = [(1, 2), (5, 6)].to_interval_set(alloc)?;
+    assert_eq!(rt; Walk::new(&a).left(), 2);
     let mut walk = Walk::new(&a);
     assert_eq!(rt; walk.left(), 2);
     assert!(rt; walk.peek() == Some(Interval::new(1, 2)));
@@ -302,6 +307,7 @@ fn a_walk(rt: HostRuntime) -> Result<(), Fail> {
 fn a_search(rt: HostRuntime) -> Result<(), Fail> {
     let alloc = rt.alloc();
     let a: IntervalSet<i32> = [(1, 2), (5, 6)].to_interval_set(alloc)?;
+    assert_eq!(rt; Probes::new(&a).len(), 2);
     let mut probes = Probes::new(&a);
     assert_eq!(rt; probes.len(), 2);
     assert!(rt; probes.len() > 1 && probes.look(1) == Interval::new(5, 6));
