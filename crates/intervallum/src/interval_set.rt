@@ -32,6 +32,14 @@ use std::marker::Model;
 ///
 /// The runs are intervals of the range that are not empty; they ascend, and at least one number is
 /// missing between neighbours. The number of members is kept beside them.
+///
+/// ```
+/// let hours: IntervalSet<u8> = [(12, 13), (8, 11)].to_interval_set(alloc)?;
+/// assert!(rt; hours == IntervalSet::new(alloc, 8, 13)?);
+/// ```
+///
+/// The original derives `Clone`, where this set has `try_clone`. Its `iter_mut`, by which runs
+/// could be made to overlap, is left out.
 #[derive(Drop, Debug)]
 pub struct IntervalSet<B: Width> {
     intervals: Vec<Interval<B>>,
@@ -47,7 +55,13 @@ impl<B: Width> Model for IntervalSet<B> {
 }
 
 impl<B: Width> IntervalSet<B> {
-    /// The set with no member. Takes no memory.
+    /// The set with no member. `O(1)`, and takes no memory.
+    ///
+    /// ```
+    /// assert!(rt; IntervalSet::<i32>::empty(alloc).is_empty());
+    /// ```
+    ///
+    /// In the original this is a call of a trait, and takes no allocator.
     pub fn empty(alloc: Global) -> Self
         ensures { result ≡ [] }
     {
@@ -58,7 +72,15 @@ impl<B: Width> IntervalSet<B> {
     }
 
     /// The numbers from `lb` to `ub`, as one run. Conditions: `Interval::in_range(lb, ub)`, and
-    /// `lb` is at most `ub`. Takes memory for one run.
+    /// `lb <= ub`. `O(1)`, in memory for one run. An error is memory that was refused.
+    ///
+    /// ```
+    /// let a = IntervalSet::new(alloc, 1, 2)?;
+    /// assert!(rt; a.contains(&1) && a.contains(&2) && !a.contains(&3));
+    /// ```
+    ///
+    /// In the original this is a call of a trait, the conditions stand in no signature, and there
+    /// is no error for want of memory.
     pub fn new(alloc: Global, lb: B, ub: B) -> Result<Self, AllocError>
         requires in_range { IsInRange B.whole (B.value lb, B.value ub) }
         requires in_order { B.value lb ≤ℤ B.value ub }
@@ -73,7 +95,12 @@ impl<B: Width> IntervalSet<B> {
         })
     }
 
-    /// The number of runs. `O(1)`.
+    /// The number of runs. `O(1)`, with no memory.
+    ///
+    /// ```
+    /// let a: IntervalSet<i32> = [(1, 2), (5, 6)].to_interval_set(alloc)?;
+    /// assert_eq!(rt; a.interval_count(), 2);
+    /// ```
     pub fn interval_count(&self) -> usize
         ensures count { result ≡ length self.now }
         ensures runs { IsRunListIn B.whole self.now }
@@ -81,7 +108,14 @@ impl<B: Width> IntervalSet<B> {
         self.intervals.len()
     }
 
-    /// The runs, ascending, from both ends.
+    /// The runs, ascending, from both ends. `O(1)`, with no memory.
+    ///
+    /// ```
+    /// let a: IntervalSet<i32> = [(1, 2), (5, 6)].to_interval_set(alloc)?;
+    /// let mut runs = a.iter();
+    /// assert!(rt; runs.next() == Some(&Interval::new(1, 2)));
+    /// assert!(rt; runs.next_back() == Some(&Interval::new(5, 6)));
+    /// ```
     pub fn iter(&self) -> std::slice::Iter<'_, Interval<B>>
         ensures rest { result.rest.now ≡ self.now }
         ensures runs { IsRunListIn B.whole self.now }
@@ -105,7 +139,12 @@ impl<B: Width> Cardinality for IntervalSet<B> {
 
     ghost size_number = { B.Output.size };
 
-    /// The number of members, which is kept: `O(1)`.
+    /// The number of members, which is kept: `O(1)`, with no memory. It never overflows.
+    ///
+    /// ```
+    /// let a: IntervalSet<i32> = [(1, 2), (5, 6)].to_interval_set(alloc)?;
+    /// assert_eq!(rt; a.size(), 4u32);
+    /// ```
     fn size(&self) -> B::Output {
         self.size
     }
@@ -114,7 +153,12 @@ impl<B: Width> Cardinality for IntervalSet<B> {
 impl<B: Width> IsEmpty for IntervalSet<B> {
     ghost members = { Covers };
 
-    /// `O(1)`.
+    /// True exactly where there is no member. `O(1)`, with no memory.
+    ///
+    /// ```
+    /// let a = IntervalSet::new(alloc, 1, 2)?;
+    /// assert!(rt; !a.is_empty() && IntervalSet::<i32>::empty(alloc).is_empty());
+    /// ```
     fn is_empty(&self) -> bool
         ensures members { IsTrue result ↔ HasNone (Covers self.now) }
         ensures filled { ¬ (IsTrue result) → HasSome (Covers self.now) }
@@ -129,7 +173,12 @@ impl<B: Width> PartialEq for IntervalSet<B> {
 
     ghost laws = { same_runs_laws };
 
-    /// True exactly where the members agree. One pass over the runs, and none where the sizes differ.
+    /// True exactly where the members agree. `O(n)`, and `O(1)` where the sizes differ; no memory.
+    ///
+    /// ```
+    /// let a: IntervalSet<i32> = [(3, 4), (1, 2)].to_interval_set(alloc)?;
+    /// assert!(rt; a == IntervalSet::new(alloc, 1, 4)?);
+    /// ```
     fn eq(&self, other: &IntervalSet<B>) -> bool
         ensures value { result ≡ same_runs self.now other.now }
         ensures members { IsTrue result ↔ SameMembers (Covers self.now) (Covers other.now) }

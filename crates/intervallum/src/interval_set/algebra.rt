@@ -22,8 +22,16 @@ impl<B: Width> Union<IntervalSet<B>> for IntervalSet<B> {
 
     ghost answers = { λ r S. IfOk r (λ L. IsRunsOf L S) };
 
-    /// The members of either set. `O(n + m)`, in memory that is reserved once for `n + m` runs, of which
-    /// the answer keeps about twice its own at most.
+    /// The members of either set. `O(n + m)`, in memory that is reserved once for `n + m` runs, of
+    /// which the answer keeps about twice its own at most. An error is memory that was refused;
+    /// neither set is changed.
+    ///
+    /// ```
+    /// let (a, b) = (IntervalSet::new(alloc, 1, 5)?, IntervalSet::new(alloc, 4, 9)?);
+    /// assert!(rt; a.union(&b)? == IntervalSet::new(alloc, 1, 9)?);
+    /// ```
+    ///
+    /// The original answers a plain set, and has no error for want of memory.
     fn union(&self, other: &IntervalSet<B>) -> Result<IntervalSet<B>, AllocError>
         ensures members { IfOk result (λ L. IsRunsOf L (Union (Covers self.now) (Covers other.now))) }
         ensures runs_at_most { IfOk result (λ L. length L ≤ length self.now + length other.now) }
@@ -41,9 +49,14 @@ impl<B: Width> Intersection<IntervalSet<B>> for IntervalSet<B> {
 
     ghost answers = { λ r S. IfOk r (λ L. IsRunsOf L S) };
 
-    /// The members of both sets. `O(n + m)`, in memory that is reserved once for
-    /// `n + m` runs, of which the answer keeps about twice its own at most. An error is memory that was
-    /// refused; neither set is changed.
+    /// The members of both sets. `O(n + m)`, in memory that is reserved once for `n + m` runs, of
+    /// which the answer keeps about twice its own at most. An error is memory that was refused;
+    /// neither set is changed.
+    ///
+    /// ```
+    /// let (a, b) = (IntervalSet::new(alloc, 1, 5)?, IntervalSet::new(alloc, 4, 9)?);
+    /// assert!(rt; a.intersection(&b)? == IntervalSet::new(alloc, 4, 5)?);
+    /// ```
     ///
     /// The original answers a plain set, and has no error for want of memory.
     fn intersection(&self, other: &IntervalSet<B>) -> Result<IntervalSet<B>, AllocError>
@@ -63,11 +76,17 @@ impl<B: Width> Difference<IntervalSet<B>> for IntervalSet<B> {
 
     ghost answers = { λ r S. IfOk r (λ L. IsRunsOf L S) };
 
-    /// The members that are not in `other`. `O(n + m)`, in memory that is reserved once for
-    /// `n + m` runs, of which the answer keeps about twice its own at most. An error is memory that was
+    /// The members that are not in `other`. `O(n + m)`, in memory that is reserved once for `n + m`
+    /// runs, of which the answer keeps about twice its own at most. An error is memory that was
     /// refused; neither set is changed.
     ///
-    /// No other set is built on the way.
+    /// ```
+    /// let (a, b) = (IntervalSet::new(alloc, 1, 5)?, IntervalSet::new(alloc, 4, 9)?);
+    /// assert!(rt; a.difference(&b)? == IntervalSet::new(alloc, 1, 3)?);
+    /// ```
+    ///
+    /// No other set is built on the way. The original answers a plain set, and has no error for
+    /// want of memory.
     fn difference(&self, other: &IntervalSet<B>) -> Result<IntervalSet<B>, AllocError>
         ensures members { IfOk result (λ L. IsRunsOf L (Without (Covers self.now) (Covers other.now))) }
         ensures runs_at_most { IfOk result (λ L. length L ≤ length self.now + length other.now) }
@@ -87,11 +106,17 @@ impl<B: Width> SymmetricDifference<IntervalSet<B>> for IntervalSet<B> {
 
     ghost answers = { λ r S. IfOk r (λ L. IsRunsOf L S) };
 
-    /// The members of one set that are not in the other. `O(n + m)`, in memory that is reserved once for
-    /// `n + m` runs, of which the answer keeps about twice its own at most. An error is memory that was
-    /// refused; neither set is changed.
+    /// The members of one set that are not in the other. `O(n + m)`, in memory that is reserved
+    /// once for `n + m` runs, of which the answer keeps about twice its own at most. An error is
+    /// memory that was refused; neither set is changed.
     ///
-    /// No other set is built on the way.
+    /// ```
+    /// let (a, b) = (IntervalSet::new(alloc, 1, 5)?, IntervalSet::new(alloc, 4, 9)?);
+    /// assert!(rt; a.symmetric_difference(&b)? == [(1, 3), (6, 9)].to_interval_set(alloc)?);
+    /// ```
+    ///
+    /// No other set is built on the way. The original answers a plain set, and has no error for
+    /// want of memory.
     fn symmetric_difference(&self, other: &IntervalSet<B>) -> Result<IntervalSet<B>, AllocError>
         ensures members { IfOk result (λ L. IsRunsOf L (SymmetricDifference (Covers self.now) (Covers other.now))) }
         ensures runs_at_most { IfOk result (λ L. length L ≤ length self.now + length other.now) }
@@ -110,7 +135,15 @@ impl<B: Width> Complement for IntervalSet<B> {
     ghost answers = { λ r S. IfOk r (λ L. IsRunsOf L S) };
 
     /// The numbers of the range that are no members. `O(n)`, in memory that is reserved once for
-    /// `n + 1` runs.
+    /// `n + 1` runs, of which the answer keeps about twice its own at most. An error is memory that
+    /// was refused; the set is not changed.
+    ///
+    /// ```
+    /// let a = IntervalSet::new(alloc, 10u8, 254)?;
+    /// assert!(rt; a.complement()? == IntervalSet::new(alloc, 0, 9)?);
+    /// ```
+    ///
+    /// The original answers a plain set, and has no error for want of memory.
     fn complement(&self) -> Result<IntervalSet<B>, AllocError>
         ensures members { IfOk result (λ L. IsRunsOf L (Complement B.whole (Covers self.now))) }
         ensures runs_at_most { IfOk result (λ L. length L ≤ length self.now + 1) }
@@ -124,8 +157,13 @@ impl<B: Width> Disjoint<IntervalSet<B>> for IntervalSet<B> {
 
     ghost other_members = { Covers };
 
-    /// True exactly where no number is a member of both. `O(n + m)`, and no memory; stops at the first
-    /// common member.
+    /// True exactly where no number is a member of both. `O(n + m)`, and no memory; stops at the
+    /// first common member.
+    ///
+    /// ```
+    /// let (a, b) = (IntervalSet::new(alloc, 1, 2)?, IntervalSet::new(alloc, 3, 5)?);
+    /// assert!(rt; a.is_disjoint(&b) && !a.is_disjoint(&a));
+    /// ```
     fn is_disjoint(&self, other: &IntervalSet<B>) -> bool
         ensures { IsTrue result ↔ HasNone (Intersection (Covers self.now) (Covers other.now)) }
     {
@@ -140,6 +178,11 @@ impl<B: Width> Overlap<IntervalSet<B>> for IntervalSet<B> {
 
     /// True exactly where some number is a member of both. `O(n + m)`, and no memory; stops at the
     /// first common member.
+    ///
+    /// ```
+    /// let (a, b) = (IntervalSet::new(alloc, 1, 2)?, IntervalSet::new(alloc, 3, 5)?);
+    /// assert!(rt; a.overlap(&a) && !a.overlap(&b));
+    /// ```
     fn overlap(&self, other: &IntervalSet<B>) -> bool
         ensures { IsTrue result ↔ HasSome (Intersection (Covers self.now) (Covers other.now)) }
     {

@@ -26,9 +26,19 @@ impl<B: Width> Add<IntervalSet<B>> for IntervalSet<B> {
 
     ghost add_gives = { λ a b r. IfOk r (λ L. IsRunsOf L (Sums (Covers a) (Covers b))) };
 
-    /// The sums of a member of each. Condition: `fits_add`.
+    /// The sums of a member of each. Condition: the sums are in the range, which `fits_add` tests.
     ///
-    /// `O(n m log (n m))` for `n` and `m` runs, in memory for twice `n * m` runs.
+    /// `O(n m log (n m))` for `n` and `m` runs, in memory for twice `n * m` runs. An error is
+    /// memory that was refused.
+    ///
+    /// ```
+    /// let (a, b) = (IntervalSet::new(alloc, 1, 2)?, IntervalSet::new(alloc, 10, 20)?);
+    /// assert!(rt; a.fits_add(&b), "the sums fit");
+    /// assert!(rt; (a + b)? == IntervalSet::new(alloc, 11, 22)?);
+    /// ```
+    ///
+    /// The original answers a plain set, has no error for want of memory, and cannot be asked
+    /// whether the sums fit.
     fn add(self, rhs: IntervalSet<B>) -> Result<IntervalSet<B>, AllocError> {
         combine(&self, &rhs, Op::Sum)
     }
@@ -41,9 +51,10 @@ impl<B: Width> Add<&IntervalSet<B>> for IntervalSet<B> {
 
     ghost add_gives = { λ a b r. IfOk r (λ L. IsRunsOf L (Sums (Covers a) (Covers b.now))) };
 
-    /// The sums of a member of each. Condition: `fits_add`.
+    /// The sums of a member of each. Condition: the sums are in the range, which `fits_add` tests.
     ///
-    /// `O(n m log (n m))` for `n` and `m` runs, in memory for twice `n * m` runs.
+    /// `O(n m log (n m))` for `n` and `m` runs, in memory for twice `n * m` runs. An error is
+    /// memory that was refused; the borrowed set is not changed.
     fn add(self, rhs: &IntervalSet<B>) -> Result<IntervalSet<B>, AllocError> {
         combine(&self, rhs, Op::Sum)
     }
@@ -56,9 +67,10 @@ impl<B: Width> Add<IntervalSet<B>> for &IntervalSet<B> {
 
     ghost add_gives = { λ a b r. IfOk r (λ L. IsRunsOf L (Sums (Covers a.now) (Covers b))) };
 
-    /// The sums of a member of each. Condition: `fits_add`.
+    /// The sums of a member of each. Condition: the sums are in the range, which `fits_add` tests.
     ///
-    /// `O(n m log (n m))` for `n` and `m` runs, in memory for twice `n * m` runs.
+    /// `O(n m log (n m))` for `n` and `m` runs, in memory for twice `n * m` runs. An error is
+    /// memory that was refused; the borrowed set is not changed.
     fn add(self, rhs: IntervalSet<B>) -> Result<IntervalSet<B>, AllocError> {
         combine(self, &rhs, Op::Sum)
     }
@@ -71,9 +83,10 @@ impl<B: Width> Add<&IntervalSet<B>> for &IntervalSet<B> {
 
     ghost add_gives = { λ a b r. IfOk r (λ L. IsRunsOf L (Sums (Covers a.now) (Covers b.now))) };
 
-    /// The sums of a member of each. Condition: `fits_add`.
+    /// The sums of a member of each. Condition: the sums are in the range, which `fits_add` tests.
     ///
-    /// `O(n m log (n m))` for `n` and `m` runs, in memory for twice `n * m` runs.
+    /// `O(n m log (n m))` for `n` and `m` runs, in memory for twice `n * m` runs. An error is
+    /// memory that was refused; neither set is changed.
     fn add(self, rhs: &IntervalSet<B>) -> Result<IntervalSet<B>, AllocError> {
         combine(self, rhs, Op::Sum)
     }
@@ -86,8 +99,19 @@ impl<B: Width> Add<B> for IntervalSet<B> {
 
     ghost add_gives = { λ a x r. IfOk r (λ L. IsRunsOf L (Sums (Covers a) (Only (B.value x)))) };
 
-    /// The sums of a member and the value. Condition: `fits_add`, where the value
-    /// itself may lie outside the range. `O(n)` for `n` runs, in memory for as many.
+    /// The sums of a member and the value. Condition: the sums are in the range, which `fits_add`
+    /// tests; the value itself may lie outside.
+    ///
+    /// `O(n)` for `n` runs, in memory for as many. An error is memory that was refused.
+    ///
+    /// ```
+    /// let a = IntervalSet::new(alloc, 1, 2)?;
+    /// assert!(rt; a.fits_add(&10), "the sums fit");
+    /// assert!(rt; (a + 10)? == IntervalSet::new(alloc, 11, 12)?);
+    /// ```
+    ///
+    /// The original answers a plain set, has no error for want of memory, and cannot be asked
+    /// whether the sums fit.
     fn add(self, rhs: B) -> Result<IntervalSet<B>, AllocError>
         requires { IsSubset (Sums (Covers self) (Only (B.value rhs))) (IsBetween B.whole) }
         ensures members { IfOk result (λ L. IsRunsOf L (Sums (Covers self) (Only (B.value rhs)))) }
@@ -104,8 +128,10 @@ impl<B: Width> Add<&B> for IntervalSet<B> {
 
     ghost add_gives = { λ a x r. IfOk r (λ L. IsRunsOf L (Sums (Covers a) (Only (B.value x.now)))) };
 
-    /// The sums of a member and the value. Condition: `fits_add`, where the value
-    /// itself may lie outside the range. `O(n)` for `n` runs, in memory for as many.
+    /// The sums of a member and the value. Condition: the sums are in the range, which `fits_add`
+    /// tests; the value itself may lie outside.
+    ///
+    /// `O(n)` for `n` runs, in memory for as many. An error is memory that was refused.
     fn add(self, rhs: &B) -> Result<IntervalSet<B>, AllocError>
         requires { IsSubset (Sums (Covers self) (Only (B.value rhs.now))) (IsBetween B.whole) }
         ensures members { IfOk result (λ L. IsRunsOf L (Sums (Covers self) (Only (B.value rhs.now)))) }
@@ -122,8 +148,11 @@ impl<B: Width> Add<B> for &IntervalSet<B> {
 
     ghost add_gives = { λ a x r. IfOk r (λ L. IsRunsOf L (Sums (Covers a.now) (Only (B.value x)))) };
 
-    /// The sums of a member and the value. Condition: `fits_add`, where the value
-    /// itself may lie outside the range. `O(n)` for `n` runs, in memory for as many.
+    /// The sums of a member and the value. Condition: the sums are in the range, which `fits_add`
+    /// tests; the value itself may lie outside.
+    ///
+    /// `O(n)` for `n` runs, in memory for as many. An error is memory that was refused; the set is
+    /// not changed.
     fn add(self, rhs: B) -> Result<IntervalSet<B>, AllocError>
         requires { IsSubset (Sums (Covers self.now) (Only (B.value rhs))) (IsBetween B.whole) }
         ensures members { IfOk result (λ L. IsRunsOf L (Sums (Covers self.now) (Only (B.value rhs)))) }
@@ -140,8 +169,11 @@ impl<B: Width> Add<&B> for &IntervalSet<B> {
 
     ghost add_gives = { λ a x r. IfOk r (λ L. IsRunsOf L (Sums (Covers a.now) (Only (B.value x.now)))) };
 
-    /// The sums of a member and the value. Condition: `fits_add`, where the value
-    /// itself may lie outside the range. `O(n)` for `n` runs, in memory for as many.
+    /// The sums of a member and the value. Condition: the sums are in the range, which `fits_add`
+    /// tests; the value itself may lie outside.
+    ///
+    /// `O(n)` for `n` runs, in memory for as many. An error is memory that was refused; the set is
+    /// not changed.
     fn add(self, rhs: &B) -> Result<IntervalSet<B>, AllocError>
         requires { IsSubset (Sums (Covers self.now) (Only (B.value rhs.now))) (IsBetween B.whole) }
         ensures members { IfOk result (λ L. IsRunsOf L (Sums (Covers self.now) (Only (B.value rhs.now)))) }
@@ -158,9 +190,20 @@ impl<B: Width> Sub<IntervalSet<B>> for IntervalSet<B> {
 
     ghost sub_gives = { λ a b r. IfOk r (λ L. IsRunsOf L (Differences (Covers a) (Covers b))) };
 
-    /// The differences of a member of each. Condition: `fits_sub`.
+    /// The differences of a member of each. Condition: the differences are in the range, which
+    /// `fits_sub` tests.
     ///
-    /// `O(n m log (n m))` for `n` and `m` runs, in memory for twice `n * m` runs.
+    /// `O(n m log (n m))` for `n` and `m` runs, in memory for twice `n * m` runs. An error is
+    /// memory that was refused.
+    ///
+    /// ```
+    /// let (a, b) = (IntervalSet::new(alloc, 1, 2)?, IntervalSet::new(alloc, 10, 20)?);
+    /// assert!(rt; a.fits_sub(&b), "the differences fit");
+    /// assert!(rt; (a - b)? == IntervalSet::new(alloc, -19, -8)?);
+    /// ```
+    ///
+    /// The original answers a plain set, has no error for want of memory, and cannot be asked
+    /// whether the differences fit.
     fn sub(self, rhs: IntervalSet<B>) -> Result<IntervalSet<B>, AllocError> {
         combine(&self, &rhs, Op::Difference)
     }
@@ -173,9 +216,11 @@ impl<B: Width> Sub<&IntervalSet<B>> for IntervalSet<B> {
 
     ghost sub_gives = { λ a b r. IfOk r (λ L. IsRunsOf L (Differences (Covers a) (Covers b.now))) };
 
-    /// The differences of a member of each. Condition: `fits_sub`.
+    /// The differences of a member of each. Condition: the differences are in the range, which
+    /// `fits_sub` tests.
     ///
-    /// `O(n m log (n m))` for `n` and `m` runs, in memory for twice `n * m` runs.
+    /// `O(n m log (n m))` for `n` and `m` runs, in memory for twice `n * m` runs. An error is
+    /// memory that was refused; the borrowed set is not changed.
     fn sub(self, rhs: &IntervalSet<B>) -> Result<IntervalSet<B>, AllocError> {
         combine(&self, rhs, Op::Difference)
     }
@@ -188,9 +233,11 @@ impl<B: Width> Sub<IntervalSet<B>> for &IntervalSet<B> {
 
     ghost sub_gives = { λ a b r. IfOk r (λ L. IsRunsOf L (Differences (Covers a.now) (Covers b))) };
 
-    /// The differences of a member of each. Condition: `fits_sub`.
+    /// The differences of a member of each. Condition: the differences are in the range, which
+    /// `fits_sub` tests.
     ///
-    /// `O(n m log (n m))` for `n` and `m` runs, in memory for twice `n * m` runs.
+    /// `O(n m log (n m))` for `n` and `m` runs, in memory for twice `n * m` runs. An error is
+    /// memory that was refused; the borrowed set is not changed.
     fn sub(self, rhs: IntervalSet<B>) -> Result<IntervalSet<B>, AllocError> {
         combine(self, &rhs, Op::Difference)
     }
@@ -203,9 +250,11 @@ impl<B: Width> Sub<&IntervalSet<B>> for &IntervalSet<B> {
 
     ghost sub_gives = { λ a b r. IfOk r (λ L. IsRunsOf L (Differences (Covers a.now) (Covers b.now))) };
 
-    /// The differences of a member of each. Condition: `fits_sub`.
+    /// The differences of a member of each. Condition: the differences are in the range, which
+    /// `fits_sub` tests.
     ///
-    /// `O(n m log (n m))` for `n` and `m` runs, in memory for twice `n * m` runs.
+    /// `O(n m log (n m))` for `n` and `m` runs, in memory for twice `n * m` runs. An error is
+    /// memory that was refused; neither set is changed.
     fn sub(self, rhs: &IntervalSet<B>) -> Result<IntervalSet<B>, AllocError> {
         combine(self, rhs, Op::Difference)
     }
@@ -218,8 +267,19 @@ impl<B: Width> Sub<B> for IntervalSet<B> {
 
     ghost sub_gives = { λ a x r. IfOk r (λ L. IsRunsOf L (Differences (Covers a) (Only (B.value x)))) };
 
-    /// The differences of a member and the value. Condition: `fits_sub`, where the value
-    /// itself may lie outside the range. `O(n)` for `n` runs, in memory for as many.
+    /// The differences of a member and the value. Condition: the differences are in the range,
+    /// which `fits_sub` tests; the value itself may lie outside.
+    ///
+    /// `O(n)` for `n` runs, in memory for as many. An error is memory that was refused.
+    ///
+    /// ```
+    /// let a = IntervalSet::new(alloc, 1, 2)?;
+    /// assert!(rt; a.fits_sub(&10), "the differences fit");
+    /// assert!(rt; (a - 10)? == IntervalSet::new(alloc, -9, -8)?);
+    /// ```
+    ///
+    /// The original answers a plain set, has no error for want of memory, and cannot be asked
+    /// whether the differences fit.
     fn sub(self, rhs: B) -> Result<IntervalSet<B>, AllocError>
         requires { IsSubset (Differences (Covers self) (Only (B.value rhs))) (IsBetween B.whole) }
         ensures members { IfOk result (λ L. IsRunsOf L (Differences (Covers self) (Only (B.value rhs)))) }
@@ -236,8 +296,10 @@ impl<B: Width> Sub<&B> for IntervalSet<B> {
 
     ghost sub_gives = { λ a x r. IfOk r (λ L. IsRunsOf L (Differences (Covers a) (Only (B.value x.now)))) };
 
-    /// The differences of a member and the value. Condition: `fits_sub`, where the value
-    /// itself may lie outside the range. `O(n)` for `n` runs, in memory for as many.
+    /// The differences of a member and the value. Condition: the differences are in the range,
+    /// which `fits_sub` tests; the value itself may lie outside.
+    ///
+    /// `O(n)` for `n` runs, in memory for as many. An error is memory that was refused.
     fn sub(self, rhs: &B) -> Result<IntervalSet<B>, AllocError>
         requires { IsSubset (Differences (Covers self) (Only (B.value rhs.now))) (IsBetween B.whole) }
         ensures members { IfOk result (λ L. IsRunsOf L (Differences (Covers self) (Only (B.value rhs.now)))) }
@@ -254,8 +316,11 @@ impl<B: Width> Sub<B> for &IntervalSet<B> {
 
     ghost sub_gives = { λ a x r. IfOk r (λ L. IsRunsOf L (Differences (Covers a.now) (Only (B.value x)))) };
 
-    /// The differences of a member and the value. Condition: `fits_sub`, where the value
-    /// itself may lie outside the range. `O(n)` for `n` runs, in memory for as many.
+    /// The differences of a member and the value. Condition: the differences are in the range,
+    /// which `fits_sub` tests; the value itself may lie outside.
+    ///
+    /// `O(n)` for `n` runs, in memory for as many. An error is memory that was refused; the set is
+    /// not changed.
     fn sub(self, rhs: B) -> Result<IntervalSet<B>, AllocError>
         requires { IsSubset (Differences (Covers self.now) (Only (B.value rhs))) (IsBetween B.whole) }
         ensures members { IfOk result (λ L. IsRunsOf L (Differences (Covers self.now) (Only (B.value rhs)))) }
@@ -272,8 +337,11 @@ impl<B: Width> Sub<&B> for &IntervalSet<B> {
 
     ghost sub_gives = { λ a x r. IfOk r (λ L. IsRunsOf L (Differences (Covers a.now) (Only (B.value x.now)))) };
 
-    /// The differences of a member and the value. Condition: `fits_sub`, where the value
-    /// itself may lie outside the range. `O(n)` for `n` runs, in memory for as many.
+    /// The differences of a member and the value. Condition: the differences are in the range,
+    /// which `fits_sub` tests; the value itself may lie outside.
+    ///
+    /// `O(n)` for `n` runs, in memory for as many. An error is memory that was refused; the set is
+    /// not changed.
     fn sub(self, rhs: &B) -> Result<IntervalSet<B>, AllocError>
         requires { IsSubset (Differences (Covers self.now) (Only (B.value rhs.now))) (IsBetween B.whole) }
         ensures members { IfOk result (λ L. IsRunsOf L (Differences (Covers self.now) (Only (B.value rhs.now)))) }
@@ -290,9 +358,20 @@ impl<B: Width> Mul<IntervalSet<B>> for IntervalSet<B> {
 
     ghost mul_gives = { λ a b r. IfOk r (λ L. IsRunsOf L (Products (Covers a) (Covers b))) };
 
-    /// For each pair of runs, the numbers from the least to the greatest product. Condition: `fits_mul`.
+    /// For each pair of runs, the numbers from the least to the greatest product. Condition: the
+    /// products are in the range, which `fits_mul` tests.
     ///
-    /// `O(n m log (n m))` for `n` and `m` runs, in memory for twice `n * m` runs.
+    /// `O(n m log (n m))` for `n` and `m` runs, in memory for twice `n * m` runs. An error is
+    /// memory that was refused.
+    ///
+    /// ```
+    /// let (a, b) = (IntervalSet::new(alloc, 1, 2)?, IntervalSet::new(alloc, 10, 10)?);
+    /// assert!(rt; a.fits_mul(&b), "the products fit");
+    /// assert!(rt; (a * b)? == IntervalSet::new(alloc, 10, 20)?);
+    /// ```
+    ///
+    /// The original answers a plain set, has no error for want of memory, and cannot be asked
+    /// whether the products fit.
     fn mul(self, rhs: IntervalSet<B>) -> Result<IntervalSet<B>, AllocError> {
         combine(&self, &rhs, Op::Product)
     }
@@ -305,9 +384,11 @@ impl<B: Width> Mul<&IntervalSet<B>> for IntervalSet<B> {
 
     ghost mul_gives = { λ a b r. IfOk r (λ L. IsRunsOf L (Products (Covers a) (Covers b.now))) };
 
-    /// For each pair of runs, the numbers from the least to the greatest product. Condition: `fits_mul`.
+    /// For each pair of runs, the numbers from the least to the greatest product. Condition: the
+    /// products are in the range, which `fits_mul` tests.
     ///
-    /// `O(n m log (n m))` for `n` and `m` runs, in memory for twice `n * m` runs.
+    /// `O(n m log (n m))` for `n` and `m` runs, in memory for twice `n * m` runs. An error is
+    /// memory that was refused; the borrowed set is not changed.
     fn mul(self, rhs: &IntervalSet<B>) -> Result<IntervalSet<B>, AllocError> {
         combine(&self, rhs, Op::Product)
     }
@@ -320,9 +401,11 @@ impl<B: Width> Mul<IntervalSet<B>> for &IntervalSet<B> {
 
     ghost mul_gives = { λ a b r. IfOk r (λ L. IsRunsOf L (Products (Covers a.now) (Covers b))) };
 
-    /// For each pair of runs, the numbers from the least to the greatest product. Condition: `fits_mul`.
+    /// For each pair of runs, the numbers from the least to the greatest product. Condition: the
+    /// products are in the range, which `fits_mul` tests.
     ///
-    /// `O(n m log (n m))` for `n` and `m` runs, in memory for twice `n * m` runs.
+    /// `O(n m log (n m))` for `n` and `m` runs, in memory for twice `n * m` runs. An error is
+    /// memory that was refused; the borrowed set is not changed.
     fn mul(self, rhs: IntervalSet<B>) -> Result<IntervalSet<B>, AllocError> {
         combine(self, &rhs, Op::Product)
     }
@@ -335,9 +418,11 @@ impl<B: Width> Mul<&IntervalSet<B>> for &IntervalSet<B> {
 
     ghost mul_gives = { λ a b r. IfOk r (λ L. IsRunsOf L (Products (Covers a.now) (Covers b.now))) };
 
-    /// For each pair of runs, the numbers from the least to the greatest product. Condition: `fits_mul`.
+    /// For each pair of runs, the numbers from the least to the greatest product. Condition: the
+    /// products are in the range, which `fits_mul` tests.
     ///
-    /// `O(n m log (n m))` for `n` and `m` runs, in memory for twice `n * m` runs.
+    /// `O(n m log (n m))` for `n` and `m` runs, in memory for twice `n * m` runs. An error is
+    /// memory that was refused; neither set is changed.
     fn mul(self, rhs: &IntervalSet<B>) -> Result<IntervalSet<B>, AllocError> {
         combine(self, rhs, Op::Product)
     }
@@ -350,8 +435,20 @@ impl<B: Width> Mul<B> for IntervalSet<B> {
 
     ghost mul_gives = { λ a x r. IfOk r (λ L. IsRunsOf L (Products (Covers a) (Only (B.value x)))) };
 
-    /// For each run, the numbers from the least to the greatest product with the value. Condition: `fits_mul`, where the value
-    /// itself may lie outside the range. `O(n)` for `n` runs, in memory for as many.
+    /// For each run, the numbers from the least to the greatest product with the value. Condition:
+    /// the products are in the range, which `fits_mul` tests; the value itself may lie outside.
+    ///
+    /// `O(n)` for `n` runs, in memory for as many. An error is memory that was refused.
+    ///
+    /// ```
+    /// let a = IntervalSet::new(alloc, 1, 2)?;
+    /// assert!(rt; a.fits_mul(&-3), "the products fit");
+    /// assert!(rt; (a * -3)? == IntervalSet::new(alloc, -6, -3)?);
+    /// ```
+    ///
+    /// The original answers a plain set, has no error for want of memory, and cannot be asked
+    /// whether the products fit. There, an interval times a negative value has crossed bounds; here
+    /// the runs stay ascending.
     fn mul(self, rhs: B) -> Result<IntervalSet<B>, AllocError>
         requires { IsSubset (ExactProducts (Covers self) (Only (B.value rhs))) (IsBetween B.whole) }
         ensures members { IfOk result (λ L. IsRunsOf L (Products (Covers self) (Only (B.value rhs)))) }
@@ -368,8 +465,10 @@ impl<B: Width> Mul<&B> for IntervalSet<B> {
 
     ghost mul_gives = { λ a x r. IfOk r (λ L. IsRunsOf L (Products (Covers a) (Only (B.value x.now)))) };
 
-    /// For each run, the numbers from the least to the greatest product with the value. Condition: `fits_mul`, where the value
-    /// itself may lie outside the range. `O(n)` for `n` runs, in memory for as many.
+    /// For each run, the numbers from the least to the greatest product with the value. Condition:
+    /// the products are in the range, which `fits_mul` tests; the value itself may lie outside.
+    ///
+    /// `O(n)` for `n` runs, in memory for as many. An error is memory that was refused.
     fn mul(self, rhs: &B) -> Result<IntervalSet<B>, AllocError>
         requires { IsSubset (ExactProducts (Covers self) (Only (B.value rhs.now))) (IsBetween B.whole) }
         ensures members { IfOk result (λ L. IsRunsOf L (Products (Covers self) (Only (B.value rhs.now)))) }
@@ -386,8 +485,11 @@ impl<B: Width> Mul<B> for &IntervalSet<B> {
 
     ghost mul_gives = { λ a x r. IfOk r (λ L. IsRunsOf L (Products (Covers a.now) (Only (B.value x)))) };
 
-    /// For each run, the numbers from the least to the greatest product with the value. Condition: `fits_mul`, where the value
-    /// itself may lie outside the range. `O(n)` for `n` runs, in memory for as many.
+    /// For each run, the numbers from the least to the greatest product with the value. Condition:
+    /// the products are in the range, which `fits_mul` tests; the value itself may lie outside.
+    ///
+    /// `O(n)` for `n` runs, in memory for as many. An error is memory that was refused; the set is
+    /// not changed.
     fn mul(self, rhs: B) -> Result<IntervalSet<B>, AllocError>
         requires { IsSubset (ExactProducts (Covers self.now) (Only (B.value rhs))) (IsBetween B.whole) }
         ensures members { IfOk result (λ L. IsRunsOf L (Products (Covers self.now) (Only (B.value rhs)))) }
@@ -404,8 +506,11 @@ impl<B: Width> Mul<&B> for &IntervalSet<B> {
 
     ghost mul_gives = { λ a x r. IfOk r (λ L. IsRunsOf L (Products (Covers a.now) (Only (B.value x.now)))) };
 
-    /// For each run, the numbers from the least to the greatest product with the value. Condition: `fits_mul`, where the value
-    /// itself may lie outside the range. `O(n)` for `n` runs, in memory for as many.
+    /// For each run, the numbers from the least to the greatest product with the value. Condition:
+    /// the products are in the range, which `fits_mul` tests; the value itself may lie outside.
+    ///
+    /// `O(n)` for `n` runs, in memory for as many. An error is memory that was refused; the set is
+    /// not changed.
     fn mul(self, rhs: &B) -> Result<IntervalSet<B>, AllocError>
         requires { IsSubset (ExactProducts (Covers self.now) (Only (B.value rhs.now))) (IsBetween B.whole) }
         ensures members { IfOk result (λ L. IsRunsOf L (Products (Covers self.now) (Only (B.value rhs.now)))) }

@@ -10,9 +10,15 @@ use std::alloc::{AllocError, Global};
 
 impl<B: Width> IntervalSet<B> {
     /// The set of `x` alone. Condition: `x` is in the range, which `Interval::whole().contains(&x)`
-    /// tests. Takes memory for one run.
+    /// tests. `O(1)`, in memory for one run. An error is memory that was refused.
     ///
-    /// In the original the condition stands in no signature.
+    /// ```
+    /// let five = IntervalSet::singleton(alloc, 5)?;
+    /// assert!(rt; five == IntervalSet::new(alloc, 5, 5)?);
+    /// ```
+    ///
+    /// In the original this is a call of a trait, the condition stands in no signature, and there
+    /// is no error for want of memory.
     pub fn singleton(alloc: Global, x: B) -> Result<Self, AllocError>
         requires { IsBetween B.whole (B.value x) }
         ensures { IfOk result (λ L. L ≡ (B.value x, B.value x) ∷ []) }
@@ -20,21 +26,42 @@ impl<B: Width> IntervalSet<B> {
         Self::new(alloc, x, x)
     }
 
-    /// The range of `B`, as one run. Takes memory for one run.
+    /// The range of `B`, as one run. `O(1)`, in memory for one run. An error is memory that was
+    /// refused.
+    ///
+    /// ```
+    /// let bytes = IntervalSet::<u8>::whole(alloc)?;
+    /// assert!(rt; bytes.contains(&0) && bytes.contains(&254) && !bytes.contains(&255));
+    /// ```
+    ///
+    /// In the original this is a call of a trait, and has no error for want of memory.
     pub fn whole(alloc: Global) -> Result<Self, AllocError>
         ensures { IfOk result (λ L. L ≡ B.whole ∷ []) }
     {
         Self::new(alloc, B::min_value(), B::max_value())
     }
 
-    /// The range of `B`, which every set entails. Takes memory for one run.
+    /// The range of `B`, which every set entails. `O(1)`, in memory for one run. An error is memory
+    /// that was refused.
+    ///
+    /// ```
+    /// assert!(rt; IntervalSet::<u8>::bot(alloc)? == IntervalSet::whole(alloc)?);
+    /// ```
+    ///
+    /// In the original this is a call of a trait, and has no error for want of memory.
     pub fn bot(alloc: Global) -> Result<Self, AllocError>
         ensures { IfOk result (λ L. L ≡ B.whole ∷ []) }
     {
         Self::whole(alloc)
     }
 
-    /// The set with no member, which entails every other. Takes no memory.
+    /// The set with no member, which entails every other. `O(1)`, and takes no memory.
+    ///
+    /// ```
+    /// assert!(rt; IntervalSet::<u8>::top(alloc).is_empty());
+    /// ```
+    ///
+    /// In the original this is a call of a trait, and takes no allocator.
     pub fn top(alloc: Global) -> Self
         ensures { result ≡ [] }
     {
@@ -44,7 +71,12 @@ impl<B: Width> IntervalSet<B> {
 
 impl<B: Width> Bounded for IntervalSet<B> {
     /// The least member: the start of the first run. Condition: there is a member, which `is_empty`
-    /// tests. `O(1)`.
+    /// tests. `O(1)`, with no memory.
+    ///
+    /// ```
+    /// let a: IntervalSet<i32> = [(1, 2), (5, 6)].to_interval_set(alloc)?;
+    /// assert!(rt; a.contains(&5) && a.lower() == 1);
+    /// ```
     ///
     /// In the original the condition stands in no signature.
     fn lower(&self) -> B
@@ -58,7 +90,14 @@ impl<B: Width> Bounded for IntervalSet<B> {
     }
 
     /// The greatest member: the end of the last run. Condition: there is a member, which `is_empty`
-    /// tests. `O(1)`.
+    /// tests. `O(1)`, with no memory.
+    ///
+    /// ```
+    /// let a: IntervalSet<i32> = [(1, 2), (5, 6)].to_interval_set(alloc)?;
+    /// assert!(rt; a.contains(&5) && a.upper() == 6);
+    /// ```
+    ///
+    /// In the original the condition stands in no signature.
     fn upper(&self) -> B
         requires { HasSome (Covers self.now) }
         ensures member { Covers self.now (B.value result) }
@@ -73,7 +112,12 @@ impl<B: Width> Bounded for IntervalSet<B> {
 impl<B: Width> IsSingleton for IntervalSet<B> {
     ghost members = { Covers };
 
-    /// True exactly where there is one member and no other. `O(1)`.
+    /// True exactly where there is one member and no other. `O(1)`, with no memory.
+    ///
+    /// ```
+    /// let a = IntervalSet::new(alloc, 1, 2)?;
+    /// assert!(rt; !a.is_singleton() && IntervalSet::new(alloc, 5, 5)?.is_singleton());
+    /// ```
     fn is_singleton(&self) -> bool {
         if self.intervals.len() != 1 {
             return false;

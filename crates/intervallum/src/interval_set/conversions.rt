@@ -13,7 +13,16 @@ use std::alloc::{AllocError, Global};
 use std::marker::Model;
 use std::vec;
 
-/// The runs of a set by value, ascending, from both ends. A contract sees the runs that are left.
+/// The runs of a set by value, ascending, from both ends, as `into_iter` gives them. A contract
+/// sees the runs that are left.
+///
+/// ```
+/// let mut runs = IntervalSet::new(alloc, 1, 2)?.into_iter();
+/// assert!(rt; runs.next() == Some(Interval::new(1, 2)) && runs.next().is_none());
+/// ```
+///
+/// In the original it is `vec::IntoIter`; this one has no `ExactSizeIterator`, `Clone` or
+/// `as_slice`.
 #[derive(Drop)]
 pub struct IntoRuns<B: Width> {
     runs: vec::IntoIter<Interval<B>>,
@@ -45,7 +54,13 @@ impl<B: Width> Iterator for IntoRuns<B> {
 
     ghost remaining = { item_count (λ rest. rest) };
 
-    /// The first of the runs that are left.
+    /// The first of the runs that are left; none where no run is. `O(1)`, with no memory.
+    ///
+    /// ```
+    /// let a: IntervalSet<i32> = [(1, 2), (5, 6)].to_interval_set(alloc)?;
+    /// let mut runs = a.into_iter();
+    /// assert!(rt; runs.next() == Some(Interval::new(1, 2)));
+    /// ```
     fn next(&mut self) -> Option<Interval<B>> {
         self.runs.next()
     }
@@ -54,7 +69,13 @@ impl<B: Width> Iterator for IntoRuns<B> {
 impl<B: Width> DoubleEndedIterator for IntoRuns<B> {
     ghost next_back_gives = { YieldsLast (λ rest. rest) };
 
-    /// The last of the runs that are left.
+    /// The last of the runs that are left; none where no run is. `O(1)`, with no memory.
+    ///
+    /// ```
+    /// let a: IntervalSet<i32> = [(1, 2), (5, 6)].to_interval_set(alloc)?;
+    /// let mut runs = a.into_iter();
+    /// assert!(rt; runs.next_back() == Some(Interval::new(5, 6)));
+    /// ```
     fn next_back(&mut self) -> Option<Interval<B>> {
         self.runs.next_back()
     }
@@ -67,7 +88,15 @@ impl<B: Width> IntoIterator for IntervalSet<B> {
 
     ghost into_iter_gives = { λ s it. it ≡ s };
 
-    /// The runs, ascending, from both ends. Takes no memory.
+    /// The runs, ascending, from both ends; the set is taken apart. `O(1)`, with no memory.
+    ///
+    /// ```
+    /// for run in IntervalSet::new(alloc, 1, 2)? {
+    ///     assert_eq!(rt; run.size(), 2u32);
+    /// }
+    /// ```
+    ///
+    /// The original gives `vec::IntoIter`.
     fn into_iter(self) -> IntoRuns<B> {
         IntoRuns::new(self.into_runs())
     }
@@ -80,7 +109,14 @@ impl<'a, B: Width> IntoIterator for &'a IntervalSet<B> {
 
     ghost into_iter_gives = { λ s it. it.rest.now ≡ s.now };
 
-    /// The runs, ascending, from both ends.
+    /// The runs, ascending, from both ends, as `iter` gives them. `O(1)`, with no memory.
+    ///
+    /// ```
+    /// let a: IntervalSet<i32> = [(1, 2), (5, 6)].to_interval_set(alloc)?;
+    /// for run in &a {
+    ///     assert_eq!(rt; run.size(), 2u32);
+    /// }
+    /// ```
     fn into_iter(self) -> std::slice::Iter<'a, Interval<B>> {
         self.iter()
     }
@@ -88,13 +124,20 @@ impl<'a, B: Width> IntoIterator for &'a IntervalSet<B> {
 
 impl<B: Width> IntervalSet<B> {
     /// Adds the members of every interval that an iterator gives, in any order; an interval with no
-    /// member adds nothing.
+    /// member adds nothing. Condition: the iterator comes to its end.
     ///
     /// All items are gathered first and the set is changed last: after an error, which is want of
-    /// memory, it is as it was. `O(k log k + n)` for `k` items and `n` runs, in memory for `2 k + n` runs
-    /// besides what the gathering of the items leaves over.
+    /// memory, it is as it was. `O(k log k + n)` for `k` items and `n` runs, in memory for
+    /// `2 k + n` runs besides what the gathering of the items leaves over.
     ///
-    /// The original is not meant for an interval with no member, and cannot tell want of memory.
+    /// ```
+    /// let mut a = IntervalSet::new(alloc, 1, 2)?;
+    /// a.extend([Interval::new(7, 9), Interval::new(3, 4)].iter().copied())?;
+    /// assert!(rt; a == [(1, 4), (7, 9)].to_interval_set(alloc)?);
+    /// ```
+    ///
+    /// The original takes any `IntoIterator`, is not meant for an interval with no member, and
+    /// cannot tell want of memory.
     pub fn extend<I: Iterator<Item = Interval<B>> + Drop>(
         &mut self,
         iterator: I,
@@ -127,7 +170,12 @@ fn gathered<B: Width, I: Iterator<Item = Interval<B>> + Drop>(
     coalesce(alloc, list)
 }
 
-/// A value that is read as a set.
+/// A value that is read as a set: a pair of bounds, or a slice, a vector or an array of pairs.
+///
+/// ```
+/// let a: IntervalSet<i32> = (2, 8).to_interval_set(alloc)?;
+/// assert!(rt; a == IntervalSet::new(alloc, 2, 8)?);
+/// ```
 pub trait ToIntervalSet<B: Width> {
     /// The bounds of each pair are those of an interval.
     ghost can_convert: { Self → Type 0 };
@@ -136,11 +184,18 @@ pub trait ToIntervalSet<B: Width> {
     ghost pairs: { Self → List (ℤ × ℤ) };
 
     /// The set of the members of every pair. Condition: no bound is outside the range, which
-    /// `Interval::in_range` tests. Pairs may stand in any order and overlap; a pair whose bounds cross
-    /// adds nothing.
+    /// `Interval::in_range` tests. Pairs may stand in any order and overlap; a pair whose bounds
+    /// cross adds nothing.
     ///
-    /// `O(n log n)` for `n` pairs, in memory for twice as many runs. The original is not meant for a
-    /// crossed pair.
+    /// `O(n log n)` for `n` pairs, in memory for twice as many runs. An error is memory that was
+    /// refused.
+    ///
+    /// ```
+    /// let a: IntervalSet<i32> = [(3, 8), (2, 5), (9, 4)].to_interval_set(alloc)?;
+    /// assert!(rt; a == IntervalSet::new(alloc, 2, 8)?);
+    /// ```
+    ///
+    /// The original is not meant for a crossed pair, and has no error for want of memory.
     fn to_interval_set(self, alloc: Global) -> Result<IntervalSet<B>, AllocError>
         requires { can_convert self }
         ensures { IfOk result (λ L. IsRunsOf L (Covers (pairs self))) };
@@ -151,7 +206,8 @@ impl<B: Width> ToIntervalSet<B> for (B, B) {
 
     ghost pairs = { λ p. (B.value p.0, B.value p.1) ∷ [] };
 
-    /// The set of the numbers from the first to the second.
+    /// The set of the numbers from the first to the second; none where they cross. `O(1)`, in
+    /// memory for two runs. An error is memory that was refused.
     fn to_interval_set(self, alloc: Global) -> Result<IntervalSet<B>, AllocError> {
         let mut list = Vec::with_capacity(alloc, 1)?;
         list.push(Interval::new(self.0, self.1))?;
@@ -164,7 +220,8 @@ impl<B: Width> ToIntervalSet<B> for &[(B, B)] {
 
     ghost pairs = { λ s. map (λ p. (B.value p.0, B.value p.1)) s.now };
 
-    /// The set of the members of every pair.
+    /// The set of the members of every pair. An error is memory that was refused. The pairs are not
+    /// changed.
     fn to_interval_set(self, alloc: Global) -> Result<IntervalSet<B>, AllocError> {
         of_pairs(alloc, self)
     }
@@ -175,7 +232,8 @@ impl<B: Width> ToIntervalSet<B> for Vec<(B, B)> {
 
     ghost pairs = { λ v. map (λ p. (B.value p.0, B.value p.1)) v.items };
 
-    /// The set of the members of every pair.
+    /// The set of the members of every pair. An error is memory that was refused. The vector is let
+    /// go.
     fn to_interval_set(self, alloc: Global) -> Result<IntervalSet<B>, AllocError> {
         of_pairs(alloc, self.as_slice())
     }
@@ -186,7 +244,7 @@ impl<B: Width, const N: usize> ToIntervalSet<B> for [(B, B); N] {
 
     ghost pairs = { λ a. map (λ p. (B.value p.0, B.value p.1)) a };
 
-    /// The set of the members of every pair.
+    /// The set of the members of every pair. An error is memory that was refused.
     fn to_interval_set(self, alloc: Global) -> Result<IntervalSet<B>, AllocError> {
         of_pairs(alloc, &self)
     }

@@ -6,7 +6,15 @@ use crate::width::Width;
 use std::alloc::AllocError;
 
 impl<B: Width> IntervalSet<B> {
-    /// The same set once more. `O(n)`, in memory for `n` runs. An error is memory that was refused.
+    /// The same set once more. `O(n)`, in memory for `n` runs. An error is memory that was refused;
+    /// the set is not changed.
+    ///
+    /// ```
+    /// let a = IntervalSet::new(alloc, 1, 2)?;
+    /// assert!(rt; a.try_clone()? == a);
+    /// ```
+    ///
+    /// The original derives `Clone`, which has no error for want of memory.
     pub fn try_clone(&self) -> Result<Self, AllocError>
         ensures { IfOk result (λ L. L ≡ self.now) }
     {

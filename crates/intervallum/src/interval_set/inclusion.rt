@@ -13,9 +13,14 @@ use crate::width::Width;
 impl<B: Width> Subset for IntervalSet<B> {
     ghost members = { Covers };
 
-    /// True exactly where each member is a member of `other`, so always where there is none. Looks at
-    /// no run where this set has more members, and else searches each of its runs in `other`:
+    /// True exactly where each member is a member of `other`, so always where there is none. Looks
+    /// at no run where this set has more members, and else searches each of its runs in `other`:
     /// `O(n log m)`, with no memory.
+    ///
+    /// ```
+    /// let (a, b) = (IntervalSet::new(alloc, 1, 2)?, IntervalSet::new(alloc, 0, 10)?);
+    /// assert!(rt; a.is_subset(&b) && !b.is_subset(&a));
+    /// ```
     fn is_subset(&self, other: &IntervalSet<B>) -> bool {
         if self.size() > other.size() {
             return false;
@@ -50,6 +55,11 @@ impl<B: Width> ProperSubset for IntervalSet<B> {
 
     /// True exactly where each member is a member of `other`, and `other` has more. `O(n log m)`,
     /// with no memory; no run is looked at where the sizes are equal.
+    ///
+    /// ```
+    /// let (a, b) = (IntervalSet::new(alloc, 1, 2)?, IntervalSet::new(alloc, 0, 10)?);
+    /// assert!(rt; a.is_proper_subset(&b) && !a.is_proper_subset(&a));
+    /// ```
     fn is_proper_subset(&self, other: &IntervalSet<B>) -> bool {
         self.size() != other.size() && self.is_subset(other)
     }
@@ -59,7 +69,13 @@ impl<B: Width> Entailment for IntervalSet<B> {
     ghost members = { Covers };
 
     /// `True` where `other` includes this set, else `False` where this one includes `other`, else
-    /// `Unknown`. So `[1..2]` entails `[0..10]`. `O(n log m + m log n)`, with no memory.
+    /// `Unknown`. `O(n log m + m log n)`, with no memory.
+    ///
+    /// ```
+    /// let (a, b) = (IntervalSet::new(alloc, 1, 2)?, IntervalSet::new(alloc, 0, 10)?);
+    /// assert_eq!(rt; a.entail(&b), SKleene::True);
+    /// assert_eq!(rt; b.entail(&a), SKleene::False);
+    /// ```
     fn entail(&self, other: &IntervalSet<B>) -> SKleene {
         if self.is_subset(other) {
             SKleene::True

@@ -17,7 +17,15 @@ impl<B: Width> Join for IntervalSet<B> {
     ghost answers = { λ r S. IfOk r (λ L. IsRunsOf L S) };
 
     /// The members of both sets: the intersection. `O(n + m)`, in memory that is reserved once for
-    /// `n + m` runs. An error is memory that was refused.
+    /// `n + m` runs, of which the answer keeps about twice its own at most. Both sets are let go.
+    /// An error is memory that was refused.
+    ///
+    /// ```
+    /// let (a, b) = (IntervalSet::new(alloc, 1, 5)?, IntervalSet::new(alloc, 4, 9)?);
+    /// assert!(rt; a.join(b)? == IntervalSet::new(alloc, 4, 5)?);
+    /// ```
+    ///
+    /// The original answers a plain set, and has no error for want of memory.
     fn join(self, other: IntervalSet<B>) -> Result<IntervalSet<B>, AllocError>
         ensures members { IfOk result (λ L. IsRunsOf L (Intersection (Covers self) (Covers other))) }
         ensures runs_at_most { IfOk result (λ L. length L ≤ length self + length other) }
@@ -33,8 +41,16 @@ impl<B: Width> Meet for IntervalSet<B> {
 
     ghost answers = { λ r S. IfOk r (λ L. IsRunsOf L S) };
 
-    /// The members of either set: the union. `O(n + m)`, in memory that is reserved once for `n + m`
-    /// runs. An error is memory that was refused.
+    /// The members of either set: the union. `O(n + m)`, in memory that is reserved once for
+    /// `n + m` runs, of which the answer keeps about twice its own at most. Both sets are let go.
+    /// An error is memory that was refused.
+    ///
+    /// ```
+    /// let (a, b) = (IntervalSet::new(alloc, 1, 5)?, IntervalSet::new(alloc, 4, 9)?);
+    /// assert!(rt; a.meet(b)? == IntervalSet::new(alloc, 1, 9)?);
+    /// ```
+    ///
+    /// The original answers a plain set, and has no error for want of memory.
     fn meet(self, other: IntervalSet<B>) -> Result<IntervalSet<B>, AllocError>
         ensures members { IfOk result (λ L. IsRunsOf L (Union (Covers self) (Covers other))) }
         ensures runs_at_most { IfOk result (λ L. length L ≤ length self + length other) }

@@ -12,6 +12,11 @@ impl Overlap<IntervalSet<u8>> for u8 {
     ghost other_members = { Covers };
 
     /// True exactly where the value is a member of `other`. `O(log n)`, with no memory.
+    ///
+    /// ```
+    /// let a = IntervalSet::new(alloc, 1u8, 2)?;
+    /// assert!(rt; 2.overlap(&a) && !3.overlap(&a));
+    /// ```
     fn overlap(&self, other: &IntervalSet<u8>) -> bool {
         other.contains(self)
     }

@@ -12,6 +12,11 @@ use crate::width::Width;
 impl<B: Width> Contains for IntervalSet<B> {
     /// True exactly where `item` is a member; it may be any value of its type. Searches by halves:
     /// `O(log n)`, with no memory.
+    ///
+    /// ```
+    /// let a: IntervalSet<i32> = [(1, 2), (5, 6)].to_interval_set(alloc)?;
+    /// assert!(rt; a.contains(&5) && !a.contains(&3));
+    /// ```
     fn contains(&self, item: &B) -> bool {
         let mut runs = Probes::new(self);
         match find(&mut runs, *item) {
@@ -26,8 +31,13 @@ impl<B: Width> Overlap<B> for IntervalSet<B> {
 
     ghost other_members = { λ x. Only (B.value x) };
 
-    /// True exactly where the value is a member; any value of its type may be asked for. `O(log n)`,
-    /// with no memory.
+    /// True exactly where the value is a member; any value of its type may be asked for.
+    /// `O(log n)`, with no memory.
+    ///
+    /// ```
+    /// let a: IntervalSet<i32> = [(1, 2), (5, 6)].to_interval_set(alloc)?;
+    /// assert!(rt; a.overlap(&5) && !a.overlap(&3));
+    /// ```
     fn overlap(&self, other: &B) -> bool {
         self.contains(other)
     }
@@ -39,6 +49,11 @@ impl<B: Width> Overlap<Optional<B>> for IntervalSet<B> {
     ghost other_members = { λ o. Held (option_map B.value o) };
 
     /// True exactly where there is a value and it is a member. `O(log n)`, with no memory.
+    ///
+    /// ```
+    /// let a: IntervalSet<i32> = [(1, 2), (5, 6)].to_interval_set(alloc)?;
+    /// assert!(rt; a.overlap(&Optional::singleton(5)) && !a.overlap(&Optional::empty()));
+    /// ```
     fn overlap(&self, other: &Optional<B>) -> bool {
         match other.as_ref() {
             Some(x) => self.contains(x),

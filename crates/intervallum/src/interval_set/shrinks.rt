@@ -20,7 +20,15 @@ impl<B: Width> ShrinkLeft for IntervalSet<B> {
     ghost answers = { λ r S. IfOk r (λ L. IsRunsOf L S) };
 
     /// The members that are at least `lower`, which may be any value of its type. Searches by
-    /// halves: `O(log n + k)` where `k` runs stay, in memory that is reserved once for `k` runs.
+    /// halves: `O(log n + k)` where `k` runs stay, in memory that is reserved once for `k` runs. An
+    /// error is memory that was refused; the set is not changed.
+    ///
+    /// ```
+    /// let a = IntervalSet::new(alloc, 1, 5)?;
+    /// assert!(rt; a.shrink_left(3)? == IntervalSet::new(alloc, 3, 5)?);
+    /// ```
+    ///
+    /// The original answers a plain set, and has no error for want of memory.
     fn shrink_left(&self, lower: B) -> Result<IntervalSet<B>, AllocError>
         ensures members { IfOk result (λ L. IsRunsOf L (AtLeast (B.value lower) (Covers self.now))) }
         ensures runs_at_most { IfOk result (λ L. length L ≤ length self.now) }
@@ -35,7 +43,15 @@ impl<B: Width> ShrinkRight for IntervalSet<B> {
     ghost answers = { λ r S. IfOk r (λ L. IsRunsOf L S) };
 
     /// The members that are at most `upper`, which may be any value of its type. Searches by
-    /// halves: `O(log n + k)` where `k` runs stay, in memory that is reserved once for `k` runs.
+    /// halves: `O(log n + k)` where `k` runs stay, in memory that is reserved once for `k` runs. An
+    /// error is memory that was refused; the set is not changed.
+    ///
+    /// ```
+    /// let a = IntervalSet::new(alloc, 1, 5)?;
+    /// assert!(rt; a.shrink_right(3)? == IntervalSet::new(alloc, 1, 3)?);
+    /// ```
+    ///
+    /// The original answers a plain set, and has no error for want of memory.
     fn shrink_right(&self, upper: B) -> Result<IntervalSet<B>, AllocError>
         ensures members { IfOk result (λ L. IsRunsOf L (AtMost (B.value upper) (Covers self.now))) }
         ensures runs_at_most { IfOk result (λ L. length L ≤ length self.now) }
@@ -49,8 +65,16 @@ impl<B: Width> StrictShrinkLeft for IntervalSet<B> {
 
     ghost answers = { λ r S. IfOk r (λ L. IsRunsOf L S) };
 
-    /// The members above `lower`, which may be any value of its type. Searches by
-    /// halves: `O(log n + k)` where `k` runs stay, in memory that is reserved once for `k` runs.
+    /// The members above `lower`, which may be any value of its type. Searches by halves:
+    /// `O(log n + k)` where `k` runs stay, in memory that is reserved once for `k` runs. An error
+    /// is memory that was refused; the set is not changed.
+    ///
+    /// ```
+    /// let a = IntervalSet::new(alloc, 1, 5)?;
+    /// assert!(rt; a.strict_shrink_left(3)? == IntervalSet::new(alloc, 4, 5)?);
+    /// ```
+    ///
+    /// The original answers a plain set, and has no error for want of memory.
     fn strict_shrink_left(&self, lower: B) -> Result<IntervalSet<B>, AllocError>
         ensures members { IfOk result (λ L. IsRunsOf L (Above (B.value lower) (Covers self.now))) }
         ensures runs_at_most { IfOk result (λ L. length L ≤ length self.now) }
@@ -64,8 +88,16 @@ impl<B: Width> StrictShrinkRight for IntervalSet<B> {
 
     ghost answers = { λ r S. IfOk r (λ L. IsRunsOf L S) };
 
-    /// The members below `upper`, which may be any value of its type. Searches by
-    /// halves: `O(log n + k)` where `k` runs stay, in memory that is reserved once for `k` runs.
+    /// The members below `upper`, which may be any value of its type. Searches by halves:
+    /// `O(log n + k)` where `k` runs stay, in memory that is reserved once for `k` runs. An error
+    /// is memory that was refused; the set is not changed.
+    ///
+    /// ```
+    /// let a = IntervalSet::new(alloc, 1, 5)?;
+    /// assert!(rt; a.strict_shrink_right(3)? == IntervalSet::new(alloc, 1, 2)?);
+    /// ```
+    ///
+    /// The original answers a plain set, and has no error for want of memory.
     fn strict_shrink_right(&self, upper: B) -> Result<IntervalSet<B>, AllocError>
         ensures members { IfOk result (λ L. IsRunsOf L (Below (B.value upper) (Covers self.now))) }
         ensures runs_at_most { IfOk result (λ L. length L ≤ length self.now) }

@@ -9,8 +9,16 @@ use std::fmt;
 impl<B: Width + fmt::Display> fmt::Display for IntervalSet<B> {
     ghost output = { set_text (λ p. interval_text p (B.output (B.at p.0)) (B.output (B.at p.1))) };
 
-    /// `{}` where there is no member, `[1..5]` for one run, and `{[1..2][5..5]}` for more. Width and
-    /// fill of the formatter have no effect.
+    /// `{}` where there is no member, `[1..5]` for one run, and `{[1..2][5..5]}` for more. Width
+    /// and fill of the formatter have no effect. `O(n)`, with no memory of its own; an error is one
+    /// of the formatter.
+    ///
+    /// ```
+    /// let a: IntervalSet<i32> = [(1, 2), (5, 5)].to_interval_set(alloc)?;
+    /// assert_eq!(rt; format!(in alloc; "{a}")?.as_str(), "{[1..2][5..5]}");
+    /// ```
+    ///
+    /// The original asks `Display` of the sizes too.
     fn fmt<W: fmt::Write>(&self, f: &mut fmt::Formatter<W>) -> fmt::Result {
         let runs = self.as_runs();
         if runs.len() == 1 {

@@ -21,12 +21,18 @@ impl<B: Width> Union<B> for IntervalSet<B> {
 
     ghost answers = { λ r S. IfOk r (λ L. IsRunsOf L S) };
 
-    /// The members, and the value. `O(n)`, in memory
-    /// for `n + 1` runs, and for one run that holds the value meanwhile. An error is memory that was
-    /// refused; the set is not changed.
+    /// The members, and the value. `O(n)`, in memory for `n + 1` runs, and for one run that holds
+    /// the value meanwhile. An error is memory that was refused; the set is not changed.
     ///
-    /// Condition: the value is in the range, which `Interval::in_range(value, value)` tests. The original
-    /// has no such condition in its signature.
+    /// Condition: the value is in the range, which `Interval::in_range(value, value)` tests.
+    ///
+    /// ```
+    /// let a = IntervalSet::new(alloc, 1, 5)?;
+    /// assert!(rt; a.union(&6)? == IntervalSet::new(alloc, 1, 6)?);
+    /// ```
+    ///
+    /// In the original the condition stands in no signature, the answer is a plain set, and there
+    /// is no error for want of memory.
     fn union(&self, other: &B) -> Result<IntervalSet<B>, AllocError>
         requires { IsBetween B.whole (B.value other.now) }
         ensures members { IfOk result (λ L. IsRunsOf L (Union (Covers self.now) (Only (B.value other.now)))) }
@@ -48,12 +54,19 @@ impl<B: Width> SymmetricDifference<B> for IntervalSet<B> {
 
     ghost answers = { λ r S. IfOk r (λ L. IsRunsOf L S) };
 
-    /// The members without the value where it is one, else with it. `O(n)`, in memory
-    /// for `n + 1` runs, and for one run that holds the value meanwhile. An error is memory that was
-    /// refused; the set is not changed.
+    /// The members without the value where it is one, else with it. `O(n)`, in memory for `n + 1`
+    /// runs, and for one run that holds the value meanwhile. An error is memory that was refused;
+    /// the set is not changed.
     ///
-    /// Condition: the value is in the range, which `Interval::in_range(value, value)` tests. The original
-    /// has no such condition in its signature.
+    /// Condition: the value is in the range, which `Interval::in_range(value, value)` tests.
+    ///
+    /// ```
+    /// let a = IntervalSet::new(alloc, 1, 5)?;
+    /// assert!(rt; a.symmetric_difference(&5)? == IntervalSet::new(alloc, 1, 4)?);
+    /// ```
+    ///
+    /// In the original the condition stands in no signature, the answer is a plain set, and there
+    /// is no error for want of memory.
     fn symmetric_difference(&self, other: &B) -> Result<IntervalSet<B>, AllocError>
         requires { IsBetween B.whole (B.value other.now) }
         ensures members { IfOk result (λ L. IsRunsOf L (SymmetricDifference (Covers self.now) (Only (B.value other.now)))) }
@@ -73,9 +86,17 @@ impl<B: Width> Intersection<B> for IntervalSet<B> {
 
     ghost answers = { λ r S. IfOk r (λ L. IsRunsOf L S) };
 
-    /// The value alone where it is a member, else none; for any value of its type. `O(n)`, in memory
-    /// for `n + 1` runs, and for one run that holds the value meanwhile. An error is memory that was
-    /// refused; the set is not changed.
+    /// The value alone where it is a member, else none; for any value of its type. `O(n)`, in
+    /// memory for `n + 1` runs, and for one run that holds the value meanwhile. An error is memory
+    /// that was refused; the set is not changed.
+    ///
+    /// ```
+    /// let a = IntervalSet::new(alloc, 1, 5)?;
+    /// assert!(rt; a.intersection(&5)? == IntervalSet::singleton(alloc, 5)?);
+    /// ```
+    ///
+    /// The original is not meant for a value outside the range. It answers a plain set, and has no
+    /// error for want of memory.
     fn intersection(&self, other: &B) -> Result<IntervalSet<B>, AllocError>
         ensures members { IfOk result (λ L. IsRunsOf L (Intersection (Covers self.now) (Only (B.value other.now)))) }
         ensures runs_at_most { IfOk result (λ L. length L ≤ length self.now + 1) }
@@ -100,9 +121,17 @@ impl<B: Width> Difference<B> for IntervalSet<B> {
 
     ghost answers = { λ r S. IfOk r (λ L. IsRunsOf L S) };
 
-    /// The members but the value; for any value of its type. `O(n)`, in memory
-    /// for `n + 1` runs, and for one run that holds the value meanwhile. An error is memory that was
-    /// refused; the set is not changed.
+    /// The members but the value; for any value of its type. `O(n)`, in memory for `n + 1` runs,
+    /// and for one run that holds the value meanwhile. An error is memory that was refused; the set
+    /// is not changed.
+    ///
+    /// ```
+    /// let a = IntervalSet::new(alloc, 1, 5)?;
+    /// assert!(rt; a.difference(&5)? == IntervalSet::new(alloc, 1, 4)?);
+    /// ```
+    ///
+    /// The original is not meant for a value outside the range. It answers a plain set, and has no
+    /// error for want of memory.
     fn difference(&self, other: &B) -> Result<IntervalSet<B>, AllocError>
         ensures members { IfOk result (λ L. IsRunsOf L (Without (Covers self.now) (Only (B.value other.now)))) }
         ensures runs_at_most { IfOk result (λ L. length L ≤ length self.now + 1) }

@@ -12,7 +12,14 @@ use crate::width::Width;
 use std::alloc::AllocError;
 
 /// The members of the runs that are left in either walk. Advances once for each of these runs, and
-/// takes memory once, for as many runs. The set has the allocator of the first walk.
+/// takes memory once, for as many runs. The set has the allocator of the first walk. An error is
+/// memory that was refused; the sets that are walked over are not changed.
+///
+/// ```
+/// let (a, b) = (IntervalSet::new(alloc, 1, 5)?, IntervalSet::new(alloc, 4, 9)?);
+/// let either = unite(Walk::new(&a), Walk::new(&b))?;
+/// assert!(rt; either == IntervalSet::new(alloc, 1, 9)?);
+/// ```
 pub fn unite<B: Width>(
     mut first: Walk<'_, B>,
     mut second: Walk<'_, B>,

@@ -10,6 +10,12 @@ use std::marker::Model;
 
 /// The runs of a set. A contract sees them, and how often one was looked at; at run time nothing
 /// counts. Takes no memory.
+///
+/// ```
+/// let a: IntervalSet<i32> = [(1, 2), (5, 6)].to_interval_set(alloc)?;
+/// let mut probes = Probes::new(&a);
+/// assert_eq!(rt; find(&mut probes, 5), Place::In(1));
+/// ```
 #[derive(Drop)]
 pub struct Probes<'a, B: Width> {
     runs: &'a [Interval<B>],
@@ -29,7 +35,12 @@ impl<'a, B: Width> Model for Probes<'a, B> {
 }
 
 impl<'a, B: Width> Probes<'a, B> {
-    /// The runs of the set, with no look taken.
+    /// The runs of the set, with no look taken. `O(1)`, with no memory.
+    ///
+    /// ```
+    /// let a: IntervalSet<i32> = [(1, 2), (5, 6)].to_interval_set(alloc)?;
+    /// assert_eq!(rt; Probes::new(&a).len(), 2);
+    /// ```
     pub fn new(set: &'a IntervalSet<B>) -> Probes<'a, B>
         ensures runs { result.runs ≡ set.now }
         ensures looks { result.looks ≡ 0 }
@@ -40,7 +51,13 @@ impl<'a, B: Width> Probes<'a, B> {
         }
     }
 
-    /// How many runs there are. This is no look.
+    /// How many runs there are. This is no look. `O(1)`, with no memory.
+    ///
+    /// ```
+    /// let a: IntervalSet<i32> = [(1, 2), (5, 6)].to_interval_set(alloc)?;
+    /// let probes = Probes::new(&a);
+    /// assert_eq!(rt; probes.len(), 2);
+    /// ```
     pub fn len(&self) -> usize
         ensures value { result ≡ length self.now.runs }
         ensures runs { IsRunListIn B.whole self.now.runs }
@@ -48,7 +65,14 @@ impl<'a, B: Width> Probes<'a, B> {
         self.runs.len()
     }
 
-    /// Run number `i`, from 0, by one look. Condition: `i` is less than `len()`.
+    /// Run number `i`, from 0, by one look. Condition: `i` is less than `len()`. `O(1)`, with no
+    /// memory.
+    ///
+    /// ```
+    /// let a: IntervalSet<i32> = [(1, 2), (5, 6)].to_interval_set(alloc)?;
+    /// let mut probes = Probes::new(&a);
+    /// assert!(rt; probes.len() > 1 && probes.look(1) == Interval::new(5, 6));
+    /// ```
     pub fn look(&mut self, i: usize) -> Interval<B>
         requires { i < length self.old.runs }
         ensures run { slice_get self.old.runs i ≡ Some result }

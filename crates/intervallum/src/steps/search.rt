@@ -6,7 +6,13 @@ use super::probes::Probes;
 use crate::ops::Bounded;
 use crate::width::Width;
 
-/// Where a value stands in a list of runs, which are numbered from 0.
+/// Where a value stands in a list of runs, which are numbered from 0, as `find` tells.
+///
+/// ```
+/// let a: IntervalSet<i32> = [(1, 2), (5, 6)].to_interval_set(alloc)?;
+/// let mut probes = Probes::new(&a);
+/// assert_eq!(rt; find(&mut probes, 3), Place::Gap(1));
+/// ```
 #[derive(Clone, Copy, PartialEq, Eq, Debug)]
 pub enum Place {
     /// In the run of this number.
@@ -17,6 +23,13 @@ pub enum Place {
 
 /// Where `v` stands, which may be any value of its type. Looks at no run where there is none, and
 /// else at no more runs than their number has binary digits: `O(log n)`, with no memory.
+///
+/// ```
+/// let a: IntervalSet<i32> = [(1, 2), (5, 6)].to_interval_set(alloc)?;
+/// let mut probes = Probes::new(&a);
+/// assert_eq!(rt; find(&mut probes, 5), Place::In(1));
+/// assert_eq!(rt; find(&mut probes, 3), Place::Gap(1));
+/// ```
 pub fn find<B: Width>(probes: &mut Probes<'_, B>, v: B) -> Place
     ensures place { IsPlaceOf probes.old.runs (B.value v) result }
     ensures same { probes.new.runs ≡ probes.old.runs }

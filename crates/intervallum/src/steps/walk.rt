@@ -11,6 +11,14 @@ use std::marker::Model;
 
 /// The runs that are left of a set. A contract sees them, how many were taken away, and how many
 /// the set has. Takes no memory.
+///
+/// ```
+/// let a: IntervalSet<i32> = [(1, 2), (5, 6)].to_interval_set(alloc)?;
+/// let mut walk = Walk::new(&a);
+/// assert!(rt; walk.peek().is_some());
+/// walk.advance();
+/// assert!(rt; walk.left() == 1 && walk.peek() == Some(Interval::new(5, 6)));
+/// ```
 #[derive(Drop)]
 pub struct Walk<'a, B: Width> {
     runs: &'a [Interval<B>],
@@ -31,7 +39,12 @@ impl<'a, B: Width> Model for Walk<'a, B> {
 }
 
 impl<'a, B: Width> Walk<'a, B> {
-    /// A walk that has all runs of the set before it.
+    /// A walk that has all runs of the set before it. `O(1)`, with no memory.
+    ///
+    /// ```
+    /// let a: IntervalSet<i32> = [(1, 2), (5, 6)].to_interval_set(alloc)?;
+    /// assert_eq!(rt; Walk::new(&a).left(), 2);
+    /// ```
     pub fn new(set: &'a IntervalSet<B>) -> Walk<'a, B>
         ensures left { result.left ≡ set.now }
         ensures advances { result.advances ≡ 0 }
@@ -44,7 +57,13 @@ impl<'a, B: Width> Walk<'a, B> {
         }
     }
 
-    /// The first of the runs that are left.
+    /// The first of the runs that are left; none where no run is. `O(1)`, with no memory.
+    ///
+    /// ```
+    /// let a: IntervalSet<i32> = [(1, 2), (5, 6)].to_interval_set(alloc)?;
+    /// let walk = Walk::new(&a);
+    /// assert!(rt; walk.peek() == Some(Interval::new(1, 2)));
+    /// ```
     pub fn peek(&self) -> Option<Interval<B>>
         ensures first { result ≡ slice_get self.now.left 0 }
         ensures runs { IsRunListIn B.whole self.now.left }
@@ -52,7 +71,16 @@ impl<'a, B: Width> Walk<'a, B> {
         self.runs.get(self.taken).copied()
     }
 
-    /// Takes the first of the runs away. Condition: there is one, which `peek` tests.
+    /// Takes the first of the runs away. Condition: there is one, which `peek` tests. `O(1)`, with
+    /// no memory.
+    ///
+    /// ```
+    /// let a: IntervalSet<i32> = [(1, 2), (5, 6)].to_interval_set(alloc)?;
+    /// let mut walk = Walk::new(&a);
+    /// assert!(rt; walk.peek().is_some());
+    /// walk.advance();
+    /// assert_eq!(rt; walk.left(), 1);
+    /// ```
     pub fn advance(&mut self)
         requires { self.old.left ≢ [] }
         ensures left { (run : ℤ × ℤ) × (self.old.left ≡ run ∷ self.new.left) }
@@ -73,7 +101,14 @@ impl<'a, B: Width> Walk<'a, B> {
         Some(run)
     }
 
-    /// How many runs are left: with the advances made, they are the runs of the set.
+    /// How many runs are left: with the advances made, they are the runs of the set. `O(1)`, with
+    /// no memory.
+    ///
+    /// ```
+    /// let a: IntervalSet<i32> = [(1, 2), (5, 6)].to_interval_set(alloc)?;
+    /// let walk = Walk::new(&a);
+    /// assert_eq!(rt; walk.left(), 2);
+    /// ```
     pub fn left(&self) -> usize
         ensures value { result ≡ length self.now.left }
         ensures all { self.now.advances + length self.now.left ≡ self.now.count }
@@ -83,13 +118,26 @@ impl<'a, B: Width> Walk<'a, B> {
     }
 
     /// The runs that are left are in the range. This does nothing: its contract is the fact.
+    ///
+    /// ```
+    /// let a: IntervalSet<i32> = [(1, 2), (5, 6)].to_interval_set(alloc)?;
+    /// let walk = Walk::new(&a);
+    /// walk.in_range();
+    /// ```
     pub fn in_range(&self)
         ensures { IsRunListIn B.whole self.now.left }
     {
         let _taken = self.taken;
     }
 
-    /// The allocator of the set.
+    /// The allocator of the set. `O(1)`, with no memory.
+    ///
+    /// ```
+    /// let a: IntervalSet<i32> = [(1, 2), (5, 6)].to_interval_set(alloc)?;
+    /// let walk = Walk::new(&a);
+    /// let none: IntervalSet<i32> = IntervalSet::empty(walk.alloc());
+    /// assert!(rt; none.is_empty());
+    /// ```
     pub fn alloc(&self) -> Global {
         self.alloc
     }
