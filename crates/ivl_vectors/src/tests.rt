@@ -2,6 +2,7 @@
 mod arithmetic;
 mod conversions;
 mod debug_texts;
+mod doc_intervals;
 mod ends;
 mod fixtures;
 mod intervals;
