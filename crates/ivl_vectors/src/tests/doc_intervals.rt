@@ -52,7 +52,7 @@ fn bounds_and_members(rt: HostRuntime) {
     assert!(rt; Interval::new(8i32, 3).is_empty());
     assert!(rt; Interval::new(8i32, 3).is_empty() && !Interval::new(3i32, 3).is_empty());
     assert!(rt; Interval::new(5i32, 5).is_singleton());
-    assert!(rt; Interval::new(5i32, 5).is_singleton() && !Interval::new(5i32, 6).is_singleton());
+    assert!(rt; !Interval::new(5i32, 6).is_singleton());
     let a = Interval::new(3i32, 8);
     assert!(rt; a.contains(&8) && !a.contains(&9));
     assert!(rt; !Interval::<u8>::whole().contains(&255));
@@ -225,6 +225,7 @@ fn results_that_fit(rt: HostRuntime) {
 fn conversions(rt: HostRuntime) {
     let a: Interval<i32> = (1..=5).to_interval();
     assert_eq!(rt; a, Interval::new(1, 5));
+    let a = Interval::new(1i32, 5);
     let same: Interval<i32> = a.to_interval();
     assert_eq!(rt; same, a);
     let pair: Interval<i32> = (1, 5).to_interval();
