@@ -54,6 +54,7 @@ impl<B: Width> Clone for Interval<B> {
 
     ghost is_infallible = { λ _. ⊤ };
 
+    /// A copy. It takes no memory, so there is never an error.
     fn clone(&self) -> Result<Self, AllocError> {
         Ok(*self)
     }

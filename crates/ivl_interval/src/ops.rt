@@ -24,6 +24,7 @@ use crate::width::Width;
 
 /// A type whose values are sets of items, as `Interval<B>` with items of type `B`.
 pub trait Collection {
+    /// The type of the items.
     type Item;
 
     /// The members of a value.
@@ -149,6 +150,7 @@ pub trait Bounded: Collection {
 /// assert_eq!(rt; Interval::new(-3i32, 3).size(), 7);
 /// ```
 pub trait Cardinality {
+    /// The type of the number of members.
     type Size;
 
     ghost members: { Self → ℤ → Type 0 };

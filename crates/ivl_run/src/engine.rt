@@ -44,13 +44,14 @@ const REGISTERS: usize = 26;
 // As many bytes as one read may bring.
 const PIECE: usize = 65536;
 
-/// Answers each line of the input, over registers that are empty at first. What is written is flushed before each
-/// read and at the end.
+/// Answers each line of the input, over registers that are empty at first. What is written is
+/// flushed before each read and at the end.
 ///
 /// # Errors
 ///
-/// `Read` where a read failed, or the reader still gave bytes after 2^64 - 1 reads; an interrupted read is read again.
-/// `Write` where a write or a flush failed. `Memory` where a line or the numbers of a `set` found no memory.
+/// `Read` where a read failed, or the reader still gave bytes after 2^64 - 1 reads; an interrupted
+/// read is read again. `Write` where a write or a flush failed. `Memory` where the registers, a line
+/// or the numbers of a `set` found no memory.
 ///
 /// ```
 /// let mut input: &[u8] = b"set a 5 6\nshow a";
