@@ -50,8 +50,8 @@ const PIECE: usize = 65536;
 /// # Errors
 ///
 /// `Read` where a read failed, or the reader still gave bytes after 2^64 - 1 reads; an interrupted
-/// read is read again. `Write` where a write or a flush failed. `Memory` where the registers, a line
-/// or the numbers of a `set` found no memory.
+/// read is read again. `Write` where a write or a flush failed. `Memory` where the registers, a
+/// line or the numbers of a `set` found no memory.
 ///
 /// ```
 /// let mut input: &[u8] = b"set a 5 6\nshow a";
