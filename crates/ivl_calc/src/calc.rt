@@ -18,6 +18,12 @@ use std::marker::Model;
 /// A fixed number of registers, each a set, which commands read and write.
 ///
 /// Registers are named by their indexes from 0. A contract sees the list of their run lists.
+///
+/// ```
+/// let mut calc: Calc<i64> = Calc::new(alloc, 2)?;
+/// assert_eq!(rt; calc.registers(), 2);
+/// assert!(rt; calc.get(2).is_none());
+/// ```
 #[derive(Drop)]
 pub struct Calc<B: Width> {
     alloc: Global,
@@ -57,7 +63,8 @@ impl<B: Width> Calc<B> {
         self.registers.len()
     }
 
-    /// The set in a register; none exactly where the index has no register. `O(1)`, takes no memory.
+    /// The set in a register; none exactly where the index has no register. `O(1)`, takes no
+    /// memory.
     pub fn get(&self, register: usize) -> Option<&IntervalSet<B>>
         ensures known { IsSome result ↔ (register < length self.now) }
         ensures value { IfSome result (λ set. set.now ≡ slice_index_or self.now register []) }
@@ -65,8 +72,8 @@ impl<B: Width> Calc<B> {
         self.registers.get(register)
     }
 
-    /// Carries out one command. [`Refusal`](crate::Refusal) says what is refused, and in which order; a refused
-    /// command leaves all registers as they were.
+    /// Carries out one command. [`Refusal`](crate::Refusal) says what is refused, and in which
+    /// order; a refused command leaves all registers as they were.
     ///
     /// The costs are for `n` and `m` runs of the registers that are read. What writes a register
     /// makes the new set first, and then puts it in place of the old one.
@@ -85,6 +92,12 @@ impl<B: Width> Calc<B> {
     /// | `Sub` | `O(n log m)` | none |
     /// | `Meets` | `O(n + m)` | none |
     /// | `Show` | `O(n)` | a copy of the runs |
+    ///
+    /// ```
+    /// let mut calc: Calc<i64> = Calc::new(alloc, 4)?;
+    /// calc.apply(&Command::Set(2, vec![in alloc; (1, 2)]?));
+    /// assert_eq!(rt; calc.apply(&Command::Plus(1, 2, 2)), Reply::Cut(false));
+    /// ```
     pub fn apply(&mut self, command: &Command<B>) -> Reply<B>
         ensures { MayStep B.whole self.old (action_of B.value command.now) (answer_of B.value B.Output.size result) self.new }
     {
@@ -126,6 +139,13 @@ impl<B: Width> Calc<B> {
     ///
     /// `AllocError` where room for the replies is refused. It is asked for first: after an error no
     /// command has run.
+    ///
+    /// ```
+    /// let mut calc: Calc<i64> = Calc::new(alloc, 2)?;
+    /// let set = Command::Set(0, vec![in alloc; (5, 6), (1, 2)]?);
+    /// let replies = calc.run(&vec![in alloc; set, Command::Size(0)]?)?;
+    /// assert_eq!(rt; replies, vec![in alloc; Reply::Done, Reply::Size(4)]?);
+    /// ```
     pub fn run(&mut self, commands: &[Command<B>]) -> Result<Vec<Reply<B>>, AllocError>
         ensures ran { IfOk result (λ replies. Run B.whole self.old (map (action_of B.value) commands.now)
             (map (answer_of B.value B.Output.size) replies.items) self.new) }

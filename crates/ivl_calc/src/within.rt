@@ -27,6 +27,12 @@ pub(crate) enum Combined {
 /// # Errors
 ///
 /// `AllocError` where that memory is refused, which is asked for before anything is made.
+///
+/// ```
+/// // `whole` is the set of all numbers of the range of `i8`
+/// let (sums, is_cut) = add_within(whole, whole)?;
+/// assert!(rt; sums == *whole && is_cut);
+/// ```
 pub fn add_within<B: Width>(
     a: &IntervalSet<B>,
     b: &IntervalSet<B>,
@@ -46,6 +52,12 @@ pub fn add_within<B: Width>(
 /// # Errors
 ///
 /// `AllocError` where that memory is refused, which is asked for before anything is made.
+///
+/// ```
+/// // `none` is the empty set of `i8`, and `whole` that of all numbers of its range
+/// let (differences, is_cut) = sub_within(whole, none)?;
+/// assert!(rt; differences == *none && !is_cut);
+/// ```
 pub fn sub_within<B: Width>(
     a: &IntervalSet<B>,
     b: &IntervalSet<B>,

@@ -19,18 +19,16 @@ mod values;
 
 /// The whole numbers from a lower to an upper bound, both included; no number where the two cross.
 ///
-/// It is two bounds and nothing else: it is `Copy`, and no call takes memory or more than a few steps.
-/// All intervals with no member are equal, whatever bounds they store. A contract sees the pair of the
-/// numbers of the bounds.
+/// It is two bounds and nothing else: it is `Copy`, and no call takes memory or more than a few
+/// steps. All intervals with no member are equal, whatever bounds they store. A contract sees the
+/// pair of the numbers of the bounds.
 ///
-/// The original has any type as its bounds, and asks for more of it at each call; here it is a `Width`
-/// throughout.
+/// The original has any type as its bounds, and asks for more of it at each call; here it is a
+/// `Width` throughout.
 ///
 /// ```
-/// let a = Interval::new(1, 5);
-/// let b = Interval::new(4, 9);
-/// // the numbers 4 and 5, which prints as "[4..5]"
-/// let both = a.intersection(&b);
+/// let (a, b) = (Interval::new(1i32, 5), Interval::new(4, 9));
+/// assert_eq!(rt; a.intersection(&b), Interval::new(4, 5));
 /// ```
 #[derive(Copy, Debug)]
 pub struct Interval<B: Width> {
@@ -56,6 +54,7 @@ impl<B: Width> Clone for Interval<B> {
 
     ghost is_infallible = { λ _. ⊤ };
 
+    /// A copy. It takes no memory, so there is never an error.
     fn clone(&self) -> Result<Self, AllocError> {
         Ok(*self)
     }
@@ -67,6 +66,10 @@ impl<B: Width> PartialEq for Interval<B> {
     ghost laws = { same_interval_laws };
 
     /// True exactly where the two have the same members.
+    ///
+    /// ```
+    /// assert_eq!(rt; Interval::new(8i32, 3), Interval::empty());
+    /// ```
     fn eq(&self, other: &Self) -> bool
         ensures value { result ≡ same_interval self.now other.now }
         ensures members { IsTrue result ↔ SameMembers (IsBetween self.now) (IsBetween other.now) }

@@ -6,6 +6,13 @@
 //! bounds, and `answers` says what it takes for a result to stand for a set: to have exactly its
 //! members, or to be the least interval that holds it, or to be the right one unless memory was
 //! refused.
+//!
+//! The calls of intervals take a few steps and no memory, and have no error. Those of sets say what
+//! they cost; where one makes a set its answer is a `Result`, whose only error is memory that was
+//! refused.
+//!
+//! In the original the other operand is of the type `Self` where none is written; here its type is
+//! written at each use, as `Union<IntervalSet<B>>`.
 ghost use Rattle.std.specs.Prelude.{◌≡◌, ◌↔◌, ◌≤ℤ◌, ℕ, ℤ, IsTrue};
 ghost use Rattle.ivl_laws.specs.Sets.{Above, AtLeast, AtMost, Below, Complement, Differences, ExactProducts, HasNone, HasSome, Intersection, IsBetween, IsInRange, IsProperSubset, IsSubset, Only, SameMembers, Sums, SymmetricDifference, Union, Without};
 ghost use Rattle.ivl_laws.specs.Counts.{IsCountOf};
@@ -15,8 +22,9 @@ use crate::interval::Interval;
 use crate::kleene::SKleene;
 use crate::width::Width;
 
-/// A type whose values are sets of items.
+/// A type whose values are sets of items, as `Interval<B>` with items of type `B`.
 pub trait Collection {
+    /// The type of the items.
     type Item;
 
     /// The members of a value.
@@ -30,6 +38,10 @@ pub trait Collection {
 pub trait IntervalKind {}
 
 /// A set with no member.
+///
+/// ```
+/// assert!(rt; Interval::<i32>::empty().is_empty());
+/// ```
 pub trait Empty {
     ghost members: { Self → ℤ → Type 0 };
 
@@ -38,7 +50,12 @@ pub trait Empty {
         ensures { HasNone (members result) };
 }
 
-/// The top of the lattice of information, where sets are ordered by `entail`: the set with no member.
+/// The top of the lattice of information, where sets are ordered by `entail`: the set with no
+/// member.
+///
+/// ```
+/// assert_eq!(rt; Interval::<i32>::top(), Interval::empty());
+/// ```
 pub trait Top {
     ghost members: { Self → ℤ → Type 0 };
 
@@ -48,6 +65,10 @@ pub trait Top {
 }
 
 /// The bottom of the lattice of information: the whole range.
+///
+/// ```
+/// assert_eq!(rt; Interval::<i32>::bot(), Interval::whole());
+/// ```
 pub trait Bot {
     ghost members: { Self → ℤ → Type 0 };
 
@@ -59,6 +80,10 @@ pub trait Bot {
 }
 
 /// The whole range of the type of the bounds.
+///
+/// ```
+/// assert_eq!(rt; Interval::<u8>::whole(), Interval::new(0, 254));
+/// ```
 pub trait Whole {
     ghost members: { Self → ℤ → Type 0 };
 
@@ -70,6 +95,10 @@ pub trait Whole {
 }
 
 /// A set of one item.
+///
+/// ```
+/// assert_eq!(rt; Interval::singleton(5i32), Interval::new(5, 5));
+/// ```
 pub trait Singleton: Collection {
     ghost whole: { ℤ × ℤ };
 
@@ -81,17 +110,26 @@ pub trait Singleton: Collection {
 }
 
 /// The set of the items from one to another.
+///
+/// ```
+/// assert_eq!(rt; Interval::new(1i32, 5).size(), 5);
+/// ```
 pub trait Range: Collection {
     ghost whole: { ℤ × ℤ };
 
     /// The items from `lb` to `ub`, both included; none where they cross. Condition: `lb` is not
-    /// below the range and `ub` is not above it.
+    /// below the range and `ub` is not above it, which `Interval::in_range(lb, ub)` tests.
     fn new(lb: Self::Item, ub: Self::Item) -> Self
         requires { IsInRange whole (Self.number lb, Self.number ub) }
         ensures { SameMembers (Self.members result) (IsBetween (Self.number lb, Self.number ub)) };
 }
 
 /// The least and the greatest member.
+///
+/// ```
+/// let a = Interval::new(3i32, 8);
+/// assert_eq!(rt; (a.lower(), a.upper()), (3, 8));
+/// ```
 pub trait Bounded: Collection {
     /// The least member. Condition: there is one, which `is_empty` tests.
     fn lower(&self) -> Self::Item
@@ -99,7 +137,7 @@ pub trait Bounded: Collection {
         ensures member { Self.members self.now (Self.number result) }
         ensures least { (z : ℤ) → Self.members self.now z → Self.number result ≤ℤ z };
 
-    /// The greatest member. Condition: there is one.
+    /// The greatest member. Condition: there is one, which `is_empty` tests.
     fn upper(&self) -> Self::Item
         requires { HasSome (Self.members self.now) }
         ensures member { Self.members self.now (Self.number result) }
@@ -107,7 +145,12 @@ pub trait Bounded: Collection {
 }
 
 /// How many members a set has.
+///
+/// ```
+/// assert_eq!(rt; Interval::new(-3i32, 3).size(), 7);
+/// ```
 pub trait Cardinality {
+    /// The type of the number of members.
     type Size;
 
     ghost members: { Self → ℤ → Type 0 };
@@ -121,6 +164,12 @@ pub trait Cardinality {
 }
 
 /// Whether a set has no member.
+///
+/// The original takes it from another crate.
+///
+/// ```
+/// assert!(rt; Interval::new(8i32, 3).is_empty());
+/// ```
 pub trait IsEmpty {
     ghost members: { Self → ℤ → Type 0 };
 
@@ -131,6 +180,12 @@ pub trait IsEmpty {
 }
 
 /// Whether a set has exactly one member.
+///
+/// The original takes it from another crate.
+///
+/// ```
+/// assert!(rt; Interval::new(5i32, 5).is_singleton());
+/// ```
 pub trait IsSingleton {
     ghost members: { Self → ℤ → Type 0 };
 
@@ -140,6 +195,11 @@ pub trait IsSingleton {
 }
 
 /// Whether an item is a member.
+///
+/// ```
+/// let a = Interval::new(3i32, 8);
+/// assert!(rt; a.contains(&8) && !a.contains(&9));
+/// ```
 pub trait Contains: Collection {
     /// True exactly where `item` is a member; any value of its type may be asked for.
     fn contains(&self, item: &Self::Item) -> bool
@@ -147,6 +207,10 @@ pub trait Contains: Collection {
 }
 
 /// Whether two sets have no common member.
+///
+/// ```
+/// assert!(rt; Interval::new(1i32, 2).is_disjoint(&Interval::new(3, 4)));
+/// ```
 pub trait Disjoint<R> {
     ghost members: { Self → ℤ → Type 0 };
 
@@ -158,6 +222,10 @@ pub trait Disjoint<R> {
 }
 
 /// Whether two sets have a common member.
+///
+/// ```
+/// assert!(rt; Interval::new(1i32, 5).overlap(&Interval::new(5, 9)));
+/// ```
 pub trait Overlap<R> {
     ghost members: { Self → ℤ → Type 0 };
 
@@ -169,6 +237,11 @@ pub trait Overlap<R> {
 }
 
 /// Inclusion.
+///
+/// ```
+/// let (a, b) = (Interval::new(1i32, 2), Interval::new(0, 10));
+/// assert!(rt; a.is_subset(&b) && a.is_subset(&a));
+/// ```
 pub trait Subset {
     ghost members: { Self → ℤ → Type 0 };
 
@@ -178,6 +251,11 @@ pub trait Subset {
 }
 
 /// Inclusion of sets that differ.
+///
+/// ```
+/// let (a, b) = (Interval::new(1i32, 2), Interval::new(0, 10));
+/// assert!(rt; a.is_proper_subset(&b) && !a.is_proper_subset(&a));
+/// ```
 pub trait ProperSubset {
     ghost members: { Self → ℤ → Type 0 };
 
@@ -187,6 +265,12 @@ pub trait ProperSubset {
 }
 
 /// The members of two sets.
+///
+/// ```
+/// let a = IntervalSet::new(alloc, 1i32, 2)?;
+/// let b = IntervalSet::new(alloc, 2, 5)?;
+/// assert_eq!(rt; a.union(&b)?.size(), 5u32);
+/// ```
 pub trait Union<R> {
     type Output;
 
@@ -199,13 +283,19 @@ pub trait Union<R> {
 
     ghost answers: { Self.Output → (ℤ → Type 0) → Type 0 };
 
-    /// The numbers that are a member of at least one of the two.
+    /// The numbers that are a member of at least one of the two. Condition: a single value beside a
+    /// set is in the range, which `Interval::whole().contains(&value)` tests.
     fn union(&self, other: &R) -> Self::Output
         requires { can_unite self.now other.now }
         ensures { answers result (Union (members self.now) (other_members other.now)) };
 }
 
 /// The members that two sets have in common.
+///
+/// ```
+/// let (a, b) = (Interval::new(1i32, 5), Interval::new(4, 9));
+/// assert_eq!(rt; a.intersection(&b), Interval::new(4, 5));
+/// ```
 pub trait Intersection<R> {
     type Output;
 
@@ -221,6 +311,11 @@ pub trait Intersection<R> {
 }
 
 /// The members of one set that are not in another.
+///
+/// ```
+/// let (a, b) = (Interval::new(1i32, 5), Interval::new(4, 9));
+/// assert_eq!(rt; a.difference(&b), Interval::new(1, 3));
+/// ```
 pub trait Difference<R> {
     type Output;
 
@@ -236,6 +331,12 @@ pub trait Difference<R> {
 }
 
 /// The members of exactly one of two sets.
+///
+/// ```
+/// let a = IntervalSet::new(alloc, 1i32, 2)?;
+/// let b = IntervalSet::new(alloc, 2, 5)?;
+/// assert_eq!(rt; a.symmetric_difference(&b)?.size(), 4u32);
+/// ```
 pub trait SymmetricDifference<R> {
     type Output;
 
@@ -248,13 +349,19 @@ pub trait SymmetricDifference<R> {
 
     ghost answers: { Self.Output → (ℤ → Type 0) → Type 0 };
 
-    /// The numbers that are a member of one of the two and not of the other.
+    /// The numbers that are a member of one of the two and not of the other. Condition: a single
+    /// value beside a set is in the range, which `Interval::whole().contains(&value)` tests.
     fn symmetric_difference(&self, other: &R) -> Self::Output
         requires { can_unite self.now other.now }
         ensures { answers result (SymmetricDifference (members self.now) (other_members other.now)) };
 }
 
 /// The least interval that holds two sets.
+///
+/// ```
+/// let (a, b) = (Interval::new(1i32, 5), Interval::new(4, 9));
+/// assert_eq!(rt; a.hull(&b), Interval::new(1, 9));
+/// ```
 pub trait Hull<R> {
     type Output;
 
@@ -267,13 +374,22 @@ pub trait Hull<R> {
 
     ghost answers: { Self.Output → (ℤ → Type 0) → Type 0 };
 
-    /// What holds the members of both.
+    /// What holds the members of both. Condition: a single value is in the range, which
+    /// `Interval::whole().contains(&value)` tests.
     fn hull(&self, other: &R) -> Self::Output
         requires { can_join self.now other.now }
         ensures { answers result (Union (members self.now) (other_members other.now)) };
 }
 
 /// The numbers of the range that are no members.
+///
+/// The original answers `Self` in place of an `Output`.
+///
+/// ```
+/// let a = IntervalSet::new(alloc, 1u8, 254)?;
+/// let rest = a.complement()?;
+/// assert!(rt; rest.contains(&0) && rest.is_singleton());
+/// ```
 pub trait Complement {
     type Output;
 
@@ -289,6 +405,13 @@ pub trait Complement {
 }
 
 /// A set cut from the left.
+///
+/// The original answers `Self` in place of an `Output`.
+///
+/// ```
+/// let a = Interval::new(1i32, 9);
+/// assert_eq!(rt; a.shrink_left(4), Interval::new(4, 9));
+/// ```
 pub trait ShrinkLeft: Collection {
     type Output;
 
@@ -300,6 +423,13 @@ pub trait ShrinkLeft: Collection {
 }
 
 /// A set cut from the right.
+///
+/// The original answers `Self` in place of an `Output`.
+///
+/// ```
+/// let a = Interval::new(1i32, 9);
+/// assert_eq!(rt; a.shrink_right(4), Interval::new(1, 4));
+/// ```
 pub trait ShrinkRight: Collection {
     type Output;
 
@@ -311,6 +441,13 @@ pub trait ShrinkRight: Collection {
 }
 
 /// A set cut from the left, with the item itself.
+///
+/// The original takes it from another crate, and answers `Self` in place of an `Output`.
+///
+/// ```
+/// let a = Interval::new(1i32, 9);
+/// assert_eq!(rt; a.strict_shrink_left(4), Interval::new(5, 9));
+/// ```
 pub trait StrictShrinkLeft: Collection {
     type Output;
 
@@ -322,6 +459,13 @@ pub trait StrictShrinkLeft: Collection {
 }
 
 /// A set cut from the right, with the item itself.
+///
+/// The original takes it from another crate, and answers `Self` in place of an `Output`.
+///
+/// ```
+/// let a = Interval::new(1i32, 9);
+/// assert_eq!(rt; a.strict_shrink_right(4), Interval::new(1, 3));
+/// ```
 pub trait StrictShrinkRight: Collection {
     type Output;
 
@@ -333,6 +477,13 @@ pub trait StrictShrinkRight: Collection {
 }
 
 /// What two pieces of information say together: the common members.
+///
+/// The original answers `Self` in place of an `Output`.
+///
+/// ```
+/// let (a, b) = (Interval::new(1i32, 5), Interval::new(4, 9));
+/// assert_eq!(rt; a.join(b), Interval::new(4, 5));
+/// ```
 pub trait Join: Sized {
     type Output;
 
@@ -346,6 +497,13 @@ pub trait Join: Sized {
 }
 
 /// What two pieces of information agree on: what holds the members of either.
+///
+/// The original answers `Self` in place of an `Output`.
+///
+/// ```
+/// let (a, b) = (Interval::new(1i32, 5), Interval::new(4, 9));
+/// assert_eq!(rt; a.meet(b), Interval::new(1, 9));
+/// ```
 pub trait Meet: Sized {
     type Output;
 
@@ -359,6 +517,11 @@ pub trait Meet: Sized {
 }
 
 /// Whether one set says at least as much as another.
+///
+/// ```
+/// let (a, b) = (Interval::new(1i32, 5), Interval::new(4, 9));
+/// assert_eq!(rt; a.entail(&b), SKleene::Unknown);
+/// ```
 pub trait Entailment {
     ghost members: { Self → ℤ → Type 0 };
 
@@ -369,6 +532,11 @@ pub trait Entailment {
 }
 
 /// A value that is read as an interval.
+///
+/// ```
+/// let a: Interval<i32> = (1..=5).to_interval();
+/// assert_eq!(rt; a, Interval::new(1, 5));
+/// ```
 pub trait ToInterval<B: Width> {
     /// The bounds of the value are those of an interval.
     ghost can_convert: { Self → Type 0 };
@@ -376,7 +544,8 @@ pub trait ToInterval<B: Width> {
     /// The pair of numbers that the value stands for.
     ghost interval: { Self → ℤ × ℤ };
 
-    /// The interval that the value stands for. Condition: its bounds are not outside the range.
+    /// The interval that the value stands for. Condition: its bounds are not outside the range,
+    /// which `Interval::in_range` tests.
     fn to_interval(self) -> Interval<B>
         requires { can_convert self }
         ensures members { SameMembers (IsBetween result) (IsBetween (interval self)) }
@@ -384,6 +553,13 @@ pub trait ToInterval<B: Width> {
 }
 
 /// Whether the results of arithmetic are in the range.
+///
+/// The original has no such calls.
+///
+/// ```
+/// let (a, b) = (Interval::new(1i32, 2), Interval::new(10, 20));
+/// assert!(rt; a.fits_add(&b) && a.fits_sub(&b) && a.fits_mul(&b));
+/// ```
 pub trait Fits<R> {
     ghost whole: { ℤ × ℤ };
 
@@ -391,7 +567,8 @@ pub trait Fits<R> {
 
     ghost other_members: { R → ℤ → Type 0 };
 
-    /// True exactly where each sum of a member of the one and a member of the other is in the range.
+    /// True exactly where each sum of a member of the one and a member of the other is in the
+    /// range.
     fn fits_add(&self, other: &R) -> bool
         ensures { IsTrue result ↔ IsSubset (Sums (members self.now) (other_members other.now)) (IsBetween whole) };
 

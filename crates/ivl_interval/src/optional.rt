@@ -6,7 +6,15 @@ use std::marker::Model;
 
 /// A value, or none. A contract sees an option.
 ///
-/// It stands for a set of at most one member, and is `Copy` where its value is. No call takes memory.
+/// It stands for a set of at most one member, and is `Copy` where its value is. No call takes
+/// memory.
+///
+/// The original takes it from another crate.
+///
+/// ```
+/// let (none, some) = (Optional::empty(), Optional::singleton(5i32));
+/// assert!(rt; none != some);
+/// ```
 #[derive(Clone, Copy, PartialEq, Eq, Debug)]
 pub struct Optional<T> {
     value: Option<T>,
@@ -24,6 +32,10 @@ impl<T> Model for Optional<T> {
 
 impl<T> Optional<T> {
     /// None.
+    ///
+    /// ```
+    /// assert!(rt; Optional::<i32>::empty().is_empty());
+    /// ```
     pub fn empty() -> Self
         ensures { result ≡ None }
     {
@@ -31,6 +43,10 @@ impl<T> Optional<T> {
     }
 
     /// The value `x`.
+    ///
+    /// ```
+    /// assert_eq!(rt; Optional::singleton(5i32).as_ref(), Some(&5));
+    /// ```
     pub fn singleton(x: T) -> Self
         ensures { result ≡ Some x }
     {
@@ -38,6 +54,10 @@ impl<T> Optional<T> {
     }
 
     /// True exactly where there is no value.
+    ///
+    /// ```
+    /// assert!(rt; !Optional::singleton(5i32).is_empty());
+    /// ```
     pub fn is_empty(&self) -> bool
         ensures { IsTrue result ↔ (self.now ≡ None) }
     {
@@ -45,6 +65,10 @@ impl<T> Optional<T> {
     }
 
     /// True exactly where there is a value.
+    ///
+    /// ```
+    /// assert!(rt; Optional::singleton(5i32).is_some());
+    /// ```
     pub fn is_some(&self) -> bool
         ensures { IsTrue result ↔ IsSome self.now }
     {
@@ -52,6 +76,10 @@ impl<T> Optional<T> {
     }
 
     /// The value behind a reference, if there is one.
+    ///
+    /// ```
+    /// assert_eq!(rt; Optional::<i32>::empty().as_ref(), None);
+    /// ```
     pub fn as_ref(&self) -> Option<&T>
         ensures { option_copied result ≡ self.now }
     {

@@ -9,8 +9,15 @@ mod unsigned;
 
 /// The type of the number of members of an interval or a set.
 ///
-/// Its numbers are those from 0 to a greatest one. `u8`, `u16`, `u32`, `u64` and `usize` have it, and
-/// there every value of the type is a number.
+/// Its numbers are those from 0 to a greatest one. `u8`, `u16`, `u32`, `u64` and `usize` have it,
+/// and there every value of the type is a number.
+///
+/// No call takes memory.
+///
+/// ```
+/// assert_eq!(rt; <u8 as SizeNumber>::from_number(255), Some(255));
+/// assert_eq!(rt; <u8 as SizeNumber>::from_number(256), None);
+/// ```
 pub trait SizeNumber: Ord + Copy {
     /// The number of a value.
     ghost size: { Self → ℕ };
@@ -19,16 +26,28 @@ pub trait SizeNumber: Ord + Copy {
     ghost greatest: { ℕ };
 
     /// The number of a value.
+    ///
+    /// ```
+    /// assert_eq!(rt; <u8 as SizeNumber>::number(255), 255);
+    /// ```
     fn number(self) -> u128
         ensures number { result ≡ size self }
         ensures at_most { size self ≤ greatest };
 
     /// The value of a number; none exactly where the number is above the greatest one.
+    ///
+    /// ```
+    /// assert_eq!(rt; <u8 as SizeNumber>::from_number(256), None);
+    /// ```
     fn from_number(number: u128) -> Option<Self>
         ensures known { IsSome result ↔ (number ≤ greatest) }
         ensures same_number { IfSome result (λ x. size x ≡ number) };
 
     /// The value of 0.
+    ///
+    /// ```
+    /// assert_eq!(rt; <u8 as SizeNumber>::zero(), 0);
+    /// ```
     fn zero() -> Self
         ensures { size result ≡ 0 }
     {
@@ -36,6 +55,11 @@ pub trait SizeNumber: Ord + Copy {
     }
 
     /// The sum; none exactly where it is not a number of the type.
+    ///
+    /// ```
+    /// assert_eq!(rt; <u8 as SizeNumber>::checked_add(200, 55), Some(255));
+    /// assert_eq!(rt; <u8 as SizeNumber>::checked_add(200, 56), None);
+    /// ```
     fn checked_add(self, other: Self) -> Option<Self>
         ensures known { IsSome result ↔ (size self + size other ≤ greatest) }
         ensures same_number { IfSome result (λ x. size x ≡ size self + size other) }
@@ -44,6 +68,10 @@ pub trait SizeNumber: Ord + Copy {
     }
 
     /// The difference; none exactly where it is negative.
+    ///
+    /// ```
+    /// assert_eq!(rt; <u8 as SizeNumber>::checked_sub(3, 4), None);
+    /// ```
     fn checked_sub(self, other: Self) -> Option<Self>
         ensures known { IsSome result ↔ (size other ≤ size self) }
         ensures same_number { IfSome result (λ x. size x + size other ≡ size self) }
@@ -59,18 +87,25 @@ pub trait SizeNumber: Ord + Copy {
 
 /// The type of the bounds of an interval.
 ///
-/// Each value has a number, and two values of one number are one value. The numbers of intervals are
-/// those of the range, from `min_value()` to `max_value()`; a value outside the range may exist and be
-/// asked for, as `255u8` or `-128i8`. The range holds 0 and 1 and lies in the 64-bit numbers, and how
-/// many numbers it has is a number of `Output`.
+/// Each value has a number, and two values of one number are one value. The numbers of intervals
+/// are those of the range, from `min_value()` to `max_value()`; a value outside the range may exist
+/// and be asked for, as `255u8` or `-128i8`. The range holds 0 and 1 and lies in the 64-bit
+/// numbers, and how many numbers it has is a number of `Output`.
 ///
 /// | Type | from | to | `Output` |
 /// |---|---|---|---|
 /// | `u8`, `u16`, `u32`, `u64`, `usize` | 0 | the greatest value less 1 | the type itself |
 /// | `i8`, `i16`, `i32`, `i64`, `isize` | the least value plus 1 | the greatest value | the unsigned type of its width |
 ///
-/// The original asks for the arithmetic of its `Num`; here the numbers stand in its place. Where a
-/// type has an inherent call of the same name, write the trait's as `<B as Width>::min_value()`.
+/// The original has this trait in its `ops`, and asks for the arithmetic of its `Num`; here the
+/// numbers stand in its place. `usize` and `isize` have 64 bits here; the original takes the width
+/// of the machine. Where a type has an inherent call of the same name, write the trait's as
+/// `<B as Width>::min_value()`. No call takes memory.
+///
+/// ```
+/// assert_eq!(rt; <u8 as Width>::max_value(), 254);
+/// assert_eq!(rt; <i8 as Width>::min_value(), -127);
+/// ```
 pub trait Width: Ord + Copy {
     /// The type of sizes.
     type Output: SizeNumber;
@@ -85,24 +120,48 @@ pub trait Width: Ord + Copy {
     ghost whole: { ℤ × ℤ };
 
     /// The least value of the range.
+    ///
+    /// ```
+    /// assert_eq!(rt; <i8 as Width>::min_value(), -127);
+    /// ```
     fn min_value() -> Self
         ensures { value result ≡ whole.0 };
 
     /// The greatest value of the range.
+    ///
+    /// ```
+    /// assert_eq!(rt; <u8 as Width>::max_value(), 254);
+    /// ```
     fn max_value() -> Self
         ensures { value result ≡ whole.1 };
 
     /// The number of a value.
+    ///
+    /// ```
+    /// assert_eq!(rt; <i8 as Width>::number(-128), -128);
+    /// ```
     fn number(self) -> i128
         ensures { result ≡ value self };
 
     /// The value of a number; none exactly where the number is not in the range.
+    ///
+    /// ```
+    /// assert_eq!(rt; <u8 as Width>::from_number(254), Some(254));
+    /// assert_eq!(rt; <u8 as Width>::from_number(255), None);
+    /// ```
     fn from_number(number: i128) -> Option<Self>
         ensures known { IsSome result ↔ IsBetween whole number }
         ensures same_number { IfSome result (λ x. value x ≡ number) };
 
-    /// How many numbers lie from `lower` to `upper`, both included. Condition: both are in the range,
-    /// and `lower` is at most `upper`.
+    /// How many numbers lie from `lower` to `upper`, both included. Condition: both are in the
+    /// range, and `lower` is at most `upper`, which `Interval::in_range(*lower, *upper)` and
+    /// `lower <= upper` test.
+    ///
+    /// In the original the condition stands in no signature.
+    ///
+    /// ```
+    /// assert_eq!(rt; <i8 as Width>::width(&-127, &127), 255u8);
+    /// ```
     fn width(lower: &Self, upper: &Self) -> Self::Output
         requires in_range { IsInRange whole (value lower.now, value upper.now) }
         requires in_order { value lower.now ≤ℤ value upper.now }
@@ -113,6 +172,10 @@ pub trait Width: Ord + Copy {
     }
 
     /// The value of 0.
+    ///
+    /// ```
+    /// assert_eq!(rt; <i8 as Width>::zero(), 0);
+    /// ```
     fn zero() -> Self
         ensures { value result ≡ pos 0 }
     {
@@ -120,6 +183,10 @@ pub trait Width: Ord + Copy {
     }
 
     /// The value of 1.
+    ///
+    /// ```
+    /// assert_eq!(rt; <i8 as Width>::one(), 1);
+    /// ```
     fn one() -> Self
         ensures { value result ≡ pos 1 }
     {
@@ -127,6 +194,11 @@ pub trait Width: Ord + Copy {
     }
 
     /// The sum; none exactly where it is not in the range.
+    ///
+    /// ```
+    /// assert_eq!(rt; <u8 as Width>::checked_add(200, 54), Some(254));
+    /// assert_eq!(rt; <u8 as Width>::checked_add(200, 55), None);
+    /// ```
     fn checked_add(self, other: Self) -> Option<Self>
         ensures known { IsSome result ↔ IsBetween whole (value self +ℤ value other) }
         ensures same_number { IfSome result (λ x. value x ≡ value self +ℤ value other) }
@@ -135,6 +207,10 @@ pub trait Width: Ord + Copy {
     }
 
     /// The difference; none exactly where it is not in the range.
+    ///
+    /// ```
+    /// assert_eq!(rt; <u8 as Width>::checked_sub(3, 4), None);
+    /// ```
     fn checked_sub(self, other: Self) -> Option<Self>
         ensures known { IsSome result ↔ IsBetween whole (value self -ℤ value other) }
         ensures same_number { IfSome result (λ x. value x ≡ value self -ℤ value other) }
@@ -144,6 +220,10 @@ pub trait Width: Ord + Copy {
 
     /// The product; none exactly where it is not in the range. Two numbers of 64 bits can have a
     /// product beyond 128 bits, which is outside every range.
+    ///
+    /// ```
+    /// assert_eq!(rt; <i8 as Width>::checked_mul(-64, 2), None);
+    /// ```
     fn checked_mul(self, other: Self) -> Option<Self>
         ensures known { IsSome result ↔ IsBetween whole (value self *ℤ value other) }
         ensures same_number { IfSome result (λ x. value x ≡ value self *ℤ value other) }

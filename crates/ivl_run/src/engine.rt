@@ -18,10 +18,13 @@ use thiserror::Error;
 /// Why a session ended before its input did.
 #[derive(Clone, Copy, Debug, PartialEq, Eq, Error)]
 pub enum SessionFault {
+    /// A read failed.
     #[error("read failed")]
     Read,
+    /// A write or a flush failed.
     #[error("write failed")]
     Write,
+    /// Memory was refused.
     #[error("out of memory")]
     Memory,
 }
@@ -41,13 +44,21 @@ const REGISTERS: usize = 26;
 // As many bytes as one read may bring.
 const PIECE: usize = 65536;
 
-/// Answers each line of the input, over registers that are empty at first. What is written is flushed before each
-/// read and at the end.
+/// Answers each line of the input, over registers that are empty at first. What is written is
+/// flushed before each read and at the end.
 ///
 /// # Errors
 ///
-/// `Read` where a read failed, or the reader still gave bytes after 2^64 - 1 reads; an interrupted read is read again.
-/// `Write` where a write or a flush failed. `Memory` where a line or the numbers of a `set` found no memory.
+/// `Read` where a read failed, or the reader still gave bytes after 2^64 - 1 reads; an interrupted
+/// read is read again. `Write` where a write or a flush failed. `Memory` where the registers, a
+/// line or the numbers of a `set` found no memory.
+///
+/// ```
+/// let mut input: &[u8] = b"set a 5 6\nshow a";
+/// let mut written = Vec::new(alloc);
+/// assert_eq!(rt; session(alloc, &mut input, &mut written), Ok(()));
+/// assert_eq!(rt; written.as_slice(), b"ok\n[5..6]\n".as_slice());
+/// ```
 pub fn session<R: Read, W: Write>(
     alloc: Global,
     reader: &mut R,
@@ -198,6 +209,11 @@ fn write_answer<W: Write>(calc: &mut Calc<i64>, line: &Line, writer: &mut W) -> 
 }
 
 /// The status with which the program ends, and what it says on standard error.
+///
+/// ```
+/// assert_eq!(rt; outcome(&Ok(())), (0, ""));
+/// assert_eq!(rt; outcome(&Err(SessionFault::Read)), (1, "ivl_run: read failed"));
+/// ```
 pub fn outcome(ended: &Result<(), SessionFault>) -> (u8, &'static str)
     ensures { (result.0, result.1.now) ≡ outcome_of ended.now }
 {

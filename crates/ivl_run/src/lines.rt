@@ -12,8 +12,11 @@ use std::alloc::{AllocError, Global};
 /// What a line says: nothing, no command, or a command.
 #[derive(Drop)]
 pub enum Line {
+    /// The line has no words.
     Blank,
+    /// The line has words that are no command.
     Bad,
+    /// The line is this command.
     Command(Command<i64>),
 }
 

@@ -10,7 +10,8 @@ use ivl_calc::{Refusal, Reply};
 use std::io;
 use std::io::Write;
 
-/// Writes the reply, and a newline.
+/// Writes the reply, and a newline. Condition: no run of the reply is crossed, which `is_empty` of
+/// the run tests.
 ///
 /// # Errors
 ///

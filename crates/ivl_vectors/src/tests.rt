@@ -3,6 +3,7 @@ mod arithmetic;
 mod conversions;
 mod debug_texts;
 mod doc_sets;
+mod doc_intervals;
 mod ends;
 mod fixtures;
 mod intervals;

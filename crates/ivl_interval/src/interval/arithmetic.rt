@@ -1,9 +1,9 @@
 //! Sums, differences and products of intervals, and of an interval with a value.
 //!
-//! Each operand is owned or borrowed. The condition of each call is that its results are in the range:
-//! `fits_add`, `fits_sub` and `fits_mul` test it, and with an empty operand it always holds. The value
-//! itself may lie outside the range: `[1..5] + (-128i8)` is allowed. An empty operand gives an interval
-//! with no member.
+//! Each operand is owned or borrowed. The condition of each call is that its results are in the
+//! range: `fits_add`, `fits_sub` and `fits_mul` test it, and with an empty operand it always holds.
+//! The value itself may lie outside the range: `[1..5] + (-128i8)` is allowed. An empty operand
+//! gives an interval with no member.
 //!
 //! The original can't be asked beforehand whether a result fits.
 ghost use Rattle.std.specs.Prelude.{◌≡◌, ◌+ℤ◌, ◌-ℤ◌, ◌*ℤ◌};
@@ -72,8 +72,8 @@ fn difference<B: Width>(x: B, y: B) -> B
     x.checked_sub(y).unwrap()
 }
 
-/// The least interval that holds the products of a member of each. Every product lies between two of
-/// those of the bounds, whatever the signs are.
+/// The least interval that holds the products of a member of each. Every product lies between two
+/// of those of the bounds, whatever the signs are.
 fn products<B: Width>(a: Interval<B>, b: Interval<B>) -> Interval<B>
     requires { IsSubset (ExactProducts (IsBetween a) (IsBetween b)) (IsBetween B.whole) }
     ensures { IsHullOf result (ExactProducts (IsBetween a) (IsBetween b)) }
@@ -118,6 +118,12 @@ impl<B: Width> Add<Interval<B>> for Interval<B> {
     ghost add_gives = { λ a b r. SameMembers (IsBetween r) (Sums (IsBetween a) (IsBetween b)) };
 
     /// The sums of a member of each, and nothing else. Condition: `fits_add`.
+    ///
+    /// ```
+    /// let (a, b) = (Interval::new(1i32, 2), Interval::new(10, 20));
+    /// assert!(rt; a.fits_add(&b));
+    /// assert_eq!(rt; a + b, Interval::new(11, 22));
+    /// ```
     fn add(self, rhs: Interval<B>) -> Interval<B> {
         sums(self, rhs)
     }
@@ -170,6 +176,12 @@ impl<B: Width> Add<B> for Interval<B> {
     ghost add_gives = { λ a x r. SameMembers (IsBetween r) (Sums (IsBetween a) (Only (B.value x))) };
 
     /// The sums of a member and the value. Condition: `fits_add`.
+    ///
+    /// ```
+    /// let a = Interval::new(1i32, 2);
+    /// assert!(rt; a.fits_add(&3));
+    /// assert_eq!(rt; a + 3, Interval::new(4, 5));
+    /// ```
     fn add(self, rhs: B) -> Interval<B> {
         sums_with(self, rhs)
     }
@@ -222,6 +234,12 @@ impl<B: Width> Sub<Interval<B>> for Interval<B> {
     ghost sub_gives = { λ a b r. SameMembers (IsBetween r) (Differences (IsBetween a) (IsBetween b)) };
 
     /// The differences of a member of each, and nothing else. Condition: `fits_sub`.
+    ///
+    /// ```
+    /// let (a, b) = (Interval::new(1i32, 2), Interval::new(10, 20));
+    /// assert!(rt; a.fits_sub(&b));
+    /// assert_eq!(rt; a - b, Interval::new(-19, -8));
+    /// ```
     fn sub(self, rhs: Interval<B>) -> Interval<B> {
         differences(self, rhs)
     }
@@ -274,6 +292,12 @@ impl<B: Width> Sub<B> for Interval<B> {
     ghost sub_gives = { λ a x r. SameMembers (IsBetween r) (Differences (IsBetween a) (Only (B.value x))) };
 
     /// The differences of a member and the value. Condition: `fits_sub`.
+    ///
+    /// ```
+    /// let a = Interval::new(1i32, 2);
+    /// assert!(rt; a.fits_sub(&3));
+    /// assert_eq!(rt; a - 3, Interval::new(-2, -1));
+    /// ```
     fn sub(self, rhs: B) -> Interval<B> {
         differences_with(self, rhs)
     }
@@ -326,6 +350,12 @@ impl<B: Width> Mul<Interval<B>> for Interval<B> {
     ghost mul_gives = { λ a b r. IsHullOf r (ExactProducts (IsBetween a) (IsBetween b)) };
 
     /// The least interval that holds the products of a member of each. Condition: `fits_mul`.
+    ///
+    /// ```
+    /// let (a, b) = (Interval::new(1i32, 2), Interval::new(10, 20));
+    /// assert!(rt; a.fits_mul(&b));
+    /// assert_eq!(rt; a * b, Interval::new(10, 40));
+    /// ```
     fn mul(self, rhs: Interval<B>) -> Interval<B> {
         products(self, rhs)
     }
@@ -380,6 +410,12 @@ impl<B: Width> Mul<B> for Interval<B> {
     /// The least interval that holds the products of a member and the value. Condition: `fits_mul`.
     ///
     /// In the original a negative value crosses the bounds of an interval of several members.
+    ///
+    /// ```
+    /// let a = Interval::new(1i32, 2);
+    /// assert!(rt; a.fits_mul(&-3));
+    /// assert_eq!(rt; a * -3, Interval::new(-6, -3));
+    /// ```
     fn mul(self, rhs: B) -> Interval<B> {
         products_with(self, rhs)
     }

@@ -15,14 +15,24 @@ use crate::width::{SizeNumber, Width};
 impl<B: Width> Interval<B> {
     /// True exactly where `new(lb, ub)` may be called: `lb` is not below the range and `ub` is not
     /// above it. The two may cross, so `in_range(8, 3)` is true, and `new(8, 3)` has no member.
+    ///
+    /// The original has no such call.
+    ///
+    /// ```
+    /// assert!(rt; Interval::in_range(8u8, 3) && !Interval::in_range(0u8, 255));
+    /// ```
     pub fn in_range(lb: B, ub: B) -> bool
         ensures { IsTrue result ↔ IsInRange B.whole (B.value lb, B.value ub) }
     {
         lb >= B::min_value() && ub <= B::max_value()
     }
 
-    /// The lower bound as it is stored, also where there is no member. Intervals can be put in order
-    /// by it without a test of each; what is least in an interval is told by `lower`.
+    /// The lower bound as it is stored, also where there is no member. Intervals can be put in
+    /// order by it without a test of each; what is least in an interval is told by `lower`.
+    ///
+    /// ```
+    /// assert_eq!(rt; Interval::new(8i32, 3).lower_bound(), 8);
+    /// ```
     pub fn lower_bound(&self) -> B
         ensures { B.value result ≡ self.now.0 }
     {
@@ -30,6 +40,11 @@ impl<B: Width> Interval<B> {
     }
 
     /// Each member is in the range. This does nothing: its contract is the fact.
+    ///
+    /// ```
+    /// let a = Interval::new(3i32, 8);
+    /// a.in_whole(); // a proof knows from here on that the members of `a` are in the range
+    /// ```
     pub fn in_whole(self)
         ensures { IsSubset (IsBetween self) (IsBetween B.whole) }
     {}
@@ -51,6 +66,11 @@ impl<B: Width> Range for Interval<B> {
     /// The numbers from `lb` to `ub`; none where `lb` is above `ub`. Condition: `in_range(lb, ub)`.
     ///
     /// In the original the condition stands in no signature, and has no test.
+    ///
+    /// ```
+    /// assert_eq!(rt; Interval::new(1i32, 5).size(), 5);
+    /// assert!(rt; Interval::new(8i32, 3).is_empty());
+    /// ```
     fn new(lb: B, ub: B) -> Interval<B>
         requires { IsInRange B.whole (B.value lb, B.value ub) }
         ensures members { SameMembers (IsBetween result) (IsBetween (B.value lb, B.value ub)) }
@@ -64,6 +84,10 @@ impl<B: Width> Empty for Interval<B> {
     ghost members = { IsBetween };
 
     /// An interval with no member.
+    ///
+    /// ```
+    /// assert!(rt; !Interval::<i32>::empty().contains(&0));
+    /// ```
     fn empty() -> Interval<B>
         ensures members { HasNone (IsBetween result) }
         ensures crossed { IsCrossed result }
@@ -76,6 +100,10 @@ impl<B: Width> Top for Interval<B> {
     ghost members = { IsBetween };
 
     /// An interval with no member, which entails every other.
+    ///
+    /// ```
+    /// assert_eq!(rt; Interval::top().entail(&Interval::new(1i32, 2)), SKleene::True);
+    /// ```
     fn top() -> Interval<B>
         ensures members { HasNone (IsBetween result) }
         ensures crossed { IsCrossed result }
@@ -90,6 +118,11 @@ impl<B: Width> Whole for Interval<B> {
     ghost whole = { B.whole };
 
     /// The range of `B`. A value is in the range where `whole().contains(&value)` is true.
+    ///
+    /// ```
+    /// let range = Interval::<i8>::whole();
+    /// assert!(rt; range.contains(&-127) && !range.contains(&-128));
+    /// ```
     fn whole() -> Interval<B>
         ensures members { SameMembers (IsBetween result) (IsBetween B.whole) }
         ensures value { result ≡ B.whole }
@@ -104,6 +137,10 @@ impl<B: Width> Bot for Interval<B> {
     ghost whole = { B.whole };
 
     /// The range of `B`, which every interval entails.
+    ///
+    /// ```
+    /// assert_eq!(rt; Interval::new(1i32, 2).entail(&Interval::bot()), SKleene::True);
+    /// ```
     fn bot() -> Interval<B>
         ensures members { SameMembers (IsBetween result) (IsBetween B.whole) }
         ensures value { result ≡ B.whole }
@@ -119,6 +156,10 @@ impl<B: Width> Singleton for Interval<B> {
     /// `whole().contains(&item)` tests.
     ///
     /// In the original the condition stands in no signature.
+    ///
+    /// ```
+    /// assert_eq!(rt; Interval::singleton(5i32).size(), 1);
+    /// ```
     fn singleton(item: B) -> Interval<B>
         requires { IsBetween B.whole (B.value item) }
         ensures members { SameMembers (IsBetween result) (Only (B.value item)) }
@@ -130,6 +171,12 @@ impl<B: Width> Singleton for Interval<B> {
 
 impl<B: Width> Bounded for Interval<B> {
     /// The least member. Condition: there is one, which `is_empty` tests.
+    ///
+    /// In the original the condition stands in no signature.
+    ///
+    /// ```
+    /// assert_eq!(rt; Interval::new(3i32, 8).lower(), 3);
+    /// ```
     fn lower(&self) -> B
         requires { HasSome (IsBetween self.now) }
         ensures member { IsBetween self.now (B.value result) }
@@ -141,6 +188,12 @@ impl<B: Width> Bounded for Interval<B> {
     }
 
     /// The greatest member. Condition: there is one, which `is_empty` tests.
+    ///
+    /// In the original the condition stands in no signature.
+    ///
+    /// ```
+    /// assert_eq!(rt; Interval::new(3i32, 8).upper(), 8);
+    /// ```
     fn upper(&self) -> B
         requires { HasSome (IsBetween self.now) }
         ensures member { IsBetween self.now (B.value result) }
@@ -160,6 +213,10 @@ impl<B: Width> Cardinality for Interval<B> {
     ghost size_number = { B.Output.size };
 
     /// The number of members.
+    ///
+    /// ```
+    /// assert_eq!(rt; Interval::<u8>::whole().size(), 255);
+    /// ```
     fn size(&self) -> B::Output
         ensures members { IsCountOf (B.Output.size result) (IsBetween self.now) }
         ensures width { B.Output.size result ≡ width_of self.now }
@@ -176,6 +233,10 @@ impl<B: Width> IsEmpty for Interval<B> {
     ghost members = { IsBetween };
 
     /// True exactly where there is no member: the lower bound is above the upper.
+    ///
+    /// ```
+    /// assert!(rt; Interval::new(8i32, 3).is_empty() && !Interval::new(3i32, 3).is_empty());
+    /// ```
     fn is_empty(&self) -> bool
         ensures members { IsTrue result ↔ HasNone (IsBetween self.now) }
         ensures filled { ¬ (IsTrue result) → HasSome (IsBetween self.now) }
@@ -189,6 +250,11 @@ impl<B: Width> IsSingleton for Interval<B> {
     ghost members = { IsBetween };
 
     /// True exactly where there is one member: the bounds are equal.
+    ///
+    /// ```
+    /// assert!(rt; Interval::new(5i32, 5).is_singleton());
+    /// assert!(rt; !Interval::new(5i32, 6).is_singleton());
+    /// ```
     fn is_singleton(&self) -> bool
         ensures members { IsTrue result ↔ ((x : ℤ) × SameMembers (IsBetween self.now) (Only x)) }
         ensures bounds { IsTrue result ↔ (self.now.0 ≡ self.now.1) }
@@ -200,6 +266,10 @@ impl<B: Width> IsSingleton for Interval<B> {
 impl<B: Width> Contains for Interval<B> {
     /// True exactly where `item` is a member; it may be any value of its type, also one outside the
     /// range.
+    ///
+    /// ```
+    /// assert!(rt; !Interval::<u8>::whole().contains(&255));
+    /// ```
     fn contains(&self, item: &B) -> bool {
         self.lb <= *item && *item <= self.ub
     }

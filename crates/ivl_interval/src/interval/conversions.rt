@@ -1,4 +1,6 @@
 //! Values that are read as an interval.
+//!
+//! In the original the conditions of these calls stand in no signature.
 ghost use Rattle.std.specs.Prelude.{◌≡◌, ◌≤ℤ◌, pos, ⊤};
 ghost use Rattle.std.specs.Range.{range_inclusive_end, range_inclusive_start};
 ghost use Rattle.ivl_laws.specs.Sets.{IsBetween, IsCrossed, IsInRange, SameMembers};
@@ -14,6 +16,12 @@ impl<B: Width> ToInterval<B> for Interval<B> {
     ghost interval = { λ p. p };
 
     /// The interval itself.
+    ///
+    /// ```
+    /// let a = Interval::new(1i32, 5);
+    /// let same: Interval<i32> = a.to_interval();
+    /// assert_eq!(rt; same, a);
+    /// ```
     fn to_interval(self) -> Interval<B>
         ensures members { SameMembers (IsBetween result) (IsBetween self) }
         ensures bounds { self.0 ≤ℤ self.1 → result ≡ self }
@@ -30,6 +38,11 @@ impl<B: Width> ToInterval<B> for (B, B) {
 
     /// The numbers from the first bound to the second; none where they cross. Condition:
     /// `Interval::in_range` of the two.
+    ///
+    /// ```
+    /// let pair: Interval<i32> = (1, 5).to_interval();
+    /// assert_eq!(rt; pair, Interval::new(1, 5));
+    /// ```
     fn to_interval(self) -> Interval<B>
         requires { IsInRange B.whole (B.value self.0, B.value self.1) }
         ensures members { SameMembers (IsBetween result) (IsBetween (B.value self.0, B.value self.1)) }
@@ -46,6 +59,11 @@ impl<B: Width> ToInterval<B> for () {
     ghost interval = { λ _. (pos 1, pos 0) };
 
     /// No number.
+    ///
+    /// ```
+    /// let none: Interval<i32> = ().to_interval();
+    /// assert!(rt; none.is_empty());
+    /// ```
     fn to_interval(self) -> Interval<B>
         ensures members { SameMembers (IsBetween result) (IsBetween (pos 1, pos 0)) }
         ensures bounds { pos 1 ≤ℤ pos 0 → result ≡ (pos 1, pos 0) }
@@ -62,6 +80,11 @@ impl<B: Width> ToInterval<B> for B {
 
     /// The value alone. Condition: it is in the range, which `Interval::whole().contains(&value)`
     /// tests.
+    ///
+    /// ```
+    /// let five: Interval<i32> = 5.to_interval();
+    /// assert_eq!(rt; five, Interval::new(5, 5));
+    /// ```
     fn to_interval(self) -> Interval<B>
         requires { IsBetween B.whole (B.value self) }
         ensures members { SameMembers (IsBetween result) (IsBetween (B.value self, B.value self)) }
@@ -79,6 +102,11 @@ impl<B: Width> ToInterval<B> for RangeInclusive<B> {
 
     /// The numbers from the start to the end of `a..=b`; none where they cross. Condition:
     /// `Interval::in_range` of the two.
+    ///
+    /// ```
+    /// let crossed: Interval<i32> = (8..=3).to_interval();
+    /// assert!(rt; crossed.is_empty());
+    /// ```
     fn to_interval(self) -> Interval<B>
         requires { IsInRange B.whole (B.value (range_inclusive_start self), B.value (range_inclusive_end self)) }
         ensures members { SameMembers (IsBetween result) (IsBetween (B.value (range_inclusive_start self), B.value (range_inclusive_end self))) }
@@ -95,7 +123,13 @@ impl<B: Width> ToInterval<B> for RangeFrom<B> {
 
     ghost interval = { λ range. (B.value range.start, B.whole.1) };
 
-    /// The numbers of the range from the start of `a..` on. Condition: the start is in the range.
+    /// The numbers of the range from the start of `a..` on. Condition: the start is in the range,
+    /// which `Interval::whole().contains(&start)` tests.
+    ///
+    /// ```
+    /// let high: Interval<u8> = (250..).to_interval();
+    /// assert_eq!(rt; high, Interval::new(250, 254));
+    /// ```
     fn to_interval(self) -> Interval<B>
         requires { IsBetween B.whole (B.value self.start) }
         ensures members { SameMembers (IsBetween result) (IsBetween (B.value self.start, B.whole.1)) }
@@ -111,7 +145,13 @@ impl<B: Width> ToInterval<B> for RangeToInclusive<B> {
 
     ghost interval = { λ range. (B.whole.0, B.value range.end) };
 
-    /// The numbers of the range up to the end of `..=b`. Condition: the end is in the range.
+    /// The numbers of the range up to the end of `..=b`. Condition: the end is in the range, which
+    /// `Interval::whole().contains(&end)` tests.
+    ///
+    /// ```
+    /// let low: Interval<u8> = (..=5).to_interval();
+    /// assert_eq!(rt; low, Interval::new(0, 5));
+    /// ```
     fn to_interval(self) -> Interval<B>
         requires { IsBetween B.whole (B.value self.end) }
         ensures members { SameMembers (IsBetween result) (IsBetween (B.whole.0, B.value self.end)) }

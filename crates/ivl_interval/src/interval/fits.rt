@@ -1,6 +1,8 @@
 //! Whether the results of arithmetic are in the range.
 //!
 //! Each call is a few tests of the bounds: the least and the greatest result are results of bounds.
+//! With an interval that has no member every call is true, since there is no result. The original
+//! has no such calls.
 ghost use Rattle.std.specs.Prelude.{◌↔◌, ◌+ℤ◌, ◌-ℤ◌, ◌*ℤ◌, IsTrue};
 ghost use Rattle.ivl_laws.specs.Sets.{IsBetween, Only};
 
@@ -16,6 +18,11 @@ impl<B: Width> Fits<Interval<B>> for Interval<B> {
     ghost other_members = { IsBetween };
 
     /// True exactly where `self + other` may be called.
+    ///
+    /// ```
+    /// let a = Interval::new(100i8, 100);
+    /// assert!(rt; a.fits_add(&Interval::new(27, 27)) && !a.fits_add(&Interval::new(28, 28)));
+    /// ```
     fn fits_add(&self, other: &Interval<B>) -> bool {
         if self.is_empty() || other.is_empty() {
             return true;
@@ -24,6 +31,11 @@ impl<B: Width> Fits<Interval<B>> for Interval<B> {
     }
 
     /// True exactly where `self - other` may be called.
+    ///
+    /// ```
+    /// let a = Interval::new(3u8, 5);
+    /// assert!(rt; a.fits_sub(&Interval::new(0, 3)) && !a.fits_sub(&Interval::new(0, 4)));
+    /// ```
     fn fits_sub(&self, other: &Interval<B>) -> bool {
         if self.is_empty() || other.is_empty() {
             return true;
@@ -32,6 +44,11 @@ impl<B: Width> Fits<Interval<B>> for Interval<B> {
     }
 
     /// True exactly where `self * other` may be called.
+    ///
+    /// ```
+    /// let a = Interval::new(-2i8, 3);
+    /// assert!(rt; a.fits_mul(&Interval::new(0, 42)) && !a.fits_mul(&Interval::new(0, 43)));
+    /// ```
     fn fits_mul(&self, other: &Interval<B>) -> bool {
         if self.is_empty() || other.is_empty() {
             return true;
@@ -48,6 +65,11 @@ impl<B: Width> Fits<B> for Interval<B> {
     ghost other_members = { λ x. Only (B.value x) };
 
     /// True exactly where `self + *other` may be called; `other` may lie outside the range.
+    ///
+    /// ```
+    /// let a = Interval::new(1i8, 5);
+    /// assert!(rt; a.fits_add(&-128) && !a.fits_add(&127));
+    /// ```
     fn fits_add(&self, other: &B) -> bool {
         if self.is_empty() {
             return true;
@@ -56,6 +78,11 @@ impl<B: Width> Fits<B> for Interval<B> {
     }
 
     /// True exactly where `self - *other` may be called; `other` may lie outside the range.
+    ///
+    /// ```
+    /// let a = Interval::new(3u8, 5);
+    /// assert!(rt; a.fits_sub(&3) && !a.fits_sub(&4));
+    /// ```
     fn fits_sub(&self, other: &B) -> bool {
         if self.is_empty() {
             return true;
@@ -64,6 +91,11 @@ impl<B: Width> Fits<B> for Interval<B> {
     }
 
     /// True exactly where `self * *other` may be called; `other` may lie outside the range.
+    ///
+    /// ```
+    /// let a = Interval::new(1i8, 64);
+    /// assert!(rt; a.fits_mul(&1) && !a.fits_mul(&2));
+    /// ```
     fn fits_mul(&self, other: &B) -> bool {
         if self.is_empty() {
             return true;

@@ -1,5 +1,5 @@
-//! Intervals as sets: what two of them have in common, what one leaves of the other, what holds them
-//! both, and which includes which.
+//! Intervals as sets: what two of them have in common, what one leaves of the other, what holds
+//! them both, and which includes which.
 ghost use Rattle.std.specs.Prelude.{◌≡◌, ◌≤ℤ◌, ◌<ℤ◌, ◌+ℤ◌, ◌-ℤ◌, pos, ⊤};
 ghost use Rattle.ivl_laws.specs.Sets.{IsBetween, IsHullOf, SameMembers, Without};
 
@@ -17,6 +17,10 @@ impl<B: Width> Disjoint<Interval<B>> for Interval<B> {
     ghost other_members = { IsBetween };
 
     /// True exactly where no number is a member of both.
+    ///
+    /// ```
+    /// assert!(rt; !Interval::new(1i32, 5).is_disjoint(&Interval::new(5, 9)));
+    /// ```
     fn is_disjoint(&self, other: &Interval<B>) -> bool {
         self.intersection(other).is_empty()
     }
@@ -28,6 +32,10 @@ impl<B: Width> Overlap<Interval<B>> for Interval<B> {
     ghost other_members = { IsBetween };
 
     /// True exactly where some number is a member of both.
+    ///
+    /// ```
+    /// assert!(rt; !Interval::new(1i32, 2).overlap(&Interval::new(3, 4)));
+    /// ```
     fn overlap(&self, other: &Interval<B>) -> bool {
         !self.intersection(other).is_empty()
     }
@@ -43,6 +51,11 @@ impl<B: Width> Intersection<Interval<B>> for Interval<B> {
     ghost answers = { λ p S. SameMembers (IsBetween p) S };
 
     /// The numbers that are a member of both.
+    ///
+    /// ```
+    /// let a = Interval::new(1i32, 3);
+    /// assert!(rt; a.intersection(&Interval::new(4, 5)).is_empty());
+    /// ```
     fn intersection(&self, other: &Interval<B>) -> Interval<B> {
         Interval {
             lb: self.lb.max(other.lb),
@@ -60,11 +73,17 @@ impl<B: Width> Difference<Interval<B>> for Interval<B> {
 
     ghost answers = { IsHullOf };
 
-    /// The least interval that holds the members that are not in `other`. So a hole in the middle is
-    /// not cut: `[0..9]` without `[4..5]` is `[0..9]`.
+    /// The least interval that holds the members that are not in `other`. So a hole in the middle
+    /// is not cut: `[0..9]` without `[4..5]` is `[0..9]`.
     ///
     /// The original overflows where `other` starts at an unsigned 0 or ends at a signed greatest
     /// value; here every two intervals have an answer.
+    ///
+    /// ```
+    /// let a = Interval::new(0u8, 9);
+    /// assert_eq!(rt; a.difference(&Interval::new(0, 5)), Interval::new(6, 9));
+    /// assert_eq!(rt; a.difference(&Interval::new(4, 5)), a);
+    /// ```
     fn difference(&self, other: &Interval<B>) -> Interval<B> {
         if self.is_empty() {
             return *self;
@@ -121,6 +140,12 @@ impl<B: Width> Hull<Interval<B>> for Interval<B> {
     ghost answers = { IsHullOf };
 
     /// The least interval that holds both.
+    ///
+    /// ```
+    /// let a = Interval::new(1i32, 2);
+    /// assert_eq!(rt; a.hull(&Interval::new(8, 9)), Interval::new(1, 9));
+    /// assert_eq!(rt; a.hull(&Interval::empty()), a);
+    /// ```
     fn hull(&self, other: &Interval<B>) -> Interval<B> {
         if self.is_empty() {
             return *other;
@@ -136,6 +161,10 @@ impl<B: Width> Subset for Interval<B> {
     ghost members = { IsBetween };
 
     /// True exactly where each member is a member of `other`, so always where there is none.
+    ///
+    /// ```
+    /// assert!(rt; Interval::empty().is_subset(&Interval::new(1i32, 2)));
+    /// ```
     fn is_subset(&self, other: &Interval<B>) -> bool {
         if self.is_empty() {
             return true;
@@ -148,6 +177,10 @@ impl<B: Width> ProperSubset for Interval<B> {
     ghost members = { IsBetween };
 
     /// True exactly where each member is a member of `other`, and `other` has more.
+    ///
+    /// ```
+    /// assert!(rt; Interval::empty().is_proper_subset(&Interval::new(1i32, 2)));
+    /// ```
     fn is_proper_subset(&self, other: &Interval<B>) -> bool {
         self.is_subset(other) && self != other
     }
@@ -161,6 +194,10 @@ impl<B: Width> Join for Interval<B> {
     ghost answers = { λ p S. SameMembers (IsBetween p) S };
 
     /// The intersection.
+    ///
+    /// ```
+    /// assert_eq!(rt; Interval::new(1i32, 2).join(Interval::new(2, 3)), Interval::new(2, 2));
+    /// ```
     fn join(self, other: Interval<B>) -> Interval<B> {
         self.intersection(&other)
     }
@@ -174,6 +211,10 @@ impl<B: Width> Meet for Interval<B> {
     ghost answers = { IsHullOf };
 
     /// The hull.
+    ///
+    /// ```
+    /// assert_eq!(rt; Interval::new(1i32, 2).meet(Interval::new(5, 6)), Interval::new(1, 6));
+    /// ```
     fn meet(self, other: Interval<B>) -> Interval<B> {
         self.hull(&other)
     }
@@ -182,8 +223,14 @@ impl<B: Width> Meet for Interval<B> {
 impl<B: Width> Entailment for Interval<B> {
     ghost members = { IsBetween };
 
-    /// `True` where `other` includes this interval, else `False` where this one includes `other`, else
-    /// `Unknown`. So `[1..2]` entails `[0..10]`.
+    /// `True` where `other` includes this interval, else `False` where this one includes `other`,
+    /// else `Unknown`. So `[1..2]` entails `[0..10]`.
+    ///
+    /// ```
+    /// let (a, b) = (Interval::new(1i32, 2), Interval::new(0, 10));
+    /// assert_eq!(rt; a.entail(&b), SKleene::True);
+    /// assert_eq!(rt; b.entail(&a), SKleene::False);
+    /// ```
     fn entail(&self, other: &Interval<B>) -> SKleene {
         if self.is_subset(other) {
             SKleene::True

@@ -12,6 +12,12 @@ impl<B: Width> ShrinkLeft for Interval<B> {
     ghost answers = { λ p S. SameMembers (IsBetween p) S };
 
     /// The members that are at least `lower`, which may be any value of its type.
+    ///
+    /// ```
+    /// let a = Interval::new(1u8, 9);
+    /// assert_eq!(rt; a.shrink_left(0), a);
+    /// assert!(rt; a.shrink_left(255).is_empty());
+    /// ```
     fn shrink_left(&self, lower: B) -> Interval<B> {
         Self::new(self.lb.max(lower), self.ub)
     }
@@ -23,6 +29,12 @@ impl<B: Width> ShrinkRight for Interval<B> {
     ghost answers = { λ p S. SameMembers (IsBetween p) S };
 
     /// The members that are at most `upper`, which may be any value of its type.
+    ///
+    /// ```
+    /// let a = Interval::new(1u8, 9);
+    /// assert!(rt; a.shrink_right(0).is_empty());
+    /// assert_eq!(rt; a.shrink_right(255), a);
+    /// ```
     fn shrink_right(&self, upper: B) -> Interval<B> {
         Self::new(self.lb, self.ub.min(upper))
     }
@@ -34,6 +46,12 @@ impl<B: Width> StrictShrinkLeft for Interval<B> {
     ghost answers = { λ p S. SameMembers (IsBetween p) S };
 
     /// The members above `lower`, which may be any value of its type.
+    ///
+    /// ```
+    /// let a = Interval::new(1u8, 9);
+    /// assert_eq!(rt; a.strict_shrink_left(0), a);
+    /// assert!(rt; a.strict_shrink_left(9).is_empty());
+    /// ```
     fn strict_shrink_left(&self, lower: B) -> Interval<B> {
         if lower < self.lb {
             return *self;
@@ -52,6 +70,12 @@ impl<B: Width> StrictShrinkRight for Interval<B> {
     ghost answers = { λ p S. SameMembers (IsBetween p) S };
 
     /// The members below `upper`, which may be any value of its type.
+    ///
+    /// ```
+    /// let a = Interval::new(1u8, 9);
+    /// assert!(rt; a.strict_shrink_right(1).is_empty());
+    /// assert_eq!(rt; a.strict_shrink_right(255), a);
+    /// ```
     fn strict_shrink_right(&self, upper: B) -> Interval<B> {
         if upper > self.ub {
             return *self;

@@ -11,6 +11,13 @@ impl<B: Width + fmt::Display> fmt::Display for Interval<B> {
 
     /// `{}` where there is no member, else `[1..5]` with the two bounds. Width and fill of the
     /// formatter have no effect.
+    ///
+    /// The only errors are those of the formatter and of the texts of the bounds.
+    ///
+    /// ```
+    /// let a = Interval::new(1i32, 5);
+    /// assert_eq!(rt; format!(in alloc; "{a}")?.as_str(), "[1..5]");
+    /// ```
     fn fmt<W: fmt::Write>(&self, f: &mut fmt::Formatter<W>) -> fmt::Result {
         if self.is_empty() {
             f.write_str("{}")

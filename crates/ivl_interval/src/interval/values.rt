@@ -16,6 +16,11 @@ impl<B: Width> Disjoint<B> for Interval<B> {
     ghost other_members = { λ x. Only (B.value x) };
 
     /// True exactly where the value is no member.
+    ///
+    /// ```
+    /// let a = Interval::new(3i32, 8);
+    /// assert!(rt; a.is_disjoint(&9));
+    /// ```
     fn is_disjoint(&self, other: &B) -> bool {
         !self.contains(other)
     }
@@ -27,6 +32,11 @@ impl<B: Width> Overlap<B> for Interval<B> {
     ghost other_members = { λ x. Only (B.value x) };
 
     /// True exactly where the value is a member.
+    ///
+    /// ```
+    /// let a = Interval::new(3i32, 8);
+    /// assert!(rt; a.overlap(&8));
+    /// ```
     fn overlap(&self, other: &B) -> bool {
         self.contains(other)
     }
@@ -42,6 +52,11 @@ impl<B: Width> Intersection<B> for Interval<B> {
     ghost answers = { λ p S. SameMembers (IsBetween p) S };
 
     /// The value alone where it is a member, else no number; for any value of its type.
+    ///
+    /// ```
+    /// let a = Interval::new(3i32, 8);
+    /// assert_eq!(rt; a.intersection(&4), Interval::new(4, 4));
+    /// ```
     fn intersection(&self, other: &B) -> Interval<B> {
         Self::new(self.lb.max(*other), self.ub.min(*other))
     }
@@ -61,6 +76,12 @@ impl<B: Width> Difference<B> for Interval<B> {
     /// The original adds to a stored lower bound or takes from a stored upper one that equals the
     /// value, and so overflows at `empty().difference(&0)` of `u32` and at
     /// `singleton(127).difference(&127)` of `i8`; both are empty here.
+    ///
+    /// ```
+    /// let a = Interval::new(3i32, 8);
+    /// assert_eq!(rt; a.difference(&3), Interval::new(4, 8));
+    /// assert_eq!(rt; a.difference(&4), a);
+    /// ```
     fn difference(&self, other: &B) -> Interval<B> {
         if *other == self.lb {
             self.strict_shrink_left(*other)
@@ -83,10 +104,15 @@ impl<B: Width> Hull<B> for Interval<B> {
 
     ghost answers = { IsHullOf };
 
-    /// The least interval that holds the members and the value. Condition: the value is in the range,
-    /// which `whole().contains(other)` tests.
+    /// The least interval that holds the members and the value. Condition: the value is in the
+    /// range, which `whole().contains(other)` tests.
     ///
     /// In the original the condition stands in no signature.
+    ///
+    /// ```
+    /// let a = Interval::new(3i32, 8);
+    /// assert_eq!(rt; a.hull(&12), Interval::new(3, 12));
+    /// ```
     fn hull(&self, other: &B) -> Interval<B> {
         self.hull(&Self::singleton(*other))
     }
@@ -98,6 +124,11 @@ impl<B: Width> Disjoint<Optional<B>> for Interval<B> {
     ghost other_members = { λ o. Held (option_map B.value o) };
 
     /// True exactly where the value is absent or no member.
+    ///
+    /// ```
+    /// let a = Interval::new(3i32, 8);
+    /// assert!(rt; a.is_disjoint(&Optional::empty()));
+    /// ```
     fn is_disjoint(&self, other: &Optional<B>) -> bool {
         !self.overlap(other)
     }
@@ -109,6 +140,11 @@ impl<B: Width> Overlap<Optional<B>> for Interval<B> {
     ghost other_members = { λ o. Held (option_map B.value o) };
 
     /// True exactly where there is a value and it is a member.
+    ///
+    /// ```
+    /// let a = Interval::new(3i32, 8);
+    /// assert!(rt; a.overlap(&Optional::singleton(8)));
+    /// ```
     fn overlap(&self, other: &Optional<B>) -> bool {
         match other.as_ref() {
             Some(x) => self.contains(x),
@@ -127,6 +163,11 @@ impl<B: Width> Intersection<Optional<B>> for Interval<B> {
     ghost answers = { λ p S. SameMembers (IsBetween p) S };
 
     /// The value alone where there is one and it is a member, else no number.
+    ///
+    /// ```
+    /// let a = Interval::new(3i32, 8);
+    /// assert_eq!(rt; a.intersection(&Optional::singleton(4)), Interval::new(4, 4));
+    /// ```
     fn intersection(&self, other: &Optional<B>) -> Interval<B> {
         match other.as_ref() {
             Some(x) => self.intersection(x),
@@ -145,6 +186,11 @@ impl<B: Width> Difference<Optional<B>> for Interval<B> {
     ghost answers = { IsHullOf };
 
     /// The least interval that holds the members but the value; where there is none, the interval.
+    ///
+    /// ```
+    /// let a = Interval::new(3i32, 8);
+    /// assert_eq!(rt; a.difference(&Optional::singleton(3)), Interval::new(4, 8));
+    /// ```
     fn difference(&self, other: &Optional<B>) -> Interval<B> {
         match other.as_ref() {
             Some(x) => self.difference(x),
@@ -159,6 +205,11 @@ impl<B: Width> Disjoint<Interval<B>> for B {
     ghost other_members = { IsBetween };
 
     /// True exactly where the value is no member of `other`.
+    ///
+    /// ```
+    /// let a = Interval::new(3i32, 8);
+    /// assert!(rt; 9.is_disjoint(&a));
+    /// ```
     fn is_disjoint(&self, other: &Interval<B>) -> bool {
         !other.contains(self)
     }
@@ -170,6 +221,11 @@ impl<B: Width> Overlap<Interval<B>> for B {
     ghost other_members = { IsBetween };
 
     /// True exactly where the value is a member of `other`.
+    ///
+    /// ```
+    /// let a = Interval::new(3i32, 8);
+    /// assert!(rt; 8.overlap(&a));
+    /// ```
     fn overlap(&self, other: &Interval<B>) -> bool {
         other.contains(self)
     }
@@ -186,10 +242,16 @@ impl<B: Width> Hull<Interval<B>> for B {
 
     ghost answers = { IsHullOf };
 
-    /// The least interval that holds the value and the members of `other`. Condition: the value is in
-    /// the range, which `whole().contains(self)` tests.
+    /// The least interval that holds the value and the members of `other`. Condition: the value is
+    /// in the range, which `whole().contains(self)` tests.
     ///
-    /// The original has this for the ten integer types alone, and the condition stands in no signature.
+    /// The original has this for the ten integer types alone, and the condition stands in no
+    /// signature.
+    ///
+    /// ```
+    /// let a = Interval::new(3i32, 8);
+    /// assert_eq!(rt; 1.hull(&a), Interval::new(1, 8));
+    /// ```
     fn hull(&self, other: &Interval<B>) -> Interval<B> {
         Interval::singleton(*self).hull(other)
     }
@@ -201,6 +263,11 @@ impl<B: Width> Disjoint<Interval<B>> for Optional<B> {
     ghost other_members = { IsBetween };
 
     /// True exactly where the value is absent or no member of `other`.
+    ///
+    /// ```
+    /// let a = Interval::new(3i32, 8);
+    /// assert!(rt; Optional::singleton(9).is_disjoint(&a));
+    /// ```
     fn is_disjoint(&self, other: &Interval<B>) -> bool {
         other.is_disjoint(self)
     }
@@ -212,6 +279,11 @@ impl<B: Width> Overlap<Interval<B>> for Optional<B> {
     ghost other_members = { IsBetween };
 
     /// True exactly where there is a value and it is a member of `other`.
+    ///
+    /// ```
+    /// let a = Interval::new(3i32, 8);
+    /// assert!(rt; Optional::singleton(8).overlap(&a));
+    /// ```
     fn overlap(&self, other: &Interval<B>) -> bool {
         other.overlap(self)
     }
@@ -227,6 +299,11 @@ impl<B: Width> Intersection<Interval<B>> for Optional<B> {
     ghost answers = { λ o S. SameMembers (Held (option_map B.value o)) S };
 
     /// The value itself where it is a member of `other`, else none.
+    ///
+    /// ```
+    /// let a = Interval::new(3i32, 8);
+    /// assert_eq!(rt; Optional::singleton(4).intersection(&a), Optional::singleton(4));
+    /// ```
     fn intersection(&self, other: &Interval<B>) -> Optional<B>
         ensures members { SameMembers (Held (option_map B.value result)) (Intersection (Held (option_map B.value self.now)) (IsBetween other.now)) }
         ensures chosen { (result ≡ self.now) ⊎ (result ≡ None) }
@@ -249,6 +326,11 @@ impl<B: Width> Difference<Interval<B>> for Optional<B> {
     ghost answers = { λ o S. SameMembers (Held (option_map B.value o)) S };
 
     /// The value itself where it is no member of `other`, else none.
+    ///
+    /// ```
+    /// let a = Interval::new(3i32, 8);
+    /// assert_eq!(rt; Optional::singleton(9).difference(&a), Optional::singleton(9));
+    /// ```
     fn difference(&self, other: &Interval<B>) -> Optional<B>
         ensures members { SameMembers (Held (option_map B.value result)) (Without (Held (option_map B.value self.now)) (IsBetween other.now)) }
         ensures chosen { (result ≡ self.now) ⊎ (result ≡ None) }

@@ -4,6 +4,12 @@ ghost use Rattle.ivl_interval.specs.IntegerLaws.{signed_order, range_i8, countab
 
 use crate::width::Width;
 
+/// From -127 to 127, with sizes of `u8`. The least value of the type, -128, is outside the range.
+///
+/// ```
+/// assert_eq!(rt; <i8 as Width>::min_value(), -127);
+/// assert_eq!(rt; <i8 as Width>::max_value(), 127);
+/// ```
 impl Width for i8 {
     type Output = u8;
 
@@ -71,6 +77,8 @@ impl Width for i8 {
     ghost countable = { countable_i8 };
 }
 
+/// From -32767 to 32767, with sizes of `u16`. The least value of the type, -32768, is outside the
+/// range.
 impl Width for i16 {
     type Output = u16;
 
@@ -138,6 +146,8 @@ impl Width for i16 {
     ghost countable = { countable_i16 };
 }
 
+/// From -2147483647 to 2147483647, with sizes of `u32`. The least value of the type, -2147483648,
+/// is outside the range.
 impl Width for i32 {
     type Output = u32;
 
@@ -205,6 +215,8 @@ impl Width for i32 {
     ghost countable = { countable_i32 };
 }
 
+/// From -9223372036854775807 to 9223372036854775807, with sizes of `u64`. The least value of the
+/// type, -9223372036854775808, is outside the range.
 impl Width for i64 {
     type Output = u64;
 
@@ -272,6 +284,8 @@ impl Width for i64 {
     ghost countable = { countable_i64 };
 }
 
+/// From -9223372036854775807 to 9223372036854775807, with sizes of `usize`. The least value of the
+/// type, -9223372036854775808, is outside the range.
 impl Width for isize {
     type Output = usize;
 

@@ -4,6 +4,12 @@ ghost use Rattle.ivl_interval.specs.IntegerLaws.{size_order, fits_u8, fits_u16, 
 
 use crate::width::SizeNumber;
 
+/// The numbers from 0 to 255: each value of the type.
+///
+/// ```
+/// assert_eq!(rt; <u8 as SizeNumber>::from_number(255), Some(255));
+/// assert_eq!(rt; <u8 as SizeNumber>::from_number(256), None);
+/// ```
 impl SizeNumber for u8 {
     ghost size = { λ x. x };
 
@@ -34,6 +40,7 @@ impl SizeNumber for u8 {
     ghost bounded = { fits_u8 };
 }
 
+/// The numbers from 0 to 65535: each value of the type.
 impl SizeNumber for u16 {
     ghost size = { λ x. x };
 
@@ -64,6 +71,7 @@ impl SizeNumber for u16 {
     ghost bounded = { fits_u16 };
 }
 
+/// The numbers from 0 to 4294967295: each value of the type.
 impl SizeNumber for u32 {
     ghost size = { λ x. x };
 
@@ -94,6 +102,7 @@ impl SizeNumber for u32 {
     ghost bounded = { fits_u32 };
 }
 
+/// The numbers from 0 to 18446744073709551615: each value of the type.
 impl SizeNumber for u64 {
     ghost size = { λ x. x };
 
@@ -124,6 +133,7 @@ impl SizeNumber for u64 {
     ghost bounded = { fits_u64 };
 }
 
+/// The numbers from 0 to 18446744073709551615: each value of the type.
 impl SizeNumber for usize {
     ghost size = { λ x. x };
 

@@ -4,6 +4,12 @@ ghost use Rattle.ivl_interval.specs.IntegerLaws.{unsigned_order, range_u8, count
 
 use crate::width::Width;
 
+/// From 0 to 254, with sizes of `u8`. The greatest value of the type, 255, is outside the range.
+///
+/// ```
+/// assert_eq!(rt; <u8 as Width>::min_value(), 0);
+/// assert_eq!(rt; <u8 as Width>::max_value(), 254);
+/// ```
 impl Width for u8 {
     type Output = u8;
 
@@ -68,6 +74,8 @@ impl Width for u8 {
     ghost countable = { countable_u8 };
 }
 
+/// From 0 to 65534, with sizes of `u16`. The greatest value of the type, 65535, is outside the
+/// range.
 impl Width for u16 {
     type Output = u16;
 
@@ -132,6 +140,8 @@ impl Width for u16 {
     ghost countable = { countable_u16 };
 }
 
+/// From 0 to 4294967294, with sizes of `u32`. The greatest value of the type, 4294967295, is
+/// outside the range.
 impl Width for u32 {
     type Output = u32;
 
@@ -196,6 +206,8 @@ impl Width for u32 {
     ghost countable = { countable_u32 };
 }
 
+/// From 0 to 18446744073709551614, with sizes of `u64`. The greatest value of the type,
+/// 18446744073709551615, is outside the range.
 impl Width for u64 {
     type Output = u64;
 
@@ -260,6 +272,8 @@ impl Width for u64 {
     ghost countable = { countable_u64 };
 }
 
+/// From 0 to 18446744073709551614, with sizes of `usize`. The greatest value of the type,
+/// 18446744073709551615, is outside the range.
 impl Width for usize {
     type Output = usize;
 
