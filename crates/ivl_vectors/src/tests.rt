@@ -2,8 +2,8 @@
 mod arithmetic;
 mod conversions;
 mod debug_texts;
-mod doc_sets;
 mod doc_intervals;
+mod doc_sets;
 mod ends;
 mod fixtures;
 mod intervals;
