@@ -33,6 +33,9 @@ use std::marker::Model;
 /// The runs are intervals of the range that are not empty; they ascend, and at least one number is
 /// missing between neighbours. The number of members is kept beside them.
 ///
+/// A call reserves the room that its answer may need, and gives back what is left of it where that
+/// is more than half. Where giving back is refused the set keeps that room; its answer is the same.
+///
 /// ```
 /// let hours: IntervalSet<u8> = [(12, 13), (8, 11)].to_interval_set(alloc)?;
 /// assert!(rt; hours == IntervalSet::new(alloc, 8, 13)?);
