@@ -2,7 +2,6 @@
 //! has advanced and how often a search has looked.
 mod combine;
 mod differences;
-mod looks;
 mod merge;
 mod probes;
 mod search;
