@@ -1,12 +1,18 @@
 //! Each condition of a call is met after its public test: the callers here have no condition of
 //! their own, and none of them wants a proof by hand.
-ghost use Rattle.std.specs.Prelude.{◌≡◌, ◌⊎◌, ◌≤ℤ◌, ◌∷◌, [], ℤ, ⊤, MatchOption, IfOk};
-ghost use Rattle.ivl_laws.specs.Sets.{Differences, ExactProducts, IsBetween, IsHullOf, IsInRange, Only, SameMembers, Sums, Union};
+ghost use Rattle.std.specs.Prelude.{◌≡◌, ◌⊎◌, ◌+◌, ◌≤ℤ◌, ◌∷◌, [], ℤ, ⊤, MatchOption, IfOk, length, map, slice_get};
+ghost use Rattle.ivl_laws.specs.Sets.{Differences, ExactProducts, IsBetween, IsHullOf, IsInRange, Only, SameMembers, Sums, SymmetricDifference, Union};
 ghost use Rattle.ivl_laws.specs.Runs.{Covers, IsRunsOf};
+ghost use Rattle.intervallum.specs.Sweeps.{AreImages};
+ghost use Rattle.intervallum.specs.declared.sweep.Op.TheVariants.{Sum};
 
 use intervallum::interval::Interval;
-use intervallum::interval_set::IntervalSet;
-use intervallum::ops::{Bounded, Contains, Fits, IsEmpty, Range, Singleton, Union, Whole};
+use intervallum::interval_set::{IntervalSet, ToIntervalSet};
+use intervallum::ops::{
+    Bounded, Contains, Fits, IsEmpty, Range, Singleton, SymmetricDifference, Union, Whole,
+};
+use intervallum::steps::{Probes, Walk};
+use intervallum::sweep::{Op, images};
 use intervallum::width::Width;
 use std::alloc::{AllocError, Global};
 
@@ -110,4 +116,101 @@ pub fn products_if_they_fit<B: Width>(a: &Interval<B>, b: &Interval<B>) -> Optio
     ensures { MatchOption result ⊤ (λ r. IsHullOf r (ExactProducts (IsBetween a.now) (IsBetween b.now))) }
 {
     if a.fits_mul(b) { Some(a * b) } else { None }
+}
+
+/// The set of a value alone, if `whole` contains it.
+pub fn alone_if_contained<B: Width>(
+    alloc: Global,
+    value: B,
+) -> Result<Option<IntervalSet<B>>, AllocError>
+    ensures { IfOk result (λ o. MatchOption o ⊤ (λ L. L ≡ (B.value value, B.value value) ∷ [])) }
+{
+    if Interval::whole().contains(&value) {
+        Ok(Some(IntervalSet::singleton(alloc, value)?))
+    } else {
+        Ok(None)
+    }
+}
+
+/// A set that has a value just where the given one has it not, if the value is in the range.
+pub fn turned_at<B: Width>(
+    set: &IntervalSet<B>,
+    value: B,
+) -> Result<Option<IntervalSet<B>>, AllocError>
+    ensures { IfOk result (λ o. MatchOption o ⊤ (λ L. IsRunsOf L (SymmetricDifference (Covers set.now) (Only (B.value value))))) }
+{
+    if Interval::whole().contains(&value) {
+        Ok(Some(set.symmetric_difference(&value)?))
+    } else {
+        Ok(None)
+    }
+}
+
+/// The set of a pair of bounds, if `in_range` tells that they are those of an interval.
+pub fn set_if_in_range<B: Width>(
+    alloc: Global,
+    lower: B,
+    upper: B,
+) -> Result<Option<IntervalSet<B>>, AllocError>
+    ensures { IfOk result (λ o. MatchOption o ⊤ (λ L. IsRunsOf L (Covers ((B.value lower, B.value upper) ∷ [])))) }
+{
+    if Interval::in_range(lower, upper) {
+        Ok(Some((lower, upper).to_interval_set(alloc)?))
+    } else {
+        Ok(None)
+    }
+}
+
+/// The set of pairs of bounds, if `in_range` tells that each is those of an interval.
+pub fn set_if_each_in_range<B: Width>(
+    alloc: Global,
+    pairs: &[(B, B)],
+) -> Result<Option<IntervalSet<B>>, AllocError>
+    ensures { IfOk result (λ o. MatchOption o ⊤ (λ L. IsRunsOf L (Covers (map (λ p. (B.value p.0, B.value p.1)) pairs.now)))) }
+{
+    if pairs
+        .iter()
+        .all(|(lower, upper)| Interval::in_range(*lower, *upper))
+    {
+        Ok(Some(pairs.to_interval_set(alloc)?))
+    } else {
+        Ok(None)
+    }
+}
+
+/// Takes the first run of a walk away, if `peek` shows one, and tells whether it did.
+pub fn advanced_if_one_is_left<B: Width>(walk: &mut Walk<'_, B>) -> bool
+    ensures { walk.new.advances + length walk.new.left ≡ walk.old.advances + length walk.old.left }
+{
+    if walk.peek().is_some() {
+        walk.advance();
+        true
+    } else {
+        false
+    }
+}
+
+/// Run number `i` of a search, if there is one.
+pub fn run_if_there<B: Width>(probes: &mut Probes<'_, B>, i: usize) -> Option<Interval<B>>
+    ensures { result ≡ slice_get probes.old.runs i }
+{
+    if i < probes.len() {
+        Some(probes.look(i))
+    } else {
+        None
+    }
+}
+
+/// The sums of each pair of runs, if `fits_add` tells that each is in the range.
+pub fn sums_by_runs_if_they_fit<B: Width>(
+    a: &IntervalSet<B>,
+    b: &IntervalSet<B>,
+) -> Result<Option<Vec<Interval<B>>>, AllocError>
+    ensures { IfOk result (λ o. MatchOption o ⊤ (λ v. AreImages Sum a.now b.now v.items)) }
+{
+    if a.fits_add(b) {
+        Ok(Some(images(a, b, Op::Sum)?))
+    } else {
+        Ok(None)
+    }
 }
