@@ -1,7 +1,7 @@
 //! Each condition of a call is met after its public test: the callers here have no condition of
 //! their own, and none of them wants a proof by hand.
-ghost use Rattle.std.specs.Prelude.{◌≡◌, ◌⊎◌, ◌+◌, ◌≤ℤ◌, ◌∷◌, [], ℤ, ⊤, MatchOption, IfOk, length, map, slice_get};
-ghost use Rattle.ivl_laws.specs.Sets.{Differences, ExactProducts, IsBetween, IsHullOf, IsInRange, Only, SameMembers, Sums, SymmetricDifference, Union};
+ghost use Rattle.std.specs.Prelude.{◌≡◌, ◌↔◌, ◌⊎◌, ◌+◌, ◌≤ℤ◌, ◌∷◌, [], ℤ, All, MatchOption, IfOk, IsTrue, length, map, slice_get};
+ghost use Rattle.ivl_laws.specs.Sets.{Differences, ExactProducts, IsBetween, IsHullOf, IsInRange, IsSubset, Only, SameMembers, Sums, SymmetricDifference, Union};
 ghost use Rattle.ivl_laws.specs.Runs.{Covers, IsRunsOf};
 ghost use Rattle.intervallum.specs.Sweeps.{AreImages};
 ghost use Rattle.intervallum.specs.declared.sweep.Op.TheVariants.{Sum};
@@ -60,7 +60,7 @@ pub fn run_if_in_order<B: Width>(
     lb: B,
     ub: B,
 ) -> Result<Option<IntervalSet<B>>, AllocError>
-    ensures { IfOk result (λ o. MatchOption o ⊤ (λ L. L ≡ (B.value lb, B.value ub) ∷ [])) }
+    ensures { IfOk result (λ o. MatchOption o (¬ (IsInRange B.whole (B.value lb, B.value ub) × (B.value lb ≤ℤ B.value ub))) (λ L. L ≡ (B.value lb, B.value ub) ∷ [])) }
 {
     if lb <= ub && Interval::in_range(lb, ub) {
         Ok(Some(IntervalSet::new(alloc, lb, ub)?))
@@ -74,7 +74,7 @@ pub fn with_value<B: Width>(
     set: &IntervalSet<B>,
     value: B,
 ) -> Result<Option<IntervalSet<B>>, AllocError>
-    ensures { IfOk result (λ o. MatchOption o ⊤ (λ L. IsRunsOf L (Union (Covers set.now) (Only (B.value value))))) }
+    ensures { IfOk result (λ o. MatchOption o (¬ (IsInRange B.whole (B.value value, B.value value))) (λ L. IsRunsOf L (Union (Covers set.now) (Only (B.value value))))) }
 {
     if Interval::in_range(value, value) {
         Ok(Some(set.union(&value)?))
@@ -88,7 +88,7 @@ pub fn sums_if_they_fit<B: Width>(
     a: &IntervalSet<B>,
     b: &IntervalSet<B>,
 ) -> Result<Option<IntervalSet<B>>, AllocError>
-    ensures { IfOk result (λ o. MatchOption o ⊤ (λ L. IsRunsOf L (Sums (Covers a.now) (Covers b.now)))) }
+    ensures { IfOk result (λ o. MatchOption o (¬ (IsSubset (Sums (Covers a.now) (Covers b.now)) (IsBetween B.whole))) (λ L. IsRunsOf L (Sums (Covers a.now) (Covers b.now)))) }
 {
     if a.fits_add(b) {
         Ok(Some((a + b)?))
@@ -102,7 +102,7 @@ pub fn differences_if_they_fit<B: Width>(
     set: &IntervalSet<B>,
     value: B,
 ) -> Result<Option<IntervalSet<B>>, AllocError>
-    ensures { IfOk result (λ o. MatchOption o ⊤ (λ L. IsRunsOf L (Differences (Covers set.now) (Only (B.value value))))) }
+    ensures { IfOk result (λ o. MatchOption o (¬ (IsSubset (Differences (Covers set.now) (Only (B.value value))) (IsBetween B.whole))) (λ L. IsRunsOf L (Differences (Covers set.now) (Only (B.value value))))) }
 {
     if set.fits_sub(&value) {
         Ok(Some((set - value)?))
@@ -113,7 +113,7 @@ pub fn differences_if_they_fit<B: Width>(
 
 /// The hull of the products of two intervals, if `fits_mul` tells that each is in the range.
 pub fn products_if_they_fit<B: Width>(a: &Interval<B>, b: &Interval<B>) -> Option<Interval<B>>
-    ensures { MatchOption result ⊤ (λ r. IsHullOf r (ExactProducts (IsBetween a.now) (IsBetween b.now))) }
+    ensures { MatchOption result (¬ (IsSubset (ExactProducts (IsBetween a.now) (IsBetween b.now)) (IsBetween B.whole))) (λ r. IsHullOf r (ExactProducts (IsBetween a.now) (IsBetween b.now))) }
 {
     if a.fits_mul(b) { Some(a * b) } else { None }
 }
@@ -123,7 +123,7 @@ pub fn alone_if_contained<B: Width>(
     alloc: Global,
     value: B,
 ) -> Result<Option<IntervalSet<B>>, AllocError>
-    ensures { IfOk result (λ o. MatchOption o ⊤ (λ L. L ≡ (B.value value, B.value value) ∷ [])) }
+    ensures { IfOk result (λ o. MatchOption o (¬ (IsBetween B.whole (B.value value))) (λ L. L ≡ (B.value value, B.value value) ∷ [])) }
 {
     if Interval::whole().contains(&value) {
         Ok(Some(IntervalSet::singleton(alloc, value)?))
@@ -137,7 +137,7 @@ pub fn turned_at<B: Width>(
     set: &IntervalSet<B>,
     value: B,
 ) -> Result<Option<IntervalSet<B>>, AllocError>
-    ensures { IfOk result (λ o. MatchOption o ⊤ (λ L. IsRunsOf L (SymmetricDifference (Covers set.now) (Only (B.value value))))) }
+    ensures { IfOk result (λ o. MatchOption o (¬ (IsBetween B.whole (B.value value))) (λ L. IsRunsOf L (SymmetricDifference (Covers set.now) (Only (B.value value))))) }
 {
     if Interval::whole().contains(&value) {
         Ok(Some(set.symmetric_difference(&value)?))
@@ -152,7 +152,7 @@ pub fn set_if_in_range<B: Width>(
     lower: B,
     upper: B,
 ) -> Result<Option<IntervalSet<B>>, AllocError>
-    ensures { IfOk result (λ o. MatchOption o ⊤ (λ L. IsRunsOf L (Covers ((B.value lower, B.value upper) ∷ [])))) }
+    ensures { IfOk result (λ o. MatchOption o (¬ (IsInRange B.whole (B.value lower, B.value upper))) (λ L. IsRunsOf L (Covers ((B.value lower, B.value upper) ∷ [])))) }
 {
     if Interval::in_range(lower, upper) {
         Ok(Some((lower, upper).to_interval_set(alloc)?))
@@ -166,7 +166,7 @@ pub fn set_if_each_in_range<B: Width>(
     alloc: Global,
     pairs: &[(B, B)],
 ) -> Result<Option<IntervalSet<B>>, AllocError>
-    ensures { IfOk result (λ o. MatchOption o ⊤ (λ L. IsRunsOf L (Covers (map (λ p. (B.value p.0, B.value p.1)) pairs.now)))) }
+    ensures { IfOk result (λ o. MatchOption o (¬ (All (λ p. IsInRange B.whole (B.value p.0, B.value p.1)) pairs.now)) (λ L. IsRunsOf L (Covers (map (λ p. (B.value p.0, B.value p.1)) pairs.now)))) }
 {
     if pairs
         .iter()
@@ -180,7 +180,8 @@ pub fn set_if_each_in_range<B: Width>(
 
 /// Takes the first run of a walk away, if `peek` shows one, and tells whether it did.
 pub fn advanced_if_one_is_left<B: Width>(walk: &mut Walk<'_, B>) -> bool
-    ensures { walk.new.advances + length walk.new.left ≡ walk.old.advances + length walk.old.left }
+    ensures told { IsTrue result ↔ (walk.new.advances ≡ walk.old.advances + 1) }
+    ensures runs { walk.new.advances + length walk.new.left ≡ walk.old.advances + length walk.old.left }
 {
     if walk.peek().is_some() {
         walk.advance();
@@ -206,7 +207,7 @@ pub fn sums_by_runs_if_they_fit<B: Width>(
     a: &IntervalSet<B>,
     b: &IntervalSet<B>,
 ) -> Result<Option<Vec<Interval<B>>>, AllocError>
-    ensures { IfOk result (λ o. MatchOption o ⊤ (λ v. AreImages Sum a.now b.now v.items)) }
+    ensures { IfOk result (λ o. MatchOption o (¬ (IsSubset (Sums (Covers a.now) (Covers b.now)) (IsBetween B.whole))) (λ v. AreImages Sum a.now b.now v.items)) }
 {
     if a.fits_add(b) {
         Ok(Some(images(a, b, Op::Sum)?))
