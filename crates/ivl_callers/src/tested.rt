@@ -1,6 +1,6 @@
 //! Each condition of a call is met after its public test: the callers here have no condition of
 //! their own, and none of them wants a proof by hand.
-ghost use Rattle.std.specs.Prelude.{◌≡◌, ◌↔◌, ◌⊎◌, ◌+◌, ◌≤ℤ◌, ◌∷◌, [], ℤ, All, MatchOption, IfOk, IsTrue, length, map, slice_get};
+ghost use Rattle.std.specs.Prelude.{◌≡◌, ◌↔◌, ◌⊎◌, ◌+◌, ◌≤ℤ◌, ◌∷◌, [], ℤ, ⊤, All, None, MatchOption, IfOk, IsTrue, length, map, slice_get};
 ghost use Rattle.ivl_laws.specs.Sets.{Differences, ExactProducts, IsBetween, IsHullOf, IsInRange, IsSubset, Only, SameMembers, Sums, SymmetricDifference, Union};
 ghost use Rattle.ivl_laws.specs.Runs.{Covers, IsRunsOf};
 ghost use Rattle.intervallum.specs.Sweeps.{AreImages};
@@ -88,7 +88,8 @@ pub fn sums_if_they_fit<B: Width>(
     a: &IntervalSet<B>,
     b: &IntervalSet<B>,
 ) -> Result<Option<IntervalSet<B>>, AllocError>
-    ensures { IfOk result (λ o. MatchOption o (¬ (IsSubset (Sums (Covers a.now) (Covers b.now)) (IsBetween B.whole))) (λ L. IsRunsOf L (Sums (Covers a.now) (Covers b.now)))) }
+    ensures sums { IfOk result (λ o. MatchOption o ⊤ (λ L. IsRunsOf L (Sums (Covers a.now) (Covers b.now)))) }
+    ensures none { IfOk result (λ o. (o ≡ None) → ¬ (IsSubset (Sums (Covers a.now) (Covers b.now)) (IsBetween B.whole))) }
 {
     if a.fits_add(b) {
         Ok(Some((a + b)?))
