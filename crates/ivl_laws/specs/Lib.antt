@@ -4,3 +4,4 @@ pub mod Counts
 pub mod Bounds
 pub mod Arithmetic
 pub mod Walks
+pub mod Families
