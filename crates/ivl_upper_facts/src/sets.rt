@@ -2,6 +2,7 @@
 
 use intervallum::interval::Interval;
 use intervallum::interval_set::{IntervalSet, ToIntervalSet};
+use intervallum::ops::{Bounded, IsEmpty};
 use intervallum::width::Width;
 use std::alloc::{AllocError, Global};
 use std::fmt::Display;
