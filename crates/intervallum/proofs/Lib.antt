@@ -18,3 +18,4 @@ pub mod Parting
 pub mod Alternating
 pub mod Windows
 pub mod Turning
+pub mod Shifting

@@ -5,6 +5,7 @@
 --     AreImages op L M entries      one entry for each pair of runs: that of run i of L and run j of M stands at place i * m + j
 --     result_of op p q      the pair that holds the results of two runs
 --     TurnsOrder op v      the results with v descend where the runs ascend
+--     IsShift op      the results with a value are the runs, moved by it
 use Rattle.std.specs.Prelude.{◌≡◌, ℕ, ◌+◌, ◌*◌, ◌<◌, ℤ, ◌<ℤ◌, List, length, slice_index_or, pos}
 use Rattle.ivl_laws.specs.Sets.{IsBetween, SameMembers, Sums, Differences, ExactProducts, Products, IsHullOf}
 use Rattle.ivl_laws.specs.Runs.{Covers}
@@ -45,3 +46,8 @@ abbrev pub TurnsOrder : Op → ℤ → Type 0
 TurnsOrder Sum v = ⊥
 TurnsOrder Difference v = ⊥
 TurnsOrder Product v = v <ℤ pos 0
+
+abbrev pub IsShift : Op → Type 0
+IsShift Sum = Unit {0}
+IsShift Difference = Unit {0}
+IsShift Product = ⊥

@@ -1,12 +1,13 @@
 //! How a run list is read and made: every set is built by pushing runs at its end.
 ghost use Rattle.std.specs.Prelude.{◌≡◌, ◌↔◌, ◌+◌, ◌≤◌, ℕ, pos, ◌+ℤ◌, ◌-ℤ◌, ◌≤ℤ◌, [], ◌∷◌, ◌++◌, IsTrue, IfOk, OnOk, OnErr};
 ghost use Rattle.ivl_laws.specs.Sets.{IsBetween, IsSubset};
-ghost use Rattle.ivl_laws.specs.Runs.{AddsRun, IsRunListIn, StartsBy};
+ghost use Rattle.ivl_laws.specs.Runs.{AddsRun, Covers, IsRunListIn, StartsBy};
+ghost use Rattle.ivl_laws.specs.Counts.{IsCountOf};
 ghost use Rattle.ivl_laws.specs.Bounds.{width_of};
 
 use super::IntervalSet;
 use crate::interval::Interval;
-use crate::ops::{Bounded, Cardinality, Range};
+use crate::ops::{Bounded, Cardinality, Range, StrictShrinkLeft};
 use crate::width::{SizeNumber, Width};
 use std::alloc::{AllocError, Global};
 
@@ -39,6 +40,15 @@ impl<B: Width> IntervalSet<B> {
             intervals: Vec::with_capacity(alloc, runs)?,
             size: <B::Output as SizeNumber>::zero(),
         })
+    }
+
+    /// The set of a list of runs, and of how many numbers they cover.
+    pub(crate) fn of_runs(intervals: Vec<Interval<B>>, size: B::Output) -> Self
+        requires runs { IsRunListIn B.whole intervals.items }
+        requires size { IsCountOf (B.Output.size size) (Covers intervals.items) }
+        ensures { result ≡ intervals.items }
+    {
+        IntervalSet { intervals, size }
     }
 
     /// The same set, which gives memory back where it has room for more than twice as many runs. Where
@@ -82,7 +92,7 @@ impl<B: Width> IntervalSet<B> {
         ensures err { OnErr result (self.new ≡ self.old) }
     {
         self.intervals.push(run)?;
-        self.size = grown::<B>(self.size, run.size().number());
+        self.size = grown::<B>(self.size, run.size());
         Ok(())
     }
 }
@@ -93,23 +103,28 @@ fn joins<B: Width>(last: &Interval<B>, run: &Interval<B>) -> bool
     requires run { run.now.0 ≤ℤ run.now.1 }
     ensures { IsTrue result ↔ (run.now.0 ≤ℤ (last.now.1 +ℤ pos 1)) }
 {
-    run.lower().number() - last.upper().number() <= 1
+    let (end, start) = (last.upper(), run.lower());
+    if start <= end {
+        true
+    } else {
+        B::width(&end, &start).number() <= 2
+    }
 }
 
 /// How many numbers of a run lie above another run's end.
-fn numbers_past<B: Width>(last: &Interval<B>, run: &Interval<B>) -> u128
+fn numbers_past<B: Width>(last: &Interval<B>, run: &Interval<B>) -> B::Output
     requires last { last.now.0 ≤ℤ last.now.1 }
     requires run { run.now.0 ≤ℤ run.now.1 }
-    ensures { result ≡ width_of (last.now.1 +ℤ pos 1, run.now.1) }
+    requires near { run.now.0 ≤ℤ (last.now.1 +ℤ pos 1) }
+    ensures { B.Output.size result ≡ width_of (last.now.1 +ℤ pos 1, run.now.1) }
 {
-    let (last, end) = (last.upper().number(), run.upper().number());
-    if last < end { (end - last) as u128 } else { 0 }
+    run.strict_shrink_left(last.upper()).size()
 }
 
 /// A size and some more. The sum is a size again.
-fn grown<B: Width>(size: B::Output, more: u128) -> B::Output
-    requires { B.Output.size size + more ≤ B.Output.greatest }
-    ensures { B.Output.size result ≡ B.Output.size size + more }
+fn grown<B: Width>(size: B::Output, more: B::Output) -> B::Output
+    requires { B.Output.size size + B.Output.size more ≤ B.Output.greatest }
+    ensures { B.Output.size result ≡ B.Output.size size + B.Output.size more }
 {
-    B::Output::from_number(size.number() + more).unwrap()
+    size.checked_add(more).unwrap()
 }
