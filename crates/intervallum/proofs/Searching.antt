@@ -1,7 +1,9 @@
 -- What one look tells of the runs on one side of it.
-use Rattle.std.proofs.Common.{◌≡◌, ℕ, zero, suc, ◌+◌, ◌*◌, ◌^◌, ◌<◌, ◌≤◌, ℤ, ◌≤ℤ◌, ◌<ℤ◌, List, [], ◌∷◌, length, get_or, take, drop, arith, refl, inl, inr, true, false}
+use Rattle.std.proofs.Common.{◌≡◌, ℕ, zero, suc, ◌+◌, ◌*◌, ◌^◌, ◌<◌, ◌≤◌, ℤ, ◌≤ℤ◌, ◌<ℤ◌, List, [], ◌∷◌, length, get_or, take, drop, ⊎_elim, arith, refl, inl, inr, true, false}
 use Rattle.std.specs.Prelude.{int_lt}
 use Rattle.std.proofs.lemmas.Int.{ints}
+use Rattle.std.proofs.Math.Nat.{pow-le-pow_right}
+use Rattle.std.proofs.lemmas.Bool.{cases_lt}
 use native.Mathlib.Numerals.{unary_clauses}
 use Rattle.ivl_laws.specs.Runs.{Covers, IsMaximal, runs_below}
 use Rattle.intervallum.specs.Places.{EndBelow, StartAbove}
@@ -56,3 +58,11 @@ gap_at v (r ∷ L) (suc i) h b a m =
     let k = gap_at v L i (omega arith) b.1 a m.2 in
     let e : int_lt r.1 v ≡ true = int_lt_true r.1 v b.0 in
     (λ c. elim c [ inl j ↦ omega (arith, ints, j.1, b.0) | inr j ↦ k.0 j ], rw (e, k.1) (omega arith))
+
+-- where steps were doubled k times, and a place no nearer has so many digits
+pub fewer_digits : (k digits far past : ℕ) → far + 1 ≡ 2 ^ k → far ≤ past → past + 1 < 2 ^ digits → k < digits
+fewer_digits k digits far past e h l = ⊎_elim (λ less. less)
+    (λ more. absurd (let two : 0 < 2 = omega arith in let p = pow-le-pow_right two more in omega (arith, e, h, l, p))) (cases_lt k digits)
+
+pub doubled : (k far : ℕ) → far + 1 ≡ 2 ^ k → far + far + 1 + 1 ≡ 2 ^ (k + 1)
+doubled k far e = let more : k + 1 ≡ suc k = omega arith in rw more (simp unary_clauses (omega (arith, e)))

@@ -1,8 +1,9 @@
 -- Where a number stands in a list of runs.
 --     IsPlaceOf runs v place      the run that has v, or how many runs lie below v where none has
+--     index_of place      the number of runs before it
 --     EndBelow v L, StartAbove v L      each pair ends below v; each starts above v
 --     EndsFrom v L      the first pair, if there is one, ends at v or above
-use Rattle.std.specs.Prelude.{◌≡◌, ℤ, ◌≤ℤ◌, ◌<ℤ◌, List, [], ◌∷◌, slice_get, IsSomeAnd}
+use Rattle.std.specs.Prelude.{◌≡◌, ℕ, ℤ, ◌≤ℤ◌, ◌<ℤ◌, List, [], ◌∷◌, slice_get, IsSomeAnd}
 use Rattle.ivl_laws.specs.Sets.{IsBetween}
 use Rattle.ivl_laws.specs.Runs.{Covers, runs_below}
 use Rattle.intervallum.specs.declared.steps.search.Place.{Place}
@@ -12,6 +13,10 @@ use Rattle.intervallum.specs.declared.steps.search.Place.TheVariants.{In, Gap}
 abbrev pub IsPlaceOf : List (ℤ × ℤ) → ℤ → Place → Type 0
 IsPlaceOf runs v (In i) = IsSomeAnd (slice_get runs i) (λ run. IsBetween run v)
 IsPlaceOf runs v (Gap i) = (¬ (Covers runs v)) × (runs_below v runs ≡ i)
+
+abbrev pub index_of : Place → ℕ
+index_of (In i) = i
+index_of (Gap i) = i
 
 abbrev pub EndBelow : ℤ → List (ℤ × ℤ) → Type 0
 EndBelow v [] = Unit {0}

@@ -1,6 +1,6 @@
 //! Where a value stands among the runs of a set.
-ghost use Rattle.std.specs.Prelude.{◌≡◌, ℕ, ◌+◌, ◌^◌, ◌<◌, ◌≤◌, length};
-ghost use Rattle.intervallum.specs.Places.{IsPlaceOf};
+ghost use Rattle.std.specs.Prelude.{◌≡◌, ℕ, ◌+◌, ◌-◌, ◌*◌, ◌^◌, ◌<◌, ◌≤◌, drop, length, take};
+ghost use Rattle.intervallum.specs.Places.{EndBelow, IsPlaceOf, StartAbove, index_of};
 
 use super::probes::Probes;
 use crate::ops::Bounded;
@@ -36,8 +36,57 @@ pub fn find<B: Width>(probes: &mut Probes<'_, B>, v: B) -> Place
     // no more looks than the number of runs has binary digits
     ensures looks { (digits : ℕ) → length probes.old.runs < 2 ^ digits → probes.new.looks ≤ probes.old.looks + digits }
 {
-    let mut low = 0;
-    let mut high = probes.len();
+    let count = probes.len();
+    find_between(probes, v, 0, count)
+}
+
+/// Where `v` stands, from a place on: `from` runs lie below it. Doubles its steps until it is past
+/// `v`, and then searches by halves: `O(log d)` where it goes on by `d` runs, with no memory.
+///
+/// Conditions: `from` is at most `probes.len()`, and the runs before place `from` end below `v`, as
+/// they do where an earlier search for a lower value answered that place.
+pub(crate) fn find_from<B: Width>(probes: &mut Probes<'_, B>, v: B, from: usize) -> Place
+    requires at_most { from ≤ length probes.old.runs }
+    requires below { EndBelow (B.value v) (take from probes.old.runs) }
+    ensures place { IsPlaceOf probes.old.runs (B.value v) result }
+    ensures same { probes.new.runs ≡ probes.old.runs }
+    ensures onwards { from ≤ index_of result }
+    // fewer looks than twice the binary digits of how far it goes on
+    ensures looks { (digits : ℕ) → index_of result - from + 1 < 2 ^ digits → probes.new.looks < probes.old.looks + 2 * digits }
+{
+    let count = probes.len();
+    let mut low = from;
+    'search: while low - from < count - low {
+        let next = low + (low - from);
+        let run = probes.look(next);
+        if v < run.lower() {
+            return find_between(probes, v, low, next);
+        } else if run.upper() < v {
+            low = next + 1;
+        } else {
+            return Place::In(next);
+        }
+    }
+    find_between(probes, v, low, count)
+}
+
+/// Where `v` stands, which lies above the first `low` runs, and below those from `high` on.
+fn find_between<B: Width>(
+    probes: &mut Probes<'_, B>,
+    v: B,
+    mut low: usize,
+    mut high: usize,
+) -> Place
+    requires in_order { low ≤ high }
+    requires at_most { high ≤ length probes.old.runs }
+    requires below { EndBelow (B.value v) (take low probes.old.runs) }
+    requires above { StartAbove (B.value v) (drop high probes.old.runs) }
+    ensures place { IsPlaceOf probes.old.runs (B.value v) result }
+    ensures same { probes.new.runs ≡ probes.old.runs }
+    ensures onwards { low ≤ index_of result }
+    ensures looks { (digits : ℕ) → high - low < 2 ^ digits → probes.new.looks ≤ probes.old.looks + digits }
+{
+    probes.len();
     'search: while low < high {
         let middle = low + (high - low) / 2;
         let run = probes.look(middle);

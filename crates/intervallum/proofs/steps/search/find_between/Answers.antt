@@ -3,7 +3,7 @@ use Rattle.std.proofs.lemmas.Option.{get_or_from_slice_get}
 use Rattle.ivl_laws.proofs.Orders.{lt_number}
 use Rattle.intervallum.specs.Places.{EndBelow, StartAbove}
 use Rattle.intervallum.proofs.Searching.{above_from, below_to, gap_at, shrink}
-use Rattle.intervallum.proofs.steps.search.find.Goals as goal
+use Rattle.intervallum.proofs.steps.search.find_between.Goals as goal
 
 pub search-preserved-then-lt : goal.search-preserved-then-lt
 search-preserved-then-lt g c =
@@ -27,6 +27,7 @@ search-preserved-then-lt g c =
           let p = inv.6 digits h in
           let q = shrink _ (i - c.search.low) p.0 (omega (arith, t)) p.2 (omega arith) in
           (q.0, omega (arith, p.1, q.1, c.look-run.ensures.looks), q.2),
+      inv.7,
     )
 
 pub search-preserved : goal.search-preserved
@@ -53,6 +54,7 @@ search-preserved g c =
           let p = inv.6 digits h in
           let q = shrink _ (c.search.high - (i + 1)) p.0 (omega (arith, t)) p.2 (omega arith) in
           (q.0, omega (arith, p.1, q.1, c.look-run.ensures.looks), q.2),
+      omega (arith, t, inv.7),
     )
 
 pub returns-clause-place : goal.returns-clause-place

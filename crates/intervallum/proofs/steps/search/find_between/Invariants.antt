@@ -1,14 +1,15 @@
 use Rattle.std.proofs.Common.{◌≡◌, ℕ, ◌+◌, ◌-◌, ◌^◌, ◌<◌, ◌≤◌, length, take, drop}
 use Rattle.ivl_laws.specs.Runs.{IsMaximal}
 use Rattle.intervallum.specs.Places.{EndBelow, StartAbove}
-use Rattle.intervallum.proofs.steps.search.find.Given as goal
+use Rattle.intervallum.proofs.steps.search.find_between.Given as goal
 
 abbrev pub invariant-search : goal.invariant-search
 invariant-search g l =
     let runs = l.fn.probes.runs in
     let v = g.B.Width.value l.fn.v in
     (l.low ≤ l.high) × (l.high ≤ length runs) × (l.probes.runs ≡ runs) × IsMaximal runs × EndBelow v (take l.low runs) × StartAbove v (drop l.high runs)
-    × ((digits : ℕ) → length runs < 2 ^ digits → (rest : ℕ) × (l.probes.looks + rest ≡ l.fn.probes.looks + digits) × (l.high - l.low < 2 ^ rest))
+    × ((digits : ℕ) → l.fn.high - l.fn.low < 2 ^ digits → (rest : ℕ) × (l.probes.looks + rest ≡ l.fn.probes.looks + digits) × (l.high - l.low < 2 ^ rest))
+    × (l.fn.low ≤ l.low)
 
 abbrev pub decreases-search : goal.decreases-search
 decreases-search g l = l.high - l.low
