@@ -54,6 +54,17 @@ pub same_runs_seen : (L M L' M' : List (ℤ × ℤ)) (t : Bool) → L ≡ L' →
     → IsTrue t ↔ SameMembers (Covers L') (Covers M')
 same_runs_seen L M L' M' t e f m n h = rw (← e, ← f) (same_runs_members L M t m n h)
 
+-- a test of two lists, which were read as K and N
+pub tells_same_runs : (L M K N : List (ℤ × ℤ)) (t : Bool) → IsMaximal L → K ≡ L → N ≡ M → (IsTrue t ↔ (K ≡ N)) → t ≡ same_runs L M
+tells_same_runs L M K N true m a b k =
+    let P : List (ℤ × ℤ) → Type 0 = λ N. same_runs L N ≡ true in
+    sym (subst P (sym a ∙ k.0 refl ∙ b) (same_runs_equiv.refl L))
+tells_same_runs L M K N false m a b k = by_cases (same_runs L M) refl
+  where
+    by_cases : (u : Bool) → same_runs L M ≡ u → false ≡ same_runs L M
+    by_cases false e = sym e
+    by_cases true e = let u = k.1 (a ∙ same_list L M m e ∙ sym b) in absurd (cc)
+
 -- lists of different counts are not the same
 pub same_runs-counts : (L M : List (ℤ × ℤ)) (m n : ℕ) → IsMaximal L → IsCountOf m (Covers L) → IsCountOf n (Covers M) → ¬ (m ≡ n) → same_runs L M ≡ false
 same_runs-counts L M m n o a b d = by_cases (same_runs L M) refl

@@ -1,14 +1,16 @@
 -- What a place in the runs of a set tells of its members.
-use Rattle.std.proofs.Common.{◌≡◌, ◌↔◌, ◌∙◌, ap, take, ⊎_elim, ℕ, zero, suc, ◌+◌, ◌<◌, ℤ, pos, ◌+ℤ◌, ◌≤ℤ◌, Bool, true, false, IsTrue, List, [], ◌∷◌, length, get_or, Some, refl, sym, subst, arith, inl, inr}
+use Rattle.std.proofs.Common.{◌≡◌, ◌↔◌, ◌∙◌, ap, take, ⊎_elim, ℕ, zero, suc, ◌+◌, ◌<◌, ◌≤◌, ℤ, pos, ◌+ℤ◌, ◌≤ℤ◌, ◌<ℤ◌, Bool, true, false, IsTrue, List, [], ◌∷◌, length, get_or, Some, refl, sym, subst, arith, inl, inr}
 use Rattle.std.proofs.lemmas.Int.{ints, by_lt_z}
 use Rattle.std.specs.Prelude.{slice_get, IsSomeAnd}
 use Rattle.ivl_laws.specs.Sets.{IsBetween, IsSubset, HasSome, Only, SameMembers}
-use Rattle.ivl_laws.specs.Runs.{Covers, IsMaximal}
+use Rattle.ivl_laws.specs.Runs.{Covers, IsMaximal, StartsAfter}
 use Rattle.ivl_laws.specs.Counts.{IsIn}
 use Rattle.ivl_laws.proofs.Runs.{lower_end, upper_end}
 use Rattle.ivl_laws.proofs.Products.{one_covers}
-use Rattle.ivl_laws.proofs.Places.{free_above_end, covers_at}
+use Rattle.ivl_laws.proofs.Places.{free_above_end, covers_at, open_at, runs_ascend}
 use Rattle.ivl_laws.proofs.Ranges.{first_is_least, last_is_greatest}
+use Rattle.intervallum.specs.Places.{EndBelow, HoldsAt}
+use Rattle.intervallum.proofs.Sweeping.{same_item}
 
 pub covered_at_place : (L : List (ℤ × ℤ)) (i : ℕ) (v : ℤ) → IsSomeAnd (slice_get L i) (λ run. IsBetween run v) → Covers L v
 covered_at_place [] i v h = absurd h
@@ -48,6 +50,33 @@ held_by L i q r v b c t m o e h ev eb ec k =
           (λ lt. absurd (free_above_end L q m here (s (q.1 +ℤ pos 1) (omega (arith, ints, has.1, ev), omega (arith, ints, lt, eb, ec)))))
           (λ le. le)),
     )
+
+-- the runs before one that has v end below v
+ends_before : (u : ℤ) (L : List (ℤ × ℤ)) (i : ℕ) (v : ℤ) → StartsAfter u L → IsMaximal L → IsSomeAnd (slice_get L i) (λ run. IsBetween run v) → u <ℤ v
+ends_before u [] i v s m h = absurd h
+ends_before u (p ∷ L) zero v s m h = omega (arith, ints, s, h.0)
+ends_before u (p ∷ L) (suc i) v s m h = let k = ends_before p.1 L i v m.1 m.2 h in omega (arith, ints, s, m.0, k)
+
+pub place_below : (L : List (ℤ × ℤ)) (i : ℕ) (v : ℤ) → IsMaximal L → IsSomeAnd (slice_get L i) (λ run. IsBetween run v) → EndBelow v (take i L)
+place_below [] i v m h = absurd h
+place_below (p ∷ L) zero v m h = tt
+place_below (p ∷ L) (suc i) v m h = (ends_before p.1 L i v m.1 m.2 h, place_below L i v m.2 h)
+
+pub EndBelow-more : (L : List (ℤ × ℤ)) (v w : ℤ) → v ≤ℤ w → EndBelow v L → EndBelow w L
+EndBelow-more [] v w h b = tt
+EndBelow-more (p ∷ L) v w h b = (omega (arith, ints, h, b.0), EndBelow-more L v w h b.1)
+
+pub holds_at_place : (L : List (ℤ × ℤ)) (i : ℕ) (q r : ℤ × ℤ) (v b c : ℤ) (t : Bool) → IsMaximal L → r.0 ≤ℤ r.1 → slice_get L i ≡ Some q → IsSomeAnd (slice_get L i) (λ run. IsBetween run v) →
+    v ≡ r.0 → b ≡ r.1 → c ≡ q.1 → (IsTrue t ↔ (b ≤ℤ c)) → t ≡ true → HoldsAt i r L
+holds_at_place L i q r v b c t m o e h ev eb ec k is = record {
+  held = (held_by L i q r v b c t m o e h ev eb ec k).0 is;
+  less = place_is_less L i v h;
+  below = subst (λ z. EndBelow z (take i L)) ev (place_below L i v m h);
+}
+
+pub held_by_none : (L : List (ℤ × ℤ)) (i : ℕ) (q r : ℤ × ℤ) (v b c : ℤ) (t : Bool) → IsMaximal L → r.0 ≤ℤ r.1 → slice_get L i ≡ Some q → IsSomeAnd (slice_get L i) (λ run. IsBetween run v) →
+    v ≡ r.0 → b ≡ r.1 → c ≡ q.1 → (IsTrue t ↔ (b ≤ℤ c)) → t ≡ false → ¬ (IsSubset (IsBetween r) (Covers L))
+held_by_none L i q r v b c t m o e h ev eb ec k is s = let u = (held_by L i q r v b c t m o e h ev eb ec k).1 s in absurd (cc)
 
 pub some_has_length : (L M : List (ℤ × ℤ)) → L ≡ M → HasSome (Covers M) → 0 < length L
 some_has_length [] M e h = absurd (subst (λ (N : List (ℤ × ℤ)). Covers N h.0) (sym e) h.1)
@@ -117,22 +146,35 @@ included_more (p ∷ L) (suc k) d S h f r z c =
     let P : ℕ → Type 0 = λ n. Covers (take n (p ∷ L)) z in
     ⊎_elim (λ b. f z (inl b)) (λ t. included_more L k d S (omega arith) (λ w u. f w (inr u)) r z t) (subst P e c)
 
-one_not_included : (L : List (ℤ × ℤ)) (k : ℕ) (d : ℤ × ℤ) (S : ℤ → Type 0) (t : Bool) → k < length L → (IsTrue t ↔ IsSubset (IsBetween (get_or L k d)) S) → t ≡ false →
-    IsTrue false ↔ IsSubset (Covers L) S
-one_not_included L k d S t h i e = ((λ f. absurd (cc)), (λ s. absurd (let u = i.1 (λ z b. s z (covers_at L k d z h b)) in cc)))
+-- a run that is not included, and one that is
+pub one_run_not_included : (L L' R M : List (ℤ × ℤ)) (k : ℕ) (d : ℤ × ℤ) → L ≡ L' → R ≡ M → k < length L → d ≡ get_or L k d → ¬ (IsSubset (IsBetween d) (Covers R)) →
+    IsTrue false ↔ IsSubset (Covers L') (Covers M)
+one_run_not_included L L' R M k d e f h is n =
+    let P : List (ℤ × ℤ) → Type 0 = λ N. IsTrue false ↔ IsSubset (Covers N) (Covers M) in
+    let Q : List (ℤ × ℤ) → Type 0 = λ N. ¬ (IsSubset (IsBetween d) (Covers N)) in
+    subst P e ((λ u. absurd (cc)), (λ s. absurd (subst Q f n (λ z b. s z (covers_at L k d z h (subst (λ (r : ℤ × ℤ). IsBetween r z) is b))))))
 
--- a run that the test refuses, and one that it lets through
-pub one_run_not_included : (L L' R M : List (ℤ × ℤ)) (k : ℕ) (d : ℤ × ℤ) (t : Bool) → L ≡ L' → R ≡ M → k < length L → d ≡ get_or L k d →
-    (IsTrue t ↔ IsSubset (IsBetween d) (Covers R)) → t ≡ false → IsTrue false ↔ IsSubset (Covers L') (Covers M)
-one_run_not_included L L' R M k d t e f h is i n =
-    let P : List (ℤ × ℤ) → Type 0 = λ N. IsTrue t ↔ IsSubset (IsBetween d) (Covers N) in
-    let Q : ℤ × ℤ → Type 0 = λ r. IsTrue t ↔ IsSubset (IsBetween r) (Covers M) in
-    let R' : List (ℤ × ℤ) → Type 0 = λ N. IsTrue false ↔ IsSubset (Covers N) (Covers M) in
-    subst R' e (one_not_included L k d (Covers M) t h (subst Q is (subst P f i)) n)
+-- what is found for run k of L among the runs of R, where the next run is looked for
+pub record FoundFor (L R : List (ℤ × ℤ)) (k from : ℕ) : Type 0 where
+  pub included : IsSubset (Covers (take k L)) (Covers R)
+  pub at_most : from ≤ length R
+  pub below : (d : ℤ × ℤ) → k < length L → d ≡ get_or L k d → EndBelow d.0 (take from R)
 
-pub holds_at : (L R M : List (ℤ × ℤ)) (k : ℕ) (d : ℤ × ℤ) (t : Bool) → R ≡ M → d ≡ get_or L k d →
-    (IsTrue t ↔ IsSubset (IsBetween d) (Covers R)) → t ≡ true → IsSubset (IsBetween (get_or L k d)) (Covers M)
-holds_at L R M k d t f is i n =
-    let P : List (ℤ × ℤ) → Type 0 = λ N. IsSubset (IsBetween d) (Covers N) in
-    let Q : ℤ × ℤ → Type 0 = λ r. IsSubset (IsBetween r) (Covers M) in
-    subst Q is (subst P f (i.0 n))
+pub found_for_none : (L R : List (ℤ × ℤ)) → FoundFor L R 0 0
+found_for_none L R = record {
+  included = λ z c. absurd c;
+  at_most = omega arith;
+  below = λ d h e. tt;
+}
+
+pub found_for_next : (L R : List (ℤ × ℤ)) (k from i : ℕ) (d : ℤ × ℤ) → IsMaximal L → k < length L → d ≡ get_or L k d → HoldsAt i d R → FoundFor L R k from → FoundFor L R (k + 1) i
+found_for_next L R k from i d m h is held found = record {
+  included = included_more L k d (Covers R) h found.included (subst (λ (r : ℤ × ℤ). IsSubset (IsBetween r) (Covers R)) is held.held);
+  at_most = let less = held.less in omega arith;
+  below = λ next more there.
+      let far = runs_ascend L k (k + 1) (pos 0, pos 0) m (omega arith) more in
+      let open_run = open_at L k (pos 0, pos 0) m h in
+      let start : d.0 ≡ (get_or L k (pos 0, pos 0)).0 = ap (λ (r : ℤ × ℤ). r.0) (is ∙ same_item L k d (pos 0, pos 0) h) in
+      let later : next.0 ≡ (get_or L (k + 1) (pos 0, pos 0)).0 = ap (λ (r : ℤ × ℤ). r.0) (there ∙ same_item L (k + 1) next (pos 0, pos 0) more) in
+      EndBelow-more (take i R) d.0 next.0 (omega (arith, ints, far, open_run, start, later)) held.below;
+}

@@ -2,9 +2,10 @@
 --     IsPlaceOf runs v place      the run that has v, or how many runs lie below v where none has
 --     index_of place      the number of runs before it
 --     EndBelow v L, StartAbove v L      each pair ends below v; each starts above v
+--     HoldsAt i p L      the runs before place i end below p, and those of the list cover it
 --     EndsFrom v L      the first pair, if there is one, ends at v or above
-use Rattle.std.specs.Prelude.{◌≡◌, ℕ, ℤ, ◌≤ℤ◌, ◌<ℤ◌, List, [], ◌∷◌, slice_get, IsSomeAnd}
-use Rattle.ivl_laws.specs.Sets.{IsBetween}
+use Rattle.std.specs.Prelude.{◌≡◌, ℕ, ◌<◌, ℤ, ◌≤ℤ◌, ◌<ℤ◌, List, [], ◌∷◌, length, slice_get, take, IsSomeAnd}
+use Rattle.ivl_laws.specs.Sets.{IsBetween, IsSubset}
 use Rattle.ivl_laws.specs.Runs.{Covers, runs_below}
 use Rattle.intervallum.specs.declared.steps.search.Place.{Place}
 use Rattle.intervallum.specs.declared.steps.search.Place.TheVariants.{In, Gap}
@@ -29,3 +30,9 @@ StartAbove v (r ∷ L) = (v <ℤ r.0) × StartAbove v L
 abbrev pub EndsFrom : ℤ → List (ℤ × ℤ) → Type 0
 EndsFrom v [] = Unit {0}
 EndsFrom v (r ∷ L) = v ≤ℤ r.1
+
+-- the runs before place i end below the run p, which the list covers
+pub record HoldsAt (i : ℕ) (p : ℤ × ℤ) (L : List (ℤ × ℤ)) : Type 0 where
+  pub held : IsSubset (IsBetween p) (Covers L)
+  pub less : i < length L
+  pub below : EndBelow p.0 (take i L)

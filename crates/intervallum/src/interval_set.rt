@@ -186,7 +186,7 @@ impl<B: Width> PartialEq for IntervalSet<B> {
         ensures value { result ≡ same_runs self.now other.now }
         ensures members { IsTrue result ↔ SameMembers (Covers self.now) (Covers other.now) }
     {
-        self.size == other.size && self.intervals == other.intervals
+        self.size == other.size && runs::are_the_same(&self.intervals, &other.intervals)
     }
 }
 

@@ -11,5 +11,6 @@ pub use combine::{common, gaps, have_common};
 pub use differences::{one_alone, without};
 pub use merge::unite;
 pub use probes::Probes;
+pub(crate) use search::find_from;
 pub use search::{Place, find};
 pub use walk::Walk;

@@ -1,21 +1,22 @@
 //! Which of two sets includes the other.
-ghost use Rattle.std.specs.Prelude.{◌≡◌, ◌↔◌, ◌≤ℤ◌, IsTrue};
+ghost use Rattle.std.specs.Prelude.{◌≡◌, ◌≤◌, ◌≤ℤ◌, MatchOption, length, take};
 ghost use Rattle.ivl_laws.specs.Sets.{IsBetween, IsSubset};
 ghost use Rattle.ivl_laws.specs.Runs.{Covers};
+ghost use Rattle.intervallum.specs.Places.{EndBelow, HoldsAt};
 
 use super::IntervalSet;
 use crate::interval::Interval;
 use crate::kleene::SKleene;
 use crate::ops::{Bounded, Cardinality, Entailment, ProperSubset, Subset};
-use crate::steps::{Place, Probes, find};
+use crate::steps::{Place, Probes, find_from};
 use crate::width::Width;
 
 impl<B: Width> Subset for IntervalSet<B> {
     ghost members = { Covers };
 
     /// True exactly where each member is a member of `other`, so always where there is none. Looks
-    /// at no run where this set has more members, and else searches each of its runs in `other`:
-    /// `O(n log m)`, with no memory.
+    /// at no run where this set has more members, and else searches each of its `n` runs among the
+    /// `m` of `other`, each from where the last one was found: `O(n log (m / n + 2))`, with no memory.
     ///
     /// ```
     /// let (a, b) = (IntervalSet::new(alloc, 1, 2)?, IntervalSet::new(alloc, 0, 10)?);
@@ -26,27 +27,36 @@ impl<B: Width> Subset for IntervalSet<B> {
             return false;
         }
         let mut runs = Probes::new(other);
+        let mut from = 0;
         for run in self.as_runs() {
-            if !holds(&mut runs, run) {
-                return false;
+            match holder(&mut runs, run, from) {
+                Some(place) => from = place,
+                None => return false,
             }
         }
         true
     }
 }
 
-/// Each number of a run is in a set.
-fn holds<B: Width>(runs: &mut Probes<'_, B>, run: &Interval<B>) -> bool
-    requires { run.now.0 ≤ℤ run.now.1 }
-    ensures members { IsTrue result ↔ IsSubset (IsBetween run.now) (Covers runs.old.runs) }
+/// The place of the run that holds each number of another one, from a place on which only runs below
+/// it stand before; none where no run holds it.
+fn holder<B: Width>(runs: &mut Probes<'_, B>, run: &Interval<B>, from: usize) -> Option<usize>
+    requires filled { run.now.0 ≤ℤ run.now.1 }
+    requires at_most { from ≤ length runs.old.runs }
+    requires below { EndBelow run.now.0 (take from runs.old.runs) }
+    ensures held { MatchOption result (¬ (IsSubset (IsBetween run.now) (Covers runs.old.runs))) (λ i. HoldsAt i run.now runs.old.runs) }
     ensures same { runs.new.runs ≡ runs.old.runs }
 {
-    match find(runs, run.lower()) {
+    match find_from(runs, run.lower(), from) {
         Place::In(i) => {
             let other = runs.look(i);
-            run.upper() <= other.upper()
+            if run.upper() <= other.upper() {
+                Some(i)
+            } else {
+                None
+            }
         }
-        Place::Gap(_) => false,
+        Place::Gap(_) => None,
     }
 }
 

@@ -1,7 +1,7 @@
 //! How a run list is read and made: every set is built by pushing runs at its end.
 ghost use Rattle.std.specs.Prelude.{◌≡◌, ◌↔◌, ◌+◌, ◌≤◌, ℕ, pos, ◌+ℤ◌, ◌-ℤ◌, ◌≤ℤ◌, [], ◌∷◌, ◌++◌, IsTrue, IfOk, OnOk, OnErr};
 ghost use Rattle.ivl_laws.specs.Sets.{IsBetween, IsSubset};
-ghost use Rattle.ivl_laws.specs.Runs.{AddsRun, Covers, IsRunListIn, StartsBy};
+ghost use Rattle.ivl_laws.specs.Runs.{AddsRun, Covers, IsMaximal, IsRunListIn, StartsBy};
 ghost use Rattle.ivl_laws.specs.Counts.{IsCountOf};
 ghost use Rattle.ivl_laws.specs.Bounds.{width_of};
 
@@ -95,6 +95,32 @@ impl<B: Width> IntervalSet<B> {
         self.size = grown::<B>(self.size, run.size());
         Ok(())
     }
+}
+
+/// Two lists have the same runs in the same places.
+pub(super) fn are_the_same<B: Width>(a: &[Interval<B>], b: &[Interval<B>]) -> bool
+    requires left { IsMaximal a.now }
+    requires right { IsMaximal b.now }
+    ensures { IsTrue result ↔ (a.now ≡ b.now) }
+{
+    if a.len() != b.len() {
+        return false;
+    }
+    for i in 0..a.len() {
+        if !is_same(a[i], b[i]) {
+            return false;
+        }
+    }
+    true
+}
+
+/// Two intervals that are not empty have the same bounds.
+fn is_same<B: Width>(run: Interval<B>, other: Interval<B>) -> bool
+    requires run { run.0 ≤ℤ run.1 }
+    requires other { other.0 ≤ℤ other.1 }
+    ensures { IsTrue result ↔ (run ≡ other) }
+{
+    run.lower() == other.lower() && run.upper() == other.upper()
 }
 
 /// No number is missing between a run and one that starts no lower.
