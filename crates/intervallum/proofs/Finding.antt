@@ -1,7 +1,7 @@
 -- What a place in the runs of a set tells of its members.
 use Rattle.std.proofs.Common.{◌≡◌, ◌↔◌, ◌∙◌, ap, take, ⊎_elim, ℕ, zero, suc, ◌+◌, ◌<◌, ◌≤◌, ℤ, pos, ◌+ℤ◌, ◌≤ℤ◌, ◌<ℤ◌, Bool, true, false, IsTrue, List, [], ◌∷◌, length, get_or, Some, refl, sym, subst, arith, inl, inr}
 use Rattle.std.proofs.lemmas.Int.{ints, by_lt_z}
-use Rattle.std.specs.Prelude.{slice_get, IsSomeAnd}
+use Rattle.std.specs.Prelude.{Option, IfSome, slice_get, IsSomeAnd}
 use Rattle.ivl_laws.specs.Sets.{IsBetween, IsSubset, HasSome, Only, SameMembers}
 use Rattle.ivl_laws.specs.Runs.{Covers, IsMaximal, StartsAfter}
 use Rattle.ivl_laws.specs.Counts.{IsIn}
@@ -113,6 +113,15 @@ many_runs_are_not_one L M e n m =
         let far = m.1 in
         let o = m.0 in
         omega (arith, ints, a, b, far, o)
+
+-- ---- each run has a member
+
+pub each_is_filled : (L M : List (ℤ × ℤ)) → L ≡ M → IsMaximal L → (k : ℕ) (d : ℤ × ℤ) → k < length M → HasSome (IsBetween (get_or M k d))
+each_is_filled L M e m k d h = ((get_or M k d).0, lower_end (get_or M k d) (open_at M k d (subst IsMaximal e m) h))
+
+pub first_is_filled : (L : List (ℤ × ℤ)) (o : Option (ℤ × ℤ)) → IsMaximal L → o ≡ slice_get L 0 → IfSome o (λ run. HasSome (IsBetween run))
+first_is_filled [] o m e = rw e tt
+first_is_filled (p ∷ L) o m e = rw e (p.0, lower_end p m.0)
 
 -- ---- the ends of a set
 

@@ -1,5 +1,5 @@
 //! A set of whole numbers as a list of runs.
-ghost use Rattle.std.specs.Prelude.{◌≡◌, ◌↔◌, ℤ, List, [], ◌∷◌, ◌≤ℤ◌, IsTrue, IfOk, length};
+ghost use Rattle.std.specs.Prelude.{◌≡◌, ◌↔◌, ℤ, All, List, [], ◌∷◌, ◌≤ℤ◌, IsTrue, IfOk, length};
 ghost use Rattle.ivl_laws.specs.Sets.{HasNone, HasSome, IsBetween, IsInRange, SameMembers};
 ghost use Rattle.ivl_laws.specs.Runs.{Covers, IsRunListIn};
 ghost use Rattle.ivl_laws.specs.Counts.{IsCountOf};
@@ -22,7 +22,7 @@ mod text;
 mod values;
 
 use crate::interval::Interval;
-use crate::ops::{Cardinality, Collection, IsEmpty, Range};
+use crate::ops::{Cardinality, Collection, IntervalKind, IsEmpty, Range};
 use crate::width::{SizeNumber, Width};
 pub use conversions::{IntoRuns, ToIntervalSet};
 use std::alloc::{AllocError, Global};
@@ -122,10 +122,13 @@ impl<B: Width> IntervalSet<B> {
     pub fn iter(&self) -> std::slice::Iter<'_, Interval<B>>
         ensures rest { result.rest.now ≡ self.now }
         ensures runs { IsRunListIn B.whole self.now }
+        ensures filled { All (λ run. HasSome (IsBetween run)) self.now }
     {
         self.intervals.iter()
     }
 }
+
+impl<B: Width> IntervalKind for IntervalSet<B> {}
 
 impl<B: Width> Collection for IntervalSet<B> {
     type Item = B;

@@ -7,8 +7,9 @@ mod probes;
 mod search;
 mod walk;
 
-pub use combine::{common, gaps, have_common};
-pub use differences::{one_alone, without};
+pub use combine::common;
+pub(crate) use combine::{gaps, have_common};
+pub(crate) use differences::{one_alone, without};
 pub use merge::unite;
 pub use probes::Probes;
 pub(crate) use search::find_from;

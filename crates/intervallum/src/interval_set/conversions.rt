@@ -1,8 +1,8 @@
 //! Sets taken apart into their runs, extended by intervals, and made of pairs.
 ghost use Rattle.std.specs.Prelude.{◌≡◌, ℤ, List, [], ◌∷◌, All, map, IfOk, OnOk, OnErr};
 ghost use Rattle.std.specs.Iterator.{Drains, IsFinite, YieldsFirst, YieldsLast, item_count};
-ghost use Rattle.ivl_laws.specs.Sets.{IsInRange, Union};
-ghost use Rattle.ivl_laws.specs.Runs.{Covers, IsRunsOf};
+ghost use Rattle.ivl_laws.specs.Sets.{HasSome, IsBetween, IsInRange, Union};
+ghost use Rattle.ivl_laws.specs.Runs.{Covers, IsRunListIn, IsRunsOf};
 
 use super::IntervalSet;
 use crate::interval::Interval;
@@ -117,7 +117,11 @@ impl<'a, B: Width> IntoIterator for &'a IntervalSet<B> {
     ///     assert_eq!(rt; run.size(), 2u32);
     /// }
     /// ```
-    fn into_iter(self) -> std::slice::Iter<'a, Interval<B>> {
+    fn into_iter(self) -> std::slice::Iter<'a, Interval<B>>
+        ensures rest { result.rest.now ≡ self.now }
+        ensures runs { IsRunListIn B.whole self.now }
+        ensures filled { All (λ run. HasSome (IsBetween run)) self.now }
+    {
         self.iter()
     }
 }

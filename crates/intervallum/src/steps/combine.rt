@@ -48,12 +48,7 @@ pub fn common<B: Width>(
 /// The numbers of the range that no run covers of those that are left in a walk. Advances once for
 /// each of these runs, and takes memory once, for one run more. The set has the allocator of the
 /// walk. An error is memory that was refused; the set that is walked over is not changed.
-///
-/// ```
-/// let a = IntervalSet::new(alloc, 10u8, 254)?;
-/// assert!(rt; gaps(Walk::new(&a))? == IntervalSet::new(alloc, 0, 9)?);
-/// ```
-pub fn gaps<B: Width>(mut walk: Walk<'_, B>) -> Result<IntervalSet<B>, AllocError>
+pub(crate) fn gaps<B: Width>(mut walk: Walk<'_, B>) -> Result<IntervalSet<B>, AllocError>
     ensures members { IfOk result (λ L. IsRunsOf L (Complement B.whole (Covers walk.entry.left))) }
     ensures runs_at_most { IfOk result (λ L. length L ≤ length walk.entry.left + 1) }
 {
@@ -100,12 +95,7 @@ pub(super) fn push_part<B: Width>(
 
 /// Whether the runs left in two walks have a member in common. Advances once for each of these runs
 /// at most: `O(n + m)`. Stops at the first common member, and takes no memory.
-///
-/// ```
-/// let (a, b) = (IntervalSet::new(alloc, 1, 5)?, IntervalSet::new(alloc, 4, 9)?);
-/// assert!(rt; have_common(Walk::new(&a), Walk::new(&b)));
-/// ```
-pub fn have_common<B: Width>(mut first: Walk<'_, B>, mut second: Walk<'_, B>) -> bool
+pub(crate) fn have_common<B: Width>(mut first: Walk<'_, B>, mut second: Walk<'_, B>) -> bool
     ensures { IsTrue result ↔ HasSome (Intersection (Covers first.entry.left) (Covers second.entry.left)) }
 {
     'walk: while let Some(runs) = heads(&first, &second) {

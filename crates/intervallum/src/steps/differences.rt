@@ -16,13 +16,7 @@ use std::alloc::AllocError;
 /// The members that the first walk has left and the second has not. Advances once for each of these
 /// runs at most, and takes memory once, for as many runs. The set has the allocator of the first
 /// walk. An error is memory that was refused; the sets that are walked over are not changed.
-///
-/// ```
-/// let (a, b) = (IntervalSet::new(alloc, 1, 5)?, IntervalSet::new(alloc, 4, 9)?);
-/// let rest = without(Walk::new(&a), Walk::new(&b))?;
-/// assert!(rt; rest == IntervalSet::new(alloc, 1, 3)?);
-/// ```
-pub fn without<B: Width>(
+pub(crate) fn without<B: Width>(
     mut first: Walk<'_, B>,
     mut second: Walk<'_, B>,
 ) -> Result<IntervalSet<B>, AllocError>
@@ -49,13 +43,7 @@ pub fn without<B: Width>(
 
 /// The members that one walk has left and the other has not. Steps, memory and errors are those of
 /// `without`.
-///
-/// ```
-/// let (a, b) = (IntervalSet::new(alloc, 1, 5)?, IntervalSet::new(alloc, 4, 9)?);
-/// let apart = one_alone(Walk::new(&a), Walk::new(&b))?;
-/// assert!(rt; apart == [(1, 3), (6, 9)].to_interval_set(alloc)?);
-/// ```
-pub fn one_alone<B: Width>(
+pub(crate) fn one_alone<B: Width>(
     mut first: Walk<'_, B>,
     mut second: Walk<'_, B>,
 ) -> Result<IntervalSet<B>, AllocError>

@@ -1,5 +1,6 @@
 //! A walk over the runs of a set, from the left.
-ghost use Rattle.std.specs.Prelude.{◌≡◌, ◌≢◌, ℕ, ◌+◌, ◌≤◌, ℤ, [], ◌∷◌, None, length, slice_get};
+ghost use Rattle.std.specs.Prelude.{◌≡◌, ◌≢◌, ℕ, ◌+◌, ◌≤◌, ℤ, [], ◌∷◌, IfSome, None, length, slice_get};
+ghost use Rattle.ivl_laws.specs.Sets.{HasSome, IsBetween};
 ghost use Rattle.ivl_laws.specs.Runs.{IsRunListIn};
 ghost use Rattle.intervallum.specs.Led.{led_by};
 
@@ -66,6 +67,7 @@ impl<'a, B: Width> Walk<'a, B> {
     /// ```
     pub fn peek(&self) -> Option<Interval<B>>
         ensures first { result ≡ slice_get self.now.left 0 }
+        ensures filled { IfSome result (λ run. HasSome (IsBetween run)) }
         ensures runs { IsRunListIn B.whole self.now.left }
     {
         self.runs.get(self.taken).copied()
@@ -118,13 +120,7 @@ impl<'a, B: Width> Walk<'a, B> {
     }
 
     /// The runs that are left are in the range. This does nothing: its contract is the fact.
-    ///
-    /// ```
-    /// let a: IntervalSet<i32> = [(1, 2), (5, 6)].to_interval_set(alloc)?;
-    /// let walk = Walk::new(&a);
-    /// walk.in_range();
-    /// ```
-    pub fn in_range(&self)
+    pub(crate) fn in_range(&self)
         ensures { IsRunListIn B.whole self.now.left }
     {
         let _taken = self.taken;

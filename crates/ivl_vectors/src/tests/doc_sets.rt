@@ -9,9 +9,7 @@ use intervallum::ops::{
     ShrinkRight, StrictShrinkLeft, StrictShrinkRight, Subset, SymmetricDifference, Union,
 };
 use intervallum::optional::Optional;
-use intervallum::steps::{
-    Place, Probes, Walk, common, find, gaps, have_common, one_alone, unite, without,
-};
+use intervallum::steps::{Place, Probes, Walk, common, find, unite};
 use intervallum::sweep::{Op, coalesce, images};
 use std::test::Fail;
 
@@ -274,15 +272,8 @@ fn two_walks(rt: HostRuntime) -> Result<(), Fail> {
     );
     let both = common(Walk::new(&a), Walk::new(&b))?;
     assert!(rt; both == IntervalSet::new(alloc, 4, 5)?);
-    assert!(rt; have_common(Walk::new(&a), Walk::new(&b)));
     let either = unite(Walk::new(&a), Walk::new(&b))?;
     assert!(rt; either == IntervalSet::new(alloc, 1, 9)?);
-    let rest = without(Walk::new(&a), Walk::new(&b))?;
-    assert!(rt; rest == IntervalSet::new(alloc, 1, 3)?);
-    let apart = one_alone(Walk::new(&a), Walk::new(&b))?;
-    assert!(rt; apart == [(1, 3), (6, 9)].to_interval_set(alloc)?);
-    let a = IntervalSet::new(alloc, 10u8, 254)?;
-    assert!(rt; gaps(Walk::new(&a))? == IntervalSet::new(alloc, 0, 9)?);
     Ok(())
 }
 
@@ -297,7 +288,6 @@ fn a_walk(rt: HostRuntime) -> Result<(), Fail> {
     assert!(rt; walk.peek().is_some());
     walk.advance();
     assert!(rt; walk.left() == 1 && walk.peek() == Some(Interval::new(5, 6)));
-    walk.in_range();
     let none: IntervalSet<i32> = IntervalSet::empty(walk.alloc());
     assert!(rt; none.is_empty());
     Ok(())
