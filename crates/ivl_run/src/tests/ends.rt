@@ -62,21 +62,23 @@ fn a_failed_read(rt: HostRuntime) -> Result<(), Fail> {
     Ok(())
 }
 
-// Every other read is interrupted.
+// Each read is interrupted as often as `times` says before it gives three bytes.
 #[derive(Drop)]
 struct Interrupted<'a> {
     text: &'a [u8],
-    interrupts: bool,
+    times: usize,
+    met: usize,
 }
 
 impl<'a> Read for Interrupted<'a> {
     ghost remaining = { λ r. Some r.text.now };
 
     fn read(&mut self, buf: &mut [u8]) -> io::Result<usize> {
-        self.interrupts = !self.interrupts;
-        if self.interrupts {
+        if self.met < self.times {
+            self.met += 1;
             return Err(io::Error::from(ErrorKind::Interrupted));
         }
+        self.met = 0;
         let count = buf.len().min(3);
         self.text.read(&mut buf[..count])
     }
@@ -84,13 +86,16 @@ impl<'a> Read for Interrupted<'a> {
 
 #[test]
 fn an_interrupted_read_is_read_again(rt: HostRuntime) -> Result<(), Fail> {
-    let mut reader = Interrupted {
-        text: b"set a 1 2\nshow a\nsize a\n",
-        interrupts: false,
-    };
-    let mut written = Vec::new(rt.alloc());
-    assert_eq!(rt; session(rt.alloc(), &mut reader, &mut written), Ok(()));
-    assert_eq!(rt; written.as_slice(), b"ok\n[1..2]\n2\n".as_slice());
+    for times in [1, 101, 1000] {
+        let mut reader = Interrupted {
+            text: b"set a 1 2\nshow a\nsize a\n",
+            times,
+            met: 0,
+        };
+        let mut written = Vec::new(rt.alloc());
+        assert_eq!(rt; session(rt.alloc(), &mut reader, &mut written), Ok(()));
+        assert_eq!(rt; written.as_slice(), b"ok\n[1..2]\n2\n".as_slice());
+    }
     Ok(())
 }
 
@@ -161,6 +166,51 @@ impl<'a> Write for Flushed<'a> {
     fn flush(&mut self) -> io::Result<()> {
         self.flushed.set(self.written);
         Ok(())
+    }
+}
+
+// Gives a piece a read, and fails where the answers to the lines before it are not yet flushed:
+// beside each piece stands how many bytes they have.
+#[derive(Drop)]
+struct Pieces<'a> {
+    pieces: &'a [(&'a [u8], usize)],
+    flushed: &'a Cell<usize>,
+}
+
+impl<'a> Read for Pieces<'a> {
+    fn read(&mut self, buf: &mut [u8]) -> io::Result<usize> {
+        let Some(((piece, answered), rest)) = self.pieces.split_first() else {
+            return Ok(0);
+        };
+        if self.flushed.get() != *answered || buf.len() < piece.len() {
+            return Err(io::Error::from(ErrorKind::WouldBlock));
+        }
+        self.pieces = rest;
+        buf[..piece.len()].copy_from_slice(piece);
+        Ok(piece.len())
+    }
+}
+
+// Also before a read while a part of a line is kept, and after the last line, which no newline ends.
+#[test]
+fn answers_are_flushed_before_each_read_and_at_the_end(rt: HostRuntime) {
+    let cases: [&[(&[u8], usize)]; 3] = [
+        &[(b"size a", 0)],
+        &[(b"size a\nsi", 0), (b"ze a\n", 2)],
+        &[(b"size a\nsize a\nsize", 0), (b" a\nsi", 4), (b"ze a", 6)],
+    ];
+    for (pieces, written) in cases.iter().zip([2, 4, 8]) {
+        let flushed = Cell::new(0);
+        let mut reader = Pieces {
+            pieces,
+            flushed: &flushed,
+        };
+        let mut writer = Flushed {
+            written: 0,
+            flushed: &flushed,
+        };
+        assert_eq!(rt; session(rt.alloc(), &mut reader, &mut writer), Ok(()));
+        assert_eq!(rt; flushed.get(), written);
     }
 }
 
