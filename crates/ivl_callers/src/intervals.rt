@@ -112,13 +112,3 @@ pub fn intervals_equal<B: Width>(a: &Interval<B>, b: &Interval<B>) -> bool
 {
     *a == *b
 }
-
-/// The least member, or another value where there is none.
-pub fn least_or<B: Width>(a: &Interval<B>, other: B) -> B {
-    if a.is_empty() { other } else { a.lower() }
-}
-
-/// The least member, or another value where there is none.
-pub fn least_of<B: Width>(a: &intervallum::interval_set::IntervalSet<B>, other: B) -> B {
-    if a.is_empty() { other } else { a.lower() }
-}

@@ -1,13 +1,14 @@
 //! What callers of intervals and sets can rest on, each as a function that learns it from the public contracts alone.
 //!
 //! [`callers`] know a type by one bound; [`intervals`] and [`sets`] say what each bound's answer is at these types, in
-//! plain numbers and lists of runs; [`ranges`] gives the ranges of the ten integer types; [`laws`] carry the laws over
+//! plain numbers and lists of runs; [`ranges`] and [`numbers`] give the ranges and the numbers of the ten integer types; [`laws`] carry the laws over
 //! sets of numbers to the answers of calls.
 #![tactic(auto)]
 
 pub mod callers;
 pub mod intervals;
 pub mod laws;
+pub mod numbers;
 pub mod ranges;
 pub mod sets;
 pub mod tested;

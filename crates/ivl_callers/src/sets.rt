@@ -8,7 +8,9 @@ pub mod arithmetic;
 pub mod building;
 pub mod cuts;
 pub mod ends;
+pub mod operands;
 pub mod pairs;
+pub mod values;
 
 use crate::callers;
 use intervallum::interval::Interval;

@@ -1,0 +1,113 @@
+//! A value beside a set, and sets of lists that are given by value.
+ghost use Rattle.std.specs.Prelude.{◌≡◌, ◌↔◌, [], ◌∷◌, ◌++◌, ◌≤ℤ◌, All, IfOk, IsTrue, MatchOption, Some, codes, map, option_map, string_bytes};
+ghost use Rattle.ivl_laws.specs.Sets.{HasSome, Held, Intersection, IsBetween, IsInRange, Only, Union, Without};
+ghost use Rattle.ivl_laws.specs.Runs.{Covers, IsRunListIn, IsRunsOf};
+
+use crate::callers;
+use intervallum::interval::Interval;
+use intervallum::interval_set::{IntervalSet, IntoRuns, ToIntervalSet};
+use intervallum::optional::Optional;
+use intervallum::width::Width;
+use std::alloc::{AllocError, Global};
+use std::fmt::Display;
+
+/// Whether the number of the value is a member.
+pub fn set_overlaps_value<B: Width>(a: &IntervalSet<B>, x: &B) -> bool
+    ensures { IsTrue result ↔ Covers a.now (B.value x.now) }
+{
+    callers::pairs::overlap_by_bound(a, x)
+}
+
+/// Whether a value is held that is a member.
+pub fn set_overlaps_optional<B: Width>(a: &IntervalSet<B>, o: &Optional<B>) -> bool
+    ensures { IsTrue result ↔ HasSome (Intersection (Covers a.now) (Held (option_map B.value o.now))) }
+{
+    callers::pairs::overlap_by_bound(a, o)
+}
+
+/// The value alone, if it is a member, and else nothing.
+pub fn set_common_with_value<B: Width>(
+    a: &IntervalSet<B>,
+    x: &B,
+) -> Result<IntervalSet<B>, AllocError>
+    ensures { IfOk result (λ L. IsRunsOf L (Intersection (Covers a.now) (Only (B.value x.now)))) }
+{
+    callers::pairs::intersection_by_bound(a, x)
+}
+
+/// The members but for the value.
+pub fn set_without_value<B: Width>(a: &IntervalSet<B>, x: &B) -> Result<IntervalSet<B>, AllocError>
+    ensures { IfOk result (λ L. IsRunsOf L (Without (Covers a.now) (Only (B.value x.now)))) }
+{
+    callers::pairs::difference_by_bound(a, x)
+}
+
+/// The members and the value.
+pub fn set_with_value<B: Width>(a: &IntervalSet<B>, x: &B) -> Result<IntervalSet<B>, AllocError>
+    requires { IsBetween B.whole (B.value x.now) }
+    ensures { IfOk result (λ L. IsRunsOf L (Union (Covers a.now) (Only (B.value x.now)))) }
+{
+    callers::pairs::union_by_bound(a, x)
+}
+
+/// The set of the numbers of every pair of a vector.
+pub fn set_of_vector<B: Width>(
+    alloc: Global,
+    pairs: Vec<(B, B)>,
+) -> Result<IntervalSet<B>, AllocError>
+    requires { All (λ p. IsInRange B.whole (B.value p.0, B.value p.1)) pairs.items }
+    ensures { IfOk result (λ L. IsRunsOf L (Covers (map (λ p. (B.value p.0, B.value p.1)) pairs.items))) }
+{
+    pairs.to_interval_set(alloc)
+}
+
+/// The set of the numbers of every pair of an array.
+pub fn set_of_array<B: Width, const N: usize>(
+    alloc: Global,
+    pairs: [(B, B); N],
+) -> Result<IntervalSet<B>, AllocError>
+    requires { All (λ p. IsInRange B.whole (B.value p.0, B.value p.1)) pairs }
+    ensures { IfOk result (λ L. IsRunsOf L (Covers (map (λ p. (B.value p.0, B.value p.1)) pairs))) }
+{
+    pairs.to_interval_set(alloc)
+}
+
+/// The runs of a borrowed set, in a loop: they are those of the set, maximal and in the range.
+pub fn runs_by_reference<B: Width>(set: &IntervalSet<B>) -> std::slice::Iter<'_, Interval<B>>
+    ensures rest { result.rest.now ≡ set.now }
+    ensures runs { IsRunListIn B.whole set.now }
+{
+    set.into_iter()
+}
+
+/// The last of the runs that are left, which is taken away.
+pub fn last_run_by_value<B: Width>(runs: &mut IntoRuns<B>) -> Option<Interval<B>>
+    ensures { MatchOption result ((runs.old ≡ []) × (runs.new ≡ [])) (λ run. runs.old ≡ runs.new ++ run ∷ []) }
+{
+    runs.next_back()
+}
+
+/// The text of the empty set.
+pub fn text_of_no_run<B: Width + Display>(
+    alloc: Global,
+    set: &IntervalSet<B>,
+) -> Result<String, AllocError>
+    requires { set.now ≡ [] }
+    ensures { IfOk result (λ text. string_bytes text ≡ codes "{}") }
+{
+    format!(in alloc; "{set}")
+}
+
+/// The text of one run is that of the interval.
+pub fn text_of_one_run<B: Width + Display>(
+    alloc: Global,
+    set: &IntervalSet<B>,
+    run: &Interval<B>,
+) -> Result<String, AllocError>
+    requires one { set.now ≡ run.now ∷ [] }
+    requires in_order { run.now.0 ≤ℤ run.now.1 }
+    ensures { (lower : _) (upper : _) → B.output (B.at run.now.0) ≡ Some lower → B.output (B.at run.now.1) ≡ Some upper →
+        IfOk result (λ text. string_bytes text ≡ codes "[" ++ lower ++ codes ".." ++ upper ++ codes "]") }
+{
+    format!(in alloc; "{set}")
+}
