@@ -2,6 +2,7 @@
 mod arithmetic;
 mod conversions;
 mod debug_texts;
+mod display_texts;
 mod doc_intervals;
 mod doc_sets;
 mod ends;
