@@ -5,9 +5,9 @@ use Rattle.std.specs.Prelude.{int_le, int_lt, if◌then◌else◌, Option, Some,
 use Rattle.serde_json.specs.Find.{as_integer, of_integer}
 use Rattle.serde_json.specs.View.{items_of}
 use Rattle.ivl_laws.specs.Sets.{IsBetween, IsInRange, IsSubset, SameMembers}
-use Rattle.ivl_laws.specs.Runs.{Covers, IsMaximal, IsRunListIn}
+use Rattle.ivl_laws.specs.Runs.{Covers, IsMaximal, IsRunListIn, IsRunsOf}
 use Rattle.ivl_laws.proofs.Intervals.{within_is_in_range, some_is_not_crossed, none_is_crossed, crossed_same, not_crossed}
-use Rattle.ivl_laws.proofs.Ranges.{IsRunListIn-rest}
+use Rattle.ivl_laws.proofs.Ranges.{IsRunListIn-rest, IsRunListIn-runs}
 use Rattle.ivl_laws.proofs.Runs.{lower_end, upper_end}
 use Rattle.ivl_json.specs.declared.faults.ItemFault.{ItemFault}
 use Rattle.ivl_json.specs.declared.faults.JsonFault.{JsonFault}
@@ -66,3 +66,6 @@ set_read-set_json whole (p ∷ L) r = items_read-runs whole 0 (p ∷ L) r
 
 pub set_reads_back : (whole : ℤ × ℤ) (L : List (ℤ × ℤ)) → IsRunListIn whole L → SetReads whole (set_json L) (Covers L)
 set_reads_back whole L r = (L, set_read-set_json whole L r, λ z. ((λ c. c), (λ c. c)))
+
+pub set_of_runs_reads_back : (S : ℤ → Type 0) (whole : ℤ × ℤ) (L : List (ℤ × ℤ)) → IsRunsOf L S → IsSubset S (IsBetween whole) → SetReads whole (set_json L) S
+set_of_runs_reads_back S whole L r h = (L, set_read-set_json whole L (IsRunListIn-runs whole L S r h), r.members)

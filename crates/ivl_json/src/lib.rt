@@ -4,6 +4,7 @@
 pub mod faults;
 pub mod form;
 mod intervals;
+pub mod laws;
 mod numbers;
 mod sets;
 
