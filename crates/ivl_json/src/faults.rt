@@ -58,6 +58,10 @@ impl From<ItemFault> for JsonFault {
     ghost from_gives = { λ fault same. same ≡ fault_of fault };
 
     /// The same fault, of an interval that is read on its own.
+    ///
+    /// ```
+    /// assert_eq!(rt; JsonFault::from(ItemFault::Length(3)), JsonFault::Length(3));
+    /// ```
     fn from(fault: ItemFault) -> JsonFault {
         match fault {
             ItemFault::Shape => JsonFault::Shape,
@@ -74,6 +78,11 @@ impl From<AllocError> for JsonFault {
 
     ghost from_gives = { λ _ fault. fault ≡ Memory };
 
+    /// Out of memory.
+    ///
+    /// ```
+    /// assert_eq!(rt; JsonFault::from(AllocError), JsonFault::Memory);
+    /// ```
     fn from(_error: AllocError) -> JsonFault {
         JsonFault::Memory
     }

@@ -1,10 +1,11 @@
 //! The JSON form of an interval.
 ghost use Rattle.std.specs.Prelude.{◌≡◌, ◌≤ℤ◌, Ok, Err, IfOk, IfErr};
 ghost use Rattle.serde_json.specs.View.{view, items_view};
-ghost use Rattle.ivl_laws.specs.Sets.{IsBetween};
+ghost use Rattle.ivl_laws.specs.Sets.{IsBetween, SameMembers};
 ghost use Rattle.ivl_json.specs.Reading.{Reads, elements_read, interval_read};
 ghost use Rattle.ivl_json.specs.Writing.{interval_json};
 ghost use Rattle.ivl_json.specs.Faults.{fault_of};
+ghost use Rattle.ivl_json.specs.OneWay.{interval_refused_alone, intervals_read_alike};
 ghost use Rattle.ivl_json.specs.declared.faults.ItemFault.{ItemFault};
 
 use crate::faults::{ItemFault, JsonFault};
@@ -23,11 +24,32 @@ impl<B: Width> JsonForm for Interval<B> {
 
     ghost json = { interval_json };
 
+    ghost same = { λ p q. SameMembers (IsBetween p) (IsBetween q) };
+
+    ghost one_way = { intervals_read_alike B.whole };
+
+    ghost not_refused = { interval_refused_alone B.whole };
+
+    /// Returns `null` if there is no member, and else the array of the two bounds. `O(1)`, with one
+    /// allocation. Fails only if allocation fails.
+    ///
+    /// ```
+    /// let none = Interval::<i32>::empty().to_value(alloc)?;
+    /// assert_eq!(rt; none.to_string(alloc)?.as_str(), "null");
+    /// ```
     fn to_value(&self, alloc: Global) -> Result<Value, AllocError> {
         self.in_whole();
         interval_value(alloc, *self)
     }
 
+    /// Reads `null` or an array of two bounds. `O(1)`, and does not allocate, so the fault is never
+    /// [`JsonFault::Memory`].
+    ///
+    /// ```
+    /// let value = Value::from_str(alloc, "[10, 20, 30]")?;
+    /// let read = Interval::<i32>::from_value(alloc, &value);
+    /// assert_eq!(rt; read, Err(JsonFault::Length(3)));
+    /// ```
     fn from_value(_alloc: Global, value: &Value) -> Result<Interval<B>, JsonFault> {
         Ok(interval_from(value)?)
     }

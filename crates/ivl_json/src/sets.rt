@@ -4,6 +4,7 @@ ghost use Rattle.serde_json.specs.View.{view, items_view};
 ghost use Rattle.ivl_laws.specs.Runs.{Covers, IsRunListIn};
 ghost use Rattle.ivl_json.specs.SetReading.{SetReads, items_read, set_read};
 ghost use Rattle.ivl_json.specs.Writing.{set_json};
+ghost use Rattle.ivl_json.specs.OneWay.{set_refused_alone, sets_read_alike};
 ghost use Rattle.ivl_json.specs.declared.faults.JsonFault.TheVariants.{Memory};
 
 use crate::faults::JsonFault;
@@ -22,10 +23,32 @@ impl<B: Width> JsonForm for IntervalSet<B> {
 
     ghost json = { set_json };
 
+    ghost same = { λ L M. L ≡ M };
+
+    ghost one_way = { sets_read_alike B.whole };
+
+    ghost not_refused = { set_refused_alone B.whole };
+
+    /// Returns `null` if there is no member, and else the array of the runs, ascending. `O(n)`, with
+    /// one allocation for the array and one for each run. Fails only if allocation fails.
+    ///
+    /// ```
+    /// let set: IntervalSet<i32> = [(8, 9), (4, 4)].to_interval_set(alloc)?;
+    /// let text = set.to_value(alloc)?.to_string(alloc)?;
+    /// assert_eq!(rt; text.as_str(), "[[4,4],[8,9]]");
+    /// ```
     fn to_value(&self, alloc: Global) -> Result<Value, AllocError> {
         runs_value(alloc, self.iter().as_slice())
     }
 
+    /// Reads `null` or an array of intervals in any order. `O(k log k)` for `k` items, in a list and
+    /// a set that are each reserved once for `k` intervals.
+    ///
+    /// ```
+    /// let value = Value::from_str(alloc, "[[1, 2], [3]]")?;
+    /// let read = IntervalSet::<i32>::from_value(alloc, &value);
+    /// assert_eq!(rt; read.err(), Some(JsonFault::At(1, ItemFault::Length(1))));
+    /// ```
     fn from_value(alloc: Global, value: &Value) -> Result<IntervalSet<B>, JsonFault> {
         if value.is_null() {
             return Ok(IntervalSet::empty(alloc));

@@ -1,4 +1,4 @@
-use Rattle.ivl_json.proofs.OneWay.{one_set, set_not_refused, set_reads-in_range}
+use Rattle.ivl_json.specs.OneWay.{one_set, set_not_refused, set_reads-in_range}
 use Rattle.ivl_json.proofs.laws.sets_are_read_one_way.Goals as goal
 
 pub returns-clause-one : goal.returns-clause-one

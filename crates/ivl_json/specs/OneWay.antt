@@ -1,14 +1,16 @@
 -- A value reads one way at most, and what it reads as lies in the range.
-use Rattle.std.proofs.Common.{inl, inr, ⊎_elim, ◌≡◌, ◌≢◌, Bool, true, false, ◌&&◌, ℕ, suc, ℤ, pos, ◌≤ℤ◌, List, [], ◌∷◌, refl, ap, arith, ◌∙◌, sym, subst}
+use Rattle.std.proofs.Common.{inl, inr, ◌⊎◌, ⊎_elim, ◌≡◌, ◌≢◌, Bool, true, false, ◌&&◌, ℕ, suc, ℤ, pos, ◌≤ℤ◌, List, [], ◌∷◌, refl, ap, arith, ◌∙◌, sym, subst}
 use Rattle.std.proofs.lemmas.Int.{ints}
 use Rattle.std.specs.Prelude.{int_le, if◌then◌else◌, Option, Some, None, option_and_then, Result, Ok, Err}
 use Rattle.serde_json.specs.Data.{Data, null, boolean, number, string, array, object, Items, no_items, item}
 use Rattle.serde_json.specs.Find.{as_number, as_integer}
 use Rattle.ivl_laws.specs.Sets.{IsBetween, IsInRange, IsSubset, SameMembers}
-use Rattle.ivl_laws.specs.Runs.{Covers}
+use Rattle.ivl_laws.specs.Runs.{Covers, IsRunListIn}
 use Rattle.ivl_laws.proofs.Intervals.{in_range_is_within}
+use Rattle.ivl_laws.proofs.Runs.{runs_are_unique}
 use Rattle.ivl_json.specs.declared.faults.ItemFault.{ItemFault}
 use Rattle.ivl_json.specs.declared.faults.JsonFault.{JsonFault}
+use Rattle.ivl_json.specs.Faults.{fault_of}
 use Rattle.ivl_json.specs.Reading.{within, bound_read, both_read, elements_read, interval_read, Reads}
 use Rattle.ivl_json.specs.SetReading.{item_then, items_read, set_read, SetReads}
 
@@ -93,3 +95,18 @@ set-in_range whole (object ms) ps e = absurd (cc)
 
 pub set_reads-in_range : (S : ℤ → Type 0) (whole : ℤ × ℤ) (d : Data) → SetReads whole d S → IsSubset S (IsBetween whole)
 set_reads-in_range S whole d (ps, e, m) z s = set-in_range whole d ps e z ((m z).1 s)
+
+-- ---- for `JsonForm`
+
+pub intervals_read_alike : (whole : ℤ × ℤ) (d : Data) (p q : ℤ × ℤ) → Reads whole d (IsBetween p) → Reads whole d (IsBetween q) → SameMembers (IsBetween p) (IsBetween q)
+intervals_read_alike whole d p q = one_interval (IsBetween p) (IsBetween q) whole d
+
+pub interval_refused_alone : (whole : ℤ × ℤ) (d : Data) (p : ℤ × ℤ) (fault : JsonFault) → Reads whole d (IsBetween p) → (k : ItemFault) × (fault ≡ fault_of k) × (interval_read whole d ≡ Err k) → fault ≡ JsonFault.Memory
+interval_refused_alone whole d p fault r (k, same, refused) = absurd (interval_not_refused (IsBetween p) whole d k r refused)
+
+pub sets_read_alike : (whole : ℤ × ℤ) (d : Data) (L M : List (ℤ × ℤ)) → IsRunListIn whole L × SetReads whole d (Covers L) → IsRunListIn whole M × SetReads whole d (Covers M) → L ≡ M
+sets_read_alike whole d L M (l, r) (m, s) = runs_are_unique L M l.maximal m.maximal (one_set (Covers L) (Covers M) whole d r s)
+
+pub set_refused_alone : (whole : ℤ × ℤ) (d : Data) (L : List (ℤ × ℤ)) (fault : JsonFault) → IsRunListIn whole L × SetReads whole d (Covers L) → (fault ≡ JsonFault.Memory) ⊎ (set_read whole d ≡ Err fault) → fault ≡ JsonFault.Memory
+set_refused_alone whole d L fault (l, r) (inl memory) = memory
+set_refused_alone whole d L fault (l, r) (inr refused) = absurd (set_not_refused (Covers L) whole d fault r refused)
