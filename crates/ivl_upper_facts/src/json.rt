@@ -74,7 +74,10 @@ where
     let Some(set) = set::<B>(alloc, runs)? else {
         return Ok(None);
     };
-    let run = set.iter().next().copied().unwrap_or(Interval::empty());
+    let run = match set.iter().as_slice() {
+        [first, ..] => *first,
+        [] => Interval::empty(),
+    };
     Ok(Some(run.to_value(alloc)?.to_string(alloc)?))
 }
 
