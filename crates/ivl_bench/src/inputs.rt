@@ -1,5 +1,6 @@
 //! The operands, the same at each run: numbers of a linear congruential generator.
 
+use crate::json::JsonInputs;
 use anyhow::{Context, Result, ensure};
 use intervallum::interval::Interval;
 use intervallum::interval_set::{IntervalSet, ToIntervalSet};
@@ -22,6 +23,7 @@ pub struct Inputs {
     pub middle: i64,
     pub left: IntervalSet<i64>,
     pub right: IntervalSet<i64>,
+    pub json: JsonInputs,
 }
 
 impl Inputs {
@@ -38,6 +40,7 @@ impl Inputs {
             clone_of_a: a.try_clone()?,
             in_both: a.intersection(&b)?,
             runs: runs_of(alloc, &pairs)?,
+            json: JsonInputs::new(alloc, &pairs, &a)?,
             pairs,
             probes: probes(alloc, lower.saturating_sub(5), upper.saturating_add(5))?,
             middle: lower.saturating_add(upper) / 2,

@@ -5,6 +5,7 @@
 #![tactic(auto)]
 
 mod inputs;
+mod json;
 mod measures;
 mod timing;
 

@@ -1,6 +1,7 @@
 //! The calls that are measured, by their names.
 
 use crate::inputs::{Inputs, of_pairs};
+use crate::json;
 use intervallum::interval::Interval;
 use intervallum::interval_set::IntervalSet;
 use intervallum::ops::{
@@ -34,6 +35,9 @@ pub enum Measure {
     TimesDense,
     PlusSparse,
     TimesSparse,
+    JsonRead,
+    JsonWrite,
+    JsonText,
 }
 
 /// What a call answers.
@@ -58,7 +62,7 @@ impl Outcome {
 }
 
 impl Measure {
-    pub const ALL: [Measure; 21] = [
+    pub const ALL: [Measure; 24] = [
         Measure::BuildExtend,
         Measure::BuildPairs,
         Measure::ExtendOne,
@@ -80,6 +84,9 @@ impl Measure {
         Measure::TimesDense,
         Measure::PlusSparse,
         Measure::TimesSparse,
+        Measure::JsonRead,
+        Measure::JsonWrite,
+        Measure::JsonText,
     ];
 
     pub fn name(self) -> &'static str {
@@ -105,6 +112,9 @@ impl Measure {
             Measure::TimesDense => "times_dense",
             Measure::PlusSparse => "plus_sparse",
             Measure::TimesSparse => "times_sparse",
+            Measure::JsonRead => "json_read",
+            Measure::JsonWrite => "json_write",
+            Measure::JsonText => "json_text",
         }
     }
 
@@ -158,6 +168,9 @@ impl Measure {
             Measure::TimesDense => product(a, b)?,
             Measure::PlusSparse => sum(&inputs.left, &inputs.right)?,
             Measure::TimesSparse => product(&inputs.left, &inputs.right)?,
+            Measure::JsonRead => json::read(inputs)?,
+            Measure::JsonWrite => json::write(inputs)?,
+            Measure::JsonText => json::text(inputs)?,
         })
     }
 }

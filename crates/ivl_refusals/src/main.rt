@@ -6,6 +6,7 @@
 #![tactic(auto)]
 
 mod calls;
+mod json;
 
 use calls::{FIRST, SECOND, call};
 use intervallum::prelude::{Bounded, Interval, IntervalSet, IsEmpty, ToIntervalSet};
@@ -40,6 +41,14 @@ fn ending(alloc: Global, name: &[u8]) -> &'static str {
 fn tried(alloc: Global, name: &[u8]) -> Result<&'static str, AllocError> {
     let a = FIRST.to_interval_set(alloc)?;
     let b = SECOND.to_interval_set(alloc)?;
+    if let Some(is_right) = json::call(alloc, name, &a) {
+        return Ok(match is_right {
+            _ if !has_runs(&a, &FIRST) => "changed an operand",
+            Ok(true) => "answered",
+            Ok(false) => "gave a wrong answer",
+            Err(error) => return Err(error),
+        });
+    }
     let Some((answer, runs)) = call(alloc, name, &a, &b) else {
         return Ok("is no call");
     };

@@ -1,0 +1,6 @@
+pub mod Elements
+pub mod RoundTrips
+pub mod Items
+pub mod ExamplesReading
+pub mod ExamplesItems
+pub mod ExamplesWriting

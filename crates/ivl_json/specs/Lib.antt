@@ -1,0 +1,5 @@
+pub mod Faults
+pub mod Reading
+pub mod SetReading
+pub mod Writing
+pub mod OneWay

@@ -1,0 +1,89 @@
+//! Why a JSON value is refused.
+use std::alloc::AllocError;
+use thiserror::Error;
+
+/// Why a JSON value is no interval.
+///
+/// ```
+/// assert_eq!(rt; format!(in alloc; "{}", ItemFault::Length(3))?.as_str(), "length 3");
+/// ```
+#[derive(Clone, Copy, Debug, PartialEq, Eq, Error)]
+pub enum ItemFault {
+    /// The value is neither null nor an array.
+    #[error("shape")]
+    Shape,
+    /// The array has another number of elements than two: this many.
+    #[error("length {0}")]
+    Length(usize),
+    /// An element is not a whole number of 64 bits.
+    #[error("number")]
+    Number,
+    /// A bound is not in the range of its type.
+    #[error("range")]
+    Range,
+}
+
+/// Why `from_value` refuses a JSON value.
+///
+/// ```
+/// let fault = JsonFault::At(2, ItemFault::Range);
+/// assert_eq!(rt; format!(in alloc; "{fault}")?.as_str(), "item 2: range");
+/// ```
+#[derive(Clone, Copy, Debug, PartialEq, Eq, Error)]
+pub enum JsonFault {
+    /// The value is neither null nor an array.
+    #[error("shape")]
+    Shape,
+    /// The array of an interval has another number of elements than two: this many.
+    #[error("length {0}")]
+    Length(usize),
+    /// An element of an interval's array is not a whole number of 64 bits.
+    #[error("number")]
+    Number,
+    /// A bound of an interval is not in the range of its type.
+    #[error("range")]
+    Range,
+    /// An allocation failed. Only a set's `from_value` allocates.
+    #[error("memory")]
+    Memory,
+    /// The item of a set at this place, counted from 0, is the first that is no interval.
+    #[error("item {0}: {1}")]
+    At(usize, ItemFault),
+}
+
+impl From<ItemFault> for JsonFault {
+    ghost use Rattle.std.specs.Prelude.{◌≡◌};
+    ghost use Rattle.ivl_json.specs.Faults.{fault_of};
+
+    ghost from_gives = { λ fault same. same ≡ fault_of fault };
+
+    /// The same fault, of an interval that is read on its own.
+    ///
+    /// ```
+    /// assert_eq!(rt; JsonFault::from(ItemFault::Length(3)), JsonFault::Length(3));
+    /// ```
+    fn from(fault: ItemFault) -> JsonFault {
+        match fault {
+            ItemFault::Shape => JsonFault::Shape,
+            ItemFault::Length(count) => JsonFault::Length(count),
+            ItemFault::Number => JsonFault::Number,
+            ItemFault::Range => JsonFault::Range,
+        }
+    }
+}
+
+impl From<AllocError> for JsonFault {
+    ghost use Rattle.std.specs.Prelude.{◌≡◌};
+    ghost use Rattle.ivl_json.specs.declared.faults.JsonFault.TheVariants.{Memory};
+
+    ghost from_gives = { λ _ fault. fault ≡ Memory };
+
+    /// Out of memory.
+    ///
+    /// ```
+    /// assert_eq!(rt; JsonFault::from(AllocError), JsonFault::Memory);
+    /// ```
+    fn from(_error: AllocError) -> JsonFault {
+        JsonFault::Memory
+    }
+}

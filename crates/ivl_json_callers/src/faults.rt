@@ -1,0 +1,24 @@
+//! What becomes of a fault of an interval, and of want of memory, by `?`.
+ghost use Rattle.std.specs.Prelude.{◌≡◌, ℕ};
+ghost use Rattle.ivl_json.specs.declared.faults.ItemFault.{ItemFault};
+ghost use Rattle.ivl_json.specs.declared.faults.JsonFault.{JsonFault};
+
+use ivl_json::{ItemFault, JsonFault};
+use std::alloc::AllocError;
+
+/// The fault of the same name.
+pub fn fault_of_interval(fault: ItemFault) -> JsonFault
+    ensures shape { fault ≡ ItemFault.Shape → result ≡ JsonFault.Shape }
+    ensures length { (n : ℕ) → fault ≡ ItemFault.Length n → result ≡ JsonFault.Length n }
+    ensures number { fault ≡ ItemFault.Number → result ≡ JsonFault.Number }
+    ensures range { fault ≡ ItemFault.Range → result ≡ JsonFault.Range }
+{
+    JsonFault::from(fault)
+}
+
+/// Memory.
+pub fn fault_of_memory(error: AllocError) -> JsonFault
+    ensures { result ≡ JsonFault.Memory }
+{
+    JsonFault::from(error)
+}

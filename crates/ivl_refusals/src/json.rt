@@ -1,0 +1,105 @@
+//! The JSON calls, each with the answer that was worked out by hand.
+
+use crate::calls::FIRST;
+use crate::has_runs;
+use intervallum::interval::Interval;
+use intervallum::interval_set::IntervalSet;
+use intervallum::ops::Range;
+use ivl_json::{ItemFault, JsonFault, JsonForm};
+use serde_json::{Value, json};
+use std::alloc::{AllocError, Global};
+
+/// The runs of the first operand, out of order.
+const SHUFFLED: [(i32, i32); 4] = [(13, 14), (1, 2), (9, 10), (5, 6)];
+
+/// Whether the call of this name gives the right answer and leaves its value as it was; none where there is no such
+/// call.
+pub fn call(alloc: Global, name: &[u8], a: &IntervalSet<i32>) -> Option<Result<bool, AllocError>> {
+    match name {
+        b"json_write_interval" => Some(is_interval_written(alloc)),
+        b"json_write_set" => Some(is_set_written(alloc, a)),
+        b"json_read_interval" => Some(is_interval_read(alloc)),
+        b"json_read_set" => Some(is_set_read(alloc)),
+        b"json_read_thousand" => Some(is_last_of_thousand_refused(alloc)),
+        _ => None,
+    }
+}
+
+fn is_interval_written(alloc: Global) -> Result<bool, AllocError> {
+    let value = Interval::new(3, 8).to_value(alloc)?;
+    Ok(is_pair(&value, (3, 8)))
+}
+
+fn is_set_written(alloc: Global, a: &IntervalSet<i32>) -> Result<bool, AllocError> {
+    let value = a.to_value(alloc)?;
+    Ok(has_pairs(&value, &FIRST))
+}
+
+// An interval's reading takes no memory, so that want of it is a wrong answer.
+fn is_interval_read(alloc: Global) -> Result<bool, AllocError> {
+    let value = json!(in alloc; [3, 8])?;
+    let read = Interval::<i32>::from_value(alloc, &value);
+    Ok(read == Ok(Interval::new(3, 8)) && is_pair(&value, (3, 8)))
+}
+
+fn is_set_read(alloc: Global) -> Result<bool, AllocError> {
+    let value = pairs_value(alloc, &SHUFFLED)?;
+    let read = IntervalSet::<i32>::from_value(alloc, &value);
+    if !has_pairs(&value, &SHUFFLED) {
+        return Ok(false);
+    }
+    match read {
+        Ok(set) => Ok(has_runs(&set, &FIRST)),
+        Err(JsonFault::Memory) => Err(AllocError),
+        Err(_) => Ok(false),
+    }
+}
+
+/// An array of 999 items that are null, and one that has a single number.
+fn is_last_of_thousand_refused(alloc: Global) -> Result<bool, AllocError> {
+    let mut items = Vec::with_capacity(alloc, 1000)?;
+    for _ in 0..999 {
+        items.push(Value::from(()))?;
+    }
+    items.push(json!(in alloc; [1])?)?;
+    match IntervalSet::<i32>::from_value(alloc, &Value::from(items)) {
+        Err(JsonFault::Memory) => Err(AllocError),
+        Err(fault) => Ok(fault == JsonFault::At(999, ItemFault::Length(1))),
+        Ok(_) => Ok(false),
+    }
+}
+
+/// An array of pairs.
+fn pairs_value(alloc: Global, pairs: &[(i32, i32)]) -> Result<Value, AllocError> {
+    let mut items = Vec::new(alloc);
+    for &(lower, upper) in pairs {
+        items.push(json!(in alloc; [lower, upper])?)?;
+    }
+    Ok(Value::from(items))
+}
+
+/// The value is an array of these pairs.
+fn has_pairs(value: &Value, pairs: &[(i32, i32)]) -> bool {
+    let Some(items) = value.as_array() else {
+        return false;
+    };
+    for (item, pair) in items.iter().zip(pairs) {
+        if !is_pair(item, *pair) {
+            return false;
+        }
+    }
+    items.len() == pairs.len()
+}
+
+/// The value is an array of two numbers.
+fn is_pair(value: &Value, (lower, upper): (i32, i32)) -> bool {
+    let Some(items) = value.as_array() else {
+        return false;
+    };
+    match items.as_slice() {
+        [first, second] => {
+            first.as_i64() == Some(i64::from(lower)) && second.as_i64() == Some(i64::from(upper))
+        }
+        _ => false,
+    }
+}
