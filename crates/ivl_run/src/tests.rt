@@ -1,4 +1,5 @@
 //! Sessions over memory. Readers and writers that fail or wait stand in `ends`.
+mod callers;
 mod ends;
 mod memory;
 mod tables;

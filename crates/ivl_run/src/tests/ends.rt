@@ -2,9 +2,11 @@
 ghost use Rattle.std.specs.Prelude.{Some};
 
 use crate::engine::{SessionFault, outcome, session};
+use std::alloc::Global;
 use std::cell::Cell;
 use std::io;
 use std::io::{BufWriter, ErrorKind, Read, Write};
+use std::process::Abort;
 use std::test::Fail;
 
 // Gives its text one byte a read. Where `failure` is there, the read after the text fails so.
@@ -170,48 +172,64 @@ impl<'a> Write for Flushed<'a> {
 }
 
 // Gives a piece a read, and fails where the answers to the lines before it are not yet flushed:
-// beside each piece stands how many bytes they have.
+// `answered` has how many bytes they have.
 #[derive(Drop)]
 struct Pieces<'a> {
-    pieces: &'a [(&'a [u8], usize)],
+    pieces: &'a [&'a [u8]],
+    answered: &'a [usize],
+    given: usize,
     flushed: &'a Cell<usize>,
 }
 
 impl<'a> Read for Pieces<'a> {
     fn read(&mut self, buf: &mut [u8]) -> io::Result<usize> {
-        let Some(((piece, answered), rest)) = self.pieces.split_first() else {
+        let place = self.given;
+        if place >= self.pieces.len() || place >= self.answered.len() {
             return Ok(0);
-        };
-        if self.flushed.get() != *answered || buf.len() < piece.len() {
+        }
+        let piece = self.pieces[place];
+        if self.flushed.get() != self.answered[place] || buf.len() < piece.len() {
             return Err(io::Error::from(ErrorKind::WouldBlock));
         }
-        self.pieces = rest;
+        self.given = place + 1;
         buf[..piece.len()].copy_from_slice(piece);
         Ok(piece.len())
     }
 }
 
+// A session over these pieces flushes all that it has written.
+fn check_flushes(
+    rt: &(impl Alloc<A = Global> + Abort),
+    pieces: &[&[u8]],
+    answered: &[usize],
+    all: usize,
+) {
+    let flushed = Cell::new(0);
+    let mut reader = Pieces {
+        pieces,
+        answered,
+        given: 0,
+        flushed: &flushed,
+    };
+    let mut writer = Flushed {
+        written: 0,
+        flushed: &flushed,
+    };
+    assert_eq!(rt; session(rt.alloc(), &mut reader, &mut writer), Ok(()));
+    assert_eq!(rt; flushed.get(), all);
+}
+
 // Also before a read while a part of a line is kept, and after the last line, which no newline ends.
 #[test]
 fn answers_are_flushed_before_each_read_and_at_the_end(rt: HostRuntime) {
-    let cases: [&[(&[u8], usize)]; 3] = [
-        &[(b"size a", 0)],
-        &[(b"size a\nsi", 0), (b"ze a\n", 2)],
-        &[(b"size a\nsize a\nsize", 0), (b" a\nsi", 4), (b"ze a", 6)],
-    ];
-    for (pieces, written) in cases.iter().zip([2, 4, 8]) {
-        let flushed = Cell::new(0);
-        let mut reader = Pieces {
-            pieces,
-            flushed: &flushed,
-        };
-        let mut writer = Flushed {
-            written: 0,
-            flushed: &flushed,
-        };
-        assert_eq!(rt; session(rt.alloc(), &mut reader, &mut writer), Ok(()));
-        assert_eq!(rt; flushed.get(), written);
-    }
+    check_flushes(&rt, &[b"size a"], &[0], 2);
+    check_flushes(&rt, &[b"size a\nsi", b"ze a\n"], &[0, 2], 4);
+    check_flushes(
+        &rt,
+        &[b"size a\nsize a\nsize", b" a\nsi", b"ze a"],
+        &[0, 4, 6],
+        8,
+    );
 }
 
 // Gives a line a read, and fails where the answers to the lines before it are not yet flushed.
