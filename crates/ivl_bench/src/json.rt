@@ -42,15 +42,12 @@ pub fn read(inputs: &Inputs) -> Result<Outcome, AllocError> {
     }
 }
 
-/// How many items the array of a set's runs has.
+/// The array of the runs of a set.
 pub fn write(inputs: &Inputs) -> Result<Outcome, AllocError> {
-    let value = inputs.a.to_value(inputs.alloc)?;
-    let count = value.as_array().map_or(0, |items| items.len());
-    Ok(Outcome::Number(count as u64))
+    Ok(Outcome::Json(inputs.a.to_value(inputs.alloc)?))
 }
 
-/// How long the text of that array is.
+/// The text of that array.
 pub fn text(inputs: &Inputs) -> Result<Outcome, AllocError> {
-    let text = inputs.json.written.to_string(inputs.alloc)?;
-    Ok(Outcome::Number(text.len() as u64))
+    Ok(Outcome::Text(inputs.json.written.to_string(inputs.alloc)?))
 }

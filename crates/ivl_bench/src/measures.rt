@@ -9,6 +9,7 @@ use intervallum::ops::{
     SymmetricDifference, Union,
 };
 use intervallum::width::SizeNumber;
+use serde_json::Value;
 use std::alloc::{AllocError, Global};
 
 /// A call on sets.
@@ -45,17 +46,24 @@ pub enum Measure {
 pub enum Outcome {
     Set(IntervalSet<i64>),
     Number(u64),
+    Json(Value),
+    Text(String),
     DoesNotFit,
 }
 
 impl Outcome {
-    /// The number of runs and the size of a set, or the one number.
+    /// The number of runs and the size of a set, the one number, or how long an array or a text is.
     pub fn to_text(&self, alloc: Global) -> Result<String, AllocError> {
         match self {
             Outcome::Set(set) => {
                 format!(in alloc; "{} {}", set.interval_count(), set.size().number())
             }
             Outcome::Number(number) => format!(in alloc; "{number}"),
+            Outcome::Json(value) => {
+                let count = value.as_array().map_or(0, |items| items.len());
+                format!(in alloc; "{count}")
+            }
+            Outcome::Text(text) => format!(in alloc; "{}", text.len()),
             Outcome::DoesNotFit => String::from_str(alloc, "does not fit"),
         }
     }
@@ -137,6 +145,11 @@ impl Measure {
             Measure::Contains => 1000,
             _ => 1,
         }
+    }
+
+    /// Whether the time is that of making the answer, without dropping it.
+    pub fn is_of_making_alone(self) -> bool {
+        matches!(self, Measure::JsonWrite | Measure::JsonText)
     }
 
     /// Makes the call.

@@ -65,11 +65,31 @@ fn least_time(
 
 /// How long a number of calls takes.
 fn duration(clock: &impl Clock, measure: Measure, inputs: &Inputs, count: u64) -> Result<Duration> {
+    if measure.is_of_making_alone() {
+        return duration_of_making(clock, measure, inputs, count);
+    }
     let start = Instant::now(clock)?;
     for _ in 0..count {
         measure.run(inputs)?;
     }
     Ok(start.elapsed(clock)?)
+}
+
+/// How long a number of calls takes, without what it takes to drop their answers.
+fn duration_of_making(
+    clock: &impl Clock,
+    measure: Measure,
+    inputs: &Inputs,
+    count: u64,
+) -> Result<Duration> {
+    let mut time = Duration::ZERO;
+    for _ in 0..count {
+        let start = Instant::now(clock)?;
+        let outcome = measure.run(inputs)?;
+        time = time.saturating_add(start.elapsed(clock)?);
+        drop(outcome);
+    }
+    Ok(time)
 }
 
 fn per_operation(time: Duration, measure: Measure, count: u64) -> u128 {
