@@ -1,5 +1,5 @@
 -- What stands in a sum, difference or product, by its two operands.
-use Rattle.std.proofs.Common.{◌≡◌, ◌↔◌, ℕ, zero, suc, ◌+◌, ◌<◌, ◌⊎◌, ⊎_elim, inl, inr, ap, arith, IsTrue, Bool, true, false, List, ◌++◌, Option, Some, None, Box, Global, ◌∙◌, sym, refl, cond, leb}
+use Rattle.std.proofs.Common.{◌≡◌, ◌↔◌, ℕ, zero, suc, ◌+◌, ◌<◌, ◌⊎◌, ⊎_elim, inl, inr, ap, arith, IsTrue, Bool, true, false, List, ◌∷◌, ◌++◌, Option, Some, None, Box, Global, ◌∙◌, sym, subst, refl, cond, leb}
 use Rattle.std.proofs.lemmas.Bool.{iff_false, not-true, cases_Bool, both_ways}
 use Rattle.std.proofs.lemmas.Bool.Decides.{nat_tests}
 use Rattle.std.proofs.lemmas.List.Folds.{find-append}
@@ -8,18 +8,28 @@ use Rattle.std.specs.Prelude.{find, nat_le}
 use mathlib.Core.Bool.{not}
 use Rattle.ivl_expr.specs.declared.expr.Expr.{Expr}
 use Rattle.ivl_expr.specs.declared.expr.Expr.TheViews.{Add, Sub, Mul}
-use Rattle.ivl_expr.specs.declared.expr.Expr.TheVariants.{Var}
+use Rattle.ivl_expr.specs.declared.expr.Expr.TheVariants.{Var, Const, Add', Sub', Mul'}
+use Rattle.ivl_expr.specs.Nodes.{subexpressions}
+use Rattle.ivl_expr.specs.NodeSets.{AllPresent}
 use Rattle.ivl_expr.specs.Variables.{variables, first_missing, occurrences, ReadOnce, ShareVariable}
 
 -- the variables of e are those of a and then those of b
 pub record IsPair {B : Type 0} (e a b : Expr B) : Type 0 where
   pub counted : (i : ℕ) → occurrences i e ≡ occurrences i a + occurrences i b
   pub listed : variables e ≡ variables a ++ variables b
+  pub nodes : subexpressions e ≡ e ∷ (subexpressions a ++ subexpressions b)
 
 pub IsPair-from : {B : Type 0} (e : Expr B) (a b : Box (Expr B) Global) → (e ≡ Add a b) ⊎ ((e ≡ Sub a b) ⊎ (e ≡ Mul a b)) → IsPair e a.value b.value
-IsPair-from e a b (inl h) = record { counted = (λ i. ap (occurrences i) h); listed = ap variables h }
-IsPair-from e a b (inr (inl h)) = record { counted = (λ i. ap (occurrences i) h); listed = ap variables h }
-IsPair-from e a b (inr (inr h)) = record { counted = (λ i. ap (occurrences i) h); listed = ap variables h }
+IsPair-from e a b = ⊎_elim
+    (λ h. subst (λ d. IsPair d a.value b.value) (sym h) here_sum)
+    (⊎_elim (λ h. subst (λ d. IsPair d a.value b.value) (sym h) here_difference) (λ h. subst (λ d. IsPair d a.value b.value) (sym h) here_product))
+  where
+    here_sum : IsPair (Add a b) a.value b.value
+    here_sum = record { counted = (λ i. refl); listed = refl; nodes = refl }
+    here_difference : IsPair (Sub a b) a.value b.value
+    here_difference = record { counted = (λ i. refl); listed = refl; nodes = refl }
+    here_product : IsPair (Mul a b) a.value b.value
+    here_product = record { counted = (λ i. refl); listed = refl; nodes = refl }
 
 -- ---- read once: both operands are, and they share no variable
 
@@ -77,9 +87,19 @@ module _ {B : Type 0} (count : ℕ) (e a b : Expr B) (p : IsPair e a b) where
   pub missing_second : None ≡ first_missing count a → first_missing count b ≡ first_missing count e
   missing_second h = sym (missing-pair ∙ ap (λ o. option_or o (first_missing count b)) (sym h))
 
-  pub none_missing : first_missing count e ≡ None → (first_missing count a ≡ None) × (first_missing count b ≡ None)
+  none_missing : first_missing count e ≡ None → (first_missing count a ≡ None) × (first_missing count b ≡ None)
   none_missing h = none_of_either _ _ (sym missing-pair ∙ h)
 
--- a variable that is not missing has its set
-pub is_present : (count i : ℕ) → cond (leb count i) (Some i) None ≡ None → i < count
-is_present count i h = grind (arith, nat_tests)
+-- where no variable is missing, each is present
+pub all_present : {B : Type 0} (count : ℕ) (e : Expr B) → first_missing count e ≡ None → AllPresent count e
+all_present count (Var i) h = present count i h
+  where
+    present : (count i : ℕ) → cond (leb count i) (Some i) None ≡ None → i < count
+    present count i h = grind (arith, nat_tests)
+all_present count (Const c) h = tt
+all_present count (Add' p a q b) h =
+    let n = none_missing count (Add' p a q b) a b (record { counted = (λ i. refl); listed = refl; nodes = refl }) h in (all_present count a n.0, all_present count b n.1)
+all_present count (Sub' p a q b) h =
+    let n = none_missing count (Sub' p a q b) a b (record { counted = (λ i. refl); listed = refl; nodes = refl }) h in (all_present count a n.0, all_present count b n.1)
+all_present count (Mul' p a q b) h =
+    let n = none_missing count (Mul' p a q b) a b (record { counted = (λ i. refl); listed = refl; nodes = refl }) h in (all_present count a n.0, all_present count b n.1)

@@ -4,7 +4,7 @@
 --     AllNodesIn whole number e sets      the set of each node lies in the range
 --     SomeNodeOutside whole number e sets      the set of some node has a member outside the range
 --     JoinsProducts S T U      with two products of factors from one run of S and one run of T, U has all that lies between
---     Bounds number F sets      each F e holds what e is made of: the variable's set, the constant, or the results over F of the operands
+--     HoldsNodes number F sets      each F e holds what e is made of: the variable's set, the constant, or the results over F of the operands
 use Rattle.std.specs.Prelude.{ℕ, ℤ, ◌*ℤ◌, List, [], ◌∷◌, ◌++◌, All}
 use Rattle.ivl_laws.specs.Sets.{Differences, HasSome, InOneRun, IsBetween, IsSubset, Only, Products, Sums, Without}
 use Rattle.ivl_laws.specs.Counts.{IsIn}
@@ -35,7 +35,7 @@ SomeNodeOutside {B} whole number e sets =
 abbrev pub JoinsProducts : (ℤ → Type 0) → (ℤ → Type 0) → (ℤ → Type 0) → Type 0
 JoinsProducts S T U = (x x' y y' : ℤ) → InOneRun S x x' → InOneRun T y y' → InOneRun U (x *ℤ y) (x' *ℤ y')
 
-pub record Bounds {B : Type 0} (number : B → ℤ) (F : Expr B → ℤ → Type 0) (sets : ℕ → ℤ → Type 0) : Type 0 where
+pub record HoldsNodes {B : Type 0} (number : B → ℤ) (F : Expr B → ℤ → Type 0) (sets : ℕ → ℤ → Type 0) : Type 0 where
   pub variable : (i : ℕ) → IsSubset (sets i) (F (Var i))
   pub constant : (c : B) → IsSubset (Only (number c)) (F (Const c))
   pub sum : (p : _) (a : Expr B) (q : _) (b : Expr B) → IsSubset (Sums (F a) (F b)) (F (Add' p a q b))

@@ -3,6 +3,9 @@
 
 mod expr;
 mod fault;
+pub mod laws;
+mod nodes;
 
 pub use expr::Expr;
 pub use fault::EvalFault;
+pub use nodes::eval;
