@@ -9,7 +9,7 @@ use Rattle.ivl_expr.specs.Nodes.{HoldsNodes, JoinsProducts, Node}
 turned : (S : ℤ → Type 0) (x y : ℤ) → InOneRun S x y → InOneRun S y x
 turned S x y r z b = r z (⊎_elim (λ c. inr c) (λ c. inl c) b)
 
-products_are_joined : (S T : ℤ → Type 0) → JoinsProducts S T (Products S T)
+pub products_are_joined : (S T : ℤ → Type 0) → JoinsProducts S T (Products S T)
 products_are_joined S T x x' y y' r s z = ⊎_elim
     (λ b. (x, x', y, y', r, s, b.0, b.1))
     (λ b. (x', x, y', y, turned S x x' r, turned T y y' s, b.0, b.1))

@@ -5,6 +5,8 @@ mod expr;
 mod fault;
 pub mod laws;
 mod nodes;
+#[cfg(test)]
+mod tests;
 
 pub use expr::Expr;
 pub use fault::EvalFault;
