@@ -111,8 +111,10 @@ the_exact_products_are_not_joined h = missing (h (pos 2) (pos 2) (pos 5) (pos 6)
   where
     two : InOneRun (Only (pos 2)) (pos 2) (pos 2)
     two z = ⊎_elim (λ (low, high). omega (arith, ints)) (λ (low, high). omega (arith, ints))
+
     five_to_six : InOneRun (IsBetween (pos 5, pos 6)) (pos 5) (pos 6)
     five_to_six z = ⊎_elim (λ c. c) (λ (low, high). (omega (arith, ints), omega (arith, ints)))
+
     missing : ¬ (Covers ((pos 10, pos 10) ∷ (pos 12, pos 12) ∷ []) (pos 11))
     missing (inl (low, high)) = omega (arith, ints)
     missing (inr (inl (low, high))) = omega (arith, ints)

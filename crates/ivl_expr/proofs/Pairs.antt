@@ -26,8 +26,10 @@ IsPair-from e a b = ⊎_elim
   where
     here_sum : IsPair (Add a b) a.value b.value
     here_sum = record { counted = (λ i. refl); listed = refl; nodes = refl }
+
     here_difference : IsPair (Sub a b) a.value b.value
     here_difference = record { counted = (λ i. refl); listed = refl; nodes = refl }
+
     here_product : IsPair (Mul a b) a.value b.value
     here_product = record { counted = (λ i. refl); listed = refl; nodes = refl }
 

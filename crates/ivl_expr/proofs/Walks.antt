@@ -60,7 +60,7 @@ module _ {B : Type 0} (whole : ℤ × ℤ) (number : B → ℤ) (sets : ℕ → 
     all_in : AllNodesIn whole number a sets → AllNodesIn whole number b sets → IsSubset (Node number e sets) (IsBetween whole) → AllNodesIn whole number e sets
     all_in h k m = All-same (λ n. IsSubset (Node number n sets) (IsBetween whole)) (subexpressions e) (e ∷ (subexpressions a ++ subexpressions b)) p.nodes
         (All-cons (λ n. IsSubset (Node number n sets) (IsBetween whole)) e (subexpressions a ++ subexpressions b) m
-            (All-append (λ n. IsSubset (Node number n sets) (IsBetween whole)) (subexpressions a) (subexpressions b) h k))
+        (All-append (λ n. IsSubset (Node number n sets) (IsBetween whole)) (subexpressions a) (subexpressions b) h k))
 
   -- ---- a node of two operands, for an operation with results R whose runs end in results of ends
 
@@ -105,32 +105,32 @@ module _ {B : Type 0} (whole : ℤ × ℤ) (number : B → ℤ) (sets : ℕ → 
     pub sum_outside : e ≡ Add a b → HasSome (Without (Sums (Covers L) (Covers M)) (IsBetween whole)) → SomeNodeOutside whole number e sets
     sum_outside is out = subst (λ d. SomeNodeOutside whole number d sets) (sym is)
         (made_outside (Add a b) a.value b.value (IsPair-from (Add a b) a b (inl refl)) (λ x y. x +ℤ y) Sums (λ z. ((λ s. s), (λ s. s))) sums_are_monotone
-            (λ x y z once v w. value_of_sum number a.value b.value sets x y z once v w _ _) ends_of_sums L M first second out)
+        (λ x y z once v w. value_of_sum number a.value b.value sets x y z once v w _ _) ends_of_sums L M first second out)
 
     pub sum_node : (Q : List (ℤ × ℤ)) → e ≡ Add a b → IsSubset (Sums (Covers L) (Covers M)) (IsBetween whole) → IsRunsOf Q (Sums (Covers L) (Covers M)) → IsNodeSet whole number e sets Q
     sum_node Q is within runs = subst (λ d. IsNodeSet whole number d sets Q) (sym is)
         (made_node (Add a b) a.value b.value (IsPair-from (Add a b) a b (inl refl)) (λ x y. x +ℤ y) Sums (λ z. ((λ s. s), (λ s. s))) sums_are_monotone
-            (λ x y z once v w. value_of_sum number a.value b.value sets x y z once v w _ _) ends_of_sums L M first second Q within runs)
+        (λ x y z once v w. value_of_sum number a.value b.value sets x y z once v w _ _) ends_of_sums L M first second Q within runs)
 
     pub difference_outside : e ≡ Sub a b → HasSome (Without (Differences (Covers L) (Covers M)) (IsBetween whole)) → SomeNodeOutside whole number e sets
     difference_outside is out = subst (λ d. SomeNodeOutside whole number d sets) (sym is)
         (made_outside (Sub a b) a.value b.value (IsPair-from (Sub a b) a b (inr (inl refl))) (λ x y. x -ℤ y) Differences (λ z. ((λ s. s), (λ s. s))) differences_are_monotone
-            (λ x y z once v w. value_of_difference number a.value b.value sets x y z once v w _ _) ends_of_differences L M first second out)
+        (λ x y z once v w. value_of_difference number a.value b.value sets x y z once v w _ _) ends_of_differences L M first second out)
 
     pub difference_node : (Q : List (ℤ × ℤ)) → e ≡ Sub a b → IsSubset (Differences (Covers L) (Covers M)) (IsBetween whole) → IsRunsOf Q (Differences (Covers L) (Covers M)) → IsNodeSet whole number e sets Q
     difference_node Q is within runs = subst (λ d. IsNodeSet whole number d sets Q) (sym is)
         (made_node (Sub a b) a.value b.value (IsPair-from (Sub a b) a b (inr (inl refl))) (λ x y. x -ℤ y) Differences (λ z. ((λ s. s), (λ s. s))) differences_are_monotone
-            (λ x y z once v w. value_of_difference number a.value b.value sets x y z once v w _ _) ends_of_differences L M first second Q within runs)
+        (λ x y z once v w. value_of_difference number a.value b.value sets x y z once v w _ _) ends_of_differences L M first second Q within runs)
 
     pub product_outside : e ≡ Mul a b → HasSome (Without (Products (Covers L) (Covers M)) (IsBetween whole)) → SomeNodeOutside whole number e sets
     product_outside is out = subst (λ d. SomeNodeOutside whole number d sets) (sym is)
         (made_outside (Mul a b) a.value b.value (IsPair-from (Mul a b) a b (inr (inr refl))) (λ x y. x *ℤ y) Products (λ z. ((λ s. s), (λ s. s))) products_are_monotone
-            (λ x y z once v w. value_of_product number a.value b.value sets x y z once v w _ _) ends_of_products L M first second out)
+        (λ x y z once v w. value_of_product number a.value b.value sets x y z once v w _ _) ends_of_products L M first second out)
 
     pub product_node : (Q : List (ℤ × ℤ)) → e ≡ Mul a b → IsSubset (Products (Covers L) (Covers M)) (IsBetween whole) → IsRunsOf Q (Products (Covers L) (Covers M)) → IsNodeSet whole number e sets Q
     product_node Q is within runs = subst (λ d. IsNodeSet whole number d sets Q) (sym is)
         (made_node (Mul a b) a.value b.value (IsPair-from (Mul a b) a b (inr (inr refl))) (λ x y. x *ℤ y) Products (λ z. ((λ s. s), (λ s. s))) products_are_monotone
-            (λ x y z once v w. value_of_product number a.value b.value sets x y z once v w _ _) ends_of_products L M first second Q within runs)
+        (λ x y z once v w. value_of_product number a.value b.value sets x y z once v w _ _) ends_of_products L M first second Q within runs)
 
   module _ (e d : Expr B) (a b : Box (Expr B) Global) (is : (e ≡ Add a b) ⊎ ((e ≡ Sub a b) ⊎ (e ≡ Mul a b))) where
     pub left_outside : d ≡ a.value → SomeNodeOutside whole number d sets → SomeNodeOutside whole number e sets
@@ -148,7 +148,8 @@ module _ {B : Type 0} (whole : ℤ × ℤ) (number : B → ℤ) (sets : ℕ → 
     ends = (λ _. all_from_in (λ run. Values {B = B} number (Var i) sets run.0 × Values {B = B} number (Var i) sets run.1) L (λ run j.
         let o = open_in L run runs.maximal j in (
           value_of_variable number i sets run.0 ((runs.members run.0).0 (one_covers L run run.0 j (lower_end run o))),
-          value_of_variable number i sets run.1 ((runs.members run.1).0 (one_covers L run run.1 j (upper_end run o))))));
+          value_of_variable number i sets run.1 ((runs.members run.1).0 (one_covers L run run.1 j (upper_end run o))),
+        )));
   })
 
   pub constant_node : (e : Expr B) (c : B) (L : List (ℤ × ℤ)) → e ≡ Const c → IsRunsOf L (Only (number c)) → IsSubset (Only (number c)) (IsBetween whole) → IsNodeSet whole number e sets L
@@ -158,7 +159,8 @@ module _ {B : Type 0} (whole : ℤ × ℤ) (number : B → ℤ) (sets : ℕ → 
     ends = (λ _. all_from_in (λ run. Values number (Const c) sets run.0 × Values number (Const c) sets run.1) L (λ run j.
         let o = open_in L run runs.maximal j in (
           value_of_constant number c sets run.0 ((runs.members run.0).0 (one_covers L run run.0 j (lower_end run o))),
-          value_of_constant number c sets run.1 ((runs.members run.1).0 (one_covers L run run.1 j (upper_end run o))))));
+          value_of_constant number c sets run.1 ((runs.members run.1).0 (one_covers L run run.1 j (upper_end run o))),
+        )));
   })
 
   pub constant_outside : (e : Expr B) (c : B) → e ≡ Const c → HasSome (Without (Only (number c)) (IsBetween whole)) → SomeNodeOutside whole number e sets
@@ -171,8 +173,8 @@ lent_node whole number sets e i L set is present seen lent runs =
     let below : i < length sets = subst (AllPresent (length sets)) is present in
     let same : set ≡ slice_index_or sets i [] = seen ∙ get_or_default sets i set [] below in
     variable_node whole number (set_at sets) e i L is
-        (subst (λ l. IsRunsOf L (Covers l)) same (subst (λ l. IsRunsOf L (Covers l)) lent (IsRunsOf-covers L (subst IsMaximal (sym lent) runs.maximal))))
-        (subst (λ l. IsSubset (Covers l) (IsBetween whole)) (sym lent) runs.within)
+    (subst (λ l. IsRunsOf L (Covers l)) same (subst (λ l. IsRunsOf L (Covers l)) lent (IsRunsOf-covers L (subst IsMaximal (sym lent) runs.maximal))))
+    (subst (λ l. IsSubset (Covers l) (IsBetween whole)) (sym lent) runs.within)
 
 -- the fault that a `?` passes on
 pub passed_on : {A E : Type 0} (r : Result A E) (y : E) (P : E → Type 0) → IsErrAnd r P → r ≡ Err y → P y

@@ -1,1 +1,3 @@
 //! One module for each crate.
+
+mod expr;

@@ -4,6 +4,8 @@ use crate::{Expr, eval};
 use intervallum::interval::Interval;
 use intervallum::interval_set::{IntervalSet, ToIntervalSet};
 use intervallum::ops::{Cardinality, Range};
+use intervallum::sweep::coalesce;
+use std::alloc::{AllocError, Global};
 use std::test::Fail;
 
 #[test]
@@ -53,10 +55,7 @@ fn a_variable_that_repeats_is_taken_as_two(rt: HostRuntime) -> Result<(), Fail> 
 #[test]
 fn an_empty_set_where_it_stands_and_elsewhere(rt: HostRuntime) -> Result<(), Fail> {
     let alloc = rt.alloc();
-    let sets: [IntervalSet<i32>; 2] = [
-        IntervalSet::new(alloc, 3, 3)?,
-        IntervalSet::empty(alloc),
-    ];
+    let sets: [IntervalSet<i32>; 2] = [IntervalSet::new(alloc, 3, 3)?, IntervalSet::empty(alloc)];
     let more = add(alloc, Expr::Var(0), Expr::Const(1))?;
     check_answer(&rt, &more, &sets, "[4..4]")?;
     let product = mul(alloc, Expr::Var(0), Expr::Var(1))?;
@@ -73,16 +72,30 @@ fn a_variable_and_a_constant_alone(rt: HostRuntime) -> Result<(), Fail> {
     Ok(())
 }
 
+/// A hundred single numbers, 1000 apart.
+fn far_apart(alloc: Global) -> Result<IntervalSet<i64>, AllocError> {
+    let mut runs = Vec::new(alloc);
+    for i in 0..100u32 {
+        let number = 1000 * i64::from(i);
+        runs.push(Interval::new(number, number))?;
+    }
+    coalesce(alloc, runs)
+}
+
+/// A hundred runs of two numbers, 10 apart.
+fn close_by(alloc: Global) -> Result<IntervalSet<i64>, AllocError> {
+    let mut runs = Vec::new(alloc);
+    for i in 0..100u32 {
+        let lower = 10 * i64::from(i);
+        runs.push(Interval::new(lower, lower + 1))?;
+    }
+    coalesce(alloc, runs)
+}
+
 #[test]
 fn a_sum_of_two_sets_of_a_hundred_runs(rt: HostRuntime) -> Result<(), Fail> {
     let alloc = rt.alloc();
-    let mut left: IntervalSet<i64> = IntervalSet::empty(alloc);
-    let mut right: IntervalSet<i64> = IntervalSet::empty(alloc);
-    for i in 0..100i64 {
-        left.extend(std::iter::once(Interval::new(1000 * i, 1000 * i)))?;
-        right.extend(std::iter::once(Interval::new(10 * i, 10 * i + 1)))?;
-    }
-    let sets = [left, right];
+    let sets = [far_apart(alloc)?, close_by(alloc)?];
     let expr = add(alloc, Expr::Var(0), Expr::Var(1))?;
     let sums = eval(alloc, &expr, &sets)?;
     assert_eq!(rt; sums.interval_count(), 10_000);

@@ -22,4 +22,4 @@ returns-clause-ends g c = λ once. subst (λ l. All (λ run. Values g.B.Width.va
 pub returns-clause-exact : goal.returns-clause-exact
 returns-clause-exact g c = λ once none. subst (λ l. IsRunsOf l (Values g.B.Width.value c.args.expr.now (set_at c.args.sets.now))) (sym c.in_ok-into_set.ensures)
     (IsRunsOf-same (Node g.B.Width.value c.args.expr.now (set_at c.args.sets.now)) (Values g.B.Width.value c.args.expr.now (set_at c.args.sets.now)) _
-        (node_is_values g.B.Width.value c.args.expr.now (set_at c.args.sets.now) once none) c.in_ok-node_set.ensures.is.members)
+    (node_is_values g.B.Width.value c.args.expr.now (set_at c.args.sets.now) once none) c.in_ok-node_set.ensures.is.members)
