@@ -1,5 +1,6 @@
 //! The operands, the same at each run: numbers of a linear congruential generator.
 
+use crate::expressions::Expressions;
 use anyhow::{Context, Result, ensure};
 use intervallum::interval::Interval;
 use intervallum::interval_set::{IntervalSet, ToIntervalSet};
@@ -22,6 +23,7 @@ pub struct Inputs {
     pub middle: i64,
     pub left: IntervalSet<i64>,
     pub right: IntervalSet<i64>,
+    pub expressions: Expressions,
 }
 
 impl Inputs {
@@ -43,6 +45,7 @@ impl Inputs {
             middle: lower.saturating_add(upper) / 2,
             left: set_of(alloc, &apart(alloc, n, 1, n)?)?,
             right: set_of(alloc, &apart(alloc, n, 2, 1)?)?,
+            expressions: Expressions::new(alloc, &a, &b)?,
             a,
             b,
         })

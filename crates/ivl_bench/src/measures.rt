@@ -34,6 +34,8 @@ pub enum Measure {
     TimesDense,
     PlusSparse,
     TimesSparse,
+    EvalSum,
+    EvalChain,
 }
 
 /// What a call answers.
@@ -58,7 +60,7 @@ impl Outcome {
 }
 
 impl Measure {
-    pub const ALL: [Measure; 21] = [
+    pub const ALL: [Measure; 23] = [
         Measure::BuildExtend,
         Measure::BuildPairs,
         Measure::ExtendOne,
@@ -80,6 +82,8 @@ impl Measure {
         Measure::TimesDense,
         Measure::PlusSparse,
         Measure::TimesSparse,
+        Measure::EvalSum,
+        Measure::EvalChain,
     ];
 
     pub fn name(self) -> &'static str {
@@ -105,16 +109,19 @@ impl Measure {
             Measure::TimesDense => "times_dense",
             Measure::PlusSparse => "plus_sparse",
             Measure::TimesSparse => "times_sparse",
+            Measure::EvalSum => "eval_sum",
+            Measure::EvalChain => "eval_chain",
         }
     }
 
-    /// Whether the call is measured for sets of `n` runs: the others only where they end soon, and
-    /// 300 runs for one call alone.
+    /// Whether the call is measured for sets of `n` runs: the others only where they end soon, 300
+    /// runs for one call alone, and once what does not depend on `n`.
     pub fn is_for(self, n: u32) -> bool {
         match self {
-            Measure::PlusDense | Measure::MinusDense | Measure::TimesDense => {
+            Measure::PlusDense | Measure::MinusDense | Measure::TimesDense | Measure::EvalSum => {
                 n <= 1000 && n != 300
             }
+            Measure::EvalChain => n == 10,
             Measure::PlusSparse => n <= 300,
             Measure::TimesSparse => n <= 100,
             _ => n != 300,
@@ -158,7 +165,16 @@ impl Measure {
             Measure::TimesDense => product(a, b)?,
             Measure::PlusSparse => sum(&inputs.left, &inputs.right)?,
             Measure::TimesSparse => product(&inputs.left, &inputs.right)?,
+            Measure::EvalSum => fitting(inputs.expressions.eval_sum(inputs.alloc)?),
+            Measure::EvalChain => fitting(inputs.expressions.eval_chain(inputs.alloc)?),
         })
+    }
+}
+
+fn fitting(set: Option<IntervalSet<i64>>) -> Outcome {
+    match set {
+        Some(set) => Outcome::Set(set),
+        None => Outcome::DoesNotFit,
     }
 }
 

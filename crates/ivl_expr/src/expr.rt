@@ -2,23 +2,41 @@
 ghost use Rattle.std.specs.Prelude.{◌≡◌, ◌↔◌, IsTrue};
 ghost use Rattle.ivl_expr.specs.Variables.{HasProduct, Occurs, ReadOnce, ShareVariable, first_missing};
 
-/// Sums, differences and products of variables and constants.
+/// An expression: sums, differences and products of variables and constants.
+///
+/// A variable is the index of its set in the slice that [`eval`](crate::eval) is given. A constant may
+/// be any value of the type; one outside its range has no set.
+///
+/// The calls of an expression, and dropping one, recurse: they use stack in proportion to its depth,
+/// so an expression that is built by a loop can be too deep for the stack of its thread.
+///
+/// ```
+/// // (x0 + x1) - 3
+/// let sum = Expr::Add(Box::new(alloc, Expr::Var(0))?, Box::new(alloc, Expr::Var(1))?);
+/// let less = Expr::Sub(Box::new(alloc, sum)?, Box::new(alloc, Expr::Const(3i32))?);
+/// assert!(rt; less.occurs(1) && less.read_once() && !less.has_product());
+/// ```
 #[derive(Drop)]
 pub enum Expr<B> {
-    /// The variable with this index.
+    /// The variable of this index.
     Var(usize),
-    /// This number.
+    /// A number.
     Const(B),
-    /// The sum of both.
+    /// The sum of the two.
     Add(Box<Expr<B>>, Box<Expr<B>>),
     /// The first less the second.
     Sub(Box<Expr<B>>, Box<Expr<B>>),
-    /// The product of both.
+    /// The product of the two.
     Mul(Box<Expr<B>>, Box<Expr<B>>),
 }
 
 impl<B> Expr<B> {
-    /// Returns true if and only if variable `i` occurs.
+    /// Returns true if and only if variable `i` occurs. Linear in the nodes; does not allocate.
+    ///
+    /// ```
+    /// let sum = Expr::Add(Box::new(alloc, Expr::Var(3))?, Box::new(alloc, Expr::Const(5i32))?);
+    /// assert!(rt; sum.occurs(3) && !sum.occurs(5));
+    /// ```
     pub fn occurs(&self, i: usize) -> bool
         ensures { IsTrue result ↔ Occurs i self.now }
     {
@@ -29,7 +47,18 @@ impl<B> Expr<B> {
         }
     }
 
-    /// Returns true if and only if no variable occurs twice.
+    /// Returns true if and only if no variable occurs twice. Then both ends of each run that
+    /// [`eval`](crate::eval) returns are values.
+    ///
+    /// Compares each variable with the nodes on its right at most once: at worst the number of
+    /// variables times the number of nodes. Does not allocate.
+    ///
+    /// ```
+    /// let sum = Expr::Add(Box::new(alloc, Expr::Var(0))?, Box::new(alloc, Expr::Var(1))?);
+    /// assert!(rt; sum.read_once());
+    /// let less_first = Expr::Sub(Box::new(alloc, sum)?, Box::new(alloc, Expr::<i32>::Var(0))?);
+    /// assert!(rt; !less_first.read_once());
+    /// ```
     pub fn read_once(&self) -> bool
         ensures { IsTrue result ↔ ReadOnce self.now }
     {
@@ -41,7 +70,13 @@ impl<B> Expr<B> {
         }
     }
 
-    /// Returns true if and only if a product occurs.
+    /// Returns true if and only if a product occurs. Linear in the nodes; does not allocate.
+    ///
+    /// ```
+    /// let product = Expr::Mul(Box::new(alloc, Expr::Var(0))?, Box::new(alloc, Expr::Const(2i32))?);
+    /// let sum = Expr::Add(Box::new(alloc, product)?, Box::new(alloc, Expr::Var(1))?);
+    /// assert!(rt; sum.has_product());
+    /// ```
     pub fn has_product(&self) -> bool
         ensures { IsTrue result ↔ HasProduct self.now }
     {
@@ -65,7 +100,7 @@ impl<B> Expr<B> {
         }
     }
 
-    /// The leftmost variable whose index is not below `count`.
+    /// Returns the leftmost variable whose index is not below `count`.
     pub(crate) fn first_missing(&self, count: usize) -> Option<usize>
         ensures { result ≡ first_missing count self.now }
     {

@@ -1,14 +1,14 @@
-//! Why an expression has no set.
+//! Why an expression was not evaluated.
 use std::alloc::AllocError;
 use thiserror::Error;
 
-/// Why `eval` gave no set.
+/// Why [`eval`](crate::eval) returned no set.
 #[derive(Clone, Copy, PartialEq, Eq, Debug, Error)]
 pub enum EvalFault {
-    /// There is no set for this variable.
+    /// There is no set for the variable of this index.
     #[error("missing variable {0}")]
     Missing(usize),
-    /// The set of some node leaves the range of the bounds.
+    /// The set of some node has a member outside the range of the type.
     #[error("range")]
     Range,
     /// An allocation failed.

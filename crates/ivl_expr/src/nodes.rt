@@ -16,13 +16,44 @@ use intervallum::ops::{Contains, Fits, Whole};
 use intervallum::width::Width;
 use std::alloc::{AllocError, Global};
 
-/// Evaluates an expression.
+/// Evaluates an expression: returns its node set, where variable `i` has the set `sets[i]`.
+///
+/// Every value of the expression is a member. Where [`Expr::read_once`] holds, both ends of each run
+/// are values; where also [`Expr::has_product`] does not, all members are. The set of a variable that
+/// does not occur may be any, also an empty one.
+///
+/// Costs what the operators do: a sum, difference or product of operands with `n` and `m` runs takes
+/// `O(n m log (n m))`, in memory for twice `n * m` runs. The set of a variable is borrowed, and copied
+/// only where the expression is that variable; the set of an operand is dropped once the set of its
+/// node is made. Uses stack in proportion to the depth of the expression.
+///
+/// # Errors
+///
+/// `sets` is unchanged after an error.
+///
+/// - [`EvalFault::Missing`] if a variable has no set: the leftmost such. Looked for before anything
+///   else, without memory.
+/// - [`EvalFault::Range`] if the set of some node has a member outside the range of the type: of a
+///   constant too, of a node whose value returns to the range further up, and of a node beside an
+///   empty set. `Interval::whole().contains`, and `fits_add`, `fits_sub` and `fits_mul` of the
+///   operands' sets, are the tests.
+/// - [`EvalFault::Memory`] if an allocation fails.
+///
+/// Nodes are evaluated from the left, operands first; of `Range` and `Memory` the one is returned that
+/// is met first.
+///
+/// ```
+/// let sum = Expr::Add(Box::new(alloc, Expr::Var(0))?, Box::new(alloc, Expr::Var(1))?);
+/// let sets: [IntervalSet<i32>; 2] = [IntervalSet::new(alloc, 1, 2)?, IntervalSet::new(alloc, 10, 20)?];
+/// assert!(rt; eval(alloc, &sum, &sets)? == IntervalSet::new(alloc, 11, 22)?);
+/// assert!(rt; eval(alloc, &sum, &sets[..1]).is_err_and(|f| f == EvalFault::Missing(1)));
+/// ```
 pub fn eval<B: Width>(
     alloc: Global,
     expr: &Expr<B>,
     sets: &[IntervalSet<B>],
 ) -> Result<IntervalSet<B>, EvalFault>
-    // The leftmost variable without a set is told, before anything else is looked at.
+    // A variable without a set is told before anything else, the leftmost one.
     ensures missing { (i : ℕ) → (result ≡ Err (EvalFault.Missing i)) ↔ (first_missing (length sets.now) expr.now ≡ Some i) }
     ensures range { result ≡ Err EvalFault.Range → SomeNodeOutside B.whole B.value expr.now (set_at sets.now) }
     // The answer is the set of the node, and the set of no node leaves the range.

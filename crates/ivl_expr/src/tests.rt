@@ -1,6 +1,7 @@
 //! Expressions by example, with values that were worked out by hand.
 
 mod answers;
+mod docs;
 mod faults;
 mod shapes;
 

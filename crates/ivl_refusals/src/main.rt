@@ -6,6 +6,7 @@
 #![tactic(auto)]
 
 mod calls;
+mod expr;
 
 use calls::{FIRST, SECOND, call};
 use intervallum::prelude::{Bounded, Interval, IntervalSet, IsEmpty, ToIntervalSet};
