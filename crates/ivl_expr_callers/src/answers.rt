@@ -25,12 +25,16 @@ pub fn answer_of_a_variable<B: Width>(
 
 /// A constant has itself alone. It has a set where it lies in the range, and `Range` is told nowhere
 /// else.
-pub fn answer_of_a_constant<B: Width>(alloc: Global, c: B) -> Result<IntervalSet<B>, EvalFault>
+pub fn answer_of_a_constant<B: Width>(
+    alloc: Global,
+    c: B,
+    sets: &[IntervalSet<B>],
+) -> Result<IntervalSet<B>, EvalFault>
     ensures in_range { IfOk result (λ _. IsBetween B.whole (B.value c)) }
     ensures outside { result ≡ Err EvalFault.Range → ¬ (IsBetween B.whole (B.value c)) }
     ensures members { IfOk result (λ L. IsRunsOf L (Only (B.value c))) }
 {
-    eval(alloc, &Expr::Const(c), &[])
+    eval(alloc, &Expr::Const(c), sets)
 }
 
 /// A sum of two variables has the sums of their members.
@@ -71,11 +75,12 @@ pub fn leftmost_of_two_missing<B: Width>(
     alloc: Global,
     i: usize,
     j: usize,
+    sets: &[IntervalSet<B>],
 ) -> Result<IntervalSet<B>, EvalFault>
-    ensures { (result ≡ Err (EvalFault.Missing i)) ⊎ (result ≡ Err EvalFault.Memory) }
+    ensures { length sets.now ≤ i → (result ≡ Err (EvalFault.Missing i)) ⊎ (result ≡ Err EvalFault.Memory) }
 {
-    let sum = Expr::<B>::Add(operand(alloc, Expr::Var(i))?, operand(alloc, Expr::Var(j))?);
-    eval(alloc, &sum, &[])
+    let sum = Expr::Add(operand(alloc, Expr::Var(i))?, operand(alloc, Expr::Var(j))?);
+    eval(alloc, &sum, sets)
 }
 
 /// Each value of an expression is a member of the answer.
