@@ -1,6 +1,7 @@
 //! The operands, the same at each run: numbers of a linear congruential generator.
 
 use crate::json::JsonInputs;
+use crate::expressions::Expressions;
 use anyhow::{Context, Result, ensure};
 use intervallum::interval::Interval;
 use intervallum::interval_set::{IntervalSet, ToIntervalSet};
@@ -24,6 +25,7 @@ pub struct Inputs {
     pub left: IntervalSet<i64>,
     pub right: IntervalSet<i64>,
     pub json: JsonInputs,
+    pub expressions: Expressions,
 }
 
 impl Inputs {
@@ -46,6 +48,7 @@ impl Inputs {
             middle: lower.saturating_add(upper) / 2,
             left: set_of(alloc, &apart(alloc, n, 1, n)?)?,
             right: set_of(alloc, &apart(alloc, n, 2, 1)?)?,
+            expressions: Expressions::new(alloc, &a, &b)?,
             a,
             b,
         })

@@ -4,6 +4,7 @@
 //! arguments `time SECONDS GREATEST_N`, prints for each call a line `name n ns_per_operation runs size`.
 #![tactic(auto)]
 
+mod expressions;
 mod inputs;
 mod json;
 mod measures;

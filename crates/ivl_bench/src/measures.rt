@@ -39,6 +39,8 @@ pub enum Measure {
     JsonRead,
     JsonWrite,
     JsonText,
+    EvalSum,
+    EvalChain,
 }
 
 /// What a call answers.
@@ -71,6 +73,7 @@ impl Outcome {
 
 impl Measure {
     pub const ALL: [Measure; 24] = [
+    pub const ALL: [Measure; 23] = [
         Measure::BuildExtend,
         Measure::BuildPairs,
         Measure::ExtendOne,
@@ -95,6 +98,8 @@ impl Measure {
         Measure::JsonRead,
         Measure::JsonWrite,
         Measure::JsonText,
+        Measure::EvalSum,
+        Measure::EvalChain,
     ];
 
     pub fn name(self) -> &'static str {
@@ -123,16 +128,19 @@ impl Measure {
             Measure::JsonRead => "json_read",
             Measure::JsonWrite => "json_write",
             Measure::JsonText => "json_text",
+            Measure::EvalSum => "eval_sum",
+            Measure::EvalChain => "eval_chain",
         }
     }
 
-    /// Whether the call is measured for sets of `n` runs: the others only where they end soon, and
-    /// 300 runs for one call alone.
+    /// Whether the call is measured for sets of `n` runs: the others only where they end soon, 300
+    /// runs for one call alone, and once what does not depend on `n`.
     pub fn is_for(self, n: u32) -> bool {
         match self {
-            Measure::PlusDense | Measure::MinusDense | Measure::TimesDense => {
+            Measure::PlusDense | Measure::MinusDense | Measure::TimesDense | Measure::EvalSum => {
                 n <= 1000 && n != 300
             }
+            Measure::EvalChain => n == 10,
             Measure::PlusSparse => n <= 300,
             Measure::TimesSparse => n <= 100,
             _ => n != 300,
@@ -184,7 +192,16 @@ impl Measure {
             Measure::JsonRead => json::read(inputs)?,
             Measure::JsonWrite => json::write(inputs)?,
             Measure::JsonText => json::text(inputs)?,
+            Measure::EvalSum => fitting(inputs.expressions.eval_sum(inputs.alloc)?),
+            Measure::EvalChain => fitting(inputs.expressions.eval_chain(inputs.alloc)?),
         })
+    }
+}
+
+fn fitting(set: Option<IntervalSet<i64>>) -> Outcome {
+    match set {
+        Some(set) => Outcome::Set(set),
+        None => Outcome::DoesNotFit,
     }
 }
 

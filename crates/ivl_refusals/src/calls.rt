@@ -36,7 +36,7 @@ const APART: &[(i32, i32)] = &[
 
 const BETWEEN: &[(i32, i32)] = &[(-GREATEST, 0), (3, 4), (7, 8), (11, 12), (15, GREATEST)];
 
-const SUMS: &[(i32, i32)] = &[
+pub const SUMS: &[(i32, i32)] = &[
     (3, 19),
     (21, 23),
     (25, 27),
@@ -46,7 +46,7 @@ const SUMS: &[(i32, i32)] = &[
     (53, 55),
 ];
 
-const DIFFERENCES: &[(i32, i32)] = &[
+pub const DIFFERENCES: &[(i32, i32)] = &[
     (-40, -38),
     (-36, -34),
     (-32, -24),
@@ -85,7 +85,8 @@ pub fn call(alloc: Global, name: &[u8], a: &IntervalSet<i32>, b: &IntervalSet<i3
         b"extend" => Some((extended(alloc, a), &[(1, 6), (9, 10), (13, 14), (20, 20)])),
         _ => value_call(name, a)
             .or_else(|| arithmetic(name, a, b))
-            .or_else(|| making(alloc, name)),
+            .or_else(|| making(alloc, name))
+            .or_else(|| crate::expr::call(alloc, name, a, b)),
     }
 }
 

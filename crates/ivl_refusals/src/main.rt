@@ -7,6 +7,7 @@
 
 mod calls;
 mod json;
+mod expr;
 
 use calls::{FIRST, SECOND, call};
 use intervallum::prelude::{Bounded, Interval, IntervalSet, IsEmpty, ToIntervalSet};

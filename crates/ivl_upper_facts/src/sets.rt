@@ -8,7 +8,7 @@ use std::alloc::{AllocError, Global};
 use std::fmt::Display;
 use std::str::FromStr;
 
-/// The sets of a text, " | " between them; none where one can't be read. An empty text has no set.
+/// The sets of a text, " | " between them; none where one can't be read. The text `none` has no set.
 pub fn sets<B: Width + FromStr>(
     alloc: Global,
     text: &str,
@@ -17,7 +17,7 @@ where
     B::Err: Drop,
 {
     let mut sets = Vec::new(alloc);
-    if text.is_empty() {
+    if text == "none" {
         return Ok(Some(sets));
     }
     for part in text.split(" | ") {

@@ -1,3 +1,4 @@
 //! One module for each crate.
 
 mod json;
+mod expr;

@@ -1,0 +1,4 @@
+pub mod Variables
+pub mod Values
+pub mod Nodes
+pub mod NodeSets

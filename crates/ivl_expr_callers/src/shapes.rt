@@ -1,0 +1,59 @@
+//! Which variables and products stand in small expressions.
+ghost use Rattle.std.specs.Prelude.{◌≡◌, ◌≢◌, ◌↔◌, ◌⊎◌, IfOk, IsTrue};
+
+use crate::operand;
+use intervallum::width::Width;
+use ivl_expr::Expr;
+use std::alloc::{AllocError, Global};
+
+/// A variable occurs in the sum of two where it is one of them.
+pub fn occurs_in_a_sum<B: Width>(
+    alloc: Global,
+    i: usize,
+    j: usize,
+    k: usize,
+) -> Result<bool, AllocError>
+    ensures { IfOk result (λ r. IsTrue r ↔ ((i ≡ k) ⊎ (j ≡ k))) }
+{
+    let sum = Expr::<B>::Add(operand(alloc, Expr::Var(i))?, operand(alloc, Expr::Var(j))?);
+    Ok(sum.occurs(k))
+}
+
+/// No variable occurs in a constant.
+pub fn occurs_in_a_constant<B: Width>(c: B, k: usize) -> bool
+    ensures { ¬ (IsTrue result) }
+{
+    Expr::Const(c).occurs(k)
+}
+
+/// A difference of two variables reads each once where they are two.
+pub fn difference_is_read_once<B: Width>(
+    alloc: Global,
+    i: usize,
+    j: usize,
+) -> Result<bool, AllocError>
+    ensures { IfOk result (λ r. IsTrue r ↔ (i ≢ j)) }
+{
+    let difference = Expr::<B>::Sub(operand(alloc, Expr::Var(i))?, operand(alloc, Expr::Var(j))?);
+    Ok(difference.read_once())
+}
+
+/// A product below a sum is found.
+pub fn product_below_a_sum<B: Width>(alloc: Global, i: usize, j: usize) -> Result<bool, AllocError>
+    ensures { IfOk result IsTrue }
+{
+    let product = Expr::<B>::Mul(operand(alloc, Expr::Var(i))?, operand(alloc, Expr::Var(j))?);
+    let sum = Expr::Add(operand(alloc, Expr::Var(i))?, operand(alloc, product)?);
+    Ok(sum.has_product())
+}
+
+/// A sum of a variable and a constant has no product.
+pub fn sum_with_a_constant<B: Width>(alloc: Global, i: usize, c: B) -> Result<bool, AllocError>
+    ensures { IfOk result (λ r. ¬ (IsTrue r)) }
+{
+    let sum = Expr::Add(
+        operand(alloc, Expr::Var(i))?,
+        operand(alloc, Expr::Const(c))?,
+    );
+    Ok(sum.has_product())
+}

@@ -1,0 +1,71 @@
+//! Evaluation, which takes memory for each set that it makes.
+
+use crate::calls::{DIFFERENCES, FIRST, Row, SUMS};
+use intervallum::interval_set::IntervalSet;
+use ivl_expr::{EvalFault, Expr, eval};
+use std::alloc::{AllocError, Global};
+
+/// Twice the differences.
+const DOUBLED: &[(i32, i32)] = &[
+    (-80, -76),
+    (-72, -68),
+    (-64, -48),
+    (-44, -28),
+    (-24, -20),
+    (-16, -12),
+    (-8, 24),
+];
+
+/// The evaluation of this name; none where there is no such.
+pub fn call(alloc: Global, name: &[u8], a: &IntervalSet<i32>, b: &IntervalSet<i32>) -> Option<Row> {
+    let row: Row = match name {
+        b"eval_variable" => (evaluated(alloc, Ok(Expr::Var(0)), a, b), &FIRST),
+        b"eval_sum" => (evaluated(alloc, sum(alloc), a, b), SUMS),
+        b"eval_difference" => (evaluated(alloc, difference(alloc), a, b), DIFFERENCES),
+        b"eval_doubled" => (evaluated(alloc, doubled(alloc), a, b), DOUBLED),
+        _ => return None,
+    };
+    Some(row)
+}
+
+/// What `eval` answers over the two sets; no set where it changed one, or told a fault that is not
+/// want of memory.
+fn evaluated(
+    alloc: Global,
+    expr: Result<Expr<i32>, AllocError>,
+    a: &IntervalSet<i32>,
+    b: &IntervalSet<i32>,
+) -> Result<IntervalSet<i32>, AllocError> {
+    let expr = expr?;
+    let sets = [a.try_clone()?, b.try_clone()?];
+    let answer = eval(alloc, &expr, &sets);
+    if sets[0] != *a || sets[1] != *b {
+        return Ok(IntervalSet::empty(alloc));
+    }
+    match answer {
+        Ok(set) => Ok(set),
+        Err(EvalFault::Memory) => Err(AllocError),
+        Err(_) => Ok(IntervalSet::empty(alloc)),
+    }
+}
+
+fn sum(alloc: Global) -> Result<Expr<i32>, AllocError> {
+    Ok(Expr::Add(
+        Box::new(alloc, Expr::Var(0))?,
+        Box::new(alloc, Expr::Var(1))?,
+    ))
+}
+
+fn difference(alloc: Global) -> Result<Expr<i32>, AllocError> {
+    Ok(Expr::Sub(
+        Box::new(alloc, Expr::Var(0))?,
+        Box::new(alloc, Expr::Var(1))?,
+    ))
+}
+
+fn doubled(alloc: Global) -> Result<Expr<i32>, AllocError> {
+    Ok(Expr::Mul(
+        Box::new(alloc, difference(alloc)?)?,
+        Box::new(alloc, Expr::Const(2))?,
+    ))
+}
