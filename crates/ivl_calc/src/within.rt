@@ -70,7 +70,7 @@ pub fn sub_within<B: Width>(
 }
 
 /// The results over a member of each that are in the range.
-fn combine<B: Width>(
+pub(crate) fn combine<B: Width>(
     a: &IntervalSet<B>,
     b: &IntervalSet<B>,
     op: Combined,
@@ -108,7 +108,7 @@ fn push_row<B: Width>(
 }
 
 /// The results of two runs, as far as they are in the range.
-fn image<B: Width>(a: Interval<B>, b: Interval<B>, op: Combined) -> Interval<B>
+pub(crate) fn image<B: Width>(a: Interval<B>, b: Interval<B>, op: Combined) -> Interval<B>
     requires left { a.0 ≤ℤ a.1 }
     requires right { b.0 ≤ℤ b.1 }
     ensures { SameMembers (IsBetween result) (Clipped B.whole (IsBetween (sum_by op a b))) }
