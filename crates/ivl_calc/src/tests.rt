@@ -3,6 +3,7 @@
 mod commands;
 mod ends;
 mod refusals;
+mod store;
 
 use crate::Calc;
 use intervallum::width::Width;
