@@ -3,6 +3,7 @@
 mod commands;
 mod ends;
 mod refusals;
+mod windows;
 
 use crate::Calc;
 use intervallum::width::Width;
