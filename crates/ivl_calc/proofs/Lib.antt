@@ -1,6 +1,7 @@
 pub mod Clipping
 pub mod Determined
 pub mod Elements
+mod ExamplesWithin
 pub mod Reaching
 pub mod Registers
 pub mod Runs

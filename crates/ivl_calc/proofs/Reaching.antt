@@ -2,9 +2,10 @@
 use Rattle.std.proofs.Common.{◌≡◌, ◌⊎◌, ⊎_elim, inl, inr, ℕ, zero, suc, ◌+◌, ◌<◌, ℤ, ◌-ℤ◌, ◌≤ℤ◌, ◌<ℤ◌, List, [], ◌∷◌, length, map, take, drop, get_or, subst, arith}
 use Rattle.std.proofs.lemmas.Int.{ints, clamps}
 use Rattle.std.specs.Int.{int_max}
-use Rattle.ivl_laws.specs.Sets.{IsBetween, SameMembers, HasNone, Union}
-use Rattle.ivl_laws.specs.Runs.{Covers, IsMaximal, IsRunListIn}
+use Rattle.ivl_laws.specs.Sets.{IsBetween, Intersection, SameMembers, HasNone, Union}
+use Rattle.ivl_laws.specs.Runs.{Covers, IsMaximal, IsRunListIn, IsRunsOf}
 use Rattle.ivl_laws.proofs.Places.{IsMaximal-take, IsMaximal-drop, covers-take, covers-drop}
+use Rattle.ivl_laws.proofs.SetLaws.{IsRunsOf-same}
 use Rattle.intervallum.specs.Places.{EndBelow, StartAbove}
 use Rattle.intervallum.proofs.Searching.{above_from, below_to}
 use Rattle.ivl_calc.specs.Within.{Clipped, sum_by, reach_by}
@@ -104,3 +105,27 @@ pub starts_above_here : (v : ℤ) (L : List (ℤ × ℤ)) (m : ℕ) (p : ℤ × 
 starts_above_here v L m p o l is h =
     let P : ℤ × ℤ → Type 0 = λ q. v <ℤ q.0 in
     above_from v L m p l (subst P is h) o
+
+-- ---- the members of a set among results that were made in its hull alone
+
+module _ (X L : List (ℤ × ℤ)) (S : ℤ → Type 0) (low high : ℤ) (p : ℤ × ℤ) (hull : p ≡ (low, high))
+    (least : (z : ℤ) → Covers X z → low ≤ℤ z) (greatest : (z : ℤ) → Covers X z → z ≤ℤ high) (made : IsRunsOf L (Clipped p S)) where
+  -- what a set has of the results in its hull, it has of all results
+  pub kept_members : SameMembers (Intersection (Covers X) (Covers L)) (Intersection (Covers X) S)
+  kept_members z = (
+    (λ (x, c). (x, ((made.members z).0 c).0)),
+    (λ (x, s). (x, (made.members z).1 (s, rw hull (least z x, greatest z x)))),
+  )
+
+  -- the results in the hull of one run are those in the run
+  pub kept_of_one : Covers X low → Covers X high → length X ≡ 1 → IsRunsOf L (Intersection (Covers X) S)
+  kept_of_one l h n = IsRunsOf-same (Clipped p S) (Intersection (Covers X) S) L (same X n l h least greatest) made
+    where
+      same : (Y : List (ℤ × ℤ)) → length Y ≡ 1 → Covers Y low → Covers Y high → ((z : ℤ) → Covers Y z → low ≤ℤ z) → ((z : ℤ) → Covers Y z → z ≤ℤ high)
+          → SameMembers (Clipped p S) (Intersection (Covers Y) S)
+      same [] n l h f t z = absurd l
+      same (q ∷ []) n l h f t z = rw hull (
+        (λ (s, (a, b)). (inl (⊎_elim (λ (c, d). ⊎_elim (λ (c', d'). (omega (arith, ints), omega (arith, ints))) (λ e. absurd e) h) (λ e. absurd e) l), s)),
+        (λ (y, s). (s, (f z y, t z y))),
+      )
+      same (q ∷ q' ∷ Y) n l h f t z = absurd (omega (arith, n))

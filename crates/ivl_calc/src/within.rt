@@ -6,15 +6,17 @@ ghost use Rattle.ivl_laws.specs.Runs.{Covers, IsMaximal, IsRunListIn, IsRunsOf};
 ghost use Rattle.ivl_calc.specs.Within.{Clipped, SumsBy};
 
 mod images;
+mod kept;
 mod rows;
 
-use images::image;
+pub(crate) use images::image;
 use intervallum::interval::Interval;
 use intervallum::interval_set::IntervalSet;
 use intervallum::ops::{Bounded, Empty, Fits, IsEmpty, Range, Whole};
 use intervallum::steps::Walk;
 use intervallum::sweep::coalesce;
 use intervallum::width::Width;
+pub(crate) use kept::kept;
 use rows::push_row;
 use std::alloc::{AllocError, Global};
 
@@ -146,7 +148,7 @@ fn combine_all<B: Width>(
 
 /// The results over a member of each that are in the window, with room for a number of pairs of
 /// runs reserved first.
-fn combine<B: Width>(
+pub(crate) fn combine<B: Width>(
     a: &IntervalSet<B>,
     b: &IntervalSet<B>,
     op: Combined,

@@ -1,5 +1,7 @@
 //! Sums and differences in windows.
-use crate::within::{add_within, differences_in_window, sub_within, sums_in_window};
+use crate::within::{
+    Combined, add_within, differences_in_window, kept, sub_within, sums_in_window,
+};
 use intervallum::interval::Interval;
 use intervallum::interval_set::{IntervalSet, ToIntervalSet};
 use intervallum::ops::{Intersection, Range, Whole};
@@ -133,6 +135,27 @@ fn ends_of_the_range(rt: HostRuntime) -> Result<(), Fail> {
     Ok(())
 }
 
+// The members of a set among the sums of `several_runs`, and among the differences.
+#[test]
+fn members_that_are_kept(rt: HostRuntime) -> Result<(), Fail> {
+    let alloc = rt.alloc();
+    let a: IntervalSet<i16> = [(0, 0), (10, 12), (90, 95)].to_interval_set(alloc)?;
+    let b: IntervalSet<i16> = [(1, 2), (50, 60)].to_interval_set(alloc)?;
+    let x: IntervalSet<i16> = [(0, 3), (11, 20), (70, 71), (100, 200)].to_interval_set(alloc)?;
+    text_is(
+        &rt,
+        &kept(&x, &a, &b, Combined::Sum)?,
+        "{[1..2][11..14][70..71][140..155]}",
+    )?;
+    text_is(&rt, &kept(&x, &a, &b, Combined::Difference)?, "[11..11]")?;
+    let x = IntervalSet::new(alloc, 60, 93)?;
+    text_is(&rt, &kept(&x, &a, &b, Combined::Sum)?, "{[60..72][91..93]}")?;
+    text_is(&rt, &kept(&x, &a, &b, Combined::Difference)?, "[88..93]")?;
+    let x = IntervalSet::empty(alloc);
+    text_is(&rt, &kept(&x, &a, &b, Combined::Sum)?, "{}")?;
+    Ok(())
+}
+
 // What lies in a window is what `add_within` and `sub_within` answer, clipped.
 #[test]
 fn every_window(rt: HostRuntime) -> Result<(), Fail> {
@@ -144,9 +167,10 @@ fn every_window(rt: HostRuntime) -> Result<(), Fail> {
         for upper in -20i8..20 {
             if Interval::in_range(lower, upper) {
                 let window = Interval::new(lower, upper);
-                assert!(rt; sums_in_window(&a, &b, &window)? == sums.intersection(&window)?);
+                let all: IntervalSet<i8> = (lower, upper).to_interval_set(rt.alloc())?;
+                assert!(rt; sums_in_window(&a, &b, &window)? == sums.intersection(&all)?);
                 let made = differences_in_window(&a, &b, &window)?;
-                assert!(rt; made == differences.intersection(&window)?);
+                assert!(rt; made == differences.intersection(&all)?);
             }
         }
     }
