@@ -1,3 +1,4 @@
+mod ExamplesWithin
 pub mod Clipping
 pub mod Counting
 pub mod Determined
@@ -9,6 +10,7 @@ pub mod Orders
 pub mod Places
 pub mod Points
 pub mod Posting
+pub mod Reaching
 pub mod Registers
 pub mod Rounds
 pub mod Runs

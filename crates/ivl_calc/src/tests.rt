@@ -4,6 +4,7 @@ mod commands;
 mod ends;
 mod refusals;
 mod store;
+mod windows;
 
 use crate::Calc;
 use intervallum::width::Width;

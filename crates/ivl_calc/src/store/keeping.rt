@@ -1,13 +1,13 @@
 //! What narrowing leaves of a domain. A new set is made only where a member is lost.
 ghost use Rattle.std.specs.Prelude.{◌≡◌, ◌∷◌, [], IfOk, length};
-ghost use Rattle.ivl_laws.specs.Sets.{Differences, IsBetween, Sums};
+ghost use Rattle.ivl_laws.specs.Sets.{Differences, IsBetween, IsSubset, Sums};
 ghost use Rattle.ivl_laws.specs.Runs.{Covers, IsRunListIn};
 ghost use Rattle.ivl_calc.specs.Keeping.{AreLeftAt, IsLeftOf};
 ghost use Rattle.ivl_calc.specs.Narrowing.{AllPresent};
-ghost use Rattle.ivl_calc.specs.Within.{Clipped, SumsBy};
+ghost use Rattle.ivl_calc.specs.Within.{SumsBy};
 
 use super::Constraint;
-use crate::within::{Combined, combine, image};
+use crate::within::{Combined, image, kept};
 use intervallum::interval::Interval;
 use intervallum::interval_set::IntervalSet;
 use intervallum::ops::{Bounded, Intersection, IsEmpty};
@@ -73,11 +73,34 @@ fn keep<B: Width>(
     let left = a.iter().as_slice();
     let right = b.iter().as_slice();
     if runs.len() == 1 && left.len() == 1 && right.len() == 1 {
-        return keep_run(x, runs[0], image(left[0], right[0], op));
+        let run = runs[0];
+        return keep_run(x, run, image(left[0], right[0], op, run));
     }
-    let made = combine(a, b, op)?;
-    let kept = x.intersection(&made)?;
+    let kept = kept(x, a, b, op)?;
     Ok(if kept == *x { None } else { Some(kept) })
+}
+
+/// Puts one run in place of the run of a set, where it is another.
+fn keep_run<B: Width>(
+    x: &IntervalSet<B>,
+    run: Interval<B>,
+    kept: Interval<B>,
+) -> Result<Option<IntervalSet<B>>, AllocError>
+    requires one_run { x.now ≡ run ∷ [] }
+    requires within { IsSubset (IsBetween kept) (IsBetween run) }
+    ensures { IfOk result (IsLeftOf B.whole x.now (IsBetween kept)) }
+{
+    let _ = x.interval_count();
+    if kept == run {
+        return Ok(None);
+    }
+    let alloc = Walk::new(x).alloc();
+    let left = if kept.is_empty() {
+        IntervalSet::empty(alloc)
+    } else {
+        IntervalSet::new(alloc, kept.lower(), kept.upper())?
+    };
+    Ok(Some(left))
 }
 
 /// Keeps the members of `x` that are in another set.
@@ -90,27 +113,4 @@ pub(super) fn keep_within<B: Width>(
     let _ = x.interval_count();
     let kept = x.intersection(allowed)?;
     Ok(if kept == *x { None } else { Some(kept) })
-}
-
-/// Keeps the members of a set of one run that an interval holds.
-fn keep_run<B: Width>(
-    x: &IntervalSet<B>,
-    run: Interval<B>,
-    allowed: Interval<B>,
-) -> Result<Option<IntervalSet<B>>, AllocError>
-    requires { x.now ≡ run ∷ [] }
-    ensures { IfOk result (IsLeftOf B.whole x.now (IsBetween allowed)) }
-{
-    let _ = x.interval_count();
-    let kept = run.intersection(&allowed);
-    if kept == run {
-        return Ok(None);
-    }
-    let alloc = Walk::new(x).alloc();
-    let left = if kept.is_empty() {
-        IntervalSet::empty(alloc)
-    } else {
-        IntervalSet::new(alloc, kept.lower(), kept.upper())?
-    };
-    Ok(Some(left))
 }
