@@ -92,9 +92,9 @@ cut_after whole old i S left lt h j v =
             (λ u. subst (λ s. Covers s v) (sym here) (m.1 (subst (λ n. set_at old n v) e u.0, u.1 e))),
           ))
       | inr ne ↦ (let there = replaced-other old i j left (λ e. absurd (ne e)) in (
-            (λ k. (subst (λ s. Covers s v) there k, λ e. absurd (ne e))),
-            (λ u. subst (λ s. Covers s v) (sym there) u.0),
-          ))
+        (λ k. (subst (λ s. Covers s v) there k, λ e. absurd (ne e))),
+        (λ u. subst (λ s. Covers s v) (sym there) u.0),
+      ))
     ]
 
 -- nothing was lost

@@ -27,9 +27,9 @@ mod post;
 mod posting;
 
 pub use constraint::{Constraint, StoreFault};
-pub use post::Post;
 use intervallum::interval_set::IntervalSet;
 use intervallum::width::Width;
+pub use post::Post;
 use std::alloc::Global;
 use std::marker::Model;
 

@@ -1,1 +1,2 @@
 //! One module for each crate.
+mod store;

@@ -19,7 +19,14 @@ use std::alloc::AllocError;
 pub(super) fn narrowed_sets<B: Width>(
     domains: &[IntervalSet<B>],
     c: &Constraint,
-) -> Result<(Option<IntervalSet<B>>, Option<IntervalSet<B>>, Option<IntervalSet<B>>), AllocError>
+) -> Result<
+    (
+        Option<IntervalSet<B>>,
+        Option<IntervalSet<B>>,
+        Option<IntervalSet<B>>,
+    ),
+    AllocError,
+>
     requires { AllPresent (length domains.now) c.now }
     ensures { IfOk result (λ r. AreLeftAt B.whole c.now domains.now r.0 r.1 r.2) }
 {

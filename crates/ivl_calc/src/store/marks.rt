@@ -33,12 +33,7 @@ pub(super) fn no_marks(alloc: Global, count: usize) -> Result<Vec<bool>, AllocEr
 
 /// Moves the marks once constraint `i` was narrowed by. No constraint that names a variable which
 /// lost a member keeps its mark; `i` itself is settled unless it lost one and has a variable twice.
-pub(super) fn move_marks(
-    constraints: &[Constraint],
-    i: usize,
-    lost: Lost,
-    settled: &mut Vec<bool>,
-)
+pub(super) fn move_marks(constraints: &[Constraint], i: usize, lost: Lost, settled: &mut Vec<bool>)
     requires in_list { i < length constraints.now }
     requires one_each { length settled.old.items ≡ length constraints.now }
     ensures { (old new : List (List (ℤ × ℤ))) → HoldsAt (λ c. (j : ℕ) (v : ℤ) → set_at new j v ↔ Narrowed c (set_at old) j v) constraints.now i

@@ -21,13 +21,7 @@ impl<B: Width> Post<B> {
         ensures { result ≡ unknown_in count self.now }
     {
         match self {
-            Post::Restrict(i, _) => {
-                if *i >= count {
-                    Some(*i)
-                } else {
-                    None
-                }
-            }
+            Post::Restrict(i, _) => { if *i >= count { Some(*i) } else { None } }
             Post::Require(c) => c.first_unknown(count),
         }
     }

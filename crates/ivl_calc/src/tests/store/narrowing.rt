@@ -29,9 +29,20 @@ fn ends_of_unsigned_bounds(rt: HostRuntime) -> Result<(), Fail> {
 #[test]
 fn ends_of_wide_bounds(rt: HostRuntime) -> Result<(), Fail> {
     let least = i64::MIN + 1;
-    let mut store = store_of(rt.alloc(), &[&[(least, -1), (5, 5)], &[(least, -1)], &[(least, least)]])?;
+    let mut store = store_of(
+        rt.alloc(),
+        &[&[(least, -1), (5, 5)], &[(least, -1)], &[(least, least)]],
+    )?;
     assert_eq!(rt; store.narrow(&sum(0, 1, 2)), Ok(true));
-    check_domains(&rt, &store, &["[-9223372036854775806..-1]", "[-9223372036854775806..-1]", "[-9223372036854775807..-9223372036854775807]"])
+    check_domains(
+        &rt,
+        &store,
+        &[
+            "[-9223372036854775806..-1]",
+            "[-9223372036854775806..-1]",
+            "[-9223372036854775807..-9223372036854775807]",
+        ],
+    )
 }
 
 #[test]

@@ -63,33 +63,50 @@ fn constraints_of_earlier_posts_narrow_too(rt: HostRuntime) -> Result<(), Fail> 
     ]?;
     let replies = post_if_distinct(&mut store, &posts)?;
     assert!(rt; replies == Some(vec![in alloc; false, false, false]?));
-    check_domains(&rt, &store, &["[107..127]", "[7..7]", "[114..134]", "[100..120]"])
+    check_domains(
+        &rt,
+        &store,
+        &["[107..127]", "[7..7]", "[114..134]", "[100..120]"],
+    )
 }
 
 #[test]
 fn wide_bounds(rt: HostRuntime) -> Result<(), Fail> {
     let alloc = rt.alloc();
-    let mut store = store_of(alloc, &[&[(0, i64::MAX)], &[(0, i64::MAX)], &[(0, i64::MAX)]])?;
+    let mut store = store_of(
+        alloc,
+        &[&[(0, i64::MAX)], &[(0, i64::MAX)], &[(0, i64::MAX)]],
+    )?;
     let posts = vec![in alloc;
         Post::Restrict(0, run(alloc, i64::MAX - 1, i64::MAX)?),
         Post::Require(sum(0, 1, 2)),
     ]?;
     let replies = post_if_distinct(&mut store, &posts)?;
     assert!(rt; replies == Some(vec![in alloc; false, false]?));
-    check_domains(&rt, &store, &[
-        "[9223372036854775806..9223372036854775807]",
-        "[0..1]",
-        "[9223372036854775806..9223372036854775807]",
-    ])
+    check_domains(
+        &rt,
+        &store,
+        &[
+            "[9223372036854775806..9223372036854775807]",
+            "[0..1]",
+            "[9223372036854775806..9223372036854775807]",
+        ],
+    )
 }
 
 #[test]
 fn all_indexes_are_tested_first(rt: HostRuntime) -> Result<(), Fail> {
     let alloc = rt.alloc();
     let mut store = three_digits(alloc)?;
-    let cut = vec![in alloc; Post::Restrict(0, run(alloc, 2, 3)?), Post::Restrict(3, run(alloc, 2, 3)?)]?;
+    let cut = vec![in alloc;
+        Post::Restrict(0, run(alloc, 2, 3)?),
+        Post::Restrict(3, run(alloc, 2, 3)?),
+    ]?;
     assert!(rt; post_if_distinct(&mut store, &cut) == Err(StoreFault::Variable(3)));
-    let sums = vec![in alloc; Post::Restrict(0, run(alloc, 2, 3)?), Post::Require(sum(0, 5, 4))]?;
+    let sums = vec![in alloc;
+        Post::Restrict(0, run(alloc, 2, 3)?),
+        Post::Require(sum(0, 5, 4)),
+    ]?;
     assert!(rt; post_if_distinct(&mut store, &sums) == Err(StoreFault::Variable(5)));
     check_domains(&rt, &store, &["[0..9]", "[0..9]", "[0..9]"])
 }
@@ -98,7 +115,10 @@ fn all_indexes_are_tested_first(rt: HostRuntime) -> Result<(), Fail> {
 fn a_variable_in_two_places_is_refused_by_the_test(rt: HostRuntime) -> Result<(), Fail> {
     let alloc = rt.alloc();
     let mut store = three_digits(alloc)?;
-    let posts = vec![in alloc; Post::Restrict(0, run(alloc, 2, 3)?), Post::Require(sum(0, 1, 0))]?;
+    let posts = vec![in alloc;
+        Post::Restrict(0, run(alloc, 2, 3)?),
+        Post::Require(sum(0, 1, 0)),
+    ]?;
     assert!(rt; !all_distinct(&posts));
     assert!(rt; post_if_distinct(&mut store, &posts) == Ok(None));
     check_domains(&rt, &store, &["[0..9]", "[0..9]", "[0..9]"])

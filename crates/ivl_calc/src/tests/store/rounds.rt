@@ -65,8 +65,14 @@ fn all_indexes_are_tested_first(rt: HostRuntime) -> Result<(), Fail> {
     let alloc = rt.alloc();
     let mut store = store_of(alloc, &[&[(0, 10)], &[(3, 4)], &[(5, 6)]])?;
     let constraints = [sum(0, 1, 2), sum(0, 7, 9), sum(8, 0, 0)];
-    assert_eq!(rt; store.propagate(&constraints, 5), Err(StoreFault::Variable(7)));
-    assert_eq!(rt; store.propagate(&constraints, 0), Err(StoreFault::Variable(7)));
+    assert_eq!(rt;
+        store.propagate(&constraints, 5),
+        Err(StoreFault::Variable(7))
+    );
+    assert_eq!(rt;
+        store.propagate(&constraints, 0),
+        Err(StoreFault::Variable(7))
+    );
     check_domains(&rt, &store, &["[0..10]", "[3..4]", "[5..6]"])
 }
 
@@ -76,6 +82,9 @@ fn no_constraint_and_no_variable(rt: HostRuntime) -> Result<(), Fail> {
     let mut store = store_of::<u8>(rt.alloc(), &[])?;
     assert_eq!(rt; store.propagate(&none, 0), Ok(false));
     assert_eq!(rt; store.propagate(&none, 1), Ok(true));
-    assert_eq!(rt; store.propagate(&[sum(0, 0, 0)], 1), Err(StoreFault::Variable(0)));
+    assert_eq!(rt;
+        store.propagate(&[sum(0, 0, 0)], 1),
+        Err(StoreFault::Variable(0))
+    );
     Ok(())
 }
