@@ -1,3 +1,4 @@
+mod ExamplesStore
 mod ExamplesWithin
 pub mod Clipping
 pub mod Counting

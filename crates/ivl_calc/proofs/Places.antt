@@ -14,7 +14,7 @@ use Rattle.ivl_laws.proofs.Lengths.{decide_covers}
 use Rattle.ivl_laws.proofs.Widths.{total_width, IsCountOf-total_width}
 use Rattle.ivl_calc.specs.declared.store.constraint.Constraint.{Constraint}
 use Rattle.ivl_calc.specs.declared.store.marks.Lost.{Lost}
-use Rattle.ivl_calc.specs.Solutions.{AreDistinct, Names, HasSolutionAt, Supports, LiesWithin, LostMember}
+use Rattle.ivl_calc.specs.Solutions.{AreDistinct, Names, HasSolutionAt, IsSolution, Supports, LiesWithin, LostMember}
 use Rattle.ivl_calc.specs.Narrowing.{Narrowed, AllPresent, first_unknown, first_unknown_of}
 use Rattle.ivl_calc.specs.Keeping.{IsLeftOf, AreLeftAt, replaced}
 use Rattle.ivl_calc.specs.Settled.{any_lost, AreLost}
@@ -288,3 +288,10 @@ pub solutions_left : (c : Constraint) (old new : List (List (ℤ × ℤ))) → (
     → AreDistinct c → (i : ℕ) → Names c i → (v : ℤ) → set_at new i v ↔ HasSolutionAt c (set_at old) i v
 solutions_left c old new n d i names v =
     ((λ h. narrowed_has_solution c (set_at old) d i names v ((n i v).0 h)), (λ h. (n i v).1 (has_solution_narrowed c (set_at old) i names v h)))
+
+-- a solution over the old sets is one over what is left
+pub solution_kept : (c : Constraint) (old new : List (List (ℤ × ℤ))) → ((i : ℕ) (v : ℤ) → set_at new i v ↔ Narrowed c (set_at old) i v)
+    → (point : ℕ → ℤ) → IsSolution c (set_at old) point → IsSolution c (set_at new) point
+solution_kept c old new n point s =
+    let left = λ (j : ℕ) (w : Names c j). (n j (point j)).1 (has_solution_narrowed c (set_at old) j w (point j) (record { point = point; solution = s; at = refl })) in
+    record { in_x = left c.x (inl refl); in_y = left c.y (inr (inl refl)); in_z = left c.z (inr (inr refl)); sum = s.sum }

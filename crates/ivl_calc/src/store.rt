@@ -3,7 +3,8 @@
 //! A [`Store`] has a set of numbers for each variable, its domain. Variables are named by their
 //! indexes from 0. Narrowing by a constraint removes from the domains of its variables members that
 //! stand in no solution, and never one that does. [`Store::narrow`] narrows by one constraint once,
-//! [`Store::propagate`] by a list in rounds.
+//! [`Store::propagate`] by a list in rounds, and [`Store::post_all`] takes cuts and constraints one by
+//! one and tells after each whether a domain is empty.
 //!
 //! ```
 //! // x + y = z
@@ -52,8 +53,13 @@ impl<B: Width> Model for Store<B> {
 }
 
 impl<B: Width> Store<B> {
-    /// Creates a store with these domains, in this order. `alloc` is used for the bookkeeping of
-    /// later calls. Does not allocate.
+    /// Creates a store with these domains, in this order. `alloc` is for the bookkeeping of later
+    /// calls. `O(1)` per domain, does not allocate.
+    ///
+    /// ```
+    /// let store: Store<i32> = Store::new(alloc, vec![in alloc; IntervalSet::new(alloc, 0, 9)?]?);
+    /// assert_eq!(rt; store.domains().len(), 1);
+    /// ```
     pub fn new(alloc: Global, domains: Vec<IntervalSet<B>>) -> Store<B>
         ensures { result ≡ domains.items }
     {

@@ -1,7 +1,7 @@
 //! The calls of a store that take memory. Each ends in its answer, or is out of memory with the
 //! domains as the call says they are then.
 
-use intervallum::prelude::{IntervalSet, ToIntervalSet};
+use intervallum::prelude::{Interval, IntervalSet, ToIntervalSet};
 use ivl_calc::store::callers::post_if_distinct;
 use ivl_calc::store::{Constraint, Post, Store, StoreFault};
 use std::alloc::{AllocError, Global};
@@ -104,7 +104,18 @@ fn has_domains(store: &Store<i32>, family: &Family) -> bool {
 fn store_of(alloc: Global, family: &Family) -> Result<Store<i32>, AllocError> {
     let mut domains: Vec<IntervalSet<i32>> = Vec::with_capacity(alloc, family.len())?;
     for runs in family {
-        domains.push(runs.to_interval_set(alloc)?)?;
+        domains.push(set_of(alloc, runs)?)?;
     }
     Ok(Store::new(alloc, domains))
+}
+
+/// The set of these pairs; none where one is out of range.
+fn set_of(alloc: Global, pairs: &[(i32, i32)]) -> Result<IntervalSet<i32>, AllocError> {
+    if !pairs
+        .iter()
+        .all(|&(lower, upper)| Interval::in_range(lower, upper))
+    {
+        return Ok(IntervalSet::empty(alloc));
+    }
+    pairs.to_interval_set(alloc)
 }

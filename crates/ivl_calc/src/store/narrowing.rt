@@ -7,7 +7,7 @@ ghost use Rattle.ivl_calc.specs.Measure.{total};
 ghost use Rattle.ivl_calc.specs.Narrowing.{AllPresent, IsFixed, Keeps, Narrowed, first_unknown, first_unknown_of as first_unknown_in};
 ghost use Rattle.ivl_calc.specs.Rounds.{After, AfterSome, EachLost, IsNarrowedBy, IsPartlyNarrowedBy};
 ghost use Rattle.ivl_calc.specs.Settled.{AreLost, AreSettled, any_lost};
-ghost use Rattle.ivl_calc.specs.Solutions.{AreDistinct, HasSolutionAt, IsCommonSolution, IsGreatestFamily, LiesWithin, LostMember, Names, Supports};
+ghost use Rattle.ivl_calc.specs.Solutions.{AreDistinct, HasSolutionAt, IsCommonSolution, IsGreatestFamily, IsSolution, LiesWithin, LostMember, Names, Supports};
 
 use super::constraint::first_unknown_of;
 use super::keeping::narrowed_sets;
@@ -22,12 +22,20 @@ impl<B: Width> Store<B> {
     /// `y` those that are a member of `z` less one of `x`, and `z` those that are a sum of both, all
     /// over the domains as they were. Returns true exactly when some domain lost a member.
     ///
-    /// A variable that stands in two places takes the rule of its last.
+    /// A variable that stands in two places takes the rule of its last. Each new domain costs a sum or
+    /// difference of two domains, as far as it lies in the hull of the old one, and `O(1)` if all
+    /// three are single runs; a domain that keeps its members is not written.
     ///
     /// # Errors
     ///
     /// [`StoreFault::Variable`] for an unknown index, and [`StoreFault::Memory`] if allocation
     /// fails. The store is then unchanged.
+    ///
+    /// ```
+    /// // x + y = z, for x from 0 to 10, y from 3 to 4 and z from 5 to 6
+    /// assert!(rt; store.narrow(&Constraint { x: 0, y: 1, z: 2 })?);
+    /// assert!(rt; store.domains()[0] == IntervalSet::new(alloc, 1, 3)?);
+    /// ```
     pub fn narrow(&mut self, constraint: &Constraint) -> Result<bool, StoreFault>
         ensures unknown { (i : ℕ) → (result ≡ Err (StoreFault.Variable i)) ↔ (first_unknown (length self.old) constraint.now ≡ Some i) }
         ensures refused { OnErr result (self.new ≡ self.old) }
@@ -36,9 +44,10 @@ impl<B: Width> Store<B> {
         ensures narrowed { OnOk result ((i : ℕ) (v : ℤ) → set_at self.new i v ↔ Narrowed constraint.now (set_at self.old) i v) }
         ensures lost { IfOk result (λ b. IsTrue b ↔ LostMember (set_at self.old) (set_at self.new)) }
 
-        // No supported family loses a member; with three variables, just the members of solutions are left.
+        // No supported family loses a member, so no solution is lost; with three variables, just the members of solutions are left.
         ensures families { OnOk result ((family : List (List (ℤ × ℤ))) → Supports constraint.now (set_at family) → LiesWithin (set_at family) (set_at self.old) → LiesWithin (set_at family) (set_at self.new)) }
-        ensures solutions { OnOk result (AreDistinct constraint.now → (i : ℕ) → Names constraint.now i → (v : ℤ) → set_at self.new i v ↔ HasSolutionAt constraint.now (set_at self.old) i v) }
+        ensures solutions { OnOk result ((point : ℕ → ℤ) → IsSolution constraint.now (set_at self.old) point → IsSolution constraint.now (set_at self.new) point) }
+        ensures exact { OnOk result (AreDistinct constraint.now → (i : ℕ) → Names constraint.now i → (v : ℤ) → set_at self.new i v ↔ HasSolutionAt constraint.now (set_at self.old) i v) }
     {
         if let Some(i) = constraint.first_unknown(self.domains.len()) {
             return Err(StoreFault::Variable(i));
@@ -138,11 +147,21 @@ impl<B: Width> Store<B> {
     /// constraint narrows any further; if each has three variables, the domains are the greatest
     /// ones in which every member is supported, whatever the order of the list.
     ///
+    /// Costs what its narrowings cost. A constraint whose domains did not change since it narrowed
+    /// them is passed over in `O(1)`.
+    ///
     /// # Errors
     ///
     /// [`StoreFault::Variable`] for the first unknown index in list order, before anything changes.
     /// [`StoreFault::Memory`] if allocation fails: the store is then as after the last narrowing
     /// that ended.
+    ///
+    /// ```
+    /// // a + one = b and b + one = a, for a and b from 0 to 9
+    /// let constraints = [Constraint { x: 0, y: 2, z: 1 }, Constraint { x: 1, y: 2, z: 0 }];
+    /// assert!(rt; !store.propagate(&constraints, 3)?);
+    /// assert!(rt; store.propagate(&constraints, 1)? && store.domains()[0].is_empty());
+    /// ```
     pub fn propagate(
         &mut self,
         constraints: &[Constraint],

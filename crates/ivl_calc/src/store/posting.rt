@@ -33,6 +33,15 @@ impl<B: Width> Store<B> {
     /// [`StoreFault::Variable`] for the first unknown index in list order, that of a cut included,
     /// before anything changes. [`StoreFault::Memory`] if allocation fails: the store is then as
     /// after the last cut or narrowing that ended. The replies are reserved before the first cut.
+    ///
+    /// ```
+    /// // x + y = z, for x, y and z from 0 to 9; then z is 0 or 1
+    /// let sum = Constraint { x: 0, y: 1, z: 2 };
+    /// let cut = Post::Restrict(2, IntervalSet::new(alloc, 0, 1)?);
+    /// let replies = store.post_all(&vec![in alloc; Post::Require(sum), cut]?)?;
+    /// assert!(rt; replies == vec![in alloc; false, false]?);
+    /// assert!(rt; store.domains()[0] == IntervalSet::new(alloc, 0, 1)?);
+    /// ```
     pub fn post_all(&mut self, posts: &[Post<B>]) -> Result<Vec<bool>, StoreFault>
         requires { All AreDistinct (constraints_of posts.now) }
         ensures unknown { (i : ℕ) → (result ≡ Err (StoreFault.Variable i)) ↔ (first_unknown_in_posts (length self.old) posts.now ≡ Some i) }

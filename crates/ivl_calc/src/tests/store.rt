@@ -5,6 +5,7 @@ mod posting;
 mod rounds;
 
 use crate::store::{Constraint, Store};
+use intervallum::interval::Interval;
 use intervallum::interval_set::{IntervalSet, ToIntervalSet};
 use intervallum::width::Width;
 use std::alloc::{AllocError, Global};
@@ -12,11 +13,22 @@ use std::fmt::Display;
 use std::process::Abort;
 use std::test::Fail;
 
+/// The set of these pairs; none where one is out of range.
+fn set_of<B: Width>(alloc: Global, pairs: &[(B, B)]) -> Result<IntervalSet<B>, AllocError> {
+    if !pairs
+        .iter()
+        .all(|&(lower, upper)| Interval::in_range(lower, upper))
+    {
+        return Ok(IntervalSet::empty(alloc));
+    }
+    pairs.to_interval_set(alloc)
+}
+
 /// A store whose domains have these runs.
 fn store_of<B: Width>(alloc: Global, domains: &[&[(B, B)]]) -> Result<Store<B>, AllocError> {
     let mut sets = Vec::new(alloc);
     for pairs in domains {
-        sets.push(pairs.to_interval_set(alloc)?)?;
+        sets.push(set_of(alloc, pairs)?)?;
     }
     Ok(Store::new(alloc, sets))
 }
@@ -41,5 +53,5 @@ fn check_domains<B: Width + Display>(
 
 /// The set of one run.
 fn run<B: Width>(alloc: Global, lower: B, upper: B) -> Result<IntervalSet<B>, AllocError> {
-    (lower, upper).to_interval_set(alloc)
+    set_of(alloc, &[(lower, upper)])
 }
