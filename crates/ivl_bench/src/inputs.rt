@@ -128,7 +128,7 @@ fn probes(alloc: Global, lower: i64, upper: i64) -> Result<Vec<i64>> {
     Ok(probes)
 }
 
-fn set_of(alloc: Global, pairs: &[(i64, i64)]) -> Result<IntervalSet<i64>> {
+pub fn set_of(alloc: Global, pairs: &[(i64, i64)]) -> Result<IntervalSet<i64>> {
     of_pairs(alloc, pairs)?.context("a bound is out of range")
 }
 

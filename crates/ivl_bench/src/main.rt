@@ -2,12 +2,14 @@
 //!
 //! Without arguments, prints what each call answers at two sizes of its inputs, and no time. With the
 //! arguments `time SECONDS GREATEST_N`, prints for each call a line `name n ns_per_operation runs size`.
+//! With the arguments `store FILE`, prints how long an instance of the domain store takes.
 #![tactic(auto)]
 
 mod expressions;
 mod inputs;
 mod json;
 mod measures;
+mod stores;
 mod timing;
 
 use anyhow::{Context, Result, bail};
@@ -34,10 +36,15 @@ fn main(rt: HostRuntime) -> Result<()> {
     let mut arguments = env::args(&rt)?.skip(1);
     let Some(word) = arguments.next() else {
         print_answers(&rt, 10)?;
-        return print_answers(&rt, 100);
+        print_answers(&rt, 100)?;
+        return stores::print_answers(&rt);
     };
+    if word.as_str() == "store" {
+        let path = arguments.next().context("give the file of an instance")?;
+        return stores::print_times(&rt, path.as_str());
+    }
     if word.as_str() != "time" {
-        bail!("the arguments are: time SECONDS GREATEST_N");
+        bail!("the arguments are: time SECONDS GREATEST_N, or store FILE");
     }
     let seconds = arguments.next().context("give the seconds")?;
     let greatest = arguments.next().context("give the greatest n")?;

@@ -6,13 +6,14 @@ use Rattle.std.proofs.Math.Bool.{true≢false}
 use Rattle.std.proofs.lemmas.Int.{ints, clamps, by_lt_z}
 use Rattle.std.specs.Int.{int_min, int_max}
 use Rattle.ivl_laws.specs.Sets.{IsBetween, IsSubset, SameMembers, HasNone, HasSome, Without, Union}
-use Rattle.ivl_laws.specs.Runs.{Covers, IsMaximal}
+use Rattle.ivl_laws.specs.Runs.{Covers, IsMaximal, IsRunsOf}
 use Rattle.ivl_laws.specs.Arithmetic.{pairwise, interval_sum, interval_difference}
 use Rattle.ivl_laws.specs.Bounds.{IsBoundRange}
 use Rattle.ivl_laws.proofs.Merging.{covers-append, covers-append_left, covers-append_right}
 use Rattle.ivl_laws.proofs.Results.{pairwise-next, map-next}
 use Rattle.ivl_laws.proofs.Products.{sums_of_runs, differences_of_runs}
 use Rattle.ivl_laws.proofs.Intervals.{none_is_crossed, in_range_is_within}
+use Rattle.ivl_laws.proofs.Ranges.{IsRunsOf-one}
 use Rattle.ivl_laws.proofs.Runs.{lower_end, upper_end}
 use Rattle.ivl_calc.specs.Within.{Clipped, SumsBy, sum_by}
 use Rattle.ivl_calc.specs.declared.within.Combined.{Combined}
@@ -76,14 +77,29 @@ sums_of_both : (op : Combined) (L M : List (ℤ × ℤ)) → IsMaximal L → IsM
 sums_of_both Sum L M l m z = let e = sums_of_runs L M z l m in (e.1, e.0)
 sums_of_both Difference L M l m z = let e = differences_of_runs L M z l m in (e.1, e.0)
 
-pub clipped_sums : (w : ℤ × ℤ) (op : Combined) (L L' M M' entries : List (ℤ × ℤ)) (i : ℕ) → L ≡ L' → M ≡ M' → IsMaximal L' → IsMaximal M' → length L ≤ i
+pub clipped_sums : (w : ℤ × ℤ) (op : Combined) (L M entries : List (ℤ × ℤ)) (i : ℕ) → IsMaximal L → IsMaximal M → length L ≤ i
     → SameMembers (Covers entries) (Clipped w (Covers (pairwise (sum_by op) (take i L) M)))
-    → SameMembers (Covers entries) (Clipped w (SumsBy op (Covers L') (Covers M')))
-clipped_sums w op L L' M M' entries i e f l m h k =
-    let all = subst (λ (N : List (ℤ × ℤ)). SameMembers (Covers entries) (Clipped w (Covers (pairwise (sum_by op) N M)))) (take_all i L h ∙ e) k in
-    let seen = subst (λ (N : List (ℤ × ℤ)). SameMembers (Covers entries) (Clipped w (Covers (pairwise (sum_by op) L' N)))) f all in
-    let both = sums_of_both op L' M' l m in
-    λ z. ((λ c. let a = (seen z).0 c in ((both z).0 a.0, a.1)), (λ s. (seen z).1 ((both z).1 s.0, s.1)))
+    → SameMembers (Covers entries) (Clipped w (SumsBy op (Covers L) (Covers M)))
+clipped_sums w op L M entries i l m h k =
+    let all = subst (λ (N : List (ℤ × ℤ)). SameMembers (Covers entries) (Clipped w (Covers (pairwise (sum_by op) N M)))) (take_all i L h) k in
+    let both = sums_of_both op L M l m in
+    λ z. ((λ c. let a = (all z).0 c in ((both z).0 a.0, a.1)), (λ s. (all z).1 ((both z).1 s.0, s.1)))
+
+-- the results of two sets of one run each
+pub clipped_pair : (w : ℤ × ℤ) (op : Combined) (L M : List (ℤ × ℤ)) (p q r : ℤ × ℤ) → L ≡ p ∷ [] → M ≡ q ∷ [] → p.0 ≤ℤ p.1 → q.0 ≤ℤ q.1
+    → SameMembers (IsBetween r) (Clipped w (IsBetween (sum_by op p q))) → SameMembers (IsBetween r) (Clipped w (SumsBy op (Covers L) (Covers M)))
+clipped_pair w op L M p q r e f filled filled' h =
+    let both = sums_of_both op (p ∷ []) (q ∷ []) (filled, tt, tt) (filled', tt, tt) in
+    rw (e, f) (λ z. (
+      (λ b. let (s, c) = (h z).0 b in ((both z).0 (inl s), c)),
+      (λ (s, c). (h z).1 (⊎_elim (λ b. b) (λ n. absurd n) ((both z).1 s), c)),
+    ))
+
+-- a list with one pair
+pub one_item : (L : List (ℤ × ℤ)) (p : ℤ × ℤ) → length L ≡ 1 → p ≡ get_or L 0 p → L ≡ p ∷ []
+one_item [] p l e = absurd (omega (arith, l))
+one_item (q ∷ []) p l e = ap (λ (x : ℤ × ℤ). x ∷ []) (sym e)
+one_item (q ∷ q' ∷ L) p l e = absurd (omega (arith, l))
 
 -- ---- whether something is cut
 
@@ -153,6 +169,10 @@ module _ (w p : ℤ × ℤ) (low high : ℤ) (l : low ≡ int_max p.0 w.0) (h : 
     (λ ((a, b), (c, d)). absurd (out (omega (arith, ints, clamps), omega (arith, ints, clamps)))),
   )
 
+-- a list of one run, by its ends
+pub one_run : (p : ℤ × ℤ) (low high : ℤ) (L : List (ℤ × ℤ)) → p.0 ≤ℤ p.1 → low ≡ p.0 → high ≡ p.1 → L ≡ (low, high) ∷ [] → IsRunsOf L (IsBetween p)
+one_run p low high L filled e f is = rw (is, e, f) (IsRunsOf-one p filled)
+
 pub sum_is : (w a b r : ℤ × ℤ) (low high : ℤ) → low ≡ a.0 +ℤ b.0 → high ≡ a.1 +ℤ b.1 → SameMembers (IsBetween r) (Clipped w (IsBetween (low, high))) → SameMembers (IsBetween r) (Clipped w (IsBetween (interval_sum a b)))
 sum_is w a b r low high e f h = rw (sym e, sym f) h
 
@@ -162,11 +182,12 @@ difference_is w a b r low high e f h = rw (sym e, sym f) h
 -- ---- the ends of a range
 
 module _ (whole : ℤ × ℤ) (bounds : IsBoundRange whole) where
-  pub least_at_most : whole.0 ≤ℤ pos (2 ^ 64 - 1)
-  least_at_most = let h = bounds.low_at_most in omega (arith, ints)
+  -- a number of the range stands in 128 bits
+  pub at_least_in_range : (z : ℤ) → IsBetween whole z → negsuc (2 ^ 63 - 1) ≤ℤ z
+  at_least_in_range z (a, b) = let h = bounds.low_at_least in omega (arith, ints)
 
-  pub greatest_at_least : negsuc (2 ^ 63 - 1) ≤ℤ whole.1
-  greatest_at_least = let h = bounds.high_at_least in omega (arith, ints)
+  pub at_most_in_range : (z : ℤ) → IsBetween whole z → z ≤ℤ pos (2 ^ 64 - 1)
+  at_most_in_range z (a, b) = let h = bounds.high_at_most in omega (arith, ints)
 
   -- numbers of the range that are added, or taken from one another, in 128 bits
   module _ (x u a y v b : ℤ) (e : x ≡ u) (f : u ≡ a) (in_range : IsBetween whole u) (e' : y ≡ v) (f' : v ≡ b) (in_range' : IsBetween whole v) where

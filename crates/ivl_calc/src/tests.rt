@@ -3,6 +3,8 @@
 mod commands;
 mod ends;
 mod refusals;
+mod store;
+mod windows;
 
 use crate::Calc;
 use intervallum::width::Width;

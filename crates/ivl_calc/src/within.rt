@@ -1,16 +1,24 @@
-//! Sums and differences of sets, as far as they lie in the range.
-ghost use Rattle.std.specs.Prelude.{◌↔◌, ◌≤ℤ◌, IfOk, IsTrue, OnOk, map};
-ghost use Rattle.ivl_laws.specs.Sets.{Differences, HasSome, Intersection, IsBetween, SameMembers, Sums, Union, Without};
-ghost use Rattle.ivl_laws.specs.Runs.{Covers, IsMaximal, IsRunsOf};
-ghost use Rattle.ivl_calc.specs.Within.{Clipped, SumsBy, sum_by};
+//! Sums and differences of sets, as far as they lie in a window: the range of the bounds, or an
+//! interval.
+ghost use Rattle.std.specs.Prelude.{◌↔◌, ◌≤ℤ◌, IfOk, IsTrue};
+ghost use Rattle.ivl_laws.specs.Sets.{Differences, HasSome, IsBetween, Sums, Without};
+ghost use Rattle.ivl_laws.specs.Runs.{Covers, IsMaximal, IsRunListIn, IsRunsOf};
+ghost use Rattle.ivl_calc.specs.Within.{Clipped, SumsBy};
 
+mod images;
+mod kept;
+mod rows;
+
+pub(crate) use images::image;
 use intervallum::interval::Interval;
 use intervallum::interval_set::IntervalSet;
-use intervallum::ops::{Bounded, Empty, Fits, Range};
+use intervallum::ops::{Bounded, Empty, Fits, IsEmpty, Range, Whole};
 use intervallum::steps::Walk;
 use intervallum::sweep::coalesce;
 use intervallum::width::Width;
-use std::alloc::AllocError;
+pub(crate) use kept::kept;
+use rows::push_row;
+use std::alloc::{AllocError, Global};
 
 /// What is made of two numbers.
 #[derive(Clone, Copy)]
@@ -41,7 +49,7 @@ pub fn add_within<B: Width>(
     ensures cut { IfOk result (λ r. IsTrue r.1 ↔ HasSome (Without (Sums (Covers a.now) (Covers b.now)) (IsBetween B.whole))) }
 {
     let is_cut = !a.fits_add(b);
-    Ok((combine(a, b, Combined::Sum)?, is_cut))
+    Ok((combine_all(a, b, Combined::Sum)?, is_cut))
 }
 
 /// The differences of a member of `a` and one of `b` that are in the range, and whether some
@@ -66,11 +74,66 @@ pub fn sub_within<B: Width>(
     ensures cut { IfOk result (λ r. IsTrue r.1 ↔ HasSome (Without (Differences (Covers a.now) (Covers b.now)) (IsBetween B.whole))) }
 {
     let is_cut = !a.fits_sub(b);
-    Ok((combine(a, b, Combined::Difference)?, is_cut))
+    Ok((combine_all(a, b, Combined::Difference)?, is_cut))
 }
 
-/// The results over a member of each that are in the range.
-fn combine<B: Width>(
+/// Returns the sums of a member of each set that are in the window. A window with no member, or a
+/// set with none, gives the empty set.
+///
+/// Makes only the `k` pairs of runs whose sums reach the window, each by one run of `a` and
+/// neighbours in `b`: `O(n log m + k log k)` for `n` and `m` runs. Allocates as it goes, at most for
+/// four times `k` runs; for one run each, at most for one run.
+///
+/// # Errors
+///
+/// `AllocError` if allocation fails.
+///
+/// ```
+/// let a: IntervalSet<i64> = [(0, 0), (10, 12), (90, 95)].to_interval_set(alloc)?;
+/// let b: IntervalSet<i64> = [(1, 2), (50, 60)].to_interval_set(alloc)?;
+/// let sums = sums_in_window(&a, &b, &Interval::new(12, 62))?;
+/// assert!(rt; sums == [(12, 14), (50, 62)].to_interval_set(alloc)?);
+/// ```
+pub fn sums_in_window<B: Width>(
+    a: &IntervalSet<B>,
+    b: &IntervalSet<B>,
+    window: &Interval<B>,
+) -> Result<IntervalSet<B>, AllocError>
+    ensures { IfOk result (λ L. IsRunsOf L (Clipped window.now (Sums (Covers a.now) (Covers b.now)))) }
+{
+    combine(a, b, Combined::Sum, *window, 0)
+}
+
+/// Returns the differences of a member of `a` and one of `b` that are in the window. A window with
+/// no member, or a set with none, gives the empty set.
+///
+/// Makes only the `k` pairs of runs whose differences reach the window, each by one run of `a` and
+/// neighbours in `b`: `O(n log m + k log k)` for `n` and `m` runs. Allocates as it goes, at most for
+/// four times `k` runs; for one run each, at most for one run.
+///
+/// # Errors
+///
+/// `AllocError` if allocation fails.
+///
+/// ```
+/// let a: IntervalSet<i64> = [(0, 0), (10, 12), (90, 95)].to_interval_set(alloc)?;
+/// let b: IntervalSet<i64> = [(1, 2), (50, 60)].to_interval_set(alloc)?;
+/// let differences = differences_in_window(&a, &b, &Interval::new(0, 39))?;
+/// assert!(rt; differences == [(8, 11), (30, 39)].to_interval_set(alloc)?);
+/// ```
+pub fn differences_in_window<B: Width>(
+    a: &IntervalSet<B>,
+    b: &IntervalSet<B>,
+    window: &Interval<B>,
+) -> Result<IntervalSet<B>, AllocError>
+    ensures { IfOk result (λ L. IsRunsOf L (Clipped window.now (Differences (Covers a.now) (Covers b.now)))) }
+{
+    combine(a, b, Combined::Difference, *window, 0)
+}
+
+/// The results over a member of each that are in the range, with room for all pairs of runs
+/// reserved first.
+fn combine_all<B: Width>(
     a: &IntervalSet<B>,
     b: &IntervalSet<B>,
     op: Combined,
@@ -79,55 +142,60 @@ fn combine<B: Width>(
     ensures left { IsMaximal a.now }
     ensures right { IsMaximal b.now }
 {
+    let pairs = a.interval_count().checked_mul(b.interval_count());
+    combine(a, b, op, Interval::whole(), pairs.ok_or(AllocError)?)
+}
+
+/// The results over a member of each that are in the window, with room for a number of pairs of
+/// runs reserved first.
+pub(crate) fn combine<B: Width>(
+    a: &IntervalSet<B>,
+    b: &IntervalSet<B>,
+    op: Combined,
+    window: Interval<B>,
+    room: usize,
+) -> Result<IntervalSet<B>, AllocError>
+    ensures { IfOk result (λ L. IsRunsOf L (Clipped window (SumsBy op (Covers a.now) (Covers b.now)))) }
+{
     let alloc = Walk::new(a).alloc();
+    if window.is_empty() {
+        return Ok(IntervalSet::empty(alloc));
+    }
     let left = a.iter().as_slice();
     let right = b.iter().as_slice();
-    let count = left.len().checked_mul(right.len()).ok_or(AllocError)?;
-    let mut entries = Vec::with_capacity(alloc, count)?;
+    if left.len() == 1 && right.len() == 1 {
+        return set_of(alloc, image(left[0], right[0], op, window));
+    }
+    combine_runs(alloc, left, right, op, window, room)
+}
+
+/// The results over each pair of runs of two lists that are in the window.
+fn combine_runs<B: Width>(
+    alloc: Global,
+    left: &[Interval<B>],
+    right: &[Interval<B>],
+    op: Combined,
+    window: Interval<B>,
+    room: usize,
+) -> Result<IntervalSet<B>, AllocError>
+    requires left { IsMaximal left.now }
+    requires right { IsRunListIn B.whole right.now }
+    requires window { window.0 ≤ℤ window.1 }
+    ensures { IfOk result (λ L. IsRunsOf L (Clipped window (SumsBy op (Covers left.now) (Covers right.now)))) }
+{
+    let mut entries = Vec::with_capacity(alloc, room)?;
     for run in left {
-        push_row(&mut entries, *run, right, op)?;
+        push_row(&mut entries, *run, right, op, window)?;
     }
     coalesce(alloc, entries)
 }
 
-/// Adds the results of one run and each run of a list, as far as they are in the range.
-fn push_row<B: Width>(
-    entries: &mut Vec<Interval<B>>,
-    run: Interval<B>,
-    right: &[Interval<B>],
-    op: Combined,
-) -> Result<(), AllocError>
-    requires filled { run.0 ≤ℤ run.1 }
-    requires right { IsMaximal right.now }
-    ensures { OnOk result (SameMembers (Covers entries.new.items) (Union (Covers entries.old.items) (Clipped B.whole (Covers (map (sum_by op run) right.now))))) }
+/// The set of the members of an interval.
+fn set_of<B: Width>(alloc: Global, run: Interval<B>) -> Result<IntervalSet<B>, AllocError>
+    ensures { IfOk result (λ L. IsRunsOf L (IsBetween run)) }
 {
-    for other in right {
-        entries.push(image(run, *other, op))?;
+    if run.is_empty() {
+        return Ok(IntervalSet::empty(alloc));
     }
-    Ok(())
-}
-
-/// The results of two runs, as far as they are in the range.
-fn image<B: Width>(a: Interval<B>, b: Interval<B>, op: Combined) -> Interval<B>
-    requires left { a.0 ≤ℤ a.1 }
-    requires right { b.0 ≤ℤ b.1 }
-    ensures { SameMembers (IsBetween result) (Clipped B.whole (IsBetween (sum_by op a b))) }
-{
-    let (lower, upper) = (b.lower().number(), b.upper().number());
-    match op {
-        Combined::Sum => clip(a.lower().number() + lower, a.upper().number() + upper),
-        Combined::Difference => clip(a.lower().number() - upper, a.upper().number() - lower),
-    }
-}
-
-/// The numbers of the range from a lower to an upper one, which may be outside it.
-fn clip<B: Width>(lower: i128, upper: i128) -> Interval<B>
-    ensures { SameMembers (IsBetween result) (Clipped B.whole (IsBetween (lower, upper))) }
-{
-    let lower = lower.max(B::min_value().number());
-    let upper = upper.min(B::max_value().number());
-    match (B::from_number(lower), B::from_number(upper)) {
-        (Some(lower), Some(upper)) => Interval::new(lower, upper),
-        _ => Interval::empty(),
-    }
+    IntervalSet::new(alloc, run.lower(), run.upper())
 }

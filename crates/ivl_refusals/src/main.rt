@@ -1,4 +1,4 @@
-//! Makes each call of a set that takes memory, by its name, and tells how it ended.
+//! Makes each call of a set or a store that takes memory, by its name, and tells how it ended.
 //!
 //! Standard input has a name a line. The answer to each is `answered` where the call gave the answer that it gives
 //! with ample memory, `want of memory` where it was refused and its operands are as they were, and else what is wrong.
@@ -8,6 +8,7 @@
 mod calls;
 mod json;
 mod expr;
+mod store;
 
 use calls::{FIRST, SECOND, call};
 use intervallum::prelude::{Bounded, Interval, IntervalSet, IsEmpty, ToIntervalSet};
@@ -40,6 +41,9 @@ fn ending(alloc: Global, name: &[u8]) -> &'static str {
 
 /// How the call ended; an error where its operands found no memory.
 fn tried(alloc: Global, name: &[u8]) -> Result<&'static str, AllocError> {
+    if let Some(ended) = store::ending(alloc, name) {
+        return ended;
+    }
     let a = FIRST.to_interval_set(alloc)?;
     let b = SECOND.to_interval_set(alloc)?;
     if let Some(is_right) = json::call(alloc, name, &a) {

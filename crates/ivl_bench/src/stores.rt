@@ -1,0 +1,186 @@
+//! Instances of the domain store, from fresh domains to the fixed point.
+//!
+//! A file has a line `domain l u l u ..` for each variable and then a line `sum x y z` for each
+//! constraint; the file of the same name that ends in `.fixed` has the greatest supported domains.
+
+use crate::inputs::set_of;
+use anyhow::{Context, Result, bail, ensure};
+use intervallum::interval_set::IntervalSet;
+use ivl_calc::store::callers::post_if_distinct;
+use ivl_calc::store::{Constraint, Post, Store, StoreFault};
+use std::alloc::{AllocError, Global};
+use std::fs::File;
+use std::io::{BufRead, BufReader};
+use std::rt::{Clock, Files};
+use std::time::{Duration, Instant};
+
+/// How the fixed point is reached.
+#[derive(Clone, Copy)]
+enum Way {
+    PostAll,
+    Propagate,
+}
+
+impl Way {
+    const BOTH: [Way; 2] = [Way::PostAll, Way::Propagate];
+
+    fn name(self) -> &'static str {
+        match self {
+            Way::PostAll => "post_all",
+            Way::Propagate => "propagate",
+        }
+    }
+}
+
+/// A line of a file.
+#[derive(Drop)]
+enum Line {
+    Domain(IntervalSet<i64>),
+    Sum(Constraint),
+}
+
+impl Line {
+    fn parse(alloc: Global, text: &str) -> Result<Line> {
+        let (head, rest) = text.split_once(' ').unwrap_or((text, ""));
+        let numbers = numbers(alloc, rest)?;
+        if head == "domain" {
+            return Ok(Line::Domain(domain(alloc, &numbers)?));
+        }
+        ensure!(head == "sum", "no such line is known");
+        let constraint = constraint(&numbers).context("a sum is of three variables")?;
+        Ok(Line::Sum(constraint))
+    }
+}
+
+/// The domains and constraints of a file.
+#[derive(Drop)]
+struct Instance {
+    domains: Vec<IntervalSet<i64>>,
+    constraints: Vec<Constraint>,
+    posts: Vec<Post<i64>>,
+}
+
+impl Instance {
+    fn read(rt: &(impl AllocGlobal + Files), path: &str) -> Result<Instance> {
+        let alloc = rt.alloc();
+        let mut domains = Vec::new(alloc);
+        let mut constraints = Vec::new(alloc);
+        for line in BufReader::new(alloc, File::open(rt, path)?)?.lines(alloc) {
+            match Line::parse(alloc, line?.as_str())? {
+                Line::Domain(domain) => domains.push(domain)?,
+                Line::Sum(constraint) => constraints.push(constraint)?,
+            }
+        }
+        let mut posts = Vec::with_capacity(alloc, constraints.len())?;
+        for constraint in &constraints {
+            posts.push(Post::Require(*constraint))?;
+        }
+        Ok(Instance {
+            domains,
+            constraints,
+            posts,
+        })
+    }
+
+    /// A store with the domains as they were read.
+    fn fresh(&self, alloc: Global) -> Result<Store<i64>, AllocError> {
+        let mut domains = Vec::with_capacity(alloc, self.domains.len())?;
+        for domain in &self.domains {
+            domains.push(domain.try_clone()?)?;
+        }
+        Ok(Store::new(alloc, domains))
+    }
+
+    /// Narrows a store to the fixed point; true where it is reached.
+    fn solve(&self, store: &mut Store<i64>, way: Way) -> Result<bool, StoreFault> {
+        match way {
+            Way::PostAll => Ok(post_if_distinct(store, &self.posts)?.is_some()),
+            Way::Propagate => store.propagate(&self.constraints, usize::MAX),
+        }
+    }
+}
+
+/// The numbers of a text, blanks between them.
+fn numbers(alloc: Global, text: &str) -> Result<Vec<i64>> {
+    let mut numbers = Vec::new(alloc);
+    if text.is_empty() {
+        return Ok(numbers);
+    }
+    for word in text.split(' ') {
+        let number = word.parse().ok().context("a word is no number")?;
+        numbers.push(number)?;
+    }
+    Ok(numbers)
+}
+
+/// The set of runs `l u l u ..`.
+fn domain(alloc: Global, numbers: &[i64]) -> Result<IntervalSet<i64>> {
+    let mut pairs = Vec::with_capacity(alloc, numbers.len() / 2)?;
+    for run in numbers.chunks(2) {
+        match run {
+            [lower, upper] => pairs.push((*lower, *upper))?,
+            _ => bail!("a run has one bound"),
+        }
+    }
+    set_of(alloc, &pairs)
+}
+
+/// The constraint of variables `x y z`.
+fn constraint(numbers: &[i64]) -> Option<Constraint> {
+    let index = |place: usize| usize::try_from(*numbers.get(place)?).ok();
+    Some(Constraint {
+        x: index(0)?,
+        y: index(1)?,
+        z: index(2)?,
+    })
+}
+
+/// Prints for each instance and each way how many domains are those of its `.fixed` file.
+pub fn print_answers(rt: &(impl Print + AllocGlobal + Files)) -> Result<()> {
+    let alloc = rt.alloc();
+    for name in ["chain", "random", "planted", "loop"] {
+        let path = format!(in alloc; "{name}.txt")?;
+        let instance = Instance::read(rt, path.as_str())?;
+        let path = format!(in alloc; "{name}.fixed")?;
+        let fixed = Instance::read(rt, path.as_str())?;
+        for way in Way::BOTH {
+            let mut store = instance.fresh(alloc)?;
+            let is_fixed = instance.solve(&mut store, way)?;
+            let same = store
+                .domains()
+                .iter()
+                .zip(&fixed.domains)
+                .filter(|(ours, theirs)| ours == theirs)
+                .count();
+            println!(rt; "store {name} {} {is_fixed} {same} of {}", way.name(), fixed.domains.len())?;
+        }
+    }
+    Ok(())
+}
+
+/// Prints for each way the least nanoseconds from fresh domains to the fixed point.
+pub fn print_times(rt: &(impl Print + AllocGlobal + Files + Clock), path: &str) -> Result<()> {
+    let instance = Instance::read(rt, path)?;
+    for way in Way::BOTH {
+        let mut least = duration(rt, &instance, way)?;
+        let mut all = least;
+        for _ in 0..1_000_000u32 {
+            if all >= Duration::from_secs(1) {
+                break;
+            }
+            let time = duration(rt, &instance, way)?;
+            least = least.min(time);
+            all = all.saturating_add(time);
+        }
+        println!(rt; "store {path} {} {}", way.name(), least.as_nanos())?;
+    }
+    Ok(())
+}
+
+/// How long it takes once; the fresh domains are made before.
+fn duration(rt: &(impl AllocGlobal + Clock), instance: &Instance, way: Way) -> Result<Duration> {
+    let mut store = instance.fresh(rt.alloc())?;
+    let start = Instant::now(rt)?;
+    let _ = instance.solve(&mut store, way)?;
+    Ok(start.elapsed(rt)?)
+}

@@ -1,0 +1,49 @@
+//! The results of two runs in a window.
+ghost use Rattle.std.specs.Prelude.{◌≤ℤ◌};
+ghost use Rattle.ivl_laws.specs.Sets.{IsBetween, SameMembers};
+ghost use Rattle.ivl_calc.specs.Within.{Clipped, sum_by};
+
+use super::Combined;
+use intervallum::interval::Interval;
+use intervallum::ops::{Bounded, Empty, Range};
+use intervallum::width::Width;
+
+/// The results of two runs, as far as they are in the window.
+pub fn image<B: Width>(
+    a: Interval<B>,
+    b: Interval<B>,
+    op: Combined,
+    window: Interval<B>,
+) -> Interval<B>
+    requires left { a.0 ≤ℤ a.1 }
+    requires right { b.0 ≤ℤ b.1 }
+    requires window { window.0 ≤ℤ window.1 }
+    ensures { SameMembers (IsBetween result) (Clipped window (IsBetween (sum_by op a b))) }
+{
+    let (lower, upper) = (b.lower().number(), b.upper().number());
+    match op {
+        Combined::Sum => clip(
+            a.lower().number() + lower,
+            a.upper().number() + upper,
+            window,
+        ),
+        Combined::Difference => clip(
+            a.lower().number() - upper,
+            a.upper().number() - lower,
+            window,
+        ),
+    }
+}
+
+/// The numbers of the window from a lower to an upper one, which may be outside it.
+fn clip<B: Width>(lower: i128, upper: i128, window: Interval<B>) -> Interval<B>
+    requires { window.0 ≤ℤ window.1 }
+    ensures { SameMembers (IsBetween result) (Clipped window (IsBetween (lower, upper))) }
+{
+    let lower = lower.max(window.lower().number());
+    let upper = upper.min(window.upper().number());
+    match (B::from_number(lower), B::from_number(upper)) {
+        (Some(lower), Some(upper)) => Interval::new(lower, upper),
+        _ => Interval::empty(),
+    }
+}

@@ -1,0 +1,121 @@
+//! The calls of a store that take memory. Each ends in its answer, or is out of memory with the
+//! domains as the call says they are then.
+
+use intervallum::prelude::{Interval, IntervalSet, ToIntervalSet};
+use ivl_calc::store::callers::post_if_distinct;
+use ivl_calc::store::{Constraint, Post, Store, StoreFault};
+use std::alloc::{AllocError, Global};
+
+/// The runs of a domain.
+type Runs = &'static [(i32, i32)];
+
+/// The runs of x, y, z and one; x + y = z, and y + one = z.
+type Family = [Runs; 4];
+
+const SUM: Constraint = Constraint { x: 0, y: 1, z: 2 };
+
+const NEXT: Constraint = Constraint { x: 1, y: 3, z: 2 };
+
+const FRESH: Family = [&[(0, 3), (8, 9)], &[(0, 1), (4, 9)], &[(2, 6), (20, 30)], &[(1, 1)]];
+
+/// The domains once `SUM` has narrowed them.
+const NARROWED: Family = [&[(0, 3)], &[(0, 1), (4, 6)], &[(2, 6)], &[(1, 1)]];
+
+/// The domains once `NEXT` has narrowed these.
+const ROUND: Family = [&[(0, 3)], &[(1, 1), (4, 5)], &[(2, 2), (5, 6)], &[(1, 1)]];
+
+/// The domains once `SUM` has narrowed these, which nothing narrows any further.
+const FIXED: Family = [&[(0, 2)], &[(1, 1), (4, 5)], &[(2, 2), (5, 6)], &[(1, 1)]];
+
+/// How the call of this name ended; none where there is no such call.
+pub fn ending(alloc: Global, name: &[u8]) -> Option<Result<&'static str, AllocError>> {
+    match name {
+        b"store_narrow" => Some(narrowed(alloc)),
+        b"store_propagate" => Some(propagated(alloc)),
+        b"store_post_all" => Some(posted(alloc)),
+        _ => None,
+    }
+}
+
+fn narrowed(alloc: Global) -> Result<&'static str, AllocError> {
+    let mut store = store_of(alloc, &FRESH)?;
+    let answer = store.narrow(&SUM);
+    Ok(judged(&store, answer == Ok(true), is_refusal(&answer), &NARROWED, &[&FRESH]))
+}
+
+fn propagated(alloc: Global) -> Result<&'static str, AllocError> {
+    let mut store = store_of(alloc, &FRESH)?;
+    let answer = store.propagate(&[SUM, NEXT], 9);
+    let between = [&FRESH, &NARROWED, &ROUND, &FIXED];
+    Ok(judged(&store, answer == Ok(true), is_refusal(&answer), &FIXED, &between))
+}
+
+fn posted(alloc: Global) -> Result<&'static str, AllocError> {
+    let mut store = store_of(alloc, &FRESH)?;
+    let cut = [(-5, 25)].to_interval_set(alloc)?;
+    let posts = vec![in alloc; Post::Require(SUM), Post::Restrict(2, cut), Post::Require(NEXT)]?;
+    let answer = post_if_distinct(&mut store, &posts);
+    let is_right = match &answer {
+        Ok(Some(replies)) => replies.as_slice() == [false, false, false].as_slice(),
+        _ => false,
+    };
+    let between = [&FRESH, &NARROWED, &ROUND, &FIXED];
+    Ok(judged(&store, is_right, is_refusal(&answer), &FIXED, &between))
+}
+
+fn is_refusal<T>(answer: &Result<T, StoreFault>) -> bool {
+    match answer {
+        Err(StoreFault::Memory) => true,
+        _ => false,
+    }
+}
+
+/// How a call ended that leaves `after` with its answer, and one of `between` where it is refused.
+fn judged(
+    store: &Store<i32>,
+    is_right: bool,
+    is_refusal: bool,
+    after: &Family,
+    between: &[&Family],
+) -> &'static str {
+    if is_refusal {
+        return if between.iter().any(|family| has_domains(store, family)) {
+            "want of memory"
+        } else {
+            "left other domains"
+        };
+    }
+    if is_right && has_domains(store, after) {
+        "answered"
+    } else {
+        "gave a wrong answer"
+    }
+}
+
+fn has_domains(store: &Store<i32>, family: &Family) -> bool {
+    for (domain, runs) in store.domains().iter().zip(family) {
+        if !crate::has_runs(domain, runs) {
+            return false;
+        }
+    }
+    store.domains().len() == family.len()
+}
+
+fn store_of(alloc: Global, family: &Family) -> Result<Store<i32>, AllocError> {
+    let mut domains: Vec<IntervalSet<i32>> = Vec::with_capacity(alloc, family.len())?;
+    for runs in family {
+        domains.push(set_of(alloc, runs)?)?;
+    }
+    Ok(Store::new(alloc, domains))
+}
+
+/// The set of these pairs; none where one is out of range.
+fn set_of(alloc: Global, pairs: &[(i32, i32)]) -> Result<IntervalSet<i32>, AllocError> {
+    if !pairs
+        .iter()
+        .all(|&(lower, upper)| Interval::in_range(lower, upper))
+    {
+        return Ok(IntervalSet::empty(alloc));
+    }
+    pairs.to_interval_set(alloc)
+}
