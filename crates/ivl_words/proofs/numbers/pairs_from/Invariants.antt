@@ -2,9 +2,9 @@ use Rattle.std.proofs.Common.{◌≡◌, ◌++◌, length}
 use Rattle.std.specs.Prelude.{option_map}
 use denote.Text.{Utf8}
 use denote.Shadow.{shadow}
-use Rattle.ivl_run.specs.Lines.{words_between}
-use Rattle.ivl_run.specs.Numbers.{pairs_of}
-use Rattle.ivl_run.proofs.numbers.pairs_from.Given as goal
+use Rattle.ivl_words.specs.Words.{words_between}
+use Rattle.ivl_words.specs.Numbers.{pairs_of}
+use Rattle.ivl_words.proofs.numbers.pairs_from.Given as goal
 
 -- the pairs so far stand before those of the words that are left
 abbrev pub invariant-loop-l : goal.invariant-loop-l

@@ -1,8 +1,14 @@
-//! The words of a text, which stand between spaces.
+//! The words of a text, which are separated by spaces.
 ghost use Rattle.std.specs.Prelude.{◌≡◌, ◌≢◌, ◌<◌, [], ◌∷◌, length, IfNone, IfSome};
-ghost use Rattle.ivl_run.specs.Lines.{words_between};
+ghost use Rattle.ivl_words.specs.Words.{words_between};
 
-/// The first word and what comes after it; `None` where there is no word. The time is linear in what is passed over.
+/// Returns the first word and what comes after it; `None` if there is no word. Linear in what is
+/// passed over; does not allocate.
+///
+/// ```
+/// assert_eq!(rt; next_word("  sum x  y"), Some(("sum", "x  y")));
+/// assert_eq!(rt; next_word("   "), None);
+/// ```
 pub fn next_word(text: &str) -> Option<(&str, &str)>
     ensures none { IfNone result (words_between text.entry.now ≡ []) }
     ensures some { IfSome result (λ parts. words_between text.entry.now ≡ parts.0.now ∷ words_between parts.1.now) }
@@ -21,7 +27,12 @@ pub fn next_word(text: &str) -> Option<(&str, &str)>
     Some((rest, ""))
 }
 
-/// The word of the text, where it has just one.
+/// Returns the word of a text that has exactly one. Linear; does not allocate.
+///
+/// ```
+/// assert_eq!(rt; one_word(" x "), Some("x"));
+/// assert_eq!(rt; one_word("x y"), None);
+/// ```
 pub fn one_word(text: &str) -> Option<&str>
     ensures none { IfNone result (length (words_between text.entry.now) ≢ 1) }
     ensures some { IfSome result (λ a. words_between text.entry.now ≡ a.now ∷ []) }
@@ -33,7 +44,12 @@ pub fn one_word(text: &str) -> Option<&str>
     }
 }
 
-/// The words of the text, where it has just two.
+/// Returns the words of a text that has exactly two. Linear; does not allocate.
+///
+/// ```
+/// assert_eq!(rt; two_words("x y "), Some(("x", "y")));
+/// assert_eq!(rt; two_words("x"), None);
+/// ```
 pub fn two_words(text: &str) -> Option<(&str, &str)>
     ensures none { IfNone result (length (words_between text.entry.now) ≢ 2) }
     ensures some { IfSome result (λ w. words_between text.entry.now ≡ w.0.now ∷ w.1.now ∷ []) }
@@ -43,7 +59,12 @@ pub fn two_words(text: &str) -> Option<(&str, &str)>
     Some((a, b))
 }
 
-/// The words of the text, where it has just three.
+/// Returns the words of a text that has exactly three. Linear; does not allocate.
+///
+/// ```
+/// assert_eq!(rt; three_words("x y z"), Some(("x", "y", "z")));
+/// assert_eq!(rt; three_words("x y z w"), None);
+/// ```
 pub fn three_words(text: &str) -> Option<(&str, &str, &str)>
     ensures none { IfNone result (length (words_between text.entry.now) ≢ 3) }
     ensures some { IfSome result (λ w. words_between text.entry.now ≡ w.0.now ∷ w.1.now ∷ w.2.now ∷ []) }

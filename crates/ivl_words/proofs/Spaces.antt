@@ -4,7 +4,7 @@ use Rattle.std.specs.List.{position_or_len, before_first, after_first, slice_spl
 use Rattle.std.proofs.lemmas.Bool.{lt-ltb}
 use Rattle.std.proofs.lemmas.List.Splits.{slice_split_first, slice_split_none}
 use Rattle.std.proofs.lemmas.List.Sums.{fails_before_first}
-use Rattle.ivl_run.specs.Lines.{words_between}
+use Rattle.ivl_words.specs.Words.{words_between}
 
 -- the text begins with a word, which a space ends
 pub word_first : (text word after : List ℕ) → position_or_len (λ b. eqb b 32) text < length text → word ≡ before_first (λ b. eqb b 32) text → after ≡ after_first (λ b. eqb b 32) text → 0 < length word → words_between text ≡ word ∷ words_between after

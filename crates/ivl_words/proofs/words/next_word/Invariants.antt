@@ -1,8 +1,8 @@
 use Rattle.std.proofs.Common.{◌≡◌, ◌≤◌, length}
 use denote.Text.{Utf8}
 use denote.Shadow.{shadow}
-use Rattle.ivl_run.specs.Lines.{words_between}
-use Rattle.ivl_run.proofs.words.next_word.Given as goal
+use Rattle.ivl_words.specs.Words.{words_between}
+use Rattle.ivl_words.proofs.words.next_word.Given as goal
 
 -- what is passed over had no word
 abbrev pub invariant-loop-word : goal.invariant-loop-word

@@ -7,8 +7,8 @@ use Rattle.std.proofs.lemmas.Bool.{cases_Bool, eqb-true, eqb-false, and_parts, l
 use Rattle.std.proofs.lemmas.Str.Parse.{IsNumeralModel, numerals_by_value, tells_all_ascii_digits, parse_signed_minus, parse_signed_plain}
 use Rattle.std.proofs.lemmas.Str.Pattern.{starts_char}
 use mir.Syntax.{w64}
-use Rattle.ivl_run.specs.Numbers.{magnitude, number_of}
-use Rattle.ivl_run.proofs.numbers.number_from.Goals as goal
+use Rattle.ivl_words.specs.Numbers.{magnitude, number_of}
+use Rattle.ivl_words.proofs.numbers.number_from.Goals as goal
 
 own : IsNumeralModel (λ ds. all_ascii_digits ds ≡ true) (digits_value 10)
 own = numerals_by_value (λ ds. all_ascii_digits ds ≡ true) tells_all_ascii_digits

@@ -1,6 +1,6 @@
 use Rattle.std.proofs.Common.{rules}
-use Rattle.ivl_run.proofs.Pairs.{pairs_of-step}
-use Rattle.ivl_run.proofs.numbers.pairs_from.Goals as goal
+use Rattle.ivl_words.proofs.Pairs.{pairs_of-step}
+use Rattle.ivl_words.proofs.numbers.pairs_from.Goals as goal
 
 pub loop-l-preserved : goal.loop-l-preserved
 loop-l-preserved c = (

@@ -1,6 +1,6 @@
 use Rattle.std.proofs.Common.{◌∙◌, lit<, rules}
-use Rattle.ivl_run.proofs.Spaces.{word_first, word_alone}
-use Rattle.ivl_run.proofs.words.next_word.Goals as goal
+use Rattle.ivl_words.proofs.Spaces.{word_first, word_alone}
+use Rattle.ivl_words.proofs.words.next_word.Goals as goal
 
 pub returns-then-not-is_empty-clause-some : goal.returns-then-not-is_empty-clause-some
 returns-then-not-is_empty-clause-some c =
