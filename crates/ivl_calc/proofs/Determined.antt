@@ -9,7 +9,8 @@ use Rattle.ivl_laws.proofs.SetLaws.{IsRunsOf-unique, same_members_refl}
 use Rattle.ivl_calc.specs.declared.reply.Refusal.{Refusal}
 use Rattle.ivl_calc.specs.declared.reply.Refusal.TheVariants.{Register, Range, Fit, Memory}
 use Rattle.ivl_calc.specs.Actions.{Making, pairs, union, intersection, difference, symmetric, complement, at_least, at_most, above, below, plus, minus, times, plus_value, minus_value, times_value, Question, has, size, count, low, high, same, subset, meets, show, Action, make, ask, Answer, cut, flag, sized, counted, value, runs, refused}
-use Rattle.ivl_calc.specs.Step.{Made, IsReportOf, IsPut, IsLeast, IsGreatest, IsEndOf, Tells, TellsCut, IsAnswerTo, IsRefusedFor, IsAllowed, IsEffectOf, MembersAt, MayStep, Run}
+use Rattle.ivl_laws.specs.Families.{set_at}
+use Rattle.ivl_calc.specs.Step.{Made, IsReportOf, IsPut, IsLeast, IsGreatest, IsEndOf, Tells, TellsCut, IsAnswerTo, IsRefusedFor, IsAllowed, IsEffectOf, MayStep, Run}
 
 -- ---- flags, lists and ends
 
@@ -65,14 +66,14 @@ puts_agree whole old r making new next (L, l, e) (M, m, f) = e ∙ ap (slice_set
 
 answers_agree : (s : List (List (ℤ × ℤ))) (question : Question) (x y : Answer) → IsAnswerTo s question x → IsAnswerTo s question y → x ≡ y
 answers_agree s (has a v) x y h k = flags_agree _ x y h k
-answers_agree s (size a) x y (m, e, h) (n, f, k) = e ∙ ap sized (count_is_unique (MembersAt s a) m n h k) ∙ sym f
-answers_agree s (count a) x y (L, e, h) (M, f, k) = e ∙ ap (λ (N : List (ℤ × ℤ)). counted (length N)) (one_list (MembersAt s a) L M h k) ∙ sym f
-answers_agree s (low a) x y (m, e, h) (n, f, k) = e ∙ ap value (least_agree (MembersAt s a) m n h k) ∙ sym f
-answers_agree s (high a) x y (m, e, h) (n, f, k) = e ∙ ap value (greatest_agree (MembersAt s a) m n h k) ∙ sym f
+answers_agree s (size a) x y (m, e, h) (n, f, k) = e ∙ ap sized (count_is_unique (set_at s a) m n h k) ∙ sym f
+answers_agree s (count a) x y (L, e, h) (M, f, k) = e ∙ ap (λ (N : List (ℤ × ℤ)). counted (length N)) (one_list (set_at s a) L M h k) ∙ sym f
+answers_agree s (low a) x y (m, e, h) (n, f, k) = e ∙ ap value (least_agree (set_at s a) m n h k) ∙ sym f
+answers_agree s (high a) x y (m, e, h) (n, f, k) = e ∙ ap value (greatest_agree (set_at s a) m n h k) ∙ sym f
 answers_agree s (same a b) x y h k = flags_agree _ x y h k
 answers_agree s (subset a b) x y h k = flags_agree _ x y h k
 answers_agree s (meets a b) x y h k = flags_agree _ x y h k
-answers_agree s (show a) x y (L, e, h) (M, f, k) = e ∙ ap runs (one_list (MembersAt s a) L M h k) ∙ sym f
+answers_agree s (show a) x y (L, e, h) (M, f, k) = e ∙ ap runs (one_list (set_at s a) L M h k) ∙ sym f
 
 effects_agree : (whole : ℤ × ℤ) (old : List (List (ℤ × ℤ))) (action : Action) (x y : Answer) (new next : List (List (ℤ × ℤ)))
     → IsEffectOf whole old action x new → IsEffectOf whole old action y next → (x ≡ y) × (new ≡ next)

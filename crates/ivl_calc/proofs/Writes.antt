@@ -13,7 +13,8 @@ use Rattle.ivl_calc.specs.declared.calc.making.Part.TheVariants as parts
 use Rattle.ivl_calc.specs.declared.reply.Refusal.TheVariants.{Register, Fit, Memory}
 use Rattle.ivl_calc.specs.Actions.{Making, union, intersection, difference, symmetric, at_least, at_most, above, below, plus_value, minus_value, times_value, make, Answer, done, cut, refused}
 use Rattle.ivl_calc.specs.Makings.{MergedBy, PartBy, of_two, of_part, of_value}
-use Rattle.ivl_calc.specs.Step.{MayStep, MembersAt, Made, IsAllowed, IsReportOf}
+use Rattle.ivl_laws.specs.Families.{set_at}
+use Rattle.ivl_calc.specs.Step.{MayStep, Made, IsAllowed, IsReportOf}
 
 -- ---- what is refused
 
@@ -24,7 +25,7 @@ module _ (whole : ℤ × ℤ) (old : List (List (ℤ × ℤ))) (r a : ℕ) where
   merge_unnamed merges.Difference b none = inl (Register, refl, none, refl)
   merge_unnamed merges.SymmetricDifference b none = inl (Register, refl, none, refl)
 
-  pub value_unfit : (op : Op) (v : ℤ) → All (λ x. x < length old) (r ∷ a ∷ []) → ¬ (IsSubset (ExactResultsBy op (MembersAt old a) (Only v)) (IsBetween whole))
+  pub value_unfit : (op : Op) (v : ℤ) → All (λ x. x < length old) (r ∷ a ∷ []) → ¬ (IsSubset (ExactResultsBy op (set_at old a) (Only v)) (IsBetween whole))
       → MayStep whole old (make r (of_value op a v)) (refused Fit) old
   value_unfit ops.Sum v all none = inl (Fit, refl, (all, tt, none), refl)
   value_unfit ops.Difference v all none = inl (Fit, refl, (all, tt, none), refl)
@@ -49,22 +50,22 @@ module _ {E : Type 0} (whole : ℤ × ℤ) (old new : List (List (ℤ × ℤ))) 
   writes_cut making S (Err e) allowed report runs told put lacked = inr (inr (record { lacking = lacked.0; unchanged = lacked.1; asks = refl; allowed = allowed }))
 
   module _ (made : Result (List (ℤ × ℤ)) E) (put : IfOk made (λ L. (answer ≡ done) × (new ≡ slice_set old r L))) (lacked : OnErr made ((answer ≡ refused Memory) × (new ≡ old))) where
-    pub writes_merge : (merge : Merge) (a b : ℕ) → All (λ x. x < length old) (r ∷ a ∷ b ∷ []) → IfOk made (λ L. IsRunsOf L (MergedBy merge (MembersAt old a) (MembersAt old b)))
+    pub writes_merge : (merge : Merge) (a b : ℕ) → All (λ x. x < length old) (r ∷ a ∷ b ∷ []) → IfOk made (λ L. IsRunsOf L (MergedBy merge (set_at old a) (set_at old b)))
         → MayStep whole old (make r (of_two merge a b)) answer new
     writes_merge merges.Union a b all runs = writes (union a b) made (all, tt, λ z n. absurd n) (λ d. d) runs put lacked
     writes_merge merges.Intersection a b all runs = writes (intersection a b) made (all, tt, λ z n. absurd n) (λ d. d) runs put lacked
     writes_merge merges.Difference a b all runs = writes (difference a b) made (all, tt, λ z n. absurd n) (λ d. d) runs put lacked
     writes_merge merges.SymmetricDifference a b all runs = writes (symmetric a b) made (all, tt, λ z n. absurd n) (λ d. d) runs put lacked
 
-    pub writes_part : (part : Part) (a : ℕ) (v : ℤ) → All (λ x. x < length old) (r ∷ a ∷ []) → IfOk made (λ L. IsRunsOf L (PartBy part v (MembersAt old a)))
+    pub writes_part : (part : Part) (a : ℕ) (v : ℤ) → All (λ x. x < length old) (r ∷ a ∷ []) → IfOk made (λ L. IsRunsOf L (PartBy part v (set_at old a)))
         → MayStep whole old (make r (of_part part a v)) answer new
     writes_part parts.AtLeast a v all runs = writes (at_least a v) made (all, tt, λ z n. absurd n) (λ d. d) runs put lacked
     writes_part parts.AtMost a v all runs = writes (at_most a v) made (all, tt, λ z n. absurd n) (λ d. d) runs put lacked
     writes_part parts.Above a v all runs = writes (above a v) made (all, tt, λ z n. absurd n) (λ d. d) runs put lacked
     writes_part parts.Below a v all runs = writes (below a v) made (all, tt, λ z n. absurd n) (λ d. d) runs put lacked
 
-    pub writes_value : (op : Op) (a : ℕ) (v : ℤ) → All (λ x. x < length old) (r ∷ a ∷ []) → IsSubset (ExactResultsBy op (MembersAt old a) (Only v)) (IsBetween whole)
-        → IfOk made (λ L. IsRunsOf L (ResultsBy op (MembersAt old a) (Only v))) → MayStep whole old (make r (of_value op a v)) answer new
+    pub writes_value : (op : Op) (a : ℕ) (v : ℤ) → All (λ x. x < length old) (r ∷ a ∷ []) → IsSubset (ExactResultsBy op (set_at old a) (Only v)) (IsBetween whole)
+        → IfOk made (λ L. IsRunsOf L (ResultsBy op (set_at old a) (Only v))) → MayStep whole old (make r (of_value op a v)) answer new
     writes_value ops.Sum a v all fits runs = writes (plus_value a v) made (all, tt, fits) (λ d. d) runs put lacked
     writes_value ops.Difference a v all fits runs = writes (minus_value a v) made (all, tt, fits) (λ d. d) runs put lacked
     writes_value ops.Product a v all fits runs = writes (times_value a v) made (all, tt, fits) (λ d. d) runs put lacked

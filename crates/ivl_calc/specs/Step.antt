@@ -1,6 +1,5 @@
 -- What the calculator does, as a relation over plain sets of numbers. The state is the list of the registers, each
 -- the list of the runs of its set; `whole` is the range.
---     MembersAt s r      the members of register r
 --     Made whole s making      the members of what is made
 --     MustFit s making      the numbers that have to lie in the range, or the action is refused
 --     IsReportOf whole s making answer      what is answered where a register is given a set
@@ -9,43 +8,41 @@
 --     IsAllowed whole s action      none of these reasons is there
 --     MayStep whole old action answer new      this answer may be given, and the state go on from old to new
 --     Run whole old actions answers new      the same for a list of actions, one after another
-use Rattle.std.specs.Prelude.{◌≡◌, ℕ, ℤ, ◌≤ℤ◌, ◌<◌, ◌⊎◌, ◌↔◌, Bool, true, false, IsTrue, List, [], ◌∷◌, length, All, Option, None, Some, slice_index_or, slice_set}
+use Rattle.std.specs.Prelude.{◌≡◌, ℕ, ℤ, ◌≤ℤ◌, ◌<◌, ◌⊎◌, ◌↔◌, Bool, true, false, IsTrue, List, [], ◌∷◌, length, All, Option, None, Some, slice_set}
 use Rattle.ivl_laws.specs.Sets.{IsBetween, IsInRange, Only, HasNone, HasSome, IsSubset, SameMembers, Union, Intersection, Without, SymmetricDifference, Complement, AtLeast, AtMost, Above, Below, Sums, Differences, ExactProducts, Products}
 use Rattle.ivl_laws.specs.Runs.{Covers, IsRunsOf}
 use Rattle.ivl_laws.specs.Counts.{IsCountOf}
+use Rattle.ivl_laws.specs.Families.{set_at}
 use Rattle.ivl_calc.specs.Within.{Clipped}
 use Rattle.ivl_calc.specs.declared.reply.Refusal.{Refusal}
 use Rattle.ivl_calc.specs.declared.reply.Refusal.TheVariants.{Register, Range, Fit, Memory}
 use Rattle.ivl_calc.specs.Actions.{Making, pairs, union, intersection, difference, symmetric, complement, at_least, at_most, above, below, plus, minus, times, plus_value, minus_value, times_value, Question, has, size, count, low, high, same, subset, meets, show, Action, make, ask, Answer, done, cut, flag, sized, counted, value, runs, refused}
 
-abbrev pub MembersAt : List (List (ℤ × ℤ)) → ℕ → ℤ → Type 0
-MembersAt s r = Covers (slice_index_or s r [])
-
 -- ---- what is made
 
 abbrev pub Made : ℤ × ℤ → List (List (ℤ × ℤ)) → Making → ℤ → Type 0
 Made whole s (pairs list) = Covers list
-Made whole s (union a b) = Union (MembersAt s a) (MembersAt s b)
-Made whole s (intersection a b) = Intersection (MembersAt s a) (MembersAt s b)
-Made whole s (difference a b) = Without (MembersAt s a) (MembersAt s b)
-Made whole s (symmetric a b) = SymmetricDifference (MembersAt s a) (MembersAt s b)
-Made whole s (complement a) = Complement whole (MembersAt s a)
-Made whole s (at_least a v) = AtLeast v (MembersAt s a)
-Made whole s (at_most a v) = AtMost v (MembersAt s a)
-Made whole s (above a v) = Above v (MembersAt s a)
-Made whole s (below a v) = Below v (MembersAt s a)
-Made whole s (plus a b) = Clipped whole (Sums (MembersAt s a) (MembersAt s b))
-Made whole s (minus a b) = Clipped whole (Differences (MembersAt s a) (MembersAt s b))
-Made whole s (times a b) = Products (MembersAt s a) (MembersAt s b)
-Made whole s (plus_value a v) = Sums (MembersAt s a) (Only v)
-Made whole s (minus_value a v) = Differences (MembersAt s a) (Only v)
-Made whole s (times_value a v) = Products (MembersAt s a) (Only v)
+Made whole s (union a b) = Union (set_at s a) (set_at s b)
+Made whole s (intersection a b) = Intersection (set_at s a) (set_at s b)
+Made whole s (difference a b) = Without (set_at s a) (set_at s b)
+Made whole s (symmetric a b) = SymmetricDifference (set_at s a) (set_at s b)
+Made whole s (complement a) = Complement whole (set_at s a)
+Made whole s (at_least a v) = AtLeast v (set_at s a)
+Made whole s (at_most a v) = AtMost v (set_at s a)
+Made whole s (above a v) = Above v (set_at s a)
+Made whole s (below a v) = Below v (set_at s a)
+Made whole s (plus a b) = Clipped whole (Sums (set_at s a) (set_at s b))
+Made whole s (minus a b) = Clipped whole (Differences (set_at s a) (set_at s b))
+Made whole s (times a b) = Products (set_at s a) (set_at s b)
+Made whole s (plus_value a v) = Sums (set_at s a) (Only v)
+Made whole s (minus_value a v) = Differences (set_at s a) (Only v)
+Made whole s (times_value a v) = Products (set_at s a) (Only v)
 
 abbrev pub MustFit : List (List (ℤ × ℤ)) → Making → ℤ → Type 0
-MustFit s (times a b) = ExactProducts (MembersAt s a) (MembersAt s b)
-MustFit s (plus_value a v) = Sums (MembersAt s a) (Only v)
-MustFit s (minus_value a v) = Differences (MembersAt s a) (Only v)
-MustFit s (times_value a v) = ExactProducts (MembersAt s a) (Only v)
+MustFit s (times a b) = ExactProducts (set_at s a) (set_at s b)
+MustFit s (plus_value a v) = Sums (set_at s a) (Only v)
+MustFit s (minus_value a v) = Differences (set_at s a) (Only v)
+MustFit s (times_value a v) = ExactProducts (set_at s a) (Only v)
 MustFit s _ = λ z. ⊥
 
 -- whether some member of S was outside the range
@@ -53,8 +50,8 @@ abbrev pub TellsCut : ℤ × ℤ → (ℤ → Type 0) → Answer → Type 0
 TellsCut whole S answer = (b : Bool) × (answer ≡ cut b) × (IsTrue b ↔ HasSome (Without S (IsBetween whole)))
 
 abbrev pub IsReportOf : ℤ × ℤ → List (List (ℤ × ℤ)) → Making → Answer → Type 0
-IsReportOf whole s (plus a b) answer = TellsCut whole (Sums (MembersAt s a) (MembersAt s b)) answer
-IsReportOf whole s (minus a b) answer = TellsCut whole (Differences (MembersAt s a) (MembersAt s b)) answer
+IsReportOf whole s (plus a b) answer = TellsCut whole (Sums (set_at s a) (set_at s b)) answer
+IsReportOf whole s (minus a b) answer = TellsCut whole (Differences (set_at s a) (set_at s b)) answer
 IsReportOf whole s _ answer = answer ≡ done
 
 -- register r of the new state has the runs of what is made from the old one
@@ -79,15 +76,15 @@ abbrev pub Tells : Answer → Type 0 → Type 0
 Tells answer P = (b : Bool) × (answer ≡ flag b) × (IsTrue b ↔ P)
 
 abbrev pub IsAnswerTo : List (List (ℤ × ℤ)) → Question → Answer → Type 0
-IsAnswerTo s (has a v) answer = Tells answer (MembersAt s a v)
-IsAnswerTo s (size a) answer = (n : ℕ) × (answer ≡ sized n) × IsCountOf n (MembersAt s a)
-IsAnswerTo s (count a) answer = (list : List (ℤ × ℤ)) × (answer ≡ counted (length list)) × IsRunsOf list (MembersAt s a)
-IsAnswerTo s (low a) answer = (end : Option ℤ) × (answer ≡ value end) × IsEndOf IsLeast (MembersAt s a) end
-IsAnswerTo s (high a) answer = (end : Option ℤ) × (answer ≡ value end) × IsEndOf IsGreatest (MembersAt s a) end
-IsAnswerTo s (same a b) answer = Tells answer (SameMembers (MembersAt s a) (MembersAt s b))
-IsAnswerTo s (subset a b) answer = Tells answer (IsSubset (MembersAt s a) (MembersAt s b))
-IsAnswerTo s (meets a b) answer = Tells answer (HasSome (Intersection (MembersAt s a) (MembersAt s b)))
-IsAnswerTo s (show a) answer = (list : List (ℤ × ℤ)) × (answer ≡ runs list) × IsRunsOf list (MembersAt s a)
+IsAnswerTo s (has a v) answer = Tells answer (set_at s a v)
+IsAnswerTo s (size a) answer = (n : ℕ) × (answer ≡ sized n) × IsCountOf n (set_at s a)
+IsAnswerTo s (count a) answer = (list : List (ℤ × ℤ)) × (answer ≡ counted (length list)) × IsRunsOf list (set_at s a)
+IsAnswerTo s (low a) answer = (end : Option ℤ) × (answer ≡ value end) × IsEndOf IsLeast (set_at s a) end
+IsAnswerTo s (high a) answer = (end : Option ℤ) × (answer ≡ value end) × IsEndOf IsGreatest (set_at s a) end
+IsAnswerTo s (same a b) answer = Tells answer (SameMembers (set_at s a) (set_at s b))
+IsAnswerTo s (subset a b) answer = Tells answer (IsSubset (set_at s a) (set_at s b))
+IsAnswerTo s (meets a b) answer = Tells answer (HasSome (Intersection (set_at s a) (set_at s b)))
+IsAnswerTo s (show a) answer = (list : List (ℤ × ℤ)) × (answer ≡ runs list) × IsRunsOf list (set_at s a)
 
 -- ---- what is refused
 

@@ -16,6 +16,7 @@ mod calc;
 mod command;
 pub mod laws;
 mod reply;
+pub mod store;
 #[cfg(test)]
 mod tests;
 pub mod within;

@@ -3,6 +3,7 @@
 mod commands;
 mod ends;
 mod refusals;
+mod store;
 mod windows;
 
 use crate::Calc;
