@@ -1,4 +1,6 @@
 //! The program's engine.
+ghost use Rattle.std.specs.Prelude.{◌<◌, IfSome, length};
+
 use crate::fault::Fault;
 use crate::replies::{write_domains, write_fault, write_state};
 use crate::request::{Request, request_from};
@@ -108,7 +110,9 @@ fn answer_piece<W: Write>(
 }
 
 // The bytes before the first newline and those after it, or `None` where there is no newline.
-fn split_line(bytes: &[u8]) -> Option<(&[u8], &[u8])> {
+fn split_line(bytes: &[u8]) -> Option<(&[u8], &[u8])>
+    ensures { IfSome result (λ parts. length parts.1.now < length bytes.now) }
+{
     let at = bytes.iter().position(|byte| *byte == b'\n')?;
     Some((&bytes[..at], &bytes[at + 1..]))
 }

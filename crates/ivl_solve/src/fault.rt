@@ -21,6 +21,8 @@ pub enum Fault<'a> {
     Defined(&'a str),
     /// The variable is named twice in a sum.
     Repeated(&'a str),
+    /// The store has no variable with this index, which cannot be: names are looked up.
+    Variable(usize),
     /// An allocation failed.
     Memory,
 }
@@ -28,5 +30,14 @@ pub enum Fault<'a> {
 impl<'a> From<AllocError> for Fault<'a> {
     fn from(_: AllocError) -> Fault<'a> {
         Fault::Memory
+    }
+}
+
+impl<'a> From<StoreFault> for Fault<'a> {
+    fn from(fault: StoreFault) -> Fault<'a> {
+        match fault {
+            StoreFault::Variable(i) => Fault::Variable(i),
+            StoreFault::Memory => Fault::Memory,
+        }
     }
 }

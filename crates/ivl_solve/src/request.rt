@@ -1,7 +1,7 @@
 //! What a line asks for.
 ghost use Rattle.std.specs.Prelude.{◌≡◌, IfOk, Some};
 ghost use Rattle.ivl_words.specs.Words.{words_between};
-ghost use Rattle.ivl_solve.specs.Requests.{asked_of, request_of};
+ghost use Rattle.ivl_solve.specs.Requests.{asked_of, name_and_pairs, request_of};
 
 use crate::fault::Fault;
 use ivl_words::{next_word, number_from, pairs_from, three_words};
@@ -21,8 +21,11 @@ pub enum Request<'a> {
 }
 
 const VAR: &str = "var x l u l u ..";
+
 const CUT: &str = "cut x l u l u ..";
+
 const SUM: &str = "sum x y z";
+
 const SHOW: &str = "show";
 
 /// Reads the request of a command and the words after it. Linear in the line; allocates the list
@@ -36,7 +39,7 @@ pub fn request_from<'a>(
     name: &'a str,
     words: &'a str,
 ) -> Result<Request<'a>, Fault<'a>>
-    ensures { IfOk result (λ request. request_of name.now (words_between words.now) ≡ Some (asked_of request)) }
+    ensures { IfOk result (λ request. request_of name.entry.now (words_between words.entry.now) ≡ Some (asked_of request)) }
 {
     match name {
         "var" => {
@@ -64,7 +67,9 @@ fn variable_and_pairs<'a>(
     alloc: Global,
     words: &'a str,
     form: &'static str,
-) -> Result<(&'a str, Vec<(i64, i64)>), Fault<'a>> {
+) -> Result<(&'a str, Vec<(i64, i64)>), Fault<'a>>
+    ensures { IfOk result (λ read. name_and_pairs (words_between words.entry.now) ≡ Some (read.0.now, read.1.items)) }
+{
     let Some((variable, bounds)) = next_word(words) else {
         return Err(Fault::Form(form));
     };
