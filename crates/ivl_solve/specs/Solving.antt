@@ -2,7 +2,7 @@
 --     index_of names name      the index of the variable with this name
 --     required constraints      the posts that require some constraints, in their order
 --     Carries asked old new      the request takes the solver from old to new
-use Rattle.std.specs.Prelude.{◌≡◌, ℕ, ℤ, List, [], ◌∷◌, ◌++◌, bytes_eq, map, position, Option, Some}
+use Rattle.std.specs.Prelude.{◌≡◌, ℕ, ℤ, List, [], ◌∷◌, ◌++◌, bytes_eq, map, position, Option, Some, None}
 use Rattle.ivl_laws.specs.Runs.{Covers, IsRunsOf}
 use Rattle.ivl_laws.specs.Families.{set_at}
 use Rattle.ivl_calc.specs.declared.store.constraint.Constraint.{Constraint}
@@ -25,6 +25,7 @@ required constraints = map Require constraints
 
 -- one more variable, whose domain is the union of the pairs
 pub record Defines (name : List ℕ) (pairs : List (ℤ × ℤ)) (old new : State) : Type 0 where
+  pub is_new : index_of old.names name ≡ None
   pub names : new.names ≡ old.names ++ name ∷ []
   pub domain : List (ℤ × ℤ)
   pub domains : new.domains ≡ old.domains ++ domain ∷ []

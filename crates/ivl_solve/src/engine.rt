@@ -1,5 +1,7 @@
 //! The program's engine.
-ghost use Rattle.std.specs.Prelude.{◌<◌, IfSome, length};
+ghost use Rattle.std.specs.Prelude.{◌≡◌, ◌<◌, IfSome, OnOk, length};
+ghost use Rattle.std.specs.Io.KnownBytes.{IsAtEnd};
+ghost use Rattle.ivl_solve.specs.Outcome.{outcome_of};
 
 use crate::fault::Fault;
 use crate::replies::{write_domains, write_fault, write_state};
@@ -53,11 +55,13 @@ pub fn session<R: Read, W: Write>(
     alloc: Global,
     reader: &mut R,
     writer: &mut W,
-) -> Result<(), SessionFault> {
+) -> Result<(), SessionFault>
+    ensures { OnOk result (IsAtEnd (R.remaining reader.new)) }
+{
     let mut solver = Solver::new(alloc);
     let mut line = Vec::new(alloc);
     let mut piece = [0u8; PIECE];
-    for _ in 0..u64::MAX {
+    'reads: for _ in 0..u64::MAX {
         flush(writer)?;
         match reader.read(&mut piece) {
             Ok(0) => return finish(alloc, &mut solver, &line, writer),
@@ -178,7 +182,9 @@ fn answer_request<W: Write>(
 /// assert_eq!(rt; outcome(&Ok(())), (0, ""));
 /// assert_eq!(rt; outcome(&Err(SessionFault::Read)), (1, "ivl_solve: read failed"));
 /// ```
-pub fn outcome(ended: &Result<(), SessionFault>) -> (u8, &'static str) {
+pub fn outcome(ended: &Result<(), SessionFault>) -> (u8, &'static str)
+    ensures { (result.0, result.1.now) ≡ outcome_of ended.now }
+{
     match ended {
         Ok(()) => (0, ""),
         Err(SessionFault::Read) => (1, "ivl_solve: read failed"),

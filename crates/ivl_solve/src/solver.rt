@@ -103,7 +103,7 @@ impl Solver {
         ensures ok { OnOk result (self.new ≡ record { names = self.old.names ++ name.now ∷ []; domains = self.old.domains ++ domain ∷ []; constraints = self.old.constraints }) }
         ensures err { OnErr result (self.new ≡ self.old) }
     {
-        let mut domains = Vec::with_capacity(self.alloc, self.domains().len())?;
+        let mut domains = Vec::with_capacity(self.alloc, self.domains().len().saturating_add(1))?;
         for old in self.store.domains() {
             domains.push(old.try_clone()?)?;
         }
