@@ -28,12 +28,21 @@ pub enum Fault<'a> {
 }
 
 impl<'a> From<AllocError> for Fault<'a> {
+    ghost use Rattle.std.specs.Prelude.{◌≡◌};
+    ghost use Rattle.ivl_solve.specs.declared.fault.Fault.TheVariants.{Memory};
+
+    ghost from_gives = { λ _ fault. fault ≡ Memory };
+
     fn from(_: AllocError) -> Fault<'a> {
         Fault::Memory
     }
 }
 
 impl<'a> From<StoreFault> for Fault<'a> {
+    ghost use Rattle.ivl_solve.specs.Faults.{IsOfLine};
+
+    ghost from_gives = { λ _ fault. ¬ (IsOfLine fault) };
+
     fn from(fault: StoreFault) -> Fault<'a> {
         match fault {
             StoreFault::Variable(i) => Fault::Variable(i),

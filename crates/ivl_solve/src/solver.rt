@@ -1,10 +1,11 @@
 //! The variables by name, their domains, and the sums that hold between them.
-ghost use Rattle.std.specs.Prelude.{◌≡◌, ◌∷◌, ◌++◌, ◌↔◌, [], Some, Any, IfOk, IsTrue, OnErr, OnOk, bytes_eq, map, position, string_bytes};
+ghost use Rattle.std.specs.Prelude.{◌≡◌, ◌∷◌, ◌++◌, ◌↔◌, [], Some, Any, IfErr, IfOk, IsTrue, OnErr, OnOk, bytes_eq, map, position, string_bytes};
 ghost use Rattle.ivl_laws.specs.Runs.{Covers, IsRunsOf};
 ghost use Rattle.ivl_laws.specs.Families.{set_at};
 ghost use Rattle.ivl_calc.specs.Posts.{IsLeftBy};
 ghost use Rattle.ivl_calc.specs.Solutions.{AreDistinct};
 ghost use Rattle.ivl_calc.specs.declared.store.post.Post.TheVariants.{Restrict};
+ghost use Rattle.ivl_solve.specs.Faults.{IsOfLine};
 ghost use Rattle.ivl_solve.specs.Requests.{asked_of};
 ghost use Rattle.ivl_solve.specs.Solving.{Adds, Carries, Cuts, Defines, index_of as index_in, required as required_by};
 
@@ -52,9 +53,10 @@ impl Solver {
         }
     }
 
-    /// Carries out what a line asks for.
+    /// Carries out what a line asks for. A fault of the line changes nothing.
     pub fn carry_out<'a>(&mut self, request: Request<'a>) -> Result<(), Fault<'a>>
-        ensures { OnOk result (Carries (asked_of request.entry) self.old self.new) }
+        ensures carried { OnOk result (Carries (asked_of request.entry) self.old self.new) }
+        ensures refused { IfErr result (λ fault. IsOfLine fault → self.new ≡ self.old) }
     {
         match request {
             Request::Var(name, pairs) => self.define(name, &pairs),
@@ -115,7 +117,8 @@ impl Solver {
 
     /// Keeps the members of a domain that are in the union of the pairs.
     fn cut<'a>(&mut self, name: &'a str, pairs: &[(i64, i64)]) -> Result<(), Fault<'a>>
-        ensures { OnOk result (Cuts name.now pairs.now self.old self.new) }
+        ensures ok { OnOk result (Cuts name.now pairs.now self.old self.new) }
+        ensures refused { IfErr result (λ fault. IsOfLine fault → self.new ≡ self.old) }
     {
         let variable = self.known(name)?;
         let allowed = set_of(self.alloc, pairs)?;
@@ -125,7 +128,8 @@ impl Solver {
 
     /// Requires that two variables add to a third.
     fn sum<'a>(&mut self, x: &'a str, y: &'a str, z: &'a str) -> Result<(), Fault<'a>>
-        ensures { OnOk result (Adds x.now y.now z.now self.old self.new) }
+        ensures ok { OnOk result (Adds x.now y.now z.now self.old self.new) }
+        ensures refused { IfErr result (λ fault. IsOfLine fault → self.new ≡ self.old) }
     {
         let sum = Constraint {
             x: self.known(x)?,
