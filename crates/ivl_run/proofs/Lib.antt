@@ -3,4 +3,3 @@ pub mod Cuts
 pub mod Shown
 pub mod Splits
 pub mod Pairs
-pub mod Spaces

@@ -1,5 +1,4 @@
 pub mod Lines
-pub mod Numbers
 pub mod Commands
 pub mod Reading
 pub mod Printed

@@ -1,12 +1,11 @@
 //! The command that a line's words are: its name, and after it the words of its form.
 ghost use Rattle.std.specs.Prelude.{◌≡◌, IfOk, option_map};
 ghost use Rattle.ivl_run.specs.Commands.{action_from, looked_up, commands, register_of, register_alone_of, two_registers_of, three_registers_of, register_and_number_of, two_registers_and_number_of, of_pairs};
-ghost use Rattle.ivl_run.specs.Lines.{words_between};
+ghost use Rattle.ivl_words.specs.Words.{words_between};
 ghost use Rattle.ivl_run.specs.View.{action_of};
 
-use crate::numbers::{number_from, pairs_from};
-use crate::words::{next_word, one_word, three_words, two_words};
 use ivl_calc::Command;
+use ivl_words::{next_word, number_from, one_word, pairs_from, three_words, two_words};
 use std::alloc::{AllocError, Global};
 
 /// The command of this name and the words after it, or `None` where that is no command.

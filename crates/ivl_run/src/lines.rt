@@ -5,8 +5,8 @@ ghost use Rattle.ivl_run.specs.Reading.{reading_of};
 ghost use Rattle.ivl_run.specs.View.{view_of};
 
 use crate::commands::command_from;
-use crate::words::next_word;
 use ivl_calc::Command;
+use ivl_words::next_word;
 use std::alloc::{AllocError, Global};
 
 /// What a line says: nothing, no command, or a command.

@@ -5,11 +5,9 @@
 mod commands;
 mod engine;
 mod lines;
-mod numbers;
 mod replies;
 #[cfg(test)]
 mod tests;
-mod words;
 
 use engine::{SessionFault, outcome, session};
 use std::io;

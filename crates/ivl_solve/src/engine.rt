@@ -1,0 +1,194 @@
+//! The program's engine.
+ghost use Rattle.std.specs.Prelude.{◌≡◌, ◌<◌, IfSome, OnOk, length};
+ghost use Rattle.std.specs.Io.KnownBytes.{IsAtEnd};
+ghost use Rattle.ivl_solve.specs.Outcome.{outcome_of};
+
+use crate::fault::Fault;
+use crate::replies::{write_domains, write_fault, write_state};
+use crate::request::{Request, request_from};
+use crate::solver::Solver;
+use ivl_words::next_word;
+use std::alloc::{AllocError, Global};
+use std::io;
+use std::io::{ErrorKind, Read, Write};
+use thiserror::Error;
+
+/// Why a session ended before its input did.
+#[derive(Clone, Copy, Debug, PartialEq, Eq, Error)]
+pub enum SessionFault {
+    /// A read failed.
+    #[error("read failed")]
+    Read,
+    /// A write or a flush failed.
+    #[error("write failed")]
+    Write,
+    /// A line found no memory to be kept in.
+    #[error("out of memory")]
+    Memory,
+}
+
+impl From<AllocError> for SessionFault {
+    fn from(_: AllocError) -> SessionFault {
+        SessionFault::Memory
+    }
+}
+
+// As many bytes as one read may bring.
+const PIECE: usize = 65536;
+
+/// Answers each line of the input, over a solver that has no variables at first. What is written is
+/// flushed before each read and at the end.
+///
+/// # Errors
+///
+/// `Read` if a read failed, or the reader still gave bytes after 2^64 - 1 reads; an interrupted
+/// read is read again. `Write` if a write or a flush failed. `Memory` if a line that comes in
+/// pieces cannot be kept. Out of memory inside a line is an answer, and the session goes on.
+///
+/// ```
+/// let mut input: &[u8] = b"var x 1 9\ncut x 2 5\nshow";
+/// let mut written = Vec::new(alloc);
+/// assert_eq!(rt; session(alloc, &mut input, &mut written), Ok(()));
+/// assert_eq!(rt; written.as_slice(), b"ok\nok\nx [2..5]\nok\n".as_slice());
+/// ```
+pub fn session<R: Read, W: Write>(
+    alloc: Global,
+    reader: &mut R,
+    writer: &mut W,
+) -> Result<(), SessionFault>
+    ensures { OnOk result (IsAtEnd (R.remaining reader.new)) }
+{
+    let mut solver = Solver::new(alloc);
+    let mut line = Vec::new(alloc);
+    let mut piece = [0u8; PIECE];
+    'reads: for _ in 0..u64::MAX {
+        flush(writer)?;
+        match reader.read(&mut piece) {
+            Ok(0) => return finish(alloc, &mut solver, &line, writer),
+            Ok(count) => answer_piece(alloc, &mut solver, &mut line, &piece[..count], writer)?,
+            Err(error) => {
+                if error.kind() != ErrorKind::Interrupted {
+                    return Err(SessionFault::Read);
+                }
+            }
+        }
+    }
+    Err(SessionFault::Read)
+}
+
+fn flush<W: Write>(writer: &mut W) -> Result<(), SessionFault> {
+    if writer.flush().is_err() {
+        return Err(SessionFault::Write);
+    }
+    Ok(())
+}
+
+// Answers the last line, which no newline ended.
+fn finish<W: Write>(
+    alloc: Global,
+    solver: &mut Solver,
+    last: &[u8],
+    writer: &mut W,
+) -> Result<(), SessionFault> {
+    answer_line(alloc, solver, last, writer)?;
+    flush(writer)
+}
+
+// Answers the lines that a newline of the piece ends, and keeps what comes after the last newline.
+fn answer_piece<W: Write>(
+    alloc: Global,
+    solver: &mut Solver,
+    line: &mut Vec<u8>,
+    piece: &[u8],
+    writer: &mut W,
+) -> Result<(), SessionFault> {
+    let mut rest = piece;
+    while let Some((bytes, after)) = split_line(rest) {
+        line.extend_from_slice(bytes)?;
+        answer_line(alloc, solver, line, writer)?;
+        line.clear();
+        rest = after;
+    }
+    line.extend_from_slice(rest)?;
+    Ok(())
+}
+
+// The bytes before the first newline and those after it, or `None` where there is no newline.
+fn split_line(bytes: &[u8]) -> Option<(&[u8], &[u8])>
+    ensures { IfSome result (λ parts. length parts.1.now < length bytes.now) }
+{
+    let at = bytes.iter().position(|byte| *byte == b'\n')?;
+    Some((&bytes[..at], &bytes[at + 1..]))
+}
+
+// Answers one line. A line without words has no answer.
+fn answer_line<W: Write>(
+    alloc: Global,
+    solver: &mut Solver,
+    line: &[u8],
+    writer: &mut W,
+) -> Result<(), SessionFault> {
+    let written = match str::from_utf8(line) {
+        Ok(text) => answer_text(alloc, solver, without_return(text), writer),
+        Err(_) => write_fault(writer, &Fault::Bytes),
+    };
+    if written.is_err() {
+        return Err(SessionFault::Write);
+    }
+    Ok(())
+}
+
+fn without_return(text: &str) -> &str {
+    match text.strip_suffix('\r') {
+        Some(front) => front,
+        None => text,
+    }
+}
+
+fn answer_text<W: Write>(
+    alloc: Global,
+    solver: &mut Solver,
+    text: &str,
+    writer: &mut W,
+) -> io::Result<()> {
+    let Some((name, words)) = next_word(text) else {
+        return Ok(());
+    };
+    match request_from(alloc, name, words) {
+        Ok(request) => answer_request(solver, request, writer),
+        Err(fault) => write_fault(writer, &fault),
+    }
+}
+
+// Carries out what a line asks for, and writes the answer to it.
+fn answer_request<W: Write>(
+    solver: &mut Solver,
+    request: Request<'_>,
+    writer: &mut W,
+) -> io::Result<()> {
+    let shows = matches!(&request, Request::Show);
+    if let Err(fault) = solver.carry_out(request) {
+        return write_fault(writer, &fault);
+    }
+    if shows {
+        write_domains(writer, solver)?;
+    }
+    write_state(writer, solver)
+}
+
+/// The status with which the program ends, and what it says on standard error.
+///
+/// ```
+/// assert_eq!(rt; outcome(&Ok(())), (0, ""));
+/// assert_eq!(rt; outcome(&Err(SessionFault::Read)), (1, "ivl_solve: read failed"));
+/// ```
+pub fn outcome(ended: &Result<(), SessionFault>) -> (u8, &'static str)
+    ensures { (result.0, result.1.now) ≡ outcome_of ended.now }
+{
+    match ended {
+        Ok(()) => (0, ""),
+        Err(SessionFault::Read) => (1, "ivl_solve: read failed"),
+        Err(SessionFault::Write) => (1, "ivl_solve: write failed"),
+        Err(SessionFault::Memory) => (1, "ivl_solve: out of memory"),
+    }
+}

@@ -1,0 +1,52 @@
+//! Why a line is not carried out.
+use ivl_calc::store::StoreFault;
+use std::alloc::AllocError;
+
+/// Why a line is not carried out. The words are those of the line.
+#[derive(Drop)]
+pub enum Fault<'a> {
+    /// The line is not UTF-8.
+    Bytes,
+    /// The first word is no command.
+    Command(&'a str),
+    /// The words after the command do not have its form, which is this.
+    Form(&'static str),
+    /// The word is no number of `i64`.
+    Number(&'a str),
+    /// A bound is outside the range, which is that of `i64` without its least number.
+    Range,
+    /// No variable has this name.
+    Unknown(&'a str),
+    /// A variable has this name already.
+    Defined(&'a str),
+    /// The variable is named twice in a sum.
+    Repeated(&'a str),
+    /// The store has no variable with this index, which cannot be: names are looked up.
+    Variable(usize),
+    /// An allocation failed.
+    Memory,
+}
+
+impl<'a> From<AllocError> for Fault<'a> {
+    ghost use Rattle.std.specs.Prelude.{◌≡◌};
+    ghost use Rattle.ivl_solve.specs.declared.fault.Fault.TheVariants.{Memory};
+
+    ghost from_gives = { λ _ fault. fault ≡ Memory };
+
+    fn from(_: AllocError) -> Fault<'a> {
+        Fault::Memory
+    }
+}
+
+impl<'a> From<StoreFault> for Fault<'a> {
+    ghost use Rattle.ivl_solve.specs.Faults.{IsOfLine};
+
+    ghost from_gives = { λ _ fault. ¬ (IsOfLine fault) };
+
+    fn from(fault: StoreFault) -> Fault<'a> {
+        match fault {
+            StoreFault::Variable(i) => Fault::Variable(i),
+            StoreFault::Memory => Fault::Memory,
+        }
+    }
+}

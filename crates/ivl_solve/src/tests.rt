@@ -1,0 +1,112 @@
+//! Sessions over memory. Readers and writers that fail stand in `ends`.
+mod ends;
+
+use crate::engine::{SessionFault, outcome, session};
+use std::alloc::Global;
+use std::process::Abort;
+use std::test::Fail;
+
+// A session over these lines writes these answers.
+fn check_session(
+    rt: &(impl Alloc<A = Global> + Abort),
+    lines: &str,
+    answers: &str,
+) -> Result<(), Fail> {
+    let mut written = Vec::new(rt.alloc());
+    let ended = session(rt.alloc(), &mut lines.as_bytes(), &mut written);
+    assert_eq!(rt; ended, Ok(()));
+    assert_eq!(rt; str::from_utf8(&written), Ok(answers), "after {lines}");
+    Ok(())
+}
+
+// Two dice that show 11, one of them even. The other shows 5 then.
+#[test]
+fn two_dice(rt: HostRuntime) -> Result<(), Fail> {
+    let lines = "var one 1 6\nvar other 1 6\nvar both 11 11\nsum one other both\nshow\n\
+        cut one 2 2 4 4 6 6\nshow\n";
+    let answers = "ok\nok\nok\nok\none [5..6]\nother [5..6]\nboth [11..11]\nok\n\
+        ok\none [6..6]\nother [5..5]\nboth [11..11]\nok\n";
+    check_session(&rt, lines, answers)
+}
+
+// a and b between 0 and 9, a + one = b and b + one = a: narrowing empties all three.
+#[test]
+fn a_loop_has_no_solution(rt: HostRuntime) -> Result<(), Fail> {
+    let lines = "var a 0 9\nvar b 0 9\nvar one 1 1\nsum a one b\nshow\nsum b one a\nshow\n";
+    let answers = "ok\nok\nok\nok\na [0..8]\nb [1..9]\none [1..1]\nok\n\
+        no solution\na {}\nb {}\none {}\nno solution\n";
+    check_session(&rt, lines, answers)
+}
+
+// A variable may come after the sums, and its domain may be empty or at the ends of the range.
+#[test]
+fn domains_as_they_are_given(rt: HostRuntime) -> Result<(), Fail> {
+    let lines = "show\nvar x 20 30 1 9 5 12\nvar y 9 1\nshow\n";
+    let answers = "ok\nok\nno solution\nx {[1..12][20..30]}\ny {}\nno solution\n";
+    check_session(&rt, lines, answers)?;
+    let lines = "var x -9223372036854775807 9223372036854775807\nshow\n";
+    let answers = "ok\nx [-9223372036854775807..9223372036854775807]\nok\n";
+    check_session(&rt, lines, answers)
+}
+
+// A line that cannot be carried out, and its answer. `x` and `y` are [1..9] before it and after it.
+const BAD_LINES: [(&str, &str); 20] = [
+    ("frob", "unknown command frob"),
+    ("Var z", "unknown command Var"),
+    ("var", "write var x l u l u .."),
+    ("var z 1", "write var x l u l u .."),
+    ("var z 1 2 3", "write var x l u l u .."),
+    ("var z 1 two", "bad number two"),
+    ("var z +1 2", "bad number +1"),
+    (
+        "var z 1 9223372036854775808",
+        "bad number 9223372036854775808",
+    ),
+    ("var z -9223372036854775808 1", "out of range"),
+    ("var x 1 2", "x is defined already"),
+    ("cut", "write cut x l u l u .."),
+    ("cut x 1", "write cut x l u l u .."),
+    ("cut x 1 2.5", "bad number 2.5"),
+    ("cut x -9223372036854775808 1", "out of range"),
+    ("cut z 1 2", "unknown variable z"),
+    ("sum x y", "write sum x y z"),
+    ("sum x y z w", "write sum x y z"),
+    ("sum x y z", "unknown variable z"),
+    ("sum x y x", "x is named twice"),
+    ("show x", "write show"),
+];
+
+#[test]
+fn bad_lines(rt: HostRuntime) -> Result<(), Fail> {
+    for (line, answer) in BAD_LINES {
+        let lines = format!(in rt.alloc(); "var x 1 9\nvar y 1 9\n{line}\nshow")?;
+        let answers = format!(in rt.alloc(); "ok\nok\nerror: {answer}\nx [1..9]\ny [1..9]\nok\n")?;
+        check_session(&rt, lines.as_str(), answers.as_str())?;
+    }
+    Ok(())
+}
+
+// Spaces, carriage returns and empty lines, and bytes that are no text.
+#[test]
+fn ends_of_lines(rt: HostRuntime) -> Result<(), Fail> {
+    check_session(&rt, "", "")?;
+    check_session(&rt, "\n  \r\n\n", "")?;
+    check_session(&rt, "  var  x 1 2  \r\nshow\r", "ok\nx [1..2]\nok\n")?;
+    let mut written = Vec::new(rt.alloc());
+    let mut input: &[u8] = b"show \xff\nshow";
+    assert_eq!(rt; session(rt.alloc(), &mut input, &mut written), Ok(()));
+    assert_eq!(rt; written.as_slice(), b"error: not UTF-8\nok\n".as_slice());
+    Ok(())
+}
+
+#[test]
+fn outcomes(rt: HostRuntime) {
+    assert_eq!(rt; outcome(&Ok(())), (0, ""));
+    for (fault, line) in [
+        (SessionFault::Read, "ivl_solve: read failed"),
+        (SessionFault::Write, "ivl_solve: write failed"),
+        (SessionFault::Memory, "ivl_solve: out of memory"),
+    ] {
+        assert_eq!(rt; outcome(&Err(fault)), (1, line));
+    }
+}

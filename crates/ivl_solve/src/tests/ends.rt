@@ -1,0 +1,105 @@
+//! Sessions over readers and writers that fail, or give little, and sessions that find no memory.
+use crate::engine::{SessionFault, session};
+use std::io;
+use std::io::{ErrorKind, Read, Write};
+use std::test::Fail;
+
+// Gives its text one byte a read. Where `failure` is there, the read after the text fails so.
+#[derive(Drop)]
+struct Slow<'a> {
+    text: &'a [u8],
+    failure: Option<ErrorKind>,
+}
+
+impl<'a> Read for Slow<'a> {
+    fn read(&mut self, buf: &mut [u8]) -> io::Result<usize> {
+        if self.text.is_empty()
+            && let Some(kind) = self.failure
+        {
+            return Err(io::Error::from(kind));
+        }
+        let count = buf.len().min(1);
+        self.text.read(&mut buf[..count])
+    }
+}
+
+#[test]
+fn a_byte_a_read(rt: HostRuntime) -> Result<(), Fail> {
+    let mut reader = Slow {
+        text: b"var x 1 9\ncut x 2 5\nshow",
+        failure: None,
+    };
+    let mut written = Vec::new(rt.alloc());
+    assert_eq!(rt; session(rt.alloc(), &mut reader, &mut written), Ok(()));
+    assert_eq!(rt; written.as_slice(), b"ok\nok\nx [2..5]\nok\n".as_slice());
+    Ok(())
+}
+
+#[test]
+fn a_failed_read(rt: HostRuntime) -> Result<(), Fail> {
+    let mut reader = Slow {
+        text: b"var x 1 9\nshow",
+        failure: Some(ErrorKind::BrokenPipe),
+    };
+    let mut written = Vec::new(rt.alloc());
+    let ended = session(rt.alloc(), &mut reader, &mut written);
+    assert_eq!(rt; ended, Err(SessionFault::Read));
+    assert_eq!(rt; written.as_slice(), b"ok\n".as_slice());
+    Ok(())
+}
+
+// Takes some bytes, and then fails. Where it has no room at all, a flush fails too.
+#[derive(Drop)]
+struct Full {
+    room: usize,
+}
+
+impl Write for Full {
+    fn write(&mut self, buf: &[u8]) -> io::Result<usize> {
+        let count = buf.len().min(self.room);
+        if count == 0 {
+            return Err(io::Error::from(ErrorKind::StorageFull));
+        }
+        self.room -= count;
+        Ok(count)
+    }
+
+    fn flush(&mut self) -> io::Result<()> {
+        if self.room == 0 {
+            return Err(io::Error::from(ErrorKind::StorageFull));
+        }
+        Ok(())
+    }
+}
+
+#[test]
+fn a_failed_write(rt: HostRuntime) -> Result<(), Fail> {
+    for room in 0..8 {
+        let mut input: &[u8] = b"var x 1 9\nshow\nfrob\n";
+        let ended = session(rt.alloc(), &mut input, &mut Full { room });
+        assert_eq!(rt; ended, Err(SessionFault::Write));
+    }
+    Ok(())
+}
+
+// Where one request for memory is refused, as `rt try --test --fail-alloc N` does, the session ends so
+// or one line is answered so, and the lines after it are answered.
+#[test]
+fn one_refused_request(rt: HostRuntime) -> Result<(), Fail> {
+    let mut input: &[u8] = b"var x 1 9\nvar y 1 9\nvar z 11 11\nsum x y z\ncut x 2 5\nshow\n";
+    let mut written = Vec::with_capacity(rt.alloc(), 1024)?;
+    if let Err(fault) = session(rt.alloc(), &mut input, &mut written) {
+        assert_eq!(rt; fault, SessionFault::Memory);
+        return Ok(());
+    }
+    let refused = written
+        .split(|b| *b == b'\n')
+        .filter(|line| *line == b"error: out of memory".as_slice())
+        .count();
+    assert!(rt; refused <= 1);
+    if refused == 0 {
+        let all: &[u8] = b"ok\nok\nok\nok\nok\nx [2..5]\ny [6..9]\nz [11..11]\nok\n";
+        assert_eq!(rt; written.as_slice(), all);
+    }
+    Ok(())
+}
