@@ -1,7 +1,7 @@
 //! The operands, the same at each run: numbers of a linear congruential generator.
 
-use crate::json::JsonInputs;
 use crate::expressions::Expressions;
+use crate::json::JsonInputs;
 use anyhow::{Context, Result, ensure};
 use intervallum::interval::Interval;
 use intervallum::interval_set::{IntervalSet, ToIntervalSet};

@@ -72,8 +72,7 @@ impl Outcome {
 }
 
 impl Measure {
-    pub const ALL: [Measure; 24] = [
-    pub const ALL: [Measure; 23] = [
+    pub const ALL: [Measure; 26] = [
         Measure::BuildExtend,
         Measure::BuildPairs,
         Measure::ExtendOne,

@@ -152,7 +152,11 @@ pub fn print_answers(rt: &(impl Print + AllocGlobal + Files)) -> Result<()> {
                 .zip(&fixed.domains)
                 .filter(|(ours, theirs)| ours == theirs)
                 .count();
-            println!(rt; "store {name} {} {is_fixed} {same} of {}", way.name(), fixed.domains.len())?;
+            println!(rt;
+                "store {name} {} {is_fixed} {same} of {}",
+                way.name(),
+                fixed.domains.len()
+            )?;
         }
     }
     Ok(())

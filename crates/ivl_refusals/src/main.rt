@@ -6,8 +6,8 @@
 #![tactic(auto)]
 
 mod calls;
-mod json;
 mod expr;
+mod json;
 mod store;
 
 use calls::{FIRST, SECOND, call};

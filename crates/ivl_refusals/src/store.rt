@@ -16,7 +16,12 @@ const SUM: Constraint = Constraint { x: 0, y: 1, z: 2 };
 
 const NEXT: Constraint = Constraint { x: 1, y: 3, z: 2 };
 
-const FRESH: Family = [&[(0, 3), (8, 9)], &[(0, 1), (4, 9)], &[(2, 6), (20, 30)], &[(1, 1)]];
+const FRESH: Family = [
+    &[(0, 3), (8, 9)],
+    &[(0, 1), (4, 9)],
+    &[(2, 6), (20, 30)],
+    &[(1, 1)],
+];
 
 /// The domains once `SUM` has narrowed them.
 const NARROWED: Family = [&[(0, 3)], &[(0, 1), (4, 6)], &[(2, 6)], &[(1, 1)]];
@@ -40,20 +45,36 @@ pub fn ending(alloc: Global, name: &[u8]) -> Option<Result<&'static str, AllocEr
 fn narrowed(alloc: Global) -> Result<&'static str, AllocError> {
     let mut store = store_of(alloc, &FRESH)?;
     let answer = store.narrow(&SUM);
-    Ok(judged(&store, answer == Ok(true), is_refusal(&answer), &NARROWED, &[&FRESH]))
+    Ok(judged(
+        &store,
+        answer == Ok(true),
+        is_refusal(&answer),
+        &NARROWED,
+        &[&FRESH],
+    ))
 }
 
 fn propagated(alloc: Global) -> Result<&'static str, AllocError> {
     let mut store = store_of(alloc, &FRESH)?;
     let answer = store.propagate(&[SUM, NEXT], 9);
     let between = [&FRESH, &NARROWED, &ROUND, &FIXED];
-    Ok(judged(&store, answer == Ok(true), is_refusal(&answer), &FIXED, &between))
+    Ok(judged(
+        &store,
+        answer == Ok(true),
+        is_refusal(&answer),
+        &FIXED,
+        &between,
+    ))
 }
 
 fn posted(alloc: Global) -> Result<&'static str, AllocError> {
     let mut store = store_of(alloc, &FRESH)?;
     let cut = [(-5, 25)].to_interval_set(alloc)?;
-    let posts = vec![in alloc; Post::Require(SUM), Post::Restrict(2, cut), Post::Require(NEXT)]?;
+    let posts = vec![in alloc;
+        Post::Require(SUM),
+        Post::Restrict(2, cut),
+        Post::Require(NEXT),
+    ]?;
     let answer = post_if_distinct(&mut store, &posts);
     let is_right = match &answer {
         Ok(Some(replies)) => replies.as_slice() == [false, false, false].as_slice(),

@@ -68,11 +68,7 @@ fn propagated<B: Width>(
     }
 }
 
-fn posted<B>(
-    alloc: Global,
-    store: &mut Store<B>,
-    text: &str,
-) -> Result<Option<String>, AllocError>
+fn posted<B>(alloc: Global, store: &mut Store<B>, text: &str) -> Result<Option<String>, AllocError>
 where
     B: Width + FromStr,
     B::Err: Drop,
@@ -153,10 +149,7 @@ where
     Ok(set(alloc, runs)?.map(|allowed| Post::Restrict(variable, allowed)))
 }
 
-fn truth(
-    alloc: Global,
-    answer: Result<bool, StoreFault>,
-) -> Result<Option<String>, AllocError> {
+fn truth(alloc: Global, answer: Result<bool, StoreFault>) -> Result<Option<String>, AllocError> {
     let text = match answer {
         Ok(true) => String::from_str(alloc, "yes")?,
         Ok(false) => String::from_str(alloc, "no")?,

@@ -1,5 +1,5 @@
 //! One module for each crate.
 
-mod json;
 mod expr;
+mod json;
 mod store;

@@ -80,8 +80,7 @@ fn narrow(rt: HostRuntime) -> Result<(), Fail> {
     let ends = IntervalSet::<Narrow>::from_value(
         rt.alloc(),
         &Value::from_str(rt.alloc(), "[[-99,99]]")?,
-    )?
-    .complement()?;
+    )?.complement()?;
     check_written(&rt, &ends, "[[-100,-100],[100,100]]")?;
     check_written(&rt, &Interval::<Narrow>::empty(), "null")
 }
