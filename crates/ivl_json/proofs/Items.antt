@@ -1,9 +1,8 @@
 -- Reading the items of a set's array one by one.
-use Rattle.std.proofs.Common.{◌≡◌, ℕ, suc, ◌+◌, ℤ, ◌<◌, List, [], ◌∷◌, ◌++◌, length, drop, get_or, drop-cons, refl, ap, sym, ◌∙◌, append_assoc, arith}
+use Rattle.std.proofs.Common.{◌≡◌, ℕ, suc, ℤ, ◌<◌, List, [], ◌∷◌, ◌++◌, length, drop, get_or, drop-cons, refl, ap, sym, append_assoc}
 use Rattle.std.specs.Prelude.{Result, Ok, Err}
 use Rattle.serde_json.specs.View.{view, items_view}
 use Rattle.serde_json.specs.declared.value.Value.{Value}
-use Rattle.ivl_json.specs.declared.faults.ItemFault.{ItemFault}
 use Rattle.ivl_json.specs.declared.faults.JsonFault.{JsonFault}
 use Rattle.ivl_json.specs.Reading.{interval_read}
 use Rattle.ivl_json.specs.SetReading.{item_then, items_read}
