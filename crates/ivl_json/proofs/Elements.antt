@@ -1,8 +1,7 @@
 -- The elements of an interval's array.
-use Rattle.std.proofs.Common.{◌≡◌, ◌≢◌, ℕ, suc, List, [], ◌∷◌, length, refl, ap}
-use Rattle.std.specs.Prelude.{ℤ, Result, Ok, Err}
-use Rattle.serde_json.specs.Data.{Items, no_items, item}
-use Rattle.serde_json.specs.View.{view, items_view}
+use Rattle.std.proofs.Common.{◌≡◌, ◌≢◌, suc, List, [], ◌∷◌, length, refl, ap}
+use Rattle.std.specs.Prelude.{ℤ, Err}
+use Rattle.serde_json.specs.View.{items_view}
 use Rattle.serde_json.specs.declared.value.Value.{Value}
 use Rattle.ivl_json.specs.declared.faults.ItemFault.{ItemFault}
 use Rattle.ivl_json.specs.Reading.{count_of, elements_read}

@@ -1,7 +1,7 @@
 -- Examples of what values read as sets, each definition at small values.
-use Rattle.std.proofs.Common.{inl, inr, ⊎_elim, ◌≡◌, ℤ, pos, negsuc, [], ◌∷◌, Ok, Err, refl, arith, codes, true}
+use Rattle.std.proofs.Common.{inl, ⊎_elim, ◌≡◌, ℤ, pos, [], ◌∷◌, Ok, Err, refl, arith, codes}
 use Rattle.std.proofs.lemmas.Int.{ints}
-use Rattle.serde_json.specs.Data.{Data, null, boolean, number, string, array, object, unsigned, Items, no_items, item, no_members}
+use Rattle.serde_json.specs.Data.{Data, null, number, string, array, object, unsigned, no_items, item, no_members}
 use Rattle.ivl_laws.specs.Sets.{IsBetween}
 use Rattle.ivl_json.specs.declared.faults.ItemFault.{ItemFault}
 use Rattle.ivl_json.specs.declared.faults.JsonFault.{JsonFault}

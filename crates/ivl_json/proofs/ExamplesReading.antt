@@ -1,8 +1,8 @@
 -- Examples of what values read as bounds and intervals, each definition at small values. `negsuc 0` is -1.
-use Rattle.std.proofs.Common.{◌≡◌, ℤ, pos, negsuc, [], ◌∷◌, Some, None, Ok, Err, Float, refl, arith, codes, true}
+use Rattle.std.proofs.Common.{◌≡◌, ℤ, pos, negsuc, Some, None, Ok, Err, Float, refl, arith, codes, true}
 use Rattle.std.proofs.lemmas.Int.{ints}
-use Rattle.serde_json.specs.Data.{Data, null, boolean, number, string, array, object, unsigned, negative, float, no_items, item, no_members}
-use Rattle.ivl_laws.specs.Sets.{IsBetween, Only, HasNone, SameMembers}
+use Rattle.serde_json.specs.Data.{null, boolean, number, string, array, object, unsigned, negative, float, no_items, item, no_members}
+use Rattle.ivl_laws.specs.Sets.{IsBetween, Only}
 use Rattle.ivl_json.specs.declared.faults.ItemFault.{ItemFault}
 use Rattle.ivl_json.specs.declared.faults.JsonFault.{JsonFault}
 use Rattle.ivl_json.specs.Faults.{fault_of}

@@ -1,18 +1,15 @@
 -- What is written reads back.
-use Rattle.std.proofs.Common.{inl, inr, ◌≡◌, ◌&&◌, Bool, true, false, ℕ, zero, suc, ℤ, pos, negsuc, ◌≤ℤ◌, ◌<ℤ◌, List, [], ◌∷◌, map, refl, ap, arith, ◌∙◌, sym}
+use Rattle.std.proofs.Common.{inl, ◌≡◌, Bool, true, false, ℕ, suc, ℤ, pos, negsuc, ◌≤ℤ◌, ◌<ℤ◌, List, [], ◌∷◌, map, refl, arith}
 use Rattle.std.proofs.lemmas.Int.{ints}
-use Rattle.std.specs.Prelude.{int_le, int_lt, if◌then◌else◌, Option, Some, None, Result, Ok, Err}
+use Rattle.std.specs.Prelude.{int_le, int_lt, Some, Ok}
 use Rattle.serde_json.specs.Find.{as_integer, of_integer}
 use Rattle.serde_json.specs.View.{items_of}
-use Rattle.ivl_laws.specs.Sets.{IsBetween, IsInRange, IsSubset, SameMembers}
-use Rattle.ivl_laws.specs.Runs.{Covers, IsMaximal, IsRunListIn, IsRunsOf}
-use Rattle.ivl_laws.proofs.Intervals.{within_is_in_range, some_is_not_crossed, none_is_crossed, crossed_same, not_crossed}
+use Rattle.ivl_laws.specs.Sets.{IsBetween, IsInRange, IsSubset}
+use Rattle.ivl_laws.specs.Runs.{Covers, IsRunListIn, IsRunsOf}
+use Rattle.ivl_laws.proofs.Intervals.{within_is_in_range, crossed_same}
 use Rattle.ivl_laws.proofs.Ranges.{IsRunListIn-rest, IsRunListIn-runs}
-use Rattle.ivl_laws.proofs.Runs.{lower_end, upper_end}
-use Rattle.ivl_json.specs.declared.faults.ItemFault.{ItemFault}
-use Rattle.ivl_json.specs.declared.faults.JsonFault.{JsonFault}
-use Rattle.ivl_json.specs.Reading.{within, bound_read, both_read, interval_read, Reads}
-use Rattle.ivl_json.specs.SetReading.{item_then, items_read, set_read, SetReads}
+use Rattle.ivl_json.specs.Reading.{within, bound_read, interval_read, Reads}
+use Rattle.ivl_json.specs.SetReading.{items_read, set_read, SetReads}
 use Rattle.ivl_json.specs.Writing.{bound_json, interval_json, set_json}
 
 within-between : (whole : ℤ × ℤ) (z : ℤ) → IsBetween whole z → within whole (Some z) ≡ Ok z

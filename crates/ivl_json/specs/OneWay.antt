@@ -1,10 +1,9 @@
 -- A value reads one way at most, and what it reads as lies in the range.
-use Rattle.std.proofs.Common.{inl, inr, ◌⊎◌, ⊎_elim, ◌≡◌, ◌≢◌, Bool, true, false, ◌&&◌, ℕ, suc, ℤ, pos, ◌≤ℤ◌, List, [], ◌∷◌, refl, ap, arith, ◌∙◌, sym, subst}
+use Rattle.std.proofs.Common.{inl, inr, ◌⊎◌, ⊎_elim, ◌≡◌, ◌≢◌, ℕ, suc, ℤ, pos, List, [], ◌∷◌, refl, arith, sym, subst}
 use Rattle.std.proofs.lemmas.Int.{ints}
-use Rattle.std.specs.Prelude.{int_le, if◌then◌else◌, Option, Some, None, option_and_then, Result, Ok, Err}
+use Rattle.std.specs.Prelude.{Option, Some, None, Result, Ok, Err}
 use Rattle.serde_json.specs.Data.{Data, null, boolean, number, string, array, object, Items, no_items, item}
-use Rattle.serde_json.specs.Find.{as_number, as_integer}
-use Rattle.ivl_laws.specs.Sets.{IsBetween, IsInRange, IsSubset, SameMembers}
+use Rattle.ivl_laws.specs.Sets.{IsBetween, IsSubset, SameMembers}
 use Rattle.ivl_laws.specs.Runs.{Covers, IsRunListIn}
 use Rattle.ivl_laws.proofs.Intervals.{in_range_is_within}
 use Rattle.ivl_laws.proofs.Runs.{runs_are_unique}

@@ -1,5 +1,5 @@
 //! The JSON form of an interval.
-ghost use Rattle.std.specs.Prelude.{◌≡◌, ◌≤ℤ◌, Ok, Err, IfOk, IfErr};
+ghost use Rattle.std.specs.Prelude.{◌≡◌, Ok, Err, IfOk, IfErr};
 ghost use Rattle.serde_json.specs.View.{view, items_view};
 ghost use Rattle.ivl_laws.specs.Sets.{IsBetween, SameMembers};
 ghost use Rattle.ivl_json.specs.Reading.{Reads, elements_read, interval_read};

@@ -1,5 +1,5 @@
 //! The laws of reading and writing. Each function here does nothing: its contract is the law.
-ghost use Rattle.std.specs.Prelude.{◌≡◌, ◌≢◌, ℤ, List, Err};
+ghost use Rattle.std.specs.Prelude.{◌≢◌, ℤ, List, Err};
 ghost use Rattle.serde_json.specs.Data.{Data};
 ghost use Rattle.ivl_laws.specs.Sets.{IsBetween, IsSubset, SameMembers};
 ghost use Rattle.ivl_laws.specs.Runs.{Covers, IsRunListIn, IsRunsOf};

@@ -1,7 +1,7 @@
 -- How deep the JSON of a set nests.
-use Rattle.std.proofs.Common.{ℕ, suc, ◌≤◌, max, Bool, true, false, ℤ, List, [], ◌∷◌, map, arith}
+use Rattle.std.proofs.Common.{◌≤◌, Bool, true, false, ℤ, List, [], ◌∷◌, map, arith}
 use Rattle.std.specs.Prelude.{int_lt, if◌then◌else◌}
-use Rattle.serde_json.specs.Data.{Data, null, array, item, no_items, depth, items_depth}
+use Rattle.serde_json.specs.Data.{null, array, item, no_items, depth, items_depth}
 use Rattle.serde_json.specs.View.{items_of}
 use Rattle.ivl_json.specs.Writing.{bound_json, interval_json, set_json}
 

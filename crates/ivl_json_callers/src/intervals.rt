@@ -1,11 +1,11 @@
 //! What the JSON form of an interval is, in plain words.
-ghost use Rattle.std.specs.Prelude.{◌≡◌, ◌≢◌, ◌≤ℤ◌, ℕ, ℤ, pos, negsuc, Ok, Err, IfOk, MatchResult, MatchOption, IsTrue, ⊤};
-ghost use Rattle.serde_json.specs.Data.{Data, Items, array, boolean, null, number, unsigned, negative, item, no_items};
+ghost use Rattle.std.specs.Prelude.{◌≡◌, ◌≢◌, ◌≤ℤ◌, ℤ, Ok, Err, IfOk, MatchResult};
+ghost use Rattle.serde_json.specs.Data.{Data, Items, array, null, number, unsigned, item, no_items};
 ghost use Rattle.serde_json.specs.Find.{as_array};
 ghost use Rattle.serde_json.specs.View.{view};
 ghost use Rattle.ivl_laws.specs.Sets.{HasNone, IsBetween, SameMembers};
-ghost use Rattle.ivl_json.specs.Reading.{Reads, bound_read, count_of, interval_read};
-ghost use Rattle.ivl_json.specs.Writing.{bound_json, interval_json};
+ghost use Rattle.ivl_json.specs.Reading.{bound_read, count_of};
+ghost use Rattle.ivl_json.specs.Writing.{bound_json};
 ghost use Rattle.ivl_json.specs.Faults.{fault_of};
 ghost use Rattle.ivl_json.specs.declared.faults.ItemFault.{ItemFault};
 ghost use Rattle.ivl_json.specs.declared.faults.JsonFault.{JsonFault};
@@ -13,7 +13,7 @@ ghost use Rattle.ivl_json.specs.declared.faults.JsonFault.{JsonFault};
 use crate::callers;
 use intervallum::Interval;
 use intervallum::width::Width;
-use ivl_json::{JsonFault, JsonForm};
+use ivl_json::JsonFault;
 use serde_json::Value;
 use std::alloc::{AllocError, Global};
 

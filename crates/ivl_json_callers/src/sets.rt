@@ -1,6 +1,6 @@
 //! What the JSON form of a set is, in plain words.
-ghost use Rattle.std.specs.Prelude.{◌≡◌, ◌≢◌, ◌⊎◌, ℕ, ℤ, pos, List, [], ◌∷◌, map, None, Ok, Err, IfOk, IfErr};
-ghost use Rattle.serde_json.specs.Data.{Data, Items, array, null, number, unsigned, item, no_items};
+ghost use Rattle.std.specs.Prelude.{◌≡◌, ◌≢◌, ◌⊎◌, ℤ, List, [], map, None, Ok, Err, IfOk, IfErr};
+ghost use Rattle.serde_json.specs.Data.{Items, array, null, number, unsigned, item, no_items};
 ghost use Rattle.serde_json.specs.Find.{as_array};
 ghost use Rattle.serde_json.specs.View.{view, items_of};
 ghost use Rattle.ivl_laws.specs.Sets.{HasNone};

@@ -1,4 +1,4 @@
-use Rattle.std.proofs.Common.{rules, ◌≢◌, length, arith}
+use Rattle.std.proofs.Common.{rules, ◌≢◌, length}
 use Rattle.ivl_json.proofs.Elements.{elements_read-not_two}
 use Rattle.ivl_json.proofs.intervals.pair_from.Goals as goal
 use Rattle.ivl_json.proofs.intervals.pair_from.Goals.{in_default-via-then-elements-lt2, in_default-via-else-elements-lt2+else-elements-lt3}
