@@ -81,8 +81,8 @@ pub fn sub_within<B: Width>(
 /// set with none, gives the empty set.
 ///
 /// Makes only the `k` pairs of runs whose sums reach the window, each by one run of `a` and
-/// neighbours in `b`: `O(n log m + k log k)` for `n` and `m` runs. Allocates as it goes, at most for
-/// four times `k` runs; for one run each, at most for one run.
+/// neighbours in `b`: `O(n log m + k log k)` for `n` and `m` runs. Allocates as it goes, for about
+/// three times `k` runs at most; for one run each, for one run at most.
 ///
 /// # Errors
 ///
@@ -108,8 +108,8 @@ pub fn sums_in_window<B: Width>(
 /// no member, or a set with none, gives the empty set.
 ///
 /// Makes only the `k` pairs of runs whose differences reach the window, each by one run of `a` and
-/// neighbours in `b`: `O(n log m + k log k)` for `n` and `m` runs. Allocates as it goes, at most for
-/// four times `k` runs; for one run each, at most for one run.
+/// neighbours in `b`: `O(n log m + k log k)` for `n` and `m` runs. Allocates as it goes, for about
+/// three times `k` runs at most; for one run each, for one run at most.
 ///
 /// # Errors
 ///
