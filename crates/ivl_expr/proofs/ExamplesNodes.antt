@@ -1,12 +1,11 @@
 -- Examples of node sets over whole numbers, where a constant stands for itself.
-use Rattle.std.proofs.Common.{◌≡◌, inl, inr, ⊎_elim, ℕ, ℤ, pos, negsuc, ◌*ℤ◌, ◌≤ℤ◌, List, [], ◌∷◌, refl, subst, arith}
+use Rattle.std.proofs.Common.{◌≡◌, inl, inr, ⊎_elim, ℤ, pos, negsuc, List, [], ◌∷◌, refl, subst, arith}
 use Rattle.std.proofs.lemmas.Int.{ints}
 use Rattle.std.proofs.lemmas.List.Elements.{All-cons, All-head, All-nil}
 use Rattle.ivl_laws.specs.Sets.{InOneRun, IsBetween, IsSubset, Only, Products}
 use Rattle.ivl_laws.specs.Runs.{Covers}
 use Rattle.ivl_laws.specs.Families.{set_at}
 use Rattle.ivl_laws.proofs.Products.{both_covered, run_ends}
-use Rattle.ivl_expr.specs.declared.expr.Expr.{Expr}
 use Rattle.ivl_expr.specs.declared.expr.Expr.TheVariants.{Var, Const, Add', Sub', Mul'}
 use Rattle.ivl_expr.specs.Nodes.{AllNodesIn, HoldsNodes, JoinsProducts, Node, SomeNodeOutside, subexpressions}
 use Rattle.ivl_expr.specs.NodeSets.{AllPresent}

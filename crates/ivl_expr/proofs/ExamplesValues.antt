@@ -1,9 +1,8 @@
 -- Examples of the values of expressions over whole numbers, where a constant stands for itself. `negsuc 1` is -2.
-use Rattle.std.proofs.Common.{◌≡◌, inl, inr, ⊎_elim, ℕ, zero, suc, ◌+◌, ◌<◌, ℤ, pos, negsuc, ◌*ℤ◌, ◌≤ℤ◌, ◌+ℤ◌, List, [], ◌∷◌, refl, subst, arith, cond, eqb}
+use Rattle.std.proofs.Common.{◌≡◌, inl, inr, ℕ, zero, suc, ◌+◌, ◌<◌, ℤ, pos, negsuc, ◌*ℤ◌, List, [], ◌∷◌, refl, subst, arith, cond, eqb}
 use Rattle.std.proofs.lemmas.Bool.Decides.{nat_tests}
 use Rattle.std.proofs.lemmas.Int.{ints}
 use Rattle.ivl_laws.specs.Families.{set_at}
-use Rattle.ivl_expr.specs.declared.expr.Expr.{Expr}
 use Rattle.ivl_expr.specs.declared.expr.Expr.TheVariants.{Var, Const, Add', Sub', Mul'}
 use Rattle.ivl_expr.specs.Values.{value_at, Values}
 use Rattle.ivl_expr.specs.Variables.{Occurs}

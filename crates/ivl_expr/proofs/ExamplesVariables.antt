@@ -1,7 +1,6 @@
 -- Examples of the variables and products of expressions. p and q are where operands stand in memory.
-use Rattle.std.proofs.Common.{◌≡◌, ℕ, ◌<◌, ◌≤◌, ◌+◌, List, [], ◌∷◌, Option, Some, None, cond, eqb, refl, arith}
+use Rattle.std.proofs.Common.{◌≡◌, ℕ, [], ◌∷◌, Some, None, refl, arith}
 use Rattle.std.proofs.lemmas.Bool.Decides.{nat_tests}
-use Rattle.ivl_expr.specs.declared.expr.Expr.{Expr}
 use Rattle.ivl_expr.specs.declared.expr.Expr.TheVariants.{Var, Const, Add', Sub', Mul'}
 use Rattle.ivl_expr.specs.Variables.{variables, first_missing, occurrences, Occurs, ReadOnce, ShareVariable, products, HasProduct, NoProduct}
 

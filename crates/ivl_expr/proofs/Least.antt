@@ -1,6 +1,6 @@
 -- Node sets are the least that hold what each node is made of.
-use Rattle.std.proofs.Common.{◌⊎◌, ⊎_elim, inl, inr, ℕ, ℤ, ◌*ℤ◌}
-use Rattle.ivl_laws.specs.Sets.{InOneRun, IsBetween, IsSubset, Products}
+use Rattle.std.proofs.Common.{⊎_elim, inl, inr, ℕ, ℤ}
+use Rattle.ivl_laws.specs.Sets.{InOneRun, IsSubset, Products}
 use Rattle.ivl_laws.proofs.SetLaws.{sums_are_monotone, differences_are_monotone}
 use Rattle.ivl_expr.specs.declared.expr.Expr.{Expr}
 use Rattle.ivl_expr.specs.declared.expr.Expr.TheVariants.{Var, Const, Add', Sub', Mul'}

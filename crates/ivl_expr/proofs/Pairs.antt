@@ -1,5 +1,5 @@
 -- What stands in a sum, difference or product, by its two operands.
-use Rattle.std.proofs.Common.{◌≡◌, ◌↔◌, ℕ, zero, suc, ◌+◌, ◌<◌, ◌⊎◌, ⊎_elim, inl, inr, ap, arith, IsTrue, Bool, true, false, List, ◌∷◌, ◌++◌, Option, Some, None, Box, Global, ◌∙◌, sym, subst, refl, cond, leb}
+use Rattle.std.proofs.Common.{◌≡◌, ◌↔◌, ℕ, zero, suc, ◌+◌, ◌<◌, ◌⊎◌, ⊎_elim, inl, inr, ap, arith, IsTrue, Bool, true, false, ◌∷◌, ◌++◌, Option, Some, None, Box, Global, ◌∙◌, sym, subst, refl, cond, leb}
 use Rattle.std.proofs.lemmas.Bool.{iff_false, not-true, cases_Bool, both_ways}
 use Rattle.std.proofs.lemmas.Bool.Decides.{nat_tests}
 use Rattle.std.proofs.lemmas.List.Folds.{find-append}

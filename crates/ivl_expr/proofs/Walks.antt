@@ -1,5 +1,5 @@
 -- From the sets of the operands to the set of the node.
-use Rattle.std.proofs.Common.{◌≡◌, ◌⊎◌, ⊎_elim, inl, inr, ℤ, ◌+ℤ◌, ◌-ℤ◌, ◌*ℤ◌, ℕ, ◌+◌, ◌<◌, ◌≤◌, List, [], ◌∷◌, ◌++◌, length, get_or, slice_index_or, Box, Global, Result, Err, IsErrAnd, refl, sym, subst, ◌∙◌, arith}
+use Rattle.std.proofs.Common.{◌≡◌, ◌⊎◌, inl, inr, ℤ, ◌+ℤ◌, ◌-ℤ◌, ◌*ℤ◌, ℕ, ◌+◌, ◌<◌, ◌≤◌, List, [], ◌∷◌, ◌++◌, length, get_or, slice_index_or, Box, Global, Result, Err, IsErrAnd, refl, sym, subst, ◌∙◌, arith}
 use Rattle.std.specs.Prelude.{All}
 use Rattle.std.proofs.lemmas.List.Elements.{All-append, All-cons, All-head, All-nil, All-same, All-tail}
 use Rattle.ivl_laws.specs.Sets.{Differences, HasSome, IsBetween, IsSubset, Only, Products, SameMembers, Sums, Without}
@@ -8,12 +8,12 @@ use Rattle.ivl_laws.specs.Families.{set_at}
 use Rattle.std.proofs.lemmas.List.{get_or_default}
 use Rattle.ivl_laws.proofs.Ranges.{IsRunsOf-covers}
 use Rattle.ivl_laws.specs.Counts.{IsIn}
-use Rattle.ivl_laws.proofs.Ends.{IsEndIn, IsOfEnds, ends_of_sums, ends_of_differences, ends_of_products, lower_is_end, upper_is_end}
+use Rattle.ivl_laws.proofs.Ends.{IsEndIn, IsOfEnds, ends_of_sums, ends_of_differences, ends_of_products}
 use Rattle.ivl_laws.proofs.SetLaws.{IsRunsOf-same, sums_are_monotone, differences_are_monotone, products_are_monotone}
 use Rattle.ivl_laws.proofs.Products.{one_covers, open_in}
 use Rattle.ivl_laws.proofs.Runs.{lower_end, upper_end}
 use Rattle.ivl_expr.specs.declared.expr.Expr.{Expr}
-use Rattle.ivl_expr.specs.declared.expr.Expr.TheVariants.{Var, Const, Add', Sub', Mul'}
+use Rattle.ivl_expr.specs.declared.expr.Expr.TheVariants.{Var, Const}
 use Rattle.ivl_expr.specs.declared.expr.Expr.TheViews.{Add, Sub, Mul}
 use Rattle.ivl_expr.specs.Variables.{occurrences, ReadOnce}
 use Rattle.ivl_expr.specs.Values.{Values}

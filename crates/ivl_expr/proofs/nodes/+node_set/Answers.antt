@@ -1,4 +1,4 @@
-use Rattle.std.proofs.Common.{◌⊎◌, inl, inr, Err, sym, ap}
+use Rattle.std.proofs.Common.{inl, inr, Err, sym, ap}
 use Rattle.ivl_laws.specs.Families.{set_at}
 use Rattle.ivl_expr.specs.NodeSets.{runs_of}
 use Rattle.ivl_expr.proofs.Walks.{constant_node, constant_outside, difference_node, difference_outside, left_outside, lent_node, passed_on, product_node, product_outside, right_outside, sum_node, sum_outside}

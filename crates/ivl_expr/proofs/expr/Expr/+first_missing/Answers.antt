@@ -1,4 +1,4 @@
-use Rattle.std.proofs.Common.{◌≡◌, sym, ◌∙◌, ap}
+use Rattle.std.proofs.Common.{◌∙◌, ap}
 use Rattle.ivl_expr.specs.Variables.{first_missing}
 use Rattle.ivl_expr.proofs.Pairs.{IsPair-from, missing_first, missing_second}
 use Rattle.ivl_expr.proofs.expr.Expr.+first_missing.Goals as goal
