@@ -51,7 +51,10 @@ fn check_domains<B: Width + Display>(
     Ok(())
 }
 
-/// The set of one run.
+/// The set of one run; none where it is out of range.
 fn run<B: Width>(alloc: Global, lower: B, upper: B) -> Result<IntervalSet<B>, AllocError> {
-    set_of(alloc, &[(lower, upper)])
+    if !Interval::in_range(lower, upper) {
+        return Ok(IntervalSet::empty(alloc));
+    }
+    (lower, upper).to_interval_set(alloc)
 }
