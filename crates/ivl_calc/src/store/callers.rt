@@ -1,6 +1,7 @@
 //! The condition of [`Store::post_all`], tested and met.
-ghost use Rattle.std.specs.Prelude.{◌↔◌, IsTrue, All};
-ghost use Rattle.ivl_calc.specs.Posts.{constraints_of, OfConstraint};
+ghost use Rattle.std.specs.Prelude.{◌≡◌, ◌↔◌, All, IfOk, IsNone, IsSome, IsTrue, MatchOption, ⊤};
+ghost use Rattle.ivl_laws.specs.Families.{set_at};
+ghost use Rattle.ivl_calc.specs.Posts.{AnswersPosts, IsLeftBy, OfConstraint, constraints_of};
 ghost use Rattle.ivl_calc.specs.Solutions.{AreDistinct};
 
 use super::{Post, Store, StoreFault};
@@ -38,7 +39,11 @@ fn is_distinct<B: Width>(post: &Post<B>) -> bool
 pub fn post_if_distinct<B: Width>(
     store: &mut Store<B>,
     posts: &[Post<B>],
-) -> Result<Option<Vec<bool>>, StoreFault> {
+) -> Result<Option<Vec<bool>>, StoreFault>
+    ensures none { IfOk result (λ o. IsNone o → ¬ (All AreDistinct (constraints_of posts.now)) × (store.new ≡ store.old)) }
+    ensures replies { IfOk result (λ o. MatchOption o ⊤ (λ replies. AnswersPosts posts.now store.old replies.items)) }
+    ensures left { IfOk result (λ o. IsSome o → IsLeftBy posts.now (set_at store.old) (set_at store.new)) }
+{
     if !all_distinct(posts) {
         return Ok(None);
     }
