@@ -56,7 +56,9 @@ fn check<B: Width + Display>(
     text: &str,
 ) -> Result<(), Fail> {
     let alloc = rt.alloc();
-    let sets: [IntervalSet<B>; 2] = [set_of(rt, x)?, set_of(rt, y)?];
+    let mut sets = Vec::new(alloc);
+    sets.push(set_of(rt, x)?)?;
+    sets.push(set_of(rt, y)?)?;
     let answer = match eval(alloc, expr, &sets) {
         Ok(set) => format!(in alloc; "{set}")?,
         Err(fault) => format!(in alloc; "{fault}")?,

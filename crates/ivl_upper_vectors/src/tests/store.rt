@@ -55,15 +55,23 @@ fn check_narrow<B: Width + Display>(rt: &(impl Alloc<A = Global> + Abort)) -> Re
     check_domains(rt, &store, ["[0..0]", "[1..1]", "[1..1]"])
 }
 
+/// That x + y = z, and another post.
+fn sum_and<B: Width>(alloc: Global, other: Post<B>) -> Result<Vec<Post<B>>, AllocError> {
+    let mut posts = Vec::new(alloc);
+    posts.push(Post::Require(SUM))?;
+    posts.push(other)?;
+    Ok(posts)
+}
+
 /// x, y and z from 0 to 1; z is cut to 0, and then x to 1.
 fn check_posts<B: Width + Display>(rt: &(impl Alloc<A = Global> + Abort)) -> Result<(), Fail> {
     let alloc = rt.alloc();
     let mut store = store_of::<B>(alloc, [(0, 1), (0, 1), (0, 1)])?;
-    let posts = vec![in alloc; Post::Require(SUM), Post::Restrict(2, run(alloc, 0, 0)?)]?;
+    let posts = sum_and(alloc, Post::Restrict(2, run(alloc, 0, 0)?))?;
     let replies = post_if_distinct(&mut store, &posts)?;
     assert!(rt; replies == Some(vec![in alloc; false, false]?));
     check_domains(rt, &store, ["[0..0]", "[0..0]", "[0..0]"])?;
-    let posts = vec![in alloc; Post::Require(SUM), Post::Restrict(0, run(alloc, 1, 1)?)]?;
+    let posts = sum_and(alloc, Post::Restrict(0, run(alloc, 1, 1)?))?;
     let replies = post_if_distinct(&mut store, &posts)?;
     assert!(rt; replies == Some(vec![in alloc; false, true]?));
     check_domains(rt, &store, ["{}", "{}", "{}"])
