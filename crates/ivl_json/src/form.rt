@@ -108,6 +108,6 @@ pub trait JsonForm {
     /// A JSON value reads as one value at most.
     ghost one_way: { (d : Data) (x y : Self) → reads d x → reads d y → same x y };
 
-    /// A JSON value that can be read is refused only for want of memory.
+    /// A JSON value that can be read is refused only if memory runs out.
     ghost not_refused: { (d : Data) (x : Self) (fault : JsonFault) → reads d x → faults d fault → fault ≡ Memory };
 }
