@@ -1,7 +1,8 @@
 -- The text of a set, from the text of each of its runs.
 --     runs_text text L      the texts of the runs, one after the other
 --     set_text text L      {} for no run, the text of a run that is alone, and more of them between braces
-use Rattle.std.specs.Prelude.{ℕ, ℤ, List, [], ◌∷◌, Option, Some, codes}
+--     styled_set_text L      the text whatever options a formatter has: {} for no run, and of others it says nothing
+use Rattle.std.specs.Prelude.{ℕ, ℤ, List, [], ◌∷◌, Option, None, Some, codes}
 use Rattle.std.specs.Fmt.{◌++?◌}
 
 abbrev pub runs_text : (ℤ × ℤ → Option (List ℕ)) → List (ℤ × ℤ) → Option (List ℕ)
@@ -12,3 +13,7 @@ abbrev pub set_text : (ℤ × ℤ → Option (List ℕ)) → List (ℤ × ℤ) �
 set_text text [] = Some (codes "{}")
 set_text text (p ∷ []) = text p
 set_text text (p ∷ q ∷ L) = Some (codes "{") ++? runs_text text (p ∷ q ∷ L) ++? Some (codes "}")
+
+abbrev pub styled_set_text : List (ℤ × ℤ) → Option (List ℕ)
+styled_set_text [] = Some (codes "{}")
+styled_set_text (p ∷ L) = None

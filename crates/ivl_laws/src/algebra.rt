@@ -1,6 +1,6 @@
 //! Laws of union, intersection, difference and complement.
-ghost use Rattle.std.specs.Prelude.{◌↔◌, ℤ, pos, ◌+ℤ◌, ◌-ℤ◌, List};
-ghost use Rattle.ivl_laws.specs.Runs.{Covers};
+ghost use Rattle.std.specs.Prelude.{◌≡◌, ◌↔◌, ℤ, pos, ◌+ℤ◌, ◌-ℤ◌, List};
+ghost use Rattle.ivl_laws.specs.Runs.{Covers, IsMaximal, IsRunsOf};
 ghost use Rattle.ivl_laws.specs.Sets.{Above, AtLeast, AtMost, Below, Complement, Intersection, IsBetween, IsSubset, SameMembers, SymmetricDifference, Union, Without};
 
 use crate::sets::NumberSet;
@@ -26,6 +26,11 @@ pub fn complement_twice()
 /// A set is a subset of another exactly where their union is the other.
 pub fn subset_by_union<S: NumberSet, T: NumberSet>()
     ensures { IsSubset S.members T.members ↔ SameMembers (Union S.members T.members) T.members }
+{}
+
+/// A list of runs lies within another exactly where the runs of their union are those of the other.
+pub fn subset_by_union_of_runs()
+    ensures { (L M R : List (ℤ × ℤ)) → IsMaximal M → IsRunsOf R (Union (Covers L) (Covers M)) → (IsSubset (Covers L) (Covers M) ↔ (R ≡ M)) }
 {}
 
 /// A difference is the part of the complement, and a symmetric one what the union has beside the intersection.

@@ -1,7 +1,7 @@
 //! Laws of sums, differences and products of sets.
 ghost use Rattle.std.specs.Prelude.{◌≡◌, ◌+◌, ◌*◌, ◌<◌, ℕ, ◌↔◌, ◌≤ℤ◌, ℤ, [], ◌∷◌, List, length, get_or};
 ghost use Rattle.ivl_laws.specs.Arithmetic.{corner_hull, interval_difference, interval_sum, pairwise};
-ghost use Rattle.ivl_laws.specs.Runs.{Covers, IsMaximal};
+ghost use Rattle.ivl_laws.specs.Runs.{Covers, IsMaximal, IsRunsOf};
 ghost use Rattle.ivl_laws.specs.Sets.{Differences, ExactProducts, IsBetween, IsSubset, Only, Products, SameMembers, Sums};
 
 use crate::sets::NumberSet;
@@ -37,6 +37,16 @@ pub fn arithmetic_is_monotone<S: NumberSet, T: NumberSet, U: NumberSet, V: Numbe
         IsSubset (ExactProducts S.members T.members) (ExactProducts U.members V.members) }
     ensures products { IsSubset S.members U.members → IsSubset T.members V.members →
         IsSubset (Products S.members T.members) (Products U.members V.members) }
+{}
+
+/// The runs of sums, differences and products of larger sets cover those of smaller ones.
+pub fn arithmetic_of_runs_is_monotone()
+    ensures sums { (L M N O R S : List (ℤ × ℤ)) → IsSubset (Covers L) (Covers N) → IsSubset (Covers M) (Covers O) →
+        IsRunsOf R (Sums (Covers L) (Covers M)) → IsRunsOf S (Sums (Covers N) (Covers O)) → IsSubset (Covers R) (Covers S) }
+    ensures differences { (L M N O R S : List (ℤ × ℤ)) → IsSubset (Covers L) (Covers N) → IsSubset (Covers M) (Covers O) →
+        IsRunsOf R (Differences (Covers L) (Covers M)) → IsRunsOf S (Differences (Covers N) (Covers O)) → IsSubset (Covers R) (Covers S) }
+    ensures products { (L M N O R S : List (ℤ × ℤ)) → IsSubset (Covers L) (Covers N) → IsSubset (Covers M) (Covers O) →
+        IsRunsOf R (Products (Covers L) (Covers M)) → IsRunsOf S (Products (Covers N) (Covers O)) → IsSubset (Covers R) (Covers S) }
 {}
 
 /// A number beside a set counts as the set of one run that holds it alone.

@@ -41,9 +41,14 @@ pub fn join_of_intervals()
         SameMembers (Intersection (IsBetween p) (IsBetween meet)) (IsBetween p) }
 {}
 
-/// The meet of intervals commutes, associates and is idempotent, and a meet with the join gives the interval back.
+/// The meet of intervals commutes, associates and is idempotent, and a meet with the join gives the interval back. Answers
+/// of the two orders have the same members, and a meet lies within every interval that holds both.
 pub fn meet_of_intervals()
     ensures commutes { (p q r : ℤ × ℤ) → IsHullOf r (Union (IsBetween p) (IsBetween q)) → IsHullOf r (Union (IsBetween q) (IsBetween p)) }
+    ensures agrees { (p q r s : ℤ × ℤ) → IsHullOf r (Union (IsBetween p) (IsBetween q)) → IsHullOf s (Union (IsBetween q) (IsBetween p)) →
+        SameMembers (IsBetween r) (IsBetween s) }
+    ensures least { (p q r s : ℤ × ℤ) → IsHullOf r (Union (IsBetween p) (IsBetween q)) →
+        IsSubset (IsBetween p) (IsBetween s) → IsSubset (IsBetween q) (IsBetween s) → IsSubset (IsBetween r) (IsBetween s) }
     ensures associates { (p q s first last left right : ℤ × ℤ) →
         IsHullOf first (Union (IsBetween p) (IsBetween q)) → IsHullOf left (Union (IsBetween first) (IsBetween s)) →
         IsHullOf last (Union (IsBetween q) (IsBetween s)) → IsHullOf right (Union (IsBetween p) (IsBetween last)) →

@@ -2,10 +2,22 @@
 ghost use Rattle.std.specs.Prelude.{◌≡◌, ℕ, ◌+◌, ◌≤◌, ◌↔◌, ℤ, List, sum_by};
 ghost use Rattle.ivl_laws.specs.Bounds.{width_of};
 ghost use Rattle.ivl_laws.specs.Counts.{IsCountOf};
-ghost use Rattle.ivl_laws.specs.Runs.{Covers, IsMaximal};
+ghost use Rattle.ivl_laws.specs.Runs.{Covers, IsMaximal, IsRunsOf};
 ghost use Rattle.ivl_laws.specs.Sets.{Complement, HasNone, Intersection, IsBetween, IsSubset, Only, SameMembers, Union};
 
 use crate::sets::NumberSet;
+
+/// How many members lists of runs cover: one count each, a sublist's no more, and with as many the same numbers; those of
+/// two lists together are those of their union and their intersection, and those of the range are a list's and the rest's.
+pub fn counts_of_runs()
+    ensures unique { (L : List (ℤ × ℤ)) (m n : ℕ) → IsCountOf m (Covers L) → IsCountOf n (Covers L) → m ≡ n }
+    ensures at_most { (L M : List (ℤ × ℤ)) (m n : ℕ) → IsSubset (Covers L) (Covers M) → IsCountOf m (Covers L) → IsCountOf n (Covers M) → m ≤ n }
+    ensures all { (L M : List (ℤ × ℤ)) (n : ℕ) → IsSubset (Covers L) (Covers M) → IsCountOf n (Covers L) → IsCountOf n (Covers M) → SameMembers (Covers L) (Covers M) }
+    ensures together { (L M U I : List (ℤ × ℤ)) (a b c d : ℕ) → IsRunsOf U (Union (Covers L) (Covers M)) → IsRunsOf I (Intersection (Covers L) (Covers M)) →
+        IsCountOf a (Covers L) → IsCountOf b (Covers M) → IsCountOf c (Covers U) → IsCountOf d (Covers I) → c + d ≡ a + b }
+    ensures complement { (whole : ℤ × ℤ) (L R : List (ℤ × ℤ)) (a b c : ℕ) → IsSubset (Covers L) (IsBetween whole) → IsRunsOf R (Complement whole (Covers L)) →
+        IsCountOf a (Covers L) → IsCountOf b (Covers R) → IsCountOf c (IsBetween whole) → a + b ≡ c }
+{}
 
 /// A set has one count.
 pub fn count_is_unique<S: NumberSet>()

@@ -19,7 +19,7 @@ const GREATEST: i32 = i32::MAX;
 
 const WHOLE: &[(i32, i32)] = &[(-GREATEST, GREATEST)];
 
-const UNITED: &[(i32, i32)] = &[(1, 6), (9, 10), (13, 14), (20, 21), (30, 31), (40, 41)];
+pub const UNITED: &[(i32, i32)] = &[(1, 6), (9, 10), (13, 14), (20, 21), (30, 31), (40, 41)];
 
 const SHARED: &[(i32, i32)] = &[(2, 2), (5, 5)];
 

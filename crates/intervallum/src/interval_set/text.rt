@@ -1,6 +1,6 @@
 //! The text of a set.
 ghost use Rattle.ivl_interval.specs.Text.{interval_text};
-ghost use Rattle.intervallum.specs.Text.{set_text};
+ghost use Rattle.intervallum.specs.Text.{set_text, styled_set_text};
 
 use super::IntervalSet;
 use crate::width::Width;
@@ -8,6 +8,8 @@ use std::fmt;
 
 impl<B: Width + fmt::Display> fmt::Display for IntervalSet<B> {
     ghost output = { set_text (λ p. interval_text p (B.output (B.at p.0)) (B.output (B.at p.1))) };
+
+    ghost styled_output = { λ L _. styled_set_text L };
 
     /// `{}` where there is no member, `[1..5]` for one run, and `{[1..2][5..5]}` for more. Width
     /// and fill of the formatter have no effect. `O(n)`, with no memory of its own; an error is one
@@ -21,6 +23,9 @@ impl<B: Width + fmt::Display> fmt::Display for IntervalSet<B> {
     /// The original asks `Display` of the sizes too.
     fn fmt<W: fmt::Write>(&self, f: &mut fmt::Formatter<W>) -> fmt::Result {
         let runs = self.as_runs();
+        if runs.is_empty() {
+            return f.write_str("{}");
+        }
         if runs.len() == 1 {
             return write!(f, "{}", runs[0]);
         }

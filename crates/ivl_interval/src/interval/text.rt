@@ -1,5 +1,5 @@
 //! The text of an interval.
-ghost use Rattle.ivl_interval.specs.Text.{interval_text};
+ghost use Rattle.ivl_interval.specs.Text.{interval_text, styled_interval_text};
 
 use crate::interval::Interval;
 use crate::ops::IsEmpty;
@@ -8,6 +8,8 @@ use std::fmt;
 
 impl<B: Width + fmt::Display> fmt::Display for Interval<B> {
     ghost output = { λ p. interval_text p (B.output (B.at p.0)) (B.output (B.at p.1)) };
+
+    ghost styled_output = { λ p _. styled_interval_text p };
 
     /// `{}` where there is no member, else `[1..5]` with the two bounds. Width and fill of the
     /// formatter have no effect.

@@ -13,5 +13,5 @@ loop-run-preserved g c = λ plain.
 pub returns-clause-writes : goal.returns-clause-writes
 returns-clause-writes g c =
     closed (λ (p : ℤ × ℤ). interval_text p (g.B.Display.output (g.B.Width.at p.0)) (g.B.Display.output (g.B.Width.at p.1)))
-    g.W.Write.write_str_gives c.args.f.now c.loop-run.f c.write_str-2.new.self c.write_str-2.result c.as_runs-runs.result.now c.args.self.now c.loop-run.run-index
-    c.as_runs-runs.ensures.same c.if-runs-eq1.false c.loop-run-test.false c.loop-run.invariant c.write_str-2.ensures.writes
+    g.W.Write.write_str_gives c.args.f.now c.loop-run.f c.write_str-3.new.self c.write_str-3.result c.as_runs-runs.result.now c.args.self.now c.loop-run.run-index
+    c.as_runs-runs.ensures.same c.if-runs-eq1.false c.loop-run-test.false c.loop-run.invariant c.write_str-3.ensures.writes
