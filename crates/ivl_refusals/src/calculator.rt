@@ -3,7 +3,7 @@
 
 use crate::calls::{DIFFERENCES, FIRST, SECOND, SUMS, UNITED};
 use crate::has_runs;
-use intervallum::prelude::{Interval, IntervalSet, IsEmpty, Range};
+use intervallum::prelude::*;
 use intervallum::sweep::{Op, coalesce, images};
 use ivl_calc::within::{add_within, sub_within};
 use ivl_calc::{Calc, Command, Refusal, Reply};

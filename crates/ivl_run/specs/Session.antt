@@ -2,9 +2,11 @@
 -- its set.
 --     Answers old lines text new      from old, this text may answer these lines, and the state go on to new
 --     IsSessionText lines text      the same from 26 empty registers
-use Rattle.std.specs.Prelude.{◌≡◌, ℕ, ℤ, pos, negsuc, ◌^◌, ◌-◌, List, [], ◌∷◌, ◌++◌, codes, map, replicate}
-use Rattle.ivl_calc.specs.Actions.{Action, Answer}
+--     IsWholeSessionText lines text      the same, and no command was refused for want of memory
+use Rattle.std.specs.Prelude.{◌≡◌, ◌≢◌, ℕ, ℤ, pos, negsuc, ◌^◌, ◌-◌, All, List, [], ◌∷◌, ◌++◌, codes, map, replicate}
+use Rattle.ivl_calc.specs.Actions.{Action, Answer, refused}
 use Rattle.ivl_calc.specs.Step.{MayStep, Run}
+use Rattle.ivl_calc.specs.declared.reply.Refusal.TheVariants.{Memory}
 use Rattle.ivl_run.specs.Reading.{Reading, blank, bad, command, reading_of}
 use Rattle.ivl_run.specs.Printed.{printed}
 
@@ -40,6 +42,11 @@ start = replicate 26 []
 
 abbrev pub IsSessionText : List (List ℕ) → List ℕ → Type 0
 IsSessionText lines text = (new : List (List (ℤ × ℤ))) × Answers start lines text new
+
+pub record IsWholeSessionText (lines : List (List ℕ)) (text : List ℕ) : Type 0 where
+  pub new : List (List (ℤ × ℤ))
+  pub answers : Answers start lines text new
+  pub plenty : All (λ answer. answer ≢ refused Memory) answers.replies
 
 -- what `Answers` says, for what one line says
 abbrev pub AnswersReading : List (List (ℤ × ℤ)) → Reading → List ℕ → List (List (ℤ × ℤ)) → Type 0

@@ -4,6 +4,7 @@
 
 mod commands;
 mod engine;
+mod laws;
 mod lines;
 mod replies;
 #[cfg(test)]

@@ -8,6 +8,7 @@ mod doc_sets;
 mod ends;
 mod fixtures;
 mod intervals;
+mod many_runs;
 mod operands;
 mod own_types;
 mod ranges;
