@@ -4,6 +4,7 @@ ghost use Rattle.ivl_laws.specs.Sets.{SameMembers};
 ghost use Rattle.ivl_laws.specs.Runs.{Covers};
 
 pub mod algebra;
+pub mod hulls;
 
 use intervallum::interval_set::IntervalSet;
 use intervallum::ops::{Cardinality, Contains, Union};
