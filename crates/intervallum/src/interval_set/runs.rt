@@ -152,5 +152,5 @@ fn grown<B: Width>(size: B::Output, more: B::Output) -> B::Output
     requires { B.Output.size size + B.Output.size more ≤ B.Output.greatest }
     ensures { B.Output.size result ≡ B.Output.size size + B.Output.size more }
 {
-    size.checked_add(more).unwrap()
+    size.add_in_range(more)
 }
