@@ -154,3 +154,15 @@ fn grown<B: Width>(size: B::Output, more: B::Output) -> B::Output
 {
     size.add_in_range(more)
 }
+
+/// How many numbers runs cover.
+pub(super) fn size_of_runs<B: Width>(runs: &[Interval<B>]) -> B::Output
+    requires { IsRunListIn B.whole runs.now }
+    ensures { IsCountOf (B.Output.size result) (Covers runs.now) }
+{
+    let mut size = <B::Output as SizeNumber>::zero();
+    for run in runs {
+        size = grown::<B>(size, run.size());
+    }
+    size
+}
