@@ -1,80 +1,102 @@
--- Runs taken one by one, and cut by an interval.
-use Rattle.std.proofs.Common.{◌≡◌, ◌↔◌, ⊎_elim, ◌⊎◌, ℕ, zero, suc, ◌+◌, ◌<◌, ◌≤◌, ℤ, ◌≤ℤ◌, List, [], ◌∷◌, length, get_or, drop, refl, sym, subst, arith, inl, inr}
-use Rattle.std.proofs.lemmas.Int.{ints}
-use Rattle.ivl_laws.specs.Sets.{IsBetween, IsCrossed, SameMembers, Intersection, Union}
-use Rattle.ivl_laws.specs.Runs.{Covers, IsMaximal, IsRunsOf, StartsBy}
-use Rattle.ivl_laws.proofs.Runs.{covered_after, lower_end}
-use Rattle.ivl_laws.proofs.Merging.{StartsBy-more}
-use Rattle.ivl_laws.proofs.Intervals.{none_is_crossed}
+-- Runs cut by an interval: the first from below, and the last one from above.
+use Rattle.std.proofs.Common.{◌≡◌, ⊎_elim, inl, inr, ℕ, zero, suc, ◌+◌, ◌<◌, ℤ, pos, ◌+ℤ◌, ◌≤ℤ◌, List, [], ◌∷◌, length, get_or, set, sym, subst, arith, length-set}
+use Rattle.std.proofs.lemmas.Int.{ints, clamps}
+use Rattle.std.specs.Int.{int_max, int_min}
+use Rattle.ivl_laws.specs.Sets.{AtLeast, AtMost, IsBetween, IsCrossed, SameMembers, Intersection}
+use Rattle.ivl_laws.specs.Runs.{Covers, IsMaximal, IsRunsOf, IsRunListIn, StartsAfter, StartsBy}
+use Rattle.ivl_laws.proofs.Runs.{covered_after}
+use Rattle.ivl_laws.proofs.Intervals.{same_between}
+use Rattle.intervallum.specs.Places.{EndsFrom}
 
--- what is written and what is left to cut by W make up T
-pub record IsCutting (written left : List (ℤ × ℤ)) (W T : ℤ → Type 0) : Type 0 where
-  pub maximal : IsMaximal written
-  pub after : IsMaximal left
-  pub starts : (z : ℤ) → Covers left z → StartsBy z written
-  pub members : (z : ℤ) → (Covers written z ⊎ (Covers left z × W z)) ↔ T z
+-- what is left of a run that ends at v or above is filled, and keeps its end
+kept_above : (p r : ℤ × ℤ) (v : ℤ) → p.0 ≤ℤ p.1 → v ≤ℤ p.1 → SameMembers (IsBetween r) (AtLeast v (IsBetween p)) → r ≡ (int_max p.0 v, p.1)
+kept_above p r v o h s = sym (same_between (int_max p.0 v, p.1) r (omega (arith, ints, clamps)) (λ z. (
+  (λ b. let x = b.0 in let y = b.1 in (s z).1 ((omega (arith, ints, clamps), y), omega (arith, ints, clamps))),
+  (λ b. let k = (s z).0 b in let x = k.0.0 in let y = k.1 in (omega (arith, ints, clamps), k.0.1)),
+)))
 
-cutting_takes : (written added : List (ℤ × ℤ)) (p part : ℤ × ℤ) (L : List (ℤ × ℤ)) (W T : ℤ → Type 0) → IsCutting written (p ∷ L) W T →
-    SameMembers (IsBetween part) (Intersection (IsBetween p) W) → part.0 ≤ℤ part.1 → IsRunsOf added (Union (Covers written) (IsBetween part)) → StartsBy part.0 added → IsCutting added L W T
-cutting_takes written added p part L W T u s o r b = record {
-  maximal = r.maximal;
-  after = u.after.2;
-  starts = λ z c.
-      let low = ((s part.0).0 (lower_end part o)).0 in
-      let far = covered_after p.1 L z u.after.1 u.after.2 c in
-      StartsBy-more added part.0 z b (let high = low.1 in omega (arith, ints));
+kept_below : (p r : ℤ × ℤ) (v : ℤ) → p.0 ≤ℤ p.1 → p.0 ≤ℤ v → SameMembers (IsBetween r) (AtMost v (IsBetween p)) → r ≡ (p.0, int_min p.1 v)
+kept_below p r v o h s = sym (same_between (p.0, int_min p.1 v) r (omega (arith, ints, clamps)) (λ z. (
+  (λ b. let x = b.0 in let y = b.1 in (s z).1 ((x, omega (arith, ints, clamps)), omega (arith, ints, clamps))),
+  (λ b. let k = (s z).0 b in let x = k.0.1 in let y = k.1 in (k.0.0, omega (arith, ints, clamps))),
+)))
+
+pub cut_first : (L : List (ℤ × ℤ)) (r d : ℤ × ℤ) (v : ℤ) → IsMaximal L → 0 < length L → EndsFrom v L → SameMembers (IsBetween r) (AtLeast v (IsBetween (get_or L 0 d))) →
+    IsRunsOf (set L 0 r) (AtLeast v (Covers L))
+cut_first [] r d v m h e s = absurd (omega arith)
+cut_first (p ∷ L) r d v m h e s = record {
+  maximal = subst (λ (t : ℤ × ℤ). IsMaximal (t ∷ L)) (sym (kept_above p r v m.0 e s)) (let o = m.0 in omega (arith, ints, clamps), m.1, m.2);
   members = λ z. (
-    ⊎_elim
-        (λ c. ⊎_elim (λ w. (u.members z).0 (inl w)) (λ m. let k = (s z).0 m in (u.members z).0 (inr (inl k.0, k.1))) ((r.members z).0 c))
-        (λ t. (u.members z).0 (inr (inr t.0, t.1))),
-    λ t. ⊎_elim
-        (λ w. inl ((r.members z).1 (inl w)))
-        (λ (c, w). ⊎_elim (λ m. inl ((r.members z).1 (inr ((s z).1 (m, w))))) (λ d. inr (d, w)) c)
-        ((u.members z).1 t),
+    ⊎_elim (λ b. let k = (s z).0 b in (inl k.0, k.1)) (λ c. let far = covered_after p.1 L z m.1 m.2 c in (inr c, omega (arith, ints))),
+    (λ (c, k). ⊎_elim (λ b. inl ((s z).1 (b, k))) (λ c. inr c) c),
   );
 }
 
-cutting_skips : (written : List (ℤ × ℤ)) (p part : ℤ × ℤ) (L : List (ℤ × ℤ)) (W T : ℤ → Type 0) → IsCutting written (p ∷ L) W T →
-    SameMembers (IsBetween part) (Intersection (IsBetween p) W) → IsCrossed part → IsCutting written L W T
-cutting_skips written p part L W T u s x = record {
-  maximal = u.maximal;
-  after = u.after.2;
-  starts = λ z c. u.starts z (inr c);
+-- the first of the list still starts by w
+pub cut_first_starts : (L : List (ℤ × ℤ)) (r d : ℤ × ℤ) (v w : ℤ) → IsMaximal L → 0 < length L → EndsFrom v L → SameMembers (IsBetween r) (AtLeast v (IsBetween (get_or L 0 d))) →
+    v ≤ℤ w → StartsBy w L → StartsBy w (set L 0 r)
+cut_first_starts [] r d v w m h e s o b = absurd (omega arith)
+cut_first_starts (p ∷ L) r d v w m h e s o b =
+    subst (λ (t : ℤ × ℤ). StartsBy w (t ∷ L)) (sym (kept_above p r v m.0 e s)) (let x = b.0 in omega (arith, ints, clamps), b.1)
+
+starts_still : (u : ℤ) (L : List (ℤ × ℤ)) (k : ℕ) (r d : ℤ × ℤ) (v : ℤ) → StartsAfter u L → IsMaximal L → k + 1 ≡ length L → StartsBy v L →
+    SameMembers (IsBetween r) (AtMost v (IsBetween (get_or L k d))) → StartsAfter u (set L k r)
+starts_still u [] k r d v a m e b s = absurd (omega arith)
+starts_still u (q ∷ L) zero r d v a m e b s =
+    subst (λ (t : ℤ × ℤ). (u +ℤ pos 2) ≤ℤ t.0) (sym (kept_below q r v m.0 b.0 s)) a
+starts_still u (q ∷ L) (suc k) r d v a m e b s = a
+
+pub cut_last : (L : List (ℤ × ℤ)) (k : ℕ) (r d : ℤ × ℤ) (v : ℤ) → IsMaximal L → k + 1 ≡ length L → StartsBy v L → SameMembers (IsBetween r) (AtMost v (IsBetween (get_or L k d))) →
+    IsRunsOf (set L k r) (AtMost v (Covers L))
+cut_last [] k r d v m e b s = absurd (omega arith)
+cut_last (p ∷ []) zero r d v m e b s = record {
+  maximal = subst (λ (t : ℤ × ℤ). IsMaximal (t ∷ [])) (sym (kept_below p r v m.0 b.0 s)) (let o = m.0 in let x = b.0 in omega (arith, ints, clamps), tt, tt);
   members = λ z. (
-    ⊎_elim (λ w. (u.members z).0 (inl w)) (λ t. (u.members z).0 (inr (inr t.0, t.1))),
-    λ t. ⊎_elim (λ w. inl w) (λ (c, w). ⊎_elim (λ m. absurd ((none_is_crossed part).1 x z ((s z).1 (m, w)))) (λ d. inr (d, w)) c) ((u.members z).1 t),
+    ⊎_elim (λ c. let k = (s z).0 c in (inl k.0, k.1)) (λ c. absurd c),
+    (λ (c, k). ⊎_elim (λ h. inl ((s z).1 (h, k))) (λ h. absurd h) c),
+  );
+}
+cut_last (p ∷ []) (suc k) r d v m e b s = absurd (omega arith)
+cut_last (p ∷ q ∷ L) zero r d v m e b s = absurd (omega arith)
+cut_last (p ∷ q ∷ L) (suc k) r d v m e b s =
+    let u = cut_last (q ∷ L) k r d v m.2 (omega arith) b.1 s in
+    let gap = m.1 in
+    let start = b.1.0 in
+    record {
+      maximal = (m.0, starts_still p.1 (q ∷ L) k r d v m.1 m.2 (omega arith) b.1 s, u.maximal);
+      members = λ z. (
+        ⊎_elim (λ c. let high = c.1 in (inl c, omega (arith, ints))) (λ c. let k = (u.members z).0 c in (inr k.0, k.1)),
+        (λ (c, h). ⊎_elim (λ c. inl c) (λ c. inr ((u.members z).1 (c, h))) c),
+      );
+    }
+
+-- M is the list with its first run cut, and N that with its last run cut
+pub cut_both : (L M N : List (ℤ × ℤ)) (W : ℤ × ℤ) → IsRunsOf M (AtLeast W.0 (Covers L)) → IsRunsOf N (AtMost W.1 (Covers M)) → IsRunsOf N (Intersection (Covers L) (IsBetween W))
+cut_both L M N W f l = record {
+  maximal = l.maximal;
+  members = λ z. (
+    (λ c. let k = (l.members z).0 c in let j = (f.members z).0 k.0 in (j.0, (j.1, k.1))),
+    (λ (c, b). (l.members z).1 ((f.members z).1 (c, b.0), b.1)),
   );
 }
 
-left_is : (L : List (ℤ × ℤ)) (k : ℕ) (d : ℤ × ℤ) → k < length L → drop k L ≡ get_or L k d ∷ drop (k + 1) L
-left_is [] k d h = absurd (omega arith)
-left_is (p ∷ L) zero d h = refl
-left_is (p ∷ L) (suc k) d h =
-    let e : suc k + 1 ≡ suc (k + 1) = omega arith in
-    let P : ℕ → Type 0 = λ n. drop k L ≡ get_or L k d ∷ drop n (p ∷ L) in
-    subst P (sym e) (left_is L k d (omega arith))
+-- N has what the list has in W
+pub record IsCut (whole : ℤ × ℤ) (L : List (ℤ × ℤ)) (W : ℤ × ℤ) (N : List (ℤ × ℤ)) : Type 0 where
+  pub runs : IsRunsOf N (Intersection (Covers L) (IsBetween W))
+  pub list : IsRunListIn whole N
 
-cutting_at : (written L : List (ℤ × ℤ)) (k : ℕ) (d : ℤ × ℤ) (W T : ℤ → Type 0) → k < length L → d ≡ get_or L k d → IsCutting written (drop k L) W T → IsCutting written (d ∷ drop (k + 1) L) W T
-cutting_at written L k d W T h is u =
-    let P : List (ℤ × ℤ) → Type 0 = λ M. IsCutting written M W T in
-    let Q : ℤ × ℤ → Type 0 = λ r. IsCutting written (r ∷ drop (k + 1) L) W T in
-    subst Q (sym is) (subst P (left_is L k d h) u)
-
-pub cutting_next : (written added L : List (ℤ × ℤ)) (k : ℕ) (d part : ℤ × ℤ) (W T : ℤ → Type 0) → k < length L → d ≡ get_or L k d → IsCutting written (drop k L) W T →
-    SameMembers (IsBetween part) (Intersection (IsBetween d) W) → part.0 ≤ℤ part.1 → IsRunsOf added (Union (Covers written) (IsBetween part)) → StartsBy part.0 added →
-    IsCutting added (drop (k + 1) L) W T
-cutting_next written added L k d part W T h is u = cutting_takes written added d part (drop (k + 1) L) W T (cutting_at written L k d W T h is u)
-
-pub cutting_passes : (written L : List (ℤ × ℤ)) (k : ℕ) (d part : ℤ × ℤ) (W T : ℤ → Type 0) → k < length L → d ≡ get_or L k d → IsCutting written (drop k L) W T →
-    SameMembers (IsBetween part) (Intersection (IsBetween d) W) → IsCrossed part → IsCutting written (drop (k + 1) L) W T
-cutting_passes written L k d part W T h is u = cutting_skips written d part (drop (k + 1) L) W T (cutting_at written L k d W T h is u)
-
-pub cutting_starts : (written L : List (ℤ × ℤ)) (k : ℕ) (d part : ℤ × ℤ) (W T : ℤ → Type 0) → k < length L → d ≡ get_or L k d → IsCutting written (drop k L) W T →
-    SameMembers (IsBetween part) (Intersection (IsBetween d) W) → part.0 ≤ℤ part.1 → StartsBy part.0 written
-cutting_starts written L k d part W T h is u s o = (cutting_at written L k d W T h is u).starts part.0 (inl ((s part.0).0 (lower_end part o)).0)
-
-no_more : (L : List (ℤ × ℤ)) (k : ℕ) → length L ≤ k → drop k L ≡ []
-no_more [] zero h = refl
-no_more [] (suc k) h = refl
-no_more (p ∷ L) zero h = absurd (omega arith)
-no_more (p ∷ L) (suc k) h = no_more L k (omega arith)
+pub is_cut : (whole : ℤ × ℤ) (L : List (ℤ × ℤ)) (W p q r s : ℤ × ℤ) (k : ℕ) (v w : ℤ) → IsRunListIn whole L → W.0 ≤ℤ W.1 → EndsFrom W.0 L → StartsBy W.1 L →
+    k + 1 ≡ length L → v ≡ W.0 → w ≡ W.1 → p ≡ get_or L 0 p → SameMembers (IsBetween r) (AtLeast v (IsBetween p)) →
+    q ≡ get_or (set L 0 r) k q → SameMembers (IsBetween s) (AtMost w (IsBetween q)) → IsCut whole L W (set (set L 0 r) k s)
+is_cut whole L W p q r s k v w l o e b n f g is h at j =
+    let M : List (ℤ × ℤ) = set L 0 r in
+    let low : SameMembers (IsBetween r) (AtLeast W.0 (IsBetween (get_or L 0 p))) =
+    subst (λ (u : ℤ). SameMembers (IsBetween r) (AtLeast u (IsBetween (get_or L 0 p)))) f (subst (λ (t : ℤ × ℤ). SameMembers (IsBetween r) (AtLeast v (IsBetween t))) is h) in
+    let high : SameMembers (IsBetween s) (AtMost W.1 (IsBetween (get_or M k q))) =
+    subst (λ (u : ℤ). SameMembers (IsBetween s) (AtMost u (IsBetween (get_or M k q)))) g (subst (λ (t : ℤ × ℤ). SameMembers (IsBetween s) (AtMost w (IsBetween t))) at j) in
+    let first = cut_first L r p W.0 l.maximal (omega arith) e low in
+    let starts = cut_first_starts L r p W.0 W.1 l.maximal (omega arith) e low o b in
+    let same = length-set L 0 r in
+    let last = cut_last M k s q W.1 first.maximal (omega arith) starts high in
+    let all = cut_both L M (set M k s) W first last in
+    record { runs = all; list = record { maximal = all.maximal; within = λ z c. l.within z ((all.members z).0 c).0 } }

@@ -1,11 +1,14 @@
 -- What one look tells of the runs on one side of it.
-use Rattle.std.proofs.Common.{◌≡◌, ℕ, zero, suc, ◌+◌, ◌*◌, ◌^◌, ◌<◌, ◌≤◌, ℤ, ◌≤ℤ◌, ◌<ℤ◌, List, [], ◌∷◌, length, get_or, take, drop, ⊎_elim, arith, refl, inl, inr, true, false}
-use Rattle.std.specs.Prelude.{int_lt}
-use Rattle.std.proofs.lemmas.Int.{ints}
+use Rattle.std.proofs.Common.{◌≡◌, ℕ, zero, suc, ◌+◌, ◌*◌, ◌^◌, ◌<◌, ◌≤◌, ℤ, ◌≤ℤ◌, ◌<ℤ◌, Bool, IsTrue, ◌↔◌, List, [], ◌∷◌, length, get_or, slice_get, Some, take, drop, ⊎_elim, arith, refl, sym, subst, inl, inr, true, false}
+use Rattle.std.specs.Prelude.{int_lt, IsSomeAnd, Option}
+use Rattle.std.proofs.lemmas.Int.{ints, by_lt_z}
 use Rattle.std.proofs.Math.Nat.{pow-le-pow_right}
 use Rattle.std.proofs.lemmas.Bool.{cases_lt}
 use native.Mathlib.Numerals.{unary_clauses}
+use Rattle.std.proofs.lemmas.Option.{get_or_from_slice_get}
+use Rattle.ivl_laws.specs.Sets.{IsBetween}
 use Rattle.ivl_laws.specs.Runs.{Covers, IsMaximal, runs_below}
+use Rattle.ivl_laws.proofs.Adding.{untrue}
 use Rattle.intervallum.specs.Places.{EndBelow, StartAbove}
 
 pub int_lt_false : (a b : ℤ) → b <ℤ a → int_lt a b ≡ false
@@ -66,3 +69,16 @@ fewer_digits k digits far past e h l = ⊎_elim (λ less. less)
 
 pub doubled : (k far : ℕ) → far + 1 ≡ 2 ^ k → far + far + 1 + 1 ≡ 2 ^ (k + 1)
 doubled k far e = let more : k + 1 ≡ suc k = omega arith in rw more (simp unary_clauses (omega (arith, e)))
+
+-- v stands in run i, or below it and those after it
+abbrev pub IsFrom : ℤ → List (ℤ × ℤ) → ℕ → Bool → Type 0
+IsFrom v L i true = IsSomeAnd (slice_get L i) (λ run. IsBetween run v)
+IsFrom v L i false = StartAbove v (drop i L)
+
+pub is_from : (v : ℤ) (L : List (ℤ × ℤ)) (i : ℕ) (d : ℤ × ℤ) (t : Bool) → i < length L → IsMaximal L → slice_get L i ≡ Some d → v ≤ℤ d.1 → (IsTrue t ↔ (d.0 ≤ℤ v)) → IsFrom v L i t
+is_from v L i d true h m e k c =
+    let P : Option (ℤ × ℤ) → Type 0 = λ o. IsSomeAnd o (λ run. IsBetween run v) in
+    subst P (sym e) (c.0 refl, k)
+is_from v L i d false h m e k c =
+    let Q : ℤ × ℤ → Type 0 = λ r. v <ℤ r.0 in
+    above_from v L i d h (subst Q (sym (get_or_from_slice_get L i d d e)) (by_lt_z v d.0 (λ lt. lt) (λ le. absurd (untrue false refl c le)))) m

@@ -2,10 +2,11 @@
 use Rattle.std.proofs.Common.{◌≡◌, ◌↔◌, ℤ, List, [], ◌∷◌, Bool, true, false, not, IsTrue, inl, inr, ⊎_elim, refl, sym, subst, ◌∙◌, true≢false}
 use Rattle.std.specs.Prelude.{Result, IfOk}
 use Rattle.std.proofs.lemmas.Result.{IfOk-weaker}
-use Rattle.ivl_laws.specs.Sets.{IsInRange, Only, Intersection, SameMembers, HasNone, HasSome, SymmetricDifference, Union, Without}
-use Rattle.ivl_laws.specs.Runs.{Covers, IsRunsOf, IsRunListIn}
+use Rattle.ivl_laws.specs.Sets.{Only, Intersection, SameMembers, HasNone, HasSome, SymmetricDifference, Union, Without}
+use Rattle.ivl_laws.specs.Runs.{Covers, IsRunsOf}
 use Rattle.ivl_laws.proofs.SetLaws.{IsRunsOf-same, only_is_covered}
 use Rattle.ivl_laws.proofs.Ranges.{IsRunsOf-none}
+use lib.Signed.{≤ℤ_refl}
 
 same_list : (A L : List (ℤ × ℤ)) → A ≡ L → SameMembers (Covers A) (Covers L)
 same_list A L e = subst (λ (M : List (ℤ × ℤ)). SameMembers (Covers A) (Covers M)) e (λ z. ((λ c. c), (λ c. c)))
@@ -13,12 +14,15 @@ same_list A L e = subst (λ (M : List (ℤ × ℤ)). SameMembers (Covers A) (Cov
 same_only : (M : List (ℤ × ℤ)) (v : ℤ) → M ≡ (v, v) ∷ [] → SameMembers (Covers M) (Only v)
 same_only M v e = subst (λ (N : List (ℤ × ℤ)). SameMembers (Covers N) (Only v)) (sym e) (λ z. ((only_is_covered v z).1, (only_is_covered v z).0))
 
-pub common_with_one : {E : Type 0} (r : Result (List (ℤ × ℤ)) E) (A M L : List (ℤ × ℤ)) (v : ℤ) → A ≡ L → M ≡ (v, v) ∷ [] →
-    IfOk r (λ N. IsRunsOf N (Intersection (Covers A) (Covers M))) → IfOk r (λ N. IsRunsOf N (Intersection (Covers L) (Only v)))
-common_with_one r A M L v e f =
-    let p = same_list A L e in
-    let q = same_only M v f in
-    IfOk-weaker r _ _ (λ N i. IsRunsOf-same _ _ N (λ z. ((λ (a, b). ((p z).0 a, (q z).0 b)), (λ (a, b). ((p z).1 a, (q z).1 b)))) i)
+-- a value that is a member is all that the two have in common, and else nothing is
+pub common_with_member : {E : Type 0} (r : Result (List (ℤ × ℤ)) E) (L : List (ℤ × ℤ)) (v : ℤ) → Covers L v → IfOk r (λ N. N ≡ (v, v) ∷ []) → IfOk r (λ N. IsRunsOf N (Intersection (Covers L) (Only v)))
+common_with_member r L v c = IfOk-weaker r _ _ (λ N e. subst (λ (M : List (ℤ × ℤ)). IsRunsOf M (Intersection (Covers L) (Only v))) (sym e) (record {
+  maximal = (≤ℤ_refl v, tt, tt);
+  members = λ z. ((λ d. let o = (only_is_covered v z).1 d in (subst (Covers L) (sym o) c, o)), (λ (d, o). (only_is_covered v z).0 o));
+}))
+
+pub common_with_other : (L : List (ℤ × ℤ)) (v : ℤ) → ¬ (Covers L v) → IsRunsOf [] (Intersection (Covers L) (Only v))
+common_with_other L v n = IsRunsOf-none (Intersection (Covers L) (Only v)) (λ z (c, o). n (subst (Covers L) o c))
 
 pub left_by_one : {E : Type 0} (r : Result (List (ℤ × ℤ)) E) (A M L : List (ℤ × ℤ)) (v : ℤ) → A ≡ L → M ≡ (v, v) ∷ [] →
     IfOk r (λ N. IsRunsOf N (Without (Covers A) (Covers M))) → IfOk r (λ N. IsRunsOf N (Without (Covers L) (Only v)))
@@ -43,15 +47,6 @@ united_with_one r A M L v e f =
     let p = same_list A L e in
     let q = same_only M v f in
     IfOk-weaker r _ _ (λ N i. IsRunsOf-same _ _ N (λ z. (⊎_elim (λ a. inl ((p z).0 a)) (λ b. inr ((q z).0 b)), ⊎_elim (λ a. inl ((p z).1 a)) (λ b. inr ((q z).1 b)))) i)
-
--- a value outside the range is no member
-pub common_with_none : {E : Type 0} (r : Result (List (ℤ × ℤ)) E) (whole : ℤ × ℤ) (A L : List (ℤ × ℤ)) (v : ℤ) (b : Bool) → A ≡ L → IsRunListIn whole A →
-    (IsTrue b ↔ IsInRange whole (v, v)) → b ≡ false → IfOk r (λ N. N ≡ []) → IfOk r (λ N. IsRunsOf N (Intersection (Covers L) (Only v)))
-common_with_none r whole A L v b e a t f =
-    IfOk-weaker r _ _ (λ N i. subst (λ (M : List (ℤ × ℤ)). IsRunsOf M (Intersection (Covers L) (Only v))) (sym i) (IsRunsOf-none (Intersection (Covers L) (Only v)) outside))
-  where
-    outside : HasNone (Intersection (Covers L) (Only v))
-    outside z (c, o) = true≢false (sym (t.1 (a.within v ((same_list A L e v).1 (subst (Covers L) o c)))) ∙ f)
 
 pub not_some : (b : Bool) (S : ℤ → Type 0) → (IsTrue b ↔ HasSome S) → IsTrue (not b) ↔ HasNone S
 not_some true S e = ((λ t. absurd (true≢false (sym t))), (λ n. let (z, s) = e.0 refl in absurd (n z s)))

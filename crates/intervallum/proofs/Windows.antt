@@ -82,7 +82,7 @@ above_all v [] z s c = absurd c
 above_all v (p ∷ L) z s (inl b) = let x = b.0 in let y = s.0 in omega (arith, ints)
 above_all v (p ∷ L) z s (inr c) = above_all v L z s.1 c
 
-covers_split : (L : List (ℤ × ℤ)) (i : ℕ) (z : ℤ) → Covers L z → Covers (take i L) z ⊎ Covers (drop i L) z
+pub covers_split : (L : List (ℤ × ℤ)) (i : ℕ) (z : ℤ) → Covers L z → Covers (take i L) z ⊎ Covers (drop i L) z
 covers_split [] i z c = absurd c
 covers_split (p ∷ L) zero z c = inr c
 covers_split (p ∷ L) (suc i) z (inl b) = inl (inl b)
@@ -128,6 +128,35 @@ cut_from_part r K L W i j e w =
 
 pub part_is_run_list : (whole : ℤ × ℤ) (L : List (ℤ × ℤ)) (i n : ℕ) → IsRunListIn whole L → IsRunListIn whole (take n (drop i L))
 part_is_run_list whole L i n r = IsRunListIn-take whole (drop i L) n (IsRunListIn-drop whole L i r)
+
+-- ---- the first and the last run of the part that is kept
+
+ends_of_part : (L : List (ℤ × ℤ)) (n : ℕ) (v : ℤ) → EndsFrom v L → EndsFrom v (take n L)
+ends_of_part [] zero v e = tt
+ends_of_part [] (suc n) v e = tt
+ends_of_part (p ∷ L) zero v e = tt
+ends_of_part (p ∷ L) (suc n) v e = e
+
+-- K is the list that is cut, and M the list as a search saw it
+pub first_of_kept : (K L M : List (ℤ × ℤ)) (i n : ℕ) (v w : ℤ) → K ≡ L → M ≡ L → v ≡ w → EndsFrom v (drop i M) → EndsFrom w (take n (drop i K))
+first_of_kept K L M i n v w e f g h =
+    ends_of_part (drop i K) n w (subst (λ (N : List (ℤ × ℤ)). EndsFrom w (drop i N)) (f ∙ sym e) (subst (λ (u : ℤ). EndsFrom u (drop i M)) g h))
+
+starts_of_part : (L : List (ℤ × ℤ)) (n : ℕ) (v : ℤ) → StartsBy v L → StartsBy v (take n L)
+starts_of_part [] zero v s = tt
+starts_of_part [] (suc n) v s = tt
+starts_of_part (p ∷ L) zero v s = tt
+starts_of_part (p ∷ L) (suc n) v s = (s.0, starts_of_part L n v s.1)
+
+starts_between : (L : List (ℤ × ℤ)) (i j : ℕ) (v : ℤ) → StartsBy v (take j L) → StartsBy v (take (j - i) (drop i L))
+starts_between L zero j v s = let e : j ≡ j - 0 = omega arith in subst (λ (n : ℕ). StartsBy v (take n L)) e s
+starts_between [] (suc i) j v s = starts_of_part [] (j - suc i) v tt
+starts_between (p ∷ L) (suc i) zero v s = let e : 0 ≡ 0 - suc i = omega arith in subst (λ (n : ℕ). StartsBy v (take n (drop i L))) e tt
+starts_between (p ∷ L) (suc i) (suc j) v s = let e : j - i ≡ suc j - suc i = omega arith in subst (λ (n : ℕ). StartsBy v (take n (drop i L))) e (starts_between L i j v s.1)
+
+pub starts_of_kept : (K L M N : List (ℤ × ℤ)) (i j : ℕ) (v w : ℤ) → K ≡ L → M ≡ L → N ≡ M → v ≡ w → StartsBy v (take j N) → StartsBy w (take (j - i) (drop i K))
+starts_of_kept K L M N i j v w e f g h s =
+    starts_between K i j w (subst (λ (J : List (ℤ × ℤ)). StartsBy w (take j J)) (g ∙ f ∙ sym e) (subst (λ (u : ℤ). StartsBy u (take j N)) h s))
 
 -- ---- the runs of an answer, as many as were pushed at most
 

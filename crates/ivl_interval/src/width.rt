@@ -79,6 +79,20 @@ pub trait SizeNumber: Ord + Copy {
         Self::from_number(self.number().checked_sub(other.number())?)
     }
 
+    /// The sum, which the caller knows to be a number of the type. Condition: it is one, which
+    /// `checked_add(other).is_some()` tests.
+    ///
+    /// ```
+    /// assert!(rt; <u8 as SizeNumber>::checked_add(200, 55).is_some());
+    /// assert_eq!(rt; <u8 as SizeNumber>::add_in_range(200, 55), 255);
+    /// ```
+    fn add_in_range(self, other: Self) -> Self
+        requires { size self + size other ≤ greatest }
+        ensures { size result ≡ size self + size other }
+    {
+        self.checked_add(other).unwrap()
+    }
+
     /// Order and equality of values are those of their numbers.
     ghost ordered: { OrdersByCount size Self.eq Self.partial_cmp Self.cmp };
 
@@ -229,6 +243,48 @@ pub trait Width: Ord + Copy {
         ensures same_number { IfSome result (λ x. value x ≡ value self *ℤ value other) }
     {
         Self::from_number(self.number().checked_mul(other.number())?)
+    }
+
+    /// The sum, which the caller knows to be in the range. Condition: it is, which
+    /// `checked_add(other).is_some()` tests.
+    ///
+    /// ```
+    /// assert!(rt; <u8 as Width>::checked_add(200, 54).is_some());
+    /// assert_eq!(rt; <u8 as Width>::add_in_range(200, 54), 254);
+    /// ```
+    fn add_in_range(self, other: Self) -> Self
+        requires { IsBetween whole (value self +ℤ value other) }
+        ensures { value result ≡ value self +ℤ value other }
+    {
+        self.checked_add(other).unwrap()
+    }
+
+    /// The difference, which the caller knows to be in the range. Condition: it is, which
+    /// `checked_sub(other).is_some()` tests.
+    ///
+    /// ```
+    /// assert!(rt; <i8 as Width>::checked_sub(3, 4).is_some());
+    /// assert_eq!(rt; <i8 as Width>::sub_in_range(3, 4), -1);
+    /// ```
+    fn sub_in_range(self, other: Self) -> Self
+        requires { IsBetween whole (value self -ℤ value other) }
+        ensures { value result ≡ value self -ℤ value other }
+    {
+        self.checked_sub(other).unwrap()
+    }
+
+    /// The product, which the caller knows to be in the range. Condition: it is, which
+    /// `checked_mul(other).is_some()` tests.
+    ///
+    /// ```
+    /// assert!(rt; <i8 as Width>::checked_mul(-64, 1).is_some());
+    /// assert_eq!(rt; <i8 as Width>::mul_in_range(-64, 1), -64);
+    /// ```
+    fn mul_in_range(self, other: Self) -> Self
+        requires { IsBetween whole (value self *ℤ value other) }
+        ensures { value result ≡ value self *ℤ value other }
+    {
+        self.checked_mul(other).unwrap()
     }
 
     /// Order and equality of values are those of their numbers.

@@ -18,7 +18,7 @@ impl<B: Width> IntervalSet<B> {
     pub fn try_clone(&self) -> Result<Self, AllocError>
         ensures { IfOk result (λ L. L ≡ self.now) }
     {
-        let intervals = self.intervals.clone()?;
+        let intervals = Vec::from_slice(self.allocator(), &self.intervals)?;
         Ok(IntervalSet {
             intervals,
             size: self.size,

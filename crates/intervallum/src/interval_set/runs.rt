@@ -152,5 +152,17 @@ fn grown<B: Width>(size: B::Output, more: B::Output) -> B::Output
     requires { B.Output.size size + B.Output.size more ≤ B.Output.greatest }
     ensures { B.Output.size result ≡ B.Output.size size + B.Output.size more }
 {
-    size.checked_add(more).unwrap()
+    size.add_in_range(more)
+}
+
+/// How many numbers runs cover.
+pub(super) fn size_of_runs<B: Width>(runs: &[Interval<B>]) -> B::Output
+    requires { IsRunListIn B.whole runs.now }
+    ensures { IsCountOf (B.Output.size result) (Covers runs.now) }
+{
+    let mut size = <B::Output as SizeNumber>::zero();
+    for run in runs {
+        size = grown::<B>(size, run.size());
+    }
+    size
 }

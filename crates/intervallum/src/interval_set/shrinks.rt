@@ -1,14 +1,14 @@
 //! Sets cut at a value, from either side, with or without the value.
-ghost use Rattle.std.specs.Prelude.{◌≡◌, ◌≤◌, IfOk, length, take, drop};
+ghost use Rattle.std.specs.Prelude.{◌≡◌, ◌≤◌, ◌≤ℤ◌, IfOk, length, take, drop};
 ghost use Rattle.ivl_laws.specs.Sets.{Above, AtLeast, AtMost, Below, Intersection, IsBetween};
 ghost use Rattle.ivl_laws.specs.Runs.{Covers, IsRunListIn, IsRunsOf, StartsBy};
 ghost use Rattle.intervallum.specs.Places.{EndBelow, EndsFrom, StartAbove};
 
 use super::IntervalSet;
+use super::runs::size_of_runs;
 use crate::interval::Interval;
 use crate::ops::{
-    Bounded, Intersection, IsEmpty, ShrinkLeft, ShrinkRight, StrictShrinkLeft, StrictShrinkRight,
-    Whole,
+    Bounded, IsEmpty, ShrinkLeft, ShrinkRight, StrictShrinkLeft, StrictShrinkRight, Whole,
 };
 use crate::steps::{Place, Probes, find};
 use crate::width::Width;
@@ -153,22 +153,39 @@ fn runs_up_to<B: Width>(probes: &mut Probes<'_, B>, value: B) -> usize
     }
 }
 
-/// The numbers of runs that lie in an interval.
+/// The numbers of runs that lie in an interval: all of each run but the first and the last.
 fn cut_runs<B: Width>(
     alloc: Global,
     runs: &[Interval<B>],
     window: &Interval<B>,
 ) -> Result<IntervalSet<B>, AllocError>
-    requires { IsRunListIn B.whole runs.now }
+    requires window { window.now.0 ≤ℤ window.now.1 }
+    requires runs { IsRunListIn B.whole runs.now }
+    requires first { EndsFrom window.now.0 runs.now }
+    requires last { StartsBy window.now.1 runs.now }
     ensures members { IfOk result (λ L. IsRunsOf L (Intersection (Covers runs.now) (IsBetween window.now))) }
     ensures runs_at_most { IfOk result (λ L. length L ≤ length runs.now) }
 {
-    let mut set = IntervalSet::with_room(alloc, runs.len())?;
-    for run in runs {
-        let part = run.intersection(window);
-        if !part.is_empty() {
-            set.push_run(part)?;
-        }
+    let mut kept = Vec::from_slice(alloc, runs)?;
+    cut_ends(&mut kept, window);
+    let size = size_of_runs(&kept);
+    Ok(IntervalSet::of_runs(kept, size))
+}
+
+/// Cuts the first run from below and the last one from above, to what lies in an interval.
+fn cut_ends<B: Width>(runs: &mut Vec<Interval<B>>, window: &Interval<B>)
+    requires window { window.now.0 ≤ℤ window.now.1 }
+    requires runs { IsRunListIn B.whole runs.old.items }
+    requires first { EndsFrom window.now.0 runs.old.items }
+    requires last { StartsBy window.now.1 runs.old.items }
+    ensures members { IsRunsOf runs.new.items (Intersection (Covers runs.old.items) (IsBetween window.now)) }
+    ensures within { IsRunListIn B.whole runs.new.items }
+    ensures count { length runs.new.items ≡ length runs.old.items }
+{
+    let count = runs.len();
+    if count == 0 {
+        return;
     }
-    Ok(set)
+    runs[0] = runs[0].shrink_left(window.lower());
+    runs[count - 1] = runs[count - 1].shrink_right(window.upper());
 }

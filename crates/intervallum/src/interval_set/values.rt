@@ -5,8 +5,8 @@ ghost use Rattle.ivl_laws.specs.Runs.{Covers, IsRunsOf};
 
 use super::IntervalSet;
 use crate::interval::Interval;
-use crate::ops::{Difference, Intersection, SymmetricDifference, Union};
-use crate::steps::{Walk, common, one_alone, unite, without};
+use crate::ops::{Contains, Difference, Intersection, SymmetricDifference, Union};
+use crate::steps::{Walk, one_alone, unite, without};
 use crate::width::Width;
 use std::alloc::AllocError;
 
@@ -86,9 +86,9 @@ impl<B: Width> Intersection<B> for IntervalSet<B> {
 
     ghost answers = { λ r S. IfOk r (λ L. IsRunsOf L S) };
 
-    /// The value alone where it is a member, else none; for any value of its type. `O(n)`, in
-    /// memory for `n + 1` runs, and for one run that holds the value meanwhile. An error is memory
-    /// that was refused; the set is not changed.
+    /// The value alone where it is a member, else none; for any value of its type. `O(log n)`, in
+    /// memory for one run where it is a member. An error is memory that was refused; the set is not
+    /// changed.
     ///
     /// ```
     /// let a = IntervalSet::new(alloc, 1, 5)?;
@@ -101,13 +101,12 @@ impl<B: Width> Intersection<B> for IntervalSet<B> {
         ensures members { IfOk result (λ L. IsRunsOf L (Intersection (Covers self.now) (Only (B.value other.now)))) }
         ensures runs_at_most { IfOk result (λ L. length L ≤ length self.now + 1) }
     {
-        let members = Walk::new(self);
-        members.in_range();
-        if Interval::in_range(*other, *other) {
-            let single = IntervalSet::new(self.allocator(), *other, *other)?;
-            common(members, Walk::new(&single))
+        // the members are in the range, and so is the value where it is one
+        self.as_runs();
+        if self.contains(other) {
+            IntervalSet::new(self.allocator(), *other, *other)
         } else {
-            IntervalSet::with_room(self.allocator(), 0)
+            Ok(IntervalSet::empty(self.allocator()))
         }
     }
 }

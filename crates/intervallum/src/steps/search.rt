@@ -87,16 +87,21 @@ fn find_between<B: Width>(
     ensures looks { (digits : ℕ) → high - low < 2 ^ digits → probes.new.looks ≤ probes.old.looks + digits }
 {
     probes.len();
+    // run `high` has been looked at and has `v`
+    let mut is_in = false;
     'search: while low < high {
         let middle = low + (high - low) / 2;
         let run = probes.look(middle);
-        if v < run.lower() {
-            high = middle;
-        } else if run.upper() < v {
+        if run.upper() < v {
             low = middle + 1;
         } else {
-            return Place::In(middle);
+            high = middle;
+            is_in = run.lower() <= v;
         }
     }
-    Place::Gap(low)
+    if is_in {
+        Place::In(low)
+    } else {
+        Place::Gap(low)
+    }
 }

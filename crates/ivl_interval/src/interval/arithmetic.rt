@@ -40,7 +40,7 @@ fn sum<B: Width>(x: B, y: B) -> B
     requires { IsBetween B.whole (B.value x +ℤ B.value y) }
     ensures { B.value result ≡ B.value x +ℤ B.value y }
 {
-    x.checked_add(y).unwrap()
+    x.add_in_range(y)
 }
 
 /// The differences of a member of each.
@@ -69,7 +69,7 @@ fn difference<B: Width>(x: B, y: B) -> B
     requires { IsBetween B.whole (B.value x -ℤ B.value y) }
     ensures { B.value result ≡ B.value x -ℤ B.value y }
 {
-    x.checked_sub(y).unwrap()
+    x.sub_in_range(y)
 }
 
 /// The least interval that holds the products of a member of each. Every product lies between two
@@ -107,7 +107,7 @@ fn product<B: Width>(x: B, y: B) -> B
     requires { IsBetween B.whole (B.value x *ℤ B.value y) }
     ensures { B.value result ≡ B.value x *ℤ B.value y }
 {
-    x.checked_mul(y).unwrap()
+    x.mul_in_range(y)
 }
 
 impl<B: Width> Add<Interval<B>> for Interval<B> {

@@ -117,7 +117,7 @@ pub(super) fn successor<B: Width>(x: B) -> B
     requires { (B.whole.0 ≤ℤ B.value x) × (B.value x <ℤ B.whole.1) }
     ensures { B.value result ≡ B.value x +ℤ pos 1 }
 {
-    x.checked_add(B::one()).unwrap()
+    x.add_in_range(B::one())
 }
 
 /// The value of the number before.
@@ -125,7 +125,7 @@ pub(super) fn predecessor<B: Width>(x: B) -> B
     requires { (B.whole.0 <ℤ B.value x) × (B.value x ≤ℤ B.whole.1) }
     ensures { B.value result ≡ B.value x -ℤ pos 1 }
 {
-    x.checked_sub(B::one()).unwrap()
+    x.sub_in_range(B::one())
 }
 
 impl<B: Width> Hull<Interval<B>> for Interval<B> {

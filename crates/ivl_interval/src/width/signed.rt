@@ -68,6 +68,18 @@ impl Width for i8 {
         }
     }
 
+    fn add_in_range(self, other: i8) -> i8 {
+        self + other
+    }
+
+    fn sub_in_range(self, other: i8) -> i8 {
+        self - other
+    }
+
+    fn mul_in_range(self, other: i8) -> i8 {
+        self * other
+    }
+
     ghost ordered = { signed_order };
 
     ghost at_value = { λ x. refl };
@@ -135,6 +147,18 @@ impl Width for i16 {
         } else {
             None
         }
+    }
+
+    fn add_in_range(self, other: i16) -> i16 {
+        self + other
+    }
+
+    fn sub_in_range(self, other: i16) -> i16 {
+        self - other
+    }
+
+    fn mul_in_range(self, other: i16) -> i16 {
+        self * other
     }
 
     ghost ordered = { signed_order };
@@ -206,6 +230,18 @@ impl Width for i32 {
         }
     }
 
+    fn add_in_range(self, other: i32) -> i32 {
+        self + other
+    }
+
+    fn sub_in_range(self, other: i32) -> i32 {
+        self - other
+    }
+
+    fn mul_in_range(self, other: i32) -> i32 {
+        self * other
+    }
+
     ghost ordered = { signed_order };
 
     ghost at_value = { λ x. refl };
@@ -275,6 +311,18 @@ impl Width for i64 {
         }
     }
 
+    fn add_in_range(self, other: i64) -> i64 {
+        self + other
+    }
+
+    fn sub_in_range(self, other: i64) -> i64 {
+        self - other
+    }
+
+    fn mul_in_range(self, other: i64) -> i64 {
+        self * other
+    }
+
     ghost ordered = { signed_order };
 
     ghost at_value = { λ x. refl };
@@ -342,6 +390,18 @@ impl Width for isize {
         } else {
             None
         }
+    }
+
+    fn add_in_range(self, other: isize) -> isize {
+        self + other
+    }
+
+    fn sub_in_range(self, other: isize) -> isize {
+        self - other
+    }
+
+    fn mul_in_range(self, other: isize) -> isize {
+        self * other
     }
 
     ghost ordered = { signed_order };

@@ -35,6 +35,10 @@ impl SizeNumber for u8 {
         u8::checked_sub(self, other)
     }
 
+    fn add_in_range(self, other: u8) -> u8 {
+        self + other
+    }
+
     ghost ordered = { size_order };
 
     ghost bounded = { fits_u8 };
@@ -64,6 +68,10 @@ impl SizeNumber for u16 {
 
     fn checked_sub(self, other: u16) -> Option<u16> {
         u16::checked_sub(self, other)
+    }
+
+    fn add_in_range(self, other: u16) -> u16 {
+        self + other
     }
 
     ghost ordered = { size_order };
@@ -97,6 +105,10 @@ impl SizeNumber for u32 {
         u32::checked_sub(self, other)
     }
 
+    fn add_in_range(self, other: u32) -> u32 {
+        self + other
+    }
+
     ghost ordered = { size_order };
 
     ghost bounded = { fits_u32 };
@@ -128,6 +140,10 @@ impl SizeNumber for u64 {
         u64::checked_sub(self, other)
     }
 
+    fn add_in_range(self, other: u64) -> u64 {
+        self + other
+    }
+
     ghost ordered = { size_order };
 
     ghost bounded = { fits_u64 };
@@ -157,6 +173,10 @@ impl SizeNumber for usize {
 
     fn checked_sub(self, other: usize) -> Option<usize> {
         usize::checked_sub(self, other)
+    }
+
+    fn add_in_range(self, other: usize) -> usize {
+        self + other
     }
 
     ghost ordered = { size_order };

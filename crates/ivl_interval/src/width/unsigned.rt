@@ -65,6 +65,18 @@ impl Width for u8 {
             .filter(|x| *x < u8::MAX)
     }
 
+    fn add_in_range(self, other: u8) -> u8 {
+        self + other
+    }
+
+    fn sub_in_range(self, other: u8) -> u8 {
+        self - other
+    }
+
+    fn mul_in_range(self, other: u8) -> u8 {
+        self * other
+    }
+
     ghost ordered = { unsigned_order };
 
     ghost at_value = { λ x. refl };
@@ -129,6 +141,18 @@ impl Width for u16 {
         u16::try_from(self as u32 * other as u32)
             .ok()
             .filter(|x| *x < u16::MAX)
+    }
+
+    fn add_in_range(self, other: u16) -> u16 {
+        self + other
+    }
+
+    fn sub_in_range(self, other: u16) -> u16 {
+        self - other
+    }
+
+    fn mul_in_range(self, other: u16) -> u16 {
+        self * other
     }
 
     ghost ordered = { unsigned_order };
@@ -197,6 +221,18 @@ impl Width for u32 {
             .filter(|x| *x < u32::MAX)
     }
 
+    fn add_in_range(self, other: u32) -> u32 {
+        self + other
+    }
+
+    fn sub_in_range(self, other: u32) -> u32 {
+        self - other
+    }
+
+    fn mul_in_range(self, other: u32) -> u32 {
+        self * other
+    }
+
     ghost ordered = { unsigned_order };
 
     ghost at_value = { λ x. refl };
@@ -263,6 +299,18 @@ impl Width for u64 {
             .filter(|x| *x < u64::MAX)
     }
 
+    fn add_in_range(self, other: u64) -> u64 {
+        self + other
+    }
+
+    fn sub_in_range(self, other: u64) -> u64 {
+        self - other
+    }
+
+    fn mul_in_range(self, other: u64) -> u64 {
+        self * other
+    }
+
     ghost ordered = { unsigned_order };
 
     ghost at_value = { λ x. refl };
@@ -327,6 +375,18 @@ impl Width for usize {
         usize::try_from(self as u128 * other as u128)
             .ok()
             .filter(|x| *x < usize::MAX)
+    }
+
+    fn add_in_range(self, other: usize) -> usize {
+        self + other
+    }
+
+    fn sub_in_range(self, other: usize) -> usize {
+        self - other
+    }
+
+    fn mul_in_range(self, other: usize) -> usize {
+        self * other
     }
 
     ghost ordered = { unsigned_order };

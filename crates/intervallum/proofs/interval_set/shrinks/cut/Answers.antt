@@ -2,7 +2,7 @@ use Rattle.std.proofs.Common.{◌-◌, sym, subst}
 use Rattle.ivl_laws.specs.Runs.{IsRunListIn}
 use Rattle.ivl_laws.proofs.Adding.{untrue}
 use Rattle.ivl_laws.proofs.Intervals.{not_crossed, some_is_not_crossed}
-use Rattle.intervallum.proofs.Windows.{is_window, cut_from_part, part_is_run_list}
+use Rattle.intervallum.proofs.Windows.{is_window, cut_from_part, first_of_kept, part_is_run_list, starts_of_kept}
 use Rattle.intervallum.proofs.interval_set.shrinks.cut.Goals as goal
 
 pub lower-requires : goal.lower-requires
@@ -22,8 +22,21 @@ slice_bounds-kept-start g c =
     (not_crossed c.args.window.now (untrue _ c.if-is_empty.false c.is_empty.ensures.crossed)) c.lower.ensures.value c.upper.ensures.value
     c.runs_before-start.ensures.at_most c.runs_before-start.ensures.below c.runs_up_to-end.ensures.above).in_order
 
-pub cut_runs-requires : goal.cut_runs-requires
-cut_runs-requires g c =
+pub cut_runs-requires-clause-window : goal.cut_runs-requires-clause-window
+cut_runs-requires-clause-window g c = not_crossed c.args.window.now (untrue _ c.if-is_empty.false c.is_empty.ensures.crossed)
+
+pub cut_runs-requires-clause-first : goal.cut_runs-requires-clause-first
+cut_runs-requires-clause-first g c =
+    first_of_kept c.as_runs-runs.result.now c.args.set.now c.new-probes.result.runs c.runs_before-start.result (c.runs_up_to-end.result - c.runs_before-start.result) _ _
+    c.as_runs-runs.ensures.same c.new-probes.ensures.runs c.lower.ensures.value c.runs_before-start.ensures.rest
+
+pub cut_runs-requires-clause-last : goal.cut_runs-requires-clause-last
+cut_runs-requires-clause-last g c =
+    starts_of_kept c.as_runs-runs.result.now c.args.set.now c.new-probes.result.runs c.runs_before-start.new.probes.runs c.runs_before-start.result c.runs_up_to-end.result _ _
+    c.as_runs-runs.ensures.same c.new-probes.ensures.runs c.runs_before-start.ensures.same c.upper.ensures.value c.runs_up_to-end.ensures.starts
+
+pub cut_runs-requires-clause-runs : goal.cut_runs-requires-clause-runs
+cut_runs-requires-clause-runs g c =
     part_is_run_list g.B.Width.whole c.as_runs-runs.result.now c.runs_before-start.result (c.runs_up_to-end.result - c.runs_before-start.result)
     (subst (IsRunListIn g.B.Width.whole) (sym c.as_runs-runs.ensures.same) c.as_runs-runs.ensures.runs)
 

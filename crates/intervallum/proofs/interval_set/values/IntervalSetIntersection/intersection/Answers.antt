@@ -1,9 +1,12 @@
-use Rattle.std.proofs.Common.{◌∙◌}
-use Rattle.intervallum.proofs.Singles.{common_with_one, common_with_none}
+use Rattle.ivl_laws.proofs.Adding.{untrue}
+use Rattle.intervallum.proofs.Singles.{common_with_member, common_with_other}
 use Rattle.intervallum.proofs.interval_set.values.IntervalSetIntersection.intersection.Goals as goal
 
-pub returns-in_ok-single-clause-members : goal.returns-in_ok-single-clause-members
-returns-in_ok-single-clause-members g c = common_with_one c.common.result c.new-members.result.left c.new-then-in_range.result.left c.args.self.now (g.B.Width.value c.args.other.now) c.new-members.ensures.left (c.new-then-in_range.ensures.left ∙ c.in_ok-single.ensures) c.common.ensures.members
+pub new-requires-clause-in_range : goal.new-requires-clause-in_range
+new-requires-clause-in_range g c = c.as_runs.ensures.runs.within _ (c.contains.ensures.0 c.if-contains.true)
 
-pub returns-else-in_range-clause-members : goal.returns-else-in_range-clause-members
-returns-else-in_range-clause-members g c = common_with_none c.with_room.result g.B.Width.whole c.new-members.result.left c.args.self.now (g.B.Width.value c.args.other.now) c.in_range-2.result c.new-members.ensures.left c.in_range.ensures c.in_range-2.ensures c.if-in_range.false c.with_room.ensures
+pub returns-then-contains-clause-members : goal.returns-then-contains-clause-members
+returns-then-contains-clause-members g c = common_with_member c.new.result c.args.self.now (g.B.Width.value c.args.other.now) (c.contains.ensures.0 c.if-contains.true) c.new.ensures
+
+pub returns-else-contains-clause-members : goal.returns-else-contains-clause-members
+returns-else-contains-clause-members g c = rw c.empty.ensures (common_with_other c.args.self.now (g.B.Width.value c.args.other.now) (untrue _ c.if-contains.false c.contains.ensures))
