@@ -19,3 +19,6 @@ pub mod Alternating
 pub mod Windows
 pub mod Turning
 pub mod Shifting
+pub mod Splicing
+pub mod Touching
+pub mod Popping

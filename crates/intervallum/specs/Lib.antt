@@ -6,3 +6,4 @@ pub mod Text
 pub mod Places
 pub mod Sides
 pub mod Led
+pub mod Edits

@@ -6,6 +6,7 @@
 #![tactic(auto)]
 
 pub mod callers;
+pub mod edits;
 pub mod intervals;
 pub mod laws;
 pub mod numbers;

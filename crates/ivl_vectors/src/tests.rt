@@ -3,6 +3,7 @@ mod arithmetic;
 mod conversions;
 mod debug_texts;
 mod display_texts;
+mod doc_edits;
 mod doc_intervals;
 mod doc_sets;
 mod ends;

@@ -1,0 +1,27 @@
+use Rattle.std.proofs.Common.{ℤ, List, subst, sym}
+use Rattle.std.proofs.lemmas.Result.{on_ok_weaker}
+use Rattle.ivl_laws.specs.Sets.{IsBetween, Without}
+use Rattle.ivl_laws.specs.Runs.{Covers, IsRunsOf}
+use Rattle.ivl_laws.proofs.Ranges.{IsRunListIn-runs}
+use Rattle.intervallum.specs.Edits.{IsSpan, replaced}
+use Rattle.intervallum.proofs.Splicing.{left_where_none}
+use Rattle.intervallum.proofs.interval_set.IntervalSet.remove_interval.Goals as goal
+
+pub returns-then-start-end-clause-ok : goal.returns-then-start-end-clause-ok
+returns-then-start-end-clause-ok g c =
+    let P : ℤ → Type 0 = λ u. IsSpan c.args.self.now u c.args.interval.1 c.span-start.result.0 c.span-start.result.1 in
+    let Q : ℤ → Type 0 = λ v. IsSpan c.args.self.now (g.B.Width.value c.lower.result) v c.span-start.result.0 c.span-start.result.1 in
+    left_where_none c.args.self.now c.args.interval c.span-start.result.0 c.span-start.result.1 c.as_runs-runs.ensures.runs.maximal
+    (subst P c.lower.ensures.value (subst Q c.upper.ensures.value c.span-start.ensures)) c.if-start-end.true
+
+pub replace-requires-clause-runs : goal.replace-requires-clause-runs
+replace-requires-clause-runs g c =
+    let P : List (ℤ × ℤ) → Type 0 = λ L. IsRunsOf (replaced L c.span-start.result.0 c.span-start.result.1 c.rests-below.result.0 c.rests-below.result.1) (Without (Covers L) (IsBetween c.args.interval)) in
+    IsRunListIn-runs g.B.Width.whole _ (Without (Covers c.args.self.now) (IsBetween c.args.interval)) (subst P c.as_runs-runs.ensures.same c.rests-below.ensures)
+    (λ z w. c.as_runs-runs.ensures.runs.within z w.0)
+
+pub returns-clause-ok : goal.returns-clause-ok
+returns-clause-ok g c =
+    let P : List (ℤ × ℤ) → Type 0 = λ L. IsRunsOf (replaced L c.span-start.result.0 c.span-start.result.1 c.rests-below.result.0 c.rests-below.result.1) (Without (Covers L) (IsBetween c.args.interval)) in
+    let runs = subst P c.as_runs-runs.ensures.same c.rests-below.ensures in
+    on_ok_weaker c.replace.result (λ e. subst (λ (N : List (ℤ × ℤ)). IsRunsOf N (Without (Covers c.args.self.now) (IsBetween c.args.interval))) (sym e) runs) c.replace.ensures.ok

@@ -1,0 +1,244 @@
+//! Edits in place: members added to a set and taken from it.
+ghost use Rattle.std.specs.Prelude.{◌≡◌, ◌↔◌, ◌<◌, ◌≤◌, ℤ, ◌≤ℤ◌, [], None, Some, IfNone, IfOk, IfSome, IsOk, IsTrue, OnErr, OnOk, length};
+ghost use Rattle.ivl_laws.specs.Sets.{IsBetween, Only, Union, Without};
+ghost use Rattle.ivl_laws.specs.Runs.{Covers, IsRunListIn, IsRunsOf};
+ghost use Rattle.intervallum.specs.Edits.{replaced};
+
+mod spans;
+mod splices;
+
+use super::IntervalSet;
+use crate::interval::Interval;
+use crate::ops::{Bounded, Contains, IsEmpty, Singleton, StrictShrinkLeft, StrictShrinkRight};
+use crate::width::{SizeNumber, Width};
+use spans::{if_filled, joined, rests, span, touched};
+use splices::{grown, replace_runs, shrunk, size_of, total_size};
+use std::alloc::AllocError;
+
+impl<B: Width> IntervalSet<B> {
+    /// Adds a value. Returns true exactly when it was not a member before.
+    ///
+    /// The caller must ensure that the value is in the range. Check with
+    /// `Interval::in_range(value, value)`.
+    ///
+    /// Binary search, then only the runs above the value move: `O(log n)`, and `O(n)` where the
+    /// number of runs changes. Allocates only where a run is added and there is no room for it.
+    ///
+    /// # Errors
+    ///
+    /// Fails only if allocation fails. The set is then unchanged.
+    ///
+    /// ```
+    /// let mut a: IntervalSet<i32> = [(1, 2), (4, 5)].to_interval_set(alloc)?;
+    /// assert!(rt; Interval::in_range(3, 3), "it is in the range");
+    /// assert!(rt; a.insert(3)? && !a.insert(3)?);
+    /// assert!(rt; a == IntervalSet::new(alloc, 1, 5)?);
+    /// ```
+    ///
+    /// The original has no such call.
+    pub fn insert(&mut self, value: B) -> Result<bool, AllocError>
+        requires { IsBetween B.whole (B.value value) }
+        ensures members { OnOk result (IsRunsOf self.new (Union (Covers self.old) (Only (B.value value)))) }
+        ensures is_new { IfOk result (λ is_new. IsTrue is_new ↔ ¬ (Covers self.old (B.value value))) }
+        ensures err { OnErr result (self.new ≡ self.old) }
+    {
+        self.as_runs();
+        if self.contains(&value) {
+            return Ok(false);
+        }
+        self.insert_interval(Interval::singleton(value))?;
+        Ok(true)
+    }
+
+    /// Removes a value, which may be any value of its type. Returns true exactly when it was a
+    /// member.
+    ///
+    /// Binary search, then only the runs above the value move: `O(log n)`, and `O(n)` where the
+    /// number of runs changes. Allocates only where a run is split and there is no room for one
+    /// more.
+    ///
+    /// # Errors
+    ///
+    /// Fails only if allocation fails. The set is then unchanged.
+    ///
+    /// ```
+    /// let mut a = IntervalSet::new(alloc, 1, 5)?;
+    /// assert!(rt; a.remove(3)? && !a.remove(3)?);
+    /// assert!(rt; a == [(1, 2), (4, 5)].to_interval_set(alloc)?);
+    /// ```
+    ///
+    /// The original has no such call.
+    pub fn remove(&mut self, value: B) -> Result<bool, AllocError>
+        ensures members { OnOk result (IsRunsOf self.new (Without (Covers self.old) (Only (B.value value)))) }
+        ensures was_member { IfOk result (λ was_member. IsTrue was_member ↔ Covers self.old (B.value value)) }
+        ensures err { OnErr result (self.new ≡ self.old) }
+    {
+        self.as_runs();
+        if !self.contains(&value) {
+            return Ok(false);
+        }
+        self.remove_interval(Interval::singleton(value))?;
+        Ok(true)
+    }
+
+    /// Adds the members of an interval; one with no member adds nothing.
+    ///
+    /// Binary search for the runs that the interval overlaps or touches; then only the runs above
+    /// it move: `O(log n + k)` for `k` such runs, and `O(n)` where the number of runs changes.
+    /// Allocates only where a run is added and there is no room for it. To add many intervals at
+    /// once, use `extend`.
+    ///
+    /// # Errors
+    ///
+    /// Fails only if allocation fails. The set is then unchanged.
+    ///
+    /// ```
+    /// let mut a: IntervalSet<i32> = [(1, 2), (5, 6), (10, 12)].to_interval_set(alloc)?;
+    /// a.insert_interval(Interval::new(3, 8))?;
+    /// assert!(rt; a == [(1, 8), (10, 12)].to_interval_set(alloc)?);
+    /// ```
+    ///
+    /// The original has no such call.
+    pub fn insert_interval(&mut self, interval: Interval<B>) -> Result<(), AllocError>
+        ensures ok { OnOk result (IsRunsOf self.new (Union (Covers self.old) (IsBetween interval))) }
+        ensures err { OnErr result (self.new ≡ self.old) }
+    {
+        let runs = self.as_runs();
+        if interval.is_empty() {
+            return Ok(());
+        }
+        interval.in_whole();
+        let (start, end) = touched(self, &interval);
+        let run = joined(runs, start, end, interval);
+        self.replace(start, end, Some(run), None)
+    }
+
+    /// Removes the members of an interval.
+    ///
+    /// Binary search for the runs that the interval overlaps; then only the runs above it move:
+    /// `O(log n + k)` for `k` such runs, and `O(n)` where the number of runs changes. Allocates only
+    /// where a run is split and there is no room for one more.
+    ///
+    /// # Errors
+    ///
+    /// Fails only if allocation fails. The set is then unchanged.
+    ///
+    /// ```
+    /// let mut a: IntervalSet<i32> = [(1, 4), (6, 6), (10, 12)].to_interval_set(alloc)?;
+    /// a.remove_interval(Interval::new(3, 10))?;
+    /// assert!(rt; a == [(1, 2), (11, 12)].to_interval_set(alloc)?);
+    /// ```
+    ///
+    /// The original has no such call.
+    pub fn remove_interval(&mut self, interval: Interval<B>) -> Result<(), AllocError>
+        ensures ok { OnOk result (IsRunsOf self.new (Without (Covers self.old) (IsBetween interval))) }
+        ensures err { OnErr result (self.new ≡ self.old) }
+    {
+        let runs = self.as_runs();
+        if interval.is_empty() {
+            return Ok(());
+        }
+        let (start, end) = span(self, interval.lower(), interval.upper());
+        if start == end {
+            return Ok(());
+        }
+        let (below, above) = rests(runs, start, end, interval);
+        self.replace(start, end, below, above)
+    }
+
+    /// Removes all members. Keeps the room that the set has, and does not allocate.
+    ///
+    /// ```
+    /// let mut a = IntervalSet::new(alloc, 1, 5)?;
+    /// a.clear();
+    /// assert!(rt; a.is_empty());
+    /// ```
+    ///
+    /// The original has no such call.
+    pub fn clear(&mut self)
+        ensures { self.new ≡ [] }
+    {
+        self.intervals.clear();
+        self.size = <B::Output as SizeNumber>::zero();
+    }
+
+    /// Removes and returns the least member; `None` if there is none. `O(1)`, and `O(n)` where it is
+    /// a run by itself, as the other runs then move. Does not allocate.
+    ///
+    /// ```
+    /// let mut a: IntervalSet<i32> = [(1, 2), (5, 6)].to_interval_set(alloc)?;
+    /// assert_eq!(rt; a.pop_first(), Some(1));
+    /// assert!(rt; a == [(2, 2), (5, 6)].to_interval_set(alloc)?);
+    /// ```
+    ///
+    /// The original has no such call.
+    pub fn pop_first(&mut self) -> Option<B>
+        ensures none { IfNone result ((self.old ≡ []) × (self.new ≡ [])) }
+        ensures member { IfSome result (λ v. Covers self.old (B.value v)) }
+        ensures least { IfSome result (λ v. (z : ℤ) → Covers self.old z → B.value v ≤ℤ z) }
+        ensures others { IfSome result (λ v. IsRunsOf self.new (Without (Covers self.old) (Only (B.value v)))) }
+        ensures in_range { IfSome result (λ v. IsBetween B.whole (B.value v)) }
+    {
+        let runs = self.as_runs();
+        if runs.is_empty() {
+            return None;
+        }
+        let least = self.lower();
+        let rest = runs[0].strict_shrink_left(least);
+        self.replace(0, 1, if_filled(rest), None).unwrap();
+        Some(least)
+    }
+
+    /// Removes and returns the greatest member; `None` if there is none. `O(1)`. Does not allocate.
+    ///
+    /// ```
+    /// let mut a: IntervalSet<i32> = [(1, 2), (5, 6)].to_interval_set(alloc)?;
+    /// assert_eq!(rt; a.pop_last(), Some(6));
+    /// assert!(rt; a == [(1, 2), (5, 5)].to_interval_set(alloc)?);
+    /// ```
+    ///
+    /// The original has no such call.
+    pub fn pop_last(&mut self) -> Option<B>
+        ensures none { IfNone result ((self.old ≡ []) × (self.new ≡ [])) }
+        ensures member { IfSome result (λ v. Covers self.old (B.value v)) }
+        ensures greatest { IfSome result (λ v. (z : ℤ) → Covers self.old z → z ≤ℤ B.value v) }
+        ensures others { IfSome result (λ v. IsRunsOf self.new (Without (Covers self.old) (Only (B.value v)))) }
+        ensures in_range { IfSome result (λ v. IsBetween B.whole (B.value v)) }
+    {
+        let runs = self.as_runs();
+        let count = runs.len();
+        if count == 0 {
+            return None;
+        }
+        let greatest = self.upper();
+        let rest = runs[count - 1].strict_shrink_right(greatest);
+        self.replace(count - 1, count, if_filled(rest), None)
+            .unwrap();
+        Some(greatest)
+    }
+
+    /// Puts at most two runs in the place of those from `start` to before `end`. It can only fail
+    /// where more runs are put than go.
+    fn replace(
+        &mut self,
+        start: usize,
+        end: usize,
+        first: Option<Interval<B>>,
+        second: Option<Interval<B>>,
+    ) -> Result<(), AllocError>
+        requires runs { IsRunListIn B.whole (replaced self.old start end first second) }
+        requires in_order { start ≤ end }
+        requires at_most { end ≤ length self.old }
+        requires two { (run : _) → second ≡ Some run → start < end }
+        ensures ok { OnOk result (self.new ≡ replaced self.old start end first second) }
+        ensures err { OnErr result (self.new ≡ self.old) }
+        ensures in_place { second ≡ None → start < end → IsOk result }
+    {
+        let gone = total_size(&self.intervals[start..end]);
+        let kept = shrunk::<B>(self.size, gone);
+        let size = grown::<B>(grown::<B>(kept, size_of(first)), size_of(second));
+        replace_runs(&mut self.intervals, start, end, first, second)?;
+        self.size = size;
+        Ok(())
+    }
+}

@@ -1,0 +1,138 @@
+//! Which runs of a set an edit changes.
+ghost use Rattle.std.specs.Prelude.{◌≡◌, ◌⊎◌, ◌<◌, ◌≤◌, pos, ◌+ℤ◌, ◌-ℤ◌, ◌≤ℤ◌, [], None, Some, drop, length, take};
+ghost use Rattle.ivl_laws.specs.Sets.{IsBetween, Union, Without};
+ghost use Rattle.ivl_laws.specs.Runs.{Covers, IsMaximal, IsRunsOf, StartsBy};
+ghost use Rattle.intervallum.specs.Edits.{IsSpan, replaced};
+ghost use Rattle.intervallum.specs.Led.{led_by};
+ghost use Rattle.intervallum.specs.Places.{EndBelow, EndsFrom, StartAbove};
+
+use crate::interval::Interval;
+use crate::interval_set::IntervalSet;
+use crate::ops::{Bounded, IsEmpty, Range, StrictShrinkLeft, StrictShrinkRight};
+use crate::steps::{Place, Probes, find, find_from};
+use crate::width::Width;
+
+/// The places of the runs that end at `lower` or above and start at `upper` or below: the first,
+/// and the one after the last. `O(log n)`, and nearer by the start of the search where few runs do.
+pub(super) fn span<B: Width>(set: &IntervalSet<B>, lower: B, upper: B) -> (usize, usize)
+    requires { B.value lower ≤ℤ B.value upper }
+    ensures { IsSpan set.now (B.value lower) (B.value upper) result.0 result.1 }
+{
+    let mut probes = Probes::new(set);
+    let start = first_from(&mut probes, lower);
+    let end = last_up_to(&mut probes, upper, start);
+    (start, end)
+}
+
+/// How many runs end below a value.
+fn first_from<B: Width>(probes: &mut Probes<'_, B>, value: B) -> usize
+    ensures below { EndBelow (B.value value) (take result probes.old.runs) }
+    ensures ends { EndsFrom (B.value value) (drop result probes.old.runs) }
+    ensures at_most { result ≤ length probes.old.runs }
+    ensures same { probes.new.runs ≡ probes.old.runs }
+{
+    // the runs are those of a set, which the count tells
+    let _count = probes.len();
+    match find(probes, value) {
+        Place::In(i) => i,
+        Place::Gap(i) => i,
+    }
+}
+
+/// How many runs start at a value or below, of which the first `from` end below it.
+fn last_up_to<B: Width>(probes: &mut Probes<'_, B>, value: B, from: usize) -> usize
+    requires at_most { from ≤ length probes.old.runs }
+    requires below { EndBelow (B.value value) (take from probes.old.runs) }
+    ensures starts { StartsBy (B.value value) (take result probes.old.runs) }
+    ensures above { StartAbove (B.value value) (drop result probes.old.runs) }
+    ensures at_most { result ≤ length probes.old.runs }
+    ensures onwards { from ≤ result }
+    ensures same { probes.new.runs ≡ probes.old.runs }
+{
+    // the runs are those of a set, and no more than can be counted
+    let _count = probes.len();
+    match find_from(probes, value, from) {
+        Place::In(i) => i + 1,
+        Place::Gap(i) => i,
+    }
+}
+
+/// The places of the runs that overlap or touch an interval: the first, and the one after the last.
+pub(super) fn touched<B: Width>(set: &IntervalSet<B>, interval: &Interval<B>) -> (usize, usize)
+    requires { interval.now.0 ≤ℤ interval.now.1 }
+    ensures { IsSpan set.now (interval.now.0 -ℤ pos 1) (interval.now.1 +ℤ pos 1) result.0 result.1 }
+{
+    set.as_runs();
+    let below = one_below(interval.lower());
+    let above = one_above(interval.upper());
+    span(set, below, above)
+}
+
+/// The number before, or the number itself where it is the least of the range.
+fn one_below<B: Width>(value: B) -> B
+    requires { IsBetween B.whole (B.value value) }
+    ensures { (B.value result ≡ B.value value -ℤ pos 1) ⊎ ((B.value result ≡ B.value value) × (B.value value ≡ B.whole.0)) }
+{
+    match value.checked_sub(B::one()) {
+        Some(below) => below,
+        None => value,
+    }
+}
+
+/// The number after, or the number itself where it is the greatest of the range.
+fn one_above<B: Width>(value: B) -> B
+    requires { IsBetween B.whole (B.value value) }
+    ensures { (B.value result ≡ B.value value +ℤ pos 1) ⊎ ((B.value result ≡ B.value value) × (B.value value ≡ B.whole.1)) }
+{
+    match value.checked_add(B::one()) {
+        Some(above) => above,
+        None => value,
+    }
+}
+
+/// The run that an interval makes together with those from `start` to before `end`, which are the
+/// runs that it overlaps or touches.
+pub(super) fn joined<B: Width>(
+    runs: &[Interval<B>],
+    start: usize,
+    end: usize,
+    interval: Interval<B>,
+) -> Interval<B>
+    requires filled { interval.0 ≤ℤ interval.1 }
+    requires maximal { IsMaximal runs.now }
+    requires span { IsSpan runs.now (interval.0 -ℤ pos 1) (interval.1 +ℤ pos 1) start end }
+    ensures { IsRunsOf (replaced runs.now start end (Some result) None) (Union (Covers runs.now) (IsBetween interval)) }
+{
+    if start == end {
+        return interval;
+    }
+    let lower = interval.lower().min(runs[start].lower());
+    let upper = interval.upper().max(runs[end - 1].upper());
+    Interval::new(lower, upper)
+}
+
+/// What is left below and above an interval of the runs from `start` to before `end`, which are
+/// those that it overlaps.
+pub(super) fn rests<B: Width>(
+    runs: &[Interval<B>],
+    start: usize,
+    end: usize,
+    interval: Interval<B>,
+) -> (Option<Interval<B>>, Option<Interval<B>>)
+    requires filled { interval.0 ≤ℤ interval.1 }
+    requires maximal { IsMaximal runs.now }
+    requires span { IsSpan runs.now interval.0 interval.1 start end }
+    requires some { start < end }
+    ensures { IsRunsOf (replaced runs.now start end result.0 result.1) (Without (Covers runs.now) (IsBetween interval)) }
+{
+    let below = runs[start].strict_shrink_right(interval.lower());
+    let above = runs[end - 1].strict_shrink_left(interval.upper());
+    (if_filled(below), if_filled(above))
+}
+
+/// The interval, if it has a member.
+pub(super) fn if_filled<B: Width>(part: Interval<B>) -> Option<Interval<B>>
+    ensures { IsRunsOf (led_by result []) (IsBetween part) }
+{
+    if part.is_empty() { None } else { Some(part) }
+}
