@@ -19,3 +19,7 @@ pub mod Alternating
 pub mod Windows
 pub mod Turning
 pub mod Shifting
+pub mod Neighbours
+pub mod Rooms
+pub mod Rows
+pub mod WithIntervals

@@ -6,3 +6,5 @@ pub mod Text
 pub mod Places
 pub mod Sides
 pub mod Led
+pub mod Neighbours
+pub mod Rooms

@@ -14,12 +14,16 @@ mod copies;
 mod fits;
 mod inclusion;
 mod lattice;
+mod listing;
+mod neighbours;
 mod operands;
 mod reading;
+mod room;
 mod runs;
 mod shrinks;
 mod text;
 mod values;
+mod with_intervals;
 
 use crate::interval::Interval;
 use crate::ops::{Cardinality, Collection, IntervalKind, IsEmpty, Range};

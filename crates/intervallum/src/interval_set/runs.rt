@@ -27,8 +27,14 @@ impl<B: Width> IntervalSet<B> {
         self.intervals
     }
 
-    /// The allocator that the set keeps.
-    pub(crate) fn allocator(&self) -> Global {
+    /// The allocator that the set keeps, by which its calls take memory. `O(1)`, with no memory.
+    ///
+    /// ```
+    /// let a = IntervalSet::new(alloc, 1, 2)?;
+    /// let b = IntervalSet::singleton(a.allocator(), 3)?;
+    /// assert!(rt; !a.overlap(&b));
+    /// ```
+    pub fn allocator(&self) -> Global {
         *self.intervals.allocator()
     }
 
