@@ -1,4 +1,4 @@
-//! The members and the run next to a value.
+//! Neighbours of a value: the next and the previous member, and the run that holds it.
 ghost use Rattle.std.specs.Prelude.{MatchOption};
 ghost use Rattle.ivl_laws.specs.Sets.{AtLeast, AtMost, HasNone};
 ghost use Rattle.ivl_laws.specs.Runs.{Covers};
@@ -11,8 +11,8 @@ use crate::steps::{Place, Probes, find};
 use crate::width::Width;
 
 impl<B: Width> IntervalSet<B> {
-    /// The least member that is not below `v`, which may be any value of its type; none exactly
-    /// where there is no such member. Searches by halves: `O(log n)`, with no memory.
+    /// Returns the least member that is at least `v`, or `None` if there is none. `v` may be any
+    /// value of its type. Binary search: `O(log n)`. Does not allocate.
     ///
     /// ```
     /// let a: IntervalSet<i32> = [(1, 2), (5, 6)].to_interval_set(alloc)?;
@@ -38,8 +38,8 @@ impl<B: Width> IntervalSet<B> {
         }
     }
 
-    /// The greatest member that is not above `v`, which may be any value of its type; none exactly
-    /// where there is no such member. Searches by halves: `O(log n)`, with no memory.
+    /// Returns the greatest member that is at most `v`, or `None` if there is none. `v` may be any
+    /// value of its type. Binary search: `O(log n)`. Does not allocate.
     ///
     /// ```
     /// let a: IntervalSet<i32> = [(1, 2), (5, 6)].to_interval_set(alloc)?;
@@ -65,9 +65,9 @@ impl<B: Width> IntervalSet<B> {
         }
     }
 
-    /// The run that holds `v`, which may be any value of its type: the greatest interval of members
-    /// with `v` in it; none exactly where `v` is no member. Searches by halves: `O(log n)`, with no
-    /// memory.
+    /// Returns the run that holds `v`, the longest interval of members with `v` in it, or `None` if
+    /// `v` is not a member. `v` may be any value of its type. Binary search: `O(log n)`. Does not
+    /// allocate.
     ///
     /// ```
     /// let a: IntervalSet<i32> = [(1, 2), (5, 6)].to_interval_set(alloc)?;

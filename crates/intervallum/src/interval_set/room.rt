@@ -1,4 +1,4 @@
-//! Members that stand in a row, and the numbers of an interval that are no members.
+//! Consecutive members, and the numbers of an interval that are not members.
 ghost use Rattle.std.specs.Prelude.{◌≡◌, ◌<◌, ◌≤◌, ℤ, pos, ◌+ℤ◌, ◌-ℤ◌, IfOk, IsSomeAnd, MatchOption, length, slice_get};
 ghost use Rattle.ivl_laws.specs.Bounds.{width_of};
 ghost use Rattle.ivl_laws.specs.Sets.{AtLeast, IsBetween, Without};
@@ -14,9 +14,10 @@ use crate::width::{SizeNumber, Width};
 use std::alloc::AllocError;
 
 impl<B: Width> IntervalSet<B> {
-    /// The lowest interval of exactly `count` numbers that are all members; none exactly where
-    /// there is no such interval. Condition: `count` is above 0, which `count.number() > 0` tests.
-    /// Goes over the runs up to the one that has room: `O(n)`, with no memory.
+    /// Returns the lowest interval of exactly `count` consecutive members, or `None` if there is
+    /// none. The caller must ensure that `count` is above 0: check `count.number() > 0`.
+    ///
+    /// Scans the runs up to the first that is long enough: `O(n)`. Does not allocate.
     ///
     /// ```
     /// let a: IntervalSet<i32> = [(1, 2), (5, 9)].to_interval_set(alloc)?;
@@ -32,10 +33,12 @@ impl<B: Width> IntervalSet<B> {
         fit_in(self.as_runs(), count)
     }
 
-    /// The lowest interval of exactly `count` numbers that are all members and at least `v`, which
-    /// may be any value of its type; none exactly where there is no such interval. Condition:
-    /// `count` is above 0, which `count.number() > 0` tests. Searches for `v` by halves, and goes
-    /// over the runs from there on: `O(log n + k)` where it passes `k` runs, with no memory.
+    /// Returns the lowest interval of exactly `count` consecutive members that are all at least
+    /// `v`, or `None` if there is none. `v` may be any value of its type. The caller must ensure
+    /// that `count` is above 0: check `count.number() > 0`.
+    ///
+    /// Finds `v` by binary search and scans the `k` runs from there up to the first that is long
+    /// enough: `O(log n + k)`. Does not allocate.
     ///
     /// ```
     /// let a: IntervalSet<i32> = [(1, 2), (5, 9)].to_interval_set(alloc)?;
@@ -56,9 +59,10 @@ impl<B: Width> IntervalSet<B> {
         }
     }
 
-    /// The numbers of the interval that are no members. Searches by halves: `O(log n + k)` where `k`
-    /// runs meet the interval, in memory for `2 k + 1` runs, and for `k + 1` more meanwhile. An
-    /// error is memory that was refused; the set is not changed.
+    /// Returns the numbers of the interval that are not members. Fails only if allocation fails.
+    ///
+    /// `O(log n + k)`, where `k` runs meet the interval. Reserves `k + 1` runs for the answer, and
+    /// as many again while it works.
     ///
     /// ```
     /// let a: IntervalSet<i32> = [(1, 2), (5, 6)].to_interval_set(alloc)?;
@@ -74,8 +78,8 @@ impl<B: Width> IntervalSet<B> {
     }
 }
 
-/// The lowest numbers in a row, so many of them, that are at least `v` and lie in one of the runs, of
-/// which number `i` holds `v`.
+/// The lowest consecutive numbers, `count` of them, that are at least `v` and lie in one of the runs.
+/// Run number `i` holds `v`.
 fn fit_from_run<B: Width>(
     runs: &[Interval<B>],
     i: usize,
@@ -99,7 +103,7 @@ fn fit_from_run<B: Width>(
     }
 }
 
-/// The lowest numbers in a row, so many of them, that lie in one of the runs.
+/// The lowest consecutive numbers, `count` of them, that lie in one of the runs.
 fn fit_in<B: Width>(runs: &[Interval<B>], count: B::Output) -> Option<Interval<B>>
     requires above_zero { 0 < B.Output.size count }
     requires runs { IsRunListIn B.whole runs.now }
@@ -115,7 +119,7 @@ fn fit_in<B: Width>(runs: &[Interval<B>], count: B::Output) -> Option<Interval<B
     None
 }
 
-/// The lowest numbers of a run that has at least so many.
+/// The lowest `count` numbers of a run that has at least so many.
 fn lowest_of<B: Width>(run: &Interval<B>, count: B::Output) -> Interval<B>
     requires above_zero { 0 < B.Output.size count }
     requires enough { B.Output.size count ≤ width_of run.now }

@@ -27,7 +27,7 @@ impl<B: Width> IntervalSet<B> {
         self.intervals
     }
 
-    /// The allocator that the set keeps, by which its calls take memory. `O(1)`, with no memory.
+    /// Returns the allocator that the set uses. `O(1)`. Does not allocate.
     ///
     /// ```
     /// let a = IntervalSet::new(alloc, 1, 2)?;

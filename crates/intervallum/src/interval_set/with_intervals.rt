@@ -12,8 +12,8 @@ use crate::width::Width;
 use std::alloc::{AllocError, Global};
 
 impl<B: Width> IntervalSet<B> {
-    /// The set of the members of an interval, which may have none. `O(1)`, in memory for one run;
-    /// none where there is no member. An error is memory that was refused.
+    /// Returns the set of the members of an interval, which may be empty. `O(1)`. Allocates one
+    /// run, or nothing for an empty interval. Fails only if allocation fails.
     ///
     /// ```
     /// let a = IntervalSet::of(alloc, Interval::new(1, 2))?;
@@ -30,8 +30,8 @@ impl<B: Width> IntervalSet<B> {
         Self::new(alloc, interval.lower(), interval.upper())
     }
 
-    /// True exactly where each member of the interval is a member of this set, so always where it
-    /// has none. Searches by halves: `O(log n)`, with no memory.
+    /// Returns true exactly when each member of the interval is a member of the set, so always for
+    /// an empty interval. Binary search: `O(log n)`. Does not allocate.
     ///
     /// ```
     /// let a: IntervalSet<i32> = [(1, 5), (8, 9)].to_interval_set(alloc)?;
@@ -55,8 +55,8 @@ impl<B: Width> Overlap<Interval<B>> for IntervalSet<B> {
 
     ghost other_members = { IsBetween };
 
-    /// True exactly where some member of the interval is a member of this set. Searches by halves:
-    /// `O(log n)`, with no memory.
+    /// Returns true exactly when some member of the interval is a member of the set. Binary search:
+    /// `O(log n)`. Does not allocate.
     ///
     /// ```
     /// let a: IntervalSet<i32> = [(1, 2), (5, 6)].to_interval_set(alloc)?;
@@ -84,9 +84,8 @@ impl<B: Width> Union<Interval<B>> for IntervalSet<B> {
 
     ghost answers = { λ r S. IfOk r (λ L. IsRunsOf L S) };
 
-    /// The members of the set and of the interval. `O(n)`, in memory for `n + 1` runs, and for one
-    /// run that holds the interval meanwhile. An error is memory that was refused; the set is not
-    /// changed.
+    /// Returns the members of the set and of the interval, which may be empty. `O(n)`. Reserves
+    /// `n + 1` runs, and one for the interval while it works. Fails only if allocation fails.
     ///
     /// ```
     /// let a = IntervalSet::new(alloc, 1, 5)?;
@@ -110,9 +109,8 @@ impl<B: Width> Intersection<Interval<B>> for IntervalSet<B> {
 
     ghost answers = { λ r S. IfOk r (λ L. IsRunsOf L S) };
 
-    /// The members that lie in the interval. Searches by halves: `O(log n + k)` where `k` runs meet
-    /// the interval, in memory that is reserved once for `k` runs. An error is memory that was
-    /// refused; the set is not changed.
+    /// Returns the members that lie in the interval. Binary search: `O(log n + k)`, where `k` runs
+    /// meet the interval. Reserves `k` runs once. Fails only if allocation fails.
     ///
     /// ```
     /// let a: IntervalSet<i32> = [(1, 5), (8, 9)].to_interval_set(alloc)?;
@@ -135,9 +133,8 @@ impl<B: Width> Difference<Interval<B>> for IntervalSet<B> {
 
     ghost answers = { λ r S. IfOk r (λ L. IsRunsOf L S) };
 
-    /// The members that do not lie in the interval. `O(n)`, in memory for `n + 1` runs, and for one
-    /// run that holds the interval meanwhile. An error is memory that was refused; the set is not
-    /// changed.
+    /// Returns the members that do not lie in the interval. `O(n)`. Reserves `n + 1` runs, and one
+    /// for the interval while it works. Fails only if allocation fails.
     ///
     /// ```
     /// let a = IntervalSet::new(alloc, 1, 9)?;
