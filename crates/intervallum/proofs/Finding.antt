@@ -29,12 +29,12 @@ place_is_less [] i v h = absurd h
 place_is_less (p ∷ L) zero v h = omega arith
 place_is_less (p ∷ L) (suc i) v h = let k = place_is_less L i v h in omega arith
 
-in_from_place : (L : List (ℤ × ℤ)) (i : ℕ) (q : ℤ × ℤ) → slice_get L i ≡ Some q → IsIn L q
+pub in_from_place : (L : List (ℤ × ℤ)) (i : ℕ) (q : ℤ × ℤ) → slice_get L i ≡ Some q → IsIn L q
 in_from_place [] i q e = absurd (cc)
 in_from_place (p ∷ L) zero q e = inl (cc)
 in_from_place (p ∷ L) (suc i) q e = inr (in_from_place L i q e)
 
-has_at_place : (L : List (ℤ × ℤ)) (i : ℕ) (q : ℤ × ℤ) (v : ℤ) → slice_get L i ≡ Some q → IsSomeAnd (slice_get L i) (λ run. IsBetween run v) → IsBetween q v
+pub has_at_place : (L : List (ℤ × ℤ)) (i : ℕ) (q : ℤ × ℤ) (v : ℤ) → slice_get L i ≡ Some q → IsSomeAnd (slice_get L i) (λ run. IsBetween run v) → IsBetween q v
 has_at_place [] i q v e h = absurd h
 has_at_place (p ∷ L) zero q v e h = let same : p ≡ q = cc in subst (λ (r : ℤ × ℤ). IsBetween r v) same h
 has_at_place (p ∷ L) (suc i) q v e h = has_at_place L i q v e h

@@ -22,3 +22,7 @@ pub mod Shifting
 pub mod Splicing
 pub mod Touching
 pub mod Popping
+pub mod Neighbours
+pub mod Rooms
+pub mod Rows
+pub mod WithIntervals

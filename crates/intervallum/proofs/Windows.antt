@@ -72,12 +72,12 @@ places_in_order [] (suc i) j a b o m h e s = absurd (omega arith)
 places_in_order (p ∷ L) (suc i) zero a b o m h e s = let x = m.0 in let y = e.0 in let z = s.0 in absurd (omega (arith, ints))
 places_in_order (p ∷ L) (suc i) (suc j) a b o m h e s = let k = places_in_order L i j a b o m.2 (omega arith) e.1 s in omega arith
 
-below_all : (v : ℤ) (L : List (ℤ × ℤ)) (z : ℤ) → EndBelow v L → Covers L z → z <ℤ v
+pub below_all : (v : ℤ) (L : List (ℤ × ℤ)) (z : ℤ) → EndBelow v L → Covers L z → z <ℤ v
 below_all v [] z e c = absurd c
 below_all v (p ∷ L) z e (inl b) = let x = b.1 in let y = e.0 in omega (arith, ints)
 below_all v (p ∷ L) z e (inr c) = below_all v L z e.1 c
 
-above_all : (v : ℤ) (L : List (ℤ × ℤ)) (z : ℤ) → StartAbove v L → Covers L z → v <ℤ z
+pub above_all : (v : ℤ) (L : List (ℤ × ℤ)) (z : ℤ) → StartAbove v L → Covers L z → v <ℤ z
 above_all v [] z s c = absurd c
 above_all v (p ∷ L) z s (inl b) = let x = b.0 in let y = s.0 in omega (arith, ints)
 above_all v (p ∷ L) z s (inr c) = above_all v L z s.1 c

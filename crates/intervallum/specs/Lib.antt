@@ -7,3 +7,5 @@ pub mod Places
 pub mod Sides
 pub mod Led
 pub mod Edits
+pub mod Neighbours
+pub mod Rooms

@@ -15,12 +15,16 @@ mod edits;
 mod fits;
 mod inclusion;
 mod lattice;
+mod listing;
+mod neighbours;
 mod operands;
 mod reading;
+mod room;
 mod runs;
 mod shrinks;
 mod text;
 mod values;
+mod with_intervals;
 
 use crate::interval::Interval;
 use crate::ops::{Cardinality, Collection, IntervalKind, IsEmpty, Range};

@@ -2,7 +2,7 @@
 //!
 //! [`callers`] know a type by one bound; [`intervals`] and [`sets`] say what each bound's answer is at these types, in
 //! plain numbers and lists of runs; [`ranges`] and [`numbers`] give the ranges and the numbers of the ten integer types; [`laws`] carry the laws over
-//! sets of numbers to the answers of calls.
+//! sets of numbers to the answers of calls; [`reads`] ask sets for neighbours, room and runs.
 #![tactic(auto)]
 
 pub mod callers;
@@ -11,5 +11,6 @@ pub mod intervals;
 pub mod laws;
 pub mod numbers;
 pub mod ranges;
+pub mod reads;
 pub mod sets;
 pub mod tested;

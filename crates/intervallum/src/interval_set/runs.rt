@@ -27,8 +27,14 @@ impl<B: Width> IntervalSet<B> {
         self.intervals
     }
 
-    /// The allocator that the set keeps.
-    pub(crate) fn allocator(&self) -> Global {
+    /// Returns the allocator that the set uses. `O(1)`. Does not allocate.
+    ///
+    /// ```
+    /// let a = IntervalSet::new(alloc, 1, 2)?;
+    /// let b = IntervalSet::singleton(a.allocator(), 3)?;
+    /// assert!(rt; !a.overlap(&b));
+    /// ```
+    pub fn allocator(&self) -> Global {
         *self.intervals.allocator()
     }
 

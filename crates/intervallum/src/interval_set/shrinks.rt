@@ -107,7 +107,10 @@ impl<B: Width> StrictShrinkRight for IntervalSet<B> {
 }
 
 /// The members of a set that lie in an interval.
-fn cut<B: Width>(set: &IntervalSet<B>, window: &Interval<B>) -> Result<IntervalSet<B>, AllocError>
+pub(super) fn cut<B: Width>(
+    set: &IntervalSet<B>,
+    window: &Interval<B>,
+) -> Result<IntervalSet<B>, AllocError>
     ensures members { IfOk result (λ L. IsRunsOf L (Intersection (Covers set.now) (IsBetween window.now))) }
     ensures within { IsRunListIn B.whole set.now }
     ensures runs_at_most { IfOk result (λ L. length L ≤ length set.now) }

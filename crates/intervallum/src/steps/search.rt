@@ -1,5 +1,6 @@
 //! Where a value stands among the runs of a set.
 ghost use Rattle.std.specs.Prelude.{◌≡◌, ℕ, ◌+◌, ◌-◌, ◌*◌, ◌^◌, ◌<◌, ◌≤◌, drop, length, take};
+ghost use Rattle.intervallum.specs.Neighbours.{IsBeside};
 ghost use Rattle.intervallum.specs.Places.{EndBelow, IsPlaceOf, StartAbove, index_of};
 
 use super::probes::Probes;
@@ -21,8 +22,9 @@ pub enum Place {
     Gap(usize),
 }
 
-/// Where `v` stands, which may be any value of its type. Looks at no run where there is none, and
-/// else at no more runs than their number has binary digits: `O(log n)`, with no memory.
+/// Where `v` stands, which may be any value of its type. A contract also sees the run that holds `v`,
+/// or the next and the previous member. Looks at no run where there is none, and else at no more
+/// runs than their number has binary digits: `O(log n)`, with no memory.
 ///
 /// ```
 /// let a: IntervalSet<i32> = [(1, 2), (5, 6)].to_interval_set(alloc)?;
@@ -33,6 +35,7 @@ pub enum Place {
 pub fn find<B: Width>(probes: &mut Probes<'_, B>, v: B) -> Place
     ensures place { IsPlaceOf probes.old.runs (B.value v) result }
     ensures same { probes.new.runs ≡ probes.old.runs }
+    ensures beside { IsBeside probes.old.runs (B.value v) result }
     // no more looks than the number of runs has binary digits
     ensures looks { (digits : ℕ) → length probes.old.runs < 2 ^ digits → probes.new.looks ≤ probes.old.looks + digits }
 {

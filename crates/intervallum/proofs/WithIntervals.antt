@@ -1,0 +1,56 @@
+-- Sets beside an interval.
+use Rattle.std.proofs.Common.{◌≡◌, ◌↔◌, ⊎_elim, inl, inr, ℤ, pos, ◌+ℤ◌, ◌≤ℤ◌, Bool, IsTrue, List, [], ◌∷◌, arith, sym, subst}
+use Rattle.std.specs.Prelude.{◌<ℤ◌, Result, IfOk}
+use Rattle.std.proofs.lemmas.Int.{ints, by_lt_z}
+use Rattle.std.proofs.lemmas.Result.{IfOk-weaker}
+use Rattle.ivl_laws.specs.Sets.{AtLeast, HasSome, Intersection, IsBetween, IsSubset, SameMembers, Union, Without}
+use Rattle.ivl_laws.specs.Runs.{Covers, IsRunsOf}
+use Rattle.ivl_laws.proofs.Ranges.{IsRunsOf-one}
+use Rattle.ivl_laws.proofs.Runs.{pair_same}
+use Rattle.ivl_laws.proofs.SetLaws.{IsRunsOf-same}
+use Rattle.intervallum.specs.Neighbours.{IsLeast, IsRunWith}
+
+-- ---- the set of an interval
+
+pub of_some : {E : Type 0} (r : Result (List (ℤ × ℤ)) E) (p : ℤ × ℤ) (a b : ℤ) → p.0 ≤ℤ p.1 → a ≡ p.0 → b ≡ p.1 → IfOk r (λ L. L ≡ (a, b) ∷ []) → IfOk r (λ L. IsRunsOf L (IsBetween p))
+of_some r p a b o e f h = IfOk-weaker r _ _ (λ L i.
+    subst (λ (M : List (ℤ × ℤ)). IsRunsOf M (IsBetween p)) (sym i) (subst (λ (q : ℤ × ℤ). IsRunsOf (q ∷ []) (IsBetween p)) (sym (pair_same (a, b) p e f)) (IsRunsOf-one p o))) h
+
+-- ---- results beside a set whose runs are those of T
+
+-- A and M are the sets, as walks saw them
+module _ {E : Type 0} (r : Result (List (ℤ × ℤ)) E) (A M N L : List (ℤ × ℤ)) (T : ℤ → Type 0) (e : A ≡ L) (f : M ≡ N) (u : IsRunsOf N T) where
+  same_first : SameMembers (Covers A) (Covers L)
+  same_first = subst (λ (K : List (ℤ × ℤ)). SameMembers (Covers A) (Covers K)) e (λ z. ((λ c. c), (λ c. c)))
+
+  same_second : SameMembers (Covers M) T
+  same_second = subst (λ (K : List (ℤ × ℤ)). SameMembers (Covers K) T) (sym f) u.members
+
+  pub united_with : IfOk r (λ K. IsRunsOf K (Union (Covers A) (Covers M))) → IfOk r (λ K. IsRunsOf K (Union (Covers L) T))
+  united_with = IfOk-weaker r _ _ (λ K i. IsRunsOf-same _ _ K (λ z. (
+    ⊎_elim (λ a. inl ((same_first z).0 a)) (λ b. inr ((same_second z).0 b)),
+    ⊎_elim (λ a. inl ((same_first z).1 a)) (λ b. inr ((same_second z).1 b)),
+  )) i)
+
+  pub left_without : IfOk r (λ K. IsRunsOf K (Without (Covers A) (Covers M))) → IfOk r (λ K. IsRunsOf K (Without (Covers L) T))
+  left_without = IfOk-weaker r _ _ (λ K i. IsRunsOf-same _ _ K (λ z. (
+    (λ (a, n). ((same_first z).0 a, λ b. n ((same_second z).1 b))),
+    (λ (a, n). ((same_first z).1 a, λ b. n ((same_second z).0 b))),
+  )) i)
+
+-- ---- whether an interval is included, and whether it overlaps
+
+pub included_in_run : (S : ℤ → Type 0) (p run : ℤ × ℤ) (a b c : ℤ) (t : Bool) → p.0 ≤ℤ p.1 → IsRunWith a S run → a ≡ p.0 → b ≡ p.1 → c ≡ run.1 → (IsTrue t ↔ (b ≤ℤ c)) → IsTrue t ↔ IsSubset (IsBetween p) S
+included_in_run S p run a b c t o w ea eb ec k =
+    let low = w.holds.0 in
+    let high = w.holds.1 in (
+      (λ u z (i : IsBetween p z). let le = k.0 u in let from = i.0 in let to = i.1 in w.inside z (omega (arith, ints), omega (arith, ints))),
+      (λ s. k.1 (by_lt_z c b (λ (lt : c <ℤ b). absurd (w.free_above (s (run.1 +ℤ pos 1) (omega (arith, ints), omega (arith, ints))))) (λ le. le))),
+    )
+
+pub overlaps_by_least : (S : ℤ → Type 0) (p : ℤ × ℤ) (a b x : ℤ) (t : Bool) → IsLeast x (AtLeast a S) → a ≡ p.0 → b ≡ p.1 → (IsTrue t ↔ (x ≤ℤ b)) → IsTrue t ↔ HasSome (Intersection S (IsBetween p))
+overlaps_by_least S p a b x t l ea eb k =
+    let from = l.0.1 in (
+      (λ u. let le = k.0 u in (x, (l.0.0, (omega (arith, ints), omega (arith, ints))))),
+      (λ (z, (s, i)). let low = i.0 in let high = i.1 in let least = l.1 z (s, omega (arith, ints)) in k.1 (omega (arith, ints))),
+    )

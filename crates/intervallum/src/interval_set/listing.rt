@@ -1,0 +1,25 @@
+//! The runs of a set as a slice.
+ghost use Rattle.std.specs.Prelude.{◌≡◌, All};
+ghost use Rattle.ivl_laws.specs.Sets.{HasSome, IsBetween};
+ghost use Rattle.ivl_laws.specs.Runs.{IsRunListIn};
+
+use super::IntervalSet;
+use crate::interval::Interval;
+use crate::width::Width;
+
+impl<B: Width> IntervalSet<B> {
+    /// Returns the runs as a slice: non-empty intervals within the type's range, in ascending order,
+    /// with at least one number missing between neighbours. `O(1)`. Does not allocate.
+    ///
+    /// ```
+    /// let a: IntervalSet<i32> = [(5, 6), (1, 2)].to_interval_set(alloc)?;
+    /// assert!(rt; a.runs().len() == 2 && a.runs()[1] == Interval::new(5, 6));
+    /// ```
+    pub fn runs(&self) -> &[Interval<B>]
+        ensures same { result.now ≡ self.now }
+        ensures runs { IsRunListIn B.whole self.now }
+        ensures filled { All (λ run. HasSome (IsBetween run)) self.now }
+    {
+        self.iter().as_slice()
+    }
+}
