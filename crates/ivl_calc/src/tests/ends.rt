@@ -1,6 +1,5 @@
 //! Sums and differences at both ends of small types.
 use super::check_register;
-use crate::within::{add_within, sub_within};
 use crate::{Calc, Command, Reply};
 use std::test::Fail;
 
@@ -131,22 +130,4 @@ fn several_runs(rt: HostRuntime) -> Result<(), Fail> {
     calc.apply(&Command::Set(1, vec![in alloc; (-1, 0)]?));
     assert_eq!(rt; calc.apply(&Command::Plus(2, 0, 1)), Reply::Cut(true));
     check_register(&rt, &calc, 2, "{[-127..-127][-1..0]}")
-}
-
-#[test]
-fn sets_with_no_run(rt: HostRuntime) -> Result<(), Fail> {
-    let alloc = rt.alloc();
-    let mut calc: Calc<i8> = Calc::new(alloc, 2)?;
-    calc.apply(&Command::Comp(1, 0));
-    let (Some(none), Some(whole)) = (calc.get(0), calc.get(1)) else {
-        assert!(rt; false, "both registers are there");
-        return Ok(());
-    };
-    let (sums, is_cut) = add_within(none, whole)?;
-    assert!(rt; sums == *none && !is_cut);
-    let (differences, is_cut) = sub_within(whole, none)?;
-    assert!(rt; differences == *none && !is_cut);
-    let (sums, is_cut) = add_within(whole, whole)?;
-    assert!(rt; sums == *whole && is_cut);
-    Ok(())
 }
