@@ -6,8 +6,8 @@
 use crate::inputs::set_of;
 use anyhow::{Context, Result, bail, ensure};
 use intervallum::interval_set::IntervalSet;
-use ivl_calc::store::callers::post_if_distinct;
-use ivl_calc::store::{Constraint, Post, Store, StoreFault};
+use ivl_store::store::callers::post_if_distinct;
+use ivl_store::store::{Constraint, Post, Store, StoreFault};
 use std::alloc::{AllocError, Global};
 use std::fs::File;
 use std::io::{BufRead, BufReader};

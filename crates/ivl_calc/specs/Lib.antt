@@ -1,13 +1,4 @@
 pub mod Actions
-pub mod FamilyLaws
-pub mod Keeping
 pub mod Makings
-pub mod Measure
-pub mod Narrowing
-pub mod Posts
-pub mod Rounds
-pub mod Settled
-pub mod Solutions
 pub mod Step
 pub mod View
-pub mod Within

@@ -13,7 +13,7 @@ use Rattle.ivl_laws.specs.Sets.{IsBetween, IsInRange, Only, HasNone, HasSome, Is
 use Rattle.ivl_laws.specs.Runs.{Covers, IsRunsOf}
 use Rattle.ivl_laws.specs.Counts.{IsCountOf}
 use Rattle.ivl_laws.specs.Families.{set_at}
-use Rattle.ivl_calc.specs.Within.{Clipped}
+use Rattle.ivl_within.specs.Within.{Clipped}
 use Rattle.ivl_calc.specs.declared.reply.Refusal.{Refusal}
 use Rattle.ivl_calc.specs.declared.reply.Refusal.TheVariants.{Register, Range, Fit, Memory}
 use Rattle.ivl_calc.specs.Actions.{Making, pairs, union, intersection, difference, symmetric, complement, at_least, at_most, above, below, plus, minus, times, plus_value, minus_value, times_value, Question, has, size, count, low, high, same, subset, meets, show, Action, make, ask, Answer, done, cut, flag, sized, counted, value, runs, refused}

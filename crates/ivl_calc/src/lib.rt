@@ -2,7 +2,7 @@
 //!
 //! What a list of commands answers is what it would answer over plain sets of numbers: that is the
 //! contract of [`Calc::run`]. [`within`] has the sums and differences of sets that are cut at the
-//! ends of the range.
+//! ends of the range, and [`store`] narrows domains by constraints `x + y = z`.
 //!
 //! ```
 //! let mut calc = Calc::new(alloc, 2)?;
@@ -12,14 +12,15 @@
 //! ```
 #![tactic(auto)]
 
+pub use ivl_store::store;
+pub use ivl_within::within;
+
 mod calc;
 mod command;
 pub mod laws;
 mod reply;
-pub mod store;
 #[cfg(test)]
 mod tests;
-pub mod within;
 
 pub use calc::Calc;
 pub use command::Command;

@@ -3,8 +3,6 @@
 mod commands;
 mod ends;
 mod refusals;
-mod store;
-mod windows;
 
 use crate::Calc;
 use intervallum::width::Width;

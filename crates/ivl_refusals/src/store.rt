@@ -2,8 +2,8 @@
 //! domains as the call says they are then.
 
 use intervallum::prelude::{Interval, IntervalSet, ToIntervalSet};
-use ivl_calc::store::callers::post_if_distinct;
-use ivl_calc::store::{Constraint, Post, Store, StoreFault};
+use ivl_store::store::callers::post_if_distinct;
+use ivl_store::store::{Constraint, Post, Store, StoreFault};
 use std::alloc::{AllocError, Global};
 
 /// The runs of a domain.

@@ -2,9 +2,9 @@
 use Rattle.std.proofs.Common.{◌≡◌, ◌∙◌, ℕ, ℤ, Bool, cond, not, ◌+◌, ◌<◌, List, [], ◌∷◌, ◌++◌, length, get_or, take, take-suc, add-one, refl, sym, ap, map, position}
 use Rattle.std.specs.List.{position_or_len}
 use Rattle.ivl_laws.proofs.Lengths.{length-map}
-use Rattle.ivl_calc.specs.declared.store.constraint.Constraint.{Constraint}
-use Rattle.ivl_calc.specs.declared.store.post.Post.TheVariants.{Restrict}
-use Rattle.ivl_calc.specs.Posts.{constraints_of}
+use Rattle.ivl_store.specs.declared.store.constraint.Constraint.{Constraint}
+use Rattle.ivl_store.specs.declared.store.post.Post.TheVariants.{Restrict}
+use Rattle.ivl_store.specs.Posts.{constraints_of}
 use Rattle.ivl_solve.specs.Solving.{required}
 
 pub constraints_of-required : (cs : List Constraint) → constraints_of (required cs) ≡ cs

@@ -5,10 +5,10 @@
 use Rattle.std.specs.Prelude.{◌≡◌, ℕ, ℤ, List, [], ◌∷◌, ◌++◌, bytes_eq, map, position, Option, Some, None}
 use Rattle.ivl_laws.specs.Runs.{Covers, IsRunsOf}
 use Rattle.ivl_laws.specs.Families.{set_at}
-use Rattle.ivl_calc.specs.declared.store.constraint.Constraint.{Constraint}
-use Rattle.ivl_calc.specs.declared.store.post.Post.{Post}
-use Rattle.ivl_calc.specs.declared.store.post.Post.TheVariants.{Restrict, Require}
-use Rattle.ivl_calc.specs.Posts.{IsLeftBy}
+use Rattle.ivl_store.specs.declared.store.constraint.Constraint.{Constraint}
+use Rattle.ivl_store.specs.declared.store.post.Post.{Post}
+use Rattle.ivl_store.specs.declared.store.post.Post.TheVariants.{Restrict, Require}
+use Rattle.ivl_store.specs.Posts.{IsLeftBy}
 use Rattle.ivl_solve.specs.Requests.{Asked, var, cut, sum, show}
 
 -- one name and one domain for each variable

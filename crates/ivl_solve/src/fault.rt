@@ -1,5 +1,5 @@
 //! Why a line is not carried out.
-use ivl_calc::store::StoreFault;
+use ivl_store::store::StoreFault;
 use std::alloc::AllocError;
 
 /// Why a line is not carried out. The words are those of the line.

@@ -2,9 +2,9 @@
 ghost use Rattle.std.specs.Prelude.{◌≡◌, ◌∷◌, ◌++◌, ◌↔◌, [], Some, Any, IfErr, IfOk, IsTrue, OnErr, OnOk, bytes_eq, map, position, string_bytes};
 ghost use Rattle.ivl_laws.specs.Runs.{Covers, IsRunsOf};
 ghost use Rattle.ivl_laws.specs.Families.{set_at};
-ghost use Rattle.ivl_calc.specs.Posts.{IsLeftBy};
-ghost use Rattle.ivl_calc.specs.Solutions.{AreDistinct};
-ghost use Rattle.ivl_calc.specs.declared.store.post.Post.TheVariants.{Restrict};
+ghost use Rattle.ivl_store.specs.Posts.{IsLeftBy};
+ghost use Rattle.ivl_store.specs.Solutions.{AreDistinct};
+ghost use Rattle.ivl_store.specs.declared.store.post.Post.TheVariants.{Restrict};
 ghost use Rattle.ivl_solve.specs.Faults.{IsOfLine};
 ghost use Rattle.ivl_solve.specs.Requests.{asked_of};
 ghost use Rattle.ivl_solve.specs.Solving.{Adds, Carries, Cuts, Defines, index_of as index_in, required as required_by};
@@ -14,7 +14,7 @@ use crate::request::Request;
 use intervallum::interval::Interval;
 use intervallum::interval_set::{IntervalSet, ToIntervalSet};
 use intervallum::ops::IsEmpty;
-use ivl_calc::store::{Constraint, Post, Store, StoreFault};
+use ivl_store::store::{Constraint, Post, Store, StoreFault};
 use std::alloc::{AllocError, Global};
 use std::marker::Model;
 
@@ -30,7 +30,7 @@ pub struct Solver {
 
 impl Model for Solver {
     ghost use Rattle.std.specs.Prelude.{All, map, string_bytes};
-    ghost use Rattle.ivl_calc.specs.Solutions.{AreDistinct};
+    ghost use Rattle.ivl_store.specs.Solutions.{AreDistinct};
     ghost use Rattle.ivl_solve.specs.Solving.{State};
 
     ghost Value = { State };

@@ -2,8 +2,8 @@
 
 use crate::sets::{set, set_text, sets};
 use intervallum::width::Width;
-use ivl_calc::store::callers::post_if_distinct;
-use ivl_calc::store::{Constraint, Post, Store, StoreFault};
+use ivl_store::store::callers::post_if_distinct;
+use ivl_store::store::{Constraint, Post, Store, StoreFault};
 use std::alloc::{AllocError, Global};
 use std::fmt::Display;
 use std::str::FromStr;

@@ -12,7 +12,6 @@ ghost use Rattle.ivl_calc.specs.View.{answer_of, number_pairs};
 
 use super::Calc;
 use crate::reply::{Refusal, Reply};
-use crate::within::{add_within, sub_within};
 use intervallum::interval::Interval;
 use intervallum::interval_set::{IntervalSet, ToIntervalSet};
 use intervallum::ops::{
@@ -21,6 +20,7 @@ use intervallum::ops::{
 };
 use intervallum::sweep::Op;
 use intervallum::width::Width;
+use ivl_within::within::{add_within, sub_within};
 use std::alloc::AllocError;
 
 /// What is made of two sets by one walk over both.

@@ -1,7 +1,9 @@
 //! Sums and differences at both ends of small types.
 use super::check_register;
+use crate::store::{Constraint, Store};
 use crate::within::{add_within, sub_within};
 use crate::{Calc, Command, Reply};
+use intervallum::interval_set::IntervalSet;
 use std::test::Fail;
 
 /// The number in a reply of `Low` or `High`, if there is one.
@@ -133,20 +135,27 @@ fn several_runs(rt: HostRuntime) -> Result<(), Fail> {
     check_register(&rt, &calc, 2, "{[-127..-127][-1..0]}")
 }
 
+// The sums in a register are those of `within`, and what a store keeps of them is the register that was added to.
 #[test]
-fn sets_with_no_run(rt: HostRuntime) -> Result<(), Fail> {
+fn sets_of_registers(rt: HostRuntime) -> Result<(), Fail> {
     let alloc = rt.alloc();
-    let mut calc: Calc<i8> = Calc::new(alloc, 2)?;
-    calc.apply(&Command::Comp(1, 0));
-    let (Some(none), Some(whole)) = (calc.get(0), calc.get(1)) else {
-        assert!(rt; false, "both registers are there");
+    let mut calc: Calc<u8> = Calc::new(alloc, 3)?;
+    calc.apply(&Command::Set(0, vec![in alloc; (240, 250)]?));
+    calc.apply(&Command::Set(1, vec![in alloc; (4, 4)]?));
+    assert_eq!(rt; calc.apply(&Command::Plus(2, 0, 1)), Reply::Cut(false));
+    let (Some(a), Some(b), Some(sums)) = (calc.get(0), calc.get(1), calc.get(2)) else {
+        assert!(rt; false, "all registers are there");
         return Ok(());
     };
-    let (sums, is_cut) = add_within(none, whole)?;
-    assert!(rt; sums == *none && !is_cut);
-    let (differences, is_cut) = sub_within(whole, none)?;
-    assert!(rt; differences == *none && !is_cut);
-    let (sums, is_cut) = add_within(whole, whole)?;
-    assert!(rt; sums == *whole && is_cut);
+    assert!(rt; add_within(a, b)?.0 == *sums);
+    assert!(rt; sub_within(sums, b)?.0 == *a);
+    let domains = vec![in alloc;
+        IntervalSet::new(alloc, 0, 254)?,
+        b.try_clone()?,
+        sums.try_clone()?,
+    ]?;
+    let mut store = Store::new(alloc, domains);
+    assert_eq!(rt; store.narrow(&Constraint { x: 0, y: 1, z: 2 }), Ok(true));
+    assert!(rt; store.domains()[0] == *a);
     Ok(())
 }

@@ -3,8 +3,8 @@
 use intervallum::interval::Interval;
 use intervallum::interval_set::{IntervalSet, ToIntervalSet};
 use intervallum::width::Width;
-use ivl_calc::store::callers::post_if_distinct;
-use ivl_calc::store::{Constraint, Post, Store};
+use ivl_store::store::callers::post_if_distinct;
+use ivl_store::store::{Constraint, Post, Store};
 use ivl_vectors::bit::Bit;
 use ivl_vectors::narrow::Narrow;
 use std::alloc::{AllocError, Global};

@@ -1,8 +1,8 @@
 use Rattle.std.proofs.Common.{◌≡◌, ◌∙◌, ℤ, ℕ, List, All, ap, sym, subst}
-use Rattle.ivl_calc.specs.declared.store.constraint.Constraint.{Constraint}
-use Rattle.ivl_calc.specs.declared.store.post.Post.{Post}
-use Rattle.ivl_calc.specs.Posts.{constraints_of}
-use Rattle.ivl_calc.specs.Solutions.{AreDistinct}
+use Rattle.ivl_store.specs.declared.store.constraint.Constraint.{Constraint}
+use Rattle.ivl_store.specs.declared.store.post.Post.{Post}
+use Rattle.ivl_store.specs.Posts.{constraints_of}
+use Rattle.ivl_store.specs.Solutions.{AreDistinct}
 use Rattle.ivl_solve.proofs.Requiring.{constraints_of-required}
 use Rattle.ivl_solve.proofs.solver.Solver.require.Goals as goal
 

@@ -1,6 +1,0 @@
-use Rattle.std.proofs.Common.{◌≡◌, drop}
-use Rattle.ivl_calc.specs.Narrowing.{first_unknown_of}
-use Rattle.ivl_calc.proofs.store.constraint.first_unknown_of.Given as goal
-
-abbrev pub invariant-loop-constraint : goal.invariant-loop-constraint
-invariant-loop-constraint l = first_unknown_of l.count l.constraints ≡ first_unknown_of l.count (drop l.constraint-index l.constraints)

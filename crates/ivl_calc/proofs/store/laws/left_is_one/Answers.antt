@@ -1,7 +1,0 @@
-use Rattle.ivl_laws.specs.Families.{set_at}
-use Rattle.ivl_calc.specs.Posts.{Cut, constraints_of}
-use Rattle.ivl_calc.proofs.Families.{greatest_unique}
-use Rattle.ivl_calc.proofs.store.laws.left_is_one.Goals as goal
-
-pub returns : goal.returns
-returns g c = λ old first second a b. greatest_unique (constraints_of c.args.posts.now) (Cut c.args.posts.now (set_at old)) first second a b

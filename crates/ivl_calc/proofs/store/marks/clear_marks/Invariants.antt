@@ -1,5 +1,0 @@
-use Rattle.ivl_calc.proofs.Settled.{ClearedSoFar}
-use Rattle.ivl_calc.proofs.store.marks.clear_marks.Given as goal
-
-abbrev pub invariant-loop-k : goal.invariant-loop-k
-invariant-loop-k l = ClearedSoFar l.constraints l.variable l.fn.settled.items l.settled.items l.k

@@ -1,6 +1,0 @@
-use Rattle.ivl_calc.proofs.Clipping.{tells_cut}
-use Rattle.ivl_calc.specs.declared.within.Combined.TheVariants.{Sum}
-use Rattle.ivl_calc.proofs.within.add_within.Goals as goal
-
-pub returns-clause-cut : goal.returns-clause-cut
-returns-clause-cut g c = tells_cut g.B.Width.whole Sum c.args.a.now c.args.b.now c.fits_add-is_cut.result c.in_ok-combine_all.ensures.left c.in_ok-combine_all.ensures.right c.fits_add-is_cut.ensures

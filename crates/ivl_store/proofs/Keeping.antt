@@ -1,0 +1,95 @@
+-- What is left of a set where only some members are kept.
+use Rattle.std.proofs.Common.{◌≡◌, ◌↔◌, ◌⊎◌, inl, inr, refl, sym, ap, subst, arith, ◌∙◌, List, [], ◌∷◌, length, get_or}
+use Rattle.std.specs.Prelude.{ℤ, ◌≤ℤ◌, Option, Some, None}
+use Rattle.ivl_laws.specs.Sets.{IsBetween, IsSubset, SameMembers, HasNone, Intersection, Sums, Differences}
+use Rattle.ivl_laws.specs.Runs.{Covers, IsRunListIn, IsRunsOf}
+use Rattle.ivl_laws.specs.Arithmetic.{interval_sum, interval_difference}
+use Rattle.ivl_laws.proofs.Products.{sums_of_intervals, differences_of_intervals}
+use Rattle.ivl_laws.proofs.SetLaws.{sums_are_monotone, differences_are_monotone}
+use Rattle.ivl_within.specs.declared.within.Combined.{Combined}
+use Rattle.ivl_within.specs.declared.within.Combined.TheVariants.{Sum, Difference}
+use Rattle.ivl_within.specs.Within.{Clipped, SumsBy, sum_by}
+use Rattle.ivl_store.specs.Keeping.{IsLeftOf}
+
+-- ---- by a set that is given
+
+-- all members are kept
+pub keeps_all_within : (whole : ℤ × ℤ) (L kept : List (ℤ × ℤ)) (S : ℤ → Type 0) → IsRunListIn whole L → IsRunsOf kept (Intersection (Covers L) S)
+    → SameMembers (Covers kept) (Covers L) → IsLeftOf whole L S None
+keeps_all_within whole L kept S r k same = (r, λ z h. ((k.members z).0 ((same z).1 h)).1)
+
+-- some member is lost
+pub keeps_some_within : (whole : ℤ × ℤ) (L kept : List (ℤ × ℤ)) (S : ℤ → Type 0) → IsRunListIn whole L → IsRunsOf kept (Intersection (Covers L) S)
+    → ¬ (SameMembers (Covers kept) (Covers L)) → IsLeftOf whole L S (Some kept)
+keeps_some_within whole L kept S r k differ =
+    (r, record { maximal = k.maximal; within = λ z h. r.within z ((k.members z).0 h).0 }, k.members, differ)
+
+-- what is left, where the members of the set that are kept agree
+pub left_same : (whole : ℤ × ℤ) (L : List (ℤ × ℤ)) (S T : ℤ → Type 0) (left : Option (List (ℤ × ℤ))) → ((z : ℤ) → Covers L z → S z ↔ T z)
+    → IsLeftOf whole L S left → IsLeftOf whole L T left
+left_same whole L S T None same h = (h.0, λ z m. (same z m).0 (h.1 z m))
+left_same whole L S T (Some left) same h = (
+  h.0,
+  h.1,
+  (λ z. ((λ m. let u = (h.2 z).0 m in (u.0, (same z u.0).0 u.1)), (λ u. (h.2 z).1 (u.0, (same z u.0).1 u.1)))),
+  h.3,
+)
+
+-- ---- by single runs
+
+-- the list of one run
+pub one_run : (L M : List (ℤ × ℤ)) (p : ℤ × ℤ) → L ≡ M → length L ≡ 1 → p ≡ get_or L 0 p → M ≡ p ∷ []
+one_run [] M p e n is = absurd (omega arith)
+one_run (q ∷ []) M p e n is = sym e ∙ ap (λ r. r ∷ []) (sym is)
+one_run (q ∷ r ∷ L) M p e n is = absurd (omega arith)
+
+-- the members of such a list
+covers_one : (L : List (ℤ × ℤ)) (p : ℤ × ℤ) → L ≡ p ∷ [] → SameMembers (Covers L) (IsBetween p)
+covers_one L p e = subst (λ M. SameMembers (Covers M) (IsBetween p)) (sym e) (λ z. ((λ h. elim h [ inl b ↦ b | inr n ↦ absurd n ]), (λ b. inl b)))
+
+sums_of_runs : (op : Combined) (p q : ℤ × ℤ) → p.0 ≤ℤ p.1 → q.0 ≤ℤ q.1 → SameMembers (IsBetween (sum_by op p q)) (SumsBy op (IsBetween p) (IsBetween q))
+sums_of_runs Sum p q h k = sums_of_intervals p q h k
+sums_of_runs Difference p q h k = differences_of_intervals p q h k
+
+sums_by_same : (op : Combined) (S S' T T' : ℤ → Type 0) → IsSubset S S' → IsSubset T T' → IsSubset (SumsBy op S T) (SumsBy op S' T')
+sums_by_same Sum S S' T T' h k = sums_are_monotone S S' T T' h k
+sums_by_same Difference S S' T T' h k = differences_are_monotone S S' T T' h k
+
+-- what two runs make within the run of a list
+pub runs_keep : (op : Combined) (L M N : List (ℤ × ℤ)) (run p q kept : ℤ × ℤ) → N ≡ run ∷ [] → L ≡ p ∷ [] → M ≡ q ∷ [] → p.0 ≤ℤ p.1 → q.0 ≤ℤ q.1
+    → SameMembers (IsBetween kept) (Clipped run (IsBetween (sum_by op p q))) → (z : ℤ) → Covers N z → IsBetween kept z ↔ SumsBy op (Covers L) (Covers M) z
+runs_keep op L M N run p q kept n e f h k same z m =
+    let s = sums_of_runs op p q h k z in
+    let l = covers_one L p e in
+    let r = covers_one M q f in (
+      (λ b. sums_by_same op _ _ _ _ (λ x. (l x).1) (λ x. (r x).1) z (s.0 ((same z).0 b).0)),
+      (λ u. (same z).1 (s.1 (sums_by_same op _ _ _ _ (λ x. (l x).0) (λ x. (r x).0) z u), (covers_one N run n z).0 m)),
+    )
+
+-- no member of a single run is left
+pub run_left_none : (whole : ℤ × ℤ) (L : List (ℤ × ℤ)) (run kept : ℤ × ℤ) → IsRunListIn whole L → L ≡ run ∷ []
+    → ¬ (SameMembers (IsBetween kept) (IsBetween run)) → HasNone (IsBetween kept) → IsLeftOf whole L (IsBetween kept) (Some [])
+run_left_none whole L run kept r e differ none =
+    let l = covers_one L run e in (
+      r,
+      record { maximal = tt; within = λ z h. absurd h },
+      (λ z. ((λ h. absurd h), (λ u. none z u.1))),
+      (λ agree. differ (λ z. ((λ b. absurd (none z b)), (λ b. absurd ((agree z).1 ((l z).1 b)))))),
+    )
+
+-- one run of it is
+pub run_left_some : (whole : ℤ × ℤ) (L : List (ℤ × ℤ)) (run kept : ℤ × ℤ) → IsRunListIn whole L → L ≡ run ∷ [] → IsSubset (IsBetween kept) (IsBetween run)
+    → ¬ (SameMembers (IsBetween kept) (IsBetween run)) → kept.0 ≤ℤ kept.1 → IsLeftOf whole L (IsBetween kept) (Some (kept ∷ []))
+run_left_some whole L run kept r e within differ filled =
+    let l = covers_one L run e in
+    let k = covers_one (kept ∷ []) kept refl in (
+      r,
+      record { maximal = (filled, tt, tt); within = λ z h. r.within z ((l z).1 (within z ((k z).0 h))) },
+      (λ z. ((λ h. let u = (k z).0 h in ((l z).1 (within z u), u)), (λ u. (k z).1 u.1))),
+      (λ agree. differ (λ z. ((λ b. (l z).0 ((agree z).0 ((k z).1 b))), (λ b. (k z).0 ((agree z).1 ((l z).1 b)))))),
+    )
+
+-- all of it is
+pub run_left_all : (whole : ℤ × ℤ) (L : List (ℤ × ℤ)) (run kept : ℤ × ℤ) → IsRunListIn whole L → L ≡ run ∷ [] → SameMembers (IsBetween kept) (IsBetween run)
+    → IsLeftOf whole L (IsBetween kept) None
+run_left_all whole L run kept r e same = (r, λ z m. (same z).1 ((covers_one L run e z).0 m))

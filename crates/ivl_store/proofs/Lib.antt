@@ -1,0 +1,13 @@
+mod ExamplesStore
+pub mod Counting
+pub mod Families
+pub mod Keeping
+pub mod Lists
+pub mod Orders
+pub mod Places
+pub mod Points
+pub mod Posting
+pub mod Rounds
+pub mod Settled
+pub mod Steps
+pub mod Totals

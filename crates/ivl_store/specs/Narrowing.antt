@@ -1,0 +1,36 @@
+-- What narrowing by constraints leaves of a family of sets.
+--     Narrowed c sets      the family narrowed by a constraint; a variable in two places takes the rule of its last
+--     IsFixed sets c      narrowing by the constraint changes nothing
+--     Keeps cs old new      the new sets only lack members, and none of a supported family
+--     AllPresent count c      x, y and z are among the first `count` variables
+--     first_unknown count c      the first of x, y and z that is none of them
+--     first_unknown_of count cs      the first such index in list order
+use Rattle.std.specs.Prelude.{◌≡◌, ◌≢◌, ℕ, ℤ, ◌<◌, List, [], ◌∷◌, Option, Some, None, nat_le, if◌then◌else◌}
+use Rattle.std.specs.Option.{option_or}
+use Rattle.ivl_laws.specs.Sets.{Sums, Differences}
+use Rattle.ivl_laws.specs.Families.{set_at}
+use Rattle.ivl_store.specs.declared.store.constraint.Constraint.{Constraint}
+use Rattle.ivl_store.specs.Solutions.{SupportedBy, LiesWithin}
+
+pub record Narrowed (c : Constraint) (sets : ℕ → ℤ → Type 0) (i : ℕ) (v : ℤ) : Type 0 where
+  pub kept : sets i v
+  pub at_x : i ≡ c.x → i ≢ c.y → i ≢ c.z → Differences (sets c.z) (sets c.y) v
+  pub at_y : i ≡ c.y → i ≢ c.z → Differences (sets c.z) (sets c.x) v
+  pub at_z : i ≡ c.z → Sums (sets c.x) (sets c.y) v
+
+abbrev pub IsFixed : (ℕ → ℤ → Type 0) → Constraint → Type 0
+IsFixed sets c = LiesWithin sets (Narrowed c sets)
+
+pub record Keeps (constraints : List Constraint) (old new : List (List (ℤ × ℤ))) : Type 0 where
+  pub within : LiesWithin (set_at new) (set_at old)
+  pub families : (family : List (List (ℤ × ℤ))) → SupportedBy constraints (set_at family) → LiesWithin (set_at family) (set_at old) → LiesWithin (set_at family) (set_at new)
+
+abbrev pub AllPresent : ℕ → Constraint → Type 0
+AllPresent count c = (c.x < count) × (c.y < count) × (c.z < count)
+
+abbrev pub first_unknown : ℕ → Constraint → Option ℕ
+first_unknown count c = if nat_le count c.x then Some c.x else if nat_le count c.y then Some c.y else if nat_le count c.z then Some c.z else None
+
+abbrev pub first_unknown_of : ℕ → List Constraint → Option ℕ
+first_unknown_of count [] = None
+first_unknown_of count (c ∷ cs) = option_or (first_unknown count c) (first_unknown_of count cs)

@@ -1,0 +1,51 @@
+//! The condition of [`Store::post_all`], tested and met.
+ghost use Rattle.std.specs.Prelude.{◌≡◌, ◌↔◌, All, IfOk, IsNone, IsSome, IsTrue, MatchOption, ⊤};
+ghost use Rattle.ivl_laws.specs.Families.{set_at};
+ghost use Rattle.ivl_store.specs.Posts.{AnswersPosts, IsLeftBy, OfConstraint, constraints_of};
+ghost use Rattle.ivl_store.specs.Solutions.{AreDistinct};
+
+use super::{Post, Store, StoreFault};
+use intervallum::width::Width;
+
+/// Returns true exactly when each constraint among the posts has three variables. Once it has, the
+/// posts may be passed to [`Store::post_all`].
+pub fn all_distinct<B: Width>(posts: &[Post<B>]) -> bool
+    ensures { IsTrue result ↔ All AreDistinct (constraints_of posts.now) }
+{
+    for post in posts {
+        if !is_distinct(post) {
+            return false;
+        }
+    }
+    true
+}
+
+/// Whether the post's constraint, if it has one, has three variables.
+fn is_distinct<B: Width>(post: &Post<B>) -> bool
+    ensures { IsTrue result ↔ OfConstraint AreDistinct post.now }
+{
+    match post {
+        Post::Restrict(_, _) => true,
+        Post::Require(c) => c.distinct(),
+    }
+}
+
+/// Takes the posts, unless a constraint among them has a variable twice: then it returns `None`, and
+/// the store is unchanged.
+///
+/// # Errors
+///
+/// As [`Store::post_all`].
+pub fn post_if_distinct<B: Width>(
+    store: &mut Store<B>,
+    posts: &[Post<B>],
+) -> Result<Option<Vec<bool>>, StoreFault>
+    ensures none { IfOk result (λ o. IsNone o → ¬ (All AreDistinct (constraints_of posts.now)) × (store.new ≡ store.old)) }
+    ensures replies { IfOk result (λ o. MatchOption o ⊤ (λ replies. AnswersPosts posts.now store.old replies.items)) }
+    ensures left { IfOk result (λ o. IsSome o → IsLeftBy posts.now (set_at store.old) (set_at store.new)) }
+{
+    if !all_distinct(posts) {
+        return Ok(None);
+    }
+    Ok(Some(store.post_all(posts)?))
+}

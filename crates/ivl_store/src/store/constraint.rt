@@ -1,0 +1,96 @@
+//! Constraints between three variables, and why a store refuses a call.
+ghost use Rattle.std.specs.Prelude.{◌≡◌, ◌↔◌, ◌⊎◌, IsTrue};
+ghost use Rattle.ivl_store.specs.Solutions.{AreDistinct, Names};
+ghost use Rattle.ivl_store.specs.Narrowing.{first_unknown, first_unknown_of as first_unknown_in};
+
+use std::alloc::AllocError;
+use thiserror::Error;
+
+/// The sum of variables `x` and `y` is variable `z`.
+///
+/// A variable may stand in two places or three. [`Store::post_all`](super::Store::post_all) alone
+/// asks for three variables; check with [`distinct`](Constraint::distinct).
+#[derive(Clone, Copy, Debug, PartialEq, Eq)]
+pub struct Constraint {
+    pub x: usize,
+    pub y: usize,
+    pub z: usize,
+}
+
+impl Constraint {
+    /// Returns true exactly when `x`, `y` and `z` are three variables.
+    ///
+    /// ```
+    /// assert!(rt; Constraint { x: 0, y: 1, z: 2 }.distinct());
+    /// assert!(rt; !Constraint { x: 0, y: 1, z: 0 }.distinct());
+    /// ```
+    pub fn distinct(&self) -> bool
+        ensures { IsTrue result ↔ AreDistinct self.now }
+    {
+        self.x != self.y && self.x != self.z && self.y != self.z
+    }
+
+    /// Whether `x` stands in a later place too.
+    pub(super) fn has_x_later(&self) -> bool
+        ensures { IsTrue result ↔ ((self.now.x ≡ self.now.y) ⊎ (self.now.x ≡ self.now.z)) }
+    {
+        self.x == self.y || self.x == self.z
+    }
+
+    /// Whether it names the variable.
+    pub(super) fn names(&self, variable: usize) -> bool
+        ensures { IsTrue result ↔ Names self.now variable }
+    {
+        variable == self.x || variable == self.y || variable == self.z
+    }
+
+    /// The first of `x`, `y` and `z` that is none of `count` variables.
+    pub(super) fn first_unknown(&self, count: usize) -> Option<usize>
+        ensures { result ≡ first_unknown count self.now }
+    {
+        if self.x >= count {
+            Some(self.x)
+        } else if self.y >= count {
+            Some(self.y)
+        } else if self.z >= count {
+            Some(self.z)
+        } else {
+            None
+        }
+    }
+}
+
+/// The first index of the constraints that is none of `count` variables.
+pub(super) fn first_unknown_of(constraints: &[Constraint], count: usize) -> Option<usize>
+    ensures { result ≡ first_unknown_in count constraints.now }
+{
+    for constraint in constraints {
+        if let Some(i) = constraint.first_unknown(count) {
+            return Some(i);
+        }
+    }
+    None
+}
+
+/// Why a store refused a call.
+#[derive(Clone, Copy, Debug, PartialEq, Eq, Error)]
+pub enum StoreFault {
+    /// The store has no variable with this index: the first such one, constraint by constraint, and
+    /// within a constraint in the order `x`, `y`, `z`. Nothing was changed.
+    #[error("no variable {0}")]
+    Variable(usize),
+    /// An allocation failed. The call says what the store is then.
+    #[error("memory")]
+    Memory,
+}
+
+impl From<AllocError> for StoreFault {
+    ghost use Rattle.std.specs.Prelude.{◌≡◌};
+    ghost use Rattle.ivl_store.specs.declared.store.constraint.StoreFault.TheVariants.{Memory};
+
+    ghost from_gives = { λ _ e. e ≡ Memory };
+
+    fn from(_: AllocError) -> StoreFault {
+        StoreFault::Memory
+    }
+}

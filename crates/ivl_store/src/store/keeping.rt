@@ -1,0 +1,123 @@
+//! What narrowing leaves of a domain. A new set is made only where a member is lost.
+ghost use Rattle.std.specs.Prelude.{◌≡◌, ◌∷◌, [], IfOk, length};
+ghost use Rattle.ivl_laws.specs.Sets.{Differences, IsBetween, IsSubset, Sums};
+ghost use Rattle.ivl_laws.specs.Runs.{Covers, IsRunListIn};
+ghost use Rattle.ivl_store.specs.Keeping.{AreLeftAt, IsLeftOf};
+ghost use Rattle.ivl_store.specs.Narrowing.{AllPresent};
+ghost use Rattle.ivl_within.specs.Within.{SumsBy};
+
+use super::Constraint;
+use intervallum::interval::Interval;
+use intervallum::interval_set::IntervalSet;
+use intervallum::ops::{Bounded, Intersection, IsEmpty};
+use intervallum::steps::Walk;
+use intervallum::width::Width;
+use ivl_within::within::{Combined, image, kept};
+use std::alloc::AllocError;
+
+/// What narrowing leaves at x, y and z. A variable that stands in two places has it at its last.
+pub(super) fn narrowed_sets<B: Width>(
+    domains: &[IntervalSet<B>],
+    c: &Constraint,
+) -> Result<
+    (
+        Option<IntervalSet<B>>,
+        Option<IntervalSet<B>>,
+        Option<IntervalSet<B>>,
+    ),
+    AllocError,
+>
+    requires { AllPresent (length domains.now) c.now }
+    ensures { IfOk result (λ r. AreLeftAt B.whole c.now domains.now r.0 r.1 r.2) }
+{
+    let (x, y, z) = (&domains[c.x], &domains[c.y], &domains[c.z]);
+    let left_of_x = if c.has_x_later() {
+        None
+    } else {
+        keep_differences(x, z, y)?
+    };
+    let left_of_y = if c.y == c.z {
+        None
+    } else {
+        keep_differences(y, z, x)?
+    };
+    let left_of_z = keep_sums(z, x, y)?;
+    Ok((left_of_x, left_of_y, left_of_z))
+}
+
+/// Keeps the members of `x` that are a member of `a` plus one of `b`.
+fn keep_sums<B: Width>(
+    x: &IntervalSet<B>,
+    a: &IntervalSet<B>,
+    b: &IntervalSet<B>,
+) -> Result<Option<IntervalSet<B>>, AllocError>
+    ensures { IfOk result (IsLeftOf B.whole x.now (Sums (Covers a.now) (Covers b.now))) }
+{
+    keep(x, a, b, Combined::Sum)
+}
+
+/// Keeps the members of `x` that are a member of `a` less one of `b`.
+fn keep_differences<B: Width>(
+    x: &IntervalSet<B>,
+    a: &IntervalSet<B>,
+    b: &IntervalSet<B>,
+) -> Result<Option<IntervalSet<B>>, AllocError>
+    ensures { IfOk result (IsLeftOf B.whole x.now (Differences (Covers a.now) (Covers b.now))) }
+{
+    keep(x, a, b, Combined::Difference)
+}
+
+/// Keeps the members of `x` that are made of one of `a` and one of `b`.
+fn keep<B: Width>(
+    x: &IntervalSet<B>,
+    a: &IntervalSet<B>,
+    b: &IntervalSet<B>,
+    op: Combined,
+) -> Result<Option<IntervalSet<B>>, AllocError>
+    ensures { IfOk result (IsLeftOf B.whole x.now (SumsBy op (Covers a.now) (Covers b.now))) }
+{
+    let runs = x.iter().as_slice();
+    let left = a.iter().as_slice();
+    let right = b.iter().as_slice();
+    if runs.len() == 1 && left.len() == 1 && right.len() == 1 {
+        let run = runs[0];
+        return keep_run(x, run, image(left[0], right[0], op, run));
+    }
+    let kept = kept(x, a, b, op)?;
+    Ok(if kept == *x { None } else { Some(kept) })
+}
+
+/// Puts one run in place of the run of a set, where it is another.
+fn keep_run<B: Width>(
+    x: &IntervalSet<B>,
+    run: Interval<B>,
+    kept: Interval<B>,
+) -> Result<Option<IntervalSet<B>>, AllocError>
+    requires one_run { x.now ≡ run ∷ [] }
+    requires within { IsSubset (IsBetween kept) (IsBetween run) }
+    ensures { IfOk result (IsLeftOf B.whole x.now (IsBetween kept)) }
+{
+    let _ = x.interval_count();
+    if kept == run {
+        return Ok(None);
+    }
+    let alloc = Walk::new(x).alloc();
+    let left = if kept.is_empty() {
+        IntervalSet::empty(alloc)
+    } else {
+        IntervalSet::new(alloc, kept.lower(), kept.upper())?
+    };
+    Ok(Some(left))
+}
+
+/// Keeps the members of `x` that are in another set.
+pub(super) fn keep_within<B: Width>(
+    x: &IntervalSet<B>,
+    allowed: &IntervalSet<B>,
+) -> Result<Option<IntervalSet<B>>, AllocError>
+    ensures { IfOk result (IsLeftOf B.whole x.now (Covers allowed.now)) }
+{
+    let _ = x.interval_count();
+    let kept = x.intersection(allowed)?;
+    Ok(if kept == *x { None } else { Some(kept) })
+}

@@ -1,0 +1,43 @@
+//! The laws of supported families. Each function here does nothing: its contract is the law.
+ghost use Rattle.ivl_store.specs.FamilyLaws.{LaterLiesWithin, LeftIsOne, OrderPlaysNoPart, SolutionIsFamily, SolutionsStay, UnionIsSupported};
+
+use super::Post;
+use intervallum::width::Width;
+
+/// Domain by domain, the union of two families that the constraints support is supported too.
+pub fn union_is_supported()
+    ensures { UnionIsSupported }
+{}
+
+/// The greatest family for `k + 1` posts lies within that for `k`.
+pub fn later_lies_within<B: Width>(posts: &[Post<B>])
+    ensures { LaterLiesWithin posts.now }
+{
+    let _ = posts;
+}
+
+/// Posts leave one family, so [`Store::post_all`](super::Store::post_all) has one answer.
+pub fn left_is_one<B: Width>(posts: &[Post<B>])
+    ensures { LeftIsOne posts.now }
+{
+    let _ = posts;
+}
+
+/// Posts leave the same family in any order.
+pub fn order_plays_no_part<B: Width>(posts: &[Post<B>], others: &[Post<B>])
+    ensures { OrderPlaysNoPart posts.now others.now }
+{
+    let _ = posts;
+    let _ = others;
+}
+
+/// A point that solves all the constraints within some domains is the only point of a supported
+/// family within them.
+pub fn solution_is_family()
+    ensures { SolutionIsFamily }
+{}
+
+/// Domains that keep each supported family keep each point that solves all the constraints.
+pub fn solutions_stay()
+    ensures { SolutionsStay }
+{}

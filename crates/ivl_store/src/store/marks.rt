@@ -1,0 +1,75 @@
+//! Marks, one a constraint, of those by which narrowing would change nothing.
+ghost use Rattle.std.specs.Prelude.{◌≡◌, ◌↔◌, ◌<◌, ◌⊎◌, ℕ, ℤ, List, HoldsAt, IfOk, IsTrue, false, length, replicate};
+ghost use Rattle.ivl_laws.specs.Families.{set_at};
+ghost use Rattle.ivl_store.specs.Narrowing.{Narrowed};
+ghost use Rattle.ivl_store.specs.Settled.{any_lost, AreCleared, AreLost, AreSettled};
+ghost use Rattle.ivl_store.specs.Solutions.{AreDistinct};
+
+use super::Constraint;
+use std::alloc::{AllocError, Global};
+
+/// Whether a member was lost at x, at y and at z; a variable in two places has the mark of its last.
+#[derive(Clone, Copy)]
+pub(super) struct Lost {
+    pub(super) x: bool,
+    pub(super) y: bool,
+    pub(super) z: bool,
+}
+
+impl Lost {
+    pub(super) fn any(self) -> bool
+        ensures { result ≡ any_lost self }
+    {
+        self.x || self.y || self.z
+    }
+}
+
+/// No mark is set.
+pub(super) fn no_marks(alloc: Global, count: usize) -> Result<Vec<bool>, AllocError>
+    ensures { IfOk result (λ marks. marks.items ≡ replicate count false) }
+{
+    vec![in alloc; false; count]
+}
+
+/// Moves the marks once constraint `i` was narrowed by. No constraint that names a variable which
+/// lost a member keeps its mark; `i` itself is settled unless it lost one and has a variable twice.
+pub(super) fn move_marks(constraints: &[Constraint], i: usize, lost: Lost, settled: &mut Vec<bool>)
+    requires in_list { i < length constraints.now }
+    requires one_each { length settled.old.items ≡ length constraints.now }
+    ensures { (old new : List (List (ℤ × ℤ))) → HoldsAt (λ c. (j : ℕ) (v : ℤ) → set_at new j v ↔ Narrowed c (set_at old) j v) constraints.now i
+        → HoldsAt (λ c. AreLost c lost (set_at old) (set_at new)) constraints.now i
+        → AreSettled constraints.now settled.old.items (set_at old) → AreSettled constraints.now settled.new.items (set_at new) }
+{
+    let c = constraints[i];
+    clear_marks(lost.x, constraints, c.x, settled);
+    clear_marks(lost.y, constraints, c.y, settled);
+    clear_marks(lost.z, constraints, c.z, settled);
+    settled[i] = is_settled_after(&c, lost);
+}
+
+/// Whether a second narrowing by the constraint would change nothing.
+fn is_settled_after(c: &Constraint, lost: Lost) -> bool
+    ensures { IsTrue result → (any_lost lost ≡ false) ⊎ AreDistinct c.now }
+{
+    !lost.any() || c.distinct()
+}
+
+/// Clears the marks of the constraints that name the variable, where it has changed.
+pub(super) fn clear_marks(
+    changed: bool,
+    constraints: &[Constraint],
+    variable: usize,
+    settled: &mut Vec<bool>,
+)
+    requires { length settled.old.items ≡ length constraints.now }
+    ensures { AreCleared changed constraints.now variable settled.old.items settled.new.items }
+{
+    if !changed {
+        return;
+    }
+    for k in 0..constraints.len() {
+        if constraints[k].names(variable) {
+            settled[k] = false;
+        }
+    }
+}

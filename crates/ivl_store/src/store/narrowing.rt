@@ -1,0 +1,208 @@
+//! Narrowing by one constraint, and by a list in rounds.
+ghost use Rattle.std.specs.Prelude.{◌≡◌, ◌↔◌, ◌<◌, ◌≤◌, ◌+◌, ℕ, ℤ, List, All, Bool, Err, HoldsAt, IfOk, IsTrue, None, OnErr, OnOk, Option, Some, false, length, true};
+ghost use Rattle.ivl_laws.specs.Families.{set_at};
+ghost use Rattle.ivl_laws.specs.Runs.{IsRunListIn};
+ghost use Rattle.ivl_store.specs.Keeping.{replaced};
+ghost use Rattle.ivl_store.specs.Measure.{total};
+ghost use Rattle.ivl_store.specs.Narrowing.{AllPresent, IsFixed, Keeps, Narrowed, first_unknown, first_unknown_of as first_unknown_in};
+ghost use Rattle.ivl_store.specs.Rounds.{After, AfterSome, EachLost, IsNarrowedBy, IsPartlyNarrowedBy};
+ghost use Rattle.ivl_store.specs.Settled.{AreLost, AreSettled, any_lost};
+ghost use Rattle.ivl_store.specs.Solutions.{AreDistinct, HasSolutionAt, IsCommonSolution, IsGreatestFamily, IsSolution, LiesWithin, LostMember, Names, Supports};
+
+use super::constraint::first_unknown_of;
+use super::keeping::narrowed_sets;
+use super::marks::{Lost, move_marks, no_marks};
+use super::{Constraint, Store, StoreFault};
+use intervallum::interval_set::IntervalSet;
+use intervallum::width::Width;
+use std::alloc::AllocError;
+
+impl<B: Width> Store<B> {
+    /// Narrows by one constraint: `x` keeps its members that are a member of `z` less one of `y`,
+    /// `y` those that are a member of `z` less one of `x`, and `z` those that are a sum of both, all
+    /// over the domains as they were. Returns true exactly when some domain lost a member.
+    ///
+    /// A variable that stands in two places takes the rule of its last. Each new domain costs a sum or
+    /// difference of two domains, as far as it lies in the hull of the old one, and `O(1)` if all
+    /// three are single runs; a domain that keeps its members is not written.
+    ///
+    /// # Errors
+    ///
+    /// [`StoreFault::Variable`] for an unknown index, and [`StoreFault::Memory`] if allocation
+    /// fails. The store is then unchanged.
+    ///
+    /// ```
+    /// // x + y = z, for x from 0 to 10, y from 3 to 4 and z from 5 to 6
+    /// assert!(rt; store.narrow(&Constraint { x: 0, y: 1, z: 2 })?);
+    /// assert!(rt; store.domains()[0] == IntervalSet::new(alloc, 1, 3)?);
+    /// ```
+    pub fn narrow(&mut self, constraint: &Constraint) -> Result<bool, StoreFault>
+        ensures unknown { (i : ℕ) → (result ≡ Err (StoreFault.Variable i)) ↔ (first_unknown (length self.old) constraint.now ≡ Some i) }
+        ensures refused { OnErr result (self.new ≡ self.old) }
+
+        ensures kept_count { length self.new ≡ length self.old }
+        ensures narrowed { OnOk result ((i : ℕ) (v : ℤ) → set_at self.new i v ↔ Narrowed constraint.now (set_at self.old) i v) }
+        ensures lost { IfOk result (λ b. IsTrue b ↔ LostMember (set_at self.old) (set_at self.new)) }
+
+        // No supported family loses a member, so no solution is lost; with three variables, just the members of solutions are left.
+        ensures families { OnOk result ((family : List (List (ℤ × ℤ))) → Supports constraint.now (set_at family) → LiesWithin (set_at family) (set_at self.old) → LiesWithin (set_at family) (set_at self.new)) }
+        ensures solutions { OnOk result ((point : ℕ → ℤ) → IsSolution constraint.now (set_at self.old) point → IsSolution constraint.now (set_at self.new) point) }
+        ensures exact { OnOk result (AreDistinct constraint.now → (i : ℕ) → Names constraint.now i → (v : ℤ) → set_at self.new i v ↔ HasSolutionAt constraint.now (set_at self.old) i v) }
+    {
+        if let Some(i) = constraint.first_unknown(self.domains.len()) {
+            return Err(StoreFault::Variable(i));
+        }
+        let lost = self.narrow_known(constraint)?;
+        Ok(lost.any())
+    }
+
+    /// The same for variables that the store has.
+    fn narrow_known(&mut self, c: &Constraint) -> Result<Lost, AllocError>
+        requires { AllPresent (length self.old) c.now }
+        ensures refused { OnErr result (self.new ≡ self.old) }
+        ensures kept_count { length self.new ≡ length self.old }
+        ensures narrowed { OnOk result ((i : ℕ) (v : ℤ) → set_at self.new i v ↔ Narrowed c.now (set_at self.old) i v) }
+        ensures lost { IfOk result (λ lost. AreLost c.now lost (set_at self.old) (set_at self.new)) }
+        ensures range { OnOk result (All (IsRunListIn B.whole) self.old) }
+    {
+        let (x, y, z) = narrowed_sets(&self.domains, c)?;
+        let lost = Lost {
+            x: x.is_some(),
+            y: y.is_some(),
+            z: z.is_some(),
+        };
+        self.put(c.x, x);
+        self.put(c.y, y);
+        self.put(c.z, z);
+        Ok(lost)
+    }
+
+    /// Puts what is left in place of a domain.
+    pub(super) fn put(&mut self, i: usize, left: Option<IntervalSet<B>>)
+        requires known { i < length self.old }
+        requires range { (s : List (ℤ × ℤ)) → left ≡ Some s → IsRunListIn B.whole s }
+        ensures { self.new ≡ replaced self.old i left }
+    {
+        if let Some(set) = left {
+            self.domains[i] = set;
+        }
+    }
+
+    /// Narrows by constraint `i`, which is passed over where it is marked as settled.
+    pub(super) fn narrow_next(
+        &mut self,
+        constraints: &[Constraint],
+        i: usize,
+        settled: &mut Vec<bool>,
+    ) -> Result<bool, AllocError>
+        requires in_list { i < length constraints.now }
+        requires known { All (AllPresent (length self.old)) constraints.now }
+        requires settled { AreSettled constraints.now settled.old.items (set_at self.old) }
+        ensures refused { OnErr result (self.new ≡ self.old) }
+        ensures kept_count { length self.new ≡ length self.old }
+        ensures narrowed { OnOk result (HoldsAt (λ c. (j : ℕ) (v : ℤ) → set_at self.new j v ↔ Narrowed c (set_at self.old) j v) constraints.now i) }
+        ensures lost { IfOk result (λ b. IsTrue b ↔ LostMember (set_at self.old) (set_at self.new)) }
+        ensures fewer { IfOk result (λ b. IsTrue b → total B.whole self.new < total B.whole self.old) }
+        ensures settled { OnOk result (AreSettled constraints.now settled.new.items (set_at self.new)) }
+    {
+        if settled[i] {
+            return Ok(false);
+        }
+        let lost = self.narrow_known(&constraints[i])?;
+        move_marks(constraints, i, lost, settled);
+        Ok(lost.any())
+    }
+
+    /// Narrows by each constraint in turn, and answers whether a member was lost.
+    pub(super) fn round(
+        &mut self,
+        constraints: &[Constraint],
+        settled: &mut Vec<bool>,
+    ) -> Result<bool, AllocError>
+        requires settled { AreSettled constraints.now settled.old.items (set_at self.old) }
+        requires known { All (AllPresent (length self.old)) constraints.now }
+        ensures kept_count { length self.new ≡ length self.old }
+        ensures keeps { Keeps constraints.now self.old self.new }
+        ensures fixed { IfOk result (λ b. b ≡ false → All (IsFixed (set_at self.new)) constraints.now) }
+        ensures fewer { IfOk result (λ b. IsTrue b → total B.whole self.new < total B.whole self.old) }
+        ensures lost { IfOk result (λ b. IsTrue b ↔ LostMember (set_at self.old) (set_at self.new)) }
+        ensures steps { OnOk result (IsNarrowedBy constraints.now (set_at self.old) (set_at self.new)) }
+        ensures memory { OnErr result (IsPartlyNarrowedBy constraints.now (set_at self.old) (set_at self.new)) }
+        ensures settled { OnOk result (AreSettled constraints.now settled.new.items (set_at self.new)) }
+    {
+        let mut lost = false;
+        for i in 0..constraints.len() {
+            let less = self.narrow_next(constraints, i, settled)?;
+            lost = lost || less;
+        }
+        Ok(lost)
+    }
+
+    /// Narrows by the constraints in rounds, until a round changes no domain or `rounds` rounds are
+    /// made. A round narrows by each constraint once, in list order. Returns true after a round that
+    /// changed no domain, and false if all rounds were made and each of them changed one; so it
+    /// returns false for no rounds.
+    ///
+    /// Domains lose no member that stands in a common solution of the constraints. After true, no
+    /// constraint narrows any further; if each has three variables, the domains are the greatest
+    /// ones in which every member is supported, whatever the order of the list.
+    ///
+    /// Costs what its narrowings cost. A constraint whose domains did not change since it narrowed
+    /// them is passed over in `O(1)`.
+    ///
+    /// # Errors
+    ///
+    /// [`StoreFault::Variable`] for the first unknown index in list order, before anything changes.
+    /// [`StoreFault::Memory`] if allocation fails: the store is then as after the last narrowing
+    /// that ended.
+    ///
+    /// ```
+    /// // a + one = b and b + one = a, for a and b from 0 to 9
+    /// let constraints = [Constraint { x: 0, y: 2, z: 1 }, Constraint { x: 1, y: 2, z: 0 }];
+    /// assert!(rt; !store.propagate(&constraints, 3)?);
+    /// assert!(rt; store.propagate(&constraints, 1)? && store.domains()[0].is_empty());
+    /// ```
+    pub fn propagate(
+        &mut self,
+        constraints: &[Constraint],
+        rounds: usize,
+    ) -> Result<bool, StoreFault>
+        ensures unknown { (i : ℕ) → (result ≡ Err (StoreFault.Variable i)) ↔ (first_unknown_in (length self.old) constraints.now ≡ Some i) }
+        ensures unchanged { (i : ℕ) → result ≡ Err (StoreFault.Variable i) → self.new ≡ self.old }
+
+        // Domains only lose members, and no supported family loses one.
+        ensures kept_count { length self.new ≡ length self.old }
+        ensures keeps { Keeps constraints.now self.old self.new }
+
+        // So no point that solves all the constraints is lost.
+        ensures solutions { (point : ℕ → ℤ) → IsCommonSolution constraints.now (set_at self.old) point → IsCommonSolution constraints.now (set_at self.new) point }
+
+        // True: nothing is left to narrow, and with three variables each, the domains are the greatest supported family.
+        ensures fixed { IfOk result (λ b. IsTrue b → All (IsFixed (set_at self.new)) constraints.now) }
+        ensures greatest { IfOk result (λ b. IsTrue b → All AreDistinct constraints.now → IsGreatestFamily constraints.now (set_at self.old) (set_at self.new)) }
+
+        // False: each round took a member.
+        ensures fewer { IfOk result (λ b. b ≡ false → rounds + total B.whole self.new ≤ total B.whole self.old) }
+
+        // Just what whole rounds leave: all of them, each of which took a member, or those before the first that took none.
+        ensures steps { IfOk result (λ b. (k : ℕ) × After constraints.now k (set_at self.old) (set_at self.new)
+            × EachLost constraints.now k (set_at self.old)
+            × (b ≡ false → k ≡ rounds)
+            × (b ≡ true → (k < rounds) × All (IsFixed (set_at self.new)) constraints.now)) }
+
+        // Out of memory: what whole rounds and the first narrowings of one more leave.
+        ensures memory { result ≡ Err StoreFault.Memory → (k : ℕ) × (j : ℕ) × (k ≤ rounds) × (j ≤ length constraints.now)
+            × EachLost constraints.now k (set_at self.old) × AfterSome constraints.now k j (set_at self.old) (set_at self.new) }
+    {
+        if let Some(i) = first_unknown_of(constraints, self.domains.len()) {
+            return Err(StoreFault::Variable(i));
+        }
+        let mut settled = no_marks(self.alloc, constraints.len())?;
+        for _ in 0..rounds {
+            if !self.round(constraints, &mut settled)? {
+                return Ok(true);
+            }
+        }
+        Ok(false)
+    }
+}

@@ -1,0 +1,40 @@
+//! What is posted to a store.
+ghost use Rattle.std.specs.Prelude.{◌≡◌};
+ghost use Rattle.ivl_store.specs.Posts.{first_unknown_post as first_unknown_in_posts, unknown_in};
+
+use super::Constraint;
+use intervallum::interval_set::IntervalSet;
+use intervallum::width::Width;
+
+/// A cut of one domain, or one more constraint.
+#[derive(Drop)]
+pub enum Post<B: Width> {
+    /// The domain of a variable keeps its members in a set.
+    Restrict(usize, IntervalSet<B>),
+    /// The constraint holds, together with those posted before it.
+    Require(Constraint),
+}
+
+impl<B: Width> Post<B> {
+    /// The first index of the post that is none of `count` variables.
+    fn first_unknown(&self, count: usize) -> Option<usize>
+        ensures { result ≡ unknown_in count self.now }
+    {
+        match self {
+            Post::Restrict(i, _) => { if *i >= count { Some(*i) } else { None } }
+            Post::Require(c) => c.first_unknown(count),
+        }
+    }
+}
+
+/// The first index of the posts that is none of `count` variables.
+pub(super) fn first_unknown_post<B: Width>(posts: &[Post<B>], count: usize) -> Option<usize>
+    ensures { result ≡ first_unknown_in_posts count posts.now }
+{
+    for post in posts {
+        if let Some(i) = post.first_unknown(count) {
+            return Some(i);
+        }
+    }
+    None
+}

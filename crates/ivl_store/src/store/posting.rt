@@ -1,0 +1,182 @@
+//! Posts taken one by one, each with a reply.
+ghost use Rattle.std.specs.Prelude.{◌≡◌, ◌↔◌, ◌<◌, ◌++◌, ◌∷◌, [], ℕ, ℤ, List, All, Err, IfOk, IsTrue, OnErr, OnOk, Some, false, length};
+ghost use Rattle.ivl_laws.specs.Runs.{Covers};
+ghost use Rattle.ivl_laws.specs.Families.{set_at};
+ghost use Rattle.ivl_store.specs.Narrowing.{AllPresent, IsFixed, Keeps};
+ghost use Rattle.ivl_store.specs.Posts.{AnswersPosts, Cut, CutKeeps, HasEmpty, IsKnown, IsLeftBy, constraints_of, first_unknown_post as first_unknown_in_posts};
+ghost use Rattle.ivl_store.specs.Settled.{AreSettled};
+ghost use Rattle.ivl_store.specs.Solutions.{AreDistinct, IsCommonSolution, IsGreatestFamily, LiesWithin, SupportedBy};
+
+use super::keeping::keep_within;
+use super::marks::clear_marks;
+use super::post::first_unknown_post;
+use super::{Constraint, Post, Store, StoreFault};
+use intervallum::interval_set::IntervalSet;
+use intervallum::ops::IsEmpty;
+use intervallum::width::Width;
+use std::alloc::AllocError;
+
+impl<B: Width> Store<B> {
+    /// Takes the posts in turn. Each cuts one domain or adds a constraint to those of this call;
+    /// then the constraints so far narrow the domains until none changes one. Returns one reply a
+    /// post: true exactly when some domain is empty then.
+    ///
+    /// After all posts the domains are the greatest ones, within the old domains and the sets of
+    /// all cuts, in which every member is supported by each constraint. They depend on the posts
+    /// alone and not on their order, and so does each reply on the posts up to its own.
+    ///
+    /// The caller must ensure that each constraint has three variables; check with
+    /// [`Constraint::distinct`], or [`all_distinct`](super::callers::all_distinct) for a list.
+    ///
+    /// # Errors
+    ///
+    /// [`StoreFault::Variable`] for the first unknown index in list order, that of a cut included,
+    /// before anything changes. [`StoreFault::Memory`] if allocation fails: the store is then as
+    /// after the last cut or narrowing that ended. The replies are reserved before the first cut.
+    ///
+    /// ```
+    /// // x + y = z, for x, y and z from 0 to 9; then z is 0 or 1
+    /// let sum = Constraint { x: 0, y: 1, z: 2 };
+    /// let cut = Post::Restrict(2, IntervalSet::new(alloc, 0, 1)?);
+    /// let replies = store.post_all(&vec![in alloc; Post::Require(sum), cut]?)?;
+    /// assert!(rt; replies == vec![in alloc; false, false]?);
+    /// assert!(rt; store.domains()[0] == IntervalSet::new(alloc, 0, 1)?);
+    /// ```
+    pub fn post_all(&mut self, posts: &[Post<B>]) -> Result<Vec<bool>, StoreFault>
+        requires { All AreDistinct (constraints_of posts.now) }
+        ensures unknown { (i : ℕ) → (result ≡ Err (StoreFault.Variable i)) ↔ (first_unknown_in_posts (length self.old) posts.now ≡ Some i) }
+        ensures unchanged { (i : ℕ) → result ≡ Err (StoreFault.Variable i) → self.new ≡ self.old }
+
+        // Domains only lose members, and no family loses one that the posts leave it.
+        ensures kept_count { length self.new ≡ length self.old }
+        ensures only_lost { LiesWithin (set_at self.new) (set_at self.old) }
+        ensures families { (family : List (List (ℤ × ℤ))) → SupportedBy (constraints_of posts.now) (set_at family) → LiesWithin (set_at family) (Cut posts.now (set_at self.old)) → LiesWithin (set_at family) (set_at self.new) }
+
+        // So no point that solves all the constraints is lost.
+        ensures solutions { (point : ℕ → ℤ) → IsCommonSolution (constraints_of posts.now) (Cut posts.now (set_at self.old)) point → IsCommonSolution (constraints_of posts.now) (set_at self.new) point }
+
+        // Each reply speaks of the greatest family for the posts up to its own; the domains are that for all of them.
+        ensures replies { IfOk result (λ replies. AnswersPosts posts.now self.old replies.items) }
+        ensures left { OnOk result (IsLeftBy posts.now (set_at self.old) (set_at self.new)) }
+    {
+        if let Some(i) = first_unknown_post(posts, self.domains.len()) {
+            return Err(StoreFault::Variable(i));
+        }
+        Ok(self.post_known(posts)?)
+    }
+
+    /// The same for posts on variables that the store has.
+    fn post_known(&mut self, posts: &[Post<B>]) -> Result<Vec<bool>, AllocError>
+        requires known { All (IsKnown (length self.old)) posts.now }
+        requires distinct { All AreDistinct (constraints_of posts.now) }
+        ensures kept_count { length self.new ≡ length self.old }
+        ensures keeps { CutKeeps (constraints_of posts.now) posts.now self.old self.new }
+        ensures replies { IfOk result (λ replies. AnswersPosts posts.now self.old replies.items) }
+        ensures left { OnOk result (IsLeftBy posts.now (set_at self.old) (set_at self.new)) }
+    {
+        let mut replies = Vec::with_capacity(self.alloc, posts.len())?;
+        let mut constraints = Vec::with_capacity(self.alloc, posts.len())?;
+        let mut settled = Vec::with_capacity(self.alloc, posts.len())?;
+        for post in posts {
+            let reply = self.take_post(post, &mut constraints, &mut settled)?;
+            // The room was reserved, so a reply that is reached is never lost.
+            let has_room = replies.len() < replies.capacity();
+            prove!(has_room);
+            replies.push(reply)?;
+        }
+        Ok(replies)
+    }
+
+    /// Takes one post over the constraints so far, and answers whether some domain is empty then.
+    fn take_post(
+        &mut self,
+        post: &Post<B>,
+        constraints: &mut Vec<Constraint>,
+        settled: &mut Vec<bool>,
+    ) -> Result<bool, AllocError>
+        requires known { IsKnown (length self.old) post.now }
+        requires present { All (AllPresent (length self.old)) constraints.old.items }
+        requires settled { AreSettled constraints.old.items settled.old.items (set_at self.old) }
+        ensures kept_count { length self.new ≡ length self.old }
+        ensures keeps { CutKeeps (constraints.old.items ++ constraints_of (post.now ∷ [])) (post.now ∷ []) self.old self.new }
+        ensures added { OnOk result (constraints.new.items ≡ constraints.old.items ++ constraints_of (post.now ∷ [])) }
+        ensures left { OnOk result (All AreDistinct constraints.new.items → IsGreatestFamily constraints.new.items (Cut (post.now ∷ []) (set_at self.old)) (set_at self.new)) }
+        ensures reply { IfOk result (λ b. IsTrue b ↔ HasEmpty (length self.new) (set_at self.new)) }
+        ensures settled { OnOk result (AreSettled constraints.new.items settled.new.items (set_at self.new)) }
+    {
+        self.admit(post, constraints, settled)?;
+        self.settle(constraints, settled)?;
+        Ok(self.has_empty())
+    }
+
+    /// Cuts the domain that the post restricts, or adds the constraint that it requires.
+    fn admit(
+        &mut self,
+        post: &Post<B>,
+        constraints: &mut Vec<Constraint>,
+        settled: &mut Vec<bool>,
+    ) -> Result<(), AllocError>
+        requires known { IsKnown (length self.old) post.now }
+        requires settled { AreSettled constraints.old.items settled.old.items (set_at self.old) }
+        ensures refused { OnErr result (self.new ≡ self.old) }
+        ensures kept_count { length self.new ≡ length self.old }
+        ensures cut { OnOk result ((i : ℕ) (v : ℤ) → set_at self.new i v ↔ Cut (post.now ∷ []) (set_at self.old) i v) }
+        ensures added { OnOk result (constraints.new.items ≡ constraints.old.items ++ constraints_of (post.now ∷ [])) }
+        ensures settled { OnOk result (AreSettled constraints.new.items settled.new.items (set_at self.new)) }
+    {
+        match post {
+            Post::Restrict(i, allowed) => {
+                let lost = self.restrict(*i, allowed)?;
+                clear_marks(lost, constraints, *i, settled);
+            }
+            Post::Require(c) => {
+                constraints.push(*c)?;
+                settled.push(false)?;
+            }
+        }
+        Ok(())
+    }
+
+    /// Keeps the members of one domain that are allowed, and answers whether some other was there.
+    fn restrict(&mut self, i: usize, allowed: &IntervalSet<B>) -> Result<bool, AllocError>
+        requires { i < length self.old }
+        ensures refused { OnErr result (self.new ≡ self.old) }
+        ensures kept_count { length self.new ≡ length self.old }
+        ensures cut { OnOk result ((j : ℕ) (v : ℤ) → set_at self.new j v ↔ (set_at self.old j v × (j ≡ i → Covers allowed.now v))) }
+        ensures lost { IfOk result (λ b. b ≡ false → self.new ≡ self.old) }
+    {
+        let left = keep_within(&self.domains[i], allowed)?;
+        let lost = left.is_some();
+        self.put(i, left);
+        Ok(lost)
+    }
+
+    /// Narrows by the constraints until none changes a domain.
+    fn settle(
+        &mut self,
+        constraints: &[Constraint],
+        settled: &mut Vec<bool>,
+    ) -> Result<(), AllocError>
+        requires present { All (AllPresent (length self.old)) constraints.now }
+        requires settled { AreSettled constraints.now settled.old.items (set_at self.old) }
+        ensures kept_count { length self.new ≡ length self.old }
+        ensures keeps { Keeps constraints.now self.old self.new }
+        ensures fixed { IfOk result (λ _. All (IsFixed (set_at self.new)) constraints.now) }
+        ensures settled { OnOk result (AreSettled constraints.now settled.new.items (set_at self.new)) }
+    {
+        while self.round(constraints, settled)? {}
+        Ok(())
+    }
+
+    /// Whether some domain has no member.
+    fn has_empty(&self) -> bool
+        ensures { IsTrue result ↔ HasEmpty (length self.now) (set_at self.now) }
+    {
+        for domain in &self.domains {
+            if domain.is_empty() {
+                return true;
+            }
+        }
+        false
+    }
+}

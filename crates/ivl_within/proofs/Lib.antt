@@ -1,0 +1,4 @@
+mod ExamplesWithin
+pub mod Clipping
+pub mod Lists
+pub mod Reaching

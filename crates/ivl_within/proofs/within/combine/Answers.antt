@@ -1,0 +1,24 @@
+use Rattle.std.proofs.Common.{[], ◌∷◌, ◌≡◌, sym, ◌∙◌, arith}
+use Rattle.std.proofs.lemmas.Result.{IfOk-weaker}
+use Rattle.intervallum.proofs.Images.{open_here_seen}
+use Rattle.ivl_laws.specs.Sets.{IsBetween}
+use Rattle.ivl_laws.specs.Runs.{Covers}
+use Rattle.ivl_laws.proofs.SetLaws.{IsRunsOf-same}
+use Rattle.ivl_within.specs.Within.{Clipped, SumsBy}
+use Rattle.ivl_within.proofs.Clipping.{clipped_pair, one_item}
+use Rattle.ivl_within.proofs.within.combine.Goals as goal
+
+pub returns-then-right-eq1 : goal.returns-then-right-eq1
+returns-then-right-eq1 g c =
+    let L = c.args.a.now in
+    let M = c.args.b.now in
+    let p = c.index-left-0.result in
+    let q = c.index-right-0.result in
+    let left : c.as_slice-left.result.now ≡ L = c.as_slice-left.ensures.value ∙ c.iter.ensures.rest in
+    let right : c.as_slice-right.result.now ≡ M = c.as_slice-right.ensures.value ∙ c.iter-2.ensures.rest in
+    let one : L ≡ p ∷ [] = sym left ∙ one_item c.as_slice-left.result.now p (omega arith) c.index-left-0.is in
+    let other : M ≡ q ∷ [] = sym right ∙ one_item c.as_slice-right.result.now q (omega arith) c.index-right-0.is in
+    let filled = open_here_seen c.as_slice-left.result.now L 0 p left c.iter.ensures.runs.maximal (omega arith) c.index-left-0.is in
+    let filled' = open_here_seen c.as_slice-right.result.now M 0 q right c.iter-2.ensures.runs.maximal (omega arith) c.index-right-0.is in
+    let same = clipped_pair c.args.window c.args.op L M p q c.image.result one other filled filled' c.image.ensures in
+    IfOk-weaker c.set_of.result _ _ (λ N h. IsRunsOf-same (IsBetween c.image.result) (Clipped c.args.window (SumsBy c.args.op (Covers L) (Covers M))) N same h) c.set_of.ensures

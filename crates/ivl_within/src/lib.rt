@@ -1,0 +1,12 @@
+//! Sums and differences of sets, as far as they lie in the range of the bounds or in a window: see
+//! [`within`].
+//!
+//! ```
+//! // `a` is {[0..0][10..12][90..95]}, and `b` is {[1..2][50..60]}
+//! let sums = sums_in_window(&a, &b, &Interval::new(12, 62))?;    // {[12..14][50..62]}
+//! ```
+#![tactic(auto)]
+
+#[cfg(test)]
+mod tests;
+pub mod within;

@@ -1,0 +1,201 @@
+//! Sums and differences of sets, as far as they lie in a window: the range of the bounds, or an
+//! interval.
+ghost use Rattle.std.specs.Prelude.{◌↔◌, ◌≤ℤ◌, IfOk, IsTrue};
+ghost use Rattle.ivl_laws.specs.Sets.{Differences, HasSome, IsBetween, Sums, Without};
+ghost use Rattle.ivl_laws.specs.Runs.{Covers, IsMaximal, IsRunListIn, IsRunsOf};
+ghost use Rattle.ivl_within.specs.Within.{Clipped, SumsBy};
+
+mod images;
+mod members;
+mod rows;
+
+pub use images::image;
+use intervallum::interval::Interval;
+use intervallum::interval_set::IntervalSet;
+use intervallum::ops::{Bounded, Empty, Fits, IsEmpty, Range, Whole};
+use intervallum::steps::Walk;
+use intervallum::sweep::coalesce;
+use intervallum::width::Width;
+pub use members::kept;
+use rows::push_row;
+use std::alloc::{AllocError, Global};
+
+/// What is made of two numbers: their sum, or the first less the second.
+#[derive(Clone, Copy)]
+pub enum Combined {
+    Sum,
+    Difference,
+}
+
+/// The sums of a member of each that are in the range, and whether some sum is not. Has no
+/// condition. A set with no member gives the set with none, and false.
+///
+/// `O(n m log (n m))` for `n` and `m` runs, in memory for twice `n * m` runs.
+///
+/// # Errors
+///
+/// `AllocError` where that memory is refused, which is asked for before anything is made.
+///
+/// ```
+/// // `whole` is the set of all numbers of the range of `i8`
+/// let (sums, is_cut) = add_within(whole, whole)?;
+/// assert!(rt; sums == *whole && is_cut);
+/// ```
+pub fn add_within<B: Width>(
+    a: &IntervalSet<B>,
+    b: &IntervalSet<B>,
+) -> Result<(IntervalSet<B>, bool), AllocError>
+    ensures members { IfOk result (λ r. IsRunsOf r.0 (Clipped B.whole (Sums (Covers a.now) (Covers b.now)))) }
+    ensures cut { IfOk result (λ r. IsTrue r.1 ↔ HasSome (Without (Sums (Covers a.now) (Covers b.now)) (IsBetween B.whole))) }
+{
+    let is_cut = !a.fits_add(b);
+    Ok((combine_all(a, b, Combined::Sum)?, is_cut))
+}
+
+/// The differences of a member of `a` and one of `b` that are in the range, and whether some
+/// difference is not. Has no condition. A set with no member gives the set with none, and false.
+///
+/// `O(n m log (n m))` for `n` and `m` runs, in memory for twice `n * m` runs.
+///
+/// # Errors
+///
+/// `AllocError` where that memory is refused, which is asked for before anything is made.
+///
+/// ```
+/// // `none` is the empty set of `i8`, and `whole` that of all numbers of its range
+/// let (differences, is_cut) = sub_within(whole, none)?;
+/// assert!(rt; differences == *none && !is_cut);
+/// ```
+pub fn sub_within<B: Width>(
+    a: &IntervalSet<B>,
+    b: &IntervalSet<B>,
+) -> Result<(IntervalSet<B>, bool), AllocError>
+    ensures members { IfOk result (λ r. IsRunsOf r.0 (Clipped B.whole (Differences (Covers a.now) (Covers b.now)))) }
+    ensures cut { IfOk result (λ r. IsTrue r.1 ↔ HasSome (Without (Differences (Covers a.now) (Covers b.now)) (IsBetween B.whole))) }
+{
+    let is_cut = !a.fits_sub(b);
+    Ok((combine_all(a, b, Combined::Difference)?, is_cut))
+}
+
+/// Returns the sums of a member of each set that are in the window. A window with no member, or a
+/// set with none, gives the empty set.
+///
+/// Makes only the `k` pairs of runs whose sums reach the window, each by one run of `a` and
+/// neighbours in `b`: `O(n log m + k log k)` for `n` and `m` runs. Allocates as it goes, for about
+/// three times `k` runs at most; for one run each, for one run at most.
+///
+/// # Errors
+///
+/// `AllocError` if allocation fails.
+///
+/// ```
+/// let a: IntervalSet<i64> = [(0, 0), (10, 12), (90, 95)].to_interval_set(alloc)?;
+/// let b: IntervalSet<i64> = [(1, 2), (50, 60)].to_interval_set(alloc)?;
+/// let sums = sums_in_window(&a, &b, &Interval::new(12, 62))?;
+/// assert!(rt; sums == [(12, 14), (50, 62)].to_interval_set(alloc)?);
+/// ```
+pub fn sums_in_window<B: Width>(
+    a: &IntervalSet<B>,
+    b: &IntervalSet<B>,
+    window: &Interval<B>,
+) -> Result<IntervalSet<B>, AllocError>
+    ensures { IfOk result (λ L. IsRunsOf L (Clipped window.now (Sums (Covers a.now) (Covers b.now)))) }
+{
+    combine(a, b, Combined::Sum, *window, 0)
+}
+
+/// Returns the differences of a member of `a` and one of `b` that are in the window. A window with
+/// no member, or a set with none, gives the empty set.
+///
+/// Makes only the `k` pairs of runs whose differences reach the window, each by one run of `a` and
+/// neighbours in `b`: `O(n log m + k log k)` for `n` and `m` runs. Allocates as it goes, for about
+/// three times `k` runs at most; for one run each, for one run at most.
+///
+/// # Errors
+///
+/// `AllocError` if allocation fails.
+///
+/// ```
+/// let a: IntervalSet<i64> = [(0, 0), (10, 12), (90, 95)].to_interval_set(alloc)?;
+/// let b: IntervalSet<i64> = [(1, 2), (50, 60)].to_interval_set(alloc)?;
+/// let differences = differences_in_window(&a, &b, &Interval::new(0, 39))?;
+/// assert!(rt; differences == [(8, 11), (30, 39)].to_interval_set(alloc)?);
+/// ```
+pub fn differences_in_window<B: Width>(
+    a: &IntervalSet<B>,
+    b: &IntervalSet<B>,
+    window: &Interval<B>,
+) -> Result<IntervalSet<B>, AllocError>
+    ensures { IfOk result (λ L. IsRunsOf L (Clipped window.now (Differences (Covers a.now) (Covers b.now)))) }
+{
+    combine(a, b, Combined::Difference, *window, 0)
+}
+
+/// The results over a member of each that are in the range, with room for all pairs of runs
+/// reserved first.
+fn combine_all<B: Width>(
+    a: &IntervalSet<B>,
+    b: &IntervalSet<B>,
+    op: Combined,
+) -> Result<IntervalSet<B>, AllocError>
+    ensures members { IfOk result (λ L. IsRunsOf L (Clipped B.whole (SumsBy op (Covers a.now) (Covers b.now)))) }
+    ensures left { IsMaximal a.now }
+    ensures right { IsMaximal b.now }
+{
+    let pairs = a.interval_count().checked_mul(b.interval_count());
+    combine(a, b, op, Interval::whole(), pairs.ok_or(AllocError)?)
+}
+
+/// The results over a member of each that are in the window, with room for a number of pairs of
+/// runs reserved first.
+fn combine<B: Width>(
+    a: &IntervalSet<B>,
+    b: &IntervalSet<B>,
+    op: Combined,
+    window: Interval<B>,
+    room: usize,
+) -> Result<IntervalSet<B>, AllocError>
+    ensures { IfOk result (λ L. IsRunsOf L (Clipped window (SumsBy op (Covers a.now) (Covers b.now)))) }
+{
+    let alloc = Walk::new(a).alloc();
+    if window.is_empty() {
+        return Ok(IntervalSet::empty(alloc));
+    }
+    let left = a.iter().as_slice();
+    let right = b.iter().as_slice();
+    if left.len() == 1 && right.len() == 1 {
+        return set_of(alloc, image(left[0], right[0], op, window));
+    }
+    combine_runs(alloc, left, right, op, window, room)
+}
+
+/// The results over each pair of runs of two lists that are in the window.
+fn combine_runs<B: Width>(
+    alloc: Global,
+    left: &[Interval<B>],
+    right: &[Interval<B>],
+    op: Combined,
+    window: Interval<B>,
+    room: usize,
+) -> Result<IntervalSet<B>, AllocError>
+    requires left { IsMaximal left.now }
+    requires right { IsRunListIn B.whole right.now }
+    requires window { window.0 ≤ℤ window.1 }
+    ensures { IfOk result (λ L. IsRunsOf L (Clipped window (SumsBy op (Covers left.now) (Covers right.now)))) }
+{
+    let mut entries = Vec::with_capacity(alloc, room)?;
+    for run in left {
+        push_row(&mut entries, *run, right, op, window)?;
+    }
+    coalesce(alloc, entries)
+}
+
+/// The set of the members of an interval.
+fn set_of<B: Width>(alloc: Global, run: Interval<B>) -> Result<IntervalSet<B>, AllocError>
+    ensures { IfOk result (λ L. IsRunsOf L (IsBetween run)) }
+{
+    if run.is_empty() {
+        return Ok(IntervalSet::empty(alloc));
+    }
+    IntervalSet::new(alloc, run.lower(), run.upper())
+}

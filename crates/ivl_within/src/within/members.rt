@@ -1,0 +1,45 @@
+//! The members of a set that are sums or differences.
+ghost use Rattle.std.specs.Prelude.{IfOk};
+ghost use Rattle.ivl_laws.specs.Sets.{Intersection};
+ghost use Rattle.ivl_laws.specs.Runs.{Covers, IsRunsOf};
+ghost use Rattle.ivl_within.specs.Within.{SumsBy};
+
+use super::{Combined, combine};
+use intervallum::interval::Interval;
+use intervallum::interval_set::IntervalSet;
+use intervallum::ops::{Bounded, Intersection, IsEmpty, Range};
+use intervallum::steps::Walk;
+use intervallum::width::Width;
+use std::alloc::AllocError;
+
+/// Returns the members of `x` that are the sum, or the difference, of a member of `a` and one of `b`.
+///
+/// Makes only the results between the least and the greatest member of `x`, at the cost of
+/// [`sums_in_window`](super::sums_in_window), and intersects them with `x` unless `x` is one run.
+///
+/// # Errors
+///
+/// `AllocError` if allocation fails.
+///
+/// ```
+/// // `a` is {[0..0][10..12][90..95]}, and `b` is {[1..2][50..60]}
+/// let x: IntervalSet<i16> = IntervalSet::new(alloc, 60, 93)?;
+/// let sums = kept(&x, &a, &b, Combined::Sum)?;    // {[60..72][91..93]}
+/// ```
+pub fn kept<B: Width>(
+    x: &IntervalSet<B>,
+    a: &IntervalSet<B>,
+    b: &IntervalSet<B>,
+    op: Combined,
+) -> Result<IntervalSet<B>, AllocError>
+    ensures { IfOk result (λ L. IsRunsOf L (Intersection (Covers x.now) (SumsBy op (Covers a.now) (Covers b.now)))) }
+{
+    if x.is_empty() {
+        return Ok(IntervalSet::empty(Walk::new(x).alloc()));
+    }
+    let made = combine(a, b, op, Interval::new(x.lower(), x.upper()), 0)?;
+    if x.interval_count() == 1 {
+        return Ok(made);
+    }
+    x.intersection(&made)
+}
