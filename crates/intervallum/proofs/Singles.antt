@@ -3,7 +3,7 @@ use Rattle.std.proofs.Common.{◌≡◌, ◌↔◌, ℤ, List, [], ◌∷◌, Bo
 use Rattle.std.specs.Prelude.{Result, IfOk}
 use Rattle.std.proofs.lemmas.Result.{IfOk-weaker}
 use Rattle.ivl_laws.specs.Sets.{Only, Intersection, SameMembers, HasNone, HasSome, SymmetricDifference, Union, Without}
-use Rattle.ivl_laws.specs.Runs.{Covers, IsRunsOf}
+use Rattle.ivl_laws.specs.Runs.{Covers, IsMaximal, IsRunsOf}
 use Rattle.ivl_laws.proofs.SetLaws.{IsRunsOf-same, only_is_covered}
 use Rattle.ivl_laws.proofs.Ranges.{IsRunsOf-none}
 use lib.Signed.{≤ℤ_refl}
@@ -23,6 +23,19 @@ common_with_member r L v c = IfOk-weaker r _ _ (λ N e. subst (λ (M : List (ℤ
 
 pub common_with_other : (L : List (ℤ × ℤ)) (v : ℤ) → ¬ (Covers L v) → IsRunsOf [] (Intersection (Covers L) (Only v))
 common_with_other L v n = IsRunsOf-none (Intersection (Covers L) (Only v)) (λ z (c, o). n (subst (Covers L) o c))
+
+-- a set stays as it is beside a value that it has, and without one that it has not
+pub united_with_member : {E : Type 0} (r : Result (List (ℤ × ℤ)) E) (L : List (ℤ × ℤ)) (v : ℤ) → IsMaximal L → Covers L v → IfOk r (λ N. N ≡ L) → IfOk r (λ N. IsRunsOf N (Union (Covers L) (Only v)))
+united_with_member r L v m c = IfOk-weaker r _ _ (λ N e. subst (λ (M : List (ℤ × ℤ)). IsRunsOf M (Union (Covers L) (Only v))) (sym e) (record {
+  maximal = m;
+  members = λ z. ((λ d. inl d), ⊎_elim (λ d. d) (λ o. subst (Covers L) (sym o) c));
+}))
+
+pub left_by_other : {E : Type 0} (r : Result (List (ℤ × ℤ)) E) (L : List (ℤ × ℤ)) (v : ℤ) → IsMaximal L → ¬ (Covers L v) → IfOk r (λ N. N ≡ L) → IfOk r (λ N. IsRunsOf N (Without (Covers L) (Only v)))
+left_by_other r L v m n = IfOk-weaker r _ _ (λ N e. subst (λ (M : List (ℤ × ℤ)). IsRunsOf M (Without (Covers L) (Only v))) (sym e) (record {
+  maximal = m;
+  members = λ z. ((λ d. (d, (λ o. n (subst (Covers L) o d)))), (λ (d, o). d));
+}))
 
 pub left_by_one : {E : Type 0} (r : Result (List (ℤ × ℤ)) E) (A M L : List (ℤ × ℤ)) (v : ℤ) → A ≡ L → M ≡ (v, v) ∷ [] →
     IfOk r (λ N. IsRunsOf N (Without (Covers A) (Covers M))) → IfOk r (λ N. IsRunsOf N (Without (Covers L) (Only v)))

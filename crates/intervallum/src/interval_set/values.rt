@@ -4,7 +4,6 @@ ghost use Rattle.ivl_laws.specs.Sets.{Intersection, IsBetween, Only, SymmetricDi
 ghost use Rattle.ivl_laws.specs.Runs.{Covers, IsRunsOf};
 
 use super::IntervalSet;
-use crate::interval::Interval;
 use crate::ops::{Contains, Difference, Intersection, SymmetricDifference, Union};
 use crate::steps::{Walk, one_alone, unite, without};
 use crate::width::Width;
@@ -21,8 +20,9 @@ impl<B: Width> Union<B> for IntervalSet<B> {
 
     ghost answers = { λ r S. IfOk r (λ L. IsRunsOf L S) };
 
-    /// The members, and the value. `O(n)`, in memory for `n + 1` runs, and for one run that holds
-    /// the value meanwhile. An error is memory that was refused; the set is not changed.
+    /// The members, and the value. `O(n)`: a copy where the value is a member, else in memory for
+    /// `n + 1` runs, and for one run that holds the value meanwhile. An error is memory that was
+    /// refused; the set is not changed.
     ///
     /// Condition: the value is in the range, which `Interval::in_range(value, value)` tests.
     ///
@@ -38,8 +38,13 @@ impl<B: Width> Union<B> for IntervalSet<B> {
         ensures members { IfOk result (λ L. IsRunsOf L (Union (Covers self.now) (Only (B.value other.now)))) }
         ensures runs_at_most { IfOk result (λ L. length L ≤ length self.now + 1) }
     {
-        let single = IntervalSet::new(self.allocator(), *other, *other)?;
-        unite(Walk::new(self), Walk::new(&single))
+        self.as_runs();
+        if self.contains(other) {
+            self.try_clone()
+        } else {
+            let single = IntervalSet::new(self.allocator(), *other, *other)?;
+            unite(Walk::new(self), Walk::new(&single))
+        }
     }
 }
 
@@ -120,9 +125,9 @@ impl<B: Width> Difference<B> for IntervalSet<B> {
 
     ghost answers = { λ r S. IfOk r (λ L. IsRunsOf L S) };
 
-    /// The members but the value; for any value of its type. `O(n)`, in memory for `n + 1` runs,
-    /// and for one run that holds the value meanwhile. An error is memory that was refused; the set
-    /// is not changed.
+    /// The members but the value; for any value of its type. `O(n)`: a copy where the value is no
+    /// member, else in memory for `n + 1` runs, and for one run that holds the value meanwhile. An
+    /// error is memory that was refused; the set is not changed.
     ///
     /// ```
     /// let a = IntervalSet::new(alloc, 1, 5)?;
@@ -135,10 +140,13 @@ impl<B: Width> Difference<B> for IntervalSet<B> {
         ensures members { IfOk result (λ L. IsRunsOf L (Without (Covers self.now) (Only (B.value other.now)))) }
         ensures runs_at_most { IfOk result (λ L. length L ≤ length self.now + 1) }
     {
-        if !Interval::in_range(*other, *other) {
-            return self.try_clone();
+        // the members are in the range, and so is the value where it is one
+        self.as_runs();
+        if self.contains(other) {
+            let single = IntervalSet::new(self.allocator(), *other, *other)?;
+            without(Walk::new(self), Walk::new(&single))
+        } else {
+            self.try_clone()
         }
-        let single = IntervalSet::new(self.allocator(), *other, *other)?;
-        without(Walk::new(self), Walk::new(&single))
     }
 }
