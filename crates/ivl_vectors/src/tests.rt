@@ -4,6 +4,7 @@ mod conversions;
 mod debug_texts;
 mod display_texts;
 mod doc_intervals;
+mod doc_reads;
 mod doc_sets;
 mod ends;
 mod fixtures;
