@@ -26,3 +26,4 @@ pub mod Neighbours
 pub mod Rooms
 pub mod Rows
 pub mod WithIntervals
+pub mod Ranks

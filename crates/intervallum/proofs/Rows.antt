@@ -1,5 +1,5 @@
 -- So many numbers from the start of an interval that has them, in 128 bits.
-use Rattle.std.proofs.Common.{◌≡◌, ◌-◌, ◌^◌, ◌≤◌, ◌<◌, ℕ, ℤ, pos, ◌+ℤ◌, ◌-ℤ◌, ◌≤ℤ◌, arith}
+use Rattle.std.proofs.Common.{◌≡◌, ◌+◌, ◌-◌, ◌^◌, ◌≤◌, ◌<◌, ℕ, ℤ, pos, ◌+ℤ◌, ◌-ℤ◌, ◌≤ℤ◌, arith}
 use mir.Syntax.{w128}
 use mir.Val.{SFits, of_z, to_z}
 use Rattle.std.specs.Prelude.{◌<ℤ◌}
@@ -55,4 +55,40 @@ module _ (whole p : ℤ × ℤ) (n : ℕ) (bounds : IsBoundRange whole) (within 
         let h = bounds.high_at_most in
         let s : to_z w128 (of_z w128 x) ≡ p.0 = omega (arith, ints, b.0, b.1) in
         let t : to_z w128 (k - 1) ≡ pos n -ℤ pos 1 = omega (arith, ints) in
+        rw (s, t) (omega (arith, ints, b.0, b.1))
+
+-- the number i places above the start
+module _ (whole p : ℤ × ℤ) (i : ℕ) (bounds : IsBoundRange whole) (within : IsSubset (IsBetween p) (IsBetween whole)) (less : i < width_of p) where
+  one_more : i + 1 ≤ width_of p
+  one_more = omega arith
+
+  pub place_in : IsBetween whole (p.0 +ℤ pos i)
+  place_in =
+      let b = last_in whole p (i + 1) bounds within (omega arith) one_more in
+      let low = b.0 in
+      let high = b.1 in
+      (omega (arith, ints), omega (arith, ints))
+
+  module _ (x y : ℤ) (k : ℕ) (e : x ≡ y) (f : y ≡ p.0) (c : k ≡ i) where
+    pub place_fits : SFits w128 (pos k)
+    place_fits = let a = few whole p (i + 1) bounds within (omega arith) one_more in omega (arith, ints)
+
+    pub place_sum_fits : SFits w128 (to_z w128 (of_z w128 x) +ℤ to_z w128 k)
+    place_sum_fits =
+        let a = few whole p (i + 1) bounds within (omega arith) one_more in
+        let b = start_in whole p (i + 1) bounds within (omega arith) one_more in
+        let l = bounds.low_at_least in
+        let h = bounds.high_at_most in
+        let s : to_z w128 (of_z w128 x) ≡ p.0 = omega (arith, ints, b.0, b.1) in
+        let t : to_z w128 k ≡ pos i = omega (arith, ints) in
+        rw (s, t) (omega (arith, ints, b.0, b.1))
+
+    pub place_is : to_z w128 (of_z w128 (to_z w128 (of_z w128 x) +ℤ to_z w128 k)) ≡ p.0 +ℤ pos i
+    place_is =
+        let a = few whole p (i + 1) bounds within (omega arith) one_more in
+        let b = start_in whole p (i + 1) bounds within (omega arith) one_more in
+        let l = bounds.low_at_least in
+        let h = bounds.high_at_most in
+        let s : to_z w128 (of_z w128 x) ≡ p.0 = omega (arith, ints, b.0, b.1) in
+        let t : to_z w128 k ≡ pos i = omega (arith, ints) in
         rw (s, t) (omega (arith, ints, b.0, b.1))

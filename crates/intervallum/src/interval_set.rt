@@ -11,6 +11,7 @@ mod arithmetic;
 mod bounds;
 mod conversions;
 mod copies;
+mod counting;
 mod edits;
 mod fits;
 mod inclusion;

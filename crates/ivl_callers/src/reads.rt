@@ -1,8 +1,9 @@
 //! Callers that read a set: its neighbours, its room, its runs, and what it has beside an interval.
 //! None of them wants a proof by hand.
-ghost use Rattle.std.specs.Prelude.{◌≡◌, ◌↔◌, ◌<◌, ◌≤◌, ◌⊎◌, ◌≤ℤ◌, ◌<ℤ◌, ◌∷◌, [], ℤ, ⊤, All, IfOk, IfSome, IsTrue, MatchOption, length, pos};
-ghost use Rattle.ivl_laws.specs.Sets.{AtLeast, AtMost, HasNone, HasSome, Intersection, IsBetween, IsSubset, Union, Without};
-ghost use Rattle.ivl_laws.specs.Runs.{Covers, IsRunListIn, IsRunsOf};
+ghost use Rattle.std.specs.Prelude.{◌≡◌, ◌↔◌, ◌⊎◌, ◌≤◌, [], ℕ, ℤ, IfOk, IfSome, IsTrue, MatchOption};
+ghost use Rattle.ivl_laws.specs.Counts.{IsCountOf};
+ghost use Rattle.ivl_laws.specs.Sets.{AtLeast, AtMost, Below, HasNone, HasSome, Intersection, IsBetween, IsSubset, Union, Without};
+ghost use Rattle.ivl_laws.specs.Runs.{Covers, IsRunsOf};
 ghost use Rattle.intervallum.specs.Neighbours.{IsGreatest, IsLeast, IsRunWith};
 ghost use Rattle.intervallum.specs.Rooms.{FitsAt, IsFirstFit};
 
@@ -179,4 +180,20 @@ pub fn without_interval<B: Width>(
     ensures { IfOk result (λ L. IsRunsOf L (Without (Covers set.now) (IsBetween interval.now))) }
 {
     set.difference(interval)
+}
+
+/// How many members are below a value.
+pub fn count_below<B: Width>(set: &IntervalSet<B>, value: B) -> B::Output
+    ensures { IsCountOf (B.Output.size result) (Below (B.value value) (Covers set.now)) }
+{
+    set.rank(value)
+}
+
+/// The member with so many others below it.
+pub fn member_by_number<B: Width>(set: &IntervalSet<B>, i: B::Output) -> Option<B>
+    ensures { MatchOption result
+        ((n : ℕ) → IsCountOf n (Covers set.now) → n ≤ B.Output.size i)
+        (λ x. Covers set.now (B.value x) × IsCountOf (B.Output.size i) (Below (B.value x) (Covers set.now))) }
+{
+    set.nth(i)
 }

@@ -5,6 +5,7 @@ mod debug_texts;
 mod display_texts;
 mod doc_edits;
 mod doc_intervals;
+mod doc_reads;
 mod doc_sets;
 mod ends;
 mod fixtures;

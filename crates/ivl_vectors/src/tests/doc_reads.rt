@@ -1,0 +1,118 @@
+//! The examples in the docs of the calls that read sets, and their corners.
+
+use intervallum::interval::Interval;
+use intervallum::interval_set::{IntervalSet, ToIntervalSet};
+use intervallum::ops::{Difference, Empty, Intersection, IsEmpty, Overlap, Range, Union};
+use std::test::Fail;
+
+#[test]
+fn neighbours(rt: HostRuntime) -> Result<(), Fail> {
+    let alloc = rt.alloc();
+    let a: IntervalSet<i32> = [(1, 2), (5, 6)].to_interval_set(alloc)?;
+    assert_eq!(rt; a.next_from(2), Some(2));
+    assert_eq!(rt; a.next_from(3), Some(5));
+    assert_eq!(rt; a.next_from(7), None);
+    assert_eq!(rt; a.next_from(i32::MIN), Some(1));
+    assert_eq!(rt; a.previous_to(5), Some(5));
+    assert_eq!(rt; a.previous_to(4), Some(2));
+    assert_eq!(rt; a.previous_to(0), None);
+    assert_eq!(rt; a.previous_to(i32::MAX), Some(6));
+    Ok(())
+}
+
+#[test]
+fn runs_of_values(rt: HostRuntime) -> Result<(), Fail> {
+    let alloc = rt.alloc();
+    let a: IntervalSet<i32> = [(1, 2), (5, 6)].to_interval_set(alloc)?;
+    assert!(rt; a.run_at(6) == Some(Interval::new(5, 6)));
+    assert!(rt; a.run_at(3).is_none());
+    let bytes = IntervalSet::<u8>::whole(alloc)?;
+    assert!(rt; bytes.run_at(0) == Some(Interval::new(0, 254)) && bytes.run_at(255).is_none());
+    assert_eq!(rt; bytes.previous_to(255), Some(254));
+    Ok(())
+}
+
+#[test]
+fn first_fits(rt: HostRuntime) -> Result<(), Fail> {
+    let alloc = rt.alloc();
+    let a: IntervalSet<i32> = [(1, 2), (5, 9)].to_interval_set(alloc)?;
+    assert!(rt; a.first_fit(3) == Some(Interval::new(5, 7)));
+    assert!(rt; a.first_fit(6).is_none());
+    assert!(rt; a.first_fit(5) == Some(Interval::new(5, 9)));
+    assert!(rt; a.first_fit(1) == Some(Interval::new(1, 1)));
+    let all = IntervalSet::<i64>::whole(alloc)?;
+    assert!(rt; all.first_fit(u64::MAX) == Some(Interval::new(-i64::MAX, i64::MAX)));
+    Ok(())
+}
+
+#[test]
+fn first_fits_from(rt: HostRuntime) -> Result<(), Fail> {
+    let alloc = rt.alloc();
+    let a: IntervalSet<i32> = [(1, 2), (5, 9)].to_interval_set(alloc)?;
+    assert!(rt; a.first_fit_from(6, 3) == Some(Interval::new(6, 8)));
+    assert!(rt; a.first_fit_from(8, 3).is_none());
+    assert!(rt; a.first_fit_from(2, 2) == Some(Interval::new(5, 6)));
+    assert!(rt; a.first_fit_from(3, 5) == Some(Interval::new(5, 9)));
+    assert!(rt; a.first_fit_from(i32::MIN, 2) == Some(Interval::new(1, 2)));
+    assert!(rt; a.first_fit_from(i32::MAX, 1).is_none());
+    Ok(())
+}
+
+#[test]
+fn gaps(rt: HostRuntime) -> Result<(), Fail> {
+    let alloc = rt.alloc();
+    let a: IntervalSet<i32> = [(1, 2), (5, 6)].to_interval_set(alloc)?;
+    let free = a.gaps_within(&Interval::new(2, 7))?;
+    assert!(rt; free == [(3, 4), (7, 7)].to_interval_set(alloc)?);
+    assert!(rt; a.gaps_within(&Interval::empty())?.is_empty());
+    assert!(rt; a.gaps_within(&Interval::new(5, 6))?.is_empty());
+    Ok(())
+}
+
+#[test]
+fn slices_of_runs(rt: HostRuntime) -> Result<(), Fail> {
+    let alloc = rt.alloc();
+    let a: IntervalSet<i32> = [(5, 6), (1, 2)].to_interval_set(alloc)?;
+    assert!(rt; a.runs().len() == 2 && a.runs()[1] == Interval::new(5, 6));
+    let a = IntervalSet::new(alloc, 1, 2)?;
+    let b = IntervalSet::singleton(a.allocator(), 3)?;
+    assert!(rt; !a.overlap(&b));
+    Ok(())
+}
+
+#[test]
+fn sets_of_intervals(rt: HostRuntime) -> Result<(), Fail> {
+    let alloc = rt.alloc();
+    let a = IntervalSet::of(alloc, Interval::new(1, 2))?;
+    assert!(rt; a == IntervalSet::new(alloc, 1, 2)?);
+    assert!(rt; IntervalSet::of(alloc, Interval::<i32>::empty())?.is_empty());
+    Ok(())
+}
+
+#[test]
+fn included_intervals(rt: HostRuntime) -> Result<(), Fail> {
+    let alloc = rt.alloc();
+    let a: IntervalSet<i32> = [(1, 5), (8, 9)].to_interval_set(alloc)?;
+    assert!(rt; a.includes(&Interval::new(2, 5)) && !a.includes(&Interval::new(5, 8)));
+    assert!(rt; a.includes(&Interval::empty()) && !a.includes(&Interval::new(0, 5)));
+    let a: IntervalSet<i32> = [(1, 2), (5, 6)].to_interval_set(alloc)?;
+    assert!(rt; a.overlap(&Interval::new(3, 5)) && !a.overlap(&Interval::new(3, 4)));
+    assert!(rt; !a.overlap(&Interval::empty()));
+    Ok(())
+}
+
+#[test]
+fn sets_beside_intervals(rt: HostRuntime) -> Result<(), Fail> {
+    let alloc = rt.alloc();
+    let a = IntervalSet::new(alloc, 1, 5)?;
+    assert!(rt; a.union(&Interval::new(6, 9))? == IntervalSet::new(alloc, 1, 9)?);
+    assert!(rt; a.union(&Interval::empty())? == a);
+    let a: IntervalSet<i32> = [(1, 5), (8, 9)].to_interval_set(alloc)?;
+    assert!(rt; a.intersection(&Interval::new(4, 7))? == IntervalSet::new(alloc, 4, 5)?);
+    assert!(rt; a.intersection(&Interval::empty())?.is_empty());
+    let a = IntervalSet::new(alloc, 1, 9)?;
+    let rest = a.difference(&Interval::new(4, 7))?;
+    assert!(rt; rest == [(1, 3), (8, 9)].to_interval_set(alloc)?);
+    assert!(rt; a.difference(&Interval::empty())? == a);
+    Ok(())
+}
