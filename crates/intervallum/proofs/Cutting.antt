@@ -2,7 +2,7 @@
 use Rattle.std.proofs.Common.{◌≡◌, ⊎_elim, inl, inr, ℕ, zero, suc, ◌+◌, ◌<◌, ℤ, pos, ◌+ℤ◌, ◌≤ℤ◌, List, [], ◌∷◌, length, get_or, set, sym, subst, arith, length-set}
 use Rattle.std.proofs.lemmas.Int.{ints, clamps}
 use Rattle.std.specs.Int.{int_max, int_min}
-use Rattle.ivl_laws.specs.Sets.{AtLeast, AtMost, IsBetween, IsCrossed, SameMembers, Intersection}
+use Rattle.ivl_laws.specs.Sets.{AtLeast, AtMost, IsBetween, SameMembers, Intersection}
 use Rattle.ivl_laws.specs.Runs.{Covers, IsMaximal, IsRunsOf, IsRunListIn, StartsAfter, StartsBy}
 use Rattle.ivl_laws.proofs.Runs.{covered_after}
 use Rattle.ivl_laws.proofs.Intervals.{same_between}

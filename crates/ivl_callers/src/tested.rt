@@ -1,6 +1,6 @@
 //! Each condition of a call is met after its public test: the callers here have no condition of
 //! their own, and none of them wants a proof by hand.
-ghost use Rattle.std.specs.Prelude.{◌≡◌, ◌↔◌, ◌⊎◌, ◌+◌, ◌≤ℤ◌, ◌∷◌, [], ℤ, ⊤, All, None, MatchOption, IfOk, IsTrue, length, map, slice_get};
+ghost use Rattle.std.specs.Prelude.{◌≡◌, ◌↔◌, ◌⊎◌, ◌+◌, ◌<◌, ◌+ℤ◌, ◌-ℤ◌, ◌*ℤ◌, ◌≤ℤ◌, ◌∷◌, [], ℤ, ⊤, All, None, MatchOption, IfOk, IsTrue, length, map, slice_get};
 ghost use Rattle.ivl_laws.specs.Sets.{Differences, ExactProducts, IsBetween, IsHullOf, IsInRange, IsSubset, Only, SameMembers, Sums, SymmetricDifference, Union};
 ghost use Rattle.ivl_laws.specs.Runs.{Covers, IsRunsOf};
 ghost use Rattle.intervallum.specs.Sweeps.{AreImages};
@@ -13,7 +13,7 @@ use intervallum::ops::{
 };
 use intervallum::steps::{Probes, Walk};
 use intervallum::sweep::{Op, images};
-use intervallum::width::Width;
+use intervallum::width::{SizeNumber, Width};
 use std::alloc::{AllocError, Global};
 
 /// The interval of two bounds, if `in_range` lets it be made.
@@ -214,5 +214,49 @@ pub fn sums_by_runs_if_they_fit<B: Width>(
         Ok(Some(images(a, b, Op::Sum)?))
     } else {
         Ok(None)
+    }
+}
+
+/// The sum of two values, if `checked_add` has one.
+pub fn sum_if_in_range<B: Width>(x: B, y: B) -> Option<B>
+    ensures { MatchOption result (¬ (IsBetween B.whole (B.value x +ℤ B.value y))) (λ r. B.value r ≡ B.value x +ℤ B.value y) }
+{
+    if x.checked_add(y).is_some() {
+        Some(x.add_in_range(y))
+    } else {
+        None
+    }
+}
+
+/// The difference of two values, if `checked_sub` has one.
+pub fn difference_if_in_range<B: Width>(x: B, y: B) -> Option<B>
+    ensures { MatchOption result (¬ (IsBetween B.whole (B.value x -ℤ B.value y))) (λ r. B.value r ≡ B.value x -ℤ B.value y) }
+{
+    if x.checked_sub(y).is_some() {
+        Some(x.sub_in_range(y))
+    } else {
+        None
+    }
+}
+
+/// The product of two values, if `checked_mul` has one.
+pub fn product_if_in_range<B: Width>(x: B, y: B) -> Option<B>
+    ensures { MatchOption result (¬ (IsBetween B.whole (B.value x *ℤ B.value y))) (λ r. B.value r ≡ B.value x *ℤ B.value y) }
+{
+    if x.checked_mul(y).is_some() {
+        Some(x.mul_in_range(y))
+    } else {
+        None
+    }
+}
+
+/// The sum of two sizes, if `checked_add` has one.
+pub fn size_if_in_range<N: SizeNumber>(x: N, y: N) -> Option<N>
+    ensures { MatchOption result (N.greatest < N.size x + N.size y) (λ r. N.size r ≡ N.size x + N.size y) }
+{
+    if x.checked_add(y).is_some() {
+        Some(x.add_in_range(y))
+    } else {
+        None
     }
 }
