@@ -6,7 +6,6 @@
 #![tactic(auto)]
 
 mod calls;
-mod edits;
 mod expr;
 mod json;
 mod store;
