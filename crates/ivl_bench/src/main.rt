@@ -5,7 +5,6 @@
 //! With the arguments `store FILE`, prints how long an instance of the domain store takes.
 #![tactic(auto)]
 
-mod edits;
 mod expressions;
 mod inputs;
 mod json;

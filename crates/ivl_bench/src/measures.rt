@@ -1,7 +1,6 @@
 //! The calls that are measured, by their names.
 
-use crate::edits;
-use crate::inputs::{EDITS, Inputs, PROBES, of_pairs};
+use crate::inputs::{Inputs, of_pairs};
 use crate::json;
 use intervallum::interval::Interval;
 use intervallum::interval_set::IntervalSet;
@@ -42,9 +41,6 @@ pub enum Measure {
     JsonText,
     EvalSum,
     EvalChain,
-    InsertRandom,
-    RemoveRandom,
-    PopFirst,
 }
 
 /// What a call answers.
@@ -76,7 +72,7 @@ impl Outcome {
 }
 
 impl Measure {
-    pub const ALL: [Measure; 29] = [
+    pub const ALL: [Measure; 26] = [
         Measure::BuildExtend,
         Measure::BuildPairs,
         Measure::ExtendOne,
@@ -103,9 +99,6 @@ impl Measure {
         Measure::JsonText,
         Measure::EvalSum,
         Measure::EvalChain,
-        Measure::InsertRandom,
-        Measure::RemoveRandom,
-        Measure::PopFirst,
     ];
 
     pub fn name(self) -> &'static str {
@@ -136,9 +129,6 @@ impl Measure {
             Measure::JsonText => "json_text",
             Measure::EvalSum => "eval_sum",
             Measure::EvalChain => "eval_chain",
-            Measure::InsertRandom => "insert_random",
-            Measure::RemoveRandom => "remove_random",
-            Measure::PopFirst => "pop_first",
         }
     }
 
@@ -159,8 +149,7 @@ impl Measure {
     /// How many operations one run of the call stands for.
     pub fn operations(self) -> u64 {
         match self {
-            Measure::Contains => PROBES,
-            Measure::InsertRandom | Measure::RemoveRandom => EDITS,
+            Measure::Contains => 1000,
             _ => 1,
         }
     }
@@ -204,9 +193,6 @@ impl Measure {
             Measure::JsonText => json::text(inputs)?,
             Measure::EvalSum => fitting(inputs.expressions.eval_sum(inputs.alloc)?),
             Measure::EvalChain => fitting(inputs.expressions.eval_chain(inputs.alloc)?),
-            Measure::InsertRandom => Outcome::Set(edits::inserted(a, &inputs.edits)?),
-            Measure::RemoveRandom => Outcome::Set(edits::removed(a, &inputs.edits)?),
-            Measure::PopFirst => Outcome::Number(edits::popped(a)?),
         })
     }
 }

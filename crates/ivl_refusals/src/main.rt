@@ -7,7 +7,6 @@
 
 mod calculator;
 mod calls;
-mod edits;
 mod expr;
 mod json;
 mod store;
