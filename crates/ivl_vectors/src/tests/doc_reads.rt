@@ -116,3 +116,16 @@ fn sets_beside_intervals(rt: HostRuntime) -> Result<(), Fail> {
     assert!(rt; a.difference(&Interval::empty())? == a);
     Ok(())
 }
+
+#[test]
+fn members_by_number(rt: HostRuntime) -> Result<(), Fail> {
+    let alloc = rt.alloc();
+    let a: IntervalSet<i32> = [(1, 2), (5, 6)].to_interval_set(alloc)?;
+    assert!(rt; a.rank(1) == 0 && a.rank(4) == 2 && a.rank(6) == 3);
+    assert!(rt; a.rank(i32::MAX) == 4 && a.rank(i32::MIN) == 0);
+    assert!(rt; a.nth(0) == Some(1) && a.nth(3) == Some(6) && a.nth(4).is_none());
+    let all = IntervalSet::<i64>::whole(alloc)?;
+    assert!(rt; all.nth(u64::MAX - 1) == Some(i64::MAX) && all.nth(u64::MAX).is_none());
+    assert!(rt; all.rank(0) == 9_223_372_036_854_775_807);
+    Ok(())
+}
