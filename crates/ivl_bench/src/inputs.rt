@@ -24,6 +24,8 @@ pub struct Inputs {
     pub middle: i64,
     pub left: IntervalSet<i64>,
     pub right: IntervalSet<i64>,
+    pub few: IntervalSet<i64>,
+    pub many: IntervalSet<i64>,
     pub json: JsonInputs,
     pub expressions: Expressions,
 }
@@ -48,6 +50,8 @@ impl Inputs {
             middle: lower.saturating_add(upper) / 2,
             left: set_of(alloc, &apart(alloc, n, 1, n)?)?,
             right: set_of(alloc, &apart(alloc, n, 2, 1)?)?,
+            few: set_of(alloc, &dense(alloc, 10, 2)?)?,
+            many: set_of(alloc, &dense(alloc, 100_000, 1)?)?,
             expressions: Expressions::new(alloc, &a, &b)?,
             a,
             b,

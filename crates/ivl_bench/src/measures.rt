@@ -41,6 +41,11 @@ pub enum Measure {
     JsonText,
     EvalSum,
     EvalChain,
+    UnionFew,
+    IntersectionFew,
+    DifferenceFew,
+    SubsetFew,
+    IntersectionValue,
 }
 
 /// What a call answers.
@@ -72,7 +77,7 @@ impl Outcome {
 }
 
 impl Measure {
-    pub const ALL: [Measure; 26] = [
+    pub const ALL: [Measure; 31] = [
         Measure::BuildExtend,
         Measure::BuildPairs,
         Measure::ExtendOne,
@@ -99,6 +104,11 @@ impl Measure {
         Measure::JsonText,
         Measure::EvalSum,
         Measure::EvalChain,
+        Measure::UnionFew,
+        Measure::IntersectionFew,
+        Measure::DifferenceFew,
+        Measure::SubsetFew,
+        Measure::IntersectionValue,
     ];
 
     pub fn name(self) -> &'static str {
@@ -129,6 +139,11 @@ impl Measure {
             Measure::JsonText => "json_text",
             Measure::EvalSum => "eval_sum",
             Measure::EvalChain => "eval_chain",
+            Measure::UnionFew => "union_few",
+            Measure::IntersectionFew => "intersection_few",
+            Measure::DifferenceFew => "difference_few",
+            Measure::SubsetFew => "subset_few",
+            Measure::IntersectionValue => "intersection_value",
         }
     }
 
@@ -139,7 +154,11 @@ impl Measure {
             Measure::PlusDense | Measure::MinusDense | Measure::TimesDense | Measure::EvalSum => {
                 n <= 1000 && n != 300
             }
-            Measure::EvalChain => n == 10,
+            Measure::EvalChain
+            | Measure::UnionFew
+            | Measure::IntersectionFew
+            | Measure::DifferenceFew
+            | Measure::SubsetFew => n == 10,
             Measure::PlusSparse => n <= 300,
             Measure::TimesSparse => n <= 100,
             _ => n != 300,
@@ -193,6 +212,11 @@ impl Measure {
             Measure::JsonText => json::text(inputs)?,
             Measure::EvalSum => fitting(inputs.expressions.eval_sum(inputs.alloc)?),
             Measure::EvalChain => fitting(inputs.expressions.eval_chain(inputs.alloc)?),
+            Measure::UnionFew => Outcome::Set(inputs.few.union(&inputs.many)?),
+            Measure::IntersectionFew => Outcome::Set(inputs.few.intersection(&inputs.many)?),
+            Measure::DifferenceFew => Outcome::Set(inputs.few.difference(&inputs.many)?),
+            Measure::SubsetFew => Outcome::Number(u64::from(inputs.few.is_subset(&inputs.many))),
+            Measure::IntersectionValue => Outcome::Set(a.intersection(&inputs.middle)?),
         })
     }
 }

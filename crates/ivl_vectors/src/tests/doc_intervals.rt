@@ -266,6 +266,12 @@ fn numbers_of_bounds(rt: HostRuntime) {
     assert_eq!(rt; <u8 as Width>::checked_add(200, 55), None);
     assert_eq!(rt; <u8 as Width>::checked_sub(3, 4), None);
     assert_eq!(rt; <i8 as Width>::checked_mul(-64, 2), None);
+    assert!(rt; <u8 as Width>::checked_add(200, 54).is_some());
+    assert_eq!(rt; <u8 as Width>::add_in_range(200, 54), 254);
+    assert!(rt; <i8 as Width>::checked_sub(3, 4).is_some());
+    assert_eq!(rt; <i8 as Width>::sub_in_range(3, 4), -1);
+    assert!(rt; <i8 as Width>::checked_mul(-64, 1).is_some());
+    assert_eq!(rt; <i8 as Width>::mul_in_range(-64, 1), -64);
 }
 
 #[test]
@@ -277,4 +283,6 @@ fn numbers_of_sizes(rt: HostRuntime) {
     assert_eq!(rt; <u8 as SizeNumber>::checked_add(200, 55), Some(255));
     assert_eq!(rt; <u8 as SizeNumber>::checked_add(200, 56), None);
     assert_eq!(rt; <u8 as SizeNumber>::checked_sub(3, 4), None);
+    assert!(rt; <u8 as SizeNumber>::checked_add(200, 55).is_some());
+    assert_eq!(rt; <u8 as SizeNumber>::add_in_range(200, 55), 255);
 }
