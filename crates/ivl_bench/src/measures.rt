@@ -12,6 +12,9 @@ use intervallum::width::SizeNumber;
 use serde_json::Value;
 use std::alloc::{AllocError, Global};
 
+/// More numbers than any run has, so that a search for room passes all runs.
+const LONGER: u64 = 1000;
+
 /// A call on sets.
 #[derive(Clone, Copy)]
 pub enum Measure {
@@ -46,6 +49,8 @@ pub enum Measure {
     DifferenceFew,
     SubsetFew,
     IntersectionValue,
+    NextFrom,
+    FirstFit,
 }
 
 /// What a call answers.
@@ -77,7 +82,7 @@ impl Outcome {
 }
 
 impl Measure {
-    pub const ALL: [Measure; 31] = [
+    pub const ALL: [Measure; 33] = [
         Measure::BuildExtend,
         Measure::BuildPairs,
         Measure::ExtendOne,
@@ -109,6 +114,8 @@ impl Measure {
         Measure::DifferenceFew,
         Measure::SubsetFew,
         Measure::IntersectionValue,
+        Measure::NextFrom,
+        Measure::FirstFit,
     ];
 
     pub fn name(self) -> &'static str {
@@ -144,6 +151,8 @@ impl Measure {
             Measure::DifferenceFew => "difference_few",
             Measure::SubsetFew => "subset_few",
             Measure::IntersectionValue => "intersection_value",
+            Measure::NextFrom => "next_from",
+            Measure::FirstFit => "first_fit",
         }
     }
 
@@ -168,7 +177,7 @@ impl Measure {
     /// How many operations one run of the call stands for.
     pub fn operations(self) -> u64 {
         match self {
-            Measure::Contains => 1000,
+            Measure::Contains | Measure::NextFrom => 1000,
             _ => 1,
         }
     }
@@ -217,6 +226,8 @@ impl Measure {
             Measure::DifferenceFew => Outcome::Set(inputs.few.difference(&inputs.many)?),
             Measure::SubsetFew => Outcome::Number(u64::from(inputs.few.is_subset(&inputs.many))),
             Measure::IntersectionValue => Outcome::Set(a.intersection(&inputs.middle)?),
+            Measure::NextFrom => Outcome::Number(nexts(a, &inputs.probes)),
+            Measure::FirstFit => Outcome::Number(u64::from(a.first_fit(LONGER).is_some())),
         })
     }
 }
@@ -252,6 +263,17 @@ fn hits(set: &IntervalSet<i64>, probes: &[i64]) -> u64 {
         }
     }
     hits
+}
+
+/// How many of the numbers have a member at them or above.
+fn nexts(set: &IntervalSet<i64>, probes: &[i64]) -> u64 {
+    let mut nexts: u64 = 0;
+    for probe in probes {
+        if set.next_from(*probe).is_some() {
+            nexts = nexts.saturating_add(1);
+        }
+    }
+    nexts
 }
 
 fn sum(a: &IntervalSet<i64>, b: &IntervalSet<i64>) -> Result<Outcome, AllocError> {

@@ -84,6 +84,7 @@ pub fn call(alloc: Global, name: &[u8], a: &IntervalSet<i32>, b: &IntervalSet<i3
         b"meet" => Some((met(a, b), UNITED)),
         b"extend" => Some((extended(alloc, a), &[(1, 6), (9, 10), (13, 14), (20, 20)])),
         _ => value_call(name, a)
+            .or_else(|| interval_call(alloc, name, a))
             .or_else(|| arithmetic(name, a, b))
             .or_else(|| making(alloc, name))
             .or_else(|| crate::expr::call(alloc, name, a, b)),
@@ -104,6 +105,19 @@ fn value_call(name: &[u8], a: &IntervalSet<i32>) -> Option<Row> {
         b"times_value" if a.fits_mul(&-3) => {
             (a * -3, &[(-42, -39), (-30, -27), (-18, -15), (-6, -3)])
         }
+        _ => return None,
+    };
+    Some(row)
+}
+
+fn interval_call(alloc: Global, name: &[u8], a: &IntervalSet<i32>) -> Option<Row> {
+    let window = Interval::new(2, 9);
+    let row: Row = match name {
+        b"of" => (IntervalSet::of(alloc, window), &[(2, 9)]),
+        b"gaps_within" => (a.gaps_within(&window), &[(3, 4), (7, 8)]),
+        b"union_interval" => (a.union(&window), &[(1, 10), (13, 14)]),
+        b"intersection_interval" => (a.intersection(&window), &[(2, 2), (5, 6), (9, 9)]),
+        b"difference_interval" => (a.difference(&window), &[(1, 1), (10, 10), (13, 14)]),
         _ => return None,
     };
     Some(row)
