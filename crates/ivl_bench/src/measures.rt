@@ -1,7 +1,7 @@
 //! The calls that are measured, by their names.
 
 use crate::inputs::{Inputs, of_pairs};
-use crate::json;
+use crate::{edits, json};
 use intervallum::interval::Interval;
 use intervallum::interval_set::IntervalSet;
 use intervallum::ops::{
@@ -41,6 +41,9 @@ pub enum Measure {
     JsonText,
     EvalSum,
     EvalChain,
+    InsertRandom,
+    RemoveRandom,
+    PopFirst,
 }
 
 /// What a call answers.
@@ -72,7 +75,7 @@ impl Outcome {
 }
 
 impl Measure {
-    pub const ALL: [Measure; 26] = [
+    pub const ALL: [Measure; 29] = [
         Measure::BuildExtend,
         Measure::BuildPairs,
         Measure::ExtendOne,
@@ -99,6 +102,9 @@ impl Measure {
         Measure::JsonText,
         Measure::EvalSum,
         Measure::EvalChain,
+        Measure::InsertRandom,
+        Measure::RemoveRandom,
+        Measure::PopFirst,
     ];
 
     pub fn name(self) -> &'static str {
@@ -129,6 +135,9 @@ impl Measure {
             Measure::JsonText => "json_text",
             Measure::EvalSum => "eval_sum",
             Measure::EvalChain => "eval_chain",
+            Measure::InsertRandom => "insert_random",
+            Measure::RemoveRandom => "remove_random",
+            Measure::PopFirst => "pop_first",
         }
     }
 
@@ -147,9 +156,11 @@ impl Measure {
     }
 
     /// How many operations one run of the call stands for.
-    pub fn operations(self) -> u64 {
+    pub fn operations(self, inputs: &Inputs) -> u64 {
         match self {
-            Measure::Contains => 1000,
+            Measure::Contains => inputs.probes.len() as u64,
+            Measure::InsertRandom | Measure::RemoveRandom => inputs.edits.len() as u64,
+            Measure::PopFirst => inputs.a.size(),
             _ => 1,
         }
     }
@@ -193,6 +204,9 @@ impl Measure {
             Measure::JsonText => json::text(inputs)?,
             Measure::EvalSum => fitting(inputs.expressions.eval_sum(inputs.alloc)?),
             Measure::EvalChain => fitting(inputs.expressions.eval_chain(inputs.alloc)?),
+            Measure::InsertRandom => Outcome::Set(edits::inserted(a, &inputs.edits)?),
+            Measure::RemoveRandom => Outcome::Set(edits::removed(a, &inputs.edits)?),
+            Measure::PopFirst => Outcome::Number(edits::popped(a)?),
         })
     }
 }

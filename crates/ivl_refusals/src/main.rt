@@ -6,6 +6,7 @@
 #![tactic(auto)]
 
 mod calls;
+mod edits;
 mod expr;
 mod json;
 mod store;
