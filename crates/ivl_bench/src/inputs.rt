@@ -21,6 +21,8 @@ pub struct Inputs {
     /// The runs of `a`, shuffled the same.
     pub runs: Vec<Interval<i64>>,
     pub probes: Vec<i64>,
+    /// The values of single edits, as many as `a` has runs.
+    pub edits: Vec<i64>,
     pub middle: i64,
     pub left: IntervalSet<i64>,
     pub right: IntervalSet<i64>,
@@ -46,7 +48,20 @@ impl Inputs {
             runs: runs_of(alloc, &pairs)?,
             json: JsonInputs::new(alloc, &pairs, &a)?,
             pairs,
-            probes: probes(alloc, lower.saturating_sub(5), upper.saturating_add(5))?,
+            probes: probes(
+                alloc,
+                1000,
+                5,
+                lower.saturating_sub(5),
+                upper.saturating_add(5),
+            )?,
+            edits: probes(
+                alloc,
+                n,
+                6,
+                lower.saturating_sub(5),
+                upper.saturating_add(5),
+            )?,
             middle: lower.saturating_add(upper) / 2,
             left: set_of(alloc, &apart(alloc, n, 1, n)?)?,
             right: set_of(alloc, &apart(alloc, n, 2, 1)?)?,
@@ -118,15 +133,15 @@ fn shuffle(pairs: &mut [(i64, i64)], seed: u64) {
     }
 }
 
-/// A thousand numbers from `lower` to `upper`.
-fn probes(alloc: Global, lower: i64, upper: i64) -> Result<Vec<i64>> {
+/// Numbers from `lower` to `upper`.
+fn probes(alloc: Global, times: u32, seed: u64, lower: i64, upper: i64) -> Result<Vec<i64>> {
     let count = u32::try_from(upper.saturating_sub(lower).saturating_add(1))
         .ok()
         .context("the probes are too far apart")?
         .max(1);
-    let mut generator = Generator::new(5);
+    let mut generator = Generator::new(seed);
     let mut probes = Vec::new(alloc);
-    for _ in 0..1000 {
+    for _ in 0..times {
         probes.push(lower.saturating_add(i64::from(generator.next() % count)))?;
     }
     Ok(probes)

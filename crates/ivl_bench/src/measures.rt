@@ -1,7 +1,7 @@
 //! The calls that are measured, by their names.
 
 use crate::inputs::{Inputs, of_pairs};
-use crate::json;
+use crate::{edits, json};
 use intervallum::interval::Interval;
 use intervallum::interval_set::IntervalSet;
 use intervallum::ops::{
@@ -51,6 +51,9 @@ pub enum Measure {
     IntersectionValue,
     NextFrom,
     FirstFit,
+    InsertRandom,
+    RemoveRandom,
+    PopFirst,
 }
 
 /// What a call answers.
@@ -82,7 +85,7 @@ impl Outcome {
 }
 
 impl Measure {
-    pub const ALL: [Measure; 33] = [
+    pub const ALL: [Measure; 36] = [
         Measure::BuildExtend,
         Measure::BuildPairs,
         Measure::ExtendOne,
@@ -116,6 +119,9 @@ impl Measure {
         Measure::IntersectionValue,
         Measure::NextFrom,
         Measure::FirstFit,
+        Measure::InsertRandom,
+        Measure::RemoveRandom,
+        Measure::PopFirst,
     ];
 
     pub fn name(self) -> &'static str {
@@ -153,6 +159,9 @@ impl Measure {
             Measure::IntersectionValue => "intersection_value",
             Measure::NextFrom => "next_from",
             Measure::FirstFit => "first_fit",
+            Measure::InsertRandom => "insert_random",
+            Measure::RemoveRandom => "remove_random",
+            Measure::PopFirst => "pop_first",
         }
     }
 
@@ -175,9 +184,11 @@ impl Measure {
     }
 
     /// How many operations one run of the call stands for.
-    pub fn operations(self) -> u64 {
+    pub fn operations(self, inputs: &Inputs) -> u64 {
         match self {
-            Measure::Contains | Measure::NextFrom => 1000,
+            Measure::Contains | Measure::NextFrom => inputs.probes.len() as u64,
+            Measure::InsertRandom | Measure::RemoveRandom => inputs.edits.len() as u64,
+            Measure::PopFirst => inputs.a.size(),
             _ => 1,
         }
     }
@@ -228,6 +239,9 @@ impl Measure {
             Measure::IntersectionValue => Outcome::Set(a.intersection(&inputs.middle)?),
             Measure::NextFrom => Outcome::Number(nexts(a, &inputs.probes)),
             Measure::FirstFit => Outcome::Number(u64::from(a.first_fit(LONGER).is_some())),
+            Measure::InsertRandom => Outcome::Set(edits::inserted(a, &inputs.edits)?),
+            Measure::RemoveRandom => Outcome::Set(edits::removed(a, &inputs.edits)?),
+            Measure::PopFirst => Outcome::Number(edits::popped(a)?),
         })
     }
 }

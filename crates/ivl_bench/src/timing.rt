@@ -48,7 +48,7 @@ fn least_time(
     let mut count = 1;
     let mut time = duration(clock, measure, inputs, count)?;
     if time > limits.once {
-        return Ok(per_operation(time, measure, count));
+        return Ok(per_operation(time, measure, inputs, count));
     }
     for _ in 0..40 {
         if time >= limits.least {
@@ -60,7 +60,7 @@ fn least_time(
     for _ in 0..2 {
         time = time.min(duration(clock, measure, inputs, count)?);
     }
-    Ok(per_operation(time, measure, count))
+    Ok(per_operation(time, measure, inputs, count))
 }
 
 /// How long a number of calls takes.
@@ -92,7 +92,7 @@ fn duration_of_making(
     Ok(time)
 }
 
-fn per_operation(time: Duration, measure: Measure, count: u64) -> u128 {
-    let operations = count.saturating_mul(measure.operations());
+fn per_operation(time: Duration, measure: Measure, inputs: &Inputs, count: u64) -> u128 {
+    let operations = count.saturating_mul(measure.operations(inputs));
     time.as_nanos() / u128::from(operations.max(1))
 }

@@ -87,6 +87,7 @@ pub fn call(alloc: Global, name: &[u8], a: &IntervalSet<i32>, b: &IntervalSet<i3
             .or_else(|| interval_call(alloc, name, a))
             .or_else(|| arithmetic(name, a, b))
             .or_else(|| making(alloc, name))
+            .or_else(|| crate::edits::call(name, a))
             .or_else(|| crate::expr::call(alloc, name, a, b)),
     }
 }

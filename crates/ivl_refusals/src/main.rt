@@ -7,6 +7,7 @@
 
 mod calculator;
 mod calls;
+mod edits;
 mod expr;
 mod json;
 mod store;
