@@ -1,0 +1,174 @@
+//! A set of the numbers from -127 to 127 as a list of flags: what a set of `i8` is compared with.
+
+use intervallum::interval_set::IntervalSet;
+use intervallum::ops::{Bounded, Cardinality, Contains, IsEmpty};
+
+/// How many numbers there are.
+const COUNT: usize = 255;
+
+/// A flag for each number, true for a member.
+pub struct Flags {
+    flags: [bool; COUNT],
+}
+
+fn place(value: i8) -> Option<usize> {
+    usize::try_from(i16::from(value) + 127).ok()
+}
+
+impl Flags {
+    pub fn none() -> Flags {
+        Flags {
+            flags: [false; COUNT],
+        }
+    }
+
+    pub fn has(&self, value: i8) -> bool {
+        match place(value) {
+            Some(place) => self.flags.get(place) == Some(&true),
+            None => false,
+        }
+    }
+
+    /// Makes the number a member or not, and tells whether that changed anything.
+    pub fn put(&mut self, value: i8, is_member: bool) -> bool {
+        let had = self.has(value);
+        if let Some(place) = place(value) {
+            if let Some(flag) = self.flags.get_mut(place) {
+                *flag = is_member;
+            }
+        }
+        had != self.has(value)
+    }
+
+    pub fn put_all(&mut self, lower: i8, upper: i8, is_member: bool) {
+        for value in -127i8..=127 {
+            if lower <= value && value <= upper {
+                self.put(value, is_member);
+            }
+        }
+    }
+
+    /// How many members lie below a number.
+    pub fn rank(&self, value: i8) -> u8 {
+        let mut count: u8 = 0;
+        for other in -127i8..=127 {
+            if other < value && self.has(other) {
+                count = count.saturating_add(1);
+            }
+        }
+        count
+    }
+
+    pub fn size(&self) -> u8 {
+        let mut count: u8 = 0;
+        for value in -127i8..=127 {
+            if self.has(value) {
+                count = count.saturating_add(1);
+            }
+        }
+        count
+    }
+
+    /// The member with so many members below it.
+    pub fn nth(&self, index: u8) -> Option<i8> {
+        let mut below: u8 = 0;
+        for value in -127i8..=127 {
+            if self.has(value) {
+                if below == index {
+                    return Some(value);
+                }
+                below = below.saturating_add(1);
+            }
+        }
+        None
+    }
+
+    pub fn next_from(&self, value: i8) -> Option<i8> {
+        (-127i8..=127).find(|&other| value <= other && self.has(other))
+    }
+
+    pub fn previous_to(&self, value: i8) -> Option<i8> {
+        let mut last = None;
+        for other in -127i8..=127 {
+            if other <= value && self.has(other) {
+                last = Some(other);
+            }
+        }
+        last
+    }
+
+    /// The ends of the run that holds a number.
+    pub fn run_at(&self, value: i8) -> Option<(i8, i8)> {
+        let mut run: Option<(i8, i8)> = None;
+        for other in -127i8..=127 {
+            if self.has(other) {
+                run = Some(match run {
+                    Some((lower, _)) => (lower, other),
+                    None => (other, other),
+                });
+            } else if value < other {
+                break;
+            } else {
+                run = None;
+            }
+        }
+        run.filter(|ends| ends.0 <= value && value <= ends.1)
+    }
+
+    /// The lowest run of so many members from a number up.
+    pub fn first_fit_from(&self, value: i8, count: u8) -> Option<(i8, i8)> {
+        let mut lower = None;
+        let mut length: u8 = 0;
+        for other in -127i8..=127 {
+            if value <= other && self.has(other) {
+                let first = lower.unwrap_or(other);
+                lower = Some(first);
+                length = length.saturating_add(1);
+                if length == count {
+                    return Some((first, other));
+                }
+            } else {
+                lower = None;
+                length = 0;
+            }
+        }
+        None
+    }
+
+    /// How many numbers of an interval are no members.
+    pub fn gaps_within(&self, lower: i8, upper: i8) -> u8 {
+        let mut count: u8 = 0;
+        for value in -127i8..=127 {
+            if lower <= value && value <= upper && !self.has(value) {
+                count = count.saturating_add(1);
+            }
+        }
+        count
+    }
+
+    /// How many runs the members make.
+    fn runs(&self) -> usize {
+        let mut count: usize = 0;
+        let mut was_member = false;
+        for value in -127i8..=127 {
+            let is_member = self.has(value);
+            if is_member && !was_member {
+                count = count.saturating_add(1);
+            }
+            was_member = is_member;
+        }
+        count
+    }
+
+    /// Whether the set has these members, so many of them, and in as few runs.
+    pub fn agree(&self, set: &IntervalSet<i8>) -> bool {
+        for value in -127i8..=127 {
+            if set.contains(&value) != self.has(value) {
+                return false;
+            }
+        }
+        set.size() == self.size()
+            && set.interval_count() == self.runs()
+            && (set.is_empty() || Some(set.lower()) == self.nth(0))
+    }
+}
