@@ -4,7 +4,6 @@ use Rattle.std.specs.Prelude.{ℤ, pos, ◌-ℤ◌, Some, None}
 use Rattle.std.proofs.lemmas.Int.{ints}
 use Rattle.ivl_laws.specs.Families.{set_at}
 use Rattle.ivl_store.specs.declared.store.constraint.Constraint.{Constraint}
-use Rattle.ivl_store.specs.declared.store.post.Post.{Post}
 use Rattle.ivl_store.specs.declared.store.post.Post.TheVariants.{Restrict, Require}
 use Rattle.ivl_store.specs.Solutions.{AreDistinct, Names, IsSolution, LostMember}
 use Rattle.ivl_store.specs.Narrowing.{Narrowed, first_unknown, first_unknown_of}

@@ -1,9 +1,8 @@
 -- What is left of a set where only some members are kept.
-use Rattle.std.proofs.Common.{◌≡◌, ◌↔◌, ◌⊎◌, inl, inr, refl, sym, ap, subst, arith, ◌∙◌, List, [], ◌∷◌, length, get_or}
+use Rattle.std.proofs.Common.{◌≡◌, ◌↔◌, inl, inr, refl, sym, ap, subst, arith, ◌∙◌, List, [], ◌∷◌, length, get_or}
 use Rattle.std.specs.Prelude.{ℤ, ◌≤ℤ◌, Option, Some, None}
-use Rattle.ivl_laws.specs.Sets.{IsBetween, IsSubset, SameMembers, HasNone, Intersection, Sums, Differences}
+use Rattle.ivl_laws.specs.Sets.{IsBetween, IsSubset, SameMembers, HasNone, Intersection}
 use Rattle.ivl_laws.specs.Runs.{Covers, IsRunListIn, IsRunsOf}
-use Rattle.ivl_laws.specs.Arithmetic.{interval_sum, interval_difference}
 use Rattle.ivl_laws.proofs.Products.{sums_of_intervals, differences_of_intervals}
 use Rattle.ivl_laws.proofs.SetLaws.{sums_are_monotone, differences_are_monotone}
 use Rattle.ivl_within.specs.declared.within.Combined.{Combined}

@@ -1,3 +1,6 @@
+mod ExamplesFamilies
+mod ExamplesPosts
+mod ExamplesRounds
 mod ExamplesStore
 pub mod Counting
 pub mod Families

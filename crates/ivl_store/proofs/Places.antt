@@ -1,5 +1,5 @@
 -- The lists of sets after a narrowing.
-use Rattle.std.proofs.Common.{◌≡◌, ◌≢◌, ◌↔◌, ℕ, ◌<◌, ◌⊎◌, inl, inr, refl, sym, ap, subst, arith, cond, leb, ◌∙◌, List, [], ◌∷◌, length, get_or, set, Bool, true, false}
+use Rattle.std.proofs.Common.{◌≡◌, ◌≢◌, ◌↔◌, ℕ, ◌<◌, ◌⊎◌, inl, inr, refl, sym, ap, subst, arith, cond, leb, ◌∙◌, List, [], ◌∷◌, length, get_or, Bool, true, false}
 use Rattle.std.specs.Prelude.{ℤ, ◌||◌, Option, Some, None, All, is_some}
 use Rattle.std.specs.Option.{option_or}
 use Rattle.std.proofs.lemmas.List.{get_or-set_same, get_or-set_other, length-set}
@@ -17,7 +17,7 @@ use Rattle.ivl_store.specs.declared.store.marks.Lost.{Lost}
 use Rattle.ivl_store.specs.Solutions.{AreDistinct, Names, HasSolutionAt, IsSolution, Supports, LiesWithin, LostMember}
 use Rattle.ivl_store.specs.Narrowing.{Narrowed, AllPresent, first_unknown, first_unknown_of}
 use Rattle.ivl_store.specs.Keeping.{IsLeftOf, AreLeftAt, replaced}
-use Rattle.ivl_store.specs.Settled.{any_lost, AreLost}
+use Rattle.ivl_store.specs.Settled.{AreLost}
 use Rattle.ivl_store.proofs.Families.{narrowing_keeps, narrowed_has_solution, has_solution_narrowed}
 
 -- ---- what is left of one set

@@ -1,10 +1,10 @@
 -- Sets that lose a member have fewer together.
-use Rattle.std.proofs.Common.{◌≡◌, ◌↔◌, ℕ, zero, suc, ◌≤◌, ◌<◌, ◌⊎◌, inl, inr, subst, arith, Bool, true, List, [], ◌∷◌, length}
+use Rattle.std.proofs.Common.{◌≡◌, ◌↔◌, ℕ, zero, suc, ◌≤◌, ◌<◌, ◌⊎◌, inl, inr, arith, Bool, true, List, [], ◌∷◌, length}
 use Rattle.std.specs.Prelude.{ℤ, pos, ◌+ℤ◌, ◌≤ℤ◌, ◌<ℤ◌, All}
 use Rattle.std.proofs.lemmas.Int.{ints}
 use Rattle.ivl_laws.specs.Sets.{IsBetween}
 use Rattle.ivl_laws.specs.Bounds.{width_of}
-use Rattle.ivl_laws.specs.Runs.{Covers, IsRunListIn}
+use Rattle.ivl_laws.specs.Runs.{IsRunListIn}
 use Rattle.ivl_laws.specs.Families.{set_at}
 use Rattle.ivl_laws.proofs.Intervals.{width_of-filled}
 use Rattle.ivl_store.specs.declared.store.constraint.Constraint.{Constraint}

@@ -1,10 +1,7 @@
-use Rattle.std.proofs.Common.{◌≡◌, ◌∙◌, subst, sym, ap}
-use Rattle.std.specs.Prelude.{ℤ, All}
+use Rattle.std.proofs.Common.{◌≡◌, ◌∙◌, subst, ap}
+use Rattle.std.specs.Prelude.{All}
 use Rattle.ivl_laws.specs.Runs.{IsRunListIn}
-use Rattle.ivl_laws.specs.Families.{set_at}
 use Rattle.ivl_store.specs.Keeping.{AreLeftAt, replaced}
-use Rattle.ivl_store.specs.Narrowing.{Narrowed}
-use Rattle.ivl_store.specs.Settled.{AreLost}
 use Rattle.ivl_store.proofs.Places.{after, narrowed_after, lost_after}
 use Rattle.ivl_store.proofs.store.Store.narrow_known.Goals as goal
 
