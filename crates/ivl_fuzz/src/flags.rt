@@ -7,6 +7,7 @@ use intervallum::ops::{Bounded, Cardinality, Contains, IsEmpty};
 const COUNT: usize = 255;
 
 /// A flag for each number, true for a member.
+#[derive(Drop)]
 pub struct Flags {
     flags: [bool; COUNT],
 }

@@ -11,9 +11,10 @@ use intervallum::ops::{Bounded, Cardinality, Contains, IsEmpty, Range};
 use std::alloc::AllocError;
 use std::io;
 
-const STEPS: u32 = 1_000;
+const STEPS: u32 = 100_000;
 
 /// Random numbers, by a linear congruential generator.
+#[derive(Drop)]
 struct Generator {
     state: u64,
 }
@@ -24,7 +25,11 @@ impl Generator {
             .state
             .wrapping_mul(6_364_136_223_846_793_005)
             .wrapping_add(1_442_695_040_888_963_407);
-        (self.state >> 40) as u8
+        (self.state >> 56) as u8
+    }
+
+    fn next_value(&mut self) -> i8 {
+        i8::try_from(i16::from(self.next()) - 128).unwrap_or(0)
     }
 }
 
@@ -35,7 +40,7 @@ fn main(rt: HostRuntime) -> io::Result<()> {
     let mut agreeing: u32 = 0;
     for step in 0..STEPS {
         let kind = generator.next() % 16;
-        let value = generator.next() as i8;
+        let value = generator.next_value();
         let length = generator.next() % 12;
         let right = if kind < 7 {
             edit(&mut set, &mut flags, kind, value, length) == Ok(true) && flags.agree(&set)
@@ -61,7 +66,7 @@ fn edit(
     length: u8,
 ) -> Result<bool, AllocError> {
     // crossed where it is 0 or 1
-    let upper = value.saturating_add(length as i8).saturating_sub(2);
+    let upper = after(value, length).saturating_sub(2);
     match kind {
         0 if Interval::in_range(value, value) => Ok(set.insert(value)? == flags.put(value, true)),
         1 => Ok(set.remove(value)? == flags.put(value, false)),
@@ -86,6 +91,11 @@ fn edit(
     }
 }
 
+/// The number that lies so far after another, or the greatest.
+fn after(value: i8, length: u8) -> i8 {
+    value.saturating_add(i8::try_from(length).unwrap_or(0))
+}
+
 /// Takes the member that was popped from the flags too, and tells whether it is the right one.
 fn pop(popped: Option<i8>, expected: Option<i8>, flags: &mut Flags) -> bool {
     if let Some(value) = popped {
@@ -107,13 +117,18 @@ fn question(
         7 => Ok(set.next_from(value) == flags.next_from(value)),
         8 => Ok(set.previous_to(value) == flags.previous_to(value)),
         9 => Ok(set.run_at(value).map(ends) == flags.run_at(value).map(Some)),
-        10 if count > 0 => Ok(set.first_fit(count).map(ends) == flags.first_fit_from(-127, count).map(Some)),
+        10 if count > 0 => Ok(
+            set.first_fit(count).map(ends) == flags.first_fit_from(-127, count).map(Some),
+        ),
         11 if count > 0 => {
-            Ok(set.first_fit_from(value, count).map(ends) == flags.first_fit_from(value, count).map(Some))
+            Ok(
+                set.first_fit_from(value, count).map(ends)
+                    == flags.first_fit_from(value, count).map(Some),
+            )
         }
         12 => Ok(set.rank(value) == flags.rank(value)),
         13 => Ok(set.nth(length) == flags.nth(length)),
-        14 => gaps_agree(set, flags, value, value.saturating_add(length as i8)),
+        14 => gaps_agree(set, flags, value, after(value, length)),
         _ => Ok(set.contains(&value) == flags.has(value)),
     }
 }

@@ -88,7 +88,11 @@ fn is_new(alloc: Global) -> Result<bool, AllocError> {
 /// trace, and the others did what they do without it.
 fn is_run_right(alloc: Global) -> Result<bool, AllocError> {
     let mut calc = loaded(alloc)?;
-    let commands = vec![in alloc; Command::Plus(2, 0, 1), Command::Union(0, 0, 1), Command::Size(2)]?;
+    let commands = vec![in alloc;
+        Command::Plus(2, 0, 1),
+        Command::Union(0, 0, 1),
+        Command::Size(2),
+    ]?;
     let Ok(replies) = calc.run(&commands) else {
         return if has_registers(&calc, &FIRST, &SECOND, &[]) {
             Err(AllocError)
@@ -96,7 +100,8 @@ fn is_run_right(alloc: Global) -> Result<bool, AllocError> {
             Ok(false)
         };
     };
-    let (Some(plus), Some(union), Some(size)) = (replies.first(), replies.get(1), replies.get(2)) else {
+    let (Some(plus), Some(union), Some(size)) = (replies.first(), replies.get(1), replies.get(2))
+    else {
         return Ok(false);
     };
     let is_added = *plus == Reply::Cut(false);

@@ -48,9 +48,9 @@ fn tried(alloc: Global, name: &[u8]) -> Result<&'static str, AllocError> {
     }
     let a = FIRST.to_interval_set(alloc)?;
     let b = SECOND.to_interval_set(alloc)?;
-    if let Some(is_right) = json::call(alloc, name, &a)
-        .or_else(|| calculator::call(alloc, name, &a, &b))
-    {
+    if let Some(is_right) = json::call(alloc, name, &a).or_else(|| calculator::call(
+        alloc, name, &a, &b,
+    )) {
         return Ok(match is_right {
             _ if !has_runs(&a, &FIRST) || !has_runs(&b, &SECOND) => "changed an operand",
             Ok(true) => "answered",
