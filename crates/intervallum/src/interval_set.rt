@@ -69,8 +69,6 @@ impl<B: Width> IntervalSet<B> {
     /// ```
     /// assert!(rt; IntervalSet::<i32>::empty(alloc).is_empty());
     /// ```
-    ///
-    /// In the original this is a call of a trait, and takes no allocator.
     pub fn empty(alloc: Global) -> Self
         ensures { result ≡ [] }
     {
@@ -87,9 +85,6 @@ impl<B: Width> IntervalSet<B> {
     /// let a = IntervalSet::new(alloc, 1, 2)?;
     /// assert!(rt; a.contains(&1) && a.contains(&2) && !a.contains(&3));
     /// ```
-    ///
-    /// In the original this is a call of a trait, the conditions stand in no signature, and there
-    /// is no error for want of memory.
     pub fn new(alloc: Global, lb: B, ub: B) -> Result<Self, AllocError>
         requires in_range { IsInRange B.whole (B.value lb, B.value ub) }
         requires in_order { B.value lb ≤ℤ B.value ub }

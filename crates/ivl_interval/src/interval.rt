@@ -23,9 +23,6 @@ mod values;
 /// steps. All intervals with no member are equal, whatever bounds they store. A contract sees the
 /// pair of the numbers of the bounds.
 ///
-/// The original has any type as its bounds, and asks for more of it at each call; here it is a
-/// `Width` throughout.
-///
 /// ```
 /// let (a, b) = (Interval::new(1i32, 5), Interval::new(4, 9));
 /// assert_eq!(rt; a.intersection(&b), Interval::new(4, 5));

@@ -10,9 +10,6 @@
 //! The calls of intervals take a few steps and no memory, and have no error. Those of sets say what
 //! they cost; where one makes a set its answer is a `Result`, whose only error is memory that was
 //! refused.
-//!
-//! In the original the other operand is of the type `Self` where none is written; here its type is
-//! written at each use, as `Union<IntervalSet<B>>`.
 ghost use Rattle.std.specs.Prelude.{◌≡◌, ◌↔◌, ◌≤ℤ◌, ℕ, ℤ, IsTrue};
 ghost use Rattle.ivl_laws.specs.Sets.{Above, AtLeast, AtMost, Below, Complement, Differences, ExactProducts, HasNone, HasSome, Intersection, IsBetween, IsInRange, IsProperSubset, IsSubset, Only, SameMembers, Sums, SymmetricDifference, Union, Without};
 ghost use Rattle.ivl_laws.specs.Counts.{IsCountOf};
@@ -165,8 +162,6 @@ pub trait Cardinality {
 
 /// Whether a set has no member.
 ///
-/// The original takes it from another crate.
-///
 /// ```
 /// assert!(rt; Interval::new(8i32, 3).is_empty());
 /// ```
@@ -180,8 +175,6 @@ pub trait IsEmpty {
 }
 
 /// Whether a set has exactly one member.
-///
-/// The original takes it from another crate.
 ///
 /// ```
 /// assert!(rt; Interval::new(5i32, 5).is_singleton());
@@ -383,8 +376,6 @@ pub trait Hull<R> {
 
 /// The numbers of the range that are no members.
 ///
-/// The original answers `Self` in place of an `Output`.
-///
 /// ```
 /// let a = IntervalSet::new(alloc, 1u8, 254)?;
 /// let rest = a.complement()?;
@@ -406,8 +397,6 @@ pub trait Complement {
 
 /// A set cut from the left.
 ///
-/// The original answers `Self` in place of an `Output`.
-///
 /// ```
 /// let a = Interval::new(1i32, 9);
 /// assert_eq!(rt; a.shrink_left(4), Interval::new(4, 9));
@@ -423,8 +412,6 @@ pub trait ShrinkLeft: Collection {
 }
 
 /// A set cut from the right.
-///
-/// The original answers `Self` in place of an `Output`.
 ///
 /// ```
 /// let a = Interval::new(1i32, 9);
@@ -442,8 +429,6 @@ pub trait ShrinkRight: Collection {
 
 /// A set cut from the left, with the item itself.
 ///
-/// The original takes it from another crate, and answers `Self` in place of an `Output`.
-///
 /// ```
 /// let a = Interval::new(1i32, 9);
 /// assert_eq!(rt; a.strict_shrink_left(4), Interval::new(5, 9));
@@ -460,8 +445,6 @@ pub trait StrictShrinkLeft: Collection {
 
 /// A set cut from the right, with the item itself.
 ///
-/// The original takes it from another crate, and answers `Self` in place of an `Output`.
-///
 /// ```
 /// let a = Interval::new(1i32, 9);
 /// assert_eq!(rt; a.strict_shrink_right(4), Interval::new(1, 3));
@@ -477,8 +460,6 @@ pub trait StrictShrinkRight: Collection {
 }
 
 /// What two pieces of information say together: the common members.
-///
-/// The original answers `Self` in place of an `Output`.
 ///
 /// ```
 /// let (a, b) = (Interval::new(1i32, 5), Interval::new(4, 9));
@@ -497,8 +478,6 @@ pub trait Join: Sized {
 }
 
 /// What two pieces of information agree on: what holds the members of either.
-///
-/// The original answers `Self` in place of an `Output`.
 ///
 /// ```
 /// let (a, b) = (Interval::new(1i32, 5), Interval::new(4, 9));
@@ -553,8 +532,6 @@ pub trait ToInterval<B: Width> {
 }
 
 /// Whether the results of arithmetic are in the range.
-///
-/// The original has no such calls.
 ///
 /// ```
 /// let (a, b) = (Interval::new(1i32, 2), Interval::new(10, 20));

@@ -9,8 +9,6 @@ use std::marker::Model;
 /// It stands for a set of at most one member, and is `Copy` where its value is. No call takes
 /// memory.
 ///
-/// The original takes it from another crate.
-///
 /// ```
 /// let (none, some) = (Optional::empty(), Optional::singleton(5i32));
 /// assert!(rt; none != some);

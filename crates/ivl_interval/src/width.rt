@@ -111,11 +111,6 @@ pub trait SizeNumber: Ord + Copy {
 /// | `u8`, `u16`, `u32`, `u64`, `usize` | 0 | the greatest value less 1 | the type itself |
 /// | `i8`, `i16`, `i32`, `i64`, `isize` | the least value plus 1 | the greatest value | the unsigned type of its width |
 ///
-/// The original has this trait in its `ops`, and asks for the arithmetic of its `Num`; here the
-/// numbers stand in its place. `usize` and `isize` have 64 bits here; the original takes the width
-/// of the machine. Where a type has an inherent call of the same name, write the trait's as
-/// `<B as Width>::min_value()`. No call takes memory.
-///
 /// ```
 /// assert_eq!(rt; <u8 as Width>::max_value(), 254);
 /// assert_eq!(rt; <i8 as Width>::min_value(), -127);
@@ -170,8 +165,6 @@ pub trait Width: Ord + Copy {
     /// How many numbers lie from `lower` to `upper`, both included. Condition: both are in the
     /// range, and `lower` is at most `upper`, which `Interval::in_range(*lower, *upper)` and
     /// `lower <= upper` test.
-    ///
-    /// In the original the condition stands in no signature.
     ///
     /// ```
     /// assert_eq!(rt; <i8 as Width>::width(&-127, &127), 255u8);

@@ -34,7 +34,7 @@ pub enum Combined {
 ///
 /// # Errors
 ///
-/// `AllocError` where that memory is refused, which is asked for before anything is made.
+/// `AllocError` if allocation fails. Room for all pairs of runs is reserved first, that of the answer after it.
 ///
 /// ```
 /// // `whole` is the set of all numbers of the range of `i8`
@@ -59,7 +59,7 @@ pub fn add_within<B: Width>(
 ///
 /// # Errors
 ///
-/// `AllocError` where that memory is refused, which is asked for before anything is made.
+/// `AllocError` if allocation fails. Room for all pairs of runs is reserved first, that of the answer after it.
 ///
 /// ```
 /// // `none` is the empty set of `i8`, and `whole` that of all numbers of its range

@@ -30,8 +30,6 @@ impl<B: Width> Union<IntervalSet<B>> for IntervalSet<B> {
     /// let (a, b) = (IntervalSet::new(alloc, 1, 5)?, IntervalSet::new(alloc, 4, 9)?);
     /// assert!(rt; a.union(&b)? == IntervalSet::new(alloc, 1, 9)?);
     /// ```
-    ///
-    /// The original answers a plain set, and has no error for want of memory.
     fn union(&self, other: &IntervalSet<B>) -> Result<IntervalSet<B>, AllocError>
         ensures members { IfOk result (λ L. IsRunsOf L (Union (Covers self.now) (Covers other.now))) }
         ensures runs_at_most { IfOk result (λ L. length L ≤ length self.now + length other.now) }
@@ -57,8 +55,6 @@ impl<B: Width> Intersection<IntervalSet<B>> for IntervalSet<B> {
     /// let (a, b) = (IntervalSet::new(alloc, 1, 5)?, IntervalSet::new(alloc, 4, 9)?);
     /// assert!(rt; a.intersection(&b)? == IntervalSet::new(alloc, 4, 5)?);
     /// ```
-    ///
-    /// The original answers a plain set, and has no error for want of memory.
     fn intersection(&self, other: &IntervalSet<B>) -> Result<IntervalSet<B>, AllocError>
         ensures members { IfOk result (λ L. IsRunsOf L (Intersection (Covers self.now) (Covers other.now))) }
         ensures runs_at_most { IfOk result (λ L. length L ≤ length self.now + length other.now) }
@@ -142,8 +138,6 @@ impl<B: Width> Complement for IntervalSet<B> {
     /// let a = IntervalSet::new(alloc, 10u8, 254)?;
     /// assert!(rt; a.complement()? == IntervalSet::new(alloc, 0, 9)?);
     /// ```
-    ///
-    /// The original answers a plain set, and has no error for want of memory.
     fn complement(&self) -> Result<IntervalSet<B>, AllocError>
         ensures members { IfOk result (λ L. IsRunsOf L (Complement B.whole (Covers self.now))) }
         ensures runs_at_most { IfOk result (λ L. length L ≤ length self.now + 1) }

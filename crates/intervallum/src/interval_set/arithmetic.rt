@@ -7,8 +7,6 @@
 //!
 //! Sums and differences are those of a member of each. A product set holds, for each pair of runs, all
 //! numbers from the least to the greatest product of the two: `{[1..2]} * {[10..10]}` is `{[10..20]}`.
-//!
-//! The original can't be asked beforehand whether a result fits, and has no error for want of memory.
 ghost use Rattle.std.specs.Prelude.{◌≤◌, IfOk, length};
 ghost use Rattle.ivl_laws.specs.Sets.{Differences, ExactProducts, IsBetween, IsSubset, Only, Products, Sums};
 ghost use Rattle.ivl_laws.specs.Runs.{Covers, IsRunsOf};
@@ -36,9 +34,6 @@ impl<B: Width> Add<IntervalSet<B>> for IntervalSet<B> {
     /// assert!(rt; a.fits_add(&b), "the sums fit");
     /// assert!(rt; (a + b)? == IntervalSet::new(alloc, 11, 22)?);
     /// ```
-    ///
-    /// The original answers a plain set, has no error for want of memory, and cannot be asked
-    /// whether the sums fit.
     fn add(self, rhs: IntervalSet<B>) -> Result<IntervalSet<B>, AllocError> {
         combine(&self, &rhs, Op::Sum)
     }
@@ -109,9 +104,6 @@ impl<B: Width> Add<B> for IntervalSet<B> {
     /// assert!(rt; a.fits_add(&10), "the sums fit");
     /// assert!(rt; (a + 10)? == IntervalSet::new(alloc, 11, 12)?);
     /// ```
-    ///
-    /// The original answers a plain set, has no error for want of memory, and cannot be asked
-    /// whether the sums fit.
     fn add(self, rhs: B) -> Result<IntervalSet<B>, AllocError>
         requires { IsSubset (Sums (Covers self) (Only (B.value rhs))) (IsBetween B.whole) }
         ensures members { IfOk result (λ L. IsRunsOf L (Sums (Covers self) (Only (B.value rhs)))) }
@@ -201,9 +193,6 @@ impl<B: Width> Sub<IntervalSet<B>> for IntervalSet<B> {
     /// assert!(rt; a.fits_sub(&b), "the differences fit");
     /// assert!(rt; (a - b)? == IntervalSet::new(alloc, -19, -8)?);
     /// ```
-    ///
-    /// The original answers a plain set, has no error for want of memory, and cannot be asked
-    /// whether the differences fit.
     fn sub(self, rhs: IntervalSet<B>) -> Result<IntervalSet<B>, AllocError> {
         combine(&self, &rhs, Op::Difference)
     }
@@ -277,9 +266,6 @@ impl<B: Width> Sub<B> for IntervalSet<B> {
     /// assert!(rt; a.fits_sub(&10), "the differences fit");
     /// assert!(rt; (a - 10)? == IntervalSet::new(alloc, -9, -8)?);
     /// ```
-    ///
-    /// The original answers a plain set, has no error for want of memory, and cannot be asked
-    /// whether the differences fit.
     fn sub(self, rhs: B) -> Result<IntervalSet<B>, AllocError>
         requires { IsSubset (Differences (Covers self) (Only (B.value rhs))) (IsBetween B.whole) }
         ensures members { IfOk result (λ L. IsRunsOf L (Differences (Covers self) (Only (B.value rhs)))) }
@@ -369,9 +355,6 @@ impl<B: Width> Mul<IntervalSet<B>> for IntervalSet<B> {
     /// assert!(rt; a.fits_mul(&b), "the products fit");
     /// assert!(rt; (a * b)? == IntervalSet::new(alloc, 10, 20)?);
     /// ```
-    ///
-    /// The original answers a plain set, has no error for want of memory, and cannot be asked
-    /// whether the products fit.
     fn mul(self, rhs: IntervalSet<B>) -> Result<IntervalSet<B>, AllocError> {
         combine(&self, &rhs, Op::Product)
     }
@@ -446,9 +429,8 @@ impl<B: Width> Mul<B> for IntervalSet<B> {
     /// assert!(rt; (a * -3)? == IntervalSet::new(alloc, -6, -3)?);
     /// ```
     ///
-    /// The original answers a plain set, has no error for want of memory, and cannot be asked
-    /// whether the products fit. There, an interval times a negative value has crossed bounds; here
-    /// the runs stay ascending.
+    /// In the original an interval times a negative value has crossed bounds; here the runs stay
+    /// ascending.
     fn mul(self, rhs: B) -> Result<IntervalSet<B>, AllocError>
         requires { IsSubset (ExactProducts (Covers self) (Only (B.value rhs))) (IsBetween B.whole) }
         ensures members { IfOk result (λ L. IsRunsOf L (Products (Covers self) (Only (B.value rhs)))) }

@@ -16,9 +16,6 @@ impl<B: Width> IntervalSet<B> {
     /// let five = IntervalSet::singleton(alloc, 5)?;
     /// assert!(rt; five == IntervalSet::new(alloc, 5, 5)?);
     /// ```
-    ///
-    /// In the original this is a call of a trait, the condition stands in no signature, and there
-    /// is no error for want of memory.
     pub fn singleton(alloc: Global, x: B) -> Result<Self, AllocError>
         requires { IsBetween B.whole (B.value x) }
         ensures { IfOk result (λ L. L ≡ (B.value x, B.value x) ∷ []) }
@@ -33,8 +30,6 @@ impl<B: Width> IntervalSet<B> {
     /// let bytes = IntervalSet::<u8>::whole(alloc)?;
     /// assert!(rt; bytes.contains(&0) && bytes.contains(&254) && !bytes.contains(&255));
     /// ```
-    ///
-    /// In the original this is a call of a trait, and has no error for want of memory.
     pub fn whole(alloc: Global) -> Result<Self, AllocError>
         ensures { IfOk result (λ L. L ≡ B.whole ∷ []) }
     {
@@ -47,8 +42,6 @@ impl<B: Width> IntervalSet<B> {
     /// ```
     /// assert!(rt; IntervalSet::<u8>::bot(alloc)? == IntervalSet::whole(alloc)?);
     /// ```
-    ///
-    /// In the original this is a call of a trait, and has no error for want of memory.
     pub fn bot(alloc: Global) -> Result<Self, AllocError>
         ensures { IfOk result (λ L. L ≡ B.whole ∷ []) }
     {
@@ -60,8 +53,6 @@ impl<B: Width> IntervalSet<B> {
     /// ```
     /// assert!(rt; IntervalSet::<u8>::top(alloc).is_empty());
     /// ```
-    ///
-    /// In the original this is a call of a trait, and takes no allocator.
     pub fn top(alloc: Global) -> Self
         ensures { result ≡ [] }
     {
@@ -77,8 +68,6 @@ impl<B: Width> Bounded for IntervalSet<B> {
     /// let a: IntervalSet<i32> = [(1, 2), (5, 6)].to_interval_set(alloc)?;
     /// assert!(rt; !a.is_empty() && a.lower() == 1);
     /// ```
-    ///
-    /// In the original the condition stands in no signature.
     fn lower(&self) -> B
         requires { HasSome (Covers self.now) }
         ensures member { Covers self.now (B.value result) }
@@ -96,8 +85,6 @@ impl<B: Width> Bounded for IntervalSet<B> {
     /// let a: IntervalSet<i32> = [(1, 2), (5, 6)].to_interval_set(alloc)?;
     /// assert!(rt; !a.is_empty() && a.upper() == 6);
     /// ```
-    ///
-    /// In the original the condition stands in no signature.
     fn upper(&self) -> B
         requires { HasSome (Covers self.now) }
         ensures member { Covers self.now (B.value result) }

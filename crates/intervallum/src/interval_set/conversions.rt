@@ -20,9 +20,6 @@ use std::vec;
 /// let mut runs = IntervalSet::new(alloc, 1, 2)?.into_iter();
 /// assert!(rt; runs.next() == Some(Interval::new(1, 2)) && runs.next().is_none());
 /// ```
-///
-/// In the original it is `vec::IntoIter`; this one has no `ExactSizeIterator`, `Clone` or
-/// `as_slice`.
 #[derive(Drop)]
 pub struct IntoRuns<B: Width> {
     runs: vec::IntoIter<Interval<B>>,
@@ -95,8 +92,6 @@ impl<B: Width> IntoIterator for IntervalSet<B> {
     ///     assert_eq!(rt; run.size(), 2u32);
     /// }
     /// ```
-    ///
-    /// The original gives `vec::IntoIter`.
     fn into_iter(self) -> IntoRuns<B> {
         IntoRuns::new(self.into_runs())
     }
@@ -139,9 +134,6 @@ impl<B: Width> IntervalSet<B> {
     /// a.extend([Interval::new(7, 9), Interval::new(3, 4)].iter().copied())?;
     /// assert!(rt; a == [(1, 4), (7, 9)].to_interval_set(alloc)?);
     /// ```
-    ///
-    /// The original takes any `IntoIterator`, is not meant for an interval with no member, and
-    /// cannot tell want of memory.
     pub fn extend<I: Iterator<Item = Interval<B>> + Drop>(
         &mut self,
         iterator: I,
@@ -198,8 +190,6 @@ pub trait ToIntervalSet<B: Width> {
     /// let a: IntervalSet<i32> = [(3, 8), (2, 5), (9, 4)].to_interval_set(alloc)?;
     /// assert!(rt; a == IntervalSet::new(alloc, 2, 8)?);
     /// ```
-    ///
-    /// The original is not meant for a crossed pair, and has no error for want of memory.
     fn to_interval_set(self, alloc: Global) -> Result<IntervalSet<B>, AllocError>
         requires { can_convert self }
         ensures { IfOk result (λ L. IsRunsOf L (Covers (pairs self))) };

@@ -13,8 +13,6 @@ impl<B: Width> IntervalSet<B> {
     /// let a = IntervalSet::new(alloc, 1, 2)?;
     /// assert!(rt; a.try_clone()? == a);
     /// ```
-    ///
-    /// The original derives `Clone`, which has no error for want of memory.
     pub fn try_clone(&self) -> Result<Self, AllocError>
         ensures { IfOk result (λ L. L ≡ self.now) }
     {

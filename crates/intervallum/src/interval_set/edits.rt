@@ -34,8 +34,6 @@ impl<B: Width> IntervalSet<B> {
     /// assert!(rt; a.insert(3)? && !a.insert(3)?);
     /// assert!(rt; a == IntervalSet::new(alloc, 1, 5)?);
     /// ```
-    ///
-    /// The original has no such call.
     pub fn insert(&mut self, value: B) -> Result<bool, AllocError>
         requires { IsBetween B.whole (B.value value) }
         ensures members { OnOk result (IsRunsOf self.new (Union (Covers self.old) (Only (B.value value)))) }
@@ -66,8 +64,6 @@ impl<B: Width> IntervalSet<B> {
     /// assert!(rt; a.remove(3)? && !a.remove(3)?);
     /// assert!(rt; a == [(1, 2), (4, 5)].to_interval_set(alloc)?);
     /// ```
-    ///
-    /// The original has no such call.
     pub fn remove(&mut self, value: B) -> Result<bool, AllocError>
         ensures members { OnOk result (IsRunsOf self.new (Without (Covers self.old) (Only (B.value value)))) }
         ensures was_member { IfOk result (λ was_member. IsTrue was_member ↔ Covers self.old (B.value value)) }
@@ -97,8 +93,6 @@ impl<B: Width> IntervalSet<B> {
     /// a.insert_interval(Interval::new(3, 8))?;
     /// assert!(rt; a == [(1, 8), (10, 12)].to_interval_set(alloc)?);
     /// ```
-    ///
-    /// The original has no such call.
     pub fn insert_interval(&mut self, interval: Interval<B>) -> Result<(), AllocError>
         ensures ok { OnOk result (IsRunsOf self.new (Union (Covers self.old) (IsBetween interval))) }
         ensures err { OnErr result (self.new ≡ self.old) }
@@ -128,8 +122,6 @@ impl<B: Width> IntervalSet<B> {
     /// a.remove_interval(Interval::new(3, 10))?;
     /// assert!(rt; a == [(1, 2), (11, 12)].to_interval_set(alloc)?);
     /// ```
-    ///
-    /// The original has no such call.
     pub fn remove_interval(&mut self, interval: Interval<B>) -> Result<(), AllocError>
         ensures ok { OnOk result (IsRunsOf self.new (Without (Covers self.old) (IsBetween interval))) }
         ensures err { OnErr result (self.new ≡ self.old) }
@@ -153,8 +145,6 @@ impl<B: Width> IntervalSet<B> {
     /// a.clear();
     /// assert!(rt; a.is_empty());
     /// ```
-    ///
-    /// The original has no such call.
     pub fn clear(&mut self)
         ensures { self.new ≡ [] }
     {
@@ -170,8 +160,6 @@ impl<B: Width> IntervalSet<B> {
     /// assert_eq!(rt; a.pop_first(), Some(1));
     /// assert!(rt; a == [(2, 2), (5, 6)].to_interval_set(alloc)?);
     /// ```
-    ///
-    /// The original has no such call.
     pub fn pop_first(&mut self) -> Option<B>
         ensures none { IfNone result ((self.old ≡ []) × (self.new ≡ [])) }
         ensures member { IfSome result (λ v. Covers self.old (B.value v)) }
@@ -196,8 +184,6 @@ impl<B: Width> IntervalSet<B> {
     /// assert_eq!(rt; a.pop_last(), Some(6));
     /// assert!(rt; a == [(1, 2), (5, 5)].to_interval_set(alloc)?);
     /// ```
-    ///
-    /// The original has no such call.
     pub fn pop_last(&mut self) -> Option<B>
         ensures none { IfNone result ((self.old ≡ []) × (self.new ≡ [])) }
         ensures member { IfSome result (λ v. Covers self.old (B.value v)) }

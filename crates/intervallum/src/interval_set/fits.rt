@@ -25,8 +25,6 @@ impl<B: Width> Fits<IntervalSet<B>> for IntervalSet<B> {
     /// assert!(rt; a.fits_add(&IntervalSet::new(alloc, 27, 27)?));
     /// assert!(rt; !a.fits_add(&IntervalSet::new(alloc, 28, 28)?));
     /// ```
-    ///
-    /// The original has no such call.
     fn fits_add(&self, other: &IntervalSet<B>) -> bool {
         span(self).fits_add(&span(other))
     }
@@ -39,8 +37,6 @@ impl<B: Width> Fits<IntervalSet<B>> for IntervalSet<B> {
     /// assert!(rt; a.fits_sub(&IntervalSet::new(alloc, 0, 3)?));
     /// assert!(rt; !a.fits_sub(&IntervalSet::new(alloc, 4, 4)?));
     /// ```
-    ///
-    /// The original has no such call.
     fn fits_sub(&self, other: &IntervalSet<B>) -> bool {
         span(self).fits_sub(&span(other))
     }
@@ -53,8 +49,6 @@ impl<B: Width> Fits<IntervalSet<B>> for IntervalSet<B> {
     /// assert!(rt; a.fits_mul(&IntervalSet::new(alloc, -1, 1)?));
     /// assert!(rt; !a.fits_mul(&IntervalSet::new(alloc, 2, 2)?));
     /// ```
-    ///
-    /// The original has no such call.
     fn fits_mul(&self, other: &IntervalSet<B>) -> bool {
         span(self).fits_mul(&span(other))
     }
@@ -74,8 +68,6 @@ impl<B: Width> Fits<B> for IntervalSet<B> {
     /// let a = IntervalSet::new(alloc, 100i8, 100)?;
     /// assert!(rt; a.fits_add(&27) && !a.fits_add(&28));
     /// ```
-    ///
-    /// The original has no such call.
     fn fits_add(&self, other: &B) -> bool {
         span(self).fits_add(other)
     }
@@ -87,8 +79,6 @@ impl<B: Width> Fits<B> for IntervalSet<B> {
     /// let a = IntervalSet::new(alloc, 3u8, 5)?;
     /// assert!(rt; a.fits_sub(&3) && !a.fits_sub(&4));
     /// ```
-    ///
-    /// The original has no such call.
     fn fits_sub(&self, other: &B) -> bool {
         span(self).fits_sub(other)
     }
@@ -100,8 +90,6 @@ impl<B: Width> Fits<B> for IntervalSet<B> {
     /// let a = IntervalSet::new(alloc, 100i8, 100)?;
     /// assert!(rt; a.fits_mul(&1) && !a.fits_mul(&2));
     /// ```
-    ///
-    /// The original has no such call.
     fn fits_mul(&self, other: &B) -> bool {
         span(self).fits_mul(other)
     }

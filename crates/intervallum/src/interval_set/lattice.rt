@@ -24,8 +24,6 @@ impl<B: Width> Join for IntervalSet<B> {
     /// let (a, b) = (IntervalSet::new(alloc, 1, 5)?, IntervalSet::new(alloc, 4, 9)?);
     /// assert!(rt; a.join(b)? == IntervalSet::new(alloc, 4, 5)?);
     /// ```
-    ///
-    /// The original answers a plain set, and has no error for want of memory.
     fn join(self, other: IntervalSet<B>) -> Result<IntervalSet<B>, AllocError>
         ensures members { IfOk result (λ L. IsRunsOf L (Intersection (Covers self) (Covers other))) }
         ensures runs_at_most { IfOk result (λ L. length L ≤ length self + length other) }
@@ -49,8 +47,6 @@ impl<B: Width> Meet for IntervalSet<B> {
     /// let (a, b) = (IntervalSet::new(alloc, 1, 5)?, IntervalSet::new(alloc, 4, 9)?);
     /// assert!(rt; a.meet(b)? == IntervalSet::new(alloc, 1, 9)?);
     /// ```
-    ///
-    /// The original answers a plain set, and has no error for want of memory.
     fn meet(self, other: IntervalSet<B>) -> Result<IntervalSet<B>, AllocError>
         ensures members { IfOk result (λ L. IsRunsOf L (Union (Covers self) (Covers other))) }
         ensures runs_at_most { IfOk result (λ L. length L ≤ length self + length other) }

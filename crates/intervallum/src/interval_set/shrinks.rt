@@ -27,8 +27,6 @@ impl<B: Width> ShrinkLeft for IntervalSet<B> {
     /// let a = IntervalSet::new(alloc, 1, 5)?;
     /// assert!(rt; a.shrink_left(3)? == IntervalSet::new(alloc, 3, 5)?);
     /// ```
-    ///
-    /// The original answers a plain set, and has no error for want of memory.
     fn shrink_left(&self, lower: B) -> Result<IntervalSet<B>, AllocError>
         ensures members { IfOk result (λ L. IsRunsOf L (AtLeast (B.value lower) (Covers self.now))) }
         ensures runs_at_most { IfOk result (λ L. length L ≤ length self.now) }
@@ -50,8 +48,6 @@ impl<B: Width> ShrinkRight for IntervalSet<B> {
     /// let a = IntervalSet::new(alloc, 1, 5)?;
     /// assert!(rt; a.shrink_right(3)? == IntervalSet::new(alloc, 1, 3)?);
     /// ```
-    ///
-    /// The original answers a plain set, and has no error for want of memory.
     fn shrink_right(&self, upper: B) -> Result<IntervalSet<B>, AllocError>
         ensures members { IfOk result (λ L. IsRunsOf L (AtMost (B.value upper) (Covers self.now))) }
         ensures runs_at_most { IfOk result (λ L. length L ≤ length self.now) }
@@ -73,8 +69,6 @@ impl<B: Width> StrictShrinkLeft for IntervalSet<B> {
     /// let a = IntervalSet::new(alloc, 1, 5)?;
     /// assert!(rt; a.strict_shrink_left(3)? == IntervalSet::new(alloc, 4, 5)?);
     /// ```
-    ///
-    /// The original answers a plain set, and has no error for want of memory.
     fn strict_shrink_left(&self, lower: B) -> Result<IntervalSet<B>, AllocError>
         ensures members { IfOk result (λ L. IsRunsOf L (Above (B.value lower) (Covers self.now))) }
         ensures runs_at_most { IfOk result (λ L. length L ≤ length self.now) }
@@ -96,8 +90,6 @@ impl<B: Width> StrictShrinkRight for IntervalSet<B> {
     /// let a = IntervalSet::new(alloc, 1, 5)?;
     /// assert!(rt; a.strict_shrink_right(3)? == IntervalSet::new(alloc, 1, 2)?);
     /// ```
-    ///
-    /// The original answers a plain set, and has no error for want of memory.
     fn strict_shrink_right(&self, upper: B) -> Result<IntervalSet<B>, AllocError>
         ensures members { IfOk result (λ L. IsRunsOf L (Below (B.value upper) (Covers self.now))) }
         ensures runs_at_most { IfOk result (λ L. length L ≤ length self.now) }

@@ -19,8 +19,6 @@ impl<B: Width + fmt::Display> fmt::Display for IntervalSet<B> {
     /// let a: IntervalSet<i32> = [(1, 2), (5, 5)].to_interval_set(alloc)?;
     /// assert_eq!(rt; format!(in alloc; "{a}")?.as_str(), "{[1..2][5..5]}");
     /// ```
-    ///
-    /// The original asks `Display` of the sizes too.
     fn fmt<W: fmt::Write>(&self, f: &mut fmt::Formatter<W>) -> fmt::Result {
         let runs = self.as_runs();
         if runs.is_empty() {

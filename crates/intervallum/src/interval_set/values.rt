@@ -30,9 +30,6 @@ impl<B: Width> Union<B> for IntervalSet<B> {
     /// let a = IntervalSet::new(alloc, 1, 5)?;
     /// assert!(rt; a.union(&6)? == IntervalSet::new(alloc, 1, 6)?);
     /// ```
-    ///
-    /// In the original the condition stands in no signature, the answer is a plain set, and there
-    /// is no error for want of memory.
     fn union(&self, other: &B) -> Result<IntervalSet<B>, AllocError>
         requires { IsBetween B.whole (B.value other.now) }
         ensures members { IfOk result (λ L. IsRunsOf L (Union (Covers self.now) (Only (B.value other.now)))) }
@@ -69,9 +66,6 @@ impl<B: Width> SymmetricDifference<B> for IntervalSet<B> {
     /// let a = IntervalSet::new(alloc, 1, 5)?;
     /// assert!(rt; a.symmetric_difference(&5)? == IntervalSet::new(alloc, 1, 4)?);
     /// ```
-    ///
-    /// In the original the condition stands in no signature, the answer is a plain set, and there
-    /// is no error for want of memory.
     fn symmetric_difference(&self, other: &B) -> Result<IntervalSet<B>, AllocError>
         requires { IsBetween B.whole (B.value other.now) }
         ensures members { IfOk result (λ L. IsRunsOf L (SymmetricDifference (Covers self.now) (Only (B.value other.now)))) }
@@ -99,9 +93,6 @@ impl<B: Width> Intersection<B> for IntervalSet<B> {
     /// let a = IntervalSet::new(alloc, 1, 5)?;
     /// assert!(rt; a.intersection(&5)? == IntervalSet::singleton(alloc, 5)?);
     /// ```
-    ///
-    /// The original is not meant for a value outside the range. It answers a plain set, and has no
-    /// error for want of memory.
     fn intersection(&self, other: &B) -> Result<IntervalSet<B>, AllocError>
         ensures members { IfOk result (λ L. IsRunsOf L (Intersection (Covers self.now) (Only (B.value other.now)))) }
         ensures runs_at_most { IfOk result (λ L. length L ≤ length self.now + 1) }
@@ -133,9 +124,6 @@ impl<B: Width> Difference<B> for IntervalSet<B> {
     /// let a = IntervalSet::new(alloc, 1, 5)?;
     /// assert!(rt; a.difference(&5)? == IntervalSet::new(alloc, 1, 4)?);
     /// ```
-    ///
-    /// The original is not meant for a value outside the range. It answers a plain set, and has no
-    /// error for want of memory.
     fn difference(&self, other: &B) -> Result<IntervalSet<B>, AllocError>
         ensures members { IfOk result (λ L. IsRunsOf L (Without (Covers self.now) (Only (B.value other.now)))) }
         ensures runs_at_most { IfOk result (λ L. length L ≤ length self.now + 1) }

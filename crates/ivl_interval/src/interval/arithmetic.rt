@@ -4,8 +4,6 @@
 //! range: `fits_add`, `fits_sub` and `fits_mul` test it, and with an empty operand it always holds.
 //! The value itself may lie outside the range: `[1..5] + (-128i8)` is allowed. An empty operand
 //! gives an interval with no member.
-//!
-//! The original can't be asked beforehand whether a result fits.
 ghost use Rattle.std.specs.Prelude.{◌≡◌, ◌+ℤ◌, ◌-ℤ◌, ◌*ℤ◌};
 ghost use Rattle.ivl_laws.specs.Sets.{Differences, ExactProducts, IsBetween, IsHullOf, IsSubset, Only, SameMembers, Sums};
 

@@ -16,8 +16,6 @@ impl<B: Width> Interval<B> {
     /// True exactly where `new(lb, ub)` may be called: `lb` is not below the range and `ub` is not
     /// above it. The two may cross, so `in_range(8, 3)` is true, and `new(8, 3)` has no member.
     ///
-    /// The original has no such call.
-    ///
     /// ```
     /// assert!(rt; Interval::in_range(8u8, 3) && !Interval::in_range(0u8, 255));
     /// ```
@@ -64,8 +62,6 @@ impl<B: Width> Range for Interval<B> {
     ghost whole = { B.whole };
 
     /// The numbers from `lb` to `ub`; none where `lb` is above `ub`. Condition: `in_range(lb, ub)`.
-    ///
-    /// In the original the condition stands in no signature, and has no test.
     ///
     /// ```
     /// assert_eq!(rt; Interval::new(1i32, 5).size(), 5);
@@ -155,8 +151,6 @@ impl<B: Width> Singleton for Interval<B> {
     /// The interval of `item` alone. Condition: `item` is in the range, which
     /// `whole().contains(&item)` tests.
     ///
-    /// In the original the condition stands in no signature.
-    ///
     /// ```
     /// assert_eq!(rt; Interval::singleton(5i32).size(), 1);
     /// ```
@@ -172,8 +166,6 @@ impl<B: Width> Singleton for Interval<B> {
 impl<B: Width> Bounded for Interval<B> {
     /// The least member. Condition: there is one, which `is_empty` tests.
     ///
-    /// In the original the condition stands in no signature.
-    ///
     /// ```
     /// assert_eq!(rt; Interval::new(3i32, 8).lower(), 3);
     /// ```
@@ -188,8 +180,6 @@ impl<B: Width> Bounded for Interval<B> {
     }
 
     /// The greatest member. Condition: there is one, which `is_empty` tests.
-    ///
-    /// In the original the condition stands in no signature.
     ///
     /// ```
     /// assert_eq!(rt; Interval::new(3i32, 8).upper(), 8);

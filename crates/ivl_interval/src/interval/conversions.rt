@@ -1,6 +1,4 @@
 //! Values that are read as an interval.
-//!
-//! In the original the conditions of these calls stand in no signature.
 ghost use Rattle.std.specs.Prelude.{◌≡◌, ◌≤ℤ◌, pos, ⊤};
 ghost use Rattle.std.specs.Range.{range_inclusive_end, range_inclusive_start};
 ghost use Rattle.ivl_laws.specs.Sets.{IsBetween, IsCrossed, IsInRange, SameMembers};

@@ -76,9 +76,6 @@ impl<B: Width> Difference<Interval<B>> for Interval<B> {
     /// The least interval that holds the members that are not in `other`. So a hole in the middle
     /// is not cut: `[0..9]` without `[4..5]` is `[0..9]`.
     ///
-    /// The original overflows where `other` starts at an unsigned 0 or ends at a signed greatest
-    /// value; here every two intervals have an answer.
-    ///
     /// ```
     /// let a = Interval::new(0u8, 9);
     /// assert_eq!(rt; a.difference(&Interval::new(0, 5)), Interval::new(6, 9));

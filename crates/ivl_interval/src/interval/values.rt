@@ -107,8 +107,6 @@ impl<B: Width> Hull<B> for Interval<B> {
     /// The least interval that holds the members and the value. Condition: the value is in the
     /// range, which `whole().contains(other)` tests.
     ///
-    /// In the original the condition stands in no signature.
-    ///
     /// ```
     /// let a = Interval::new(3i32, 8);
     /// assert_eq!(rt; a.hull(&12), Interval::new(3, 12));
@@ -244,9 +242,6 @@ impl<B: Width> Hull<Interval<B>> for B {
 
     /// The least interval that holds the value and the members of `other`. Condition: the value is
     /// in the range, which `whole().contains(self)` tests.
-    ///
-    /// The original has this for the ten integer types alone, and the condition stands in no
-    /// signature.
     ///
     /// ```
     /// let a = Interval::new(3i32, 8);
