@@ -39,6 +39,8 @@ use std::marker::Model;
 /// The runs are intervals of the range that are not empty; they ascend, and at least one number is
 /// missing between neighbours. The number of members is kept beside them.
 ///
+/// If an allocation fails, the operands of the call are unchanged, and so is a set that was to be changed.
+///
 /// A call reserves the room that its answer may need, and gives back what is left of it where that
 /// is more than half. Where giving back is refused the set keeps that room; its answer is the same.
 ///
@@ -64,7 +66,7 @@ impl<B: Width> Model for IntervalSet<B> {
 }
 
 impl<B: Width> IntervalSet<B> {
-    /// The set with no member. `O(1)`, and takes no memory.
+    /// Returns the empty set. `O(1)`. Does not allocate.
     ///
     /// ```
     /// assert!(rt; IntervalSet::<i32>::empty(alloc).is_empty());
@@ -79,7 +81,7 @@ impl<B: Width> IntervalSet<B> {
     }
 
     /// The numbers from `lb` to `ub`, as one run. Conditions: `Interval::in_range(lb, ub)`, and
-    /// `lb <= ub`. `O(1)`, in memory for one run. An error is memory that was refused.
+    /// `lb <= ub`. `O(1)`. Allocates one run. Fails only if allocation fails.
     ///
     /// ```
     /// let a = IntervalSet::new(alloc, 1, 2)?;
@@ -99,7 +101,7 @@ impl<B: Width> IntervalSet<B> {
         })
     }
 
-    /// The number of runs. `O(1)`, with no memory.
+    /// Returns the number of runs. `O(1)`. Does not allocate.
     ///
     /// ```
     /// let a: IntervalSet<i32> = [(1, 2), (5, 6)].to_interval_set(alloc)?;
@@ -112,7 +114,7 @@ impl<B: Width> IntervalSet<B> {
         self.intervals.len()
     }
 
-    /// The runs, ascending, from both ends. `O(1)`, with no memory.
+    /// Returns the runs, ascending, from both ends. `O(1)`. Does not allocate.
     ///
     /// ```
     /// let a: IntervalSet<i32> = [(1, 2), (5, 6)].to_interval_set(alloc)?;
@@ -146,7 +148,7 @@ impl<B: Width> Cardinality for IntervalSet<B> {
 
     ghost size_number = { B.Output.size };
 
-    /// The number of members, which is kept: `O(1)`, with no memory. It never overflows.
+    /// Returns the number of members, which is kept: `O(1)`. Does not allocate. It never overflows.
     ///
     /// ```
     /// let a: IntervalSet<i32> = [(1, 2), (5, 6)].to_interval_set(alloc)?;
@@ -160,7 +162,7 @@ impl<B: Width> Cardinality for IntervalSet<B> {
 impl<B: Width> IsEmpty for IntervalSet<B> {
     ghost members = { Covers };
 
-    /// True exactly where there is no member. `O(1)`, with no memory.
+    /// Returns true exactly when there is no member. `O(1)`. Does not allocate.
     ///
     /// ```
     /// let a = IntervalSet::new(alloc, 1, 2)?;
@@ -180,7 +182,8 @@ impl<B: Width> PartialEq for IntervalSet<B> {
 
     ghost laws = { same_runs_laws };
 
-    /// True exactly where the members agree. `O(n)`, and `O(1)` where the sizes differ; no memory.
+    /// Returns true exactly when the members agree. `O(n)`, and `O(1)` where the sizes differ. Does
+    /// not allocate.
     ///
     /// ```
     /// let a: IntervalSet<i32> = [(3, 4), (1, 2)].to_interval_set(alloc)?;

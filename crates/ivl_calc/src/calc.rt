@@ -56,15 +56,15 @@ impl<B: Width> Calc<B> {
         })
     }
 
-    /// How many registers there are. It never changes. `O(1)`, takes no memory.
+    /// How many registers there are. It never changes. `O(1)`. Does not allocate.
     pub fn registers(&self) -> usize
         ensures { result ≡ length self.now }
     {
         self.registers.len()
     }
 
-    /// The set in a register; none exactly where the index has no register. `O(1)`, takes no
-    /// memory.
+    /// The set in a register; none exactly where the index has no register. `O(1)`. Does not
+    /// allocate.
     pub fn get(&self, register: usize) -> Option<&IntervalSet<B>>
         ensures known { IsSome result ↔ (register < length self.now) }
         ensures value { IfSome result (λ set. set.now ≡ slice_index_or self.now register []) }
@@ -130,8 +130,8 @@ impl<B: Width> Calc<B> {
         }
     }
 
-    /// Carries out the commands one by one, and answers their replies in order. A command that is
-    /// refused, also for want of memory, leaves the registers, and the next goes on from there.
+    /// Carries out the commands one by one, and returns their replies in order. A command that is
+    /// refused, also because an allocation fails, leaves the registers, and the next goes on.
     ///
     /// Costs what the commands cost, and takes memory for one reply a command besides.
     ///

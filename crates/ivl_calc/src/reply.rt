@@ -37,7 +37,7 @@ pub enum Reply<B: Width> {
     Count(usize),
     /// The least or the greatest number; none where there is no number.
     Value(Option<B>),
-    /// The runs, ascending.
+    /// Returns the runs, ascending.
     Runs(Vec<Interval<B>>),
     /// The command was refused, and all registers are as they were.
     Refused(Refusal),

@@ -62,7 +62,7 @@ impl<B: Width> PartialEq for Interval<B> {
 
     ghost laws = { same_interval_laws };
 
-    /// True exactly where the two have the same members.
+    /// Returns true exactly when the two have the same members.
     ///
     /// ```
     /// assert_eq!(rt; Interval::new(8i32, 3), Interval::empty());

@@ -47,8 +47,8 @@ pub trait Empty {
         ensures { HasNone (members result) };
 }
 
-/// The top of the lattice of information, where sets are ordered by `entail`: the set with no
-/// member.
+/// The top of the lattice of information, where sets are ordered by `entail`: the fewer members, the more is known, so it
+/// is the empty set.
 ///
 /// ```
 /// assert_eq!(rt; Interval::<i32>::top(), Interval::empty());
@@ -56,7 +56,7 @@ pub trait Empty {
 pub trait Top {
     ghost members: { Self → ℤ → Type 0 };
 
-    /// The set with no member, which entails every other.
+    /// Returns the empty set, which entails every other.
     fn top() -> Self
         ensures { HasNone (members result) };
 }
@@ -155,7 +155,7 @@ pub trait Cardinality {
     /// The number of a size.
     ghost size_number: { Self.Size → ℕ };
 
-    /// The number of members.
+    /// Returns the number of members.
     fn size(&self) -> Self::Size
         ensures { IsCountOf (size_number result) (members self.now) };
 }
@@ -168,7 +168,7 @@ pub trait Cardinality {
 pub trait IsEmpty {
     ghost members: { Self → ℤ → Type 0 };
 
-    /// True exactly where there is no member.
+    /// Returns true exactly when there is no member.
     fn is_empty(&self) -> bool
         ensures members { IsTrue result ↔ HasNone (members self.now) }
         ensures filled { ¬ (IsTrue result) → HasSome (members self.now) };
@@ -182,7 +182,7 @@ pub trait IsEmpty {
 pub trait IsSingleton {
     ghost members: { Self → ℤ → Type 0 };
 
-    /// True exactly where there is one member and no other.
+    /// Returns true exactly when there is one member and no other.
     fn is_singleton(&self) -> bool
         ensures { IsTrue result ↔ ((x : ℤ) × SameMembers (members self.now) (Only x)) };
 }
@@ -194,7 +194,7 @@ pub trait IsSingleton {
 /// assert!(rt; a.contains(&8) && !a.contains(&9));
 /// ```
 pub trait Contains: Collection {
-    /// True exactly where `item` is a member; any value of its type may be asked for.
+    /// Returns true exactly when `item` is a member; any value of its type may be asked for.
     fn contains(&self, item: &Self::Item) -> bool
         ensures { IsTrue result ↔ Self.members self.now (Self.number item.now) };
 }
@@ -209,7 +209,7 @@ pub trait Disjoint<R> {
 
     ghost other_members: { R → ℤ → Type 0 };
 
-    /// True exactly where no number is a member of both.
+    /// Returns true exactly when no number is a member of both.
     fn is_disjoint(&self, other: &R) -> bool
         ensures { IsTrue result ↔ HasNone (Intersection (members self.now) (other_members other.now)) };
 }
@@ -224,7 +224,7 @@ pub trait Overlap<R> {
 
     ghost other_members: { R → ℤ → Type 0 };
 
-    /// True exactly where some number is a member of both.
+    /// Returns true exactly when some number is a member of both.
     fn overlap(&self, other: &R) -> bool
         ensures { IsTrue result ↔ HasSome (Intersection (members self.now) (other_members other.now)) };
 }
@@ -238,7 +238,7 @@ pub trait Overlap<R> {
 pub trait Subset {
     ghost members: { Self → ℤ → Type 0 };
 
-    /// True exactly where each member is a member of `other`.
+    /// Returns true exactly when each member is a member of `other`.
     fn is_subset(&self, other: &Self) -> bool
         ensures { IsTrue result ↔ IsSubset (members self.now) (members other.now) };
 }
@@ -252,7 +252,7 @@ pub trait Subset {
 pub trait ProperSubset {
     ghost members: { Self → ℤ → Type 0 };
 
-    /// True exactly where each member is a member of `other`, and `other` has more.
+    /// Returns true exactly when each member is a member of `other`, and `other` has more.
     fn is_proper_subset(&self, other: &Self) -> bool
         ensures { IsTrue result ↔ IsProperSubset (members self.now) (members other.now) };
 }
@@ -374,7 +374,7 @@ pub trait Hull<R> {
         ensures { answers result (Union (members self.now) (other_members other.now)) };
 }
 
-/// The numbers of the range that are no members.
+/// Returns the complement within the range of the type.
 ///
 /// ```
 /// let a = IntervalSet::new(alloc, 1u8, 254)?;
@@ -459,7 +459,8 @@ pub trait StrictShrinkRight: Collection {
         ensures { answers result (Below (Self.number upper) (Self.members self.now)) };
 }
 
-/// What two pieces of information say together: the common members.
+/// What two pieces of information say together: the common members. Sets are ordered by information, so the join is the
+/// intersection, although the word often stands for the union.
 ///
 /// ```
 /// let (a, b) = (Interval::new(1i32, 5), Interval::new(4, 9));
@@ -477,7 +478,8 @@ pub trait Join: Sized {
         ensures { answers result (Intersection (members self) (members other)) };
 }
 
-/// What two pieces of information agree on: what holds the members of either.
+/// What two pieces of information agree on: what holds the members of either. Sets are ordered by information, so the
+/// meet is the union, although the word often stands for the intersection.
 ///
 /// ```
 /// let (a, b) = (Interval::new(1i32, 5), Interval::new(4, 9));
@@ -544,16 +546,16 @@ pub trait Fits<R> {
 
     ghost other_members: { R → ℤ → Type 0 };
 
-    /// True exactly where each sum of a member of the one and a member of the other is in the
-    /// range.
+    /// Returns true exactly when each sum of a member of the one and a member of the other is in
+    /// the range.
     fn fits_add(&self, other: &R) -> bool
         ensures { IsTrue result ↔ IsSubset (Sums (members self.now) (other_members other.now)) (IsBetween whole) };
 
-    /// True exactly where each difference is in the range.
+    /// Returns true exactly when each difference is in the range.
     fn fits_sub(&self, other: &R) -> bool
         ensures { IsTrue result ↔ IsSubset (Differences (members self.now) (other_members other.now)) (IsBetween whole) };
 
-    /// True exactly where each product is in the range.
+    /// Returns true exactly when each product is in the range.
     fn fits_mul(&self, other: &R) -> bool
         ensures { IsTrue result ↔ IsSubset (ExactProducts (members self.now) (other_members other.now)) (IsBetween whole) };
 }

@@ -51,7 +51,7 @@ impl<T> Optional<T> {
         Optional { value: Some(x) }
     }
 
-    /// True exactly where there is no value.
+    /// Returns true exactly when there is no value.
     ///
     /// ```
     /// assert!(rt; !Optional::singleton(5i32).is_empty());
@@ -62,7 +62,7 @@ impl<T> Optional<T> {
         self.value.is_none()
     }
 
-    /// True exactly where there is a value.
+    /// Returns true exactly when there is a value.
     ///
     /// ```
     /// assert!(rt; Optional::singleton(5i32).is_some());

@@ -30,7 +30,7 @@ pub enum Combined {
 /// The sums of a member of each that are in the range, and whether some sum is not. Has no
 /// condition. A set with no member gives the set with none, and false.
 ///
-/// `O(n m log (n m))` for `n` and `m` runs, in memory for twice `n * m` runs.
+/// `O(n m log (n m))` for `n` and `m` runs. Allocates room for twice `n * m` runs.
 ///
 /// # Errors
 ///
@@ -55,7 +55,7 @@ pub fn add_within<B: Width>(
 /// The differences of a member of `a` and one of `b` that are in the range, and whether some
 /// difference is not. Has no condition. A set with no member gives the set with none, and false.
 ///
-/// `O(n m log (n m))` for `n` and `m` runs, in memory for twice `n * m` runs.
+/// `O(n m log (n m))` for `n` and `m` runs. Allocates room for twice `n * m` runs.
 ///
 /// # Errors
 ///

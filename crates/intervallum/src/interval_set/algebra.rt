@@ -22,9 +22,8 @@ impl<B: Width> Union<IntervalSet<B>> for IntervalSet<B> {
 
     ghost answers = { λ r S. IfOk r (λ L. IsRunsOf L S) };
 
-    /// The members of either set. `O(n + m)`, in memory that is reserved once for `n + m` runs, of
-    /// which the answer keeps about twice its own at most. An error is memory that was refused;
-    /// neither set is changed.
+    /// Returns the members of either set. `O(n + m)`. Reserves `n + m` runs once and shrinks the
+    /// result if less than half is used. Fails only if allocation fails.
     ///
     /// ```
     /// let (a, b) = (IntervalSet::new(alloc, 1, 5)?, IntervalSet::new(alloc, 4, 9)?);
@@ -47,9 +46,8 @@ impl<B: Width> Intersection<IntervalSet<B>> for IntervalSet<B> {
 
     ghost answers = { λ r S. IfOk r (λ L. IsRunsOf L S) };
 
-    /// The members of both sets. `O(n + m)`, in memory that is reserved once for `n + m` runs, of
-    /// which the answer keeps about twice its own at most. An error is memory that was refused;
-    /// neither set is changed.
+    /// Returns the members of both sets. `O(n + m)`. Reserves `n + m` runs once and shrinks the
+    /// result if less than half is used. Fails only if allocation fails.
     ///
     /// ```
     /// let (a, b) = (IntervalSet::new(alloc, 1, 5)?, IntervalSet::new(alloc, 4, 9)?);
@@ -72,17 +70,15 @@ impl<B: Width> Difference<IntervalSet<B>> for IntervalSet<B> {
 
     ghost answers = { λ r S. IfOk r (λ L. IsRunsOf L S) };
 
-    /// The members that are not in `other`. `O(n + m)`, in memory that is reserved once for `n + m`
-    /// runs, of which the answer keeps about twice its own at most. An error is memory that was
-    /// refused; neither set is changed.
+    /// Returns the members that are not in `other`. `O(n + m)`. Reserves `n + m` runs once and
+    /// shrinks the result if less than half is used. Fails only if allocation fails.
     ///
     /// ```
     /// let (a, b) = (IntervalSet::new(alloc, 1, 5)?, IntervalSet::new(alloc, 4, 9)?);
     /// assert!(rt; a.difference(&b)? == IntervalSet::new(alloc, 1, 3)?);
     /// ```
     ///
-    /// No other set is built on the way. The original answers a plain set, and has no error for
-    /// want of memory.
+    /// No other set is built on the way.
     fn difference(&self, other: &IntervalSet<B>) -> Result<IntervalSet<B>, AllocError>
         ensures members { IfOk result (λ L. IsRunsOf L (Without (Covers self.now) (Covers other.now))) }
         ensures runs_at_most { IfOk result (λ L. length L ≤ length self.now + length other.now) }
@@ -102,17 +98,15 @@ impl<B: Width> SymmetricDifference<IntervalSet<B>> for IntervalSet<B> {
 
     ghost answers = { λ r S. IfOk r (λ L. IsRunsOf L S) };
 
-    /// The members of one set that are not in the other. `O(n + m)`, in memory that is reserved
-    /// once for `n + m` runs, of which the answer keeps about twice its own at most. An error is
-    /// memory that was refused; neither set is changed.
+    /// Returns the members of exactly one of the sets. `O(n + m)`. Reserves `n + m` runs once and
+    /// shrinks the result if less than half is used. Fails only if allocation fails.
     ///
     /// ```
     /// let (a, b) = (IntervalSet::new(alloc, 1, 5)?, IntervalSet::new(alloc, 4, 9)?);
     /// assert!(rt; a.symmetric_difference(&b)? == [(1, 3), (6, 9)].to_interval_set(alloc)?);
     /// ```
     ///
-    /// No other set is built on the way. The original answers a plain set, and has no error for
-    /// want of memory.
+    /// No other set is built on the way.
     fn symmetric_difference(&self, other: &IntervalSet<B>) -> Result<IntervalSet<B>, AllocError>
         ensures members { IfOk result (λ L. IsRunsOf L (SymmetricDifference (Covers self.now) (Covers other.now))) }
         ensures runs_at_most { IfOk result (λ L. length L ≤ length self.now + length other.now) }
@@ -130,9 +124,8 @@ impl<B: Width> Complement for IntervalSet<B> {
 
     ghost answers = { λ r S. IfOk r (λ L. IsRunsOf L S) };
 
-    /// The numbers of the range that are no members. `O(n)`, in memory that is reserved once for
-    /// `n + 1` runs, of which the answer keeps about twice its own at most. An error is memory that
-    /// was refused; the set is not changed.
+    /// Returns the complement within the range of the type. `O(n)`. Reserves `n + 1` runs once and
+    /// shrinks the result if less than half is used. Fails only if allocation fails.
     ///
     /// ```
     /// let a = IntervalSet::new(alloc, 10u8, 254)?;
@@ -151,8 +144,8 @@ impl<B: Width> Disjoint<IntervalSet<B>> for IntervalSet<B> {
 
     ghost other_members = { Covers };
 
-    /// True exactly where no number is a member of both. `O(n + m)`, and no memory; stops at the
-    /// first common member.
+    /// Returns true exactly when no number is a member of both. `O(n + m)`, and stops at the first
+    /// common member. Does not allocate.
     ///
     /// ```
     /// let (a, b) = (IntervalSet::new(alloc, 1, 2)?, IntervalSet::new(alloc, 3, 5)?);
@@ -170,8 +163,8 @@ impl<B: Width> Overlap<IntervalSet<B>> for IntervalSet<B> {
 
     ghost other_members = { Covers };
 
-    /// True exactly where some number is a member of both. `O(n + m)`, and no memory; stops at the
-    /// first common member.
+    /// Returns true exactly when some number is a member of both. `O(n + m)`, and stops at the
+    /// first common member. Does not allocate.
     ///
     /// ```
     /// let (a, b) = (IntervalSet::new(alloc, 1, 2)?, IntervalSet::new(alloc, 3, 5)?);

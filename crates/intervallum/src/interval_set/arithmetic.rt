@@ -26,8 +26,8 @@ impl<B: Width> Add<IntervalSet<B>> for IntervalSet<B> {
 
     /// The sums of a member of each. Condition: the sums are in the range, which `fits_add` tests.
     ///
-    /// `O(n m log (n m))` for `n` and `m` runs, in memory for twice `n * m` runs. An error is
-    /// memory that was refused.
+    /// `O(n m log (n m))` for `n` and `m` runs. Allocates room for twice `n * m` runs. Fails only
+    /// if allocation fails.
     ///
     /// ```
     /// let (a, b) = (IntervalSet::new(alloc, 1, 2)?, IntervalSet::new(alloc, 10, 20)?);
@@ -48,8 +48,8 @@ impl<B: Width> Add<&IntervalSet<B>> for IntervalSet<B> {
 
     /// The sums of a member of each. Condition: the sums are in the range, which `fits_add` tests.
     ///
-    /// `O(n m log (n m))` for `n` and `m` runs, in memory for twice `n * m` runs. An error is
-    /// memory that was refused; the borrowed set is not changed.
+    /// `O(n m log (n m))` for `n` and `m` runs. Allocates room for twice `n * m` runs. Fails only
+    /// if allocation fails.
     fn add(self, rhs: &IntervalSet<B>) -> Result<IntervalSet<B>, AllocError> {
         combine(&self, rhs, Op::Sum)
     }
@@ -64,8 +64,8 @@ impl<B: Width> Add<IntervalSet<B>> for &IntervalSet<B> {
 
     /// The sums of a member of each. Condition: the sums are in the range, which `fits_add` tests.
     ///
-    /// `O(n m log (n m))` for `n` and `m` runs, in memory for twice `n * m` runs. An error is
-    /// memory that was refused; the borrowed set is not changed.
+    /// `O(n m log (n m))` for `n` and `m` runs. Allocates room for twice `n * m` runs. Fails only
+    /// if allocation fails.
     fn add(self, rhs: IntervalSet<B>) -> Result<IntervalSet<B>, AllocError> {
         combine(self, &rhs, Op::Sum)
     }
@@ -80,8 +80,8 @@ impl<B: Width> Add<&IntervalSet<B>> for &IntervalSet<B> {
 
     /// The sums of a member of each. Condition: the sums are in the range, which `fits_add` tests.
     ///
-    /// `O(n m log (n m))` for `n` and `m` runs, in memory for twice `n * m` runs. An error is
-    /// memory that was refused; neither set is changed.
+    /// `O(n m log (n m))` for `n` and `m` runs. Allocates room for twice `n * m` runs. Fails only
+    /// if allocation fails.
     fn add(self, rhs: &IntervalSet<B>) -> Result<IntervalSet<B>, AllocError> {
         combine(self, rhs, Op::Sum)
     }
@@ -97,7 +97,7 @@ impl<B: Width> Add<B> for IntervalSet<B> {
     /// The sums of a member and the value. Condition: the sums are in the range, which `fits_add`
     /// tests; the value itself may lie outside.
     ///
-    /// `O(n)` for `n` runs, in memory for as many. An error is memory that was refused.
+    /// `O(n)` for `n` runs. Reserves as many once. Fails only if allocation fails.
     ///
     /// ```
     /// let a = IntervalSet::new(alloc, 1, 2)?;
@@ -123,7 +123,7 @@ impl<B: Width> Add<&B> for IntervalSet<B> {
     /// The sums of a member and the value. Condition: the sums are in the range, which `fits_add`
     /// tests; the value itself may lie outside.
     ///
-    /// `O(n)` for `n` runs, in memory for as many. An error is memory that was refused.
+    /// `O(n)` for `n` runs. Reserves as many once. Fails only if allocation fails.
     fn add(self, rhs: &B) -> Result<IntervalSet<B>, AllocError>
         requires { IsSubset (Sums (Covers self) (Only (B.value rhs.now))) (IsBetween B.whole) }
         ensures members { IfOk result (λ L. IsRunsOf L (Sums (Covers self) (Only (B.value rhs.now)))) }
@@ -143,8 +143,7 @@ impl<B: Width> Add<B> for &IntervalSet<B> {
     /// The sums of a member and the value. Condition: the sums are in the range, which `fits_add`
     /// tests; the value itself may lie outside.
     ///
-    /// `O(n)` for `n` runs, in memory for as many. An error is memory that was refused; the set is
-    /// not changed.
+    /// `O(n)` for `n` runs. Reserves as many once. Fails only if allocation fails.
     fn add(self, rhs: B) -> Result<IntervalSet<B>, AllocError>
         requires { IsSubset (Sums (Covers self.now) (Only (B.value rhs))) (IsBetween B.whole) }
         ensures members { IfOk result (λ L. IsRunsOf L (Sums (Covers self.now) (Only (B.value rhs)))) }
@@ -164,8 +163,7 @@ impl<B: Width> Add<&B> for &IntervalSet<B> {
     /// The sums of a member and the value. Condition: the sums are in the range, which `fits_add`
     /// tests; the value itself may lie outside.
     ///
-    /// `O(n)` for `n` runs, in memory for as many. An error is memory that was refused; the set is
-    /// not changed.
+    /// `O(n)` for `n` runs. Reserves as many once. Fails only if allocation fails.
     fn add(self, rhs: &B) -> Result<IntervalSet<B>, AllocError>
         requires { IsSubset (Sums (Covers self.now) (Only (B.value rhs.now))) (IsBetween B.whole) }
         ensures members { IfOk result (λ L. IsRunsOf L (Sums (Covers self.now) (Only (B.value rhs.now)))) }
@@ -185,8 +183,8 @@ impl<B: Width> Sub<IntervalSet<B>> for IntervalSet<B> {
     /// The differences of a member of each. Condition: the differences are in the range, which
     /// `fits_sub` tests.
     ///
-    /// `O(n m log (n m))` for `n` and `m` runs, in memory for twice `n * m` runs. An error is
-    /// memory that was refused.
+    /// `O(n m log (n m))` for `n` and `m` runs. Allocates room for twice `n * m` runs. Fails only
+    /// if allocation fails.
     ///
     /// ```
     /// let (a, b) = (IntervalSet::new(alloc, 1, 2)?, IntervalSet::new(alloc, 10, 20)?);
@@ -208,8 +206,8 @@ impl<B: Width> Sub<&IntervalSet<B>> for IntervalSet<B> {
     /// The differences of a member of each. Condition: the differences are in the range, which
     /// `fits_sub` tests.
     ///
-    /// `O(n m log (n m))` for `n` and `m` runs, in memory for twice `n * m` runs. An error is
-    /// memory that was refused; the borrowed set is not changed.
+    /// `O(n m log (n m))` for `n` and `m` runs. Allocates room for twice `n * m` runs. Fails only
+    /// if allocation fails.
     fn sub(self, rhs: &IntervalSet<B>) -> Result<IntervalSet<B>, AllocError> {
         combine(&self, rhs, Op::Difference)
     }
@@ -225,8 +223,8 @@ impl<B: Width> Sub<IntervalSet<B>> for &IntervalSet<B> {
     /// The differences of a member of each. Condition: the differences are in the range, which
     /// `fits_sub` tests.
     ///
-    /// `O(n m log (n m))` for `n` and `m` runs, in memory for twice `n * m` runs. An error is
-    /// memory that was refused; the borrowed set is not changed.
+    /// `O(n m log (n m))` for `n` and `m` runs. Allocates room for twice `n * m` runs. Fails only
+    /// if allocation fails.
     fn sub(self, rhs: IntervalSet<B>) -> Result<IntervalSet<B>, AllocError> {
         combine(self, &rhs, Op::Difference)
     }
@@ -242,8 +240,8 @@ impl<B: Width> Sub<&IntervalSet<B>> for &IntervalSet<B> {
     /// The differences of a member of each. Condition: the differences are in the range, which
     /// `fits_sub` tests.
     ///
-    /// `O(n m log (n m))` for `n` and `m` runs, in memory for twice `n * m` runs. An error is
-    /// memory that was refused; neither set is changed.
+    /// `O(n m log (n m))` for `n` and `m` runs. Allocates room for twice `n * m` runs. Fails only
+    /// if allocation fails.
     fn sub(self, rhs: &IntervalSet<B>) -> Result<IntervalSet<B>, AllocError> {
         combine(self, rhs, Op::Difference)
     }
@@ -259,7 +257,7 @@ impl<B: Width> Sub<B> for IntervalSet<B> {
     /// The differences of a member and the value. Condition: the differences are in the range,
     /// which `fits_sub` tests; the value itself may lie outside.
     ///
-    /// `O(n)` for `n` runs, in memory for as many. An error is memory that was refused.
+    /// `O(n)` for `n` runs. Reserves as many once. Fails only if allocation fails.
     ///
     /// ```
     /// let a = IntervalSet::new(alloc, 1, 2)?;
@@ -285,7 +283,7 @@ impl<B: Width> Sub<&B> for IntervalSet<B> {
     /// The differences of a member and the value. Condition: the differences are in the range,
     /// which `fits_sub` tests; the value itself may lie outside.
     ///
-    /// `O(n)` for `n` runs, in memory for as many. An error is memory that was refused.
+    /// `O(n)` for `n` runs. Reserves as many once. Fails only if allocation fails.
     fn sub(self, rhs: &B) -> Result<IntervalSet<B>, AllocError>
         requires { IsSubset (Differences (Covers self) (Only (B.value rhs.now))) (IsBetween B.whole) }
         ensures members { IfOk result (λ L. IsRunsOf L (Differences (Covers self) (Only (B.value rhs.now)))) }
@@ -305,8 +303,7 @@ impl<B: Width> Sub<B> for &IntervalSet<B> {
     /// The differences of a member and the value. Condition: the differences are in the range,
     /// which `fits_sub` tests; the value itself may lie outside.
     ///
-    /// `O(n)` for `n` runs, in memory for as many. An error is memory that was refused; the set is
-    /// not changed.
+    /// `O(n)` for `n` runs. Reserves as many once. Fails only if allocation fails.
     fn sub(self, rhs: B) -> Result<IntervalSet<B>, AllocError>
         requires { IsSubset (Differences (Covers self.now) (Only (B.value rhs))) (IsBetween B.whole) }
         ensures members { IfOk result (λ L. IsRunsOf L (Differences (Covers self.now) (Only (B.value rhs)))) }
@@ -326,8 +323,7 @@ impl<B: Width> Sub<&B> for &IntervalSet<B> {
     /// The differences of a member and the value. Condition: the differences are in the range,
     /// which `fits_sub` tests; the value itself may lie outside.
     ///
-    /// `O(n)` for `n` runs, in memory for as many. An error is memory that was refused; the set is
-    /// not changed.
+    /// `O(n)` for `n` runs. Reserves as many once. Fails only if allocation fails.
     fn sub(self, rhs: &B) -> Result<IntervalSet<B>, AllocError>
         requires { IsSubset (Differences (Covers self.now) (Only (B.value rhs.now))) (IsBetween B.whole) }
         ensures members { IfOk result (λ L. IsRunsOf L (Differences (Covers self.now) (Only (B.value rhs.now)))) }
@@ -347,8 +343,8 @@ impl<B: Width> Mul<IntervalSet<B>> for IntervalSet<B> {
     /// For each pair of runs, the numbers from the least to the greatest product. Condition: the
     /// products are in the range, which `fits_mul` tests.
     ///
-    /// `O(n m log (n m))` for `n` and `m` runs, in memory for twice `n * m` runs. An error is
-    /// memory that was refused.
+    /// `O(n m log (n m))` for `n` and `m` runs. Allocates room for twice `n * m` runs. Fails only
+    /// if allocation fails.
     ///
     /// ```
     /// let (a, b) = (IntervalSet::new(alloc, 1, 2)?, IntervalSet::new(alloc, 10, 10)?);
@@ -370,8 +366,8 @@ impl<B: Width> Mul<&IntervalSet<B>> for IntervalSet<B> {
     /// For each pair of runs, the numbers from the least to the greatest product. Condition: the
     /// products are in the range, which `fits_mul` tests.
     ///
-    /// `O(n m log (n m))` for `n` and `m` runs, in memory for twice `n * m` runs. An error is
-    /// memory that was refused; the borrowed set is not changed.
+    /// `O(n m log (n m))` for `n` and `m` runs. Allocates room for twice `n * m` runs. Fails only
+    /// if allocation fails.
     fn mul(self, rhs: &IntervalSet<B>) -> Result<IntervalSet<B>, AllocError> {
         combine(&self, rhs, Op::Product)
     }
@@ -387,8 +383,8 @@ impl<B: Width> Mul<IntervalSet<B>> for &IntervalSet<B> {
     /// For each pair of runs, the numbers from the least to the greatest product. Condition: the
     /// products are in the range, which `fits_mul` tests.
     ///
-    /// `O(n m log (n m))` for `n` and `m` runs, in memory for twice `n * m` runs. An error is
-    /// memory that was refused; the borrowed set is not changed.
+    /// `O(n m log (n m))` for `n` and `m` runs. Allocates room for twice `n * m` runs. Fails only
+    /// if allocation fails.
     fn mul(self, rhs: IntervalSet<B>) -> Result<IntervalSet<B>, AllocError> {
         combine(self, &rhs, Op::Product)
     }
@@ -404,8 +400,8 @@ impl<B: Width> Mul<&IntervalSet<B>> for &IntervalSet<B> {
     /// For each pair of runs, the numbers from the least to the greatest product. Condition: the
     /// products are in the range, which `fits_mul` tests.
     ///
-    /// `O(n m log (n m))` for `n` and `m` runs, in memory for twice `n * m` runs. An error is
-    /// memory that was refused; neither set is changed.
+    /// `O(n m log (n m))` for `n` and `m` runs. Allocates room for twice `n * m` runs. Fails only
+    /// if allocation fails.
     fn mul(self, rhs: &IntervalSet<B>) -> Result<IntervalSet<B>, AllocError> {
         combine(self, rhs, Op::Product)
     }
@@ -421,7 +417,7 @@ impl<B: Width> Mul<B> for IntervalSet<B> {
     /// For each run, the numbers from the least to the greatest product with the value. Condition:
     /// the products are in the range, which `fits_mul` tests; the value itself may lie outside.
     ///
-    /// `O(n)` for `n` runs, in memory for as many. An error is memory that was refused.
+    /// `O(n)` for `n` runs. Reserves as many once. Fails only if allocation fails.
     ///
     /// ```
     /// let a = IntervalSet::new(alloc, 1, 2)?;
@@ -450,7 +446,7 @@ impl<B: Width> Mul<&B> for IntervalSet<B> {
     /// For each run, the numbers from the least to the greatest product with the value. Condition:
     /// the products are in the range, which `fits_mul` tests; the value itself may lie outside.
     ///
-    /// `O(n)` for `n` runs, in memory for as many. An error is memory that was refused.
+    /// `O(n)` for `n` runs. Reserves as many once. Fails only if allocation fails.
     fn mul(self, rhs: &B) -> Result<IntervalSet<B>, AllocError>
         requires { IsSubset (ExactProducts (Covers self) (Only (B.value rhs.now))) (IsBetween B.whole) }
         ensures members { IfOk result (λ L. IsRunsOf L (Products (Covers self) (Only (B.value rhs.now)))) }
@@ -470,8 +466,7 @@ impl<B: Width> Mul<B> for &IntervalSet<B> {
     /// For each run, the numbers from the least to the greatest product with the value. Condition:
     /// the products are in the range, which `fits_mul` tests; the value itself may lie outside.
     ///
-    /// `O(n)` for `n` runs, in memory for as many. An error is memory that was refused; the set is
-    /// not changed.
+    /// `O(n)` for `n` runs. Reserves as many once. Fails only if allocation fails.
     fn mul(self, rhs: B) -> Result<IntervalSet<B>, AllocError>
         requires { IsSubset (ExactProducts (Covers self.now) (Only (B.value rhs))) (IsBetween B.whole) }
         ensures members { IfOk result (λ L. IsRunsOf L (Products (Covers self.now) (Only (B.value rhs)))) }
@@ -491,8 +486,7 @@ impl<B: Width> Mul<&B> for &IntervalSet<B> {
     /// For each run, the numbers from the least to the greatest product with the value. Condition:
     /// the products are in the range, which `fits_mul` tests; the value itself may lie outside.
     ///
-    /// `O(n)` for `n` runs, in memory for as many. An error is memory that was refused; the set is
-    /// not changed.
+    /// `O(n)` for `n` runs. Reserves as many once. Fails only if allocation fails.
     fn mul(self, rhs: &B) -> Result<IntervalSet<B>, AllocError>
         requires { IsSubset (ExactProducts (Covers self.now) (Only (B.value rhs.now))) (IsBetween B.whole) }
         ensures members { IfOk result (λ L. IsRunsOf L (Products (Covers self.now) (Only (B.value rhs.now)))) }

@@ -10,7 +10,7 @@ use std::alloc::{AllocError, Global};
 
 impl<B: Width> IntervalSet<B> {
     /// The set of `x` alone. Condition: `x` is in the range, which `Interval::whole().contains(&x)`
-    /// tests. `O(1)`, in memory for one run. An error is memory that was refused.
+    /// tests. `O(1)`. Allocates one run. Fails only if allocation fails.
     ///
     /// ```
     /// let five = IntervalSet::singleton(alloc, 5)?;
@@ -23,8 +23,7 @@ impl<B: Width> IntervalSet<B> {
         Self::new(alloc, x, x)
     }
 
-    /// The range of `B`, as one run. `O(1)`, in memory for one run. An error is memory that was
-    /// refused.
+    /// The range of `B`, as one run. `O(1)`. Allocates one run. Fails only if allocation fails.
     ///
     /// ```
     /// let bytes = IntervalSet::<u8>::whole(alloc)?;
@@ -36,8 +35,8 @@ impl<B: Width> IntervalSet<B> {
         Self::new(alloc, B::min_value(), B::max_value())
     }
 
-    /// The range of `B`, which every set entails. `O(1)`, in memory for one run. An error is memory
-    /// that was refused.
+    /// The range of `B`, which every set entails. `O(1)`. Allocates one run. Fails only if
+    /// allocation fails.
     ///
     /// ```
     /// assert!(rt; IntervalSet::<u8>::bot(alloc)? == IntervalSet::whole(alloc)?);
@@ -48,7 +47,7 @@ impl<B: Width> IntervalSet<B> {
         Self::whole(alloc)
     }
 
-    /// The set with no member, which entails every other. `O(1)`, and takes no memory.
+    /// Returns the empty set, which entails every other. `O(1)`. Does not allocate.
     ///
     /// ```
     /// assert!(rt; IntervalSet::<u8>::top(alloc).is_empty());
@@ -62,7 +61,7 @@ impl<B: Width> IntervalSet<B> {
 
 impl<B: Width> Bounded for IntervalSet<B> {
     /// The least member: the start of the first run. Condition: there is a member, which `is_empty`
-    /// tests. `O(1)`, with no memory.
+    /// tests. `O(1)`. Does not allocate.
     ///
     /// ```
     /// let a: IntervalSet<i32> = [(1, 2), (5, 6)].to_interval_set(alloc)?;
@@ -79,7 +78,7 @@ impl<B: Width> Bounded for IntervalSet<B> {
     }
 
     /// The greatest member: the end of the last run. Condition: there is a member, which `is_empty`
-    /// tests. `O(1)`, with no memory.
+    /// tests. `O(1)`. Does not allocate.
     ///
     /// ```
     /// let a: IntervalSet<i32> = [(1, 2), (5, 6)].to_interval_set(alloc)?;
@@ -99,7 +98,7 @@ impl<B: Width> Bounded for IntervalSet<B> {
 impl<B: Width> IsSingleton for IntervalSet<B> {
     ghost members = { Covers };
 
-    /// True exactly where there is one member and no other. `O(1)`, with no memory.
+    /// Returns true exactly when there is one member and no other. `O(1)`. Does not allocate.
     ///
     /// ```
     /// let a = IntervalSet::new(alloc, 1, 2)?;

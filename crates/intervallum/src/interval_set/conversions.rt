@@ -51,7 +51,7 @@ impl<B: Width> Iterator for IntoRuns<B> {
 
     ghost remaining = { item_count (λ rest. rest) };
 
-    /// The first of the runs that are left; none where no run is. `O(1)`, with no memory.
+    /// The first of the runs that are left; none where no run is. `O(1)`. Does not allocate.
     ///
     /// ```
     /// let a: IntervalSet<i32> = [(1, 2), (5, 6)].to_interval_set(alloc)?;
@@ -66,7 +66,7 @@ impl<B: Width> Iterator for IntoRuns<B> {
 impl<B: Width> DoubleEndedIterator for IntoRuns<B> {
     ghost next_back_gives = { YieldsLast (λ rest. rest) };
 
-    /// The last of the runs that are left; none where no run is. `O(1)`, with no memory.
+    /// The last of the runs that are left; none where no run is. `O(1)`. Does not allocate.
     ///
     /// ```
     /// let a: IntervalSet<i32> = [(1, 2), (5, 6)].to_interval_set(alloc)?;
@@ -85,7 +85,8 @@ impl<B: Width> IntoIterator for IntervalSet<B> {
 
     ghost into_iter_gives = { λ s it. it ≡ s };
 
-    /// The runs, ascending, from both ends; the set is taken apart. `O(1)`, with no memory.
+    /// Returns the runs, ascending, from both ends; the set is taken apart. `O(1)`. Does not
+    /// allocate.
     ///
     /// ```
     /// for run in IntervalSet::new(alloc, 1, 2)? {
@@ -104,7 +105,8 @@ impl<'a, B: Width> IntoIterator for &'a IntervalSet<B> {
 
     ghost into_iter_gives = { λ s it. it.rest.now ≡ s.now };
 
-    /// The runs, ascending, from both ends, as `iter` gives them. `O(1)`, with no memory.
+    /// Returns the runs, ascending, from both ends, as `iter` gives them. `O(1)`. Does not
+    /// allocate.
     ///
     /// ```
     /// let a: IntervalSet<i32> = [(1, 2), (5, 6)].to_interval_set(alloc)?;
@@ -183,8 +185,8 @@ pub trait ToIntervalSet<B: Width> {
     /// `Interval::in_range` tests. Pairs may stand in any order and overlap; a pair whose bounds
     /// cross adds nothing.
     ///
-    /// `O(n log n)` for `n` pairs, in memory for twice as many runs. An error is memory that was
-    /// refused.
+    /// `O(n log n)` for `n` pairs, in memory for twice as many runs. Fails only if allocation
+    /// fails.
     ///
     /// ```
     /// let a: IntervalSet<i32> = [(3, 8), (2, 5), (9, 4)].to_interval_set(alloc)?;
@@ -201,7 +203,7 @@ impl<B: Width> ToIntervalSet<B> for (B, B) {
     ghost pairs = { λ p. (B.value p.0, B.value p.1) ∷ [] };
 
     /// The set of the numbers from the first to the second; none where they cross. `O(1)`, in
-    /// memory for two runs. An error is memory that was refused.
+    /// memory for two runs. Fails only if allocation fails.
     fn to_interval_set(self, alloc: Global) -> Result<IntervalSet<B>, AllocError> {
         let mut list = Vec::with_capacity(alloc, 1)?;
         list.push(Interval::new(self.0, self.1))?;
@@ -214,7 +216,7 @@ impl<B: Width> ToIntervalSet<B> for &[(B, B)] {
 
     ghost pairs = { λ s. map (λ p. (B.value p.0, B.value p.1)) s.now };
 
-    /// The set of the members of every pair. An error is memory that was refused. The pairs are not
+    /// The set of the members of every pair. Fails only if allocation fails. The pairs are not
     /// changed.
     fn to_interval_set(self, alloc: Global) -> Result<IntervalSet<B>, AllocError> {
         of_pairs(alloc, self)
@@ -226,8 +228,7 @@ impl<B: Width> ToIntervalSet<B> for Vec<(B, B)> {
 
     ghost pairs = { λ v. map (λ p. (B.value p.0, B.value p.1)) v.items };
 
-    /// The set of the members of every pair. An error is memory that was refused. The vector is let
-    /// go.
+    /// The set of the members of every pair. Fails only if allocation fails. The vector is consumed.
     fn to_interval_set(self, alloc: Global) -> Result<IntervalSet<B>, AllocError> {
         of_pairs(alloc, self.as_slice())
     }
@@ -238,7 +239,7 @@ impl<B: Width, const N: usize> ToIntervalSet<B> for [(B, B); N] {
 
     ghost pairs = { λ a. map (λ p. (B.value p.0, B.value p.1)) a };
 
-    /// The set of the members of every pair. An error is memory that was refused.
+    /// The set of the members of every pair. Fails only if allocation fails.
     fn to_interval_set(self, alloc: Global) -> Result<IntervalSet<B>, AllocError> {
         of_pairs(alloc, &self)
     }

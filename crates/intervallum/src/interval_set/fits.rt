@@ -17,8 +17,8 @@ impl<B: Width> Fits<IntervalSet<B>> for IntervalSet<B> {
 
     ghost other_members = { Covers };
 
-    /// True exactly where `self + other` may be called, so always where a set is empty. `O(1)`,
-    /// with no memory.
+    /// Returns true exactly when `self + other` may be called, so always where a set is empty.
+    /// `O(1)`. Does not allocate.
     ///
     /// ```
     /// let a = IntervalSet::new(alloc, 100i8, 100)?;
@@ -29,8 +29,8 @@ impl<B: Width> Fits<IntervalSet<B>> for IntervalSet<B> {
         span(self).fits_add(&span(other))
     }
 
-    /// True exactly where `self - other` may be called, so always where a set is empty. `O(1)`,
-    /// with no memory.
+    /// Returns true exactly when `self - other` may be called, so always where a set is empty.
+    /// `O(1)`. Does not allocate.
     ///
     /// ```
     /// let a = IntervalSet::new(alloc, 3u8, 5)?;
@@ -41,8 +41,8 @@ impl<B: Width> Fits<IntervalSet<B>> for IntervalSet<B> {
         span(self).fits_sub(&span(other))
     }
 
-    /// True exactly where `self * other` may be called, so always where a set is empty. `O(1)`,
-    /// with no memory.
+    /// Returns true exactly when `self * other` may be called, so always where a set is empty.
+    /// `O(1)`. Does not allocate.
     ///
     /// ```
     /// let a = IntervalSet::new(alloc, 100i8, 100)?;
@@ -61,8 +61,8 @@ impl<B: Width> Fits<B> for IntervalSet<B> {
 
     ghost other_members = { λ x. Only (B.value x) };
 
-    /// True exactly where `self + *other` may be called; `other` may lie outside the range. `O(1)`,
-    /// with no memory.
+    /// Returns true exactly when `self + *other` may be called; `other` may lie outside the range.
+    /// `O(1)`. Does not allocate.
     ///
     /// ```
     /// let a = IntervalSet::new(alloc, 100i8, 100)?;
@@ -72,8 +72,8 @@ impl<B: Width> Fits<B> for IntervalSet<B> {
         span(self).fits_add(other)
     }
 
-    /// True exactly where `self - *other` may be called; `other` may lie outside the range. `O(1)`,
-    /// with no memory.
+    /// Returns true exactly when `self - *other` may be called; `other` may lie outside the range.
+    /// `O(1)`. Does not allocate.
     ///
     /// ```
     /// let a = IntervalSet::new(alloc, 3u8, 5)?;
@@ -83,8 +83,8 @@ impl<B: Width> Fits<B> for IntervalSet<B> {
         span(self).fits_sub(other)
     }
 
-    /// True exactly where `self * *other` may be called; `other` may lie outside the range. `O(1)`,
-    /// with no memory.
+    /// Returns true exactly when `self * *other` may be called; `other` may lie outside the range.
+    /// `O(1)`. Does not allocate.
     ///
     /// ```
     /// let a = IntervalSet::new(alloc, 100i8, 100)?;

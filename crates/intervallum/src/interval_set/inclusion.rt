@@ -14,9 +14,10 @@ use crate::width::Width;
 impl<B: Width> Subset for IntervalSet<B> {
     ghost members = { Covers };
 
-    /// True exactly where each member is a member of `other`, so always where there is none. Looks
-    /// at no run where this set has more members, and else searches each of its `n` runs among the
-    /// `m` of `other`, each from where the last one was found: `O(n log (m / n + 2))`, with no memory.
+    /// Returns true exactly when each member is a member of `other`, so always where there is none.
+    /// Looks at no run where this set has more members, and else searches each of its `n` runs
+    /// among the `m` of `other`, each from where the last one was found: `O(n log (m / n + 2))`.
+    /// Does not allocate.
     ///
     /// ```
     /// let (a, b) = (IntervalSet::new(alloc, 1, 2)?, IntervalSet::new(alloc, 0, 10)?);
@@ -63,8 +64,8 @@ fn holder<B: Width>(runs: &mut Probes<'_, B>, run: &Interval<B>, from: usize) ->
 impl<B: Width> ProperSubset for IntervalSet<B> {
     ghost members = { Covers };
 
-    /// True exactly where each member is a member of `other`, and `other` has more. `O(n log m)`,
-    /// with no memory; no run is looked at where the sizes are equal.
+    /// Returns true exactly when each member is a member of `other`, and `other` has more.
+    /// `O(n log m)`, with no memory; no run is looked at where the sizes are equal.
     ///
     /// ```
     /// let (a, b) = (IntervalSet::new(alloc, 1, 2)?, IntervalSet::new(alloc, 0, 10)?);
@@ -79,7 +80,7 @@ impl<B: Width> Entailment for IntervalSet<B> {
     ghost members = { Covers };
 
     /// `True` where `other` includes this set, else `False` where this one includes `other`, else
-    /// `Unknown`. `O(n log m + m log n)`, with no memory.
+    /// `Unknown`. `O(n log m + m log n)`. Does not allocate.
     ///
     /// ```
     /// let (a, b) = (IntervalSet::new(alloc, 1, 2)?, IntervalSet::new(alloc, 0, 10)?);

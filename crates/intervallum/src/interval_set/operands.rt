@@ -11,7 +11,7 @@ impl Overlap<IntervalSet<u8>> for u8 {
 
     ghost other_members = { Covers };
 
-    /// True exactly where the value is a member of `other`. `O(log n)`, with no memory.
+    /// Returns true exactly when the value is a member of `other`. `O(log n)`. Does not allocate.
     ///
     /// ```
     /// let a = IntervalSet::new(alloc, 1u8, 2)?;
@@ -27,7 +27,7 @@ impl Overlap<IntervalSet<u16>> for u16 {
 
     ghost other_members = { Covers };
 
-    /// True exactly where the value is a member of `other`. `O(log n)`, with no memory.
+    /// Returns true exactly when the value is a member of `other`. `O(log n)`. Does not allocate.
     fn overlap(&self, other: &IntervalSet<u16>) -> bool {
         other.contains(self)
     }
@@ -38,7 +38,7 @@ impl Overlap<IntervalSet<u32>> for u32 {
 
     ghost other_members = { Covers };
 
-    /// True exactly where the value is a member of `other`. `O(log n)`, with no memory.
+    /// Returns true exactly when the value is a member of `other`. `O(log n)`. Does not allocate.
     fn overlap(&self, other: &IntervalSet<u32>) -> bool {
         other.contains(self)
     }
@@ -49,7 +49,7 @@ impl Overlap<IntervalSet<u64>> for u64 {
 
     ghost other_members = { Covers };
 
-    /// True exactly where the value is a member of `other`. `O(log n)`, with no memory.
+    /// Returns true exactly when the value is a member of `other`. `O(log n)`. Does not allocate.
     fn overlap(&self, other: &IntervalSet<u64>) -> bool {
         other.contains(self)
     }
@@ -60,7 +60,7 @@ impl Overlap<IntervalSet<usize>> for usize {
 
     ghost other_members = { Covers };
 
-    /// True exactly where the value is a member of `other`. `O(log n)`, with no memory.
+    /// Returns true exactly when the value is a member of `other`. `O(log n)`. Does not allocate.
     fn overlap(&self, other: &IntervalSet<usize>) -> bool {
         other.contains(self)
     }
@@ -71,7 +71,7 @@ impl Overlap<IntervalSet<i8>> for i8 {
 
     ghost other_members = { Covers };
 
-    /// True exactly where the value is a member of `other`. `O(log n)`, with no memory.
+    /// Returns true exactly when the value is a member of `other`. `O(log n)`. Does not allocate.
     fn overlap(&self, other: &IntervalSet<i8>) -> bool {
         other.contains(self)
     }
@@ -82,7 +82,7 @@ impl Overlap<IntervalSet<i16>> for i16 {
 
     ghost other_members = { Covers };
 
-    /// True exactly where the value is a member of `other`. `O(log n)`, with no memory.
+    /// Returns true exactly when the value is a member of `other`. `O(log n)`. Does not allocate.
     fn overlap(&self, other: &IntervalSet<i16>) -> bool {
         other.contains(self)
     }
@@ -93,7 +93,7 @@ impl Overlap<IntervalSet<i32>> for i32 {
 
     ghost other_members = { Covers };
 
-    /// True exactly where the value is a member of `other`. `O(log n)`, with no memory.
+    /// Returns true exactly when the value is a member of `other`. `O(log n)`. Does not allocate.
     fn overlap(&self, other: &IntervalSet<i32>) -> bool {
         other.contains(self)
     }
@@ -104,7 +104,7 @@ impl Overlap<IntervalSet<i64>> for i64 {
 
     ghost other_members = { Covers };
 
-    /// True exactly where the value is a member of `other`. `O(log n)`, with no memory.
+    /// Returns true exactly when the value is a member of `other`. `O(log n)`. Does not allocate.
     fn overlap(&self, other: &IntervalSet<i64>) -> bool {
         other.contains(self)
     }
@@ -115,7 +115,7 @@ impl Overlap<IntervalSet<isize>> for isize {
 
     ghost other_members = { Covers };
 
-    /// True exactly where the value is a member of `other`. `O(log n)`, with no memory.
+    /// Returns true exactly when the value is a member of `other`. `O(log n)`. Does not allocate.
     fn overlap(&self, other: &IntervalSet<isize>) -> bool {
         other.contains(self)
     }

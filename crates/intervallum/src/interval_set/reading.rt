@@ -10,8 +10,8 @@ use crate::steps::{Place, Probes, find};
 use crate::width::Width;
 
 impl<B: Width> Contains for IntervalSet<B> {
-    /// True exactly where `item` is a member; it may be any value of its type. Searches by halves:
-    /// `O(log n)`, with no memory.
+    /// Returns true exactly when `item` is a member; it may be any value of its type. Binary
+    /// search: `O(log n)`. Does not allocate.
     ///
     /// ```
     /// let a: IntervalSet<i32> = [(1, 2), (5, 6)].to_interval_set(alloc)?;
@@ -31,8 +31,8 @@ impl<B: Width> Overlap<B> for IntervalSet<B> {
 
     ghost other_members = { λ x. Only (B.value x) };
 
-    /// True exactly where the value is a member; any value of its type may be asked for.
-    /// `O(log n)`, with no memory.
+    /// Returns true exactly when the value is a member; any value of its type may be asked for.
+    /// `O(log n)`. Does not allocate.
     ///
     /// ```
     /// let a: IntervalSet<i32> = [(1, 2), (5, 6)].to_interval_set(alloc)?;
@@ -48,7 +48,8 @@ impl<B: Width> Overlap<Optional<B>> for IntervalSet<B> {
 
     ghost other_members = { λ o. Held (option_map B.value o) };
 
-    /// True exactly where there is a value and it is a member. `O(log n)`, with no memory.
+    /// Returns true exactly when there is a value and it is a member. `O(log n)`. Does not
+    /// allocate.
     ///
     /// ```
     /// let a: IntervalSet<i32> = [(1, 2), (5, 6)].to_interval_set(alloc)?;

@@ -38,7 +38,7 @@ impl<B: Width> IntervalSet<B> {
         *self.intervals.allocator()
     }
 
-    /// The set with no member, with room for a number of runs.
+    /// Returns the empty set, with room for a number of runs.
     pub(crate) fn with_room(alloc: Global, runs: usize) -> Result<Self, AllocError>
         ensures { IfOk result (λ L. L ≡ []) }
     {

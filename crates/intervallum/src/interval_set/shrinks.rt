@@ -19,9 +19,8 @@ impl<B: Width> ShrinkLeft for IntervalSet<B> {
 
     ghost answers = { λ r S. IfOk r (λ L. IsRunsOf L S) };
 
-    /// The members that are at least `lower`, which may be any value of its type. Searches by
-    /// halves: `O(log n + k)` where `k` runs stay, in memory that is reserved once for `k` runs. An
-    /// error is memory that was refused; the set is not changed.
+    /// The members that are at least `lower`, which may be any value of its type. Binary search:
+    /// `O(log n + k)` where `k` runs stay. Reserves `k` runs once. Fails only if allocation fails.
     ///
     /// ```
     /// let a = IntervalSet::new(alloc, 1, 5)?;
@@ -40,9 +39,8 @@ impl<B: Width> ShrinkRight for IntervalSet<B> {
 
     ghost answers = { λ r S. IfOk r (λ L. IsRunsOf L S) };
 
-    /// The members that are at most `upper`, which may be any value of its type. Searches by
-    /// halves: `O(log n + k)` where `k` runs stay, in memory that is reserved once for `k` runs. An
-    /// error is memory that was refused; the set is not changed.
+    /// The members that are at most `upper`, which may be any value of its type. Binary search:
+    /// `O(log n + k)` where `k` runs stay. Reserves `k` runs once. Fails only if allocation fails.
     ///
     /// ```
     /// let a = IntervalSet::new(alloc, 1, 5)?;
@@ -61,9 +59,8 @@ impl<B: Width> StrictShrinkLeft for IntervalSet<B> {
 
     ghost answers = { λ r S. IfOk r (λ L. IsRunsOf L S) };
 
-    /// The members above `lower`, which may be any value of its type. Searches by halves:
-    /// `O(log n + k)` where `k` runs stay, in memory that is reserved once for `k` runs. An error
-    /// is memory that was refused; the set is not changed.
+    /// The members above `lower`, which may be any value of its type. Binary search: `O(log n + k)`
+    /// where `k` runs stay. Reserves `k` runs once. Fails only if allocation fails.
     ///
     /// ```
     /// let a = IntervalSet::new(alloc, 1, 5)?;
@@ -82,9 +79,8 @@ impl<B: Width> StrictShrinkRight for IntervalSet<B> {
 
     ghost answers = { λ r S. IfOk r (λ L. IsRunsOf L S) };
 
-    /// The members below `upper`, which may be any value of its type. Searches by halves:
-    /// `O(log n + k)` where `k` runs stay, in memory that is reserved once for `k` runs. An error
-    /// is memory that was refused; the set is not changed.
+    /// The members below `upper`, which may be any value of its type. Binary search: `O(log n + k)`
+    /// where `k` runs stay. Reserves `k` runs once. Fails only if allocation fails.
     ///
     /// ```
     /// let a = IntervalSet::new(alloc, 1, 5)?;

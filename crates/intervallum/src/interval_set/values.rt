@@ -21,8 +21,8 @@ impl<B: Width> Union<B> for IntervalSet<B> {
     ghost answers = { λ r S. IfOk r (λ L. IsRunsOf L S) };
 
     /// The members, and the value. `O(n)`: a copy where the value is a member, else in memory for
-    /// `n + 1` runs, and for one run that holds the value meanwhile. An error is memory that was
-    /// refused; the set is not changed.
+    /// `n + 1` runs, and for one run that holds the value meanwhile. Fails only if allocation
+    /// fails.
     ///
     /// Condition: the value is in the range, which `Interval::in_range(value, value)` tests.
     ///
@@ -57,8 +57,7 @@ impl<B: Width> SymmetricDifference<B> for IntervalSet<B> {
     ghost answers = { λ r S. IfOk r (λ L. IsRunsOf L S) };
 
     /// The members without the value where it is one, else with it. `O(n)`, in memory for `n + 1`
-    /// runs, and for one run that holds the value meanwhile. An error is memory that was refused;
-    /// the set is not changed.
+    /// runs, and for one run that holds the value meanwhile. Fails only if allocation fails.
     ///
     /// Condition: the value is in the range, which `Interval::in_range(value, value)` tests.
     ///
@@ -86,8 +85,7 @@ impl<B: Width> Intersection<B> for IntervalSet<B> {
     ghost answers = { λ r S. IfOk r (λ L. IsRunsOf L S) };
 
     /// The value alone where it is a member, else none; for any value of its type. `O(log n)`, in
-    /// memory for one run where it is a member. An error is memory that was refused; the set is not
-    /// changed.
+    /// memory for one run where it is a member. Fails only if allocation fails.
     ///
     /// ```
     /// let a = IntervalSet::new(alloc, 1, 5)?;
@@ -117,8 +115,8 @@ impl<B: Width> Difference<B> for IntervalSet<B> {
     ghost answers = { λ r S. IfOk r (λ L. IsRunsOf L S) };
 
     /// The members but the value; for any value of its type. `O(n)`: a copy where the value is no
-    /// member, else in memory for `n + 1` runs, and for one run that holds the value meanwhile. An
-    /// error is memory that was refused; the set is not changed.
+    /// member, else in memory for `n + 1` runs, and for one run that holds the value meanwhile.
+    /// Fails only if allocation fails.
     ///
     /// ```
     /// let a = IntervalSet::new(alloc, 1, 5)?;

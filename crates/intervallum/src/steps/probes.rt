@@ -35,7 +35,7 @@ impl<'a, B: Width> Model for Probes<'a, B> {
 }
 
 impl<'a, B: Width> Probes<'a, B> {
-    /// The runs of the set, with no look taken. `O(1)`, with no memory.
+    /// The runs of the set, with no look taken. `O(1)`. Does not allocate.
     ///
     /// ```
     /// let a: IntervalSet<i32> = [(1, 2), (5, 6)].to_interval_set(alloc)?;
@@ -51,7 +51,7 @@ impl<'a, B: Width> Probes<'a, B> {
         }
     }
 
-    /// How many runs there are. This is no look. `O(1)`, with no memory.
+    /// How many runs there are. This is no look. `O(1)`. Does not allocate.
     ///
     /// ```
     /// let a: IntervalSet<i32> = [(1, 2), (5, 6)].to_interval_set(alloc)?;
@@ -65,8 +65,8 @@ impl<'a, B: Width> Probes<'a, B> {
         self.runs.len()
     }
 
-    /// Run number `i`, from 0, by one look. Condition: `i` is less than `len()`. `O(1)`, with no
-    /// memory.
+    /// Run number `i`, from 0, by one look. Condition: `i` is less than `len()`. `O(1)`. Does not
+    /// allocate.
     ///
     /// ```
     /// let a: IntervalSet<i32> = [(1, 2), (5, 6)].to_interval_set(alloc)?;

@@ -22,9 +22,9 @@ pub enum Place {
     Gap(usize),
 }
 
-/// Where `v` stands, which may be any value of its type. A contract also sees the run that holds `v`,
-/// or the next and the previous member. Looks at no run where there is none, and else at no more
-/// runs than their number has binary digits: `O(log n)`, with no memory.
+/// Where `v` stands, which may be any value of its type. A contract also sees the run that holds
+/// `v`, or the next and the previous member. Looks at no run where there is none, and else at no
+/// more runs than their number has binary digits: `O(log n)`. Does not allocate.
 ///
 /// ```
 /// let a: IntervalSet<i32> = [(1, 2), (5, 6)].to_interval_set(alloc)?;

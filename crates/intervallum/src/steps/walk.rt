@@ -40,7 +40,7 @@ impl<'a, B: Width> Model for Walk<'a, B> {
 }
 
 impl<'a, B: Width> Walk<'a, B> {
-    /// A walk that has all runs of the set before it. `O(1)`, with no memory.
+    /// A walk that has all runs of the set before it. `O(1)`. Does not allocate.
     ///
     /// ```
     /// let a: IntervalSet<i32> = [(1, 2), (5, 6)].to_interval_set(alloc)?;
@@ -58,7 +58,7 @@ impl<'a, B: Width> Walk<'a, B> {
         }
     }
 
-    /// The first of the runs that are left; none where no run is. `O(1)`, with no memory.
+    /// The first of the runs that are left; none where no run is. `O(1)`. Does not allocate.
     ///
     /// ```
     /// let a: IntervalSet<i32> = [(1, 2), (5, 6)].to_interval_set(alloc)?;
@@ -73,8 +73,8 @@ impl<'a, B: Width> Walk<'a, B> {
         self.runs.get(self.taken).copied()
     }
 
-    /// Takes the first of the runs away. Condition: there is one, which `peek` tests. `O(1)`, with
-    /// no memory.
+    /// Takes the first of the runs away. Condition: there is one, which `peek` tests. `O(1)`. Does
+    /// not allocate.
     ///
     /// ```
     /// let a: IntervalSet<i32> = [(1, 2), (5, 6)].to_interval_set(alloc)?;
@@ -103,8 +103,8 @@ impl<'a, B: Width> Walk<'a, B> {
         Some(run)
     }
 
-    /// How many runs are left: with the advances made, they are the runs of the set. `O(1)`, with
-    /// no memory.
+    /// How many runs are left: with the advances made, they are the runs of the set. `O(1)`. Does
+    /// not allocate.
     ///
     /// ```
     /// let a: IntervalSet<i32> = [(1, 2), (5, 6)].to_interval_set(alloc)?;
@@ -126,7 +126,7 @@ impl<'a, B: Width> Walk<'a, B> {
         let _taken = self.taken;
     }
 
-    /// The allocator of the set. `O(1)`, with no memory.
+    /// The allocator of the set. `O(1)`. Does not allocate.
     ///
     /// ```
     /// let a: IntervalSet<i32> = [(1, 2), (5, 6)].to_interval_set(alloc)?;

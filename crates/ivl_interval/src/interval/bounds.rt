@@ -13,8 +13,9 @@ use crate::ops::{
 use crate::width::{SizeNumber, Width};
 
 impl<B: Width> Interval<B> {
-    /// True exactly where `new(lb, ub)` may be called: `lb` is not below the range and `ub` is not
-    /// above it. The two may cross, so `in_range(8, 3)` is true, and `new(8, 3)` has no member.
+    /// Returns true exactly when `new(lb, ub)` may be called: `lb` is not below the range and `ub`
+    /// is not above it. The two may cross, so `in_range(8, 3)` is true, and `new(8, 3)` has no
+    /// member.
     ///
     /// ```
     /// assert!(rt; Interval::in_range(8u8, 3) && !Interval::in_range(0u8, 255));
@@ -202,7 +203,7 @@ impl<B: Width> Cardinality for Interval<B> {
 
     ghost size_number = { B.Output.size };
 
-    /// The number of members.
+    /// Returns the number of members.
     ///
     /// ```
     /// assert_eq!(rt; Interval::<u8>::whole().size(), 255);
@@ -222,7 +223,7 @@ impl<B: Width> Cardinality for Interval<B> {
 impl<B: Width> IsEmpty for Interval<B> {
     ghost members = { IsBetween };
 
-    /// True exactly where there is no member: the lower bound is above the upper.
+    /// Returns true exactly when there is no member: the lower bound is above the upper.
     ///
     /// ```
     /// assert!(rt; Interval::new(8i32, 3).is_empty() && !Interval::new(3i32, 3).is_empty());
@@ -239,7 +240,7 @@ impl<B: Width> IsEmpty for Interval<B> {
 impl<B: Width> IsSingleton for Interval<B> {
     ghost members = { IsBetween };
 
-    /// True exactly where there is one member: the bounds are equal.
+    /// Returns true exactly when there is one member: the bounds are equal.
     ///
     /// ```
     /// assert!(rt; Interval::new(5i32, 5).is_singleton());
@@ -254,8 +255,8 @@ impl<B: Width> IsSingleton for Interval<B> {
 }
 
 impl<B: Width> Contains for Interval<B> {
-    /// True exactly where `item` is a member; it may be any value of its type, also one outside the
-    /// range.
+    /// Returns true exactly when `item` is a member; it may be any value of its type, also one
+    /// outside the range.
     ///
     /// ```
     /// assert!(rt; !Interval::<u8>::whole().contains(&255));

@@ -17,7 +17,7 @@ impl<B: Width> Fits<Interval<B>> for Interval<B> {
 
     ghost other_members = { IsBetween };
 
-    /// True exactly where `self + other` may be called.
+    /// Returns true exactly when `self + other` may be called.
     ///
     /// ```
     /// let a = Interval::new(100i8, 100);
@@ -30,7 +30,7 @@ impl<B: Width> Fits<Interval<B>> for Interval<B> {
         has_sum(self.lb, other.lb) && has_sum(self.ub, other.ub)
     }
 
-    /// True exactly where `self - other` may be called.
+    /// Returns true exactly when `self - other` may be called.
     ///
     /// ```
     /// let a = Interval::new(3u8, 5);
@@ -43,7 +43,7 @@ impl<B: Width> Fits<Interval<B>> for Interval<B> {
         has_difference(self.lb, other.ub) && has_difference(self.ub, other.lb)
     }
 
-    /// True exactly where `self * other` may be called.
+    /// Returns true exactly when `self * other` may be called.
     ///
     /// ```
     /// let a = Interval::new(-2i8, 3);
@@ -64,7 +64,7 @@ impl<B: Width> Fits<B> for Interval<B> {
 
     ghost other_members = { λ x. Only (B.value x) };
 
-    /// True exactly where `self + *other` may be called; `other` may lie outside the range.
+    /// Returns true exactly when `self + *other` may be called; `other` may lie outside the range.
     ///
     /// ```
     /// let a = Interval::new(1i8, 5);
@@ -77,7 +77,7 @@ impl<B: Width> Fits<B> for Interval<B> {
         has_sum(self.lb, *other) && has_sum(self.ub, *other)
     }
 
-    /// True exactly where `self - *other` may be called; `other` may lie outside the range.
+    /// Returns true exactly when `self - *other` may be called; `other` may lie outside the range.
     ///
     /// ```
     /// let a = Interval::new(3u8, 5);
@@ -90,7 +90,7 @@ impl<B: Width> Fits<B> for Interval<B> {
         has_difference(self.lb, *other) && has_difference(self.ub, *other)
     }
 
-    /// True exactly where `self * *other` may be called; `other` may lie outside the range.
+    /// Returns true exactly when `self * *other` may be called; `other` may lie outside the range.
     ///
     /// ```
     /// let a = Interval::new(1i8, 64);

@@ -16,7 +16,7 @@ impl<B: Width> Disjoint<Interval<B>> for Interval<B> {
 
     ghost other_members = { IsBetween };
 
-    /// True exactly where no number is a member of both.
+    /// Returns true exactly when no number is a member of both.
     ///
     /// ```
     /// assert!(rt; !Interval::new(1i32, 5).is_disjoint(&Interval::new(5, 9)));
@@ -31,7 +31,7 @@ impl<B: Width> Overlap<Interval<B>> for Interval<B> {
 
     ghost other_members = { IsBetween };
 
-    /// True exactly where some number is a member of both.
+    /// Returns true exactly when some number is a member of both.
     ///
     /// ```
     /// assert!(rt; !Interval::new(1i32, 2).overlap(&Interval::new(3, 4)));
@@ -157,7 +157,7 @@ impl<B: Width> Hull<Interval<B>> for Interval<B> {
 impl<B: Width> Subset for Interval<B> {
     ghost members = { IsBetween };
 
-    /// True exactly where each member is a member of `other`, so always where there is none.
+    /// Returns true exactly when each member is a member of `other`, so always where there is none.
     ///
     /// ```
     /// assert!(rt; Interval::empty().is_subset(&Interval::new(1i32, 2)));
@@ -173,7 +173,7 @@ impl<B: Width> Subset for Interval<B> {
 impl<B: Width> ProperSubset for Interval<B> {
     ghost members = { IsBetween };
 
-    /// True exactly where each member is a member of `other`, and `other` has more.
+    /// Returns true exactly when each member is a member of `other`, and `other` has more.
     ///
     /// ```
     /// assert!(rt; Interval::empty().is_proper_subset(&Interval::new(1i32, 2)));

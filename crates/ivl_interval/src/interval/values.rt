@@ -15,7 +15,7 @@ impl<B: Width> Disjoint<B> for Interval<B> {
 
     ghost other_members = { λ x. Only (B.value x) };
 
-    /// True exactly where the value is no member.
+    /// Returns true exactly when the value is no member.
     ///
     /// ```
     /// let a = Interval::new(3i32, 8);
@@ -31,7 +31,7 @@ impl<B: Width> Overlap<B> for Interval<B> {
 
     ghost other_members = { λ x. Only (B.value x) };
 
-    /// True exactly where the value is a member.
+    /// Returns true exactly when the value is a member.
     ///
     /// ```
     /// let a = Interval::new(3i32, 8);
@@ -121,7 +121,7 @@ impl<B: Width> Disjoint<Optional<B>> for Interval<B> {
 
     ghost other_members = { λ o. Held (option_map B.value o) };
 
-    /// True exactly where the value is absent or no member.
+    /// Returns true exactly when the value is absent or no member.
     ///
     /// ```
     /// let a = Interval::new(3i32, 8);
@@ -137,7 +137,7 @@ impl<B: Width> Overlap<Optional<B>> for Interval<B> {
 
     ghost other_members = { λ o. Held (option_map B.value o) };
 
-    /// True exactly where there is a value and it is a member.
+    /// Returns true exactly when there is a value and it is a member.
     ///
     /// ```
     /// let a = Interval::new(3i32, 8);
@@ -202,7 +202,7 @@ impl<B: Width> Disjoint<Interval<B>> for B {
 
     ghost other_members = { IsBetween };
 
-    /// True exactly where the value is no member of `other`.
+    /// Returns true exactly when the value is no member of `other`.
     ///
     /// ```
     /// let a = Interval::new(3i32, 8);
@@ -218,7 +218,7 @@ impl<B: Width> Overlap<Interval<B>> for B {
 
     ghost other_members = { IsBetween };
 
-    /// True exactly where the value is a member of `other`.
+    /// Returns true exactly when the value is a member of `other`.
     ///
     /// ```
     /// let a = Interval::new(3i32, 8);
@@ -257,7 +257,7 @@ impl<B: Width> Disjoint<Interval<B>> for Optional<B> {
 
     ghost other_members = { IsBetween };
 
-    /// True exactly where the value is absent or no member of `other`.
+    /// Returns true exactly when the value is absent or no member of `other`.
     ///
     /// ```
     /// let a = Interval::new(3i32, 8);
@@ -273,7 +273,7 @@ impl<B: Width> Overlap<Interval<B>> for Optional<B> {
 
     ghost other_members = { IsBetween };
 
-    /// True exactly where there is a value and it is a member of `other`.
+    /// Returns true exactly when there is a value and it is a member of `other`.
     ///
     /// ```
     /// let a = Interval::new(3i32, 8);
