@@ -16,8 +16,9 @@ fn hundred(
     last: i128,
 ) -> Result<IntervalSet<i32>, Fail> {
     let mut pairs: Vec<(i128, i128)> = Vec::with_capacity(rt.alloc(), 100)?;
-    for ten in 0..100i128 {
-        pairs.push((ten * 10 + first, ten * 10 + last))?;
+    for ten in 0..100i32 {
+        let start = i128::from(ten).saturating_mul(10);
+        pairs.push((start.saturating_add(first), start.saturating_add(last)))?;
     }
     ints(rt, &pairs)
 }
