@@ -238,7 +238,7 @@ impl Measure {
             Measure::SubsetFew => Outcome::Number(u64::from(inputs.few.is_subset(&inputs.many))),
             Measure::IntersectionValue => Outcome::Set(a.intersection(&inputs.middle)?),
             Measure::NextFrom => Outcome::Number(nexts(a, &inputs.probes)),
-            Measure::FirstFit => Outcome::Number(u64::from(a.first_fit(LONGER).is_some())),
+            Measure::FirstFit => Outcome::Number(u64::from(has_room(a, LONGER))),
             Measure::InsertRandom => Outcome::Set(edits::inserted(a, &inputs.edits)?),
             Measure::RemoveRandom => Outcome::Set(edits::removed(a, &inputs.edits)?),
             Measure::PopFirst => Outcome::Number(edits::popped(a)?),
@@ -288,6 +288,11 @@ fn nexts(set: &IntervalSet<i64>, probes: &[i64]) -> u64 {
         }
     }
     nexts
+}
+
+/// Whether so many members are consecutive somewhere.
+fn has_room(set: &IntervalSet<i64>, count: u64) -> bool {
+    count > 0 && set.first_fit(count).is_some()
 }
 
 fn sum(a: &IntervalSet<i64>, b: &IntervalSet<i64>) -> Result<Outcome, AllocError> {
