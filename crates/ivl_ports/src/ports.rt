@@ -1,0 +1,97 @@
+//! An allocator of ports: it takes the lowest free ones that are consecutive.
+ghost use Rattle.std.specs.Prelude.{◌≡◌, ◌↔◌, ◌<◌, ◌≤◌, ℤ, pos, ◌∷◌, [], List, IfOk, IsTrue, MatchOption, OnErr, OnOk};
+ghost use Rattle.ivl_laws.specs.Counts.{IsCountOf};
+ghost use Rattle.ivl_laws.specs.Sets.{HasNone, Intersection, IsBetween, Union, Without};
+ghost use Rattle.ivl_laws.specs.Runs.{Covers, IsRunsOf};
+ghost use Rattle.intervallum.specs.Rooms.{FitsAt, IsFirstFit};
+
+use intervallum::interval::Interval;
+use intervallum::interval_set::IntervalSet;
+use intervallum::ops::{Cardinality, Overlap};
+use std::alloc::{AllocError, Global};
+use std::marker::Model;
+
+/// The free ports. A contract sees the list of their runs.
+///
+/// ```
+/// let mut ports = Ports::new(alloc, 1024, 2047)?;
+/// assert!(rt; ports.take(8)? == Some(Interval::new(1024, 1031)));
+/// assert!(rt; ports.take(2)? == Some(Interval::new(1032, 1033)));
+/// ports.give_back(Interval::new(1024, 1031))?;
+/// assert_eq!(rt; ports.free_count(), 1022);
+/// ```
+#[derive(Drop)]
+pub struct Ports {
+    free: IntervalSet<u32>,
+}
+
+impl Model for Ports {
+    ghost Value = { List (ℤ × ℤ) };
+
+    ghost view = { λ p. p.free };
+}
+
+impl Ports {
+    /// Returns an allocator whose ports are all free. The caller must ensure that `lowest` is at most
+    /// `highest`. Fails only if allocation fails.
+    pub fn new(alloc: Global, lowest: u16, highest: u16) -> Result<Ports, AllocError>
+        requires { lowest ≤ highest }
+        ensures { IfOk result (λ L. L ≡ (pos lowest, pos highest) ∷ []) }
+    {
+        Ok(Ports {
+            free: IntervalSet::new(alloc, u32::from(lowest), u32::from(highest))?,
+        })
+    }
+
+    /// The free ports.
+    pub fn free(&self) -> &IntervalSet<u32>
+        ensures { result.now ≡ self.now }
+    {
+        &self.free
+    }
+
+    /// How many ports are free.
+    pub fn free_count(&self) -> u32
+        ensures { IsCountOf result (Covers self.now) }
+    {
+        self.free.size()
+    }
+
+    /// Returns true exactly when none of the ports is free.
+    pub fn are_taken(&self, ports: &Interval<u32>) -> bool
+        ensures { IsTrue result ↔ HasNone (Intersection (Covers self.now) (IsBetween ports.now)) }
+    {
+        !self.free.overlap(ports)
+    }
+
+    /// Takes the lowest `count` consecutive free ports, or returns `None` if there are not so many.
+    /// The caller must ensure that `count` is above 0.
+    ///
+    /// # Errors
+    ///
+    /// Fails only if allocation fails. Nothing is taken then.
+    pub fn take(&mut self, count: u32) -> Result<Option<Interval<u32>>, AllocError>
+        requires { 0 < count }
+        ensures none { IfOk result (λ o. MatchOption o (((v : ℤ) → ¬ (FitsAt count (Covers self.old) v)) × (self.new ≡ self.old))
+            (λ taken. IsFirstFit count (Covers self.old) taken × IsRunsOf self.new (Without (Covers self.old) (IsBetween taken)))) }
+        ensures err { OnErr result (self.new ≡ self.old) }
+    {
+        let Some(ports) = self.free.first_fit(count) else {
+            return Ok(None);
+        };
+        self.free.remove_interval(ports)?;
+        Ok(Some(ports))
+    }
+
+    /// Gives ports back; those that are free already stay free.
+    ///
+    /// # Errors
+    ///
+    /// Fails only if allocation fails. Nothing is given back then.
+    pub fn give_back(&mut self, ports: Interval<u32>) -> Result<(), AllocError>
+        ensures ok { OnOk result (IsRunsOf self.new (Union (Covers self.old) (IsBetween ports))) }
+        ensures err { OnErr result (self.new ≡ self.old) }
+    {
+        self.free.insert_interval(ports)
+    }
+}
