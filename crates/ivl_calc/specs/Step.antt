@@ -4,7 +4,7 @@
 --     MustFit s making      the numbers that have to lie in the range, or the action is refused
 --     IsReportOf whole s making answer      what is answered where a register is given a set
 --     IsAnswerTo s question answer      the answer to a question
---     IsRefusedFor whole s action why      why an action is refused, want of memory aside; the first reason counts
+--     IsRefusedFor whole s action why      why an action is refused, failed allocations aside; the first reason counts
 --     IsAllowed whole s action      none of these reasons is there
 --     MayStep whole old action answer new      this answer may be given, and the state go on from old to new
 --     Run whole old actions answers new      the same for a list of actions, one after another

@@ -63,7 +63,7 @@ impl<B: Width> Calc<B> {
         self.registers.len()
     }
 
-    /// The set in a register; none exactly where the index has no register. `O(1)`. Does not
+    /// The set in a register; `None` if the index has no register. `O(1)`. Does not
     /// allocate.
     pub fn get(&self, register: usize) -> Option<&IntervalSet<B>>
         ensures known { IsSome result ↔ (register < length self.now) }

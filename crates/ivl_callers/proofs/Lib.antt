@@ -1,4 +1,3 @@
 pub mod Sizes
-pub mod Members
 pub mod Algebra
 pub mod Items

@@ -12,7 +12,7 @@ pub mod operands;
 pub mod pairs;
 pub mod values;
 
-use crate::callers;
+use ivl_interval_callers::callers;
 use intervallum::interval::Interval;
 use intervallum::interval_set::IntervalSet;
 use intervallum::width::Width;

@@ -34,7 +34,7 @@ pub trait SizeNumber: Ord + Copy {
         ensures number { result ≡ size self }
         ensures at_most { size self ≤ greatest };
 
-    /// The value of a number; none exactly where the number is above the greatest one.
+    /// The value of a number; `None` if the number is above the greatest one.
     ///
     /// ```
     /// assert_eq!(rt; <u8 as SizeNumber>::from_number(256), None);
@@ -54,7 +54,7 @@ pub trait SizeNumber: Ord + Copy {
         Self::from_number(0).unwrap()
     }
 
-    /// The sum; none exactly where it is not a number of the type.
+    /// The sum; `None` if it is not a number of the type.
     ///
     /// ```
     /// assert_eq!(rt; <u8 as SizeNumber>::checked_add(200, 55), Some(255));
@@ -67,7 +67,7 @@ pub trait SizeNumber: Ord + Copy {
         Self::from_number(self.number().checked_add(other.number())?)
     }
 
-    /// The difference; none exactly where it is negative.
+    /// The difference; `None` if it is negative.
     ///
     /// ```
     /// assert_eq!(rt; <u8 as SizeNumber>::checked_sub(3, 4), None);
@@ -152,7 +152,7 @@ pub trait Width: Ord + Copy {
     fn number(self) -> i128
         ensures { result ≡ value self };
 
-    /// The value of a number; none exactly where the number is not in the range.
+    /// The value of a number; `None` if the number is not in the range.
     ///
     /// ```
     /// assert_eq!(rt; <u8 as Width>::from_number(254), Some(254));
@@ -200,7 +200,7 @@ pub trait Width: Ord + Copy {
         Self::from_number(1).unwrap()
     }
 
-    /// The sum; none exactly where it is not in the range.
+    /// The sum; `None` if it is not in the range.
     ///
     /// ```
     /// assert_eq!(rt; <u8 as Width>::checked_add(200, 54), Some(254));
@@ -213,7 +213,7 @@ pub trait Width: Ord + Copy {
         Self::from_number(self.number().checked_add(other.number())?)
     }
 
-    /// The difference; none exactly where it is not in the range.
+    /// The difference; `None` if it is not in the range.
     ///
     /// ```
     /// assert_eq!(rt; <u8 as Width>::checked_sub(3, 4), None);
@@ -225,7 +225,7 @@ pub trait Width: Ord + Copy {
         Self::from_number(self.number().checked_sub(other.number())?)
     }
 
-    /// The product; none exactly where it is not in the range. Two numbers of 64 bits can have a
+    /// The product; `None` if it is not in the range. Two numbers of 64 bits can have a
     /// product beyond 128 bits, which is outside every range.
     ///
     /// ```

@@ -1,4 +1,4 @@
-//! What becomes of a fault of an interval, and of want of memory, by `?`.
+//! What becomes of a fault of an interval, and of a failed allocation, by `?`.
 ghost use Rattle.std.specs.Prelude.{◌≡◌, ℕ};
 ghost use Rattle.ivl_json.specs.declared.faults.ItemFault.{ItemFault};
 ghost use Rattle.ivl_json.specs.declared.faults.JsonFault.{JsonFault};

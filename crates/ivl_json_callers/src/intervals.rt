@@ -28,7 +28,7 @@ pub fn interval_written<B: Width>(
     callers::written_by_bound(alloc, interval)
 }
 
-/// The interval, or the fault: want of memory is none of them.
+/// The interval, or the fault: a failed allocation is none of them.
 pub fn interval_read_of<B: Width>(alloc: Global, value: &Value) -> Result<Interval<B>, JsonFault>
     ensures null { view value.now ≡ null → MatchResult result (λ p. HasNone (IsBetween p)) (λ f. ⊥) }
     ensures shape { view value.now ≢ null → as_array (view value.now) ≡ None → result ≡ Err JsonFault.Shape }

@@ -28,8 +28,8 @@ pub fn call(alloc: Global, name: &[u8], a: &IntervalSet<i32>, b: &IntervalSet<i3
     Some(row)
 }
 
-/// What `eval` answers over the two sets; no set where it changed one, or told a fault that is not
-/// want of memory.
+/// What `eval` answers over the two sets; no set where it changed one, or told another fault than a
+/// failed allocation.
 fn evaluated(
     alloc: Global,
     expr: Result<Expr<i32>, AllocError>,

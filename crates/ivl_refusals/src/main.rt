@@ -1,7 +1,7 @@
 //! Makes each call of a set or a store that takes memory, by its name, and tells how it ended.
 //!
 //! Standard input has a name a line. The answer to each is `answered` where the call gave the answer that it gives
-//! with ample memory, `want of memory` where it was refused and its operands are as they were, and else what is wrong.
+//! with ample memory, `out of memory` where it was refused and its operands are as they were, and else what is wrong.
 //! A script runs this program with each request for memory refused in turn.
 #![tactic(auto)]
 
@@ -37,7 +37,7 @@ fn main(rt: HostRuntime) -> io::Result<()> {
 fn ending(alloc: Global, name: &[u8]) -> &'static str {
     match tried(alloc, name) {
         Ok(ending) => ending,
-        Err(AllocError) => "want of memory",
+        Err(AllocError) => "out of memory",
     }
 }
 

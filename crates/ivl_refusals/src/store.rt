@@ -101,7 +101,7 @@ fn judged(
 ) -> &'static str {
     if is_refusal {
         return if between.iter().any(|family| has_domains(store, family)) {
-            "want of memory"
+            "out of memory"
         } else {
             "left other domains"
         };

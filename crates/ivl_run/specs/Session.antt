@@ -2,7 +2,7 @@
 -- its set.
 --     Answers old lines text new      from old, this text may answer these lines, and the state go on to new
 --     IsSessionText lines text      the same from 26 empty registers
---     IsWholeSessionText lines text      the same, and no command was refused for want of memory
+--     IsWholeSessionText lines text      the same, and no command was refused as out of memory
 use Rattle.std.specs.Prelude.{◌≡◌, ◌≢◌, ℕ, ℤ, pos, negsuc, ◌^◌, ◌-◌, All, List, [], ◌∷◌, ◌++◌, codes, map, replicate}
 use Rattle.ivl_calc.specs.Actions.{Action, Answer, refused}
 use Rattle.ivl_calc.specs.Step.{MayStep, Run}

@@ -173,7 +173,7 @@ fn truths(alloc: Global, replies: &[bool]) -> Result<String, AllocError> {
     Ok(text)
 }
 
-/// `variable i`; an error for want of memory.
+/// `variable i`; an error if an allocation fails.
 fn fault_text(alloc: Global, fault: StoreFault) -> Result<String, AllocError> {
     match fault {
         StoreFault::Variable(i) => format!(in alloc; "variable {i}"),

@@ -3,7 +3,7 @@ ghost use Rattle.std.specs.Prelude.{IfOk};
 ghost use Rattle.ivl_laws.specs.Sets.{Differences, ExactProducts, IsBetween, IsSubset, Products, Sums};
 ghost use Rattle.ivl_laws.specs.Runs.{Covers, IsRunsOf};
 
-use crate::callers::arithmetic as callers;
+use ivl_interval_callers::callers::arithmetic as callers;
 use intervallum::interval_set::IntervalSet;
 use intervallum::width::Width;
 use std::alloc::AllocError;

@@ -4,8 +4,8 @@ ghost use Rattle.ivl_laws.specs.Sets.{Above, AtLeast, AtMost, Below, Only, SameM
 ghost use Rattle.ivl_laws.specs.Runs.{Covers, IsRunsOf};
 ghost use Rattle.intervallum.specs.Places.{IsPlaceOf};
 
-use crate::callers;
-use crate::callers::cuts;
+use ivl_interval_callers::callers;
+use ivl_interval_callers::callers::cuts;
 use intervallum::interval_set::IntervalSet;
 use intervallum::steps::{Place, Probes, find};
 use intervallum::width::Width;

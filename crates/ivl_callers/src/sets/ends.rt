@@ -3,7 +3,7 @@ ghost use Rattle.std.specs.Prelude.{◌↔◌, ◌≤ℤ◌, ℤ, IsTrue};
 ghost use Rattle.ivl_laws.specs.Sets.{Differences, ExactProducts, HasSome, IsBetween, IsSubset, Only, Sums};
 ghost use Rattle.ivl_laws.specs.Runs.{Covers};
 
-use crate::callers::arithmetic as callers;
+use ivl_interval_callers::callers::arithmetic as callers;
 use intervallum::interval_set::IntervalSet;
 use intervallum::ops::Bounded;
 use intervallum::width::Width;

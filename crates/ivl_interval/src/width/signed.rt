@@ -36,7 +36,10 @@ impl Width for i8 {
     }
 
     fn from_number(number: i128) -> Option<i8> {
-        i8::try_from(number).ok().filter(|x| *x != i8::MIN)
+        match i8::try_from(number) {
+            Ok(value) if value != i8::MIN => Some(value),
+            _ => None,
+        }
     }
 
     fn width(lower: &i8, upper: &i8) -> u8 {
@@ -52,11 +55,17 @@ impl Width for i8 {
     }
 
     fn checked_add(self, other: i8) -> Option<i8> {
-        i8::checked_add(self, other).filter(|x| *x != i8::MIN)
+        match i8::checked_add(self, other) {
+            Some(sum) if sum != i8::MIN => Some(sum),
+            _ => None,
+        }
     }
 
     fn checked_sub(self, other: i8) -> Option<i8> {
-        i8::checked_sub(self, other).filter(|x| *x != i8::MIN)
+        match i8::checked_sub(self, other) {
+            Some(difference) if difference != i8::MIN => Some(difference),
+            _ => None,
+        }
     }
 
     fn checked_mul(self, other: i8) -> Option<i8> {
@@ -117,7 +126,10 @@ impl Width for i16 {
     }
 
     fn from_number(number: i128) -> Option<i16> {
-        i16::try_from(number).ok().filter(|x| *x != i16::MIN)
+        match i16::try_from(number) {
+            Ok(value) if value != i16::MIN => Some(value),
+            _ => None,
+        }
     }
 
     fn width(lower: &i16, upper: &i16) -> u16 {
@@ -133,11 +145,17 @@ impl Width for i16 {
     }
 
     fn checked_add(self, other: i16) -> Option<i16> {
-        i16::checked_add(self, other).filter(|x| *x != i16::MIN)
+        match i16::checked_add(self, other) {
+            Some(sum) if sum != i16::MIN => Some(sum),
+            _ => None,
+        }
     }
 
     fn checked_sub(self, other: i16) -> Option<i16> {
-        i16::checked_sub(self, other).filter(|x| *x != i16::MIN)
+        match i16::checked_sub(self, other) {
+            Some(difference) if difference != i16::MIN => Some(difference),
+            _ => None,
+        }
     }
 
     fn checked_mul(self, other: i16) -> Option<i16> {
@@ -198,7 +216,10 @@ impl Width for i32 {
     }
 
     fn from_number(number: i128) -> Option<i32> {
-        i32::try_from(number).ok().filter(|x| *x != i32::MIN)
+        match i32::try_from(number) {
+            Ok(value) if value != i32::MIN => Some(value),
+            _ => None,
+        }
     }
 
     fn width(lower: &i32, upper: &i32) -> u32 {
@@ -214,11 +235,17 @@ impl Width for i32 {
     }
 
     fn checked_add(self, other: i32) -> Option<i32> {
-        i32::checked_add(self, other).filter(|x| *x != i32::MIN)
+        match i32::checked_add(self, other) {
+            Some(sum) if sum != i32::MIN => Some(sum),
+            _ => None,
+        }
     }
 
     fn checked_sub(self, other: i32) -> Option<i32> {
-        i32::checked_sub(self, other).filter(|x| *x != i32::MIN)
+        match i32::checked_sub(self, other) {
+            Some(difference) if difference != i32::MIN => Some(difference),
+            _ => None,
+        }
     }
 
     fn checked_mul(self, other: i32) -> Option<i32> {
@@ -279,7 +306,10 @@ impl Width for i64 {
     }
 
     fn from_number(number: i128) -> Option<i64> {
-        i64::try_from(number).ok().filter(|x| *x != i64::MIN)
+        match i64::try_from(number) {
+            Ok(value) if value != i64::MIN => Some(value),
+            _ => None,
+        }
     }
 
     fn width(lower: &i64, upper: &i64) -> u64 {
@@ -295,11 +325,17 @@ impl Width for i64 {
     }
 
     fn checked_add(self, other: i64) -> Option<i64> {
-        i64::checked_add(self, other).filter(|x| *x != i64::MIN)
+        match i64::checked_add(self, other) {
+            Some(sum) if sum != i64::MIN => Some(sum),
+            _ => None,
+        }
     }
 
     fn checked_sub(self, other: i64) -> Option<i64> {
-        i64::checked_sub(self, other).filter(|x| *x != i64::MIN)
+        match i64::checked_sub(self, other) {
+            Some(difference) if difference != i64::MIN => Some(difference),
+            _ => None,
+        }
     }
 
     fn checked_mul(self, other: i64) -> Option<i64> {
@@ -360,7 +396,10 @@ impl Width for isize {
     }
 
     fn from_number(number: i128) -> Option<isize> {
-        isize::try_from(number).ok().filter(|x| *x != isize::MIN)
+        match isize::try_from(number) {
+            Ok(value) if value != isize::MIN => Some(value),
+            _ => None,
+        }
     }
 
     fn width(lower: &isize, upper: &isize) -> usize {
@@ -376,11 +415,17 @@ impl Width for isize {
     }
 
     fn checked_add(self, other: isize) -> Option<isize> {
-        isize::checked_add(self, other).filter(|x| *x != isize::MIN)
+        match isize::checked_add(self, other) {
+            Some(sum) if sum != isize::MIN => Some(sum),
+            _ => None,
+        }
     }
 
     fn checked_sub(self, other: isize) -> Option<isize> {
-        isize::checked_sub(self, other).filter(|x| *x != isize::MIN)
+        match isize::checked_sub(self, other) {
+            Some(difference) if difference != isize::MIN => Some(difference),
+            _ => None,
+        }
     }
 
     fn checked_mul(self, other: isize) -> Option<isize> {

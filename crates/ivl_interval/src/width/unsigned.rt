@@ -36,7 +36,10 @@ impl Width for u8 {
     }
 
     fn from_number(number: i128) -> Option<u8> {
-        u8::try_from(number).ok().filter(|x| *x < u8::MAX)
+        match u8::try_from(number) {
+            Ok(value) if value < u8::MAX => Some(value),
+            _ => None,
+        }
     }
 
     fn width(lower: &u8, upper: &u8) -> u8 {
@@ -52,17 +55,24 @@ impl Width for u8 {
     }
 
     fn checked_add(self, other: u8) -> Option<u8> {
-        u8::checked_add(self, other).filter(|x| *x < u8::MAX)
+        match u8::checked_add(self, other) {
+            Some(sum) if sum < u8::MAX => Some(sum),
+            _ => None,
+        }
     }
 
     fn checked_sub(self, other: u8) -> Option<u8> {
-        u8::checked_sub(self, other).filter(|x| *x < u8::MAX)
+        match u8::checked_sub(self, other) {
+            Some(difference) if difference < u8::MAX => Some(difference),
+            _ => None,
+        }
     }
 
     fn checked_mul(self, other: u8) -> Option<u8> {
-        u8::try_from(self as u16 * other as u16)
-            .ok()
-            .filter(|x| *x < u8::MAX)
+        match u8::try_from(self as u16 * other as u16) {
+            Ok(product) if product < u8::MAX => Some(product),
+            _ => None,
+        }
     }
 
     fn add_in_range(self, other: u8) -> u8 {
@@ -114,7 +124,10 @@ impl Width for u16 {
     }
 
     fn from_number(number: i128) -> Option<u16> {
-        u16::try_from(number).ok().filter(|x| *x < u16::MAX)
+        match u16::try_from(number) {
+            Ok(value) if value < u16::MAX => Some(value),
+            _ => None,
+        }
     }
 
     fn width(lower: &u16, upper: &u16) -> u16 {
@@ -130,17 +143,24 @@ impl Width for u16 {
     }
 
     fn checked_add(self, other: u16) -> Option<u16> {
-        u16::checked_add(self, other).filter(|x| *x < u16::MAX)
+        match u16::checked_add(self, other) {
+            Some(sum) if sum < u16::MAX => Some(sum),
+            _ => None,
+        }
     }
 
     fn checked_sub(self, other: u16) -> Option<u16> {
-        u16::checked_sub(self, other).filter(|x| *x < u16::MAX)
+        match u16::checked_sub(self, other) {
+            Some(difference) if difference < u16::MAX => Some(difference),
+            _ => None,
+        }
     }
 
     fn checked_mul(self, other: u16) -> Option<u16> {
-        u16::try_from(self as u32 * other as u32)
-            .ok()
-            .filter(|x| *x < u16::MAX)
+        match u16::try_from(self as u32 * other as u32) {
+            Ok(product) if product < u16::MAX => Some(product),
+            _ => None,
+        }
     }
 
     fn add_in_range(self, other: u16) -> u16 {
@@ -192,7 +212,10 @@ impl Width for u32 {
     }
 
     fn from_number(number: i128) -> Option<u32> {
-        u32::try_from(number).ok().filter(|x| *x < u32::MAX)
+        match u32::try_from(number) {
+            Ok(value) if value < u32::MAX => Some(value),
+            _ => None,
+        }
     }
 
     fn width(lower: &u32, upper: &u32) -> u32 {
@@ -208,17 +231,24 @@ impl Width for u32 {
     }
 
     fn checked_add(self, other: u32) -> Option<u32> {
-        u32::checked_add(self, other).filter(|x| *x < u32::MAX)
+        match u32::checked_add(self, other) {
+            Some(sum) if sum < u32::MAX => Some(sum),
+            _ => None,
+        }
     }
 
     fn checked_sub(self, other: u32) -> Option<u32> {
-        u32::checked_sub(self, other).filter(|x| *x < u32::MAX)
+        match u32::checked_sub(self, other) {
+            Some(difference) if difference < u32::MAX => Some(difference),
+            _ => None,
+        }
     }
 
     fn checked_mul(self, other: u32) -> Option<u32> {
-        u32::try_from(self as u64 * other as u64)
-            .ok()
-            .filter(|x| *x < u32::MAX)
+        match u32::try_from(self as u64 * other as u64) {
+            Ok(product) if product < u32::MAX => Some(product),
+            _ => None,
+        }
     }
 
     fn add_in_range(self, other: u32) -> u32 {
@@ -270,7 +300,10 @@ impl Width for u64 {
     }
 
     fn from_number(number: i128) -> Option<u64> {
-        u64::try_from(number).ok().filter(|x| *x < u64::MAX)
+        match u64::try_from(number) {
+            Ok(value) if value < u64::MAX => Some(value),
+            _ => None,
+        }
     }
 
     fn width(lower: &u64, upper: &u64) -> u64 {
@@ -286,17 +319,24 @@ impl Width for u64 {
     }
 
     fn checked_add(self, other: u64) -> Option<u64> {
-        u64::checked_add(self, other).filter(|x| *x < u64::MAX)
+        match u64::checked_add(self, other) {
+            Some(sum) if sum < u64::MAX => Some(sum),
+            _ => None,
+        }
     }
 
     fn checked_sub(self, other: u64) -> Option<u64> {
-        u64::checked_sub(self, other).filter(|x| *x < u64::MAX)
+        match u64::checked_sub(self, other) {
+            Some(difference) if difference < u64::MAX => Some(difference),
+            _ => None,
+        }
     }
 
     fn checked_mul(self, other: u64) -> Option<u64> {
-        u64::try_from(self as u128 * other as u128)
-            .ok()
-            .filter(|x| *x < u64::MAX)
+        match u64::try_from(self as u128 * other as u128) {
+            Ok(product) if product < u64::MAX => Some(product),
+            _ => None,
+        }
     }
 
     fn add_in_range(self, other: u64) -> u64 {
@@ -348,7 +388,10 @@ impl Width for usize {
     }
 
     fn from_number(number: i128) -> Option<usize> {
-        usize::try_from(number).ok().filter(|x| *x < usize::MAX)
+        match usize::try_from(number) {
+            Ok(value) if value < usize::MAX => Some(value),
+            _ => None,
+        }
     }
 
     fn width(lower: &usize, upper: &usize) -> usize {
@@ -364,17 +407,24 @@ impl Width for usize {
     }
 
     fn checked_add(self, other: usize) -> Option<usize> {
-        usize::checked_add(self, other).filter(|x| *x < usize::MAX)
+        match usize::checked_add(self, other) {
+            Some(sum) if sum < usize::MAX => Some(sum),
+            _ => None,
+        }
     }
 
     fn checked_sub(self, other: usize) -> Option<usize> {
-        usize::checked_sub(self, other).filter(|x| *x < usize::MAX)
+        match usize::checked_sub(self, other) {
+            Some(difference) if difference < usize::MAX => Some(difference),
+            _ => None,
+        }
     }
 
     fn checked_mul(self, other: usize) -> Option<usize> {
-        usize::try_from(self as u128 * other as u128)
-            .ok()
-            .filter(|x| *x < usize::MAX)
+        match usize::try_from(self as u128 * other as u128) {
+            Ok(product) if product < usize::MAX => Some(product),
+            _ => None,
+        }
     }
 
     fn add_in_range(self, other: usize) -> usize {

@@ -25,7 +25,7 @@ fn refused_line(written: &[u8]) -> Option<usize> {
         .position(|line| line == b"refused 4 memory".as_slice())
 }
 
-// A session ends in want of memory, or one command is refused and the others answer as if it had not been there, or
+// A session ends out of memory, or one command is refused and the others answer as if it had not been there, or
 // all are answered.
 #[test]
 fn one_refused_request(rt: HostRuntime) -> Result<(), Fail> {

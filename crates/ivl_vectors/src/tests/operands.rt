@@ -3,7 +3,7 @@
 use super::fixtures::{has_runs, set_of};
 use intervallum::interval::Interval;
 use intervallum::ops::{Fits, Range};
-use ivl_callers::intervals::operands;
+use ivl_interval_callers::intervals::operands;
 use ivl_callers::{laws, sets};
 use std::test::Fail;
 

@@ -1,0 +1,81 @@
+//! Operands of arithmetic may be owned or borrowed: the answers are equal intervals.
+ghost use Rattle.std.specs.Prelude.{IsTrue};
+ghost use Rattle.ivl_laws.specs.Sets.{Differences, ExactProducts, IsBetween, IsSubset, Only, SameMembers, Sums};
+
+use crate::callers::arithmetic as callers;
+use ivl_interval::interval::Interval;
+use ivl_interval::width::Width;
+
+/// True, for two intervals of the same members.
+fn equal<B: Width>(a: Interval<B>, b: Interval<B>) -> bool
+    requires { SameMembers (IsBetween a) (IsBetween b) }
+    ensures { IsTrue result }
+{
+    a == b
+}
+
+/// The sums of two intervals.
+pub fn sums_agree<B: Width>(a: Interval<B>, b: Interval<B>) -> bool
+    requires { IsSubset (Sums (IsBetween a) (IsBetween b)) (IsBetween B.whole) }
+    ensures { IsTrue result }
+{
+    let owned = callers::sum_by_bound(a, b);
+    equal(owned, callers::sum_by_bound(a, &b))
+        && equal(owned, callers::sum_by_bound(&a, b))
+        && equal(owned, callers::sum_by_bound(&a, &b))
+}
+
+/// The sums of an interval and a value.
+pub fn sums_with_value_agree<B: Width>(a: Interval<B>, x: B) -> bool
+    requires { IsSubset (Sums (IsBetween a) (Only (B.value x))) (IsBetween B.whole) }
+    ensures { IsTrue result }
+{
+    let owned = callers::sum_by_bound(a, x);
+    equal(owned, callers::sum_by_bound(a, &x))
+        && equal(owned, callers::sum_by_bound(&a, x))
+        && equal(owned, callers::sum_by_bound(&a, &x))
+}
+
+/// The differences of two intervals.
+pub fn differences_agree<B: Width>(a: Interval<B>, b: Interval<B>) -> bool
+    requires { IsSubset (Differences (IsBetween a) (IsBetween b)) (IsBetween B.whole) }
+    ensures { IsTrue result }
+{
+    let owned = callers::difference_by_bound(a, b);
+    equal(owned, callers::difference_by_bound(a, &b))
+        && equal(owned, callers::difference_by_bound(&a, b))
+        && equal(owned, callers::difference_by_bound(&a, &b))
+}
+
+/// The differences of an interval and a value.
+pub fn differences_with_value_agree<B: Width>(a: Interval<B>, x: B) -> bool
+    requires { IsSubset (Differences (IsBetween a) (Only (B.value x))) (IsBetween B.whole) }
+    ensures { IsTrue result }
+{
+    let owned = callers::difference_by_bound(a, x);
+    equal(owned, callers::difference_by_bound(a, &x))
+        && equal(owned, callers::difference_by_bound(&a, x))
+        && equal(owned, callers::difference_by_bound(&a, &x))
+}
+
+/// The products of two intervals.
+pub fn products_agree<B: Width>(a: Interval<B>, b: Interval<B>) -> bool
+    requires { IsSubset (ExactProducts (IsBetween a) (IsBetween b)) (IsBetween B.whole) }
+    ensures { IsTrue result }
+{
+    let owned = callers::product_by_bound(a, b);
+    equal(owned, callers::product_by_bound(a, &b))
+        && equal(owned, callers::product_by_bound(&a, b))
+        && equal(owned, callers::product_by_bound(&a, &b))
+}
+
+/// The products of an interval and a value.
+pub fn products_with_value_agree<B: Width>(a: Interval<B>, x: B) -> bool
+    requires { IsSubset (ExactProducts (IsBetween a) (Only (B.value x))) (IsBetween B.whole) }
+    ensures { IsTrue result }
+{
+    let owned = callers::product_by_bound(a, x);
+    equal(owned, callers::product_by_bound(a, &x))
+        && equal(owned, callers::product_by_bound(&a, x))
+        && equal(owned, callers::product_by_bound(&a, &x))
+}

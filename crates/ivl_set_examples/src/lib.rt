@@ -1,0 +1,11 @@
+//! The examples in the docs of sets, word for word, as tests.
+//!
+//! Each file has those of one part of the docs, so that an example that no longer holds fails the gate.
+#![tactic(auto)]
+
+#[cfg(test)]
+mod edits;
+#[cfg(test)]
+mod reads;
+#[cfg(test)]
+mod sets;
