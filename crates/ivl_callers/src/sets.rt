@@ -12,10 +12,10 @@ pub mod operands;
 pub mod pairs;
 pub mod values;
 
-use ivl_interval_callers::callers;
 use intervallum::interval::Interval;
 use intervallum::interval_set::IntervalSet;
 use intervallum::width::Width;
+use ivl_interval_callers::callers;
 use std::alloc::{AllocError, Global};
 
 /// No run.

@@ -3,9 +3,9 @@ ghost use Rattle.std.specs.Prelude.{IfOk};
 ghost use Rattle.ivl_laws.specs.Sets.{Differences, ExactProducts, IsBetween, IsSubset, Products, Sums};
 ghost use Rattle.ivl_laws.specs.Runs.{Covers, IsRunsOf};
 
-use ivl_interval_callers::callers::arithmetic as callers;
 use intervallum::interval_set::IntervalSet;
 use intervallum::width::Width;
+use ivl_interval_callers::callers::arithmetic as callers;
 use std::alloc::AllocError;
 
 /// The runs of the sums of a number of each.

@@ -4,11 +4,11 @@ ghost use Rattle.ivl_laws.specs.Sets.{Above, AtLeast, AtMost, Below, Only, SameM
 ghost use Rattle.ivl_laws.specs.Runs.{Covers, IsRunsOf};
 ghost use Rattle.intervallum.specs.Places.{IsPlaceOf};
 
-use ivl_interval_callers::callers;
-use ivl_interval_callers::callers::cuts;
 use intervallum::interval_set::IntervalSet;
 use intervallum::steps::{Place, Probes, find};
 use intervallum::width::Width;
+use ivl_interval_callers::callers;
+use ivl_interval_callers::callers::cuts;
 use std::alloc::AllocError;
 
 /// The runs of the numbers from the value on.

@@ -3,10 +3,10 @@ ghost use Rattle.std.specs.Prelude.{◌↔◌, ◌≤ℤ◌, ℤ, IsTrue};
 ghost use Rattle.ivl_laws.specs.Sets.{Differences, ExactProducts, HasSome, IsBetween, IsSubset, Only, Sums};
 ghost use Rattle.ivl_laws.specs.Runs.{Covers};
 
-use ivl_interval_callers::callers::arithmetic as callers;
 use intervallum::interval_set::IntervalSet;
 use intervallum::ops::Bounded;
 use intervallum::width::Width;
+use ivl_interval_callers::callers::arithmetic as callers;
 
 /// The least number that the runs cover.
 pub fn least_of_set<B: Width>(set: &IntervalSet<B>) -> B

@@ -4,11 +4,11 @@ ghost use Rattle.ivl_laws.specs.Sets.{Complement, HasNone, HasSome, Intersection
 ghost use Rattle.ivl_laws.specs.Runs.{Covers, IsRunsOf};
 ghost use Rattle.ivl_interval.specs.Kleene.{IsEntailmentOf};
 
-use ivl_interval_callers::callers::pairs as callers;
 use intervallum::interval_set::IntervalSet;
 use intervallum::kleene::SKleene;
 use intervallum::ops::{Complement, SymmetricDifference};
 use intervallum::width::Width;
+use ivl_interval_callers::callers::pairs as callers;
 use std::alloc::AllocError;
 
 /// The runs of the numbers that both lists cover.

@@ -3,11 +3,11 @@ ghost use Rattle.std.specs.Prelude.{◌≡◌, ◌↔◌, [], ◌∷◌, ◌++�
 ghost use Rattle.ivl_laws.specs.Sets.{HasSome, Held, Intersection, IsBetween, IsInRange, Only, Union, Without};
 ghost use Rattle.ivl_laws.specs.Runs.{Covers, IsRunListIn, IsRunsOf};
 
-use ivl_interval_callers::callers;
 use intervallum::interval::Interval;
 use intervallum::interval_set::{IntervalSet, IntoRuns, ToIntervalSet};
 use intervallum::optional::Optional;
 use intervallum::width::Width;
+use ivl_interval_callers::callers;
 use std::alloc::{AllocError, Global};
 use std::fmt::Display;
 

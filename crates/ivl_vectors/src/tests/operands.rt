@@ -3,8 +3,8 @@
 use super::fixtures::{has_runs, set_of};
 use intervallum::interval::Interval;
 use intervallum::ops::{Fits, Range};
-use ivl_interval_callers::intervals::operands;
 use ivl_callers::{laws, sets};
+use ivl_interval_callers::intervals::operands;
 use std::test::Fail;
 
 #[test]
