@@ -24,10 +24,8 @@ pub struct Inputs {
     /// The values of single edits, as many as `a` has runs.
     pub edits: Vec<i64>,
     pub middle: i64,
-    pub left: IntervalSet<i64>,
-    pub right: IntervalSet<i64>,
-    pub few: IntervalSet<i64>,
-    pub many: IntervalSet<i64>,
+    pub sparse: Sparse,
+    pub uneven: Uneven,
     pub json: JsonInputs,
     pub expressions: Expressions,
 }
@@ -63,13 +61,43 @@ impl Inputs {
                 upper.saturating_add(5),
             )?,
             middle: lower.saturating_add(upper) / 2,
-            left: set_of(alloc, &apart(alloc, n, 1, n)?)?,
-            right: set_of(alloc, &apart(alloc, n, 2, 1)?)?,
-            few: set_of(alloc, &dense(alloc, 10, 2)?)?,
-            many: set_of(alloc, &dense(alloc, 100_000, 1)?)?,
+            sparse: Sparse::new(alloc, n)?,
+            uneven: Uneven::new(alloc)?,
             expressions: Expressions::new(alloc, &a, &b)?,
             a,
             b,
+        })
+    }
+}
+
+/// Two sets of `n` runs whose sums and products have many runs.
+#[derive(Drop)]
+pub struct Sparse {
+    pub left: IntervalSet<i64>,
+    pub right: IntervalSet<i64>,
+}
+
+impl Sparse {
+    fn new(alloc: Global, n: u32) -> Result<Sparse> {
+        Ok(Sparse {
+            left: set_of(alloc, &apart(alloc, n, 1, n)?)?,
+            right: set_of(alloc, &apart(alloc, n, 2, 1)?)?,
+        })
+    }
+}
+
+/// A set of 10 runs and one of 100,000.
+#[derive(Drop)]
+pub struct Uneven {
+    pub few: IntervalSet<i64>,
+    pub many: IntervalSet<i64>,
+}
+
+impl Uneven {
+    fn new(alloc: Global) -> Result<Uneven> {
+        Ok(Uneven {
+            few: set_of(alloc, &dense(alloc, 10, 2)?)?,
+            many: set_of(alloc, &dense(alloc, 100_000, 1)?)?,
         })
     }
 }

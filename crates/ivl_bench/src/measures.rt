@@ -201,55 +201,66 @@ impl Measure {
     /// Makes the call.
     pub fn run(self, inputs: &Inputs) -> Result<Outcome, AllocError> {
         let (a, b) = (&inputs.a, &inputs.b);
-        Ok(match self {
-            Measure::BuildExtend => Outcome::Set(built(inputs)?),
-            Measure::BuildPairs => match of_pairs(inputs.alloc, &inputs.pairs)? {
-                Some(set) => Outcome::Set(set),
-                None => Outcome::DoesNotFit,
-            },
-            Measure::ExtendOne => Outcome::Set(extended(a)?),
-            Measure::Clone => Outcome::Set(a.try_clone()?),
-            Measure::Union => Outcome::Set(a.union(b)?),
-            Measure::Intersection => Outcome::Set(a.intersection(b)?),
-            Measure::Difference => Outcome::Set(a.difference(b)?),
-            Measure::Symmetric => Outcome::Set(a.symmetric_difference(b)?),
-            Measure::Complement => Outcome::Set(a.complement()?),
-            Measure::ShrinkLeft => Outcome::Set(a.shrink_left(inputs.middle)?),
-            Measure::PlusValue if a.fits_add(&7) => Outcome::Set((a + 7)?),
-            Measure::TimesValue if a.fits_mul(&3) => Outcome::Set((a * 3)?),
-            Measure::PlusValue | Measure::TimesValue => Outcome::DoesNotFit,
-            Measure::Contains => Outcome::Number(hits(a, &inputs.probes)),
-            Measure::EqualYes => Outcome::Number(u64::from(*a == inputs.clone_of_a)),
-            Measure::EqualNo => Outcome::Number(u64::from(a == b)),
-            Measure::Subset => Outcome::Number(u64::from(inputs.in_both.is_subset(a))),
-            Measure::PlusDense => sum(a, b)?,
-            Measure::MinusDense => difference(a, b)?,
-            Measure::TimesDense => product(a, b)?,
-            Measure::PlusSparse => sum(&inputs.left, &inputs.right)?,
-            Measure::TimesSparse => product(&inputs.left, &inputs.right)?,
-            Measure::JsonRead => json::read(inputs)?,
-            Measure::JsonWrite => json::write(inputs)?,
-            Measure::JsonText => json::text(inputs)?,
-            Measure::EvalSum => fitting(inputs.expressions.eval_sum(inputs.alloc)?),
-            Measure::EvalChain => fitting(inputs.expressions.eval_chain(inputs.alloc)?),
-            Measure::UnionFew => Outcome::Set(inputs.few.union(&inputs.many)?),
-            Measure::IntersectionFew => Outcome::Set(inputs.few.intersection(&inputs.many)?),
-            Measure::DifferenceFew => Outcome::Set(inputs.few.difference(&inputs.many)?),
-            Measure::SubsetFew => Outcome::Number(u64::from(inputs.few.is_subset(&inputs.many))),
-            Measure::IntersectionValue => Outcome::Set(a.intersection(&inputs.middle)?),
-            Measure::NextFrom => Outcome::Number(nexts(a, &inputs.probes)),
-            Measure::FirstFit => Outcome::Number(u64::from(has_room(a, LONGER))),
-            Measure::InsertRandom => Outcome::Set(edits::inserted(a, &inputs.edits)?),
-            Measure::RemoveRandom => Outcome::Set(edits::removed(a, &inputs.edits)?),
-            Measure::PopFirst => Outcome::Number(edits::popped(a)?),
-        })
+        let (few, many) = (&inputs.uneven.few, &inputs.uneven.many);
+        let (left, right) = (&inputs.sparse.left, &inputs.sparse.right);
+        match self {
+            Measure::BuildExtend => set(built(inputs)),
+            Measure::BuildPairs => fitting(of_pairs(inputs.alloc, &inputs.pairs)),
+            Measure::ExtendOne => set(extended(a)),
+            Measure::Clone => set(a.try_clone()),
+            Measure::Union => set(a.union(b)),
+            Measure::Intersection => set(a.intersection(b)),
+            Measure::Difference => set(a.difference(b)),
+            Measure::Symmetric => set(a.symmetric_difference(b)),
+            Measure::Complement => set(a.complement()),
+            Measure::ShrinkLeft => set(a.shrink_left(inputs.middle)),
+            Measure::PlusValue if a.fits_add(&7) => set(a + 7),
+            Measure::TimesValue if a.fits_mul(&3) => set(a * 3),
+            Measure::PlusValue | Measure::TimesValue => Ok(Outcome::DoesNotFit),
+            Measure::Contains => number(hits(a, &inputs.probes)),
+            Measure::EqualYes => truth(*a == inputs.clone_of_a),
+            Measure::EqualNo => truth(a == b),
+            Measure::Subset => truth(inputs.in_both.is_subset(a)),
+            Measure::PlusDense => sum(a, b),
+            Measure::MinusDense => difference(a, b),
+            Measure::TimesDense => product(a, b),
+            Measure::PlusSparse => sum(left, right),
+            Measure::TimesSparse => product(left, right),
+            Measure::JsonRead => json::read(inputs),
+            Measure::JsonWrite => json::write(inputs),
+            Measure::JsonText => json::text(inputs),
+            Measure::EvalSum => fitting(inputs.expressions.eval_sum(inputs.alloc)),
+            Measure::EvalChain => fitting(inputs.expressions.eval_chain(inputs.alloc)),
+            Measure::UnionFew => set(few.union(many)),
+            Measure::IntersectionFew => set(few.intersection(many)),
+            Measure::DifferenceFew => set(few.difference(many)),
+            Measure::SubsetFew => truth(few.is_subset(many)),
+            Measure::IntersectionValue => set(a.intersection(&inputs.middle)),
+            Measure::NextFrom => number(nexts(a, &inputs.probes)),
+            Measure::FirstFit => truth(has_room(a, LONGER)),
+            Measure::InsertRandom => set(edits::inserted(a, &inputs.edits)),
+            Measure::RemoveRandom => set(edits::removed(a, &inputs.edits)),
+            Measure::PopFirst => number(edits::popped(a)?),
+        }
     }
 }
 
-fn fitting(set: Option<IntervalSet<i64>>) -> Outcome {
-    match set {
-        Some(set) => Outcome::Set(set),
-        None => Outcome::DoesNotFit,
+fn set(answer: Result<IntervalSet<i64>, AllocError>) -> Result<Outcome, AllocError> {
+    Ok(Outcome::Set(answer?))
+}
+
+fn number(answer: u64) -> Result<Outcome, AllocError> {
+    Ok(Outcome::Number(answer))
+}
+
+fn truth(answer: bool) -> Result<Outcome, AllocError> {
+    Ok(Outcome::Number(u64::from(answer)))
+}
+
+fn fitting(answer: Result<Option<IntervalSet<i64>>, AllocError>) -> Result<Outcome, AllocError> {
+    match answer? {
+        Some(set) => Ok(Outcome::Set(set)),
+        None => Ok(Outcome::DoesNotFit),
     }
 }
 
