@@ -1,6 +1,7 @@
 -- Few runs beside many: what each of them has in common with the many, where two searches found it.
-use Rattle.std.proofs.Common.{◌≡◌, ⊎_elim, inl, inr, ℕ, zero, suc, ◌+◌, ◌-◌, ◌*◌, ◌<◌, ◌≤◌, ℤ, pos, ◌≤ℤ◌, List, [], ◌∷◌, length, get_or, take, drop, take_all, refl, ap, sym, subst, ◌∙◌, arith}
+use Rattle.std.proofs.Common.{◌≡◌, ◌⊎◌, ⊎_elim, inl, inr, ℕ, zero, suc, ◌+◌, ◌-◌, ◌*◌, ◌<◌, ◌≤◌, ℤ, pos, ◌≤ℤ◌, List, [], ◌∷◌, length, get_or, take, drop, take_all, refl, ap, sym, subst, ◌∙◌, arith}
 use Rattle.std.proofs.lemmas.Int.{ints}
+use Rattle.std.proofs.Math.Nat.{mul-le-mul_right}
 use Rattle.ivl_laws.specs.Sets.{IsBetween, Intersection, SameMembers, Union}
 use Rattle.ivl_laws.specs.Runs.{Covers, IsMaximal, IsRunListIn, IsRunsOf, StartsBy}
 use Rattle.ivl_laws.proofs.Places.{open_at, runs_ascend}
@@ -96,9 +97,12 @@ shared_by_next L M written added k from i d m h is s r le e = record {
 }
 
 -- all of the few are done
-pub shared_by_all : (L M written : List (ℤ × ℤ)) (k from : ℕ) → ¬ (k < length L) → SharedSoFar L M written k from → IsRunsOf written (Intersection (Covers L) (Covers M))
+pub shared_by_all : (L M written : List (ℤ × ℤ)) (k from : ℕ) → length L ≤ k → SharedSoFar L M written k from → IsRunsOf written (Intersection (Covers L) (Covers M))
 shared_by_all L M written k from n s = subst (λ (K : List (ℤ × ℤ)). IsRunsOf written (Intersection (Covers K) (Covers M))) (take_all k L n) s.runs
 
--- looks of one run more
-pub more_looks : (k x before now : ℕ) → now ≤ before + x → before ≤ k * x → now ≤ (k + 1) * x
-more_looks k x before now h b = omega (arith, h, b)
+-- looks of one run more, and of no more runs than there are
+pub more_looks : (k x old before now : ℕ) → before ≤ old + k * x → now ≤ before + x → now ≤ old + (k + 1) * x
+more_looks k x old before now b h = let e : (k + 1) * x ≡ k * x + x = omega arith in omega (arith, h, b, e)
+
+pub all_looks : (k n x old now : ℕ) → k ≤ n → now ≤ old + k * x → now ≤ old + n * x
+all_looks k n x old now le h = let most = mul-le-mul_right x le in omega (arith, h, most)

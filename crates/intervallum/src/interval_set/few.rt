@@ -1,14 +1,14 @@
 //! Sets of few runs beside sets of many: each of the few runs is searched for among the many, from
 //! where the last one was found.
 ghost use Rattle.std.specs.Prelude.{◌≡◌, ℕ, ◌+◌, ◌*◌, ◌^◌, ◌<◌, ◌≤◌, pos, ◌≤ℤ◌, IfOk, OnOk, length, take};
-ghost use Rattle.ivl_laws.specs.Sets.{Intersection, IsBetween, Union};
+ghost use Rattle.ivl_laws.specs.Sets.{Intersection, IsBetween, Union, Without};
 ghost use Rattle.ivl_laws.specs.Runs.{Covers, IsRunsOf};
 ghost use Rattle.intervallum.specs.Places.{EndBelow};
 ghost use Rattle.intervallum.specs.Sides.{IsBelow};
 
 use super::IntervalSet;
 use crate::interval::Interval;
-use crate::ops::Bounded;
+use crate::ops::{Bounded, Complement};
 use crate::steps::{Probes, first_from, last_up_to};
 use crate::width::Width;
 use std::alloc::AllocError;
@@ -41,6 +41,20 @@ pub(super) fn common_with_few<B: Width>(
         from = push_shared(&mut set, many, *run, from)?;
     }
     Ok(set.fitted())
+}
+
+/// The members of a set of many runs that are not in one of few: what it has in common with the
+/// complement of the few.
+pub(super) fn without_few<B: Width>(
+    many: &IntervalSet<B>,
+    few: &IntervalSet<B>,
+) -> Result<IntervalSet<B>, AllocError>
+    ensures members { IfOk result (λ L. IsRunsOf L (Without (Covers many.now) (Covers few.now))) }
+{
+    // the members of the many are in the range, and so in the complement of the few where not in them
+    many.as_runs();
+    let free = few.complement()?;
+    common_with_few(&free, &mut Probes::new(many))
 }
 
 /// Adds what a run has in common with runs of which the first `from` end below it. Returns how many

@@ -1,7 +1,6 @@
-use Rattle.std.proofs.Common.{◌≤ℤ◌, ◌∙◌, take, subst, arith}
+use Rattle.std.proofs.Common.{◌∙◌, take, subst, arith}
 use Rattle.std.proofs.lemmas.Int.{ints}
-use Rattle.ivl_laws.specs.Sets.{IsBetween, Intersection}
-use Rattle.ivl_laws.specs.Runs.{Covers, IsRunListIn}
+use Rattle.ivl_laws.specs.Runs.{IsRunListIn}
 use Rattle.intervallum.proofs.Few.{is_shared, with_part}
 use Rattle.intervallum.proofs.Finding.{EndBelow-more}
 use Rattle.intervallum.proofs.interval_set.few.push_shared.Goals as goal
