@@ -2,8 +2,8 @@
 use Rattle.std.proofs.Common.{◌≡◌, ◌↔◌, ℤ, List, [], ◌∷◌, Bool, true, false, not, IsTrue, inl, inr, ⊎_elim, refl, sym, subst, true≢false}
 use Rattle.std.specs.Prelude.{Result, IfOk, ◌+◌, ◌≤◌, length}
 use Rattle.std.proofs.lemmas.Result.{IfOk-weaker}
-use Rattle.ivl_laws.specs.Sets.{Only, Intersection, SameMembers, HasNone, HasSome, SymmetricDifference, Union, Without}
-use Rattle.ivl_laws.specs.Runs.{Covers, IsMaximal, IsRunsOf}
+use Rattle.ivl_laws.specs.Sets.{Only, Intersection, HasNone, HasSome, SymmetricDifference, Union, Without}
+use Rattle.ivl_laws.specs.Runs.{Covers, IsRunsOf}
 use Rattle.ivl_laws.proofs.SetLaws.{IsRunsOf-same, only_is_covered}
 use Rattle.ivl_laws.proofs.Ranges.{IsRunsOf-none}
 use Rattle.ivl_laws.proofs.Lengths.{length_of_union}

@@ -1,9 +1,9 @@
 -- Sets beside an interval.
-use Rattle.std.proofs.Common.{◌≡◌, ◌↔◌, ⊎_elim, inl, inr, ℤ, pos, ◌+ℤ◌, ◌≤ℤ◌, Bool, IsTrue, List, [], ◌∷◌, arith, sym, subst, ◌+◌, ◌≤◌, length}
+use Rattle.std.proofs.Common.{◌≡◌, ◌↔◌, ⊎_elim, inl, ℤ, pos, ◌+ℤ◌, ◌≤ℤ◌, Bool, IsTrue, List, [], ◌∷◌, arith, sym, subst, ◌+◌, ◌≤◌, length}
 use Rattle.std.specs.Prelude.{◌<ℤ◌, Result, IfOk}
 use Rattle.std.proofs.lemmas.Int.{ints, by_lt_z}
 use Rattle.std.proofs.lemmas.Result.{IfOk-weaker}
-use Rattle.ivl_laws.specs.Sets.{AtLeast, HasSome, Intersection, IsBetween, IsSubset, SameMembers, Union, Without}
+use Rattle.ivl_laws.specs.Sets.{AtLeast, HasSome, Intersection, IsBetween, IsSubset, Without}
 use Rattle.ivl_laws.specs.Runs.{Covers, IsRunsOf}
 use Rattle.ivl_laws.proofs.Ranges.{IsRunsOf-one}
 use Rattle.ivl_laws.proofs.Runs.{pair_same}

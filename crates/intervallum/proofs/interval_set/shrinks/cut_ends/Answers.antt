@@ -31,4 +31,3 @@ returns-clause-within g c =
     c.requires.runs c.requires.window c.requires.first c.requires.last (omega (arith, len, filled, c.requires.at_most)) (omega (arith, len, filled, c.requires.at_most)) c.lower.ensures.value c.upper.ensures.value
     c.index.ensures c.shrink_left.ensures c.index-2.ensures c.shrink_right.ensures in
     cut.part.list
-
