@@ -2,7 +2,9 @@
 use Rattle.std.proofs.Common.{◌≡◌, ◌⊎◌, ⊎_elim, inl, inr, ℕ, zero, suc, ◌+◌, ◌-◌, ◌*◌, ◌<◌, ◌≤◌, ℤ, pos, ◌≤ℤ◌, List, [], ◌∷◌, length, get_or, take, drop, take_all, refl, ap, sym, subst, ◌∙◌, arith}
 use Rattle.std.proofs.lemmas.Int.{ints}
 use Rattle.std.proofs.Math.Nat.{mul-le-mul_right}
-use Rattle.ivl_laws.specs.Sets.{IsBetween, Intersection, SameMembers, Union}
+use Rattle.std.proofs.lemmas.Result.{IfOk-weaker}
+use Rattle.std.specs.Prelude.{Result, IfOk}
+use Rattle.ivl_laws.specs.Sets.{IsBetween, Intersection, SameMembers, Union, Without}
 use Rattle.ivl_laws.specs.Runs.{Covers, IsMaximal, IsRunListIn, IsRunsOf, StartsBy}
 use Rattle.ivl_laws.proofs.Places.{open_at, runs_ascend}
 use Rattle.ivl_laws.proofs.SetLaws.{IsRunsOf-same}
@@ -106,3 +108,10 @@ more_looks k x old before now b h = let e : (k + 1) * x ≡ k * x + x = omega ar
 
 pub all_looks : (k n x old now : ℕ) → k ≤ n → now ≤ old + k * x → now ≤ old + n * x
 all_looks k n x old now le h = let most = mul-le-mul_right x le in omega (arith, h, most)
+
+-- F and C are few runs and what they have in common with many, M, as two walks saw them
+pub without_shared : {E : Type 0} (r : Result (List (ℤ × ℤ)) E) (F C few shared M : List (ℤ × ℤ)) → F ≡ few → C ≡ shared → IsRunsOf shared (Intersection (Covers few) (Covers M)) →
+    IfOk r (λ R. IsRunsOf R (Without (Covers F) (Covers C))) → IfOk r (λ R. IsRunsOf R (Without (Covers few) (Covers M)))
+without_shared r F C few shared M e f u = IfOk-weaker r _ _ (λ R i. IsRunsOf-same (Without (Covers few) (Covers shared)) (Without (Covers few) (Covers M)) R
+    (λ z. ((λ (c, n). (c, λ m. n ((u.members z).1 (c, m)))), (λ (c, n). (c, λ s. n ((u.members z).0 s).1))))
+    (subst (λ (K : List (ℤ × ℤ)). IsRunsOf R (Without (Covers few) (Covers K))) f (subst (λ (K : List (ℤ × ℤ)). IsRunsOf R (Without (Covers K) (Covers C))) e i)))

@@ -4,7 +4,7 @@ ghost use Rattle.ivl_laws.specs.Sets.{Complement, HasNone, HasSome, Intersection
 ghost use Rattle.ivl_laws.specs.Runs.{Covers, IsRunsOf};
 
 use super::IntervalSet;
-use super::few::{common_with_few, is_far_shorter, without_few};
+use super::few::{common_with_few, few_without, is_far_shorter, without_few};
 use crate::ops::{
     Complement, Difference, Disjoint, Intersection, Overlap, SymmetricDifference, Union,
 };
@@ -80,9 +80,10 @@ impl<B: Width> Difference<IntervalSet<B>> for IntervalSet<B> {
     ghost answers = { λ r S. IfOk r (λ L. IsRunsOf L S) };
 
     /// Returns the members that are not in `other`. `O(n + m)`. Reserves `n + m` runs once and
-    /// shrinks the result if less than half is used. Where `other` has far fewer runs, the runs
-    /// between them are copied whole, beside the complement of `other`. Fails only if allocation
-    /// fails.
+    /// shrinks the result if less than half is used. Where one of the sets has far fewer runs, each of
+    /// its `k` runs is searched for from where the last one was found: `O(k log n)`, and a copy of the
+    /// runs that they meet, or of the answer's; the complement of `other`, or what the two have in
+    /// common, is kept meanwhile. Fails only if allocation fails.
     ///
     /// ```
     /// let (a, b) = (IntervalSet::new(alloc, 1, 5)?, IntervalSet::new(alloc, 4, 9)?);
@@ -94,6 +95,8 @@ impl<B: Width> Difference<IntervalSet<B>> for IntervalSet<B> {
     {
         if is_far_shorter(other, self) {
             without_few(self, other)
+        } else if is_far_shorter(self, other) {
+            few_without(self, other)
         } else {
             without(Walk::new(self), Walk::new(other))
         }

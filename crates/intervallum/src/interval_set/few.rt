@@ -9,7 +9,7 @@ ghost use Rattle.intervallum.specs.Sides.{IsBelow};
 use super::IntervalSet;
 use crate::interval::Interval;
 use crate::ops::{Bounded, Complement};
-use crate::steps::{Probes, first_from, last_up_to};
+use crate::steps::{Probes, Walk, first_from, last_up_to, without};
 use crate::width::Width;
 use std::alloc::AllocError;
 
@@ -55,6 +55,18 @@ pub(super) fn without_few<B: Width>(
     many.as_runs();
     let free = few.complement()?;
     common_with_few(&free, &mut Probes::new(many))
+}
+
+/// The members of a set of few runs that are not in one of many: those that are not among what the
+/// two have in common.
+pub(super) fn few_without<B: Width>(
+    few: &IntervalSet<B>,
+    many: &IntervalSet<B>,
+) -> Result<IntervalSet<B>, AllocError>
+    ensures members { IfOk result (λ L. IsRunsOf L (Without (Covers few.now) (Covers many.now))) }
+{
+    let shared = common_with_few(few, &mut Probes::new(many))?;
+    without(Walk::new(few), Walk::new(&shared))
 }
 
 /// Adds what a run has in common with runs of which the first `from` end below it. Returns how many
