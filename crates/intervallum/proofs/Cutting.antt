@@ -1,5 +1,6 @@
 -- Runs cut by an interval: the first from below, and the last one from above.
-use Rattle.std.proofs.Common.{◌≡◌, ⊎_elim, inl, inr, ℕ, zero, suc, ◌+◌, ◌<◌, ℤ, pos, ◌+ℤ◌, ◌≤ℤ◌, List, [], ◌∷◌, length, get_or, set, sym, subst, arith, length-set}
+use Rattle.std.proofs.Common.{◌≡◌, ⊎_elim, inl, inr, ℕ, zero, suc, ◌+◌, ◌<◌, ℤ, pos, ◌+ℤ◌, ◌≤ℤ◌, List, [], ◌∷◌, length, get_or, set, take, drop, sym, ap, subst, ◌∙◌, ◌-◌, ◌≤◌, arith, length-set, length-drop}
+use Rattle.std.proofs.lemmas.List.{drop-set-add, get_or-drop, take-set-le}
 use Rattle.std.proofs.lemmas.Int.{ints, clamps}
 use Rattle.std.specs.Int.{int_max, int_min}
 use Rattle.ivl_laws.specs.Sets.{AtLeast, AtMost, IsBetween, SameMembers, Intersection}
@@ -100,3 +101,28 @@ is_cut whole L W p q r s k v w l o e b n f g is h at j =
     let last = cut_last M k s q W.1 first.maximal (omega arith) starts high in
     let all = cut_both L M (set M k s) W first last in
     record { runs = all; list = record { maximal = all.maximal; within = λ z c. l.within z ((all.members z).0 c).0 } }
+
+-- ---- the runs of a list from a place on
+
+-- N is the list with the runs from place i on cut to what they have in W
+pub record IsCutFrom (whole : ℤ × ℤ) (L : List (ℤ × ℤ)) (W : ℤ × ℤ) (i : ℕ) (N : List (ℤ × ℤ)) : Type 0 where
+  pub before : take i N ≡ take i L
+  pub part : IsCut whole (drop i L) W (drop i N)
+
+pub is_cut_from : (whole : ℤ × ℤ) (L : List (ℤ × ℤ)) (W p q r s : ℤ × ℤ) (i k : ℕ) (v w : ℤ) → IsRunListIn whole (drop i L) → W.0 ≤ℤ W.1 → EndsFrom W.0 (drop i L) → StartsBy W.1 (drop i L) →
+    i ≤ k → k + 1 ≡ length L → v ≡ W.0 → w ≡ W.1 → p ≡ get_or L i p → SameMembers (IsBetween r) (AtLeast v (IsBetween p)) →
+    q ≡ get_or (set L i r) k q → SameMembers (IsBetween s) (AtMost w (IsBetween q)) → IsCutFrom whole L W i (set (set L i r) k s)
+is_cut_from whole L W p q r s i k v w l o e b le n f g is h at j =
+    let M : List (ℤ × ℤ) = set L i r in
+    let first : i + 0 ≡ i = omega arith in
+    let place : i + (k - i) ≡ k = omega (arith, le) in
+    let front : drop i M ≡ set (drop i L) 0 r = ap (λ (x : ℕ). drop i (set L x r)) (sym first) ∙ drop-set-add i L 0 r in
+    let back : drop i (set M k s) ≡ set (drop i M) (k - i) s = ap (λ (x : ℕ). drop i (set M x s)) (sym place) ∙ drop-set-add i M (k - i) s in
+    let at_first : get_or L i p ≡ get_or (drop i L) 0 p = ap (λ (x : ℕ). get_or L x p) (sym first) ∙ sym (get_or-drop i L 0 p) in
+    let at_last : get_or M k q ≡ get_or (set (drop i L) 0 r) (k - i) q = ap (λ (x : ℕ). get_or M x q) (sym place) ∙ sym (get_or-drop i M (k - i) q) ∙ ap (λ (K : List (ℤ × ℤ)). get_or K (k - i) q) front in
+    let many = length-drop i L in
+    let cut = is_cut whole (drop i L) W p q r s (k - i) v w l o e b (omega (arith, many, le, n)) f g (is ∙ at_first) h (at ∙ at_last) j in
+    record {
+      before = take-set-le i M k s le ∙ take-set-le i L i r (omega arith);
+      part = subst (λ (K : List (ℤ × ℤ)). IsCut whole (drop i L) W K) (sym (back ∙ ap (λ (K : List (ℤ × ℤ)). set K (k - i) s) front)) cut;
+    }

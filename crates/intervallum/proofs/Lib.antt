@@ -27,3 +27,5 @@ pub mod Rooms
 pub mod Rows
 pub mod WithIntervals
 pub mod Ranks
+pub mod Appending
+pub mod Few

@@ -89,7 +89,7 @@ covers_split (p ∷ L) (suc i) z (inl b) = inl (inl b)
 covers_split (p ∷ L) (suc i) z (inr c) = ⊎_elim (λ t. inl (inr t)) (λ d. inr d) (covers_split L i z c)
 
 -- the part of the list from place i to place j has what the list has in the window
-same_in_window : (L : List (ℤ × ℤ)) (i j : ℕ) (W : ℤ × ℤ) → i ≤ j → EndBelow W.0 (take i L) → StartAbove W.1 (drop j L) →
+pub same_in_window : (L : List (ℤ × ℤ)) (i j : ℕ) (W : ℤ × ℤ) → i ≤ j → EndBelow W.0 (take i L) → StartAbove W.1 (drop j L) →
     SameMembers (Intersection (Covers (take (j - i) (drop i L))) (IsBetween W)) (Intersection (Covers L) (IsBetween W))
 same_in_window L i j W o e s z = (
   (λ h. (covers-drop L i z (covers-take (drop i L) (j - i) z h.0), h.1)),

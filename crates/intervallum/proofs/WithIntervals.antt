@@ -1,13 +1,14 @@
 -- Sets beside an interval.
-use Rattle.std.proofs.Common.{◌≡◌, ◌↔◌, ⊎_elim, inl, inr, ℤ, pos, ◌+ℤ◌, ◌≤ℤ◌, Bool, IsTrue, List, [], ◌∷◌, arith, sym, subst}
+use Rattle.std.proofs.Common.{◌≡◌, ◌↔◌, ⊎_elim, inl, ℤ, pos, ◌+ℤ◌, ◌≤ℤ◌, Bool, IsTrue, List, [], ◌∷◌, arith, sym, subst, ◌+◌, ◌≤◌, length}
 use Rattle.std.specs.Prelude.{◌<ℤ◌, Result, IfOk}
 use Rattle.std.proofs.lemmas.Int.{ints, by_lt_z}
 use Rattle.std.proofs.lemmas.Result.{IfOk-weaker}
-use Rattle.ivl_laws.specs.Sets.{AtLeast, HasSome, Intersection, IsBetween, IsSubset, SameMembers, Union, Without}
+use Rattle.ivl_laws.specs.Sets.{AtLeast, HasSome, Intersection, IsBetween, IsSubset, Without}
 use Rattle.ivl_laws.specs.Runs.{Covers, IsRunsOf}
 use Rattle.ivl_laws.proofs.Ranges.{IsRunsOf-one}
 use Rattle.ivl_laws.proofs.Runs.{pair_same}
 use Rattle.ivl_laws.proofs.SetLaws.{IsRunsOf-same}
+use Rattle.intervallum.proofs.RunBounds.{length_of_without}
 use Rattle.intervallum.specs.Neighbours.{IsLeast, IsRunWith}
 
 -- ---- the set of an interval
@@ -16,27 +17,11 @@ pub of_some : {E : Type 0} (r : Result (List (ℤ × ℤ)) E) (p : ℤ × ℤ) (
 of_some r p a b o e f h = IfOk-weaker r _ _ (λ L i.
     subst (λ (M : List (ℤ × ℤ)). IsRunsOf M (IsBetween p)) (sym i) (subst (λ (q : ℤ × ℤ). IsRunsOf (q ∷ []) (IsBetween p)) (sym (pair_same (a, b) p e f)) (IsRunsOf-one p o))) h
 
--- ---- results beside a set whose runs are those of T
+-- ---- how many runs are left without an interval
 
--- A and M are the sets, as walks saw them
-module _ {E : Type 0} (r : Result (List (ℤ × ℤ)) E) (A M N L : List (ℤ × ℤ)) (T : ℤ → Type 0) (e : A ≡ L) (f : M ≡ N) (u : IsRunsOf N T) where
-  same_first : SameMembers (Covers A) (Covers L)
-  same_first = subst (λ (K : List (ℤ × ℤ)). SameMembers (Covers A) (Covers K)) e (λ z. ((λ c. c), (λ c. c)))
-
-  same_second : SameMembers (Covers M) T
-  same_second = subst (λ (K : List (ℤ × ℤ)). SameMembers (Covers K) T) (sym f) u.members
-
-  pub united_with : IfOk r (λ K. IsRunsOf K (Union (Covers A) (Covers M))) → IfOk r (λ K. IsRunsOf K (Union (Covers L) T))
-  united_with = IfOk-weaker r _ _ (λ K i. IsRunsOf-same _ _ K (λ z. (
-    ⊎_elim (λ a. inl ((same_first z).0 a)) (λ b. inr ((same_second z).0 b)),
-    ⊎_elim (λ a. inl ((same_first z).1 a)) (λ b. inr ((same_second z).1 b)),
-  )) i)
-
-  pub left_without : IfOk r (λ K. IsRunsOf K (Without (Covers A) (Covers M))) → IfOk r (λ K. IsRunsOf K (Without (Covers L) T))
-  left_without = IfOk-weaker r _ _ (λ K i. IsRunsOf-same _ _ K (λ z. (
-    (λ (a, n). ((same_first z).0 a, λ b. n ((same_second z).1 b))),
-    (λ (a, n). ((same_first z).1 a, λ b. n ((same_second z).0 b))),
-  )) i)
+pub length_but_interval : (L R : List (ℤ × ℤ)) (p : ℤ × ℤ) → IsRunsOf R (Without (Covers L) (IsBetween p)) → length R ≤ length L + 1
+length_but_interval L R p r = length_of_without L (p ∷ []) R (IsRunsOf-same (Without (Covers L) (IsBetween p)) (Without (Covers L) (Covers (p ∷ []))) R
+    (λ z. ((λ (c, n). (c, λ d. n (⊎_elim (λ b. b) (λ a. absurd a) d))), (λ (c, n). (c, λ b. n (inl b))))) r)
 
 -- ---- whether an interval is included, and whether it overlaps
 

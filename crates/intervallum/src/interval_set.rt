@@ -13,6 +13,7 @@ mod conversions;
 mod copies;
 mod counting;
 mod edits;
+mod few;
 mod fits;
 mod inclusion;
 mod lattice;

@@ -4,10 +4,11 @@ ghost use Rattle.ivl_laws.specs.Sets.{Complement, HasNone, HasSome, Intersection
 ghost use Rattle.ivl_laws.specs.Runs.{Covers, IsRunsOf};
 
 use super::IntervalSet;
+use super::few::{common_with_few, few_without, is_far_shorter, without_few};
 use crate::ops::{
     Complement, Difference, Disjoint, Intersection, Overlap, SymmetricDifference, Union,
 };
-use crate::steps::{Walk, common, gaps, have_common, one_alone, unite, without};
+use crate::steps::{Probes, Walk, common, gaps, have_common, one_alone, unite, without};
 use crate::width::Width;
 use std::alloc::AllocError;
 
@@ -46,8 +47,10 @@ impl<B: Width> Intersection<IntervalSet<B>> for IntervalSet<B> {
 
     ghost answers = { λ r S. IfOk r (λ L. IsRunsOf L S) };
 
-    /// Returns the members of both sets. `O(n + m)`. Reserves `n + m` runs once and shrinks the
-    /// result if less than half is used. Fails only if allocation fails.
+    /// Returns the members of both sets. `O(n + m)`, and less where one of the sets has far fewer
+    /// runs: it searches for each of its `k` runs from where the last one was found, `O(k log n)`
+    /// and a copy of the answer's runs. Reserves `n + m` runs once, or the few, and shrinks the result
+    /// if less than half is used. Fails only if allocation fails.
     ///
     /// ```
     /// let (a, b) = (IntervalSet::new(alloc, 1, 5)?, IntervalSet::new(alloc, 4, 9)?);
@@ -57,7 +60,13 @@ impl<B: Width> Intersection<IntervalSet<B>> for IntervalSet<B> {
         ensures members { IfOk result (λ L. IsRunsOf L (Intersection (Covers self.now) (Covers other.now))) }
         ensures runs_at_most { IfOk result (λ L. length L ≤ length self.now + length other.now) }
     {
-        common(Walk::new(self), Walk::new(other))
+        if is_far_shorter(self, other) {
+            common_with_few(self, &mut Probes::new(other))
+        } else if is_far_shorter(other, self) {
+            common_with_few(other, &mut Probes::new(self))
+        } else {
+            common(Walk::new(self), Walk::new(other))
+        }
     }
 }
 
@@ -71,19 +80,26 @@ impl<B: Width> Difference<IntervalSet<B>> for IntervalSet<B> {
     ghost answers = { λ r S. IfOk r (λ L. IsRunsOf L S) };
 
     /// Returns the members that are not in `other`. `O(n + m)`. Reserves `n + m` runs once and
-    /// shrinks the result if less than half is used. Fails only if allocation fails.
+    /// shrinks the result if less than half is used. Where one of the sets has far fewer runs, each of
+    /// its `k` runs is searched for from where the last one was found: `O(k log n)`, and a copy of the
+    /// runs that they meet, or of the answer's; the complement of `other`, or what the two have in
+    /// common, is kept meanwhile. Fails only if allocation fails.
     ///
     /// ```
     /// let (a, b) = (IntervalSet::new(alloc, 1, 5)?, IntervalSet::new(alloc, 4, 9)?);
     /// assert!(rt; a.difference(&b)? == IntervalSet::new(alloc, 1, 3)?);
     /// ```
-    ///
-    /// No other set is built on the way.
     fn difference(&self, other: &IntervalSet<B>) -> Result<IntervalSet<B>, AllocError>
         ensures members { IfOk result (λ L. IsRunsOf L (Without (Covers self.now) (Covers other.now))) }
         ensures runs_at_most { IfOk result (λ L. length L ≤ length self.now + length other.now) }
     {
-        without(Walk::new(self), Walk::new(other))
+        if is_far_shorter(other, self) {
+            without_few(self, other)
+        } else if is_far_shorter(self, other) {
+            few_without(self, other)
+        } else {
+            without(Walk::new(self), Walk::new(other))
+        }
     }
 }
 

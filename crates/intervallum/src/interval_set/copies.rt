@@ -1,5 +1,6 @@
 //! A set that is made from a set.
 ghost use Rattle.std.specs.Prelude.{◌≡◌, IfOk};
+ghost use Rattle.ivl_laws.specs.Runs.{IsRunListIn};
 
 use super::IntervalSet;
 use crate::width::Width;
@@ -16,6 +17,19 @@ impl<B: Width> IntervalSet<B> {
         ensures { IfOk result (λ L. L ≡ self.now) }
     {
         let intervals = Vec::from_slice(self.allocator(), &self.intervals)?;
+        Ok(IntervalSet {
+            intervals,
+            size: self.size,
+        })
+    }
+    /// The same set once more, with room for one run more.
+    pub(super) fn copy_with_room(&self) -> Result<Self, AllocError>
+        ensures same { IfOk result (λ L. L ≡ self.now) }
+        ensures runs { IsRunListIn B.whole self.now }
+    {
+        let room = self.intervals.len().saturating_add(1);
+        let mut intervals = Vec::with_capacity(self.allocator(), room)?;
+        intervals.extend_from_slice(&self.intervals)?;
         Ok(IntervalSet {
             intervals,
             size: self.size,

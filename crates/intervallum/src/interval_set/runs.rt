@@ -154,7 +154,7 @@ fn numbers_past<B: Width>(last: &Interval<B>, run: &Interval<B>) -> B::Output
 }
 
 /// A size and some more. The sum is a size again.
-fn grown<B: Width>(size: B::Output, more: B::Output) -> B::Output
+pub(super) fn grown<B: Width>(size: B::Output, more: B::Output) -> B::Output
     requires { B.Output.size size + B.Output.size more ≤ B.Output.greatest }
     ensures { B.Output.size result ≡ B.Output.size size + B.Output.size more }
 {

@@ -1,11 +1,12 @@
 //! Sets cut at a value, from either side, with or without the value.
-ghost use Rattle.std.specs.Prelude.{◌≡◌, ◌≤◌, ◌≤ℤ◌, IfOk, length, take, drop};
-ghost use Rattle.ivl_laws.specs.Sets.{Above, AtLeast, AtMost, Below, Intersection, IsBetween};
+ghost use Rattle.std.specs.Prelude.{◌≡◌, ◌+◌, ◌≤◌, pos, ◌≤ℤ◌, IfOk, OnOk, length, take, drop};
+ghost use Rattle.ivl_laws.specs.Sets.{Above, AtLeast, AtMost, Below, Intersection, IsBetween, Union};
 ghost use Rattle.ivl_laws.specs.Runs.{Covers, IsRunListIn, IsRunsOf, StartsBy};
 ghost use Rattle.intervallum.specs.Places.{EndBelow, EndsFrom, StartAbove};
+ghost use Rattle.intervallum.specs.Sides.{IsBelow};
 
 use super::IntervalSet;
-use super::runs::size_of_runs;
+use super::runs::{grown, size_of_runs};
 use crate::interval::Interval;
 use crate::ops::{
     Bounded, IsEmpty, ShrinkLeft, ShrinkRight, StrictShrinkLeft, StrictShrinkRight, Whole,
@@ -157,26 +158,53 @@ fn cut_runs<B: Width>(
     ensures members { IfOk result (λ L. IsRunsOf L (Intersection (Covers runs.now) (IsBetween window.now))) }
     ensures runs_at_most { IfOk result (λ L. length L ≤ length runs.now) }
 {
-    let mut kept = Vec::from_slice(alloc, runs)?;
-    cut_ends(&mut kept, window);
-    let size = size_of_runs(&kept);
-    Ok(IntervalSet::of_runs(kept, size))
+    let mut kept = IntervalSet::with_room(alloc, runs.len())?;
+    kept.push_cut(runs, window)?;
+    Ok(kept)
 }
 
-/// Cuts the first run from below and the last one from above, to what lies in an interval.
-fn cut_ends<B: Width>(runs: &mut Vec<Interval<B>>, window: &Interval<B>)
+impl<B: Width> IntervalSet<B> {
+    /// Adds what runs have in an interval, which lies above the members and not next to them. The
+    /// runs are copied whole, and the first and the last of them cut.
+    pub(crate) fn push_cut(
+        &mut self,
+        runs: &[Interval<B>],
+        window: &Interval<B>,
+    ) -> Result<(), AllocError>
+        requires window { window.now.0 ≤ℤ window.now.1 }
+        requires runs { IsRunListIn B.whole runs.now }
+        requires first { EndsFrom window.now.0 runs.now }
+        requires last { StartsBy window.now.1 runs.now }
+        requires apart { IsBelow (pos 2) (Covers self.old) (IsBetween window.now) }
+        ensures members { OnOk result (IsRunsOf self.new (Union (Covers self.old) (Intersection (Covers runs.now) (IsBetween window.now)))) }
+        ensures count { OnOk result (length self.new ≡ length self.old + length runs.now) }
+    {
+        let count = self.intervals.len();
+        self.intervals.extend_from_slice(runs)?;
+        cut_ends(&mut self.intervals, count, window);
+        let more = size_of_runs(&self.intervals[count..]);
+        self.size = grown::<B>(self.size, more);
+        Ok(())
+    }
+}
+
+/// Cuts the runs from a place on to what lies in an interval: the first of them from below, and the
+/// last one from above.
+fn cut_ends<B: Width>(runs: &mut Vec<Interval<B>>, from: usize, window: &Interval<B>)
+    requires at_most { from ≤ length runs.old.items }
     requires window { window.now.0 ≤ℤ window.now.1 }
-    requires runs { IsRunListIn B.whole runs.old.items }
-    requires first { EndsFrom window.now.0 runs.old.items }
-    requires last { StartsBy window.now.1 runs.old.items }
-    ensures members { IsRunsOf runs.new.items (Intersection (Covers runs.old.items) (IsBetween window.now)) }
-    ensures within { IsRunListIn B.whole runs.new.items }
+    requires runs { IsRunListIn B.whole (drop from runs.old.items) }
+    requires first { EndsFrom window.now.0 (drop from runs.old.items) }
+    requires last { StartsBy window.now.1 (drop from runs.old.items) }
+    ensures before { take from runs.new.items ≡ take from runs.old.items }
+    ensures members { IsRunsOf (drop from runs.new.items) (Intersection (Covers (drop from runs.old.items)) (IsBetween window.now)) }
+    ensures within { IsRunListIn B.whole (drop from runs.new.items) }
     ensures count { length runs.new.items ≡ length runs.old.items }
 {
     let count = runs.len();
-    if count == 0 {
+    if count == from {
         return;
     }
-    runs[0] = runs[0].shrink_left(window.lower());
+    runs[from] = runs[from].shrink_left(window.lower());
     runs[count - 1] = runs[count - 1].shrink_right(window.upper());
 }

@@ -5,7 +5,6 @@ ghost use Rattle.ivl_laws.specs.Runs.{Covers, IsRunsOf};
 
 use super::IntervalSet;
 use crate::ops::{Contains, Difference, Intersection, SymmetricDifference, Union};
-use crate::steps::{Walk, one_alone, unite, without};
 use crate::width::Width;
 use std::alloc::AllocError;
 
@@ -20,9 +19,8 @@ impl<B: Width> Union<B> for IntervalSet<B> {
 
     ghost answers = { λ r S. IfOk r (λ L. IsRunsOf L S) };
 
-    /// The members, and the value. `O(n)`: a copy where the value is a member, else in memory for
-    /// `n + 1` runs, and for one run that holds the value meanwhile. Fails only if allocation
-    /// fails.
+    /// The members, and the value. `O(n)`: one copy and a binary search, in memory for `n + 1` runs.
+    /// Fails only if allocation fails.
     ///
     /// Condition: the value is in the range, which `Interval::in_range(value, value)` tests.
     ///
@@ -35,13 +33,9 @@ impl<B: Width> Union<B> for IntervalSet<B> {
         ensures members { IfOk result (λ L. IsRunsOf L (Union (Covers self.now) (Only (B.value other.now)))) }
         ensures runs_at_most { IfOk result (λ L. length L ≤ length self.now + 1) }
     {
-        self.as_runs();
-        if self.contains(other) {
-            self.try_clone()
-        } else {
-            let single = IntervalSet::new(self.allocator(), *other, *other)?;
-            unite(Walk::new(self), Walk::new(&single))
-        }
+        let mut set = self.copy_with_room()?;
+        set.insert(*other)?;
+        Ok(set)
     }
 }
 
@@ -56,8 +50,8 @@ impl<B: Width> SymmetricDifference<B> for IntervalSet<B> {
 
     ghost answers = { λ r S. IfOk r (λ L. IsRunsOf L S) };
 
-    /// The members without the value where it is one, else with it. `O(n)`, in memory for `n + 1`
-    /// runs, and for one run that holds the value meanwhile. Fails only if allocation fails.
+    /// The members without the value where it is one, else with it. `O(n)`: one copy and two binary
+    /// searches, in memory for `n + 1` runs. Fails only if allocation fails.
     ///
     /// Condition: the value is in the range, which `Interval::in_range(value, value)` tests.
     ///
@@ -70,8 +64,11 @@ impl<B: Width> SymmetricDifference<B> for IntervalSet<B> {
         ensures members { IfOk result (λ L. IsRunsOf L (SymmetricDifference (Covers self.now) (Only (B.value other.now)))) }
         ensures runs_at_most { IfOk result (λ L. length L ≤ length self.now + 1) }
     {
-        let single = IntervalSet::new(self.allocator(), *other, *other)?;
-        one_alone(Walk::new(self), Walk::new(&single))
+        if self.contains(other) {
+            self.difference(other)
+        } else {
+            self.union(other)
+        }
     }
 }
 
@@ -114,9 +111,8 @@ impl<B: Width> Difference<B> for IntervalSet<B> {
 
     ghost answers = { λ r S. IfOk r (λ L. IsRunsOf L S) };
 
-    /// The members but the value; for any value of its type. `O(n)`: a copy where the value is no
-    /// member, else in memory for `n + 1` runs, and for one run that holds the value meanwhile.
-    /// Fails only if allocation fails.
+    /// The members but the value; for any value of its type. `O(n)`: one copy and a binary search, in
+    /// memory for `n + 1` runs. Fails only if allocation fails.
     ///
     /// ```
     /// let a = IntervalSet::new(alloc, 1, 5)?;
@@ -126,13 +122,8 @@ impl<B: Width> Difference<B> for IntervalSet<B> {
         ensures members { IfOk result (λ L. IsRunsOf L (Without (Covers self.now) (Only (B.value other.now)))) }
         ensures runs_at_most { IfOk result (λ L. length L ≤ length self.now + 1) }
     {
-        // the members are in the range, and so is the value where it is one
-        self.as_runs();
-        if self.contains(other) {
-            let single = IntervalSet::new(self.allocator(), *other, *other)?;
-            without(Walk::new(self), Walk::new(&single))
-        } else {
-            self.try_clone()
-        }
+        let mut set = self.copy_with_room()?;
+        set.remove(*other)?;
+        Ok(set)
     }
 }

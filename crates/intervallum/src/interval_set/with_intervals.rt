@@ -7,7 +7,6 @@ use super::IntervalSet;
 use super::shrinks::cut;
 use crate::interval::Interval;
 use crate::ops::{Bounded, Difference, Intersection, IsEmpty, Overlap, Union};
-use crate::steps::{Walk, unite, without};
 use crate::width::Width;
 use std::alloc::{AllocError, Global};
 
@@ -84,8 +83,8 @@ impl<B: Width> Union<Interval<B>> for IntervalSet<B> {
 
     ghost answers = { λ r S. IfOk r (λ L. IsRunsOf L S) };
 
-    /// Returns the members of the set and of the interval, which may be empty. `O(n)`. Reserves
-    /// `n + 1` runs, and one for the interval while it works. Fails only if allocation fails.
+    /// Returns the members of the set and of the interval, which may be empty. `O(n)`: one copy and
+    /// a binary search. Reserves `n + 1` runs once. Fails only if allocation fails.
     ///
     /// ```
     /// let a = IntervalSet::new(alloc, 1, 5)?;
@@ -95,8 +94,9 @@ impl<B: Width> Union<Interval<B>> for IntervalSet<B> {
         ensures members { IfOk result (λ L. IsRunsOf L (Union (Covers self.now) (IsBetween other.now))) }
         ensures runs_at_most { IfOk result (λ L. length L ≤ length self.now + 1) }
     {
-        let single = IntervalSet::of(self.allocator(), *other)?;
-        unite(Walk::new(self), Walk::new(&single))
+        let mut set = self.copy_with_room()?;
+        set.insert_interval(*other)?;
+        Ok(set.fitted())
     }
 }
 
@@ -133,8 +133,8 @@ impl<B: Width> Difference<Interval<B>> for IntervalSet<B> {
 
     ghost answers = { λ r S. IfOk r (λ L. IsRunsOf L S) };
 
-    /// Returns the members that do not lie in the interval. `O(n)`. Reserves `n + 1` runs, and one
-    /// for the interval while it works. Fails only if allocation fails.
+    /// Returns the members that do not lie in the interval. `O(n)`: one copy and a binary search.
+    /// Reserves `n + 1` runs once. Fails only if allocation fails.
     ///
     /// ```
     /// let a = IntervalSet::new(alloc, 1, 9)?;
@@ -145,7 +145,8 @@ impl<B: Width> Difference<Interval<B>> for IntervalSet<B> {
         ensures members { IfOk result (λ L. IsRunsOf L (Without (Covers self.now) (IsBetween other.now))) }
         ensures runs_at_most { IfOk result (λ L. length L ≤ length self.now + 1) }
     {
-        let single = IntervalSet::of(self.allocator(), *other)?;
-        without(Walk::new(self), Walk::new(&single))
+        let mut set = self.copy_with_room()?;
+        set.remove_interval(*other)?;
+        Ok(set.fitted())
     }
 }

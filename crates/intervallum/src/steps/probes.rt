@@ -1,5 +1,5 @@
 //! The runs of a set, seen one by one, each by a look that contracts count.
-ghost use Rattle.std.specs.Prelude.{◌≡◌, ◌+◌, ◌<◌, ◌≤ℤ◌, Some, length, slice_get};
+ghost use Rattle.std.specs.Prelude.{◌≡◌, ◌+◌, ◌-◌, ◌<◌, ◌≤◌, ◌≤ℤ◌, Some, drop, length, slice_get, take};
 ghost use Rattle.ivl_laws.specs.Runs.{IsRunListIn};
 
 use crate::interval::Interval;
@@ -85,5 +85,15 @@ impl<'a, B: Width> Probes<'a, B> {
         let run = runs[i];
         self.looks = self.looks.and(&(), &());
         run
+    }
+    /// The runs from place `start` to before place `end`, to be copied. This is no look.
+    pub(crate) fn part(&self, start: usize, end: usize) -> &'a [Interval<B>]
+        requires in_order { start ≤ end }
+        requires at_most { end ≤ length self.now.runs }
+        ensures part { result.now ≡ take (end - start) (drop start self.now.runs) }
+        ensures runs { IsRunListIn B.whole self.now.runs }
+    {
+        let runs = self.runs;
+        &runs[start..end]
     }
 }

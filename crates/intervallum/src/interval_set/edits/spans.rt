@@ -9,7 +9,7 @@ ghost use Rattle.intervallum.specs.Places.{EndBelow, EndsFrom, StartAbove};
 use crate::interval::Interval;
 use crate::interval_set::IntervalSet;
 use crate::ops::{Bounded, IsEmpty, Range, StrictShrinkLeft, StrictShrinkRight};
-use crate::steps::{Place, Probes, find, find_from};
+use crate::steps::{Place, Probes, find, last_up_to};
 use crate::width::Width;
 
 /// The places of the runs that end at `lower` or above and start at `upper` or below: the first,
@@ -35,24 +35,6 @@ fn first_from<B: Width>(probes: &mut Probes<'_, B>, value: B) -> usize
     let _count = probes.len();
     match find(probes, value) {
         Place::In(i) => i,
-        Place::Gap(i) => i,
-    }
-}
-
-/// How many runs start at a value or below, of which the first `from` end below it.
-fn last_up_to<B: Width>(probes: &mut Probes<'_, B>, value: B, from: usize) -> usize
-    requires at_most { from ≤ length probes.old.runs }
-    requires below { EndBelow (B.value value) (take from probes.old.runs) }
-    ensures starts { StartsBy (B.value value) (take result probes.old.runs) }
-    ensures above { StartAbove (B.value value) (drop result probes.old.runs) }
-    ensures at_most { result ≤ length probes.old.runs }
-    ensures onwards { from ≤ result }
-    ensures same { probes.new.runs ≡ probes.old.runs }
-{
-    // the runs are those of a set, and no more than can be counted
-    let _count = probes.len();
-    match find_from(probes, value, from) {
-        Place::In(i) => i + 1,
         Place::Gap(i) => i,
     }
 }

@@ -1,6 +1,9 @@
-use Rattle.std.proofs.Common.{◌∙◌}
-use Rattle.intervallum.proofs.Singles.{alone_with_one}
+use Rattle.ivl_laws.proofs.Adding.{untrue}
+use Rattle.intervallum.proofs.Singles.{alone_with_member, alone_with_other}
 use Rattle.intervallum.proofs.interval_set.values.IntervalSetSymmetricDifference.symmetric_difference.Goals as goal
 
-pub returns-clause-members : goal.returns-clause-members
-returns-clause-members g c = alone_with_one c.one_alone.result c.new-2.result.left c.new-3.result.left c.args.self.now (g.B.Width.value c.args.other.now) c.new-2.ensures.left (c.new-3.ensures.left ∙ c.in_ok-single.ensures) c.one_alone.ensures.members
+pub returns-then-contains-clause-members : goal.returns-then-contains-clause-members
+returns-then-contains-clause-members g c = alone_with_member c.difference.result c.args.self.now (g.B.Width.value c.args.other.now) (c.contains.ensures.0 c.if-contains.true) c.difference.ensures.members
+
+pub returns-else-contains-clause-members : goal.returns-else-contains-clause-members
+returns-else-contains-clause-members g c = alone_with_other c.union.result c.args.self.now (g.B.Width.value c.args.other.now) (untrue _ c.if-contains.false c.contains.ensures) c.union.ensures.members

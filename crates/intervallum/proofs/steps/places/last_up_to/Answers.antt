@@ -1,6 +1,6 @@
 use Rattle.std.proofs.Common.{arith}
 use Rattle.intervallum.proofs.Windows.{split_by_run, split_by_gap}
-use Rattle.intervallum.proofs.interval_set.edits.spans.last_up_to.Goals as goal
+use Rattle.intervallum.proofs.steps.places.last_up_to.Goals as goal
 
 pub overflow_add-result : goal.overflow_add-result
 overflow_add-result g c =

@@ -1,0 +1,94 @@
+//! Sets of few runs beside sets of many: each of the few runs is searched for among the many, from
+//! where the last one was found.
+ghost use Rattle.std.specs.Prelude.{◌≡◌, ℕ, ◌+◌, ◌*◌, ◌^◌, ◌<◌, ◌≤◌, pos, ◌≤ℤ◌, IfOk, OnOk, length, take};
+ghost use Rattle.ivl_laws.specs.Sets.{Intersection, IsBetween, Union, Without};
+ghost use Rattle.ivl_laws.specs.Runs.{Covers, IsRunsOf};
+ghost use Rattle.intervallum.specs.Places.{EndBelow};
+ghost use Rattle.intervallum.specs.Sides.{IsBelow};
+
+use super::IntervalSet;
+use crate::interval::Interval;
+use crate::ops::{Bounded, Complement};
+use crate::steps::{Probes, Walk, first_from, last_up_to, without};
+use crate::width::Width;
+use std::alloc::AllocError;
+
+/// How many times more runs the other set has to have, for a search to take fewer steps than a walk.
+const FAR_MORE: usize = 16;
+
+/// The first set has so few runs beside the second that a search for each of them takes fewer steps
+/// than a walk over both.
+pub(super) fn is_far_shorter<B: Width>(few: &IntervalSet<B>, many: &IntervalSet<B>) -> bool {
+    few.interval_count() < many.interval_count() / FAR_MORE
+}
+
+/// The members that a set of few runs has in common with one of many. Reserves the few, and more as
+/// the answer grows. Copies the runs of the many that are kept whole.
+pub(super) fn common_with_few<B: Width>(
+    few: &IntervalSet<B>,
+    many: &mut Probes<'_, B>,
+) -> Result<IntervalSet<B>, AllocError>
+    ensures members { IfOk result (λ L. IsRunsOf L (Intersection (Covers few.now) (Covers many.old.runs))) }
+    ensures runs_at_most { IfOk result (λ L. length L ≤ length few.now + length many.old.runs) }
+    // for each of the few no more looks than four times the binary digits of the number of the many
+    ensures looks { (digits : ℕ) → length many.old.runs + 1 < 2 ^ digits → many.new.looks ≤ many.old.looks + length few.now * (4 * digits) }
+{
+    // the runs are those of a set, which the count tells
+    let _count = many.len();
+    let mut set = IntervalSet::with_room(few.allocator(), few.interval_count())?;
+    let mut from = 0;
+    for run in few.as_runs() {
+        from = push_shared(&mut set, many, *run, from)?;
+    }
+    Ok(set.fitted())
+}
+
+/// The members of a set of many runs that are not in one of few: what it has in common with the
+/// complement of the few.
+pub(super) fn without_few<B: Width>(
+    many: &IntervalSet<B>,
+    few: &IntervalSet<B>,
+) -> Result<IntervalSet<B>, AllocError>
+    ensures members { IfOk result (λ L. IsRunsOf L (Without (Covers many.now) (Covers few.now))) }
+{
+    // the members of the many are in the range, and so in the complement of the few where not in them
+    many.as_runs();
+    let free = few.complement()?;
+    common_with_few(&free, &mut Probes::new(many))
+}
+
+/// The members of a set of few runs that are not in one of many: those that are not among what the
+/// two have in common.
+pub(super) fn few_without<B: Width>(
+    few: &IntervalSet<B>,
+    many: &IntervalSet<B>,
+) -> Result<IntervalSet<B>, AllocError>
+    ensures members { IfOk result (λ L. IsRunsOf L (Without (Covers few.now) (Covers many.now))) }
+{
+    let shared = common_with_few(few, &mut Probes::new(many))?;
+    without(Walk::new(few), Walk::new(&shared))
+}
+
+/// Adds what a run has in common with runs of which the first `from` end below it. Returns how many
+/// of them do.
+fn push_shared<B: Width>(
+    set: &mut IntervalSet<B>,
+    many: &mut Probes<'_, B>,
+    run: Interval<B>,
+    from: usize,
+) -> Result<usize, AllocError>
+    requires filled { run.0 ≤ℤ run.1 }
+    requires apart { IsBelow (pos 2) (Covers set.old) (IsBetween run) }
+    requires at_most { from ≤ length many.old.runs }
+    requires below { EndBelow run.0 (take from many.old.runs) }
+    ensures members { OnOk result (IsRunsOf set.new (Union (Covers set.old) (Intersection (Covers many.old.runs) (IsBetween run)))) }
+    ensures below { IfOk result (λ i. EndBelow run.0 (take i many.old.runs)) }
+    ensures at_most { IfOk result (λ i. i ≤ length many.old.runs) }
+    ensures same { many.new.runs ≡ many.old.runs }
+    ensures looks { (digits : ℕ) → length many.old.runs + 1 < 2 ^ digits → many.new.looks ≤ many.old.looks + 4 * digits }
+{
+    let start = first_from(many, run.lower(), from);
+    let end = last_up_to(many, run.upper(), start);
+    set.push_cut(many.part(start, end), &run)?;
+    Ok(start)
+}
