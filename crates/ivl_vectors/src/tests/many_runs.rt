@@ -37,3 +37,18 @@ fn sets_of_a_hundred_runs(rt: HostRuntime) -> Result<(), Fail> {
     assert_eq!(rt; (all.interval_count(), all.size()), (199, 796u32));
     Ok(())
 }
+
+#[test]
+fn few_runs_beside_a_hundred(rt: HostRuntime) -> Result<(), Fail> {
+    let many = hundred(&rt, 0, 4)?;
+    let few = ints(&rt, &[(3, 12), (500, 507), (989, 2000)])?;
+    let shared = ints(&rt, &[(3, 4), (10, 12), (500, 504), (990, 994)])?;
+    assert!(rt; few.intersection(&many)? == shared);
+    assert!(rt; many.intersection(&few)? == shared);
+    let rest = many.difference(&few)?;
+    assert_eq!(rt; (rest.interval_count(), rest.size()), (98, 485u32));
+    assert!(rt; rest.union(&shared)? == many);
+    let others = ints(&rt, &[(5, 9), (505, 507), (989, 989), (995, 2000)])?;
+    assert!(rt; few.difference(&many)? == others);
+    Ok(())
+}
