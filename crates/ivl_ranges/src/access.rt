@@ -1,8 +1,8 @@
 //! Accesses `a[i + k]`, where a set is known for each of the two.
-ghost use Rattle.std.specs.Prelude.{◌≡◌, ◌↔◌, IfOk, IsTrue};
+ghost use Rattle.std.specs.Prelude.{◌≡◌, ◌↔◌, ◌^◌, ℤ, pos, ◌+ℤ◌, ◌<ℤ◌, IfOk, IsTrue};
 ghost use Rattle.ivl_laws.specs.Families.{set_at};
 ghost use Rattle.ivl_laws.specs.Runs.{Covers, IsRunsOf};
-ghost use Rattle.ivl_laws.specs.Sets.{IsBetween, IsSubset, SameMembers, Sums};
+ghost use Rattle.ivl_laws.specs.Sets.{HasSome, IsBetween, IsSubset, SameMembers, Sums};
 ghost use Rattle.ivl_ranges.specs.Indexes.{IsIndexOf, SafeIn};
 
 use intervallum::interval::Interval;
@@ -12,13 +12,14 @@ use ivl_expr::{EvalFault, Expr, eval};
 use std::alloc::{AllocError, Global};
 
 /// Returns true if and only if `i + k` is an index of an array of this length for all members `i` of
-/// the first set and `k` of the second. Sums that leave the range of `i64` are no indexes.
+/// the first set and `k` of the second.
 ///
 /// Makes the set of the sums: `O(n m log (n m))` for `n` and `m` runs, in memory for twice `n * m` runs.
 ///
 /// # Errors
 ///
 /// - [`EvalFault::Missing`] if there are fewer than two sets.
+/// - [`EvalFault::Range`] if some sum is outside the range of `i64`, and so no index.
 /// - [`EvalFault::Memory`] if an allocation fails.
 ///
 /// ```
@@ -28,12 +29,8 @@ use std::alloc::{AllocError, Global};
 pub fn is_safe(alloc: Global, sets: &[IntervalSet<i64>], length: u32) -> Result<bool, EvalFault>
     ensures { IfOk result (λ r. IsTrue r ↔ IsSubset (Sums (set_at sets.now 0) (set_at sets.now 1)) (IsIndexOf length)) }
 {
-    let sum = Expr::Add(variable(alloc, 0)?, variable(alloc, 1)?);
-    match eval(alloc, &sum, sets) {
-        Ok(sums) => Ok(sums.is_subset(&IntervalSet::of(alloc, indexes(length))?)),
-        Err(EvalFault::Range) => Ok(false),
-        Err(fault) => Err(fault),
-    }
+    let sums = sums(alloc, sets)?;
+    Ok(are_indexes(alloc, &sums, length)?)
 }
 
 /// Returns the members `i` of `index` for which `i + k` is an index of an array of this length
@@ -55,16 +52,18 @@ pub fn safe_indexes(
     if offset.is_empty() {
         return index.try_clone();
     }
-    let least = -offset.lower();
-    let greatest = (i64::from(length) - 1).saturating_sub(offset.upper());
-    index.intersection(&Interval::new(least, greatest))
+    let window = window(offset, length);
+    // No run is wanted: the count tells that all members are values of `i64`.
+    let _count = index.interval_count();
+    index.intersection(&window)
 }
 
-/// The indexes of an array of this length.
-fn indexes(length: u32) -> Interval<i64>
-    ensures { SameMembers (IsBetween result) (IsIndexOf length) }
+/// The sums of a member of each of the first two sets.
+fn sums(alloc: Global, sets: &[IntervalSet<i64>]) -> Result<IntervalSet<i64>, EvalFault>
+    ensures { IfOk result (λ L. IsRunsOf L (Sums (set_at sets.now 0) (set_at sets.now 1))) }
 {
-    Interval::new(0, i64::from(length) - 1)
+    let sum = Expr::Add(variable(alloc, 0)?, variable(alloc, 1)?);
+    eval(alloc, &sum, sets)
 }
 
 /// A variable as an operand.
@@ -72,4 +71,36 @@ fn variable(alloc: Global, place: usize) -> Result<Box<Expr<i64>>, AllocError>
     ensures { IfOk result (λ b. b.value ≡ Expr.Var place) }
 {
     Ok(Box::new(alloc, Expr::Var(place))?)
+}
+
+/// Whether all members are indexes of an array of this length.
+fn are_indexes(alloc: Global, set: &IntervalSet<i64>, length: u32) -> Result<bool, AllocError>
+    ensures { IfOk result (λ r. IsTrue r ↔ IsSubset (Covers set.now) (IsIndexOf length)) }
+{
+    let all = indexes(alloc, length)?;
+    Ok(set.is_subset(&all))
+}
+
+/// The indexes of an array of this length.
+fn indexes(alloc: Global, length: u32) -> Result<IntervalSet<i64>, AllocError>
+    ensures { IfOk result (λ L. SameMembers (Covers L) (IsIndexOf length)) }
+{
+    if length == 0 {
+        return Ok(IntervalSet::empty(alloc));
+    }
+    IntervalSet::new(alloc, 0, i64::from(length) - 1)
+}
+
+/// The numbers to which every member of a set can be added to give an index, as far as they are
+/// values of `i64`.
+fn window(offset: &IntervalSet<i64>, length: u32) -> Interval<i64>
+    requires { HasSome (Covers offset.now) }
+    ensures { (x : ℤ) → x <ℤ pos (2 ^ 63) → IsBetween result x ↔ ((y : ℤ) → Covers offset.now y → IsIndexOf length (x +ℤ y)) }
+{
+    let last = i64::from(length) - 1;
+    let (lower, upper) = (offset.lower(), offset.upper());
+    if upper < last - i64::MAX {
+        return Interval::new(-lower, i64::MAX);
+    }
+    Interval::new(-lower, last - upper)
 }

@@ -1,4 +1,5 @@
 //! What a line tells or asks of an access, and the line that answers it.
+ghost use Rattle.std.specs.Prelude.{◌<◌};
 
 use crate::access::{is_safe, safe_indexes};
 use intervallum::interval::Interval;
@@ -37,7 +38,9 @@ impl Access {
         }
     }
 
-    fn set(&mut self, alloc: Global, place: usize, words: &str) -> Result<String, EvalFault> {
+    fn set(&mut self, alloc: Global, place: usize, words: &str) -> Result<String, EvalFault>
+        requires { place < 2 }
+    {
         match set_from(alloc, words)? {
             Some(set) => {
                 self.sets[place] = set;
@@ -61,8 +64,10 @@ impl Access {
     }
 
     fn check(&self, alloc: Global) -> Result<String, EvalFault> {
-        if is_safe(alloc, &self.sets, self.length)? {
-            return text(alloc, "safe");
+        match is_safe(alloc, &self.sets, self.length) {
+            Ok(true) => return text(alloc, "safe"),
+            Ok(false) | Err(EvalFault::Range) => {}
+            Err(fault) => return Err(fault),
         }
         let safe = safe_indexes(&self.sets[0], &self.sets[1], self.length)?;
         Ok(format!(in alloc; "safe for i in {safe} alone")?)
@@ -72,13 +77,14 @@ impl Access {
 /// The numbers of some ranges, or `None` if a word is no range. At least one range is wanted.
 fn set_from(alloc: Global, words: &str) -> Result<Option<IntervalSet<i64>>, AllocError> {
     let mut set = IntervalSet::empty(alloc);
-    let mut rest = words;
-    while let Some((word, after)) = next_word(rest) {
+    for word in words.split(' ') {
+        if word.is_empty() {
+            continue;
+        }
         match range_from(word) {
             Some(range) => set.insert_interval(range)?,
             None => return Ok(None),
         }
-        rest = after;
     }
     Ok(if set.is_empty() { None } else { Some(set) })
 }
