@@ -1,7 +1,7 @@
 -- The indexes that are safe lie in a window.
 use Rattle.std.proofs.Common.{◌↔◌, ℕ, ℤ, pos, ◌+ℤ◌, ◌≤ℤ◌, ◌<ℤ◌, List, arith}
 use Rattle.std.proofs.lemmas.Int.{ints}
-use Rattle.ivl_laws.specs.Runs.{Covers, IsRunsOf}
+use Rattle.ivl_laws.specs.Runs.{IsRunsOf}
 use Rattle.ivl_laws.specs.Sets.{Intersection, IsBetween, SameMembers}
 use Rattle.ivl_ranges.specs.Indexes.{IsIndexOf, SafeIn}
 

@@ -2,8 +2,9 @@
 
 use crate::access::{is_safe, safe_indexes};
 use crate::requests::Access;
+use intervallum::interval::Interval;
 use intervallum::interval_set::IntervalSet;
-use intervallum::ops::{Contains, IsEmpty};
+use intervallum::ops::{Contains, IsEmpty, ShrinkLeft, ShrinkRight, Whole};
 use ivl_expr::EvalFault;
 use std::test::Fail;
 
@@ -68,7 +69,8 @@ fn small_sets(rt: HostRuntime) -> Result<(), Fail> {
     for low in -4i64..5 {
         for high in low..5 {
             for length in 0u32..8 {
-                let mut offsets = IntervalSet::new(alloc, low, high)?;
+                let within = Interval::whole().shrink_left(low).shrink_right(high);
+                let mut offsets = IntervalSet::of(alloc, within)?;
                 offsets.remove(low / 2)?;
                 let sets = [IntervalSet::new(alloc, -2, 6)?, offsets];
                 let safe = safe_indexes(&sets[0], &sets[1], length)?;
