@@ -4,7 +4,7 @@ ghost use Rattle.jiff.specs.Words.{epoch_day};
 
 use intervallum::interval::Interval;
 use intervallum::interval_set::IntervalSet;
-use intervallum::ops::{Bounded, Range};
+use intervallum::ops::{Bounded, IsEmpty, Range};
 use jiff::civil::Date;
 use std::alloc::{AllocError, Global};
 

@@ -108,9 +108,9 @@ pub fn free_in_all(
 ) -> Result<IntervalSet<i32>, AllocError>
     ensures { IfOk result (λ L. IsRunsOf L (IsFreeInAll rooms.now window)) }
 {
-    let [room, others @ ..] = rooms else {
-        return IntervalSet::of(alloc, window);
-    };
-    let free = free_in_all(alloc, others, window)?;
-    free.difference(&room.busy)
+    let mut free = IntervalSet::of(alloc, window)?;
+    for room in rooms {
+        free = free.difference(&room.busy)?;
+    }
+    Ok(free)
 }
