@@ -1,0 +1,106 @@
+//! Accesses `a[i + k]`, where a set is known for each of the two.
+ghost use Rattle.std.specs.Prelude.{◌≡◌, ◌↔◌, ◌^◌, ℤ, pos, ◌+ℤ◌, ◌<ℤ◌, IfOk, IsTrue};
+ghost use Rattle.ivl_laws.specs.Families.{set_at};
+ghost use Rattle.ivl_laws.specs.Runs.{Covers, IsRunsOf};
+ghost use Rattle.ivl_laws.specs.Sets.{HasSome, IsBetween, IsSubset, SameMembers, Sums};
+ghost use Rattle.ivl_ranges.specs.Indexes.{IsIndexOf, SafeIn};
+
+use intervallum::interval::Interval;
+use intervallum::interval_set::IntervalSet;
+use intervallum::ops::{Bounded, Intersection, IsEmpty, Range, Subset};
+use ivl_expr::{EvalFault, Expr, eval};
+use std::alloc::{AllocError, Global};
+
+/// Returns true if and only if `i + k` is an index of an array of this length for all members `i` of
+/// the first set and `k` of the second.
+///
+/// Makes the set of the sums: `O(n m log (n m))` for `n` and `m` runs, in memory for twice `n * m` runs.
+///
+/// # Errors
+///
+/// - [`EvalFault::Missing`] if there are fewer than two sets.
+/// - [`EvalFault::Range`] if some sum is outside the range of `i64`, and so no index.
+/// - [`EvalFault::Memory`] if an allocation fails.
+///
+/// ```
+/// let sets = [IntervalSet::new(alloc, 0, 7)?, IntervalSet::new(alloc, 0, 2)?];
+/// assert!(rt; is_safe(alloc, &sets, 10)? && !is_safe(alloc, &sets, 9)?);
+/// ```
+pub fn is_safe(alloc: Global, sets: &[IntervalSet<i64>], length: u32) -> Result<bool, EvalFault>
+    ensures { IfOk result (λ r. IsTrue r ↔ IsSubset (Sums (set_at sets.now 0) (set_at sets.now 1)) (IsIndexOf length)) }
+{
+    let sums = sums(alloc, sets)?;
+    Ok(are_indexes(alloc, &sums, length)?)
+}
+
+/// Returns the members `i` of `index` for which `i + k` is an index of an array of this length
+/// whatever member of `offset` `k` is. So all of `index` if `offset` is empty.
+///
+/// `O(n)` for the `n` runs of `index`. Fails only if allocation fails.
+///
+/// ```
+/// let (index, offset) = (IntervalSet::new(alloc, 0, 7)?, IntervalSet::new(alloc, -1, 1)?);
+/// assert!(rt; safe_indexes(&index, &offset, 10)? == IntervalSet::new(alloc, 1, 7)?);
+/// ```
+pub fn safe_indexes(
+    index: &IntervalSet<i64>,
+    offset: &IntervalSet<i64>,
+    length: u32,
+) -> Result<IntervalSet<i64>, AllocError>
+    ensures { IfOk result (λ L. IsRunsOf L (SafeIn (Covers index.now) (Covers offset.now) length)) }
+{
+    if offset.is_empty() {
+        return index.try_clone();
+    }
+    let window = window(offset, length);
+    // No run is wanted: the count tells that all members are values of `i64`.
+    let _count = index.interval_count();
+    index.intersection(&window)
+}
+
+/// The sums of a member of each of the first two sets.
+fn sums(alloc: Global, sets: &[IntervalSet<i64>]) -> Result<IntervalSet<i64>, EvalFault>
+    ensures { IfOk result (λ L. IsRunsOf L (Sums (set_at sets.now 0) (set_at sets.now 1))) }
+{
+    let sum = Expr::Add(variable(alloc, 0)?, variable(alloc, 1)?);
+    eval(alloc, &sum, sets)
+}
+
+/// A variable as an operand.
+fn variable(alloc: Global, place: usize) -> Result<Box<Expr<i64>>, AllocError>
+    ensures { IfOk result (λ b. b.value ≡ Expr.Var place) }
+{
+    Ok(Box::new(alloc, Expr::Var(place))?)
+}
+
+/// Whether all members are indexes of an array of this length.
+fn are_indexes(alloc: Global, set: &IntervalSet<i64>, length: u32) -> Result<bool, AllocError>
+    ensures { IfOk result (λ r. IsTrue r ↔ IsSubset (Covers set.now) (IsIndexOf length)) }
+{
+    let all = indexes(alloc, length)?;
+    Ok(set.is_subset(&all))
+}
+
+/// The indexes of an array of this length.
+fn indexes(alloc: Global, length: u32) -> Result<IntervalSet<i64>, AllocError>
+    ensures { IfOk result (λ L. SameMembers (Covers L) (IsIndexOf length)) }
+{
+    if length == 0 {
+        return Ok(IntervalSet::empty(alloc));
+    }
+    IntervalSet::new(alloc, 0, i64::from(length) - 1)
+}
+
+/// The numbers to which every member of a set can be added to give an index, as far as they are
+/// values of `i64`.
+fn window(offset: &IntervalSet<i64>, length: u32) -> Interval<i64>
+    requires { HasSome (Covers offset.now) }
+    ensures { (x : ℤ) → x <ℤ pos (2 ^ 63) → IsBetween result x ↔ ((y : ℤ) → Covers offset.now y → IsIndexOf length (x +ℤ y)) }
+{
+    let last = i64::from(length) - 1;
+    let (lower, upper) = (offset.lower(), offset.upper());
+    if upper < last - i64::MAX {
+        return Interval::new(-lower, i64::MAX);
+    }
+    Interval::new(-lower, last - upper)
+}

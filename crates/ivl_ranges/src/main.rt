@@ -1,0 +1,22 @@
+//! Tells which accesses `a[i + k]` are within bounds, one request a line: `i 0..7` and `k -1..1 5..5`
+//! give the values that the two may have, `length 10` the length of the array, and `check` asks.
+#![tactic(auto)]
+
+mod access;
+mod requests;
+#[cfg(test)]
+mod tests;
+
+use anyhow::Result;
+use requests::Access;
+use std::io;
+use std::io::{BufRead, BufReader};
+
+fn main(rt: HostRuntime) -> Result<()> {
+    let mut access = Access::new(rt.alloc());
+    for line in BufReader::new(rt.alloc(), rt.stdin())?.lines(rt.alloc()) {
+        let text = access.answer(rt.alloc(), line?.as_str())?;
+        println!(rt; "{text}")?;
+    }
+    Ok(())
+}

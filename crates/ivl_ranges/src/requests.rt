@@ -1,0 +1,109 @@
+//! What a line tells or asks of an access, and the line that answers it.
+ghost use Rattle.std.specs.Prelude.{◌<◌};
+
+use crate::access::{is_safe, safe_indexes};
+use intervallum::interval::Interval;
+use intervallum::interval_set::IntervalSet;
+use intervallum::ops::{IsEmpty, Range};
+use ivl_expr::EvalFault;
+use ivl_words::{next_word, number_from, one_word};
+use std::alloc::{AllocError, Global};
+
+/// The sets of `i` and of `k`, in this order, and the length of the array.
+#[derive(Drop)]
+pub struct Access {
+    sets: [IntervalSet<i64>; 2],
+    length: u32,
+}
+
+impl Access {
+    /// An access to an array of no element, by an `i` and a `k` that have no value.
+    pub fn new(alloc: Global) -> Access {
+        Access {
+            sets: [IntervalSet::empty(alloc), IntervalSet::empty(alloc)],
+            length: 0,
+        }
+    }
+
+    /// The answer to a line: `ok`, what the check tells, or what is wrong with the line, which then
+    /// changes nothing.
+    pub fn answer(&mut self, alloc: Global, line: &str) -> Result<String, EvalFault> {
+        let (name, words) = next_word(line).unwrap_or(("", ""));
+        match name {
+            "i" => self.set(alloc, 0, words),
+            "k" => self.set(alloc, 1, words),
+            "length" => self.set_length(alloc, words),
+            "check" if next_word(words).is_none() => self.check(alloc),
+            _ => text(alloc, "write i RANGES, k RANGES, length NUMBER or check"),
+        }
+    }
+
+    fn set(&mut self, alloc: Global, place: usize, words: &str) -> Result<String, EvalFault>
+        requires { place < 2 }
+    {
+        match set_from(alloc, words)? {
+            Some(set) => {
+                self.sets[place] = set;
+                text(alloc, "ok")
+            }
+            None => text(
+                alloc,
+                "write ranges such as -1..1 5..5, with the lower end first",
+            ),
+        }
+    }
+
+    fn set_length(&mut self, alloc: Global, words: &str) -> Result<String, EvalFault> {
+        match one_word(words).and_then(length_from) {
+            Some(length) => {
+                self.length = length;
+                text(alloc, "ok")
+            }
+            None => text(alloc, "write length NUMBER, from 0 to 4294967295"),
+        }
+    }
+
+    fn check(&self, alloc: Global) -> Result<String, EvalFault> {
+        match is_safe(alloc, &self.sets, self.length) {
+            Ok(true) => return text(alloc, "safe"),
+            Ok(false) | Err(EvalFault::Range) => {}
+            Err(fault) => return Err(fault),
+        }
+        let safe = safe_indexes(&self.sets[0], &self.sets[1], self.length)?;
+        Ok(format!(in alloc; "safe for i in {safe} alone")?)
+    }
+}
+
+/// The numbers of some ranges, or `None` if a word is no range. At least one range is wanted.
+fn set_from(alloc: Global, words: &str) -> Result<Option<IntervalSet<i64>>, AllocError> {
+    let mut set = IntervalSet::empty(alloc);
+    for word in words.split(' ') {
+        if word.is_empty() {
+            continue;
+        }
+        match range_from(word) {
+            Some(range) => set.insert_interval(range)?,
+            None => return Ok(None),
+        }
+    }
+    Ok(if set.is_empty() { None } else { Some(set) })
+}
+
+/// A range as it is written: its two ends, with two dots between them.
+fn range_from(word: &str) -> Option<Interval<i64>> {
+    let (lower, upper) = word.split_once("..")?;
+    let (lower, upper) = (number_from(lower)?, number_from(upper)?);
+    if lower <= upper && Interval::in_range(lower, upper) {
+        Some(Interval::new(lower, upper))
+    } else {
+        None
+    }
+}
+
+fn length_from(word: &str) -> Option<u32> {
+    u32::try_from(number_from(word)?).ok()
+}
+
+fn text(alloc: Global, text: &str) -> Result<String, EvalFault> {
+    Ok(String::from_str(alloc, text)?)
+}
