@@ -1,7 +1,7 @@
 //! The condition of [`Store::post_all`], tested and met.
-ghost use Rattle.std.specs.Prelude.{◌≡◌, ◌↔◌, All, IfOk, IsNone, IsSome, IsTrue, MatchOption, ⊤};
+ghost use Rattle.std.specs.Prelude.{◌≡◌, ◌↔◌, ℕ, All, Err, IfOk, IsNone, IsSome, IsTrue, MatchOption, None, Some, length, ⊤};
 ghost use Rattle.ivl_laws.specs.Families.{set_at};
-ghost use Rattle.ivl_store.specs.Posts.{AnswersPosts, IsLeftBy, OfConstraint, constraints_of};
+ghost use Rattle.ivl_store.specs.Posts.{AnswersPosts, IsLeftBy, OfConstraint, constraints_of, first_unknown_post as first_unknown_in_posts};
 ghost use Rattle.ivl_store.specs.Solutions.{AreDistinct};
 
 use super::{Post, Store, StoreFault};
@@ -43,6 +43,9 @@ pub fn post_if_distinct<B: Width>(
     ensures none { IfOk result (λ o. IsNone o → ¬ (All AreDistinct (constraints_of posts.now)) × (store.new ≡ store.old)) }
     ensures replies { IfOk result (λ o. MatchOption o ⊤ (λ replies. AnswersPosts posts.now store.old replies.items)) }
     ensures left { IfOk result (λ o. IsSome o → IsLeftBy posts.now (set_at store.old) (set_at store.new)) }
+    ensures unknown { (i : ℕ) → (result ≡ Err (StoreFault.Variable i)) ↔ (All AreDistinct (constraints_of posts.now) × (first_unknown_in_posts (length store.old) posts.now ≡ Some i)) }
+    ensures unchanged { (i : ℕ) → result ≡ Err (StoreFault.Variable i) → store.new ≡ store.old }
+    ensures memory { result ≡ Err StoreFault.Memory → All AreDistinct (constraints_of posts.now) × (first_unknown_in_posts (length store.old) posts.now ≡ None) }
 {
     if !all_distinct(posts) {
         return Ok(None);
