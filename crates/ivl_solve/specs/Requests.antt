@@ -1,6 +1,6 @@
 -- What a line asks for, by its words.
---     name_and_pairs, with_pairs, three_names, nothing_else words      the words after a command, by its form; none where they do not have it
---     request_of name words      what a command and the words after it ask for; none where they are no request
+--     name_and_pairs, with_pairs, three_names, nothing_else words      the words after a command, by its form; `None` if they do not have it
+--     request_of name words      what a command and the words after it ask for; `None` if they are no request
 --     asked_of request      the request as the program keeps it
 use Rattle.std.specs.Prelude.{ℕ, ℤ, List, [], ◌∷◌, bytes_eq, codes, if◌then◌else◌, Option, None, Some, option_map}
 use Rattle.ivl_words.specs.Numbers.{pairs_of}

@@ -22,7 +22,7 @@ pub enum SessionFault {
     /// A write or a flush failed.
     #[error("write failed")]
     Write,
-    /// A line found no memory to be kept in.
+    /// An allocation for a line that comes in pieces failed.
     #[error("out of memory")]
     Memory,
 }
@@ -113,7 +113,7 @@ fn answer_piece<W: Write>(
     Ok(())
 }
 
-// The bytes before the first newline and those after it, or `None` where there is no newline.
+// The bytes before the first newline and those after it, or `None` if there is no newline.
 fn split_line(bytes: &[u8]) -> Option<(&[u8], &[u8])>
     ensures { IfSome result (λ parts. length parts.1.now < length bytes.now) }
 {

@@ -21,7 +21,7 @@ pub enum Fault<'a> {
     Defined(&'a str),
     /// The variable is named twice in a sum.
     Repeated(&'a str),
-    /// The store has no variable with this index, which cannot be: names are looked up.
+    /// The store has no variable with this index. This cannot happen, because names are looked up.
     Variable(usize),
     /// An allocation failed.
     Memory,

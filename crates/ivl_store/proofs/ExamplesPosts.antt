@@ -89,6 +89,35 @@ false_for_no_post = record { family = one_to_three; left = no_post_leaves_all on
     none_empty zero lt none = none (pos 1) (inl (omega (arith, ints), omega (arith, ints)))
     none_empty (suc i) lt none = omega arith
 
+true_for_a_cut_that_leaves_none : AnswersPost {B = ℕ} {O = ℕ} (Restrict 0 [] ∷ []) one_to_three true
+true_for_a_cut_that_leaves_none = record {
+  family = [];
+  left = record {
+    within = (λ i v h. absurd h);
+    supported = All-nil (λ c. Supports c (set_at []));
+    greatest = (λ other w s. none_is_left (set_at other) w);
+  };
+  reply_is = ((λ _. a_missing_set_is_empty), (λ _. refl));
+}
+  where
+    none_is_left : (other : ℕ → ℤ → Type 0) → ((i : ℕ) (v : ℤ) → other i v → Cut {B = ℕ} {O = ℕ} (Restrict 0 [] ∷ []) (set_at one_to_three) i v)
+        → (i : ℕ) (v : ℤ) → other i v → set_at [] i v
+    none_is_left other w zero v h = absurd ((w 0 v h).1.0 refl)
+    none_is_left other w (suc i) v h = absurd ((w (suc i) v h).0)
+
+false_is_wrong_for_a_cut_that_leaves_none : ¬ (AnswersPost {B = ℕ} {O = ℕ} (Restrict 0 [] ∷ []) one_to_three false)
+false_is_wrong_for_a_cut_that_leaves_none a =
+    false≢true (a.reply_is.1 (record { variable = 0; known = omega arith; empty = (λ v h. (a.left.within 0 v h).1.0 refl) }))
+
+true_is_wrong_for_no_post : ¬ (AnswersPost {B = ℕ} {O = ℕ} [] one_to_three true)
+true_is_wrong_for_no_post a =
+    let h = a.reply_is.0 refl in apart h.variable h.known h.empty
+    (a.left.greatest one_to_three (λ i v m. (m, tt)) (All-nil (λ c. Supports c (set_at one_to_three))))
+  where
+    apart : {family : ℕ → ℤ → Type 0} (i : ℕ) → i < 1 → ((v : ℤ) → ¬ (family i v)) → ((j : ℕ) (v : ℤ) → set_at one_to_three j v → family j v) → ⊥
+    apart zero lt none kept = none (pos 1) (kept 0 (pos 1) (inl (omega (arith, ints), omega (arith, ints))))
+    apart (suc i) lt none kept = omega arith
+
 no_reply_for_no_post : (old : List (List (ℤ × ℤ))) → AnswersPosts {B = ℕ} {O = ℕ} [] old []
 no_reply_for_no_post old = record { one_each = refl; each = (λ k lt. absurd (omega arith)) }
 

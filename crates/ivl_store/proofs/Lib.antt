@@ -1,4 +1,5 @@
 mod ExamplesFamilies
+mod ExamplesLaws
 mod ExamplesPosts
 mod ExamplesRounds
 mod ExamplesStore

@@ -1,4 +1,4 @@
--- What stands in place of the sets at x, y and z once a constraint has narrowed them. No set means that all members stay.
+-- What stands in place of the sets at x, y and z once a constraint has narrowed them. `None` means that all members stay.
 --     IsLeftOf whole L S left      what is left of the members of L where only those in S are kept
 --     AreLeftAt whole c sets x y z      what is left at x, y and z; a variable in two places has it at its last
 --     replaced sets i left      the list of sets with what is left in place of set i
@@ -8,7 +8,7 @@ use Rattle.ivl_laws.specs.Runs.{Covers, IsRunListIn}
 use Rattle.ivl_laws.specs.Families.{set_at}
 use Rattle.ivl_store.specs.declared.store.constraint.Constraint.{Constraint}
 
--- a set is made only where a member is lost
+-- a set is made only if a member is lost
 abbrev pub IsLeftOf : ℤ × ℤ → List (ℤ × ℤ) → (ℤ → Type 0) → Option (List (ℤ × ℤ)) → Type 0
 IsLeftOf whole L S None = IsRunListIn whole L × IsSubset (Covers L) S
 IsLeftOf whole L S (Some left) =

@@ -3,8 +3,8 @@
 --     IsFixed sets c      narrowing by the constraint changes nothing
 --     Keeps cs old new      the new sets only lack members, and none of a supported family
 --     AllPresent count c      x, y and z are among the first `count` variables
---     first_unknown count c      the first of x, y and z that is none of them
---     first_unknown_of count cs      the first such index in list order
+--     first_unknown count c      the first of x, y and z that is not below the count; `None` if all are
+--     first_unknown_of count cs      the first such index in list order; `None` if there is none
 use Rattle.std.specs.Prelude.{◌≡◌, ◌≢◌, ℕ, ℤ, ◌<◌, List, [], ◌∷◌, Option, Some, None, nat_le, if◌then◌else◌}
 use Rattle.std.specs.Option.{option_or}
 use Rattle.ivl_laws.specs.Sets.{Sums, Differences}

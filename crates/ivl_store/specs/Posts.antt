@@ -7,7 +7,7 @@
 --     HasEmpty count sets      one of the first `count` sets is empty
 --     AnswersPosts posts old replies      one reply a post, which says whether what the posts up to it leave has an empty set
 --     IsKnown count post      the post names only variables below the count
---     unknown_in count post, first_unknown_post count posts      the first index that is not below it, in list order
+--     unknown_in count post, first_unknown_post count posts      the first index that is not below it, in list order; `None` if there is none
 --     CutKeeps cs posts old new      the new sets only lack members, and none of a supported family within the cut
 use Rattle.std.specs.Prelude.{◌≡◌, ◌<◌, ◌+◌, ◌↔◌, ℕ, ℤ, Bool, false, IsTrue, List, [], ◌∷◌, length, take, slice_index_or, Option, Some, None, nat_le, if◌then◌else◌}
 use Rattle.std.specs.Option.{option_or}

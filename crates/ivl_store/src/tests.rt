@@ -13,7 +13,7 @@ use std::fmt::Display;
 use std::process::Abort;
 use std::test::Fail;
 
-/// The set of these pairs; none where one is out of range.
+/// Returns the set of these pairs, or the empty set if one is out of range.
 fn set_of<B: Width>(alloc: Global, pairs: &[(B, B)]) -> Result<IntervalSet<B>, AllocError> {
     if !pairs
         .iter()
@@ -51,7 +51,7 @@ fn check_domains<B: Width + Display>(
     Ok(())
 }
 
-/// The set of one run; none where it is out of range.
+/// Returns the set of one run, or the empty set if it is out of range.
 fn run<B: Width>(alloc: Global, lower: B, upper: B) -> Result<IntervalSet<B>, AllocError> {
     if !Interval::in_range(lower, upper) {
         return Ok(IntervalSet::empty(alloc));

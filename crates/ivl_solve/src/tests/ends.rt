@@ -1,10 +1,10 @@
-//! Sessions over readers and writers that fail, or give little, and sessions that find no memory.
+//! Sessions over readers and writers that fail or give little, and sessions that run out of memory.
 use crate::engine::{SessionFault, session};
 use std::io;
 use std::io::{ErrorKind, Read, Write};
 use std::test::Fail;
 
-// Gives its text one byte a read. Where `failure` is there, the read after the text fails so.
+// Gives its text one byte a read. With a `failure`, the read after the text fails with it.
 #[derive(Drop)]
 struct Slow<'a> {
     text: &'a [u8],
@@ -48,7 +48,7 @@ fn a_failed_read(rt: HostRuntime) -> Result<(), Fail> {
     Ok(())
 }
 
-// Takes some bytes, and then fails. Where it has no room at all, a flush fails too.
+// Takes some bytes, and then fails. If it has no room left, a flush fails too.
 #[derive(Drop)]
 struct Full {
     room: usize,
@@ -82,8 +82,8 @@ fn a_failed_write(rt: HostRuntime) -> Result<(), Fail> {
     Ok(())
 }
 
-// Where one request for memory is refused, as `rt try --test --fail-alloc N` does, the session ends so
-// or one line is answered so, and the lines after it are answered.
+// If one allocation fails, as under `rt try --test --fail-alloc N`, either the session ends with `Memory`,
+// or one line is answered with out of memory and the lines after it are answered as usual.
 #[test]
 fn one_refused_request(rt: HostRuntime) -> Result<(), Fail> {
     let mut input: &[u8] = b"var x 1 9\nvar y 1 9\nvar z 11 11\nsum x y z\ncut x 2 5\nshow\n";

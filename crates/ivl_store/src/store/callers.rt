@@ -1,8 +1,8 @@
 //! The condition of [`Store::post_all`], tested and met.
-ghost use Rattle.std.specs.Prelude.{◌≡◌, ◌↔◌, All, IfOk, IsNone, IsSome, IsTrue, MatchOption, ⊤};
+ghost use Rattle.std.specs.Prelude.{◌≡◌, ◌↔◌, ℕ, ℤ, List, All, Err, IfOk, IsNone, IsSome, IsTrue, MatchOption, None, Some, length, ⊤};
 ghost use Rattle.ivl_laws.specs.Families.{set_at};
-ghost use Rattle.ivl_store.specs.Posts.{AnswersPosts, IsLeftBy, OfConstraint, constraints_of};
-ghost use Rattle.ivl_store.specs.Solutions.{AreDistinct};
+ghost use Rattle.ivl_store.specs.Posts.{AnswersPosts, Cut, IsLeftBy, OfConstraint, constraints_of, first_unknown_post as first_unknown_in_posts};
+ghost use Rattle.ivl_store.specs.Solutions.{AreDistinct, LiesWithin, SupportedBy};
 
 use super::{Post, Store, StoreFault};
 use intervallum::width::Width;
@@ -35,7 +35,7 @@ fn is_distinct<B: Width>(post: &Post<B>) -> bool
 ///
 /// # Errors
 ///
-/// As [`Store::post_all`].
+/// As [`Store::post_all`], and only if each constraint has three variables.
 pub fn post_if_distinct<B: Width>(
     store: &mut Store<B>,
     posts: &[Post<B>],
@@ -43,6 +43,14 @@ pub fn post_if_distinct<B: Width>(
     ensures none { IfOk result (λ o. IsNone o → ¬ (All AreDistinct (constraints_of posts.now)) × (store.new ≡ store.old)) }
     ensures replies { IfOk result (λ o. MatchOption o ⊤ (λ replies. AnswersPosts posts.now store.old replies.items)) }
     ensures left { IfOk result (λ o. IsSome o → IsLeftBy posts.now (set_at store.old) (set_at store.new)) }
+    ensures unknown { (i : ℕ) → (result ≡ Err (StoreFault.Variable i)) ↔ (All AreDistinct (constraints_of posts.now) × (first_unknown_in_posts (length store.old) posts.now ≡ Some i)) }
+    ensures unchanged { (i : ℕ) → result ≡ Err (StoreFault.Variable i) → store.new ≡ store.old }
+    ensures memory { result ≡ Err StoreFault.Memory → All AreDistinct (constraints_of posts.now) × (first_unknown_in_posts (length store.old) posts.now ≡ None) }
+
+    // Whatever is returned, domains only lose members, and no family loses one that the posts leave it.
+    ensures kept_count { length store.new ≡ length store.old }
+    ensures only_lost { LiesWithin (set_at store.new) (set_at store.old) }
+    ensures families { (family : List (List (ℤ × ℤ))) → SupportedBy (constraints_of posts.now) (set_at family) → LiesWithin (set_at family) (Cut posts.now (set_at store.old)) → LiesWithin (set_at family) (set_at store.new) }
 {
     if !all_distinct(posts) {
         return Ok(None);

@@ -44,7 +44,7 @@ impl Constraint {
         variable == self.x || variable == self.y || variable == self.z
     }
 
-    /// The first of `x`, `y` and `z` that is none of `count` variables.
+    /// Returns the first of `x`, `y` and `z` that is not below `count`, or `None` if all are.
     pub(super) fn first_unknown(&self, count: usize) -> Option<usize>
         ensures { result ≡ first_unknown count self.now }
     {
@@ -60,7 +60,7 @@ impl Constraint {
     }
 }
 
-/// The first index of the constraints that is none of `count` variables.
+/// Returns the first index of the constraints that is not below `count`, or `None` if all are.
 pub(super) fn first_unknown_of(constraints: &[Constraint], count: usize) -> Option<usize>
     ensures { result ≡ first_unknown_in count constraints.now }
 {

@@ -1,4 +1,4 @@
-//! What narrowing leaves of a domain. A new set is made only where a member is lost.
+//! What narrowing leaves of a domain. A new set is made only if a member is lost.
 ghost use Rattle.std.specs.Prelude.{◌≡◌, ◌∷◌, [], IfOk, length};
 ghost use Rattle.ivl_laws.specs.Sets.{Differences, IsBetween, IsSubset, Sums};
 ghost use Rattle.ivl_laws.specs.Runs.{Covers, IsRunListIn};
@@ -15,7 +15,8 @@ use intervallum::width::Width;
 use ivl_within::within::{Combined, image, kept};
 use std::alloc::AllocError;
 
-/// What narrowing leaves at x, y and z. A variable that stands in two places has it at its last.
+/// Returns what narrowing leaves at x, y and z: `None` at each place that loses no member. A variable
+/// that stands in two places has its set at the last.
 pub(super) fn narrowed_sets<B: Width>(
     domains: &[IntervalSet<B>],
     c: &Constraint,
@@ -67,7 +68,7 @@ fn keep_differences<B: Width>(
     keep(x, a, b, Combined::Difference)
 }
 
-/// Keeps the members of `x` that are made of one of `a` and one of `b`.
+/// Keeps the members of `x` that are made of one of `a` and one of `b`. Returns `None` if all are.
 fn keep<B: Width>(
     x: &IntervalSet<B>,
     a: &IntervalSet<B>,
@@ -87,7 +88,7 @@ fn keep<B: Width>(
     Ok(if kept == *x { None } else { Some(kept) })
 }
 
-/// Puts one run in place of the run of a set, where it is another.
+/// Returns the set of `kept` in place of a set of one run, or `None` if that is the same run.
 fn keep_run<B: Width>(
     x: &IntervalSet<B>,
     run: Interval<B>,
@@ -110,7 +111,7 @@ fn keep_run<B: Width>(
     Ok(Some(left))
 }
 
-/// Keeps the members of `x` that are in another set.
+/// Keeps the members of `x` that are in another set. Returns `None` if all are.
 pub(super) fn keep_within<B: Width>(
     x: &IntervalSet<B>,
     allowed: &IntervalSet<B>,

@@ -54,7 +54,7 @@ fn is_settled_after(c: &Constraint, lost: Lost) -> bool
     !lost.any() || c.distinct()
 }
 
-/// Clears the marks of the constraints that name the variable, where it has changed.
+/// Clears the marks of the constraints that name the variable, if it has changed.
 pub(super) fn clear_marks(
     changed: bool,
     constraints: &[Constraint],

@@ -88,7 +88,7 @@ impl<B: Width> Store<B> {
         }
     }
 
-    /// Narrows by constraint `i`, which is passed over where it is marked as settled.
+    /// Narrows by constraint `i`, which is passed over if it is marked as settled.
     pub(super) fn narrow_next(
         &mut self,
         constraints: &[Constraint],

@@ -16,7 +16,7 @@ pub enum Post<B: Width> {
 }
 
 impl<B: Width> Post<B> {
-    /// The first index of the post that is none of `count` variables.
+    /// Returns the first index of the post that is not below `count`, or `None` if all are.
     fn first_unknown(&self, count: usize) -> Option<usize>
         ensures { result ≡ unknown_in count self.now }
     {
@@ -27,7 +27,7 @@ impl<B: Width> Post<B> {
     }
 }
 
-/// The first index of the posts that is none of `count` variables.
+/// Returns the first index of the posts that is not below `count`, or `None` if all are.
 pub(super) fn first_unknown_post<B: Width>(posts: &[Post<B>], count: usize) -> Option<usize>
     ensures { result ≡ first_unknown_in_posts count posts.now }
 {
