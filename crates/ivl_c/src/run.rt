@@ -49,3 +49,29 @@ impl Run for RunI64 {
         RunI64 { lower, upper }
     }
 }
+
+/// The numbers from `lower` to `upper`.
+#[repr(C)]
+#[derive(Clone, Copy)]
+pub struct RunU64 {
+    pub lower: u64,
+    pub upper: u64,
+}
+
+impl Run for RunU64 {
+    type Bound = u64;
+
+    ghost pair = { λ r. (pos r.lower, pos r.upper) };
+
+    fn lower(self) -> u64 {
+        self.lower
+    }
+
+    fn upper(self) -> u64 {
+        self.upper
+    }
+
+    fn of(lower: u64, upper: u64) -> RunU64 {
+        RunU64 { lower, upper }
+    }
+}
