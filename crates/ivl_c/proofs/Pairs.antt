@@ -93,3 +93,18 @@ inside_next pair L k d S h is f r =
     let more : suc k ≡ k + 1 = omega arith in
     let P : ℕ → Type 0 = λ n. IsSubset (Covers (map pair (take n L))) S in
     subst P more (inside_more pair L k d S h is f r)
+
+-- ---- whether some pair has a number
+
+pub none_more : {X : Type 0} (pair : X → ℤ × ℤ) (L : List X) (k : ℕ) (d : X) (v : ℤ) → k < length L → d ≡ get_or L k d → ¬ (Covers (map pair (take k L)) v) →
+    ¬ (IsBetween (pair d) v) → ¬ (Covers (map pair (take (k + 1) L)) v)
+none_more pair L k d v h is n m c = inside_next pair L k d (λ z. ¬ (z ≡ v)) h is (λ z i e. let P : ℤ → Type 0 = λ w. Covers (map pair (take k L)) w in n (subst P e i))
+    (λ z i e. let P : ℤ → Type 0 = λ w. IsBetween (pair d) w in m (subst P e i)) v c refl
+
+pub some_has : {X : Type 0} (pair : X → ℤ × ℤ) (L : List X) (k : ℕ) (d : X) (v : ℤ) → k < length L → d ≡ get_or L k d → IsBetween (pair d) v → IsTrue true ↔ Covers (map pair L) v
+some_has pair L k d v h is b = ((λ _. inside_at pair L k d (Covers (map pair L)) h is (λ z c. c) v b), (λ _. refl))
+
+pub none_has : {X : Type 0} (pair : X → ℤ × ℤ) (L : List X) (k : ℕ) (v : ℤ) → length L ≤ k → ¬ (Covers (map pair (take k L)) v) → IsTrue false ↔ Covers (map pair L) v
+none_has pair L k v h n =
+    let P : _ → Type 0 = λ M. ¬ (Covers (map pair M) v) in
+    ((λ u. absurd (cc)), (λ c. absurd (subst P (take_all k L h) n c)))

@@ -61,3 +61,22 @@ fn interval_of<R: Run>(run: R) -> Interval<R::Bound>
         Interval::new(run.lower(), run.upper())
     }
 }
+
+/// True exactly when some pair of the list has the number. `O(n)`.
+pub fn contains<R: Run>(runs: &[R], v: R::Bound) -> bool
+    ensures { IsTrue result ↔ Covers (map R.pair runs.now) (R.Bound.value v) }
+{
+    for run in runs {
+        if has(*run, v) {
+            return true;
+        }
+    }
+    false
+}
+
+/// True exactly when the pair has the number.
+fn has<R: Run>(run: R, v: R::Bound) -> bool
+    ensures { IsTrue result ↔ IsBetween (R.pair run) (R.Bound.value v) }
+{
+    run.lower() <= v && v <= run.upper()
+}

@@ -1,10 +1,12 @@
 //! The calls over i64, whose sets range from `-INT64_MAX` to `INT64_MAX`.
+ghost use Rattle.std.specs.Prelude.{◌↔◌, IsTrue};
 ghost use Rattle.ivl_laws.specs.Sets.{Complement, HasSome, Intersection, IsSubset, SameMembers, SymmetricDifference, Union, Without};
 ghost use Rattle.ivl_c.specs.Answers.{AnswersQuestion, AnswersSet, AnswersSize};
 ghost use Rattle.ivl_c.specs.Lists.{members_i64, pairs_i64, range_i64};
 
 use crate::asking::{Asking, ask, count};
 use crate::making::{OfOne, OfTwo, of_one, of_two};
+use crate::reading;
 use crate::run::RunI64;
 use std::alloc::Global;
 
@@ -110,4 +112,12 @@ pub extern "C" fn ivl_size_i64(alloc: Global, a: &[RunI64], size: &mut u64) -> i
     ensures { AnswersSize range_i64 (members_i64 a.now) size.old size.new result }
 {
     count(alloc, a, size)
+}
+
+/// Whether a number is a member of the list, which may be any list. `O(n)`. Does not allocate.
+#[unsafe(no_mangle)]
+pub extern "C" fn ivl_contains_i64(a: &[RunI64], v: i64) -> bool
+    ensures { IsTrue result ↔ members_i64 a.now v }
+{
+    reading::contains(a, v)
 }

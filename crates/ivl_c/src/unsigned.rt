@@ -1,10 +1,12 @@
 //! The calls over u64, whose sets range from 0 to `UINT64_MAX - 1`.
+ghost use Rattle.std.specs.Prelude.{◌↔◌, IsTrue, pos};
 ghost use Rattle.ivl_laws.specs.Sets.{Complement, HasSome, Intersection, IsSubset, SameMembers, SymmetricDifference, Union, Without};
 ghost use Rattle.ivl_c.specs.Answers.{AnswersQuestion, AnswersSet, AnswersSize};
 ghost use Rattle.ivl_c.specs.Lists.{members_u64, pairs_u64, range_u64};
 
 use crate::asking::{Asking, ask, count};
 use crate::making::{OfOne, OfTwo, of_one, of_two};
+use crate::reading;
 use crate::run::RunU64;
 use std::alloc::Global;
 
@@ -110,4 +112,12 @@ pub extern "C" fn ivl_size_u64(alloc: Global, a: &[RunU64], size: &mut u64) -> i
     ensures { AnswersSize range_u64 (members_u64 a.now) size.old size.new result }
 {
     count(alloc, a, size)
+}
+
+/// Whether a number is a member of the list, which may be any list. `O(n)`. Does not allocate.
+#[unsafe(no_mangle)]
+pub extern "C" fn ivl_contains_u64(a: &[RunU64], v: u64) -> bool
+    ensures { IsTrue result ↔ members_u64 a.now (pos v) }
+{
+    reading::contains(a, v)
 }
