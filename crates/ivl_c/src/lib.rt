@@ -4,6 +4,7 @@
 //! crossed pair has none. `bindings/c/intervallum.h` declares the calls.
 #![tactic(auto)]
 
+mod adding;
 mod asking;
 mod making;
 mod reading;

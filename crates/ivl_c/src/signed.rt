@@ -1,9 +1,10 @@
 //! The calls over i64, whose sets range from `-INT64_MAX` to `INT64_MAX`.
 ghost use Rattle.std.specs.Prelude.{◌↔◌, IsTrue};
-ghost use Rattle.ivl_laws.specs.Sets.{Complement, HasSome, Intersection, IsSubset, SameMembers, SymmetricDifference, Union, Without};
+ghost use Rattle.ivl_laws.specs.Sets.{Complement, Differences, HasSome, Intersection, IsBetween, IsSubset, SameMembers, Sums, SymmetricDifference, Union, Without};
 ghost use Rattle.ivl_c.specs.Answers.{AnswersQuestion, AnswersSet, AnswersSize};
 ghost use Rattle.ivl_c.specs.Lists.{members_i64, pairs_i64, range_i64};
 
+use crate::adding::{Adding, of_members};
 use crate::asking::{Asking, ask, count};
 use crate::making::{OfOne, OfTwo, of_one, of_two};
 use crate::reading;
@@ -120,4 +121,29 @@ pub extern "C" fn ivl_contains_i64(a: &[RunI64], v: i64) -> bool
     ensures { IsTrue result ↔ members_i64 a.now v }
 {
     reading::contains(a, v)
+}
+
+/// The sums of a member of each list that are in the range. `O(n m log (n m))`.
+#[unsafe(no_mangle)]
+pub extern "C" fn ivl_sums_i64(alloc: Global, a: &[RunI64], b: &[RunI64], out: &mut [RunI64]) -> i64
+    ensures { AnswersSet range_i64 (Union (members_i64 a.now) (members_i64 b.now))
+        (Intersection (Sums (members_i64 a.now) (members_i64 b.now)) (IsBetween range_i64))
+        (pairs_i64 out.old) (pairs_i64 out.new) result }
+{
+    of_members(alloc, Adding::Sum, a, b, out)
+}
+
+/// The differences of a member of `a` and one of `b` that are in the range. `O(n m log (n m))`.
+#[unsafe(no_mangle)]
+pub extern "C" fn ivl_differences_i64(
+    alloc: Global,
+    a: &[RunI64],
+    b: &[RunI64],
+    out: &mut [RunI64],
+) -> i64
+    ensures { AnswersSet range_i64 (Union (members_i64 a.now) (members_i64 b.now))
+        (Intersection (Differences (members_i64 a.now) (members_i64 b.now)) (IsBetween range_i64))
+        (pairs_i64 out.old) (pairs_i64 out.new) result }
+{
+    of_members(alloc, Adding::Difference, a, b, out)
 }

@@ -1,9 +1,10 @@
 //! The calls over u64, whose sets range from 0 to `UINT64_MAX - 1`.
 ghost use Rattle.std.specs.Prelude.{◌↔◌, IsTrue, pos};
-ghost use Rattle.ivl_laws.specs.Sets.{Complement, HasSome, Intersection, IsSubset, SameMembers, SymmetricDifference, Union, Without};
+ghost use Rattle.ivl_laws.specs.Sets.{Complement, Differences, HasSome, Intersection, IsBetween, IsSubset, SameMembers, Sums, SymmetricDifference, Union, Without};
 ghost use Rattle.ivl_c.specs.Answers.{AnswersQuestion, AnswersSet, AnswersSize};
 ghost use Rattle.ivl_c.specs.Lists.{members_u64, pairs_u64, range_u64};
 
+use crate::adding::{Adding, of_members};
 use crate::asking::{Asking, ask, count};
 use crate::making::{OfOne, OfTwo, of_one, of_two};
 use crate::reading;
@@ -120,4 +121,29 @@ pub extern "C" fn ivl_contains_u64(a: &[RunU64], v: u64) -> bool
     ensures { IsTrue result ↔ members_u64 a.now (pos v) }
 {
     reading::contains(a, v)
+}
+
+/// The sums of a member of each list that are in the range. `O(n m log (n m))`.
+#[unsafe(no_mangle)]
+pub extern "C" fn ivl_sums_u64(alloc: Global, a: &[RunU64], b: &[RunU64], out: &mut [RunU64]) -> i64
+    ensures { AnswersSet range_u64 (Union (members_u64 a.now) (members_u64 b.now))
+        (Intersection (Sums (members_u64 a.now) (members_u64 b.now)) (IsBetween range_u64))
+        (pairs_u64 out.old) (pairs_u64 out.new) result }
+{
+    of_members(alloc, Adding::Sum, a, b, out)
+}
+
+/// The differences of a member of `a` and one of `b` that are in the range. `O(n m log (n m))`.
+#[unsafe(no_mangle)]
+pub extern "C" fn ivl_differences_u64(
+    alloc: Global,
+    a: &[RunU64],
+    b: &[RunU64],
+    out: &mut [RunU64],
+) -> i64
+    ensures { AnswersSet range_u64 (Union (members_u64 a.now) (members_u64 b.now))
+        (Intersection (Differences (members_u64 a.now) (members_u64 b.now)) (IsBetween range_u64))
+        (pairs_u64 out.old) (pairs_u64 out.new) result }
+{
+    of_members(alloc, Adding::Difference, a, b, out)
 }
