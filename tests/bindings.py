@@ -45,6 +45,9 @@ def answer_of(bounds, call, operands):
         return shown(TWO[name](set_of(operands[0]), set_of(second)))
     if call in ASKED:
         return "yes" if ASKED[call](set_of(operands[0]), set_of(operands[1])) else "no"
+    if call in ("add", "sub"):
+        first, second = set_of(operands[0]), set_of(operands[1])
+        return shown(first.sums(second) if call == "add" else first.differences(second))
     if call == "contains":
         return "yes" if int(operands[1]) in set_of(operands[0]) else "no"
     if call == "complement":
@@ -109,6 +112,7 @@ FLAGS = {
     "symmetric_difference": lambda a, b: a ^ b,
     "normalize": lambda a, b: a,
 }
+ADDED = {"sums": lambda x, y: x + y, "differences": lambda x, y: x - y}
 TRUTHS = {"overlap": lambda a, b: a & b != 0, "is_subset": lambda a, b: a & ~b == 0, "equal": lambda a, b: a == b}
 
 
@@ -124,7 +128,13 @@ def one_set(bounds, low, call, first, second, mark):
     out = array_of(bounds, [mark] * (room + 1))
     told = getattr(bounds, call)(*given, ctypes.addressof(out), room)
     flags = [flags_of(pairs, low) for array, pairs in (first, second)]
-    if call == "complement":
+    if call in ADDED:
+        sets = [{low + i for i in range(COUNT) if one >> i & 1} for one in flags]
+        least = 0 if not bounds.is_signed else -(2**62)
+        numbers = {ADDED[call](x, y) for x in sets[0] for y in sets[1]}
+        base = -4 * COUNT
+        expected = runs_of(sum(1 << (z - base) for z in numbers if z >= least), base)
+    elif call == "complement":
         least, greatest = (-(2**63) + 1, 2**63 - 1) if bounds.is_signed else (0, 2**64 - 2)
         expected, at = [], least
         for lower, upper in runs_of(flags[0], low):
@@ -170,7 +180,7 @@ def fuzz(count):
                 lower = low + random.randrange(COUNT)
                 pairs.append((lower, min(max(low, lower + random.randrange(-4, 9)), low + COUNT - 1)))
             lists.append((array_of(bounds, pairs), pairs))
-        for call in list(FLAGS) + ["complement"]:
+        for call in list(FLAGS) + list(ADDED) + ["complement"]:
             one_set(bounds, low, call, *lists, mark=(7, random.randrange(9)))
         for call in TRUTHS:
             one_question(bounds, low, call, *lists)
@@ -182,7 +192,7 @@ def fuzz(count):
         value = random.randrange(COUNT)
         told = bounds.contains(ctypes.addressof(lists[0][0]), len(lists[0][1]), low + value)
         assert told == bool(flags >> value & 1), (lists[0][1], low + value)
-        calls += 12
+        calls += 14
     if numpy is not None:
         array = numpy.array([[5, 9], [1, 3], [4, 2]], dtype=numpy.int64)
         assert IntervalSet(array).runs() == [(1, 3), (5, 9)]

@@ -47,6 +47,11 @@ int64_t ivl_intersection_i64(const ivl_run_i64 *a, size_t n, const ivl_run_i64 *
 int64_t ivl_difference_i64(const ivl_run_i64 *a, size_t n, const ivl_run_i64 *b, size_t m, ivl_run_i64 *out, size_t room);
 int64_t ivl_symmetric_difference_i64(const ivl_run_i64 *a, size_t n, const ivl_run_i64 *b, size_t m, ivl_run_i64 *out, size_t room);
 
+/* Make the set of the sums or differences of a member of `a` and one of `b` that are in the range.
+   O(n m log (n m)). */
+int64_t ivl_sums_i64(const ivl_run_i64 *a, size_t n, const ivl_run_i64 *b, size_t m, ivl_run_i64 *out, size_t room);
+int64_t ivl_differences_i64(const ivl_run_i64 *a, size_t n, const ivl_run_i64 *b, size_t m, ivl_run_i64 *out, size_t room);
+
 /* Ask of two lists: 1 for yes, 0 for no, or a code. O(n log n + m log m).
    is_subset: each member of `a` is one of `b`; overlap: some number is a member of both;
    equal: the members are the same. */
@@ -81,6 +86,11 @@ int64_t ivl_union_u64(const ivl_run_u64 *a, size_t n, const ivl_run_u64 *b, size
 int64_t ivl_intersection_u64(const ivl_run_u64 *a, size_t n, const ivl_run_u64 *b, size_t m, ivl_run_u64 *out, size_t room);
 int64_t ivl_difference_u64(const ivl_run_u64 *a, size_t n, const ivl_run_u64 *b, size_t m, ivl_run_u64 *out, size_t room);
 int64_t ivl_symmetric_difference_u64(const ivl_run_u64 *a, size_t n, const ivl_run_u64 *b, size_t m, ivl_run_u64 *out, size_t room);
+
+/* Make the set of the sums or differences of a member of `a` and one of `b` that are in the range.
+   O(n m log (n m)). */
+int64_t ivl_sums_u64(const ivl_run_u64 *a, size_t n, const ivl_run_u64 *b, size_t m, ivl_run_u64 *out, size_t room);
+int64_t ivl_differences_u64(const ivl_run_u64 *a, size_t n, const ivl_run_u64 *b, size_t m, ivl_run_u64 *out, size_t room);
 
 /* Ask of two lists: 1 for yes, 0 for no, or a code. O(n log n + m log m).
    is_subset: each member of `a` is one of `b`; overlap: some number is a member of both;

@@ -50,7 +50,8 @@ class _Bounds:
         shapes = {
             "normalize": one + room, "complement": one + room, "union": one + one + room,
             "intersection": one + one + room, "difference": one + one + room,
-            "symmetric_difference": one + one + room, "is_subset": one + one, "overlap": one + one,
+            "symmetric_difference": one + one + room, "sums": one + one + room,
+            "differences": one + one + room, "is_subset": one + one, "overlap": one + one,
             "equal": one + one, "size": one + [ctypes.c_void_p], "contains": one + [number],
         }
         for call, arguments in shapes.items():
@@ -144,6 +145,22 @@ class IntervalSet:
     def __xor__(self, other):
         """The members of exactly one."""
         return self._with(self._type.symmetric_difference, other)
+
+    def sums(self, other):
+        """The sums of a member of each that are in the range.
+
+        >>> IntervalSet([(1, 2), (9, 9)]).sums(IntervalSet([(10, 10)]))
+        IntervalSet([(11, 12), (19, 19)])
+        """
+        return self._with(self._type.sums, other)
+
+    def differences(self, other):
+        """The differences of a member of this and one of the other that are in the range.
+
+        >>> IntervalSet([(0, 5)], bounds="u64").differences(IntervalSet([(3, 3)], bounds="u64"))
+        IntervalSet([(0, 2)], bounds='u64')
+        """
+        return self._with(self._type.differences, other)
 
     def __invert__(self):
         """The numbers of the range that are no members."""
