@@ -1,0 +1,74 @@
+/* The calls from C; the same file is compiled as C++. Answers 0 where each answer is the right one. */
+#include "intervallum.h"
+
+#include <inttypes.h>
+#include <stdio.h>
+
+static int failures = 0;
+
+static void expect(int is_so, const char *what) {
+    if (!is_so) {
+        printf("failed: %s\n", what);
+        failures++;
+    }
+}
+
+static void print(const ivl_run_i64 *runs, int64_t count) {
+    for (int64_t i = 0; i < count; i++)
+        printf("[%" PRId64 "..%" PRId64 "]", runs[i].lower, runs[i].upper);
+    printf("\n");
+}
+
+static void signed_numbers(void) {
+    /* Out of order, and with a crossed pair, which has no member. */
+    const ivl_run_i64 a[] = {{6, 10}, {1, 2}, {9, 4}};
+    const ivl_run_i64 b[] = {{3, 5}, {7, 7}};
+    const ivl_run_i64 low[] = {{INT64_MIN, 0}};
+    ivl_run_i64 out[4] = {{0, 0}, {77, 77}, {0, 0}, {0, 0}};
+    uint64_t size = 5;
+
+    expect(ivl_union_i64(a, 3, b, 2, out, 4) == 1, "the union is one run");
+    expect(out[0].lower == 1 && out[0].upper == 10, "from 1 to 10");
+    expect(out[1].lower == 77, "the places after it stay");
+    int64_t count = ivl_difference_i64(a, 3, b, 2, out, 4);
+    expect(count == 3, "the difference has three runs");
+    print(out, count);
+
+    out[0].lower = 55;
+    expect(ivl_difference_i64(a, 3, b, 2, out, 2) == 3, "what has no room is told");
+    expect(out[0].lower == 55, "and not written");
+    expect(ivl_union_i64(low, 1, b, 2, out, 4) == IVL_OUT_OF_RANGE, "the least value is outside");
+    expect(out[0].lower == 55, "nothing is written with a code");
+
+    expect(ivl_size_i64(a, 3, &size) == 0 && size == 7, "seven members");
+    expect(ivl_size_i64(low, 1, &size) == IVL_OUT_OF_RANGE && size == 7, "the size stays");
+    expect(ivl_complement_i64(a, 0, out, 4) == 1, "all of the range");
+    expect(out[0].lower == -INT64_MAX && out[0].upper == INT64_MAX, "from end to end");
+    expect(ivl_size_i64(out, 1, &size) == 0 && size == UINT64_MAX, "which has that many members");
+    expect(ivl_contains_i64(a, 3, 2) && !ivl_contains_i64(a, 3, 5), "2 is a member and 5 is not");
+    expect(ivl_overlap_i64(a, 3, b, 2) == 1 && ivl_is_subset_i64(b, 2, a, 3) == 0, "they overlap");
+}
+
+static void unsigned_numbers(void) {
+    const ivl_run_u64 a[] = {{5, 9}, {8, 12}};
+    const ivl_run_u64 all[] = {{0, UINT64_MAX - 1}};
+    const ivl_run_u64 high[] = {{0, UINT64_MAX}};
+    const ivl_run_u64 crossed[] = {{UINT64_MAX, 3}};
+    ivl_run_u64 out[2];
+
+    expect(ivl_normalize_u64(a, 2, out, 2) == 1, "one run");
+    expect(out[0].lower == 5 && out[0].upper == 12, "from 5 to 12");
+    expect(ivl_equal_u64(a, 2, out, 1) == 1, "with the same members");
+    expect(ivl_complement_u64(all, 1, out, 2) == 0, "nothing is left of the range");
+    expect(ivl_normalize_u64(high, 1, out, 2) == IVL_OUT_OF_RANGE, "the greatest value is outside");
+    expect(ivl_normalize_u64(crossed, 1, out, 2) == 0, "a crossed pair has no member");
+    expect(ivl_symmetric_difference_u64(a, 2, all, 1, out, 2) == 2, "two runs beside it");
+    expect(ivl_intersection_u64(a, 2, all, 1, out, 2) == 1, "all of it");
+}
+
+int main(void) {
+    signed_numbers();
+    unsigned_numbers();
+    printf("%d failed\n", failures);
+    return failures != 0;
+}

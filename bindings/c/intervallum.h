@@ -1,0 +1,113 @@
+/* Sets of whole numbers as lists of runs, by calls whose answers are proved.
+
+   A list of pairs may stand in any order and overlap; it is taken as the set of the numbers in some
+   pair, and a crossed pair has none. A list of no pairs may have any address that is not null.
+
+   A call that makes a set answers how many runs the set has. They are written to `out`, ascending, with at
+   least one number missing between neighbours, if `room` is that many; else nothing is written, and the
+   call may be made again with more room. The places of `out` after them stay as they were. A negative
+   answer is a code, and then nothing was written.
+
+   No input is refused but for the codes. `out` and `size` overlap no input. A call is not made from a signal
+   handler, or from the forked child of a process with threads. */
+#ifndef INTERVALLUM_H
+#define INTERVALLUM_H
+
+#include <stdbool.h>
+#include <stddef.h>
+#include <stdint.h>
+
+#ifdef __cplusplus
+extern "C" {
+#endif
+
+/* Some member of a list is outside the range. */
+#define IVL_OUT_OF_RANGE (-1)
+/* An allocation failed. */
+#define IVL_OUT_OF_MEMORY (-2)
+
+/* ---- int64_t: the members of a set lie from -INT64_MAX to INT64_MAX */
+
+/* The numbers from `lower` to `upper`, both included; none where the two cross. */
+typedef struct {
+    int64_t lower;
+    int64_t upper;
+} ivl_run_i64;
+
+/* Make a set of one list. O(n log n).
+   normalize: its members; complement: the numbers of the range that are no members. */
+int64_t ivl_normalize_i64(const ivl_run_i64 *a, size_t n, ivl_run_i64 *out, size_t room);
+int64_t ivl_complement_i64(const ivl_run_i64 *a, size_t n, ivl_run_i64 *out, size_t room);
+
+/* Make a set of two lists. O(n log n + m log m).
+   union: the members of either; intersection: of both; difference: of `a` and not of `b`;
+   symmetric_difference: of exactly one. */
+int64_t ivl_union_i64(const ivl_run_i64 *a, size_t n, const ivl_run_i64 *b, size_t m, ivl_run_i64 *out, size_t room);
+int64_t ivl_intersection_i64(const ivl_run_i64 *a, size_t n, const ivl_run_i64 *b, size_t m, ivl_run_i64 *out, size_t room);
+int64_t ivl_difference_i64(const ivl_run_i64 *a, size_t n, const ivl_run_i64 *b, size_t m, ivl_run_i64 *out, size_t room);
+int64_t ivl_symmetric_difference_i64(const ivl_run_i64 *a, size_t n, const ivl_run_i64 *b, size_t m, ivl_run_i64 *out, size_t room);
+
+/* Make the set of the sums or differences of a member of `a` and one of `b` that are in the range.
+   O(n m log (n m)). */
+int64_t ivl_sums_i64(const ivl_run_i64 *a, size_t n, const ivl_run_i64 *b, size_t m, ivl_run_i64 *out, size_t room);
+int64_t ivl_differences_i64(const ivl_run_i64 *a, size_t n, const ivl_run_i64 *b, size_t m, ivl_run_i64 *out, size_t room);
+
+/* Ask of two lists: 1 for yes, 0 for no, or a code. O(n log n + m log m).
+   is_subset: each member of `a` is one of `b`; overlap: some number is a member of both;
+   equal: the members are the same. */
+int64_t ivl_is_subset_i64(const ivl_run_i64 *a, size_t n, const ivl_run_i64 *b, size_t m);
+int64_t ivl_overlap_i64(const ivl_run_i64 *a, size_t n, const ivl_run_i64 *b, size_t m);
+int64_t ivl_equal_i64(const ivl_run_i64 *a, size_t n, const ivl_run_i64 *b, size_t m);
+
+/* Writes how many members a list has, and answers 0; or a code, and nothing is written.
+   O(n log n). */
+int64_t ivl_size_i64(const ivl_run_i64 *a, size_t n, uint64_t *size);
+
+/* Whether `v`, any number of its type, is a member of any list. O(n), with no memory and no code. */
+bool ivl_contains_i64(const ivl_run_i64 *a, size_t n, int64_t v);
+
+/* ---- uint64_t: the members of a set lie from 0 to UINT64_MAX - 1 */
+
+/* The numbers from `lower` to `upper`, both included; none where the two cross. */
+typedef struct {
+    uint64_t lower;
+    uint64_t upper;
+} ivl_run_u64;
+
+/* Make a set of one list. O(n log n).
+   normalize: its members; complement: the numbers of the range that are no members. */
+int64_t ivl_normalize_u64(const ivl_run_u64 *a, size_t n, ivl_run_u64 *out, size_t room);
+int64_t ivl_complement_u64(const ivl_run_u64 *a, size_t n, ivl_run_u64 *out, size_t room);
+
+/* Make a set of two lists. O(n log n + m log m).
+   union: the members of either; intersection: of both; difference: of `a` and not of `b`;
+   symmetric_difference: of exactly one. */
+int64_t ivl_union_u64(const ivl_run_u64 *a, size_t n, const ivl_run_u64 *b, size_t m, ivl_run_u64 *out, size_t room);
+int64_t ivl_intersection_u64(const ivl_run_u64 *a, size_t n, const ivl_run_u64 *b, size_t m, ivl_run_u64 *out, size_t room);
+int64_t ivl_difference_u64(const ivl_run_u64 *a, size_t n, const ivl_run_u64 *b, size_t m, ivl_run_u64 *out, size_t room);
+int64_t ivl_symmetric_difference_u64(const ivl_run_u64 *a, size_t n, const ivl_run_u64 *b, size_t m, ivl_run_u64 *out, size_t room);
+
+/* Make the set of the sums or differences of a member of `a` and one of `b` that are in the range.
+   O(n m log (n m)). */
+int64_t ivl_sums_u64(const ivl_run_u64 *a, size_t n, const ivl_run_u64 *b, size_t m, ivl_run_u64 *out, size_t room);
+int64_t ivl_differences_u64(const ivl_run_u64 *a, size_t n, const ivl_run_u64 *b, size_t m, ivl_run_u64 *out, size_t room);
+
+/* Ask of two lists: 1 for yes, 0 for no, or a code. O(n log n + m log m).
+   is_subset: each member of `a` is one of `b`; overlap: some number is a member of both;
+   equal: the members are the same. */
+int64_t ivl_is_subset_u64(const ivl_run_u64 *a, size_t n, const ivl_run_u64 *b, size_t m);
+int64_t ivl_overlap_u64(const ivl_run_u64 *a, size_t n, const ivl_run_u64 *b, size_t m);
+int64_t ivl_equal_u64(const ivl_run_u64 *a, size_t n, const ivl_run_u64 *b, size_t m);
+
+/* Writes how many members a list has, and answers 0; or a code, and nothing is written.
+   O(n log n). */
+int64_t ivl_size_u64(const ivl_run_u64 *a, size_t n, uint64_t *size);
+
+/* Whether `v`, any number of its type, is a member of any list. O(n), with no memory and no code. */
+bool ivl_contains_u64(const ivl_run_u64 *a, size_t n, uint64_t v);
+
+#ifdef __cplusplus
+}
+#endif
+
+#endif

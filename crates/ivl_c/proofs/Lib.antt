@@ -1,0 +1,3 @@
+pub mod Pairs
+pub mod Room
+pub mod Added

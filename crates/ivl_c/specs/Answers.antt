@@ -1,0 +1,45 @@
+-- What the calls tell, by members.
+--     out_of_range, out_of_memory      the codes
+--     Refuses code old new told      that code is told, and nothing is written
+--     written L room      the room with the list in its first places, where it has so many
+--     IsWritten S old new told L      the list has the runs of S, their number is told, and they are written
+--     AnswersSet whole given S old new told      what a call tells that makes the set S of the members that are given
+--     AnswersQuestion whole given Holds told      what a question tells of the members that are given
+--     AnswersSize whole given old new told      what is told of the number of the members that are given
+use Rattle.std.specs.Prelude.{◌≡◌, ◌⊎◌, ℕ, ℤ, pos, negsuc, List, length, drop, ◌++◌, if◌then◌else◌, nat_le}
+use Rattle.ivl_laws.specs.Sets.{IsBetween, IsSubset}
+use Rattle.ivl_laws.specs.Runs.{IsRunsOf}
+use Rattle.ivl_laws.specs.Counts.{IsCountOf}
+
+abbrev pub out_of_range : ℤ
+out_of_range = negsuc 0
+
+abbrev pub out_of_memory : ℤ
+out_of_memory = negsuc 1
+
+abbrev pub Refuses : ℤ → List (ℤ × ℤ) → List (ℤ × ℤ) → ℤ → Type 0
+Refuses code old new told = (told ≡ code) × (new ≡ old)
+
+-- a list that does not fit is not written at all
+abbrev pub written : List (ℤ × ℤ) → List (ℤ × ℤ) → List (ℤ × ℤ)
+written L room = if nat_le (length L) (length room) then L ++ drop (length L) room else room
+
+pub record IsWritten (S : ℤ → Type 0) (old new : List (ℤ × ℤ)) (told : ℤ) (L : List (ℤ × ℤ)) : Type 0 where
+  pub runs : IsRunsOf L S
+  pub count : told ≡ pos (length L)
+  pub room : new ≡ written L old
+
+-- refused exactly where some member lies outside the range; else the runs of S are written, or there is no memory
+abbrev pub AnswersSet : ℤ × ℤ → (ℤ → Type 0) → (ℤ → Type 0) → List (ℤ × ℤ) → List (ℤ × ℤ) → ℤ → Type 0
+AnswersSet whole given S old new told = ((¬ (IsSubset given (IsBetween whole))) × Refuses out_of_range old new told)
+    ⊎ (IsSubset given (IsBetween whole) × (Refuses out_of_memory old new told ⊎ ((L : List (ℤ × ℤ)) × IsWritten S old new told L)))
+
+-- yes is told as 1, and no as 0
+abbrev pub AnswersQuestion : ℤ × ℤ → (ℤ → Type 0) → Type 0 → ℤ → Type 0
+AnswersQuestion whole given Holds told = ((¬ (IsSubset given (IsBetween whole))) × (told ≡ out_of_range))
+    ⊎ (IsSubset given (IsBetween whole) × ((told ≡ out_of_memory) ⊎ ((told ≡ pos 1) × Holds) ⊎ ((told ≡ pos 0) × (¬ Holds))))
+
+-- 0 is told where the number of members is written
+abbrev pub AnswersSize : ℤ × ℤ → (ℤ → Type 0) → ℕ → ℕ → ℤ → Type 0
+AnswersSize whole given old new told = ((¬ (IsSubset given (IsBetween whole))) × (told ≡ out_of_range) × (new ≡ old))
+    ⊎ (IsSubset given (IsBetween whole) × (((told ≡ out_of_memory) × (new ≡ old)) ⊎ ((told ≡ pos 0) × IsCountOf new given)))

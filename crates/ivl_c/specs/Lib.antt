@@ -1,0 +1,4 @@
+pub mod Answers
+pub mod Makings
+pub mod Lists
+pub mod Adding

@@ -1,0 +1,26 @@
+-- The members of a list of pairs as C has it, and the ranges.
+--     pairs_i64, pairs_u64      the pairs of a list
+--     members_i64, members_u64      the numbers in some pair of the list; a crossed pair has none
+--     range_i64, range_u64      from the least number of a set to the greatest
+use Rattle.std.specs.Prelude.{ℕ, ◌-◌, ◌^◌, ℤ, pos, negsuc, List, map}
+use Rattle.ivl_laws.specs.Runs.{Covers}
+use Rattle.ivl_c.specs.declared.run.RunI64.{RunI64}
+use Rattle.ivl_c.specs.declared.run.RunU64.{RunU64}
+
+abbrev pub pairs_i64 : List RunI64 → List (ℤ × ℤ)
+pairs_i64 L = map (λ r. (r.lower, r.upper)) L
+
+abbrev pub pairs_u64 : List RunU64 → List (ℤ × ℤ)
+pairs_u64 L = map (λ r. (pos r.lower, pos r.upper)) L
+
+abbrev pub members_i64 : List RunI64 → ℤ → Type 0
+members_i64 L = Covers (pairs_i64 L)
+
+abbrev pub members_u64 : List RunU64 → ℤ → Type 0
+members_u64 L = Covers (pairs_u64 L)
+
+abbrev pub range_i64 : ℤ × ℤ
+range_i64 = (negsuc (2 ^ 63 - 2), pos (2 ^ 63 - 1))
+
+abbrev pub range_u64 : ℤ × ℤ
+range_u64 = (pos 0, pos (2 ^ 64 - 2))

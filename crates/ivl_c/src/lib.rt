@@ -1,0 +1,14 @@
+//! The calls of sets for C, over arrays of runs: arrays in, an array out in the room of the caller.
+//!
+//! A list of pairs is taken as the set of its members: it may stand in any order and overlap, and a
+//! crossed pair has none. `bindings/c/intervallum.h` declares the calls.
+#![tactic(auto)]
+
+mod adding;
+mod asking;
+mod making;
+mod reading;
+mod run;
+mod signed;
+mod unsigned;
+mod writing;

@@ -1,0 +1,149 @@
+//! The calls over i64, whose sets range from `-INT64_MAX` to `INT64_MAX`.
+ghost use Rattle.std.specs.Prelude.{◌↔◌, IsTrue};
+ghost use Rattle.ivl_laws.specs.Sets.{Complement, Differences, HasSome, Intersection, IsBetween, IsSubset, SameMembers, Sums, SymmetricDifference, Union, Without};
+ghost use Rattle.ivl_c.specs.Answers.{AnswersQuestion, AnswersSet, AnswersSize};
+ghost use Rattle.ivl_c.specs.Lists.{members_i64, pairs_i64, range_i64};
+
+use crate::adding::{Adding, of_members};
+use crate::asking::{Asking, ask, count};
+use crate::making::{OfOne, OfTwo, of_one, of_two};
+use crate::reading;
+use crate::run::RunI64;
+use std::alloc::Global;
+
+/// The members of a list, as runs that ascend and neither overlap nor touch. `O(n log n)`.
+#[unsafe(no_mangle)]
+pub extern "C" fn ivl_normalize_i64(alloc: Global, a: &[RunI64], out: &mut [RunI64]) -> i64
+    ensures { AnswersSet range_i64 (members_i64 a.now) (members_i64 a.now) (pairs_i64 out.old) (pairs_i64 out.new) result }
+{
+    of_one(alloc, OfOne::Same, a, out)
+}
+
+/// The numbers of the range that are no members. `O(n log n)`.
+#[unsafe(no_mangle)]
+pub extern "C" fn ivl_complement_i64(alloc: Global, a: &[RunI64], out: &mut [RunI64]) -> i64
+    ensures { AnswersSet range_i64 (members_i64 a.now) (Complement range_i64 (members_i64 a.now)) (pairs_i64 out.old) (pairs_i64 out.new) result }
+{
+    of_one(alloc, OfOne::Rest, a, out)
+}
+
+/// The members of either list. `O(n log n + m log m)`.
+#[unsafe(no_mangle)]
+pub extern "C" fn ivl_union_i64(
+    alloc: Global,
+    a: &[RunI64],
+    b: &[RunI64],
+    out: &mut [RunI64],
+) -> i64
+    ensures { AnswersSet range_i64 (Union (members_i64 a.now) (members_i64 b.now)) (Union (members_i64 a.now) (members_i64 b.now))
+        (pairs_i64 out.old) (pairs_i64 out.new) result }
+{
+    of_two(alloc, OfTwo::Either, a, b, out)
+}
+
+/// The members of both lists. `O(n log n + m log m)`.
+#[unsafe(no_mangle)]
+pub extern "C" fn ivl_intersection_i64(
+    alloc: Global,
+    a: &[RunI64],
+    b: &[RunI64],
+    out: &mut [RunI64],
+) -> i64
+    ensures { AnswersSet range_i64 (Union (members_i64 a.now) (members_i64 b.now)) (Intersection (members_i64 a.now) (members_i64 b.now))
+        (pairs_i64 out.old) (pairs_i64 out.new) result }
+{
+    of_two(alloc, OfTwo::Both, a, b, out)
+}
+
+/// The members of the first list that are not in the second. `O(n log n + m log m)`.
+#[unsafe(no_mangle)]
+pub extern "C" fn ivl_difference_i64(
+    alloc: Global,
+    a: &[RunI64],
+    b: &[RunI64],
+    out: &mut [RunI64],
+) -> i64
+    ensures { AnswersSet range_i64 (Union (members_i64 a.now) (members_i64 b.now)) (Without (members_i64 a.now) (members_i64 b.now))
+        (pairs_i64 out.old) (pairs_i64 out.new) result }
+{
+    of_two(alloc, OfTwo::FirstAlone, a, b, out)
+}
+
+/// The members of exactly one list. `O(n log n + m log m)`.
+#[unsafe(no_mangle)]
+pub extern "C" fn ivl_symmetric_difference_i64(
+    alloc: Global,
+    a: &[RunI64],
+    b: &[RunI64],
+    out: &mut [RunI64],
+) -> i64
+    ensures { AnswersSet range_i64 (Union (members_i64 a.now) (members_i64 b.now)) (SymmetricDifference (members_i64 a.now) (members_i64 b.now))
+        (pairs_i64 out.old) (pairs_i64 out.new) result }
+{
+    of_two(alloc, OfTwo::OneAlone, a, b, out)
+}
+
+/// Whether each member of the first list is one of the second. `O(n log n + m log m)`.
+#[unsafe(no_mangle)]
+pub extern "C" fn ivl_is_subset_i64(alloc: Global, a: &[RunI64], b: &[RunI64]) -> i64
+    ensures { AnswersQuestion range_i64 (Union (members_i64 a.now) (members_i64 b.now)) (IsSubset (members_i64 a.now) (members_i64 b.now)) result }
+{
+    ask(alloc, Asking::Within, a, b)
+}
+
+/// Whether some number is a member of both lists. `O(n log n + m log m)`.
+#[unsafe(no_mangle)]
+pub extern "C" fn ivl_overlap_i64(alloc: Global, a: &[RunI64], b: &[RunI64]) -> i64
+    ensures { AnswersQuestion range_i64 (Union (members_i64 a.now) (members_i64 b.now)) (HasSome (Intersection (members_i64 a.now) (members_i64 b.now))) result }
+{
+    ask(alloc, Asking::Meets, a, b)
+}
+
+/// Whether the lists have the same members. `O(n log n + m log m)`.
+#[unsafe(no_mangle)]
+pub extern "C" fn ivl_equal_i64(alloc: Global, a: &[RunI64], b: &[RunI64]) -> i64
+    ensures { AnswersQuestion range_i64 (Union (members_i64 a.now) (members_i64 b.now)) (SameMembers (members_i64 a.now) (members_i64 b.now)) result }
+{
+    ask(alloc, Asking::Alike, a, b)
+}
+
+/// Writes how many members a list has. `O(n log n)`.
+#[unsafe(no_mangle)]
+pub extern "C" fn ivl_size_i64(alloc: Global, a: &[RunI64], size: &mut u64) -> i64
+    ensures { AnswersSize range_i64 (members_i64 a.now) size.old size.new result }
+{
+    count(alloc, a, size)
+}
+
+/// Whether a number is a member of the list, which may be any list. `O(n)`. Does not allocate.
+#[unsafe(no_mangle)]
+pub extern "C" fn ivl_contains_i64(a: &[RunI64], v: i64) -> bool
+    ensures { IsTrue result ↔ members_i64 a.now v }
+{
+    reading::contains(a, v)
+}
+
+/// The sums of a member of each list that are in the range. `O(n m log (n m))`.
+#[unsafe(no_mangle)]
+pub extern "C" fn ivl_sums_i64(alloc: Global, a: &[RunI64], b: &[RunI64], out: &mut [RunI64]) -> i64
+    ensures { AnswersSet range_i64 (Union (members_i64 a.now) (members_i64 b.now))
+        (Intersection (Sums (members_i64 a.now) (members_i64 b.now)) (IsBetween range_i64))
+        (pairs_i64 out.old) (pairs_i64 out.new) result }
+{
+    of_members(alloc, Adding::Sum, a, b, out)
+}
+
+/// The differences of a member of `a` and one of `b` that are in the range. `O(n m log (n m))`.
+#[unsafe(no_mangle)]
+pub extern "C" fn ivl_differences_i64(
+    alloc: Global,
+    a: &[RunI64],
+    b: &[RunI64],
+    out: &mut [RunI64],
+) -> i64
+    ensures { AnswersSet range_i64 (Union (members_i64 a.now) (members_i64 b.now))
+        (Intersection (Differences (members_i64 a.now) (members_i64 b.now)) (IsBetween range_i64))
+        (pairs_i64 out.old) (pairs_i64 out.new) result }
+{
+    of_members(alloc, Adding::Difference, a, b, out)
+}
