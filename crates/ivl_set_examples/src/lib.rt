@@ -6,6 +6,8 @@
 #[cfg(test)]
 mod edits;
 #[cfg(test)]
+mod readme;
+#[cfg(test)]
 mod reads;
 #[cfg(test)]
 mod sets;
