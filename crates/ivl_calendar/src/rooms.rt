@@ -1,0 +1,116 @@
+//! Rooms, and the days on which they are busy.
+ghost use Rattle.std.specs.Prelude.{◌≡◌, ◌<◌, ◌↔◌, ℤ, [], List, IfOk, IsTrue, MatchOption, OnErr};
+ghost use Rattle.ivl_laws.specs.Sets.{HasNone, Intersection, IsBetween, Union, Without};
+ghost use Rattle.ivl_laws.specs.Runs.{Covers, IsRunsOf};
+ghost use Rattle.intervallum.specs.Rooms.{FitsAt, IsFirstFit};
+ghost use Rattle.ivl_calendar.specs.Days.{IsFreeInAll};
+
+use intervallum::interval::Interval;
+use intervallum::interval_set::IntervalSet;
+use intervallum::ops::{Difference, Overlap};
+use std::alloc::{AllocError, Global};
+use std::marker::Model;
+
+/// The days on which a room is busy, as numbers of days. A contract sees the list of their runs.
+///
+/// ```
+/// let mut room = Room::new(alloc);
+/// assert!(rt; room.book(Interval::new(1, 10))? && room.book(Interval::new(14, 20))?);
+/// assert!(rt; !room.book(Interval::new(20, 22))?, "day 20 is taken");
+/// assert!(rt; room.first_gap(Interval::new(1, 365), 3)? == Some(Interval::new(11, 13)));
+/// ```
+#[derive(Drop)]
+pub struct Room {
+    busy: IntervalSet<i32>,
+}
+
+impl Model for Room {
+    ghost Value = { List (ℤ × ℤ) };
+
+    ghost view = { λ r. r.busy };
+}
+
+impl Room {
+    /// Returns a room that is free on all days. Does not allocate.
+    pub fn new(alloc: Global) -> Room
+        ensures { result ≡ [] }
+    {
+        Room {
+            busy: IntervalSet::empty(alloc),
+        }
+    }
+
+    /// The days on which the room is busy.
+    pub fn busy(&self) -> &IntervalSet<i32>
+        ensures { result.now ≡ self.now }
+    {
+        &self.busy
+    }
+
+    /// Returns the days of a window on which the room is free. `O(log n + k)`, where `k` of the `n`
+    /// runs of busy days meet the window. Fails only if allocation fails.
+    pub fn free_within(&self, window: Interval<i32>) -> Result<IntervalSet<i32>, AllocError>
+        ensures { IfOk result (λ L. IsRunsOf L (Without (IsBetween window) (Covers self.now))) }
+    {
+        self.busy.gaps_within(&window)
+    }
+
+    /// Returns the first days of a window, `days` of them and consecutive, on which the room is free,
+    /// or `None` if there are none. The caller must ensure that `days` is above 0. Costs what
+    /// `free_within` does. Fails only if allocation fails.
+    pub fn first_gap(
+        &self,
+        window: Interval<i32>,
+        days: u32,
+    ) -> Result<Option<Interval<i32>>, AllocError>
+        requires { 0 < days }
+        ensures { IfOk result (λ o. MatchOption o
+            ((v : ℤ) → ¬ (FitsAt days (Without (IsBetween window) (Covers self.now)) v))
+            (IsFirstFit days (Without (IsBetween window) (Covers self.now)))) }
+    {
+        let free = self.free_within(window)?;
+        Ok(free.first_fit(days))
+    }
+
+    /// Books the room if it is free on all of these days, and tells whether it was.
+    ///
+    /// `O(log n)` to find the place, and `O(n)` where the number of runs changes.
+    ///
+    /// # Errors
+    ///
+    /// Fails only if allocation fails. Nothing is booked then, nor where the answer is false.
+    pub fn book(&mut self, days: Interval<i32>) -> Result<bool, AllocError>
+        ensures booked { IfOk result (λ done. IsTrue done → IsRunsOf self.new (Union (Covers self.old) (IsBetween days))) }
+        ensures unless_busy { IfOk result (λ done. IsTrue done ↔ HasNone (Intersection (Covers self.old) (IsBetween days))) }
+        ensures refused { IfOk result (λ done. ¬ (IsTrue done) → (self.new ≡ self.old)) }
+        ensures err { OnErr result (self.new ≡ self.old) }
+    {
+        if self.busy.overlap(&days) {
+            return Ok(false);
+        }
+        self.busy.insert_interval(days)?;
+        Ok(true)
+    }
+}
+
+/// Returns the days of a window on which all rooms are free. Fails only if allocation fails.
+///
+/// ```
+/// let (mut blue, mut red) = (Room::new(alloc), Room::new(alloc));
+/// assert!(rt; blue.book(Interval::new(1, 10))? && red.book(Interval::new(5, 30))?);
+/// let free = free_in_all(alloc, &[blue, red], Interval::new(1, 365))?;
+/// assert!(rt; free == IntervalSet::new(alloc, 31, 365)?);
+/// ```
+pub fn free_in_all(
+    alloc: Global,
+    rooms: &[Room],
+    window: Interval<i32>,
+) -> Result<IntervalSet<i32>, AllocError>
+    ensures { IfOk result (λ L. IsRunsOf L (IsFreeInAll rooms.now window)) }
+{
+    let mut free = IntervalSet::of(alloc, window)?;
+    for room in rooms {
+        free = free.difference(&room.busy)?;
+    }
+    Ok(free)
+}
