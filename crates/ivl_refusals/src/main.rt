@@ -2,7 +2,8 @@
 //!
 //! Standard input has a name a line. The answer to each is `answered` where the call gave the answer that it gives
 //! with ample memory, `out of memory` where it was refused and its operands are as they were, and else what is wrong.
-//! A script runs this program with each request for memory refused in turn.
+//! A number behind a name asks for memory so many times before the call. So a script that refuses one request of
+//! each run, always the same one, refuses each request of each call: it needs to build this program but once.
 #![tactic(auto)]
 
 mod calculator;
@@ -24,18 +25,35 @@ const ROOM: usize = 4096;
 fn main(rt: HostRuntime) -> io::Result<()> {
     let mut bytes = [0u8; ROOM];
     let count = rt.stdin().read(&mut bytes)?;
-    for name in bytes[..count].split(|byte| *byte == b'\n') {
-        if !name.is_empty() {
-            let shown = str::from_utf8(name).unwrap_or("a name that is not UTF-8");
-            println!(rt; "{shown} {}", ending(rt.alloc(), name))?;
+    for line in bytes[..count].split(|byte| *byte == b'\n') {
+        if !line.is_empty() {
+            let (name, requests) = name_and_requests(line).unwrap_or(("this line", 0));
+            println!(rt; "{name} {}", ending(rt.alloc(), name.as_bytes(), requests))?;
         }
     }
     Ok(())
 }
 
-/// How the call of this name ended.
-fn ending(alloc: Global, name: &[u8]) -> &'static str {
-    match tried(alloc, name) {
+/// The name of a call, and how many requests for memory are made before it; none where the line has another form.
+fn name_and_requests(line: &[u8]) -> Option<(&str, u32)> {
+    let line = str::from_utf8(line).ok()?;
+    match line.split_once(' ') {
+        Some((name, requests)) => Some((name, requests.parse().ok()?)),
+        None => Some((line, 0)),
+    }
+}
+
+/// Asks for memory so many times, and gives it back.
+fn ask_for_memory(alloc: Global, requests: u32) -> Result<(), AllocError> {
+    for _ in 0..requests {
+        let _asked: Vec<u8> = Vec::with_capacity(alloc, 1)?;
+    }
+    Ok(())
+}
+
+/// How the call of this name ended, after so many requests for memory.
+fn ending(alloc: Global, name: &[u8], requests: u32) -> &'static str {
+    match ask_for_memory(alloc, requests).and_then(|()| tried(alloc, name)) {
         Ok(ending) => ending,
         Err(AllocError) => "out of memory",
     }
