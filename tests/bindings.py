@@ -16,6 +16,11 @@ TWO = {
     "difference": lambda a, b: a - b,
     "symmetric_difference": lambda a, b: a ^ b,
 }
+ADDED_AS = {
+    "add": lambda a, b: a.sums(b),
+    "sub": lambda a, b: a.differences(b),
+    "mul": lambda a, b: a.products(b),
+}
 ASKED = {
     "overlap": lambda a, b: a.overlaps(b),
     "is_subset": lambda a, b: a.issubset(b),
@@ -45,9 +50,9 @@ def answer_of(bounds, call, operands):
         return shown(TWO[name](set_of(operands[0]), set_of(second)))
     if call in ASKED:
         return "yes" if ASKED[call](set_of(operands[0]), set_of(operands[1])) else "no"
-    if call in ("add", "sub"):
-        first, second = set_of(operands[0]), set_of(operands[1])
-        return shown(first.sums(second) if call == "add" else first.differences(second))
+    if name in ADDED_AS:
+        second = operands[1] if not is_value else "%s %s" % (operands[1], operands[1])
+        return shown(ADDED_AS[name](set_of(operands[0]), set_of(second)))
     if call == "contains":
         return "yes" if int(operands[1]) in set_of(operands[0]) else "no"
     if call == "complement":
@@ -150,6 +155,52 @@ def one_set(bounds, low, call, first, second, mark):
     assert seen == written + [mark] * (room + 1 - len(written)), (call, first[1], second[1], seen, expected)
 
 
+def one_product(bounds, low, first, second, mark):
+    """The hull of each two runs' products, or the code and nothing written where one is outside the range."""
+    room = random.randrange(10)
+    out = array_of(bounds, [mark] * (room + 1))
+    given = [part for array, pairs in (first, second) for part in (ctypes.addressof(array), len(pairs))]
+    told = bounds.products(*given, ctypes.addressof(out), room)
+    runs = [runs_of(flags_of(pairs, low), low) for array, pairs in (first, second)]
+    corners = [[x * y for x in run for y in other] for run in runs[0] for other in runs[1]]
+    base = -(COUNT**2)
+    flags = flags_of([(min(products), max(products)) for products in corners], base)
+    expected = runs_of(flags, base)
+    written = expected if len(expected) <= room else []
+    assert told == len(expected), (first[1], second[1], told, expected)
+    seen = [(run.lower, run.upper) for run in out]
+    assert seen == written + [mark] * (room + 1 - len(written)), (first[1], second[1], seen, expected)
+
+
+def product_outside(bounds, first):
+    """Some product of members is outside the range exactly where the list has a member beside 0."""
+    greatest = 2**63 - 1 if bounds.is_signed else 2**64 - 2
+    array, out = array_of(bounds, [(greatest, greatest)]), array_of(bounds, [(3, 4)] * 9)
+    pairs = [(lower, upper) for lower, upper in first[1] if lower <= upper]
+    is_outside = any(abs(bound) > 1 for pair in pairs for bound in pair)
+    told = bounds.products(ctypes.addressof(first[0]), len(first[1]), ctypes.addressof(array), 1, ctypes.addressof(out), 9)
+    assert (told == -3) == is_outside, (first[1], told)
+    assert not is_outside or all((run.lower, run.upper) == (3, 4) for run in out), first[1]
+
+
+def one_next(bounds, low, first):
+    value = low + random.randrange(-2 if bounds.is_signed else 0, COUNT + 2)
+    found = bounds.number(5)
+    told = bounds.next_from(ctypes.addressof(first[0]), len(first[1]), value, ctypes.addressof(found))
+    flags = flags_of(first[1], low)
+    above = [low + i for i in range(COUNT) if flags >> i & 1 and low + i >= value]
+    assert (told, found.value) == ((True, above[0]) if above else (False, 5)), (first[1], value, told, found.value)
+
+
+def one_fit(bounds, low, first):
+    count = random.randrange(12)
+    found = bounds.run(5, 4)
+    told = bounds.first_fit(ctypes.addressof(first[0]), len(first[1]), count, ctypes.addressof(found))
+    fits = [lower for lower, upper in runs_of(flags_of(first[1], low), low) if 0 < count <= upper - lower + 1]
+    expected = (1, fits[0], fits[0] + count - 1) if fits else (0, 5, 4)
+    assert (told, found.lower, found.upper) == expected, (first[1], count, told, found.lower, found.upper)
+
+
 def one_question(bounds, low, call, first, second):
     told = getattr(bounds, call)(ctypes.addressof(first[0]), len(first[1]), ctypes.addressof(second[0]), len(second[1]))
     assert told == TRUTHS[call](flags_of(first[1], low), flags_of(second[1], low)), (call, first[1], second[1], told)
@@ -192,12 +243,68 @@ def fuzz(count):
         value = random.randrange(COUNT)
         told = bounds.contains(ctypes.addressof(lists[0][0]), len(lists[0][1]), low + value)
         assert told == bool(flags >> value & 1), (lists[0][1], low + value)
-        calls += 14
-    if numpy is not None:
-        array = numpy.array([[5, 9], [1, 3], [4, 2]], dtype=numpy.int64)
-        assert IntervalSet(array).runs() == [(1, 3), (5, 9)]
+        one_product(bounds, low, *lists, mark=(7, random.randrange(9)))
+        product_outside(bounds, lists[0])
+        one_next(bounds, low, lists[0])
+        one_fit(bounds, low, lists[0])
+        calls += 18
     print("bindings: Python: %d random calls agree with lists of flags" % calls)
 
 
+# ---- arrays of numpy
+
+
+def arrays():
+    for bounds, kind in (("i64", numpy.int64), ("u64", numpy.uint64)):
+        array = numpy.array([[5, 9], [1, 3], [4, 2]], dtype=kind)
+        made = IntervalSet(array, bounds=bounds)
+        assert made.runs() == [(1, 3), (5, 9)]
+        assert made.array().dtype == kind and made.array().tolist() == [[1, 3], [5, 9]]
+        assert array.tolist() == [[5, 9], [1, 3], [4, 2]]
+        # neither a part with steps nor an array of columns lies in memory as pairs do
+        assert IntervalSet(array[::2], bounds=bounds).runs() == [(5, 9)]
+        assert IntervalSet(numpy.asfortranarray(array), bounds=bounds) == made
+        assert IntervalSet(array[:0], bounds=bounds).array().shape == (0, 2)
+        for wrong in (array.astype(numpy.int32), array[:, :1], array[0], array.astype(float)):
+            try:
+                IntervalSet(wrong, bounds=bounds)
+            except TypeError:
+                continue
+            raise AssertionError(wrong)
+    # no view of an array outlives its memory, and none can be written
+    view = IntervalSet(array, bounds="u64").array()
+    assert view.tolist() == [[1, 3], [5, 9]] and not view.flags.writeable
+    print("bindings: Python: arrays of numpy; a call took %s microseconds more than its library call" % overhead())
+
+
+def overhead():
+    """The least time beside the library call, of sets made of an array and of unions, at 10 runs."""
+    pairs = numpy.array([[10 * i, 10 * i + 5] for i in range(10)], dtype=numpy.int64)
+    first, second = IntervalSet(pairs), IntervalSet(pairs + 3)
+    calls = intervallum._types["i64"]
+    room = array_of(calls, [(0, 0)] * 20)
+    one = (first._at(), 10)
+    two = one + (second._at(), 10)
+    out = (ctypes.addressof(room), 20)
+    made = least_time(lambda: IntervalSet(pairs)) - least_time(lambda: calls.normalize(*one, *out))
+    united = least_time(lambda: first | second) - least_time(lambda: calls.union(*two, *out))
+    return "%.1f and %.1f" % (made, united)
+
+
+def least_time(call):
+    times = []
+    for _ in range(20):
+        started = time.perf_counter()
+        for _ in range(500):
+            call()
+        times.append((time.perf_counter() - started) / 500)
+    return min(times) * 1e6
+
+
 if __name__ == "__main__":
-    facts(sys.argv[2]) if sys.argv[1] == "facts" else fuzz(int(sys.argv[2]))
+    if sys.argv[1] == "facts":
+        facts(sys.argv[2])
+    elif sys.argv[1] == "arrays":
+        arrays()
+    else:
+        fuzz(int(sys.argv[2]))

@@ -24,6 +24,7 @@ static void signed_numbers(void) {
     const ivl_run_i64 a[] = {{6, 10}, {1, 2}, {9, 4}};
     const ivl_run_i64 b[] = {{3, 5}, {7, 7}};
     const ivl_run_i64 low[] = {{INT64_MIN, 0}};
+    const ivl_run_i64 all[] = {{-INT64_MAX, INT64_MAX}};
     ivl_run_i64 out[4] = {{0, 0}, {77, 77}, {0, 0}, {0, 0}};
     uint64_t size = 5;
 
@@ -46,6 +47,14 @@ static void signed_numbers(void) {
     expect(out[0].lower == -INT64_MAX && out[0].upper == INT64_MAX, "from end to end");
     expect(ivl_size_i64(out, 1, &size) == 0 && size == UINT64_MAX, "which has that many members");
     expect(ivl_contains_i64(a, 3, 2) && !ivl_contains_i64(a, 3, 5), "2 is a member and 5 is not");
+    int64_t next = 55;
+    expect(ivl_next_from_i64(a, 3, 3, &next) && next == 6, "the member after 3 is 6");
+    expect(!ivl_next_from_i64(a, 3, 11, &next) && next == 6, "none is above 10");
+    expect(ivl_first_fit_i64(a, 3, 3, out) == 1 && out[0].lower == 6 && out[0].upper == 8, "three in a row");
+    expect(ivl_first_fit_i64(a, 3, 6, out) == 0 && ivl_first_fit_i64(a, 3, 0, out) == 0, "no six in a row");
+    expect(ivl_products_i64(a, 3, b, 2, out, 4) == 2 && out[0].upper == 14 && out[1].lower == 18, "products");
+    expect(ivl_products_i64(a, 3, all, 1, out, 4) == IVL_PRODUCT_OUT_OF_RANGE, "a product is outside");
+    expect(out[0].upper == 14, "nothing is written with it");
     expect(ivl_overlap_i64(a, 3, b, 2) == 1 && ivl_is_subset_i64(b, 2, a, 3) == 0, "they overlap");
 }
 
@@ -64,6 +73,13 @@ static void unsigned_numbers(void) {
     expect(ivl_normalize_u64(crossed, 1, out, 2) == 0, "a crossed pair has no member");
     expect(ivl_symmetric_difference_u64(a, 2, all, 1, out, 2) == 2, "two runs beside it");
     expect(ivl_intersection_u64(a, 2, all, 1, out, 2) == 1, "all of it");
+
+    uint64_t next = 0;
+    expect(ivl_next_from_u64(all, 1, UINT64_MAX - 1, &next) && next == UINT64_MAX - 1, "the last one");
+    expect(!ivl_next_from_u64(all, 1, UINT64_MAX, &next), "none after it");
+    expect(ivl_first_fit_u64(a, 2, 8, out) == 1 && out[0].upper == 12, "eight in a row");
+    expect(ivl_products_u64(a, 2, a, 2, out, 2) == 1 && out[0].lower == 25 && out[0].upper == 144, "squares");
+    expect(ivl_products_u64(a, 2, all, 1, out, 2) == IVL_PRODUCT_OUT_OF_RANGE, "a product is outside");
 }
 
 int main(void) {

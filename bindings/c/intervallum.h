@@ -8,7 +8,7 @@
    call may be made again with more room. The places of `out` after them stay as they were. A negative
    answer is a code, and then nothing was written.
 
-   No input is refused but for the codes. `out` and `size` overlap no input. A call is not made from a signal
+   No input is refused but for the codes. `out`, `size` and `found` overlap no input. A call is not made from a signal
    handler, or from the forked child of a process with threads. */
 #ifndef INTERVALLUM_H
 #define INTERVALLUM_H
@@ -25,6 +25,8 @@ extern "C" {
 #define IVL_OUT_OF_RANGE (-1)
 /* An allocation failed. */
 #define IVL_OUT_OF_MEMORY (-2)
+/* Some product is outside the range. */
+#define IVL_PRODUCT_OUT_OF_RANGE (-3)
 
 /* ---- int64_t: the members of a set lie from -INT64_MAX to INT64_MAX */
 
@@ -52,6 +54,11 @@ int64_t ivl_symmetric_difference_i64(const ivl_run_i64 *a, size_t n, const ivl_r
 int64_t ivl_sums_i64(const ivl_run_i64 *a, size_t n, const ivl_run_i64 *b, size_t m, ivl_run_i64 *out, size_t room);
 int64_t ivl_differences_i64(const ivl_run_i64 *a, size_t n, const ivl_run_i64 *b, size_t m, ivl_run_i64 *out, size_t room);
 
+/* Makes the set that holds, for each pair of runs, the numbers from their least to their greatest product:
+   {[1..2]} times {[10..10]} is {[10..20]}. IVL_PRODUCT_OUT_OF_RANGE if some product is outside the range.
+   O(n m log (n m)). */
+int64_t ivl_products_i64(const ivl_run_i64 *a, size_t n, const ivl_run_i64 *b, size_t m, ivl_run_i64 *out, size_t room);
+
 /* Ask of two lists: 1 for yes, 0 for no, or a code. O(n log n + m log m).
    is_subset: each member of `a` is one of `b`; overlap: some number is a member of both;
    equal: the members are the same. */
@@ -65,6 +72,14 @@ int64_t ivl_size_i64(const ivl_run_i64 *a, size_t n, uint64_t *size);
 
 /* Whether `v`, any number of its type, is a member of any list. O(n), with no memory and no code. */
 bool ivl_contains_i64(const ivl_run_i64 *a, size_t n, int64_t v);
+
+/* Writes the least member of any list that is at least `v`, any number of its type, and answers true; or
+   false, and nothing is written. O(n), with no memory and no code. */
+bool ivl_next_from_i64(const ivl_run_i64 *a, size_t n, int64_t v, int64_t *found);
+
+/* Writes the lowest `count` members in a row as one run, and answers 1; 0 where there are none or where
+   `count` is 0, or a code, and nothing is written. O(n log n). */
+int64_t ivl_first_fit_i64(const ivl_run_i64 *a, size_t n, uint64_t count, ivl_run_i64 *found);
 
 /* ---- uint64_t: the members of a set lie from 0 to UINT64_MAX - 1 */
 
@@ -92,6 +107,11 @@ int64_t ivl_symmetric_difference_u64(const ivl_run_u64 *a, size_t n, const ivl_r
 int64_t ivl_sums_u64(const ivl_run_u64 *a, size_t n, const ivl_run_u64 *b, size_t m, ivl_run_u64 *out, size_t room);
 int64_t ivl_differences_u64(const ivl_run_u64 *a, size_t n, const ivl_run_u64 *b, size_t m, ivl_run_u64 *out, size_t room);
 
+/* Makes the set that holds, for each pair of runs, the numbers from their least to their greatest product:
+   {[1..2]} times {[10..10]} is {[10..20]}. IVL_PRODUCT_OUT_OF_RANGE if some product is outside the range.
+   O(n m log (n m)). */
+int64_t ivl_products_u64(const ivl_run_u64 *a, size_t n, const ivl_run_u64 *b, size_t m, ivl_run_u64 *out, size_t room);
+
 /* Ask of two lists: 1 for yes, 0 for no, or a code. O(n log n + m log m).
    is_subset: each member of `a` is one of `b`; overlap: some number is a member of both;
    equal: the members are the same. */
@@ -105,6 +125,14 @@ int64_t ivl_size_u64(const ivl_run_u64 *a, size_t n, uint64_t *size);
 
 /* Whether `v`, any number of its type, is a member of any list. O(n), with no memory and no code. */
 bool ivl_contains_u64(const ivl_run_u64 *a, size_t n, uint64_t v);
+
+/* Writes the least member of any list that is at least `v`, any number of its type, and answers true; or
+   false, and nothing is written. O(n), with no memory and no code. */
+bool ivl_next_from_u64(const ivl_run_u64 *a, size_t n, uint64_t v, uint64_t *found);
+
+/* Writes the lowest `count` members in a row as one run, and answers 1; 0 where there are none or where
+   `count` is 0, or a code, and nothing is written. O(n log n). */
+int64_t ivl_first_fit_u64(const ivl_run_u64 *a, size_t n, uint64_t count, ivl_run_u64 *found);
 
 #ifdef __cplusplus
 }

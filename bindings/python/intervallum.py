@@ -28,6 +28,10 @@ class OutOfRange(ValueError):
     """A member is outside the range: -2**63 of i64, 2**64 - 1 of u64."""
 
 
+class ProductOutOfRange(OutOfRange):
+    """A product of members is outside the range."""
+
+
 class OutOfMemory(MemoryError):
     """An allocation failed."""
 
@@ -46,23 +50,26 @@ class _Bounds:
 
         self.name, self.number, self.run = name, number, Run
         self.is_signed = name == "i64"
+        self.limits = (-(2**63), 2**63 - 1) if self.is_signed else (0, 2**64 - 1)
         one, room = [ctypes.c_void_p, ctypes.c_size_t], [ctypes.c_void_p, ctypes.c_size_t]
         shapes = {
             "normalize": one + room, "complement": one + room, "union": one + one + room,
             "intersection": one + one + room, "difference": one + one + room,
             "symmetric_difference": one + one + room, "sums": one + one + room,
-            "differences": one + one + room, "is_subset": one + one, "overlap": one + one,
-            "equal": one + one, "size": one + [ctypes.c_void_p], "contains": one + [number],
+            "differences": one + one + room, "products": one + one + room, "is_subset": one + one,
+            "overlap": one + one, "equal": one + one, "size": one + [ctypes.c_void_p],
+            "contains": one + [number], "next_from": one + [number, ctypes.c_void_p],
+            "first_fit": one + [ctypes.c_uint64, ctypes.c_void_p],
         }
         for call, arguments in shapes.items():
             found = getattr(library, "ivl_%s_%s" % (call, name))
             found.argtypes = arguments
-            found.restype = ctypes.c_bool if call == "contains" else ctypes.c_int64
+            found.restype = ctypes.c_bool if call in ("contains", "next_from") else ctypes.c_int64
             setattr(self, call, found)
 
     def holds(self, value):
         """Whether the number is a value of the type, in or outside the range of sets."""
-        low, high = (-(2**63), 2**63 - 1) if self.is_signed else (0, 2**64 - 1)
+        low, high = self.limits
         return low <= value <= high
 
 
@@ -73,6 +80,8 @@ _types = {"i64": _Bounds(_library, "i64", ctypes.c_int64), "u64": _Bounds(_libra
 def _checked(told):
     if told == -1:
         raise OutOfRange("a member is outside the range")
+    if told == -3:
+        raise ProductOutOfRange("a product is outside the range")
     if told < 0:
         raise OutOfMemory("an allocation failed")
     return told
@@ -162,6 +171,17 @@ class IntervalSet:
         """
         return self._with(self._type.differences, other)
 
+    def products(self, other):
+        """For each pair of runs, the numbers from their least to their greatest product.
+
+        >>> IntervalSet([(1, 2)]).products(IntervalSet([(10, 10)]))
+        IntervalSet([(10, 20)])
+        >>> IntervalSet([(2**62, 2**62)]).products(IntervalSet([(2, 2)]))
+        Traceback (most recent call last):
+        intervallum.ProductOutOfRange: a product is outside the range
+        """
+        return self._with(self._type.products, other)
+
     def __invert__(self):
         """The numbers of the range that are no members."""
         return self._of(self._type, self._type.complement, self._at(), self._count, room=self._count + 1)
@@ -192,6 +212,31 @@ class IntervalSet:
         """
         return bool(_checked(self._type.overlap(*self._lists(other))))
 
+    def next_from(self, value):
+        """The least member that is at least the value, or None.
+
+        >>> IntervalSet([(1, 2), (5, 6)]).next_from(3), IntervalSet([(1, 2)]).next_from(3)
+        (5, None)
+        """
+        low, high = self._type.limits
+        if value > high:
+            return None
+        found = self._type.number()
+        is_there = self._type.next_from(self._at(), self._count, max(value, low), ctypes.addressof(found))
+        return found.value if is_there else None
+
+    def first_fit(self, count):
+        """The lowest so many members in a row as a pair, or None.
+
+        >>> IntervalSet([(1, 2), (5, 9)]).first_fit(3), IntervalSet([(1, 2)]).first_fit(3)
+        ((5, 7), None)
+        """
+        if not 0 < count < 2**64:
+            return None
+        found = self._type.run()
+        told = _checked(self._type.first_fit(self._at(), self._count, count, ctypes.addressof(found)))
+        return (found.lower, found.upper) if told else None
+
     @property
     def size(self):
         """The number of members. `len` is the same, and fails above `sys.maxsize`."""
@@ -211,6 +256,13 @@ class IntervalSet:
     def runs(self):
         """The runs as pairs, ascending."""
         return [(run.lower, run.upper) for run in self._list[: self._count]]
+
+    def array(self):
+        """The runs as an array of numpy of shape (n, 2), which is not copied and cannot be written."""
+        kind = numpy.int64 if self._type.is_signed else numpy.uint64
+        array = numpy.frombuffer(self._list, dtype=kind)[: 2 * self._count].reshape(self._count, 2)
+        array.flags.writeable = False
+        return array
 
     def __repr__(self):
         last = "" if self._type.is_signed else ", bounds=%r" % self._type.name

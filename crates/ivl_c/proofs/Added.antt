@@ -1,7 +1,6 @@
 -- The sums and differences of sets with the same members are the same.
-use Rattle.std.proofs.Common.{◌≡◌, ℤ, List}
-use Rattle.std.specs.Prelude.{Result, IfOk}
-use Rattle.ivl_laws.specs.Sets.{Differences, Intersection, IsBetween, SameMembers, Sums}
+use Rattle.std.proofs.Common.{ℤ, List}
+use Rattle.ivl_laws.specs.Sets.{SameMembers}
 use Rattle.ivl_laws.specs.Runs.{Covers, IsRunsOf}
 use Rattle.ivl_laws.proofs.SetLaws.{IsRunsOf-same}
 use Rattle.ivl_c.specs.declared.adding.Adding.{Adding}

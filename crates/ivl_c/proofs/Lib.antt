@@ -1,3 +1,5 @@
 pub mod Pairs
 pub mod Room
 pub mod Added
+pub mod Multiplied
+pub mod Least

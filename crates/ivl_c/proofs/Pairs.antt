@@ -1,11 +1,11 @@
 -- What is known of a list of pairs that has been read in part.
-use Rattle.std.proofs.Common.{◌≡◌, ◌↔◌, ◌⊎◌, inl, inr, ℕ, zero, suc, ◌+◌, ◌<◌, ◌≤◌, ℤ, pos, ◌≤ℤ◌, ◌<ℤ◌, Bool, true, false, IsTrue, List, [], ◌∷◌, length, get_or, map, take, take_all, refl, sym, subst, arith, ⊎_elim}
+use Rattle.std.proofs.Common.{◌≡◌, ◌↔◌, inl, inr, ℕ, zero, suc, ◌+◌, ◌<◌, ◌≤◌, ℤ, pos, ◌≤ℤ◌, ◌<ℤ◌, Bool, true, false, IsTrue, List, [], ◌∷◌, length, get_or, map, take, take_all, refl, sym, subst, arith, ⊎_elim}
 use Rattle.std.proofs.lemmas.Int.{ints, by_lt_z}
-use Rattle.std.specs.Prelude.{int_lt, if◌then◌else◌}
+use Rattle.std.specs.Prelude.{int_lt}
 use Rattle.ivl_laws.specs.Sets.{IsBetween, IsCrossed, IsInRange, IsSubset, SameMembers}
 use Rattle.ivl_laws.specs.Runs.{Covers}
 use Rattle.ivl_interval.specs.SameInterval.{normal_pair}
-use Rattle.intervallum.proofs.Searching.{int_lt_true, int_lt_false}
+use Rattle.intervallum.proofs.Searching.{int_lt_true}
 
 -- a pair that is not crossed lies in the range where its bounds do
 pub inside_open : (whole p : ℤ × ℤ) (x y : ℤ) (t : Bool) → x ≡ p.0 → y ≡ p.1 → p.0 ≤ℤ p.1 → (IsTrue t ↔ IsInRange whole (x, y)) → IsTrue t ↔ IsSubset (IsBetween p) (IsBetween whole)

@@ -1,13 +1,14 @@
 -- What the calls tell, by members.
---     out_of_range, out_of_memory      the codes
+--     out_of_range, out_of_memory, product_out_of_range      the codes
 --     Refuses code old new told      that code is told, and nothing is written
 --     written L room      the room with the list in its first places, where it has so many
 --     IsWritten S old new told L      the list has the runs of S, their number is told, and they are written
 --     AnswersSet whole given S old new told      what a call tells that makes the set S of the members that are given
+--     AnswersProducts whole S T old new told      what a call tells that makes the set of the products of two sets
 --     AnswersQuestion whole given Holds told      what a question tells of the members that are given
 --     AnswersSize whole given old new told      what is told of the number of the members that are given
 use Rattle.std.specs.Prelude.{◌≡◌, ◌⊎◌, ℕ, ℤ, pos, negsuc, List, length, drop, ◌++◌, if◌then◌else◌, nat_le}
-use Rattle.ivl_laws.specs.Sets.{IsBetween, IsSubset}
+use Rattle.ivl_laws.specs.Sets.{ExactProducts, IsBetween, IsSubset, Products, Union}
 use Rattle.ivl_laws.specs.Runs.{IsRunsOf}
 use Rattle.ivl_laws.specs.Counts.{IsCountOf}
 
@@ -16,6 +17,9 @@ out_of_range = negsuc 0
 
 abbrev pub out_of_memory : ℤ
 out_of_memory = negsuc 1
+
+abbrev pub product_out_of_range : ℤ
+product_out_of_range = negsuc 2
 
 abbrev pub Refuses : ℤ → List (ℤ × ℤ) → List (ℤ × ℤ) → ℤ → Type 0
 Refuses code old new told = (told ≡ code) × (new ≡ old)
@@ -33,6 +37,13 @@ pub record IsWritten (S : ℤ → Type 0) (old new : List (ℤ × ℤ)) (told : 
 abbrev pub AnswersSet : ℤ × ℤ → (ℤ → Type 0) → (ℤ → Type 0) → List (ℤ × ℤ) → List (ℤ × ℤ) → ℤ → Type 0
 AnswersSet whole given S old new told = ((¬ (IsSubset given (IsBetween whole))) × Refuses out_of_range old new told)
     ⊎ (IsSubset given (IsBetween whole) × (Refuses out_of_memory old new told ⊎ ((L : List (ℤ × ℤ)) × IsWritten S old new told L)))
+
+-- a product outside the range has a code of its own, which is told unless there is no memory to find it
+abbrev pub AnswersProducts : ℤ × ℤ → (ℤ → Type 0) → (ℤ → Type 0) → List (ℤ × ℤ) → List (ℤ × ℤ) → ℤ → Type 0
+AnswersProducts whole S T old new told = ((¬ (IsSubset (Union S T) (IsBetween whole))) × Refuses out_of_range old new told)
+    ⊎ (IsSubset (Union S T) (IsBetween whole) × (Refuses out_of_memory old new told
+    ⊎ ((¬ (IsSubset (ExactProducts S T) (IsBetween whole))) × Refuses product_out_of_range old new told)
+    ⊎ (IsSubset (ExactProducts S T) (IsBetween whole) × ((L : List (ℤ × ℤ)) × IsWritten (Products S T) old new told L))))
 
 -- yes is told as 1, and no as 0
 abbrev pub AnswersQuestion : ℤ × ℤ → (ℤ → Type 0) → Type 0 → ℤ → Type 0

@@ -1,11 +1,18 @@
 -- The members of a list of pairs as C has it, and the ranges.
+--     pair_i64, pair_u64      a pair as two numbers
 --     pairs_i64, pairs_u64      the pairs of a list
 --     members_i64, members_u64      the numbers in some pair of the list; a crossed pair has none
 --     range_i64, range_u64      from the least number of a set to the greatest
-use Rattle.std.specs.Prelude.{ℕ, ◌-◌, ◌^◌, ℤ, pos, negsuc, List, map}
+use Rattle.std.specs.Prelude.{◌-◌, ◌^◌, ℤ, pos, negsuc, List, map}
 use Rattle.ivl_laws.specs.Runs.{Covers}
 use Rattle.ivl_c.specs.declared.run.RunI64.{RunI64}
 use Rattle.ivl_c.specs.declared.run.RunU64.{RunU64}
+
+abbrev pub pair_i64 : RunI64 → ℤ × ℤ
+pair_i64 r = (r.lower, r.upper)
+
+abbrev pub pair_u64 : RunU64 → ℤ × ℤ
+pair_u64 r = (pos r.lower, pos r.upper)
 
 abbrev pub pairs_i64 : List RunI64 → List (ℤ × ℤ)
 pairs_i64 L = map (λ r. (r.lower, r.upper)) L

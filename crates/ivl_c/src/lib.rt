@@ -6,7 +6,9 @@
 
 mod adding;
 mod asking;
+mod finding;
 mod making;
+mod multiplying;
 mod reading;
 mod run;
 mod signed;

@@ -1,12 +1,15 @@
 //! The calls over i64, whose sets range from `-INT64_MAX` to `INT64_MAX`.
 ghost use Rattle.std.specs.Prelude.{◌↔◌, IsTrue};
 ghost use Rattle.ivl_laws.specs.Sets.{Complement, Differences, HasSome, Intersection, IsBetween, IsSubset, SameMembers, Sums, SymmetricDifference, Union, Without};
-ghost use Rattle.ivl_c.specs.Answers.{AnswersQuestion, AnswersSet, AnswersSize};
-ghost use Rattle.ivl_c.specs.Lists.{members_i64, pairs_i64, range_i64};
+ghost use Rattle.ivl_c.specs.Answers.{AnswersProducts, AnswersQuestion, AnswersSet, AnswersSize};
+ghost use Rattle.ivl_c.specs.Finding.{AnswersFit, AnswersNext};
+ghost use Rattle.ivl_c.specs.Lists.{members_i64, pair_i64, pairs_i64, range_i64};
 
 use crate::adding::{Adding, of_members};
 use crate::asking::{Asking, ask, count};
+use crate::finding::{first_fit, next_from};
 use crate::making::{OfOne, OfTwo, of_one, of_two};
+use crate::multiplying::products;
 use crate::reading;
 use crate::run::RunI64;
 use std::alloc::Global;
@@ -146,4 +149,41 @@ pub extern "C" fn ivl_differences_i64(
         (pairs_i64 out.old) (pairs_i64 out.new) result }
 {
     of_members(alloc, Adding::Difference, a, b, out)
+}
+
+/// For each pair of runs, the numbers from the least to the greatest product. A code where some
+/// product is outside the range. `O(n m log (n m))`.
+#[unsafe(no_mangle)]
+pub extern "C" fn ivl_products_i64(
+    alloc: Global,
+    a: &[RunI64],
+    b: &[RunI64],
+    out: &mut [RunI64],
+) -> i64
+    ensures { AnswersProducts range_i64 (members_i64 a.now) (members_i64 b.now) (pairs_i64 out.old) (pairs_i64 out.new) result }
+{
+    products(alloc, a, b, out)
+}
+
+/// Writes the least member that is at least `v`, and tells whether there is one; the list may be any
+/// list. `O(n)`. Does not allocate.
+#[unsafe(no_mangle)]
+pub extern "C" fn ivl_next_from_i64(a: &[RunI64], v: i64, found: &mut i64) -> bool
+    ensures { AnswersNext v (members_i64 a.now) found.old found.new result }
+{
+    next_from(a, v, found)
+}
+
+/// Writes the lowest `count` members in a row as one run, and tells 1; 0 where there are none, or
+/// where `count` is 0. `O(n log n)`.
+#[unsafe(no_mangle)]
+pub extern "C" fn ivl_first_fit_i64(
+    alloc: Global,
+    a: &[RunI64],
+    count: u64,
+    found: &mut RunI64,
+) -> i64
+    ensures { AnswersFit range_i64 count (members_i64 a.now) (pair_i64 found.old) (pair_i64 found.new) result }
+{
+    first_fit(alloc, a, count, found)
 }

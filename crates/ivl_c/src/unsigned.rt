@@ -1,12 +1,15 @@
 //! The calls over u64, whose sets range from 0 to `UINT64_MAX - 1`.
 ghost use Rattle.std.specs.Prelude.{◌↔◌, IsTrue, pos};
 ghost use Rattle.ivl_laws.specs.Sets.{Complement, Differences, HasSome, Intersection, IsBetween, IsSubset, SameMembers, Sums, SymmetricDifference, Union, Without};
-ghost use Rattle.ivl_c.specs.Answers.{AnswersQuestion, AnswersSet, AnswersSize};
-ghost use Rattle.ivl_c.specs.Lists.{members_u64, pairs_u64, range_u64};
+ghost use Rattle.ivl_c.specs.Answers.{AnswersProducts, AnswersQuestion, AnswersSet, AnswersSize};
+ghost use Rattle.ivl_c.specs.Finding.{AnswersFit, AnswersNext};
+ghost use Rattle.ivl_c.specs.Lists.{members_u64, pair_u64, pairs_u64, range_u64};
 
 use crate::adding::{Adding, of_members};
 use crate::asking::{Asking, ask, count};
+use crate::finding::{first_fit, next_from};
 use crate::making::{OfOne, OfTwo, of_one, of_two};
+use crate::multiplying::products;
 use crate::reading;
 use crate::run::RunU64;
 use std::alloc::Global;
@@ -146,4 +149,41 @@ pub extern "C" fn ivl_differences_u64(
         (pairs_u64 out.old) (pairs_u64 out.new) result }
 {
     of_members(alloc, Adding::Difference, a, b, out)
+}
+
+/// For each pair of runs, the numbers from the least to the greatest product. A code where some
+/// product is outside the range. `O(n m log (n m))`.
+#[unsafe(no_mangle)]
+pub extern "C" fn ivl_products_u64(
+    alloc: Global,
+    a: &[RunU64],
+    b: &[RunU64],
+    out: &mut [RunU64],
+) -> i64
+    ensures { AnswersProducts range_u64 (members_u64 a.now) (members_u64 b.now) (pairs_u64 out.old) (pairs_u64 out.new) result }
+{
+    products(alloc, a, b, out)
+}
+
+/// Writes the least member that is at least `v`, and tells whether there is one; the list may be any
+/// list. `O(n)`. Does not allocate.
+#[unsafe(no_mangle)]
+pub extern "C" fn ivl_next_from_u64(a: &[RunU64], v: u64, found: &mut u64) -> bool
+    ensures { AnswersNext (pos v) (members_u64 a.now) (pos found.old) (pos found.new) result }
+{
+    next_from(a, v, found)
+}
+
+/// Writes the lowest `count` members in a row as one run, and tells 1; 0 where there are none, or
+/// where `count` is 0. `O(n log n)`.
+#[unsafe(no_mangle)]
+pub extern "C" fn ivl_first_fit_u64(
+    alloc: Global,
+    a: &[RunU64],
+    count: u64,
+    found: &mut RunU64,
+) -> i64
+    ensures { AnswersFit range_u64 count (members_u64 a.now) (pair_u64 found.old) (pair_u64 found.new) result }
+{
+    first_fit(alloc, a, count, found)
 }

@@ -13,6 +13,9 @@ pub const OUT_OF_RANGE: i64 = -1;
 /// An allocation failed.
 pub const OUT_OF_MEMORY: i64 = -2;
 
+/// Some product is outside the range.
+pub const PRODUCT_OUT_OF_RANGE: i64 = -3;
+
 /// Writes the runs of a set to the room if there is so much, and tells how many they are.
 pub fn tell<R: Run>(made: Result<IntervalSet<R::Bound>, AllocError>, out: &mut [R]) -> i64
     ensures { Refuses out_of_memory (map R.pair out.old) (map R.pair out.new) result

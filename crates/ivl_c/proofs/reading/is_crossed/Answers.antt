@@ -1,4 +1,4 @@
-use Rattle.std.proofs.Common.{ℤ, ◌<ℤ◌, ◌↔◌, IsTrue, subst, ◌∙◌}
+use Rattle.std.proofs.Common.{ℤ, ◌<ℤ◌, ◌↔◌, IsTrue, subst}
 use Rattle.ivl_laws.proofs.Orders.{lt_number}
 use Rattle.ivl_c.proofs.reading.is_crossed.Goals as goal
 

@@ -1,4 +1,4 @@
-use Rattle.std.proofs.Common.{◌≡◌, ◌≤◌, List, ℤ, length, length-set, sym, subst, ◌∙◌, arith}
+use Rattle.std.proofs.Common.{◌≤◌, List, ℤ, length, length-set, sym, subst, ◌∙◌}
 use Rattle.ivl_c.proofs.Room.{filled_at, wrote}
 use Rattle.ivl_c.proofs.writing.write.Goals as goal
 

@@ -1,4 +1,4 @@
-use Rattle.std.proofs.Common.{◌≡◌, ◌++◌, ◌≤◌, length, map, take, drop}
+use Rattle.std.proofs.Common.{◌≡◌, ◌++◌, length, map, take, drop}
 use Rattle.ivl_laws.specs.Runs.{IsMaximal}
 use Rattle.ivl_c.proofs.writing.write.Given as goal
 

@@ -1,0 +1,132 @@
+/* Lets each request for memory of each call fail in turn: the call answers IVL_OUT_OF_MEMORY with nothing written, or its
+   right answer. Answers 0 where that holds. Linked with --wrap=malloc and the like, so that the library's requests come here. */
+#include "intervallum.h"
+
+#include <stdio.h>
+#include <stdlib.h>
+#include <string.h>
+
+enum { ROOM = 16 };
+
+typedef int64_t call(const ivl_run_i64 *a, size_t n, const ivl_run_i64 *b, size_t m, ivl_run_i64 *out, size_t room);
+
+void *__real_malloc(size_t size);
+void *__real_calloc(size_t count, size_t size);
+void *__real_realloc(void *block, size_t size);
+void *__wrap_malloc(size_t size);
+void *__wrap_calloc(size_t count, size_t size);
+void *__wrap_realloc(void *block, size_t size);
+
+/* How many requests are met before one is refused; none is where it is negative. */
+static int before_refusal = -1;
+
+static int is_refused(void) {
+    return before_refusal >= 0 && before_refusal-- == 0;
+}
+
+void *__wrap_malloc(size_t size) {
+    return is_refused() ? NULL : __real_malloc(size);
+}
+
+void *__wrap_calloc(size_t count, size_t size) {
+    return is_refused() ? NULL : __real_calloc(count, size);
+}
+
+void *__wrap_realloc(void *block, size_t size) {
+    return is_refused() ? NULL : __real_realloc(block, size);
+}
+
+/* The calls of another shape, in that of the others. */
+static int64_t normalize(const ivl_run_i64 *a, size_t n, const ivl_run_i64 *b, size_t m, ivl_run_i64 *out, size_t room) {
+    (void)b, (void)m;
+    return ivl_normalize_i64(a, n, out, room);
+}
+
+static int64_t complement(const ivl_run_i64 *a, size_t n, const ivl_run_i64 *b, size_t m, ivl_run_i64 *out, size_t room) {
+    (void)b, (void)m;
+    return ivl_complement_i64(a, n, out, room);
+}
+
+static int64_t is_subset(const ivl_run_i64 *a, size_t n, const ivl_run_i64 *b, size_t m, ivl_run_i64 *out, size_t room) {
+    (void)out, (void)room;
+    return ivl_is_subset_i64(a, n, b, m);
+}
+
+static int64_t overlap(const ivl_run_i64 *a, size_t n, const ivl_run_i64 *b, size_t m, ivl_run_i64 *out, size_t room) {
+    (void)out, (void)room;
+    return ivl_overlap_i64(a, n, b, m);
+}
+
+static int64_t equal(const ivl_run_i64 *a, size_t n, const ivl_run_i64 *b, size_t m, ivl_run_i64 *out, size_t room) {
+    (void)out, (void)room;
+    return ivl_equal_i64(a, n, b, m);
+}
+
+static int64_t size_of(const ivl_run_i64 *a, size_t n, const ivl_run_i64 *b, size_t m, ivl_run_i64 *out, size_t room) {
+    (void)b, (void)m, (void)room;
+    uint64_t size = (uint64_t)out[0].lower;
+    int64_t told = ivl_size_i64(a, n, &size);
+    out[0].lower = (int64_t)size;
+    return told;
+}
+
+static int64_t first_fit(const ivl_run_i64 *a, size_t n, const ivl_run_i64 *b, size_t m, ivl_run_i64 *out, size_t room) {
+    (void)b, (void)m, (void)room;
+    return ivl_first_fit_i64(a, n, 2, out);
+}
+
+static const struct {
+    const char *name;
+    call *made;
+} calls[] = {
+    {"union", ivl_union_i64}, {"intersection", ivl_intersection_i64}, {"difference", ivl_difference_i64},
+    {"symmetric_difference", ivl_symmetric_difference_i64}, {"sums", ivl_sums_i64}, {"differences", ivl_differences_i64},
+    {"products", ivl_products_i64}, {"normalize", normalize}, {"complement", complement}, {"is_subset", is_subset},
+    {"overlap", overlap}, {"equal", equal}, {"size", size_of}, {"first_fit", first_fit},
+};
+
+/* Makes the call with one request refused after so many that are met: whether one was refused. */
+static int refuse_one(call *made, int before, int64_t right, const ivl_run_i64 *answer, int *failures) {
+    /* No list is in order, so that each has to be sorted. */
+    const ivl_run_i64 a[] = {{60, 70}, {1, 2}, {9, 4}, {31, 35}};
+    const ivl_run_i64 b[] = {{33, 65}, {7, 7}, {2, 3}};
+    ivl_run_i64 out[ROOM], untouched[ROOM];
+    memset(out, 0x55, sizeof out);
+    memset(untouched, 0x55, sizeof untouched);
+
+    before_refusal = before;
+    int64_t told = made(a, 4, b, 3, out, ROOM);
+    int was_refused = before_refusal < 0;
+    before_refusal = -1;
+
+    int is_right = told == right && memcmp(out, answer, sizeof out) == 0;
+    int is_code = told == IVL_OUT_OF_MEMORY && memcmp(out, untouched, sizeof out) == 0;
+    if (!is_right && !(was_refused && is_code))
+        (*failures)++;
+    return was_refused;
+}
+
+static int refuse_each(call *made, const char *name) {
+    const ivl_run_i64 a[] = {{60, 70}, {1, 2}, {9, 4}, {31, 35}};
+    const ivl_run_i64 b[] = {{33, 65}, {7, 7}, {2, 3}};
+    ivl_run_i64 answer[ROOM];
+    int failures = 0, refused = 0;
+
+    memset(answer, 0x55, sizeof answer);
+    int64_t right = made(a, 4, b, 3, answer, ROOM);
+    while (refuse_one(made, refused, right, answer, &failures))
+        refused++;
+    if (right < 0 || refused == 0)
+        failures++;
+    if (failures)
+        printf("failed: %s, %d requests refused\n", name, refused);
+    return failures;
+}
+
+int main(void) {
+    int failures = 0;
+    for (size_t i = 0; i < sizeof calls / sizeof calls[0]; i++)
+        failures += refuse_each(calls[i].made, calls[i].name);
+    printf("%d failed\n", failures);
+    return failures != 0;
+}
