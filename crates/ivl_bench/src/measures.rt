@@ -56,6 +56,19 @@ pub enum Measure {
     PopFirst,
 }
 
+/// What is kept of the answer of a call.
+pub trait Answer: Sized {
+    fn of_set(set: IntervalSet<i64>) -> Self;
+
+    fn of_number(number: u64) -> Self;
+
+    fn of_json(value: Value) -> Self;
+
+    fn of_text(text: String) -> Self;
+
+    fn does_not_fit() -> Self;
+}
+
 /// What a call answers.
 #[derive(Drop)]
 pub enum Outcome {
@@ -64,6 +77,52 @@ pub enum Outcome {
     Json(Value),
     Text(String),
     DoesNotFit,
+}
+
+impl Answer for Outcome {
+    fn of_set(set: IntervalSet<i64>) -> Outcome {
+        Outcome::Set(set)
+    }
+
+    fn of_number(number: u64) -> Outcome {
+        Outcome::Number(number)
+    }
+
+    fn of_json(value: Value) -> Outcome {
+        Outcome::Json(value)
+    }
+
+    fn of_text(text: String) -> Outcome {
+        Outcome::Text(text)
+    }
+
+    fn does_not_fit() -> Outcome {
+        Outcome::DoesNotFit
+    }
+}
+
+/// The number of runs of a set, or the one number; the answer itself is dropped. A timed call keeps no
+/// more, since to move a whole `Outcome` about takes longer than the quickest calls.
+impl Answer for u64 {
+    fn of_set(set: IntervalSet<i64>) -> u64 {
+        set.interval_count() as u64
+    }
+
+    fn of_number(number: u64) -> u64 {
+        number
+    }
+
+    fn of_json(value: Value) -> u64 {
+        value.as_array().map_or(0, |items| items.len()) as u64
+    }
+
+    fn of_text(text: String) -> u64 {
+        text.len() as u64
+    }
+
+    fn does_not_fit() -> u64 {
+        0
+    }
 }
 
 impl Outcome {
@@ -199,7 +258,8 @@ impl Measure {
     }
 
     /// Makes the call.
-    pub fn run(self, inputs: &Inputs) -> Result<Outcome, AllocError> {
+    #[inline(never)]
+    pub fn run<A: Answer>(self, inputs: &Inputs) -> Result<A, AllocError> {
         let (a, b) = (&inputs.a, &inputs.b);
         let (few, many) = (&inputs.uneven.few, &inputs.uneven.many);
         let (left, right) = (&inputs.sparse.left, &inputs.sparse.right);
@@ -216,7 +276,7 @@ impl Measure {
             Measure::ShrinkLeft => set(a.shrink_left(inputs.middle)),
             Measure::PlusValue if a.fits_add(&7) => set(a + 7),
             Measure::TimesValue if a.fits_mul(&3) => set(a * 3),
-            Measure::PlusValue | Measure::TimesValue => Ok(Outcome::DoesNotFit),
+            Measure::PlusValue | Measure::TimesValue => Ok(A::does_not_fit()),
             Measure::Contains => number(hits(a, &inputs.probes)),
             Measure::EqualYes => truth(*a == inputs.clone_of_a),
             Measure::EqualNo => truth(a == b),
@@ -245,22 +305,24 @@ impl Measure {
     }
 }
 
-fn set(answer: Result<IntervalSet<i64>, AllocError>) -> Result<Outcome, AllocError> {
-    Ok(Outcome::Set(answer?))
+fn set<A: Answer>(answer: Result<IntervalSet<i64>, AllocError>) -> Result<A, AllocError> {
+    Ok(A::of_set(answer?))
 }
 
-fn number(answer: u64) -> Result<Outcome, AllocError> {
-    Ok(Outcome::Number(answer))
+fn number<A: Answer>(answer: u64) -> Result<A, AllocError> {
+    Ok(A::of_number(answer))
 }
 
-fn truth(answer: bool) -> Result<Outcome, AllocError> {
-    Ok(Outcome::Number(u64::from(answer)))
+fn truth<A: Answer>(answer: bool) -> Result<A, AllocError> {
+    Ok(A::of_number(u64::from(answer)))
 }
 
-fn fitting(answer: Result<Option<IntervalSet<i64>>, AllocError>) -> Result<Outcome, AllocError> {
+fn fitting<A: Answer>(
+    answer: Result<Option<IntervalSet<i64>>, AllocError>,
+) -> Result<A, AllocError> {
     match answer? {
-        Some(set) => Ok(Outcome::Set(set)),
-        None => Ok(Outcome::DoesNotFit),
+        Some(set) => Ok(A::of_set(set)),
+        None => Ok(A::does_not_fit()),
     }
 }
 
@@ -306,26 +368,26 @@ fn has_room(set: &IntervalSet<i64>, count: u64) -> bool {
     count > 0 && set.first_fit(count).is_some()
 }
 
-fn sum(a: &IntervalSet<i64>, b: &IntervalSet<i64>) -> Result<Outcome, AllocError> {
+fn sum<A: Answer>(a: &IntervalSet<i64>, b: &IntervalSet<i64>) -> Result<A, AllocError> {
     if a.fits_add(b) {
-        Ok(Outcome::Set((a + b)?))
+        set(a + b)
     } else {
-        Ok(Outcome::DoesNotFit)
+        Ok(A::does_not_fit())
     }
 }
 
-fn difference(a: &IntervalSet<i64>, b: &IntervalSet<i64>) -> Result<Outcome, AllocError> {
+fn difference<A: Answer>(a: &IntervalSet<i64>, b: &IntervalSet<i64>) -> Result<A, AllocError> {
     if a.fits_sub(b) {
-        Ok(Outcome::Set((a - b)?))
+        set(a - b)
     } else {
-        Ok(Outcome::DoesNotFit)
+        Ok(A::does_not_fit())
     }
 }
 
-fn product(a: &IntervalSet<i64>, b: &IntervalSet<i64>) -> Result<Outcome, AllocError> {
+fn product<A: Answer>(a: &IntervalSet<i64>, b: &IntervalSet<i64>) -> Result<A, AllocError> {
     if a.fits_mul(b) {
-        Ok(Outcome::Set((a * b)?))
+        set(a * b)
     } else {
-        Ok(Outcome::DoesNotFit)
+        Ok(A::does_not_fit())
     }
 }
