@@ -257,26 +257,26 @@ impl Measure {
         matches!(self, Measure::JsonWrite | Measure::JsonText)
     }
 
-    /// Makes the call.
+    /// Makes the call. Each is a function of its own: the compiled code clears what one function keeps
+    /// for all of its branches each time that it is entered.
     #[inline(never)]
     pub fn run<A: Answer>(self, inputs: &Inputs) -> Result<A, AllocError> {
         let (a, b) = (&inputs.a, &inputs.b);
         let (few, many) = (&inputs.uneven.few, &inputs.uneven.many);
         let (left, right) = (&inputs.sparse.left, &inputs.sparse.right);
         match self {
-            Measure::BuildExtend => set(built(inputs)),
-            Measure::BuildPairs => fitting(of_pairs(inputs.alloc, &inputs.pairs)),
-            Measure::ExtendOne => set(extended(a)),
-            Measure::Clone => set(a.try_clone()),
-            Measure::Union => set(a.union(b)),
-            Measure::Intersection => set(a.intersection(b)),
-            Measure::Difference => set(a.difference(b)),
-            Measure::Symmetric => set(a.symmetric_difference(b)),
-            Measure::Complement => set(a.complement()),
-            Measure::ShrinkLeft => set(a.shrink_left(inputs.middle)),
-            Measure::PlusValue if a.fits_add(&7) => set(a + 7),
-            Measure::TimesValue if a.fits_mul(&3) => set(a * 3),
-            Measure::PlusValue | Measure::TimesValue => Ok(A::does_not_fit()),
+            Measure::BuildExtend => built(inputs),
+            Measure::BuildPairs => paired(inputs),
+            Measure::ExtendOne => extended(a),
+            Measure::Clone => cloned(a),
+            Measure::Union => united(a, b),
+            Measure::Intersection => common(a, b),
+            Measure::Difference => without(a, b),
+            Measure::Symmetric => alone(a, b),
+            Measure::Complement => complement(a),
+            Measure::ShrinkLeft => shrunk(inputs),
+            Measure::PlusValue => plus_value(a),
+            Measure::TimesValue => times_value(a),
             Measure::Contains => number(hits(a, &inputs.probes)),
             Measure::EqualYes => truth(*a == inputs.clone_of_a),
             Measure::EqualNo => truth(a == b),
@@ -289,18 +289,18 @@ impl Measure {
             Measure::JsonRead => json::read(inputs),
             Measure::JsonWrite => json::write(inputs),
             Measure::JsonText => json::text(inputs),
-            Measure::EvalSum => fitting(inputs.expressions.eval_sum(inputs.alloc)),
-            Measure::EvalChain => fitting(inputs.expressions.eval_chain(inputs.alloc)),
-            Measure::UnionFew => set(few.union(many)),
-            Measure::IntersectionFew => set(few.intersection(many)),
-            Measure::DifferenceFew => set(few.difference(many)),
+            Measure::EvalSum => eval_sum(inputs),
+            Measure::EvalChain => eval_chain(inputs),
+            Measure::UnionFew => united(few, many),
+            Measure::IntersectionFew => common(few, many),
+            Measure::DifferenceFew => without(few, many),
             Measure::SubsetFew => truth(few.is_subset(many)),
-            Measure::IntersectionValue => set(a.intersection(&inputs.middle)),
+            Measure::IntersectionValue => common_value(inputs),
             Measure::NextFrom => number(nexts(a, &inputs.probes)),
             Measure::FirstFit => truth(has_room(a, LONGER)),
-            Measure::InsertRandom => set(edits::inserted(a, &inputs.edits)),
-            Measure::RemoveRandom => set(edits::removed(a, &inputs.edits)),
-            Measure::PopFirst => number(edits::popped(a)?),
+            Measure::InsertRandom => inserted(inputs),
+            Measure::RemoveRandom => removed(inputs),
+            Measure::PopFirst => popped(a),
         }
     }
 }
@@ -326,19 +326,91 @@ fn fitting<A: Answer>(
     }
 }
 
+fn cloned<A: Answer>(a: &IntervalSet<i64>) -> Result<A, AllocError> {
+    set(a.try_clone())
+}
+
+fn united<A: Answer>(a: &IntervalSet<i64>, b: &IntervalSet<i64>) -> Result<A, AllocError> {
+    set(a.union(b))
+}
+
+fn common<A: Answer>(a: &IntervalSet<i64>, b: &IntervalSet<i64>) -> Result<A, AllocError> {
+    set(a.intersection(b))
+}
+
+fn without<A: Answer>(a: &IntervalSet<i64>, b: &IntervalSet<i64>) -> Result<A, AllocError> {
+    set(a.difference(b))
+}
+
+fn alone<A: Answer>(a: &IntervalSet<i64>, b: &IntervalSet<i64>) -> Result<A, AllocError> {
+    set(a.symmetric_difference(b))
+}
+
+fn complement<A: Answer>(a: &IntervalSet<i64>) -> Result<A, AllocError> {
+    set(a.complement())
+}
+
+fn shrunk<A: Answer>(inputs: &Inputs) -> Result<A, AllocError> {
+    set(inputs.a.shrink_left(inputs.middle))
+}
+
+fn plus_value<A: Answer>(a: &IntervalSet<i64>) -> Result<A, AllocError> {
+    if a.fits_add(&7) {
+        set(a + 7)
+    } else {
+        Ok(A::does_not_fit())
+    }
+}
+
+fn times_value<A: Answer>(a: &IntervalSet<i64>) -> Result<A, AllocError> {
+    if a.fits_mul(&3) {
+        set(a * 3)
+    } else {
+        Ok(A::does_not_fit())
+    }
+}
+
+fn paired<A: Answer>(inputs: &Inputs) -> Result<A, AllocError> {
+    fitting(of_pairs(inputs.alloc, &inputs.pairs))
+}
+
+fn eval_sum<A: Answer>(inputs: &Inputs) -> Result<A, AllocError> {
+    fitting(inputs.expressions.eval_sum(inputs.alloc))
+}
+
+fn eval_chain<A: Answer>(inputs: &Inputs) -> Result<A, AllocError> {
+    fitting(inputs.expressions.eval_chain(inputs.alloc))
+}
+
+fn common_value<A: Answer>(inputs: &Inputs) -> Result<A, AllocError> {
+    set(inputs.a.intersection(&inputs.middle))
+}
+
+fn inserted<A: Answer>(inputs: &Inputs) -> Result<A, AllocError> {
+    set(edits::inserted(&inputs.a, &inputs.edits))
+}
+
+fn removed<A: Answer>(inputs: &Inputs) -> Result<A, AllocError> {
+    set(edits::removed(&inputs.a, &inputs.edits))
+}
+
+fn popped<A: Answer>(a: &IntervalSet<i64>) -> Result<A, AllocError> {
+    number(edits::popped(a)?)
+}
+
 /// An empty set, extended by all runs.
-fn built(inputs: &Inputs) -> Result<IntervalSet<i64>, AllocError> {
+fn built<A: Answer>(inputs: &Inputs) -> Result<A, AllocError> {
     let mut set = IntervalSet::empty(inputs.alloc);
     set.extend(inputs.runs.iter().copied())?;
-    Ok(set)
+    Ok(A::of_set(set))
 }
 
 /// A copy, extended by one run.
-fn extended(set: &IntervalSet<i64>) -> Result<IntervalSet<i64>, AllocError> {
+fn extended<A: Answer>(set: &IntervalSet<i64>) -> Result<A, AllocError> {
     let mut copy = set.try_clone()?;
     let added = [Interval::new(0, 1)];
     copy.extend(added.iter().copied())?;
-    Ok(copy)
+    Ok(A::of_set(copy))
 }
 
 /// How many of the numbers are members.
