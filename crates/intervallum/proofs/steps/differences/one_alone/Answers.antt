@@ -1,4 +1,4 @@
-use Rattle.std.proofs.Common.{◌≡◌, ◌∙◌, ℕ, suc, ℤ, pos, List, Option, Some, length, inl, ap, sym, arith}
+use Rattle.std.proofs.Common.{◌∙◌, pos, inl, sym, arith}
 use Rattle.ivl_laws.specs.Sets.{SymmetricDifference}
 use Rattle.ivl_laws.specs.Runs.{Covers}
 use Rattle.ivl_laws.proofs.Intervals.{some_is_not_crossed}
@@ -7,20 +7,12 @@ use Rattle.ivl_laws.proofs.Runs.{≤ℤ_antisymm}
 use Rattle.ivl_interval.proofs.Pairs.{not_below}
 use Rattle.intervallum.proofs.Alternating.{alone_at_end, alone_both, alone_first, alone_second, apart_at_end, lower_part_is_above}
 use Rattle.intervallum.proofs.Building.{building_done, building_same, building_takes}
-use Rattle.intervallum.specs.Led.{led_by}
-use Rattle.intervallum.proofs.Leading.{leads, led_by_next, open_held, zip_none, zip_some}
+use Rattle.intervallum.proofs.Leading.{led_by_next, open_held, zip_none, zip_some}
 use Rattle.intervallum.proofs.Meeting.{ends_before, ends_by}
 use Rattle.intervallum.proofs.Parting.{cut_above, led_by_cut}
 use Rattle.intervallum.proofs.RunBounds.{length_of_one_alone}
+use Rattle.intervallum.proofs.Shortening.{length_cut, length_taken}
 use Rattle.intervallum.proofs.steps.differences.one_alone.Goals as goal
-
--- a held run is taken: one less is left
-length_taken : (held next : Option (ℤ × ℤ)) (p : ℤ × ℤ) (L M : List (ℤ × ℤ)) → held ≡ Some p → L ≡ led_by next M → length (led_by held L) ≡ suc (length (led_by next M))
-length_taken held next p L M e t = ap {B = ℕ} (λ (N : List (ℤ × ℤ)). length N) (leads held p L e) ∙ ap {B = ℕ} (λ (N : List (ℤ × ℤ)). suc (length N)) t
-
--- a held run is cut: as many are left
-length_cut : (held : Option (ℤ × ℤ)) (p q : ℤ × ℤ) (L : List (ℤ × ℤ)) → held ≡ Some p → length (led_by (Some q) L) ≡ length (led_by held L)
-length_cut held p q L e = sym (ap {B = ℕ} (λ (N : List (ℤ × ℤ)). length N) (leads held p L e))
 
 pub push_above-requires : goal.push_above-requires
 push_above-requires g c =
