@@ -29,3 +29,4 @@ pub mod WithIntervals
 pub mod Ranks
 pub mod Appending
 pub mod Few
+pub mod Shortening

@@ -1,7 +1,7 @@
 //! JSON values of the sets, and the calls that are measured on them.
 
 use crate::inputs::Inputs;
-use crate::measures::Outcome;
+use crate::measures::Answer;
 use intervallum::interval_set::IntervalSet;
 use ivl_json::{JsonFault, JsonForm};
 use serde_json::{Value, json};
@@ -34,20 +34,20 @@ impl JsonInputs {
 }
 
 /// The set that the array of the pairs reads as.
-pub fn read(inputs: &Inputs) -> Result<Outcome, AllocError> {
+pub fn read<A: Answer>(inputs: &Inputs) -> Result<A, AllocError> {
     match IntervalSet::from_value(inputs.alloc, &inputs.json.pairs) {
-        Ok(set) => Ok(Outcome::Set(set)),
+        Ok(set) => Ok(A::of_set(set)),
         Err(JsonFault::Memory) => Err(AllocError),
-        Err(_) => Ok(Outcome::DoesNotFit),
+        Err(_) => Ok(A::does_not_fit()),
     }
 }
 
 /// The array of the runs of a set.
-pub fn write(inputs: &Inputs) -> Result<Outcome, AllocError> {
-    Ok(Outcome::Json(inputs.a.to_value(inputs.alloc)?))
+pub fn write<A: Answer>(inputs: &Inputs) -> Result<A, AllocError> {
+    Ok(A::of_json(inputs.a.to_value(inputs.alloc)?))
 }
 
 /// The text of that array.
-pub fn text(inputs: &Inputs) -> Result<Outcome, AllocError> {
-    Ok(Outcome::Text(inputs.json.written.to_string(inputs.alloc)?))
+pub fn text<A: Answer>(inputs: &Inputs) -> Result<A, AllocError> {
+    Ok(A::of_text(inputs.json.written.to_string(inputs.alloc)?))
 }

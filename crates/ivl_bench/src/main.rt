@@ -15,7 +15,7 @@ mod timing;
 
 use anyhow::{Context, Result, bail};
 use inputs::Inputs;
-use measures::Measure;
+use measures::{Measure, Outcome};
 use std::env;
 use std::time::Duration;
 use timing::Limits;
@@ -25,7 +25,7 @@ fn print_answers(rt: &(impl Print + AllocGlobal), n: u32) -> Result<()> {
     let inputs = Inputs::new(rt.alloc(), n)?;
     for measure in Measure::ALL {
         if measure.is_for(n) {
-            let outcome = measure.run(&inputs)?;
+            let outcome: Outcome = measure.run(&inputs)?;
             let text = outcome.to_text(rt.alloc())?;
             println!(rt; "{} {n} {text}", measure.name())?;
         }

@@ -56,6 +56,19 @@ pub enum Measure {
     PopFirst,
 }
 
+/// What is kept of the answer of a call.
+pub trait Answer: Sized {
+    fn of_set(set: IntervalSet<i64>) -> Self;
+
+    fn of_number(number: u64) -> Self;
+
+    fn of_json(value: Value) -> Self;
+
+    fn of_text(text: String) -> Self;
+
+    fn does_not_fit() -> Self;
+}
+
 /// What a call answers.
 #[derive(Drop)]
 pub enum Outcome {
@@ -64,6 +77,52 @@ pub enum Outcome {
     Json(Value),
     Text(String),
     DoesNotFit,
+}
+
+impl Answer for Outcome {
+    fn of_set(set: IntervalSet<i64>) -> Outcome {
+        Outcome::Set(set)
+    }
+
+    fn of_number(number: u64) -> Outcome {
+        Outcome::Number(number)
+    }
+
+    fn of_json(value: Value) -> Outcome {
+        Outcome::Json(value)
+    }
+
+    fn of_text(text: String) -> Outcome {
+        Outcome::Text(text)
+    }
+
+    fn does_not_fit() -> Outcome {
+        Outcome::DoesNotFit
+    }
+}
+
+/// The number of runs of a set, or the one number; the answer itself is dropped. A timed call keeps no
+/// more, since to move a whole `Outcome` about takes longer than the quickest calls.
+impl Answer for u64 {
+    fn of_set(set: IntervalSet<i64>) -> u64 {
+        set.interval_count() as u64
+    }
+
+    fn of_number(number: u64) -> u64 {
+        number
+    }
+
+    fn of_json(value: Value) -> u64 {
+        value.as_array().map_or(0, |items| items.len()) as u64
+    }
+
+    fn of_text(text: String) -> u64 {
+        text.len() as u64
+    }
+
+    fn does_not_fit() -> u64 {
+        0
+    }
 }
 
 impl Outcome {
@@ -198,25 +257,26 @@ impl Measure {
         matches!(self, Measure::JsonWrite | Measure::JsonText)
     }
 
-    /// Makes the call.
-    pub fn run(self, inputs: &Inputs) -> Result<Outcome, AllocError> {
+    /// Makes the call. Each is a function of its own: the compiled code clears what one function keeps
+    /// for all of its branches each time that it is entered.
+    #[inline(never)]
+    pub fn run<A: Answer>(self, inputs: &Inputs) -> Result<A, AllocError> {
         let (a, b) = (&inputs.a, &inputs.b);
         let (few, many) = (&inputs.uneven.few, &inputs.uneven.many);
         let (left, right) = (&inputs.sparse.left, &inputs.sparse.right);
         match self {
-            Measure::BuildExtend => set(built(inputs)),
-            Measure::BuildPairs => fitting(of_pairs(inputs.alloc, &inputs.pairs)),
-            Measure::ExtendOne => set(extended(a)),
-            Measure::Clone => set(a.try_clone()),
-            Measure::Union => set(a.union(b)),
-            Measure::Intersection => set(a.intersection(b)),
-            Measure::Difference => set(a.difference(b)),
-            Measure::Symmetric => set(a.symmetric_difference(b)),
-            Measure::Complement => set(a.complement()),
-            Measure::ShrinkLeft => set(a.shrink_left(inputs.middle)),
-            Measure::PlusValue if a.fits_add(&7) => set(a + 7),
-            Measure::TimesValue if a.fits_mul(&3) => set(a * 3),
-            Measure::PlusValue | Measure::TimesValue => Ok(Outcome::DoesNotFit),
+            Measure::BuildExtend => built(inputs),
+            Measure::BuildPairs => paired(inputs),
+            Measure::ExtendOne => extended(a),
+            Measure::Clone => cloned(a),
+            Measure::Union => united(a, b),
+            Measure::Intersection => common(a, b),
+            Measure::Difference => without(a, b),
+            Measure::Symmetric => alone(a, b),
+            Measure::Complement => complement(a),
+            Measure::ShrinkLeft => shrunk(inputs),
+            Measure::PlusValue => plus_value(a),
+            Measure::TimesValue => times_value(a),
             Measure::Contains => number(hits(a, &inputs.probes)),
             Measure::EqualYes => truth(*a == inputs.clone_of_a),
             Measure::EqualNo => truth(a == b),
@@ -229,54 +289,128 @@ impl Measure {
             Measure::JsonRead => json::read(inputs),
             Measure::JsonWrite => json::write(inputs),
             Measure::JsonText => json::text(inputs),
-            Measure::EvalSum => fitting(inputs.expressions.eval_sum(inputs.alloc)),
-            Measure::EvalChain => fitting(inputs.expressions.eval_chain(inputs.alloc)),
-            Measure::UnionFew => set(few.union(many)),
-            Measure::IntersectionFew => set(few.intersection(many)),
-            Measure::DifferenceFew => set(few.difference(many)),
+            Measure::EvalSum => eval_sum(inputs),
+            Measure::EvalChain => eval_chain(inputs),
+            Measure::UnionFew => united(few, many),
+            Measure::IntersectionFew => common(few, many),
+            Measure::DifferenceFew => without(few, many),
             Measure::SubsetFew => truth(few.is_subset(many)),
-            Measure::IntersectionValue => set(a.intersection(&inputs.middle)),
+            Measure::IntersectionValue => common_value(inputs),
             Measure::NextFrom => number(nexts(a, &inputs.probes)),
             Measure::FirstFit => truth(has_room(a, LONGER)),
-            Measure::InsertRandom => set(edits::inserted(a, &inputs.edits)),
-            Measure::RemoveRandom => set(edits::removed(a, &inputs.edits)),
-            Measure::PopFirst => number(edits::popped(a)?),
+            Measure::InsertRandom => inserted(inputs),
+            Measure::RemoveRandom => removed(inputs),
+            Measure::PopFirst => popped(a),
         }
     }
 }
 
-fn set(answer: Result<IntervalSet<i64>, AllocError>) -> Result<Outcome, AllocError> {
-    Ok(Outcome::Set(answer?))
+fn set<A: Answer>(answer: Result<IntervalSet<i64>, AllocError>) -> Result<A, AllocError> {
+    Ok(A::of_set(answer?))
 }
 
-fn number(answer: u64) -> Result<Outcome, AllocError> {
-    Ok(Outcome::Number(answer))
+fn number<A: Answer>(answer: u64) -> Result<A, AllocError> {
+    Ok(A::of_number(answer))
 }
 
-fn truth(answer: bool) -> Result<Outcome, AllocError> {
-    Ok(Outcome::Number(u64::from(answer)))
+fn truth<A: Answer>(answer: bool) -> Result<A, AllocError> {
+    Ok(A::of_number(u64::from(answer)))
 }
 
-fn fitting(answer: Result<Option<IntervalSet<i64>>, AllocError>) -> Result<Outcome, AllocError> {
+fn fitting<A: Answer>(
+    answer: Result<Option<IntervalSet<i64>>, AllocError>,
+) -> Result<A, AllocError> {
     match answer? {
-        Some(set) => Ok(Outcome::Set(set)),
-        None => Ok(Outcome::DoesNotFit),
+        Some(set) => Ok(A::of_set(set)),
+        None => Ok(A::does_not_fit()),
     }
 }
 
+fn cloned<A: Answer>(a: &IntervalSet<i64>) -> Result<A, AllocError> {
+    set(a.try_clone())
+}
+
+fn united<A: Answer>(a: &IntervalSet<i64>, b: &IntervalSet<i64>) -> Result<A, AllocError> {
+    set(a.union(b))
+}
+
+fn common<A: Answer>(a: &IntervalSet<i64>, b: &IntervalSet<i64>) -> Result<A, AllocError> {
+    set(a.intersection(b))
+}
+
+fn without<A: Answer>(a: &IntervalSet<i64>, b: &IntervalSet<i64>) -> Result<A, AllocError> {
+    set(a.difference(b))
+}
+
+fn alone<A: Answer>(a: &IntervalSet<i64>, b: &IntervalSet<i64>) -> Result<A, AllocError> {
+    set(a.symmetric_difference(b))
+}
+
+fn complement<A: Answer>(a: &IntervalSet<i64>) -> Result<A, AllocError> {
+    set(a.complement())
+}
+
+fn shrunk<A: Answer>(inputs: &Inputs) -> Result<A, AllocError> {
+    set(inputs.a.shrink_left(inputs.middle))
+}
+
+fn plus_value<A: Answer>(a: &IntervalSet<i64>) -> Result<A, AllocError> {
+    if a.fits_add(&7) {
+        set(a + 7)
+    } else {
+        Ok(A::does_not_fit())
+    }
+}
+
+fn times_value<A: Answer>(a: &IntervalSet<i64>) -> Result<A, AllocError> {
+    if a.fits_mul(&3) {
+        set(a * 3)
+    } else {
+        Ok(A::does_not_fit())
+    }
+}
+
+fn paired<A: Answer>(inputs: &Inputs) -> Result<A, AllocError> {
+    fitting(of_pairs(inputs.alloc, &inputs.pairs))
+}
+
+fn eval_sum<A: Answer>(inputs: &Inputs) -> Result<A, AllocError> {
+    fitting(inputs.expressions.eval_sum(inputs.alloc))
+}
+
+fn eval_chain<A: Answer>(inputs: &Inputs) -> Result<A, AllocError> {
+    fitting(inputs.expressions.eval_chain(inputs.alloc))
+}
+
+fn common_value<A: Answer>(inputs: &Inputs) -> Result<A, AllocError> {
+    set(inputs.a.intersection(&inputs.middle))
+}
+
+fn inserted<A: Answer>(inputs: &Inputs) -> Result<A, AllocError> {
+    set(edits::inserted(&inputs.a, &inputs.edits))
+}
+
+fn removed<A: Answer>(inputs: &Inputs) -> Result<A, AllocError> {
+    set(edits::removed(&inputs.a, &inputs.edits))
+}
+
+fn popped<A: Answer>(a: &IntervalSet<i64>) -> Result<A, AllocError> {
+    number(edits::popped(a)?)
+}
+
 /// An empty set, extended by all runs.
-fn built(inputs: &Inputs) -> Result<IntervalSet<i64>, AllocError> {
+fn built<A: Answer>(inputs: &Inputs) -> Result<A, AllocError> {
     let mut set = IntervalSet::empty(inputs.alloc);
     set.extend(inputs.runs.iter().copied())?;
-    Ok(set)
+    Ok(A::of_set(set))
 }
 
 /// A copy, extended by one run.
-fn extended(set: &IntervalSet<i64>) -> Result<IntervalSet<i64>, AllocError> {
+fn extended<A: Answer>(set: &IntervalSet<i64>) -> Result<A, AllocError> {
     let mut copy = set.try_clone()?;
     let added = [Interval::new(0, 1)];
     copy.extend(added.iter().copied())?;
-    Ok(copy)
+    Ok(A::of_set(copy))
 }
 
 /// How many of the numbers are members.
@@ -306,26 +440,26 @@ fn has_room(set: &IntervalSet<i64>, count: u64) -> bool {
     count > 0 && set.first_fit(count).is_some()
 }
 
-fn sum(a: &IntervalSet<i64>, b: &IntervalSet<i64>) -> Result<Outcome, AllocError> {
+fn sum<A: Answer>(a: &IntervalSet<i64>, b: &IntervalSet<i64>) -> Result<A, AllocError> {
     if a.fits_add(b) {
-        Ok(Outcome::Set((a + b)?))
+        set(a + b)
     } else {
-        Ok(Outcome::DoesNotFit)
+        Ok(A::does_not_fit())
     }
 }
 
-fn difference(a: &IntervalSet<i64>, b: &IntervalSet<i64>) -> Result<Outcome, AllocError> {
+fn difference<A: Answer>(a: &IntervalSet<i64>, b: &IntervalSet<i64>) -> Result<A, AllocError> {
     if a.fits_sub(b) {
-        Ok(Outcome::Set((a - b)?))
+        set(a - b)
     } else {
-        Ok(Outcome::DoesNotFit)
+        Ok(A::does_not_fit())
     }
 }
 
-fn product(a: &IntervalSet<i64>, b: &IntervalSet<i64>) -> Result<Outcome, AllocError> {
+fn product<A: Answer>(a: &IntervalSet<i64>, b: &IntervalSet<i64>) -> Result<A, AllocError> {
     if a.fits_mul(b) {
-        Ok(Outcome::Set((a * b)?))
+        set(a * b)
     } else {
-        Ok(Outcome::DoesNotFit)
+        Ok(A::does_not_fit())
     }
 }

@@ -1,8 +1,8 @@
 //! How long calls take.
 
 use crate::inputs::Inputs;
-use crate::measures::Measure;
-use anyhow::Result;
+use crate::measures::{Measure, Outcome};
+use anyhow::{Result, ensure};
 use std::rt::Clock;
 use std::time::{Duration, Instant};
 
@@ -30,7 +30,7 @@ pub fn print_times(rt: &(impl Print + AllocGlobal + Clock), n: u32, limits: &Lim
     for measure in Measure::ALL {
         if measure.is_for(n) {
             let time = least_time(rt, measure, &inputs, limits)?;
-            let outcome = measure.run(&inputs)?;
+            let outcome: Outcome = measure.run(&inputs)?;
             let text = outcome.to_text(rt.alloc())?;
             println!(rt; "{} {n} {time} {text}", measure.name())?;
         }
@@ -69,8 +69,11 @@ fn duration(clock: &impl Clock, measure: Measure, inputs: &Inputs, count: u64) -
         return duration_of_making(clock, measure, inputs, count);
     }
     let start = Instant::now(clock)?;
-    for _ in 0..count {
-        measure.run(inputs)?;
+    let first: u64 = measure.run(inputs)?;
+    for _ in 1..count {
+        // a compiler that sees an answer unused may leave the call out
+        let answer: u64 = measure.run(inputs)?;
+        ensure!(answer == first, "two calls answer differently");
     }
     Ok(start.elapsed(clock)?)
 }
@@ -85,7 +88,7 @@ fn duration_of_making(
     let mut time = Duration::ZERO;
     for _ in 0..count {
         let start = Instant::now(clock)?;
-        let outcome = measure.run(inputs)?;
+        let outcome: Outcome = measure.run(inputs)?;
         time = time.saturating_add(start.elapsed(clock)?);
         drop(outcome);
     }

@@ -1,4 +1,4 @@
-use Rattle.std.proofs.Common.{◌∙◌, pos, sym}
+use Rattle.std.proofs.Common.{◌∙◌, pos, inl, sym, arith}
 use Rattle.ivl_laws.specs.Sets.{SymmetricDifference}
 use Rattle.ivl_laws.specs.Runs.{Covers}
 use Rattle.ivl_laws.proofs.Intervals.{some_is_not_crossed}
@@ -11,6 +11,7 @@ use Rattle.intervallum.proofs.Leading.{led_by_next, open_held, zip_none, zip_som
 use Rattle.intervallum.proofs.Meeting.{ends_before, ends_by}
 use Rattle.intervallum.proofs.Parting.{cut_above, led_by_cut}
 use Rattle.intervallum.proofs.RunBounds.{length_of_one_alone}
+use Rattle.intervallum.proofs.Shortening.{length_cut, length_taken}
 use Rattle.intervallum.proofs.steps.differences.one_alone.Goals as goal
 
 pub push_above-requires : goal.push_above-requires
@@ -112,3 +113,40 @@ returns-clause-runs_at_most g c =
     rw c.fitted.ensures (length_of_one_alone c.args.first.left c.args.second.left c.push_rest-2.new.set
     (building_done (pos 1) c.push_rest.new.set c.push_rest-2.new.set _ _
     (building_takes (pos 1) c.walk.set c.push_rest.new.set _ _ _ _ rest (λ z. ((λ s. s), (λ s. s))) apart c.in_ok-push_rest.ensures) c.in_ok-push_rest-2.ensures))
+
+pub lower_part-requires-clause-run : goal.lower_part-requires-clause-run
+lower_part-requires-clause-run g c =
+    let held = zip_some c.walk.a c.walk.b c.in-Some.runs (sym c.zip.ensures ∙ c.in-Some.is) in
+    (open_held c.walk.a c.in-Some.runs.0 c.walk.first.left c.walk.invariant.first held.0).0
+
+pub lower_part-requires-clause-other : goal.lower_part-requires-clause-other
+lower_part-requires-clause-other g c =
+    let held = zip_some c.walk.a c.walk.b c.in-Some.runs (sym c.zip.ensures ∙ c.in-Some.is) in
+    (open_held c.walk.b c.in-Some.runs.1 c.walk.second.left c.walk.invariant.second held.1).0
+
+pub walk-smaller-then-lt : goal.walk-smaller-then-lt
+walk-smaller-then-lt g c =
+    let held = zip_some c.walk.a c.walk.b c.in-Some.runs (sym c.zip.ensures ∙ c.in-Some.is) in
+    let taken = length_taken c.walk.a c.take-a-then-lt.result c.in-Some.runs.0 c.walk.first.left c.take-a-then-lt.new.self.left held.0 c.take-a-then-lt.ensures.taken in
+    let cut = length_cut c.walk.b c.in-Some.runs.1 c.strict_shrink_left.result c.walk.second.left held.1 in
+    omega arith
+
+pub walk-smaller-then-lt-2 : goal.walk-smaller-then-lt-2
+walk-smaller-then-lt-2 g c =
+    let held = zip_some c.walk.a c.walk.b c.in-Some.runs (sym c.zip.ensures ∙ c.in-Some.is) in
+    let taken = length_taken c.walk.b c.take-b-then-lt-2.result c.in-Some.runs.1 c.walk.second.left c.take-b-then-lt-2.new.self.left held.1 c.take-b-then-lt-2.ensures.taken in
+    let cut = length_cut c.walk.a c.in-Some.runs.0 c.strict_shrink_left-then-lt-2.result c.walk.first.left held.0 in
+    omega arith
+
+pub walk-smaller : goal.walk-smaller
+walk-smaller g c =
+    let held = zip_some c.walk.a c.walk.b c.in-Some.runs (sym c.zip.ensures ∙ c.in-Some.is) in
+    let first = length_taken c.walk.a c.take-a-else-lt-2.result c.in-Some.runs.0 c.walk.first.left c.take-a-else-lt-2.new.self.left held.0 c.take-a-else-lt-2.ensures.taken in
+    let second = length_taken c.walk.b c.take-b-else-lt-2.result c.in-Some.runs.1 c.walk.second.left c.take-b-else-lt-2.new.self.left held.1 c.take-b-else-lt-2.ensures.taken in
+    omega arith
+
+pub push_rest-requires-clause-above : goal.push_rest-requires-clause-above
+push_rest-requires-clause-above g c =
+    let ended = zip_none c.walk.a c.walk.b (sym c.zip.ensures ∙ c.in_default.is) in
+    let rest = building_same (pos 1) c.walk.set _ _ _ (alone_at_end c.walk.a c.walk.b c.walk.first.left c.walk.second.left c.walk.invariant.first c.walk.invariant.second ended) c.walk.invariant.state in
+    λ x y w r. rest.below x y w (inl r)

@@ -1,8 +1,10 @@
+use Rattle.std.proofs.Common.{arith}
 use Rattle.ivl_laws.specs.Sets.{Union}
 use Rattle.ivl_laws.specs.Runs.{Covers}
 use Rattle.intervallum.specs.Led.{led_by}
 use Rattle.intervallum.proofs.Leading.{led_by_next}
 use Rattle.intervallum.proofs.Parting.{rest_goes_on}
+use Rattle.intervallum.proofs.Shortening.{length_taken}
 use Rattle.intervallum.proofs.steps.differences.push_rest.Goals as goal
 
 pub walk-preserved : goal.walk-preserved
@@ -11,3 +13,8 @@ walk-preserved g c = record {
   state = rest_goes_on c.walk.set c.push_above.new.set c.walk.held c.take-held.result c.walk.walk.left c.take-held.new.self.left c.in-Some.run'
       (Union (Covers c.args.set.now) (Covers (led_by c.args.held c.args.walk.left))) c.in-Some.is c.walk.invariant.led c.walk.invariant.state c.in_ok-push_above.ensures c.take-held.ensures.taken;
 }
+
+pub walk-smaller : goal.walk-smaller
+walk-smaller g c =
+    let taken = length_taken c.walk.held c.take-held.result c.in-Some.run' c.walk.walk.left c.take-held.new.self.left c.in-Some.is c.take-held.ensures.taken in
+    omega arith

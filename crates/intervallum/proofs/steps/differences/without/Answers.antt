@@ -1,4 +1,4 @@
-use Rattle.std.proofs.Common.{◌∙◌, pos, sym}
+use Rattle.std.proofs.Common.{◌∙◌, pos, sym, arith}
 use Rattle.ivl_laws.specs.Sets.{Without}
 use Rattle.ivl_laws.specs.Runs.{Covers}
 use Rattle.ivl_laws.proofs.Intervals.{some_is_not_crossed}
@@ -10,6 +10,7 @@ use Rattle.intervallum.proofs.Leading.{led_by_next, open_held, zip_none, zip_som
 use Rattle.intervallum.proofs.Meeting.{ends_before, ends_by}
 use Rattle.intervallum.proofs.Parting.{cut_above, cut_below, led_by_cut, left_alone, part_is_above, parts_first, parts_second}
 use Rattle.intervallum.proofs.RunBounds.{length_of_without}
+use Rattle.intervallum.proofs.Shortening.{length_cut, length_taken}
 use Rattle.intervallum.proofs.steps.differences.without.Goals as goal
 
 pub lower-requires : goal.lower-requires
@@ -82,3 +83,16 @@ returns-clause-runs_at_most g c =
     let alone = left_alone c.walk.a c.walk.b c.walk.first.left c.walk.second.left c.walk.invariant.first c.walk.invariant.second ended in
     rw c.fitted.ensures (length_of_without c.args.first.left c.args.second.left c.push_rest.new.set
     (building_done (pos 2) c.walk.set c.push_rest.new.set _ _ (building_same (pos 2) c.walk.set _ _ _ alone c.walk.invariant.state) c.in_ok-push_rest.ensures))
+
+pub walk-smaller-then-lt : goal.walk-smaller-then-lt
+walk-smaller-then-lt g c =
+    let held = zip_some c.walk.a c.walk.b c.in-Some.runs (sym c.zip.ensures ∙ c.in-Some.is) in
+    let taken = length_taken c.walk.b c.take-b-then-lt.result c.in-Some.runs.1 c.walk.second.left c.take-b-then-lt.new.self.left held.1 c.take-b-then-lt.ensures.taken in
+    let cut = length_cut c.walk.a c.in-Some.runs.0 c.strict_shrink_left.result c.walk.first.left held.0 in
+    omega arith
+
+pub walk-smaller : goal.walk-smaller
+walk-smaller g c =
+    let held = zip_some c.walk.a c.walk.b c.in-Some.runs (sym c.zip.ensures ∙ c.in-Some.is) in
+    let taken = length_taken c.walk.a c.take-a-else-lt.result c.in-Some.runs.0 c.walk.first.left c.take-a-else-lt.new.self.left held.0 c.take-a-else-lt.ensures.taken in
+    omega arith
