@@ -38,7 +38,7 @@ where
         return with_value(fact.call, &a, x);
     }
     match set(alloc, second)? {
-        Some(b) => with_set(fact.call, a, b),
+        Some(b) => with_set(fact.call, &a, &b),
         None => Ok(None),
     }
 }
@@ -57,24 +57,36 @@ fn alone<B: Width>(call: &str, a: IntervalSet<B>) -> Result<Option<Answer<B>>, A
 
 fn with_set<B: Width>(
     call: &str,
+    a: &IntervalSet<B>,
+    b: &IntervalSet<B>,
+) -> Result<Option<Answer<B>>, AllocError> {
+    Ok(Some(match call {
+        "s.union" => Answer::Set(a.union(b)?),
+        "s.intersection" => Answer::Set(a.intersection(b)?),
+        "s.difference" => Answer::Set(a.difference(b)?),
+        "s.symmetric_difference" => Answer::Set(a.symmetric_difference(b)?),
+        "s.eq" => Answer::Truth(a == b),
+        "s.overlap" => Answer::Truth(a.overlap(b)),
+        "s.is_disjoint" => Answer::Truth(a.is_disjoint(b)),
+        "s.is_subset" => Answer::Truth(a.is_subset(b)),
+        "s.is_proper_subset" => Answer::Truth(a.is_proper_subset(b)),
+        "s.entail" => Answer::Entailment(a.entail(b)),
+        "s.join" | "s.meet" => return consuming(call, a.try_clone()?, b.try_clone()?),
+        _ => return arithmetic_with_set(call, a, b),
+    }))
+}
+
+/// The calls that consume both sets.
+fn consuming<B: Width>(
+    call: &str,
     a: IntervalSet<B>,
     b: IntervalSet<B>,
 ) -> Result<Option<Answer<B>>, AllocError> {
-    Ok(Some(match call {
-        "s.union" => Answer::Set(a.union(&b)?),
-        "s.intersection" => Answer::Set(a.intersection(&b)?),
-        "s.difference" => Answer::Set(a.difference(&b)?),
-        "s.symmetric_difference" => Answer::Set(a.symmetric_difference(&b)?),
-        "s.join" => Answer::Set(a.join(b)?),
-        "s.meet" => Answer::Set(a.meet(b)?),
-        "s.eq" => Answer::Truth(a == b),
-        "s.overlap" => Answer::Truth(a.overlap(&b)),
-        "s.is_disjoint" => Answer::Truth(a.is_disjoint(&b)),
-        "s.is_subset" => Answer::Truth(a.is_subset(&b)),
-        "s.is_proper_subset" => Answer::Truth(a.is_proper_subset(&b)),
-        "s.entail" => Answer::Entailment(a.entail(&b)),
-        _ => return arithmetic_with_set(call, &a, &b),
-    }))
+    Ok(Some(Answer::Set(match call {
+        "s.join" => a.join(b)?,
+        "s.meet" => a.meet(b)?,
+        _ => return Ok(None),
+    })))
 }
 
 fn arithmetic_with_set<B: Width>(
