@@ -1,10 +1,11 @@
-//! What a call answers, and how the file writes it.
+//! What a call answers, and how the files write it.
 
 use intervallum::interval::Interval;
 use intervallum::interval_set::IntervalSet;
 use intervallum::kleene::SKleene;
 use intervallum::ops::{Bounded, Cardinality, IsEmpty};
 use intervallum::optional::Optional;
+use intervallum::steps::Place;
 use intervallum::width::{SizeNumber, Width};
 use std::alloc::{AllocError, Global};
 use std::fmt::Display;
@@ -19,12 +20,15 @@ pub enum Answer<B: Width> {
     Size(u128),
     Set(IntervalSet<B>),
     Count(usize),
-    /// A set as it is displayed.
-    Displayed(IntervalSet<B>),
+    Place(Place),
+    /// Intervals, any of which may be empty, in the order of a list.
+    List(Vec<Interval<B>>),
+    /// What is printed.
+    Text(String),
 }
 
 impl<B: Width + Display> Answer<B> {
-    /// The answer as the file writes it.
+    /// The answer as the files write it.
     pub fn to_text(&self, alloc: Global) -> Result<String, AllocError> {
         match self {
             Answer::Interval(interval) => interval_text(alloc, interval),
@@ -37,7 +41,10 @@ impl<B: Width + Display> Answer<B> {
             Answer::Size(size) => format!(in alloc; "{size}"),
             Answer::Set(set) => set_text(alloc, set),
             Answer::Count(count) => format!(in alloc; "{count}"),
-            Answer::Displayed(set) => format!(in alloc; "{set}"),
+            Answer::Place(Place::In(run)) => format!(in alloc; "in {run}"),
+            Answer::Place(Place::Gap(runs)) => format!(in alloc; "gap {runs}"),
+            Answer::List(list) => list_text(alloc, list),
+            Answer::Text(text) => text.clone(),
         }
     }
 }
@@ -65,6 +72,20 @@ fn set_text<B: Width + Display>(alloc: Global, set: &IntervalSet<B>) -> Result<S
         text.push(' ')?;
     }
     format!(in alloc; "{text}# {}", set.size().number())
+}
+
+/// The bounds of each interval, and `,` behind each.
+fn list_text<B: Width + Display>(
+    alloc: Global,
+    list: &[Interval<B>],
+) -> Result<String, AllocError> {
+    let mut text = String::new(alloc);
+    for interval in list {
+        let bounds = interval_text(alloc, interval)?;
+        text.push_str(bounds.as_str())?;
+        text.push(',')?;
+    }
+    Ok(text)
 }
 
 fn entailment_text(answer: SKleene) -> &'static str {

@@ -1,12 +1,13 @@
-//! The calls of intervals that the file names.
+//! The calls of intervals that the files name.
 
 use crate::answer::Answer;
 use crate::fact::Fact;
+use crate::read::{interval, optional};
 use intervallum::interval::Interval;
 use intervallum::ops::{
-    Cardinality, Contains, Difference, Disjoint, Entailment, Fits, Hull, Intersection,
-    ProperSubset, Range, ShrinkLeft, ShrinkRight, StrictShrinkLeft, StrictShrinkRight, Subset,
-    Whole,
+    Cardinality, Contains, Difference, Disjoint, Entailment, Fits, Hull, Intersection, IsEmpty,
+    IsSingleton, Join, Meet, Overlap, ProperSubset, ShrinkLeft, ShrinkRight, StrictShrinkLeft,
+    StrictShrinkRight, Subset, ToInterval, Whole,
 };
 use intervallum::optional::Optional;
 use intervallum::width::{SizeNumber, Width};
@@ -18,52 +19,28 @@ pub fn answer<B: Width + FromStr>(fact: &Fact<'_>) -> Option<Answer<B>>
 where
     B::Err: Drop,
 {
-    let Some(second) = fact.second else {
-        let size = interval::<B>(fact.first)?.size();
-        return (fact.call == "i.size").then_some(Answer::Size(size.number()));
-    };
-    if fact.call.starts_with("opt.") {
-        return with_optional(fact.call, &optional(fact.first)?, &interval(second)?);
-    }
     let a = interval(fact.first)?;
-    if second.contains(' ') {
-        with_interval(fact.call, a, interval(second)?)
-    } else {
-        with_value(fact.call, a, second.parse().ok()?)
+    let Some(second) = fact.second else {
+        return alone(fact.call, a);
+    };
+    if fact.call.ends_with("_o") {
+        return with_optional(fact.call, a, &optional(second)?);
     }
+    if let Ok(x) = second.parse() {
+        return with_value(fact.call, a, x);
+    }
+    with_interval(fact.call, a, interval(second)?)
 }
 
-/// Two numbers, which may cross.
-fn interval<B: Width + FromStr>(text: &str) -> Option<Interval<B>>
-where
-    B::Err: Drop,
-{
-    let (lower, upper) = text.split_once(' ')?;
-    let (lower, upper) = (lower.parse().ok()?, upper.parse().ok()?);
-    if Interval::in_range(lower, upper) {
-        Some(Interval::new(lower, upper))
-    } else {
-        None
-    }
-}
-
-/// A number, or `none`.
-fn optional<B: Width + FromStr>(text: &str) -> Option<Optional<B>>
-where
-    B::Err: Drop,
-{
-    if text == "none" {
-        return Some(Optional::empty());
-    }
-    Some(Optional::singleton(text.parse().ok()?))
-}
-
-fn with_optional<B: Width>(call: &str, a: &Optional<B>, b: &Interval<B>) -> Option<Answer<B>> {
-    Some(Answer::Value(match call {
-        "opt.intersection" => a.intersection(b),
-        "opt.difference" => a.difference(b),
+fn alone<B: Width>(call: &str, a: Interval<B>) -> Option<Answer<B>> {
+    Some(match call {
+        "i.size" => Answer::Size(a.size().number()),
+        "i.bounds" => Answer::Interval(a),
+        "i.to_interval" => Answer::Interval(a.to_interval()),
+        "i.is_empty" => Answer::Truth(a.is_empty()),
+        "i.is_singleton" => Answer::Truth(a.is_singleton()),
         _ => return None,
-    }))
+    })
 }
 
 fn with_interval<B: Width>(call: &str, a: Interval<B>, b: Interval<B>) -> Option<Answer<B>> {
@@ -71,14 +48,30 @@ fn with_interval<B: Width>(call: &str, a: Interval<B>, b: Interval<B>) -> Option
         "i.intersection" => Answer::Interval(a.intersection(&b)),
         "i.difference" => Answer::Interval(a.difference(&b)),
         "i.hull" => Answer::Interval(a.hull(&b)),
-        "i.add" if a.fits_add(&b) => Answer::Interval(a + b),
-        "i.sub" if a.fits_sub(&b) => Answer::Interval(a - b),
-        "i.mul" if a.fits_mul(&b) => Answer::Interval(a * b),
+        "i.join" => Answer::Interval(a.join(b)),
+        "i.meet" => Answer::Interval(a.meet(b)),
         "i.eq" => Answer::Truth(a == b),
+        "i.overlap" => Answer::Truth(a.overlap(&b)),
         "i.is_disjoint" => Answer::Truth(a.is_disjoint(&b)),
         "i.is_subset" => Answer::Truth(a.is_subset(&b)),
         "i.is_proper_subset" => Answer::Truth(a.is_proper_subset(&b)),
         "i.entail" => Answer::Entailment(a.entail(&b)),
+        _ => return arithmetic_with_interval(call, a, b),
+    })
+}
+
+fn arithmetic_with_interval<B: Width>(
+    call: &str,
+    a: Interval<B>,
+    b: Interval<B>,
+) -> Option<Answer<B>> {
+    Some(match call {
+        "i.fits_add" => Answer::Truth(a.fits_add(&b)),
+        "i.fits_sub" => Answer::Truth(a.fits_sub(&b)),
+        "i.fits_mul" => Answer::Truth(a.fits_mul(&b)),
+        "i.add" if a.fits_add(&b) => Answer::Interval(a + b),
+        "i.sub" if a.fits_sub(&b) => Answer::Interval(a - b),
+        "i.mul" if a.fits_mul(&b) => Answer::Interval(a * b),
         _ => return None,
     })
 }
@@ -86,6 +79,8 @@ fn with_interval<B: Width>(call: &str, a: Interval<B>, b: Interval<B>) -> Option
 fn with_value<B: Width>(call: &str, a: Interval<B>, x: B) -> Option<Answer<B>> {
     Some(match call {
         "i.contains" => Answer::Truth(a.contains(&x)),
+        "i.overlap_v" => Answer::Truth(a.overlap(&x)),
+        "i.is_disjoint_v" => Answer::Truth(a.is_disjoint(&x)),
         "i.intersection_v" => Answer::Interval(a.intersection(&x)),
         "i.difference_v" => Answer::Interval(a.difference(&x)),
         "i.hull_v" if Interval::whole().contains(&x) => Answer::Interval(a.hull(&x)),
@@ -93,9 +88,28 @@ fn with_value<B: Width>(call: &str, a: Interval<B>, x: B) -> Option<Answer<B>> {
         "i.shrink_right" => Answer::Interval(a.shrink_right(x)),
         "i.strict_shrink_left" => Answer::Interval(a.strict_shrink_left(x)),
         "i.strict_shrink_right" => Answer::Interval(a.strict_shrink_right(x)),
+        _ => return arithmetic_with_value(call, a, x),
+    })
+}
+
+fn arithmetic_with_value<B: Width>(call: &str, a: Interval<B>, x: B) -> Option<Answer<B>> {
+    Some(match call {
+        "i.fits_add_v" => Answer::Truth(a.fits_add(&x)),
+        "i.fits_sub_v" => Answer::Truth(a.fits_sub(&x)),
+        "i.fits_mul_v" => Answer::Truth(a.fits_mul(&x)),
         "i.add_v" if a.fits_add(&x) => Answer::Interval(a + x),
         "i.sub_v" if a.fits_sub(&x) => Answer::Interval(a - x),
         "i.mul_v" if a.fits_mul(&x) => Answer::Interval(a * x),
+        _ => return None,
+    })
+}
+
+fn with_optional<B: Width>(call: &str, a: Interval<B>, b: &Optional<B>) -> Option<Answer<B>> {
+    Some(match call {
+        "i.intersection_o" => Answer::Interval(a.intersection(b)),
+        "i.difference_o" => Answer::Interval(a.difference(b)),
+        "i.overlap_o" => Answer::Truth(a.overlap(b)),
+        "i.is_disjoint_o" => Answer::Truth(a.is_disjoint(b)),
         _ => return None,
     })
 }

@@ -1,6 +1,6 @@
-//! One line of the file of facts.
+//! One line of a file.
 
-/// A call at one type, its one or two operands, and the answer of the original crate, as text.
+/// A call at one type, its one or two operands, and the answer, as text.
 #[derive(Clone, Copy)]
 pub struct Fact<'a> {
     pub type_name: &'a str,
@@ -32,5 +32,20 @@ impl<'a> Fact<'a> {
     /// Whether the call is one of sets.
     pub fn is_of_sets(&self) -> bool {
         self.call.starts_with("s.")
+    }
+
+    /// Whether the call is one of lists of intervals.
+    pub fn is_of_lists(&self) -> bool {
+        self.call.starts_with("l.")
+    }
+
+    /// Whether the call is one of a value, or of a value that may be absent.
+    pub fn is_of_values(&self) -> bool {
+        self.call.starts_with("v.") || self.call.starts_with("opt.")
+    }
+
+    /// Whether the call prints an interval or a set.
+    pub fn is_of_texts(&self) -> bool {
+        self.call.contains(".display")
     }
 }

@@ -1,11 +1,15 @@
-//! Replays answers of the original crate: each line of a file is a call, its operands, and what the
-//! original answered. Prints each line that has another answer here, and how many agree.
+//! Replays answers that were not taken from this library: each line of a file is a call, its operands, and the answer
+//! that is right. Prints each line that has another answer here, and how many lines of each file agree.
 #![tactic(auto)]
 
 mod answer;
 mod calls;
 mod fact;
+mod lists;
+mod read;
 mod sets;
+mod texts;
+mod values;
 
 use anyhow::{Context, Result, ensure};
 use fact::Fact;
@@ -15,6 +19,7 @@ use std::env;
 use std::fmt::Display;
 use std::fs::File;
 use std::io::{BufRead, BufReader};
+use std::rt::Files;
 use std::str::FromStr;
 
 /// How the lines of a file went.
@@ -31,8 +36,14 @@ where
     B: Width + FromStr + Display,
     B::Err: Drop,
 {
-    let answer = if fact.is_of_sets() {
+    let answer = if fact.is_of_texts() {
+        texts::answer::<B>(alloc, fact)?
+    } else if fact.is_of_sets() {
         sets::answer::<B>(alloc, fact)?
+    } else if fact.is_of_lists() {
+        lists::answer::<B>(alloc, fact)?
+    } else if fact.is_of_values() {
+        values::answer::<B>(fact)
     } else {
         calls::answer::<B>(fact)
     };
@@ -47,10 +58,15 @@ where
 fn replay(alloc: Global, fact: &Fact<'_>) -> Result<Option<String>, AllocError> {
     match fact.type_name {
         "i8" => text_of_answer::<i8>(alloc, fact),
+        "i16" => text_of_answer::<i16>(alloc, fact),
         "i32" => text_of_answer::<i32>(alloc, fact),
         "i64" => text_of_answer::<i64>(alloc, fact),
+        "isize" => text_of_answer::<isize>(alloc, fact),
         "u8" => text_of_answer::<u8>(alloc, fact),
+        "u16" => text_of_answer::<u16>(alloc, fact),
+        "u32" => text_of_answer::<u32>(alloc, fact),
         "u64" => text_of_answer::<u64>(alloc, fact),
+        "usize" => text_of_answer::<usize>(alloc, fact),
         _ => Ok(None),
     }
 }
@@ -75,15 +91,26 @@ fn take(rt: &(impl Print + AllocGlobal), line: &str, tally: &mut Tally) -> Resul
     Ok(())
 }
 
-fn main(rt: HostRuntime) -> Result<()> {
-    let path = env::args(&rt)?.nth(1).context("give the file of facts")?;
-    let file = File::open(&rt, path.as_str())?;
+/// Replays the lines of a file.
+fn replay_file(rt: &(impl Print + AllocGlobal + Files), path: &str) -> Result<Tally> {
     let mut tally = Tally::default();
+    let file = File::open(rt, path).context(format_args!("opening {path:?}"))?;
     for line in BufReader::new(rt.alloc(), file)?.lines(rt.alloc()) {
-        take(&rt, line?.as_str(), &mut tally)?;
+        take(rt, line?.as_str(), &mut tally)?;
     }
-    println!(rt; "{} lines agree", tally.agreeing)?;
-    println!(rt; "{} lines have no answer here", tally.unanswered)?;
-    ensure!(tally.differing == 0, "{} lines differ", tally.differing);
+    Ok(tally)
+}
+
+fn main(rt: HostRuntime) -> Result<()> {
+    let mut differing: u64 = 0;
+    let mut unanswered: u64 = 0;
+    for path in env::args(&rt)?.skip(1) {
+        let tally = replay_file(&rt, path.as_str())?;
+        println!(rt; "{path}: {} lines agree", tally.agreeing)?;
+        differing = differing.saturating_add(tally.differing);
+        unanswered = unanswered.saturating_add(tally.unanswered);
+    }
+    ensure!(differing == 0, "{differing} lines differ");
+    ensure!(unanswered == 0, "{unanswered} lines have no answer here");
     Ok(())
 }

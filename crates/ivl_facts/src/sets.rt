@@ -1,14 +1,17 @@
-//! The calls of sets that the file names.
+//! The calls of sets that the files name.
 
 use crate::answer::Answer;
 use crate::fact::Fact;
+use crate::read::{optional, set};
 use intervallum::interval::Interval;
-use intervallum::interval_set::{IntervalSet, ToIntervalSet};
+use intervallum::interval_set::IntervalSet;
 use intervallum::ops::{
-    Complement, Contains, Difference, Entailment, Fits, Intersection, Overlap, ProperSubset, Range,
-    ShrinkLeft, ShrinkRight, StrictShrinkLeft, StrictShrinkRight, Subset, SymmetricDifference,
-    Union,
+    Complement, Contains, Difference, Disjoint, Entailment, Fits, Intersection, IsEmpty,
+    IsSingleton, Join, Meet, Overlap, ProperSubset, ShrinkLeft, ShrinkRight, StrictShrinkLeft,
+    StrictShrinkRight, Subset, SymmetricDifference, Union,
 };
+use intervallum::steps::{Probes, find};
+use intervallum::sweep::{Op, images};
 use intervallum::width::Width;
 use std::alloc::{AllocError, Global};
 use std::str::FromStr;
@@ -28,67 +31,26 @@ where
     let Some(second) = fact.second else {
         return alone(fact.call, a);
     };
-    if second == "-" || second.contains(' ') {
-        match set(alloc, second)? {
-            Some(b) => with_set(fact.call, &a, &b),
-            None => Ok(None),
-        }
-    } else {
-        match second.parse() {
-            Ok(x) => with_value(fact.call, &a, x),
-            Err(_) => Ok(None),
-        }
+    if fact.call == "s.overlap_o" {
+        return Ok(optional(second).map(|b| Answer::Truth(a.overlap(&b))));
     }
-}
-
-/// The set of runs `l u l u ..`, or of none, `-`.
-fn set<B: Width + FromStr>(alloc: Global, text: &str) -> Result<Option<IntervalSet<B>>, AllocError>
-where
-    B::Err: Drop,
-{
-    let Some(pairs) = pairs::<B>(alloc, text)? else {
-        return Ok(None);
-    };
-    if !pairs
-        .iter()
-        .all(|&(lower, upper)| Interval::in_range(lower, upper))
-    {
-        return Ok(None);
+    if let Ok(x) = second.parse() {
+        return with_value(fact.call, &a, x);
     }
-    Ok(Some(pairs.to_interval_set(alloc)?))
-}
-
-/// The numbers of a text, two by two.
-fn pairs<B: Width + FromStr>(alloc: Global, text: &str) -> Result<Option<Vec<(B, B)>>, AllocError>
-where
-    B::Err: Drop,
-{
-    let mut pairs = Vec::new(alloc);
-    if text == "-" {
-        return Ok(Some(pairs));
+    match set(alloc, second)? {
+        Some(b) => with_set(fact.call, &a, &b),
+        None => Ok(None),
     }
-    let mut lower = None;
-    for word in text.split(' ') {
-        let Ok(number) = word.parse() else {
-            return Ok(None);
-        };
-        lower = match lower {
-            Some(first) => {
-                pairs.push((first, number))?;
-                None
-            }
-            None => Some(number),
-        };
-    }
-    Ok(if lower.is_none() { Some(pairs) } else { None })
 }
 
 fn alone<B: Width>(call: &str, a: IntervalSet<B>) -> Result<Option<Answer<B>>, AllocError> {
     Ok(Some(match call {
         "s.from_pairs" => Answer::Set(a),
+        "s.try_clone" => Answer::Set(a.try_clone()?),
         "s.complement" => Answer::Set(a.complement()?),
         "s.count" => Answer::Count(a.interval_count()),
-        "s.display" => Answer::Displayed(a),
+        "s.is_empty" => Answer::Truth(a.is_empty()),
+        "s.is_singleton" => Answer::Truth(a.is_singleton()),
         _ => return Ok(None),
     }))
 }
@@ -103,14 +65,45 @@ fn with_set<B: Width>(
         "s.intersection" => Answer::Set(a.intersection(b)?),
         "s.difference" => Answer::Set(a.difference(b)?),
         "s.symmetric_difference" => Answer::Set(a.symmetric_difference(b)?),
-        "s.add" if a.fits_add(b) => Answer::Set((a + b)?),
-        "s.sub" if a.fits_sub(b) => Answer::Set((a - b)?),
-        "s.mul" if a.fits_mul(b) => Answer::Set((a * b)?),
         "s.eq" => Answer::Truth(a == b),
         "s.overlap" => Answer::Truth(a.overlap(b)),
+        "s.is_disjoint" => Answer::Truth(a.is_disjoint(b)),
         "s.is_subset" => Answer::Truth(a.is_subset(b)),
         "s.is_proper_subset" => Answer::Truth(a.is_proper_subset(b)),
         "s.entail" => Answer::Entailment(a.entail(b)),
+        "s.join" | "s.meet" => return consuming(call, a.try_clone()?, b.try_clone()?),
+        _ => return arithmetic_with_set(call, a, b),
+    }))
+}
+
+/// The calls that consume both sets.
+fn consuming<B: Width>(
+    call: &str,
+    a: IntervalSet<B>,
+    b: IntervalSet<B>,
+) -> Result<Option<Answer<B>>, AllocError> {
+    Ok(Some(Answer::Set(match call {
+        "s.join" => a.join(b)?,
+        "s.meet" => a.meet(b)?,
+        _ => return Ok(None),
+    })))
+}
+
+fn arithmetic_with_set<B: Width>(
+    call: &str,
+    a: &IntervalSet<B>,
+    b: &IntervalSet<B>,
+) -> Result<Option<Answer<B>>, AllocError> {
+    Ok(Some(match call {
+        "s.fits_add" => Answer::Truth(a.fits_add(b)),
+        "s.fits_sub" => Answer::Truth(a.fits_sub(b)),
+        "s.fits_mul" => Answer::Truth(a.fits_mul(b)),
+        "s.add" if a.fits_add(b) => Answer::Set((a + b)?),
+        "s.sub" if a.fits_sub(b) => Answer::Set((a - b)?),
+        "s.mul" if a.fits_mul(b) => Answer::Set((a * b)?),
+        "s.images_add" if a.fits_add(b) => Answer::List(images(a, b, Op::Sum)?),
+        "s.images_sub" if a.fits_sub(b) => Answer::List(images(a, b, Op::Difference)?),
+        "s.images_mul" if a.fits_mul(b) => Answer::List(images(a, b, Op::Product)?),
         _ => return Ok(None),
     }))
 }
@@ -122,6 +115,8 @@ fn with_value<B: Width>(
 ) -> Result<Option<Answer<B>>, AllocError> {
     Ok(Some(match call {
         "s.contains" => Answer::Truth(a.contains(&x)),
+        "s.overlap_v" => Answer::Truth(a.overlap(&x)),
+        "s.place" => Answer::Place(find(&mut Probes::new(a), x)),
         "s.union_v" if Interval::in_range(x, x) => Answer::Set(a.union(&x)?),
         "s.intersection_v" => Answer::Set(a.intersection(&x)?),
         "s.difference_v" => Answer::Set(a.difference(&x)?),
@@ -132,6 +127,19 @@ fn with_value<B: Width>(
         "s.shrink_right" => Answer::Set(a.shrink_right(x)?),
         "s.strict_shrink_left" => Answer::Set(a.strict_shrink_left(x)?),
         "s.strict_shrink_right" => Answer::Set(a.strict_shrink_right(x)?),
+        _ => return arithmetic_with_value(call, a, x),
+    }))
+}
+
+fn arithmetic_with_value<B: Width>(
+    call: &str,
+    a: &IntervalSet<B>,
+    x: B,
+) -> Result<Option<Answer<B>>, AllocError> {
+    Ok(Some(match call {
+        "s.fits_add_v" => Answer::Truth(a.fits_add(&x)),
+        "s.fits_sub_v" => Answer::Truth(a.fits_sub(&x)),
+        "s.fits_mul_v" => Answer::Truth(a.fits_mul(&x)),
         "s.add_v" if a.fits_add(&x) => Answer::Set((a + x)?),
         "s.sub_v" if a.fits_sub(&x) => Answer::Set((a - x)?),
         "s.mul_v" if a.fits_mul(&x) => Answer::Set((a * x)?),

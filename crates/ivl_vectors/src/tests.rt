@@ -1,21 +1,7 @@
-//! Tests of the interval crates through their public calls. Expected values are worked by hand.
-mod arithmetic;
-mod conversions;
+//! Tests of what no file of answers can name: own types of bounds, each form of an operand, walks and iterators, and
+//! the texts of `Debug`. Expected values are worked by hand.
 mod debug_texts;
-mod display_texts;
-mod ends;
 mod fixtures;
-mod intervals;
-mod many_runs;
 mod operands;
 mod own_types;
-mod ranges;
-mod set_arithmetic;
-mod set_building;
-mod set_fixtures;
-mod set_images;
-mod set_values;
 mod sets;
-mod touching;
-mod unions;
-mod values;

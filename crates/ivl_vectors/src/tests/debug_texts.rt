@@ -1,6 +1,6 @@
 //! The texts that derives of `Debug` print.
 
-use super::set_fixtures::ints;
+use super::fixtures::set_of;
 use intervallum::kleene::SKleene;
 use intervallum::optional::Optional;
 use intervallum::steps::Place;
@@ -23,13 +23,13 @@ fn check_debug(
 
 #[test]
 fn sets_and_small_values(rt: HostRuntime) -> Result<(), Fail> {
-    let set = ints(&rt, &[(1, 2), (5, 5)])?;
+    let set = set_of::<i32>(&rt, &[(1, 2), (5, 5)])?;
     let text =
         "IntervalSet { intervals: [Interval { lb: 1, ub: 2 }, Interval { lb: 5, ub: 5 }], size: 3 }";
     check_debug(&rt, &set, text)?;
     check_debug(
         &rt,
-        &ints(&rt, &[])?,
+        &set_of::<i32>(&rt, &[])?,
         "IntervalSet { intervals: [], size: 0 }",
     )?;
     check_debug(&rt, &SKleene::Unknown, "Unknown")?;

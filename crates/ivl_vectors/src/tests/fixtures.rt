@@ -1,13 +1,15 @@
-//! Intervals and sets from pairs of numbers, and pairs of numbers from them.
+//! Intervals and sets from pairs of numbers, and pairs of numbers and texts from them.
 ghost use Rattle.std.specs.Prelude.{◌≡◌};
 ghost use Rattle.ivl_laws.specs.Sets.{IsBetween};
 
 use intervallum::interval::Interval;
 use intervallum::interval_set::IntervalSet;
-use intervallum::ops::{Bounded, Cardinality, Fits, IsEmpty, Range, Union};
-use intervallum::width::{SizeNumber, Width};
+use intervallum::ops::{Bounded, IsEmpty, Range, Union};
+use intervallum::width::Width;
 use std::alloc::{AllocError, Global};
+use std::fmt::Display;
 use std::process::Abort;
+use std::test::Fail;
 
 /// The numbers of the bounds of an interval; none where it has no member.
 pub type Pair = Option<(i128, i128)>;
@@ -25,15 +27,14 @@ pub fn interval_of<B: Width>(rt: &impl Abort, (lower, upper): (i128, i128)) -> I
     Interval::new(value_of(rt, lower), value_of(rt, upper))
 }
 
-/// The union of some pairs, each of which is in the range and not crossed.
+/// The union of some pairs, each of which is in the range.
 pub fn set_of<B: Width>(
     rt: &(impl Alloc<A = Global> + Abort),
     pairs: &[(i128, i128)],
 ) -> Result<IntervalSet<B>, AllocError> {
     let mut set = IntervalSet::empty(rt.alloc());
-    for &(lower, upper) in pairs {
-        assert!(rt; lower <= upper, "a pair is crossed");
-        let run = IntervalSet::new(rt.alloc(), value_of(rt, lower), value_of(rt, upper))?;
+    for &pair in pairs {
+        let run = IntervalSet::of(rt.alloc(), interval_of(rt, pair))?;
         set = set.union(&run)?;
     }
     Ok(set)
@@ -58,43 +59,14 @@ pub fn has_runs<B: Width>(set: &IntervalSet<B>, pairs: &[(i128, i128)]) -> bool 
     rest.next().is_none()
 }
 
-/// The number of members.
-pub fn size_of<B: Width>(set: &IntervalSet<B>) -> u128 {
-    set.size().number()
-}
-
-/// The sums of two intervals, which fit.
-pub fn sums<B: Width>(rt: &impl Abort, a: &Interval<B>, b: &Interval<B>) -> Pair {
-    assert!(rt; a.fits_add(b), "the sums fit");
-    pair_of(&(a + b))
-}
-
-/// The differences of two intervals, which fit.
-pub fn differences<B: Width>(rt: &impl Abort, a: &Interval<B>, b: &Interval<B>) -> Pair {
-    assert!(rt; a.fits_sub(b), "the differences fit");
-    pair_of(&(a - b))
-}
-
-/// What holds the products of two intervals, which fit.
-pub fn products<B: Width>(rt: &impl Abort, a: &Interval<B>, b: &Interval<B>) -> Pair {
-    assert!(rt; a.fits_mul(b), "the products fit");
-    pair_of(&(a * b))
-}
-
-/// The sums of an interval and a value, which fit.
-pub fn sums_with<B: Width>(rt: &impl Abort, a: &Interval<B>, x: B) -> Pair {
-    assert!(rt; a.fits_add(&x), "the sums fit");
-    pair_of(&(a + x))
-}
-
-/// The differences of an interval and a value, which fit.
-pub fn differences_with<B: Width>(rt: &impl Abort, a: &Interval<B>, x: B) -> Pair {
-    assert!(rt; a.fits_sub(&x), "the differences fit");
-    pair_of(&(a - x))
-}
-
-/// What holds the products of an interval and a value, which fit.
-pub fn products_with<B: Width>(rt: &impl Abort, a: &Interval<B>, x: B) -> Pair {
-    assert!(rt; a.fits_mul(&x), "the products fit");
-    pair_of(&(a * x))
+/// Each value is printed as the text beside it.
+pub fn check_texts<T: Display>(
+    rt: &(impl Alloc<A = Global> + Abort),
+    rows: &[(T, &str)],
+) -> Result<(), Fail> {
+    let alloc = rt.alloc();
+    for (value, text) in rows {
+        assert_eq!(rt; format!(in alloc; "{value}")?.as_str(), *text);
+    }
+    Ok(())
 }

@@ -1,12 +1,13 @@
 //! Sets and intervals over the two types of bounds of this crate.
 
-use super::fixtures::{has_runs, interval_of, pair_of, products, products_with, set_of, sums_with};
+use super::fixtures::{check_texts, interval_of, pair_of, set_of};
 use crate::bit::Bit;
 use crate::narrow::Narrow;
 use intervallum::interval::Interval;
+use intervallum::interval_set::IntervalSet;
 use intervallum::ops::{
-    Cardinality, Contains, Empty, Fits, Intersection, ShrinkLeft, ShrinkRight, StrictShrinkLeft,
-    StrictShrinkRight, Union, Whole,
+    Cardinality, Complement, Contains, Difference, Empty, Fits, Intersection, ShrinkLeft,
+    ShrinkRight, StrictShrinkLeft, StrictShrinkRight, Union, Whole,
 };
 use intervallum::width::Width;
 use std::test::Fail;
@@ -16,79 +17,114 @@ fn narrow(value: i16) -> Narrow {
 }
 
 #[test]
-fn narrow_runs_are_joined(rt: HostRuntime) -> Result<(), Fail> {
-    let zero = set_of::<Narrow>(&rt, &[(0, 0)])?;
-    let others = set_of(&rt, &[(1, 100), (-100, -1)])?;
-    assert!(rt; has_runs(&others, &[(-100, -1), (1, 100)]));
-    assert_eq!(rt; others.size(), 200);
-    let all = others.union(&zero)?;
-    assert!(rt; has_runs(&all, &[(-100, 100)]));
-    assert_eq!(rt; all.size(), 201);
-    assert!(rt; !all.contains(&narrow(5000)) && !all.contains(&narrow(-101)));
-    Ok(())
-}
-
-#[test]
-fn narrow_range(rt: HostRuntime) {
-    let whole = Interval::<Narrow>::whole();
-    assert_eq!(rt; whole.size(), 201);
-    assert!(rt; whole.contains(&narrow(-100)) && whole.contains(&narrow(100)));
-    assert!(rt; !whole.contains(&narrow(5000)) && !whole.contains(&narrow(101)));
-    assert!(rt; !Interval::in_range(narrow(-101), narrow(0)));
-    assert_eq!(rt; Narrow::from_number(101), None);
-    assert_eq!(rt; Narrow::from_number(-100), Some(narrow(-100)));
-}
-
-#[test]
-fn bits_are_joined(rt: HostRuntime) -> Result<(), Fail> {
-    let zero = set_of::<Bit>(&rt, &[(0, 0)])?;
-    let one = set_of(&rt, &[(1, 1)])?;
-    assert!(rt; zero.contains(&Bit::Zero) && !zero.contains(&Bit::One));
-    let all = one.union(&zero)?;
-    assert!(rt; has_runs(&all, &[(0, 1)]));
-    assert_eq!(rt; all.size(), 2);
-    assert_eq!(rt; Interval::<Bit>::whole().size(), 2);
+fn ranges(rt: HostRuntime) {
+    let (numbers, bits) = (Interval::<Narrow>::whole(), Interval::<Bit>::whole());
+    assert_eq!(rt; (numbers.size(), bits.size()), (201, 2));
+    let members = [
+        numbers.contains(&narrow(-100)),
+        numbers.contains(&narrow(100)),
+        numbers.contains(&narrow(5000)),
+        numbers.contains(&narrow(101)),
+        Interval::in_range(narrow(-101), narrow(0)),
+    ];
+    assert_eq!(rt; members, [true, true, false, false, false]);
+    let values = [Narrow::from_number(101), Narrow::from_number(-100)];
+    assert_eq!(rt; values, [None, Some(narrow(-100))]);
     assert_eq!(rt; Bit::from_number(2), None);
-    Ok(())
 }
 
 #[test]
 fn texts_of_intervals(rt: HostRuntime) -> Result<(), Fail> {
-    let alloc = rt.alloc();
-    let whole = Interval::<Narrow>::whole();
-    assert_eq!(rt; format!(in alloc; "{whole}")?.as_str(), "[-100..100]");
+    check_texts(&rt, &[(Interval::<Narrow>::whole(), "[-100..100]")])?;
     let bits = Interval::<Bit>::whole();
-    assert_eq!(rt; format!(in alloc; "{bits}")?.as_str(), "[0..1]");
     let none = bits.intersection(&Interval::empty());
-    assert_eq!(rt; format!(in alloc; "{none}")?.as_str(), "{}");
-    Ok(())
+    check_texts(&rt, &[(bits, "[0..1]"), (none, "{}")])
 }
 
 #[test]
-fn narrow_cuts(rt: HostRuntime) {
+fn cuts(rt: HostRuntime) {
     let (whole, all) = (Interval::<Narrow>::whole(), Some((-100, 100)));
-    assert_eq!(rt; pair_of(&whole.strict_shrink_left(narrow(-5000))), all);
-    assert_eq!(rt; pair_of(&whole.strict_shrink_right(narrow(5000))), all);
-    assert_eq!(rt; pair_of(&whole.shrink_left(narrow(101))), None);
-    assert_eq!(rt; pair_of(&whole.shrink_right(narrow(-101))), None);
-    assert_eq!(rt; pair_of(&whole.strict_shrink_left(narrow(100))), None);
+    let cuts = [
+        pair_of(&whole.strict_shrink_left(narrow(-5000))),
+        pair_of(&whole.strict_shrink_right(narrow(5000))),
+        pair_of(&whole.shrink_left(narrow(101))),
+        pair_of(&whole.shrink_right(narrow(-101))),
+        pair_of(&whole.strict_shrink_left(narrow(100))),
+    ];
+    assert_eq!(rt; cuts, [all, all, None, None, None]);
 }
 
 #[test]
-fn narrow_arithmetic(rt: HostRuntime) {
-    let (low, high) = (
-        interval_of(&rt, (-100, -100)),
-        interval_of::<Narrow>(&rt, (100, 100)),
-    );
-    assert_eq!(rt; sums_with(&rt, &low, narrow(150)), Some((50, 50)));
-    assert!(rt; !high.fits_add(&narrow(1)) && high.fits_add(&narrow(-200)));
-    let fifty = interval_of(&rt, (50, 50));
-    assert_eq!(rt; products_with(&rt, &fifty, narrow(2)), Some((100, 100)));
+fn arithmetic_of_narrow_numbers(rt: HostRuntime) {
+    let low = interval_of::<Narrow>(&rt, (-100, -100));
+    let high = interval_of::<Narrow>(&rt, (100, 100));
+    let fifty = interval_of::<Narrow>(&rt, (50, 50));
+    let (more, two) = (narrow(150), narrow(2));
+    let facts = [
+        low.fits_add(&more) && pair_of(&(low + more)) == Some((50, 50)),
+        fifty.fits_mul(&two) && pair_of(&(fifty * two)) == Some((100, 100)),
+        high.fits_add(&narrow(-200)),
+        !high.fits_add(&narrow(1)),
+    ];
+    assert_eq!(rt; facts, [true; 4]);
 }
 
 #[test]
-fn bit_arithmetic(rt: HostRuntime) {
+fn arithmetic_of_bits(rt: HostRuntime) {
     let (one, both) = (interval_of::<Bit>(&rt, (1, 1)), Interval::whole());
-    assert!(rt; !one.fits_add(&one) && one.fits_sub(&both) && !both.fits_sub(&one));
-    assert_eq!(rt; products(&rt, &both, &both), Some((0, 1)));
+    let facts = [
+        both.fits_mul(&both) && pair_of(&(both * both)) == Some((0, 1)),
+        one.fits_sub(&both),
+        !both.fits_sub(&one),
+        !one.fits_add(&one),
+    ];
+    assert_eq!(rt; facts, [true; 4]);
+}
+
+#[test]
+fn sets_of_narrow_numbers(rt: HostRuntime) -> Result<(), Fail> {
+    let zero = set_of::<Narrow>(&rt, &[(0, 0)])?;
+    let others = set_of(&rt, &[(1, 100), (-100, -1)])?;
+    let (rest, all) = (zero.complement()?, others.union(&zero)?);
+    let whole = IntervalSet::<Narrow>::whole(rt.alloc())?;
+    let sizes = [others.size(), rest.size(), all.size(), whole.size()];
+    assert_eq!(rt; sizes, [200, 200, 201, 201]);
+    let members = [all.contains(&narrow(5000)), all.contains(&narrow(-101))];
+    assert_eq!(rt; members, [false, false]);
+    let rows = [
+        (others, "{[-100..-1][1..100]}"),
+        (rest, "{[-100..-1][1..100]}"),
+        (all, "[-100..100]"),
+        (whole.complement()?, "{}"),
+    ];
+    check_texts(&rt, &rows)
+}
+
+#[test]
+fn narrow_numbers_beside_the_whole_range(rt: HostRuntime) -> Result<(), Fail> {
+    let whole = IntervalSet::<Narrow>::whole(rt.alloc())?;
+    let rows = [
+        (whole.intersection(&narrow(5000))?, "{}"),
+        (whole.difference(&narrow(5000))?, "[-100..100]"),
+        (whole.strict_shrink_right(narrow(5000))?, "[-100..100]"),
+        (whole.shrink_left(narrow(101))?, "{}"),
+        (whole.shrink_right(narrow(-101))?, "{}"),
+        (whole.strict_shrink_left(narrow(100))?, "{}"),
+    ];
+    check_texts(&rt, &rows)
+}
+
+#[test]
+fn sets_of_bits(rt: HostRuntime) -> Result<(), Fail> {
+    let (zero, one) = (set_of::<Bit>(&rt, &[(0, 0)])?, set_of(&rt, &[(1, 1)])?);
+    let (all, whole) = (one.union(&zero)?, IntervalSet::<Bit>::whole(rt.alloc())?);
+    assert_eq!(rt; [all.size(), whole.size()], [2, 2]);
+    let members = [zero.contains(&Bit::Zero), zero.contains(&Bit::One)];
+    assert_eq!(rt; members, [true, false]);
+    let rows = [
+        (all, "[0..1]"),
+        (whole.complement()?, "{}"),
+        (zero.complement()?, "[1..1]"),
+    ];
+    check_texts(&rt, &rows)
 }
