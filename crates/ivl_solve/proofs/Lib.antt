@@ -1,1 +1,3 @@
+pub mod Ranges
 pub mod Requiring
+pub mod Splits

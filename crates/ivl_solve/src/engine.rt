@@ -1,5 +1,5 @@
 //! The program's engine.
-ghost use Rattle.std.specs.Prelude.{◌≡◌, ◌<◌, IfSome, OnOk, length};
+ghost use Rattle.std.specs.Prelude.{◌≡◌, ◌==◌, ◌++◌, ◌∷◌, IfNone, IfSome, None, OnOk, Some, length, position};
 ghost use Rattle.std.specs.Io.KnownBytes.{IsAtEnd};
 ghost use Rattle.ivl_solve.specs.Outcome.{outcome_of};
 
@@ -115,7 +115,9 @@ fn answer_piece<W: Write>(
 
 // The bytes before the first newline and those after it, or `None` if there is no newline.
 fn split_line(bytes: &[u8]) -> Option<(&[u8], &[u8])>
-    ensures { IfSome result (λ parts. length parts.1.now < length bytes.now) }
+    ensures none { IfNone result (position (λ byte. byte == 10) bytes.now ≡ None) }
+    ensures first { IfSome result (λ parts. position (λ byte. byte == 10) bytes.now ≡ Some (length parts.0.now)) }
+    ensures parts { IfSome result (λ parts. bytes.now ≡ parts.0.now ++ 10 ∷ parts.1.now) }
 {
     let at = bytes.iter().position(|byte| *byte == b'\n')?;
     Some((&bytes[..at], &bytes[at + 1..]))

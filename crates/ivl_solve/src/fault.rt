@@ -39,9 +39,10 @@ impl<'a> From<AllocError> for Fault<'a> {
 }
 
 impl<'a> From<StoreFault> for Fault<'a> {
-    ghost use Rattle.ivl_solve.specs.Faults.{IsOfLine};
+    ghost use Rattle.std.specs.Prelude.{◌≡◌, None};
+    ghost use Rattle.ivl_solve.specs.Faults.{told_of};
 
-    ghost from_gives = { λ _ fault. ¬ (IsOfLine fault) };
+    ghost from_gives = { λ _ fault. told_of fault ≡ None };
 
     fn from(fault: StoreFault) -> Fault<'a> {
         match fault {

@@ -1,7 +1,8 @@
 //! What a line asks for.
-ghost use Rattle.std.specs.Prelude.{◌≡◌, IfOk, Some};
+ghost use Rattle.std.specs.Prelude.{◌≡◌, ◌≢◌, [], IfErr, IfOk, IsSome, IsTrue, None, Some, option_map};
 ghost use Rattle.ivl_words.specs.Words.{words_between};
-ghost use Rattle.ivl_solve.specs.Requests.{asked_of, name_and_pairs, request_of};
+ghost use Rattle.ivl_solve.specs.Faults.{told_of};
+ghost use Rattle.ivl_solve.specs.Requests.{asked_of, first_bad_number_of, name_and_pairs, needs_list, request_of, why_no_pairs, why_no_request};
 
 use crate::fault::Fault;
 use ivl_words::{next_word, number_from, pairs_from, three_words};
@@ -39,7 +40,10 @@ pub fn request_from<'a>(
     name: &'a str,
     words: &'a str,
 ) -> Result<Request<'a>, Fault<'a>>
-    ensures { IfOk result (λ request. request_of name.entry.now (words_between words.entry.now) ≡ Some (asked_of request)) }
+    ensures ok { IfOk result (λ request. request_of name.entry.now (words_between words.entry.now) ≡ Some (asked_of request)) }
+    ensures refused { IfErr result (λ fault. IsSome (told_of fault) → request_of name.entry.now (words_between words.entry.now) ≡ None) }
+    ensures fault { IfErr result (λ fault. IsSome (told_of fault) → told_of fault ≡ Some (why_no_request name.entry.now (words_between words.entry.now))) }
+    ensures memory { IfErr result (λ fault. told_of fault ≡ None → IsTrue (needs_list name.entry.now (words_between words.entry.now))) }
 {
     match name {
         "var" => {
@@ -68,7 +72,10 @@ fn variable_and_pairs<'a>(
     words: &'a str,
     form: &'static str,
 ) -> Result<(&'a str, Vec<(i64, i64)>), Fault<'a>>
-    ensures { IfOk result (λ read. name_and_pairs (words_between words.entry.now) ≡ Some (read.0.now, read.1.items)) }
+    ensures ok { IfOk result (λ read. name_and_pairs (words_between words.entry.now) ≡ Some (read.0.now, read.1.items)) }
+    ensures refused { IfErr result (λ fault. IsSome (told_of fault) → name_and_pairs (words_between words.entry.now) ≡ None) }
+    ensures fault { IfErr result (λ fault. IsSome (told_of fault) → told_of fault ≡ Some (why_no_pairs form.entry.now (words_between words.entry.now))) }
+    ensures memory { IfErr result (λ fault. told_of fault ≡ None → words_between words.entry.now ≢ []) }
 {
     let Some((variable, bounds)) = next_word(words) else {
         return Err(Fault::Form(form));
@@ -83,7 +90,9 @@ fn variable_and_pairs<'a>(
 }
 
 /// The first word that is no number.
-fn first_bad_number(words: &str) -> Option<&str> {
+fn first_bad_number(words: &str) -> Option<&str>
+    ensures { option_map (λ word. word.now) result ≡ first_bad_number_of (words_between words.entry.now) }
+{
     let mut rest = words;
     while let Some((word, after)) = next_word(rest) {
         if number_from(word).is_none() {

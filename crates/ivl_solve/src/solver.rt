@@ -1,13 +1,13 @@
 //! The variables by name, their domains, and the sums that hold between them.
-ghost use Rattle.std.specs.Prelude.{◌≡◌, ◌∷◌, ◌++◌, ◌↔◌, [], Some, Any, IfErr, IfOk, IsTrue, OnErr, OnOk, bytes_eq, map, position, string_bytes};
+ghost use Rattle.std.specs.Prelude.{◌≡◌, ◌∷◌, ◌++◌, ◌↔◌, [], Some, Any, IfErr, IfOk, IsSome, IsTrue, None, OnErr, OnOk, bytes_eq, map, position, string_bytes};
 ghost use Rattle.ivl_laws.specs.Runs.{Covers, IsRunsOf};
 ghost use Rattle.ivl_laws.specs.Families.{set_at};
 ghost use Rattle.ivl_store.specs.Posts.{IsLeftBy};
 ghost use Rattle.ivl_store.specs.Solutions.{AreDistinct};
 ghost use Rattle.ivl_store.specs.declared.store.post.Post.TheVariants.{Restrict};
-ghost use Rattle.ivl_solve.specs.Faults.{IsOfLine};
-ghost use Rattle.ivl_solve.specs.Requests.{asked_of};
-ghost use Rattle.ivl_solve.specs.Solving.{Adds, Carries, Cuts, Defines, index_of as index_in, required as required_by};
+ghost use Rattle.ivl_solve.specs.Faults.{told_of, unknown};
+ghost use Rattle.ivl_solve.specs.Requests.{asked_of, cut as cut_of, sum as sum_of, var as var_of};
+ghost use Rattle.ivl_solve.specs.Solving.{Adds, Carries, Cuts, Defines, fault_of, index_of as index_in, range_fault, required as required_by};
 
 use crate::fault::Fault;
 use crate::request::Request;
@@ -56,7 +56,9 @@ impl Solver {
     /// Carries out what a line asks for. A fault of the line changes nothing.
     pub fn carry_out<'a>(&mut self, request: Request<'a>) -> Result<(), Fault<'a>>
         ensures carried { OnOk result (Carries (asked_of request.entry) self.old self.new) }
-        ensures refused { IfErr result (λ fault. IsOfLine fault → self.new ≡ self.old) }
+        ensures no_fault { OnOk result (fault_of (asked_of request.entry) self.old ≡ None) }
+        ensures fault { IfErr result (λ fault. told_of fault ≡ fault_of (asked_of request.entry) self.old) }
+        ensures refused { IfErr result (λ fault. IsSome (told_of fault) → self.new ≡ self.old) }
     {
         match request {
             Request::Var(name, pairs) => self.define(name, &pairs),
@@ -90,6 +92,8 @@ impl Solver {
     /// Adds a variable, whose domain is the union of the pairs.
     fn define<'a>(&mut self, name: &'a str, pairs: &[(i64, i64)]) -> Result<(), Fault<'a>>
         ensures ok { OnOk result (Defines name.now pairs.now self.old self.new) }
+        ensures no_fault { OnOk result (fault_of (var_of name.now pairs.now) self.old ≡ None) }
+        ensures fault { IfErr result (λ fault. told_of fault ≡ fault_of (var_of name.now pairs.now) self.old) }
         ensures err { OnErr result (self.new ≡ self.old) }
     {
         if self.index_of(name).is_some() {
@@ -118,7 +122,9 @@ impl Solver {
     /// Keeps the members of a domain that are in the union of the pairs.
     fn cut<'a>(&mut self, name: &'a str, pairs: &[(i64, i64)]) -> Result<(), Fault<'a>>
         ensures ok { OnOk result (Cuts name.now pairs.now self.old self.new) }
-        ensures refused { IfErr result (λ fault. IsOfLine fault → self.new ≡ self.old) }
+        ensures no_fault { OnOk result (fault_of (cut_of name.now pairs.now) self.old ≡ None) }
+        ensures fault { IfErr result (λ fault. told_of fault ≡ fault_of (cut_of name.now pairs.now) self.old) }
+        ensures refused { IfErr result (λ fault. IsSome (told_of fault) → self.new ≡ self.old) }
     {
         let variable = self.known(name)?;
         let allowed = set_of(self.alloc, pairs)?;
@@ -129,7 +135,9 @@ impl Solver {
     /// Requires that two variables add to a third.
     fn sum<'a>(&mut self, x: &'a str, y: &'a str, z: &'a str) -> Result<(), Fault<'a>>
         ensures ok { OnOk result (Adds x.now y.now z.now self.old self.new) }
-        ensures refused { IfErr result (λ fault. IsOfLine fault → self.new ≡ self.old) }
+        ensures no_fault { OnOk result (fault_of (sum_of x.now y.now z.now) self.old ≡ None) }
+        ensures fault { IfErr result (λ fault. told_of fault ≡ fault_of (sum_of x.now y.now z.now) self.old) }
+        ensures refused { IfErr result (λ fault. IsSome (told_of fault) → self.new ≡ self.old) }
     {
         let sum = Constraint {
             x: self.known(x)?,
@@ -145,7 +153,9 @@ impl Solver {
 
     /// The variable of a name.
     fn known<'a>(&self, name: &'a str) -> Result<usize, Fault<'a>>
-        ensures { IfOk result (λ i. index_in self.now.names name.now ≡ Some i) }
+        ensures ok { IfOk result (λ i. index_in self.now.names name.now ≡ Some i) }
+        ensures none { IfErr result (λ fault. index_in self.now.names name.now ≡ None) }
+        ensures fault { IfErr result (λ fault. told_of fault ≡ Some (unknown name.now)) }
     {
         self.index_of(name).ok_or(Fault::Unknown(name))
     }
@@ -226,7 +236,9 @@ fn required(alloc: Global, constraints: &[Constraint]) -> Result<Vec<Post<i64>>,
 
 /// The union of the pairs; a reversed pair adds nothing.
 fn set_of<'a>(alloc: Global, pairs: &[(i64, i64)]) -> Result<IntervalSet<i64>, Fault<'a>>
-    ensures { IfOk result (λ L. IsRunsOf L (Covers pairs.now)) }
+    ensures union { IfOk result (λ L. IsRunsOf L (Covers pairs.now)) }
+    ensures no_fault { OnOk result (range_fault pairs.now ≡ None) }
+    ensures fault { IfErr result (λ fault. told_of fault ≡ range_fault pairs.now) }
 {
     if !pairs
         .iter()
