@@ -14,6 +14,7 @@ pub mod Singles
 pub mod Building
 pub mod Meeting
 pub mod Leading
+pub mod Listing
 pub mod Parting
 pub mod Alternating
 pub mod Windows

@@ -22,7 +22,7 @@ mod neighbours;
 mod operands;
 mod reading;
 mod room;
-mod runs;
+pub(crate) mod runs;
 mod shrinks;
 mod text;
 mod values;

@@ -7,7 +7,7 @@ ghost use Rattle.ivl_laws.specs.Bounds.{width_of};
 
 use super::IntervalSet;
 use crate::interval::Interval;
-use crate::ops::{Bounded, Cardinality, Range, StrictShrinkLeft};
+use crate::ops::{Bounded, Cardinality, IsEmpty, Range, StrictShrinkLeft};
 use crate::width::{SizeNumber, Width};
 use std::alloc::{AllocError, Global};
 
@@ -161,8 +161,30 @@ pub(super) fn grown<B: Width>(size: B::Output, more: B::Output) -> B::Output
     size.add_in_range(more)
 }
 
+/// The intervals are a list of runs: none is empty, they ascend, and a number is free between neighbours.
+pub(crate) fn are_runs<B: Width>(list: &[Interval<B>]) -> bool
+    ensures { IsTrue result → IsRunListIn B.whole list.now }
+{
+    let Some((first, rest)) = list.split_first() else {
+        return true;
+    };
+    if first.is_empty() {
+        return false;
+    }
+    first.in_whole();
+    let mut last = *first;
+    for run in rest {
+        if run.is_empty() || joins(&last, run) {
+            return false;
+        }
+        run.in_whole();
+        last = *run;
+    }
+    true
+}
+
 /// How many numbers runs cover.
-pub(super) fn size_of_runs<B: Width>(runs: &[Interval<B>]) -> B::Output
+pub(crate) fn size_of_runs<B: Width>(runs: &[Interval<B>]) -> B::Output
     requires { IsRunListIn B.whole runs.now }
     ensures { IsCountOf (B.Output.size result) (Covers runs.now) }
 {

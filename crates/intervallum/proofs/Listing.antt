@@ -1,0 +1,53 @@
+-- Intervals that are looked at in turn: those so far are a list of runs, and end where the last one does.
+use Rattle.std.proofs.Common.{◌≡◌, ⊎_elim, ℕ, ◌+◌, ◌<◌, ◌≤◌, ℤ, pos, ◌+ℤ◌, ◌≤ℤ◌, ◌<ℤ◌, List, [], ◌∷◌, ◌++◌, take, length, get_or, take_all, refl, ap, sym, ◌∙◌, arith}
+use Rattle.std.proofs.lemmas.Int.{ints, by_lt_z}
+use Rattle.std.proofs.lemmas.List.{take_more}
+use Rattle.ivl_laws.specs.Sets.{IsBetween, IsSubset}
+use Rattle.ivl_laws.specs.Runs.{AddsRun, Covers, IsRunListIn}
+use Rattle.ivl_laws.proofs.Adding.{adds_to_none}
+use Rattle.intervallum.proofs.Building.{adds_above}
+
+pub record AreRunsTo (p whole : ℤ × ℤ) (L : List (ℤ × ℤ)) : Type 0 where
+  pub list : IsRunListIn whole L
+  pub filled : p.0 ≤ℤ p.1
+  pub ends : (z : ℤ) → Covers L z → z ≤ℤ p.1
+
+runs_to : (q whole : ℤ × ℤ) (L M : List (ℤ × ℤ)) → AddsRun L q M → IsSubset (Covers L) (IsBetween whole) → ((z : ℤ) → Covers L z → z ≤ℤ q.1) → q.0 ≤ℤ q.1
+    → IsSubset (IsBetween q) (IsBetween whole) → AreRunsTo q whole M
+runs_to q whole L M a inside ends o w = record {
+  list = record { maximal = a.runs.maximal; within = λ z c. ⊎_elim (inside z) (w z) ((a.runs.members z).0 c) };
+  filled = o;
+  ends = λ z c. ⊎_elim (ends z) (λ b. b.1) ((a.runs.members z).0 c);
+}
+
+one_run_more : (p q whole : ℤ × ℤ) (L : List (ℤ × ℤ)) → AreRunsTo p whole L → q.0 ≤ℤ q.1 → ¬ (q.0 ≤ℤ (p.1 +ℤ pos 1)) → IsSubset (IsBetween q) (IsBetween whole)
+    → AreRunsTo q whole (L ++ q ∷ [])
+one_run_more p q whole L r o apart w =
+    let below : (p.1 +ℤ pos 1) <ℤ q.0 = by_lt_z (p.1 +ℤ pos 1) q.0 (λ l. l) (λ k. absurd (apart k)) in
+    runs_to q whole L _
+    (adds_above L q r.list.maximal o (λ x y c b. let e = r.ends x c in let s = b.0 in omega (arith, ints, e, s, below)))
+    r.list.within (λ z c. let e = r.ends z c in omega (arith, ints, e, below, o)) o w
+
+-- How far a loop over the runs after the first has come.
+pub record IsReadTo (p whole : ℤ × ℤ) (list rest : List (ℤ × ℤ)) (k : ℕ) : Type 0 where
+  pub first : ℤ × ℤ
+  pub is : list ≡ first ∷ rest
+  pub runs : AreRunsTo p whole (first ∷ take k rest)
+
+pub first_is_read : (p whole : ℤ × ℤ) (list rest : List (ℤ × ℤ)) → list ≡ p ∷ rest → p.0 ≤ℤ p.1 → IsSubset (IsBetween p) (IsBetween whole) → IsReadTo p whole list rest 0
+first_is_read p whole list rest e o w = record {
+  first = p;
+  is = e;
+  runs = runs_to p whole [] _ (adds_to_none [] p refl o) (λ z n. absurd n) (λ z n. absurd n) o w;
+}
+
+pub next_is_read : (p q whole : ℤ × ℤ) (list rest : List (ℤ × ℤ)) (k : ℕ) → IsReadTo p whole list rest k → k < length rest → q ≡ get_or rest k q → q.0 ≤ℤ q.1
+    → ¬ (q.0 ≤ℤ (p.1 +ℤ pos 1)) → IsSubset (IsBetween q) (IsBetween whole) → IsReadTo q whole list rest (k + 1)
+next_is_read p q whole list rest k r h e o apart w = record {
+  first = r.first;
+  is = r.is;
+  runs = rw (take_more rest k q h ∙ ap (λ y. take k rest ++ y ∷ []) (sym e)) (one_run_more p q whole (r.first ∷ take k rest) r.runs o apart w);
+}
+
+pub all_are_read : (p whole : ℤ × ℤ) (list rest : List (ℤ × ℤ)) (k : ℕ) → IsReadTo p whole list rest k → length rest ≤ k → IsRunListIn whole list
+all_are_read p whole list rest k r h = rw (r.is ∙ ap (λ l. r.first ∷ l) (sym (take_all k rest h))) r.runs.list
