@@ -85,17 +85,18 @@ static const struct {
     {"overlap", overlap}, {"equal", equal}, {"size", size_of}, {"first_fit", first_fit},
 };
 
+/* No list is in order, so that each has to be sorted. */
+static const ivl_run_i64 first[] = {{60, 70}, {1, 2}, {9, 4}, {31, 35}};
+static const ivl_run_i64 second[] = {{33, 65}, {7, 7}, {2, 3}};
+
 /* Makes the call with one request refused after so many that are met: whether one was refused. */
 static int refuse_one(call *made, int before, int64_t right, const ivl_run_i64 *answer, int *failures) {
-    /* No list is in order, so that each has to be sorted. */
-    const ivl_run_i64 a[] = {{60, 70}, {1, 2}, {9, 4}, {31, 35}};
-    const ivl_run_i64 b[] = {{33, 65}, {7, 7}, {2, 3}};
     ivl_run_i64 out[ROOM], untouched[ROOM];
     memset(out, 0x55, sizeof out);
     memset(untouched, 0x55, sizeof untouched);
 
     before_refusal = before;
-    int64_t told = made(a, 4, b, 3, out, ROOM);
+    int64_t told = made(first, 4, second, 3, out, ROOM);
     int was_refused = before_refusal < 0;
     before_refusal = -1;
 
@@ -107,13 +108,11 @@ static int refuse_one(call *made, int before, int64_t right, const ivl_run_i64 *
 }
 
 static int refuse_each(call *made, const char *name) {
-    const ivl_run_i64 a[] = {{60, 70}, {1, 2}, {9, 4}, {31, 35}};
-    const ivl_run_i64 b[] = {{33, 65}, {7, 7}, {2, 3}};
     ivl_run_i64 answer[ROOM];
     int failures = 0, refused = 0;
 
     memset(answer, 0x55, sizeof answer);
-    int64_t right = made(a, 4, b, 3, answer, ROOM);
+    int64_t right = made(first, 4, second, 3, answer, ROOM);
     while (refuse_one(made, refused, right, answer, &failures))
         refused++;
     if (right < 0 || refused == 0)
