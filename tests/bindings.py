@@ -192,6 +192,25 @@ def one_next(bounds, low, first):
     assert (told, found.value) == ((True, above[0]) if above else (False, 5)), (first[1], value, told, found.value)
 
 
+def one_search(bounds, low, first):
+    """A search is right in a list that is in order; in any other, a member that it finds is one."""
+    pairs = [pair for pair in first[1] if pair[0] <= pair[1]]
+    ordered = list(zip(sorted(lower for lower, upper in pairs), sorted(upper for lower, upper in pairs)))
+    value = low + random.randrange(-2 if bounds.is_signed else 0, COUNT + 2)
+    for pairs in (ordered, first[1]):
+        array, found = array_of(bounds, pairs), bounds.number(5)
+        flags = flags_of(pairs, low)
+        above = [low + i for i in range(COUNT) if flags >> i & 1 and low + i >= value]
+        has = bounds.contains_sorted(ctypes.addressof(array), len(pairs), value)
+        told = bounds.next_from_sorted(ctypes.addressof(array), len(pairs), value, ctypes.addressof(found))
+        if pairs is ordered:
+            assert has == (value in above), (pairs, value, has)
+            assert (told, found.value) == ((True, above[0]) if above else (False, 5)), (pairs, value, told, found.value)
+        else:
+            assert not has or value in above, (pairs, value)
+            assert found.value in above if told else found.value == 5, (pairs, value, told, found.value)
+
+
 def one_fit(bounds, low, first):
     count = random.randrange(12)
     found = bounds.run(5, 4)
@@ -246,8 +265,9 @@ def fuzz(count):
         one_product(bounds, low, *lists, mark=(7, random.randrange(9)))
         product_outside(bounds, lists[0])
         one_next(bounds, low, lists[0])
+        one_search(bounds, low, lists[0])
         one_fit(bounds, low, lists[0])
-        calls += 18
+        calls += 22
     print("bindings: Python: %d random calls agree with lists of flags" % calls)
 
 

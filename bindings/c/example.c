@@ -50,6 +50,9 @@ static void signed_numbers(void) {
     int64_t next = 55;
     expect(ivl_next_from_i64(a, 3, 3, &next) && next == 6, "the member after 3 is 6");
     expect(!ivl_next_from_i64(a, 3, 11, &next) && next == 6, "none is above 10");
+    expect(ivl_contains_sorted_i64(b, 2, 7) && !ivl_contains_sorted_i64(b, 2, 6), "7 is a member and 6 is not");
+    expect(ivl_next_from_sorted_i64(b, 2, 6, &next) && next == 7, "the member after 6 is 7");
+    expect(!ivl_next_from_sorted_i64(b, 2, 8, &next) && next == 7, "none is above 7");
     expect(ivl_first_fit_i64(a, 3, 3, out) == 1 && out[0].lower == 6 && out[0].upper == 8, "three in a row");
     expect(ivl_first_fit_i64(a, 3, 6, out) == 0 && ivl_first_fit_i64(a, 3, 0, out) == 0, "no six in a row");
     expect(ivl_products_i64(a, 3, b, 2, out, 4) == 2 && out[0].upper == 14 && out[1].lower == 18, "products");
@@ -77,6 +80,8 @@ static void unsigned_numbers(void) {
     uint64_t next = 0;
     expect(ivl_next_from_u64(all, 1, UINT64_MAX - 1, &next) && next == UINT64_MAX - 1, "the last one");
     expect(!ivl_next_from_u64(all, 1, UINT64_MAX, &next), "none after it");
+    expect(ivl_contains_sorted_u64(a, 2, 12) && !ivl_contains_sorted_u64(all, 1, UINT64_MAX), "12 is a member");
+    expect(ivl_next_from_sorted_u64(a, 2, 0, &next) && next == 5, "the least member is 5");
     expect(ivl_first_fit_u64(a, 2, 8, out) == 1 && out[0].upper == 12, "eight in a row");
     expect(ivl_products_u64(a, 2, a, 2, out, 2) == 1 && out[0].lower == 25 && out[0].upper == 144, "squares");
     expect(ivl_products_u64(a, 2, all, 1, out, 2) == IVL_PRODUCT_OUT_OF_RANGE, "a product is outside");

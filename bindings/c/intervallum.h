@@ -73,9 +73,19 @@ int64_t ivl_size_i64(const ivl_run_i64 *a, size_t n, uint64_t *size);
 /* Whether `v`, any number of its type, is a member of any list. O(n), with no memory and no code. */
 bool ivl_contains_i64(const ivl_run_i64 *a, size_t n, int64_t v);
 
+/* The same by binary search, for a list in order: no pair is crossed, and neither the lower nor the upper
+   bounds descend. Each list that a call has written is in order. Of any other list, true still means that `v`
+   is a member, and false means nothing. O(log n), with no memory and no code. */
+bool ivl_contains_sorted_i64(const ivl_run_i64 *a, size_t n, int64_t v);
+
 /* Writes the least member of any list that is at least `v`, any number of its type, and answers true; or
    false, and nothing is written. O(n), with no memory and no code. */
 bool ivl_next_from_i64(const ivl_run_i64 *a, size_t n, int64_t v, int64_t *found);
+
+/* The same by binary search, for a list in order as in contains_sorted. Of any other list, what is written is
+   still a member that is at least `v`, but perhaps not the least one, and false means no more than that nothing
+   is written. O(log n), with no memory and no code. */
+bool ivl_next_from_sorted_i64(const ivl_run_i64 *a, size_t n, int64_t v, int64_t *found);
 
 /* Writes the lowest `count` members in a row as one run, and answers 1; 0 where there are none or where
    `count` is 0, or a code, and nothing is written. O(n log n). */
@@ -126,9 +136,19 @@ int64_t ivl_size_u64(const ivl_run_u64 *a, size_t n, uint64_t *size);
 /* Whether `v`, any number of its type, is a member of any list. O(n), with no memory and no code. */
 bool ivl_contains_u64(const ivl_run_u64 *a, size_t n, uint64_t v);
 
+/* The same by binary search, for a list in order: no pair is crossed, and neither the lower nor the upper
+   bounds descend. Each list that a call has written is in order. Of any other list, true still means that `v`
+   is a member, and false means nothing. O(log n), with no memory and no code. */
+bool ivl_contains_sorted_u64(const ivl_run_u64 *a, size_t n, uint64_t v);
+
 /* Writes the least member of any list that is at least `v`, any number of its type, and answers true; or
    false, and nothing is written. O(n), with no memory and no code. */
 bool ivl_next_from_u64(const ivl_run_u64 *a, size_t n, uint64_t v, uint64_t *found);
+
+/* The same by binary search, for a list in order as in contains_sorted. Of any other list, what is written is
+   still a member that is at least `v`, but perhaps not the least one, and false means no more than that nothing
+   is written. O(log n), with no memory and no code. */
+bool ivl_next_from_sorted_u64(const ivl_run_u64 *a, size_t n, uint64_t v, uint64_t *found);
 
 /* Writes the lowest `count` members in a row as one run, and answers 1; 0 where there are none or where
    `count` is 0, or a code, and nothing is written. O(n log n). */

@@ -59,12 +59,13 @@ class _Bounds:
             "differences": one + one + room, "products": one + one + room, "is_subset": one + one,
             "overlap": one + one, "equal": one + one, "size": one + [ctypes.c_void_p],
             "contains": one + [number], "next_from": one + [number, ctypes.c_void_p],
+            "contains_sorted": one + [number], "next_from_sorted": one + [number, ctypes.c_void_p],
             "first_fit": one + [ctypes.c_uint64, ctypes.c_void_p],
         }
         for call, arguments in shapes.items():
             found = getattr(library, "ivl_%s_%s" % (call, name))
             found.argtypes = arguments
-            found.restype = ctypes.c_bool if call in ("contains", "next_from") else ctypes.c_int64
+            found.restype = ctypes.c_bool if call.startswith(("contains", "next_from")) else ctypes.c_int64
             setattr(self, call, found)
 
     def holds(self, value):
@@ -187,7 +188,7 @@ class IntervalSet:
         return self._of(self._type, self._type.complement, self._at(), self._count, room=self._count + 1)
 
     def __contains__(self, value):
-        return self._type.holds(value) and self._type.contains(self._at(), self._count, value)
+        return self._type.holds(value) and self._type.contains_sorted(self._at(), self._count, value)
 
     def __eq__(self, other):
         if not isinstance(other, IntervalSet) or other._type is not self._type:
@@ -222,7 +223,7 @@ class IntervalSet:
         if value > high:
             return None
         found = self._type.number()
-        is_there = self._type.next_from(self._at(), self._count, max(value, low), ctypes.addressof(found))
+        is_there = self._type.next_from_sorted(self._at(), self._count, max(value, low), ctypes.addressof(found))
         return found.value if is_there else None
 
     def first_fit(self, count):

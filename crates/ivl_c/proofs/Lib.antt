@@ -3,3 +3,4 @@ pub mod Room
 pub mod Added
 pub mod Multiplied
 pub mod Least
+pub mod InOrder

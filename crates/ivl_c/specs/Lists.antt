@@ -3,7 +3,9 @@
 --     pairs_i64, pairs_u64      the pairs of a list
 --     members_i64, members_u64      the numbers in some pair of the list; a crossed pair has none
 --     range_i64, range_u64      from the least number of a set to the greatest
-use Rattle.std.specs.Prelude.{◌-◌, ◌^◌, ℤ, pos, negsuc, List, map}
+--     FollowsBy p L      neither bound of the first pair, if there is one, is below that of p
+--     IsInOrder L      no pair is crossed, and neither the lower nor the upper bounds descend
+use Rattle.std.specs.Prelude.{◌-◌, ◌^◌, ℤ, pos, negsuc, ◌≤ℤ◌, List, [], ◌∷◌, map}
 use Rattle.ivl_laws.specs.Runs.{Covers}
 use Rattle.ivl_c.specs.declared.run.RunI64.{RunI64}
 use Rattle.ivl_c.specs.declared.run.RunU64.{RunU64}
@@ -31,3 +33,12 @@ range_i64 = (negsuc (2 ^ 63 - 2), pos (2 ^ 63 - 1))
 
 abbrev pub range_u64 : ℤ × ℤ
 range_u64 = (pos 0, pos (2 ^ 64 - 2))
+
+abbrev pub FollowsBy : ℤ × ℤ → List (ℤ × ℤ) → Type 0
+FollowsBy p [] = Unit {0}
+FollowsBy p (q ∷ L) = (p.0 ≤ℤ q.0) × (p.1 ≤ℤ q.1)
+
+-- pairs may overlap, touch and be equal
+abbrev pub IsInOrder : List (ℤ × ℤ) → Type 0
+IsInOrder [] = Unit {0}
+IsInOrder (p ∷ L) = (p.0 ≤ℤ p.1) × FollowsBy p L × IsInOrder L

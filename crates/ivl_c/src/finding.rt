@@ -37,7 +37,7 @@ fn least_from<R: Run>(runs: &[R], v: R::Bound) -> Option<R::Bound>
 }
 
 /// The least number of a pair that is at least `v`.
-fn least_in<R: Run>(run: R, v: R::Bound) -> Option<R::Bound>
+pub fn least_in<R: Run>(run: R, v: R::Bound) -> Option<R::Bound>
     ensures { IsNextIn (R.Bound.value v) (IsBetween (R.pair run)) (option_map R.Bound.value result) }
 {
     let lower = run.lower();

@@ -11,6 +11,7 @@ mod making;
 mod multiplying;
 mod reading;
 mod run;
+mod searching;
 mod signed;
 mod unsigned;
 mod writing;

@@ -1,17 +1,17 @@
 //! The calls over u64, whose sets range from 0 to `UINT64_MAX - 1`.
-ghost use Rattle.std.specs.Prelude.{◌↔◌, IsTrue, pos};
-ghost use Rattle.ivl_laws.specs.Sets.{Complement, Differences, HasSome, Intersection, IsBetween, IsSubset, SameMembers, Sums, SymmetricDifference, Union, Without};
+ghost use Rattle.std.specs.Prelude.{◌≡◌, ◌↔◌, false, IsTrue, pos};
+ghost use Rattle.ivl_laws.specs.Sets.{AtLeast, Complement, Differences, HasSome, Intersection, IsBetween, IsSubset, SameMembers, Sums, SymmetricDifference, Union, Without};
 ghost use Rattle.ivl_c.specs.Answers.{AnswersProducts, AnswersQuestion, AnswersSet, AnswersSize};
 ghost use Rattle.ivl_c.specs.Finding.{AnswersFit, AnswersNext};
-ghost use Rattle.ivl_c.specs.Lists.{members_u64, pair_u64, pairs_u64, range_u64};
+ghost use Rattle.ivl_c.specs.Lists.{IsInOrder, members_u64, pair_u64, pairs_u64, range_u64};
 
 use crate::adding::{Adding, of_members};
 use crate::asking::{Asking, ask, count};
 use crate::finding::{first_fit, next_from};
 use crate::making::{OfOne, OfTwo, of_one, of_two};
 use crate::multiplying::products;
-use crate::reading;
 use crate::run::RunU64;
+use crate::{reading, searching};
 use std::alloc::Global;
 
 /// The members of a list, as runs that ascend and neither overlap nor touch. `O(n log n)`.
@@ -126,6 +126,16 @@ pub extern "C" fn ivl_contains_u64(a: &[RunU64], v: u64) -> bool
     reading::contains(a, v)
 }
 
+/// Whether a number is a member of a list that is in order. Of any other list, true is told only if
+/// the number is a member. `O(log n)`. Does not allocate.
+#[unsafe(no_mangle)]
+pub extern "C" fn ivl_contains_sorted_u64(a: &[RunU64], v: u64) -> bool
+    ensures member { IsTrue result → members_u64 a.now (pos v) }
+    ensures in_order { IsInOrder (pairs_u64 a.now) → (IsTrue result ↔ members_u64 a.now (pos v)) }
+{
+    searching::contains(a, v)
+}
+
 /// The sums of a member of each list that are in the range. `O(n m log (n m))`.
 #[unsafe(no_mangle)]
 pub extern "C" fn ivl_sums_u64(alloc: Global, a: &[RunU64], b: &[RunU64], out: &mut [RunU64]) -> i64
@@ -172,6 +182,18 @@ pub extern "C" fn ivl_next_from_u64(a: &[RunU64], v: u64, found: &mut u64) -> bo
     ensures { AnswersNext (pos v) (members_u64 a.now) (pos found.old) (pos found.new) result }
 {
     next_from(a, v, found)
+}
+
+/// Writes the least member that is at least `v`, and tells whether there is one, of a list that is in
+/// order. Of any other list, what is written is a member that is at least `v`. `O(log n)`. Does not
+/// allocate.
+#[unsafe(no_mangle)]
+pub extern "C" fn ivl_next_from_sorted_u64(a: &[RunU64], v: u64, found: &mut u64) -> bool
+    ensures member { IsTrue result → AtLeast (pos v) (members_u64 a.now) (pos found.new) }
+    ensures same { result ≡ false → found.new ≡ found.old }
+    ensures in_order { IsInOrder (pairs_u64 a.now) → AnswersNext (pos v) (members_u64 a.now) (pos found.old) (pos found.new) result }
+{
+    searching::next_from(a, v, found)
 }
 
 /// Writes the lowest `count` members in a row as one run, and tells 1; 0 where there are none, or

@@ -19,8 +19,6 @@ mod calc;
 mod command;
 pub mod laws;
 mod reply;
-#[cfg(test)]
-mod tests;
 
 pub use calc::Calc;
 pub use command::Command;

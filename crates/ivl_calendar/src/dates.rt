@@ -1,6 +1,7 @@
 //! Days as numbers from 1970-01-01, which is day 0.
-ghost use Rattle.std.specs.Prelude.{◌≡◌, IfSome};
-ghost use Rattle.jiff.specs.Words.{epoch_day};
+ghost use Rattle.std.specs.Prelude.{◌≡◌, ◌↔◌, IfSome, IsSome};
+ghost use Rattle.jiff.specs.Words.{epoch_day, IsEpochDay};
+ghost use Rattle.ivl_calendar.specs.Days.{day_number_of, days_between};
 
 use intervallum::interval::Interval;
 use intervallum::interval_set::IntervalSet;
@@ -8,34 +9,71 @@ use intervallum::ops::{Bounded, IsEmpty, Range};
 use jiff::civil::Date;
 use std::alloc::{AllocError, Global};
 
-/// The number of a day.
+/// Returns the number of a day.
+///
+/// ```
+/// assert_eq!(rt; day_of(date(2000, 3, 1)), 11017);
+/// ```
 pub fn day_of(date: Date) -> i32
-    ensures { result ≡ epoch_day date }
+    ensures value { result ≡ epoch_day date }
+    ensures bound { IsEpochDay result }
 {
     date.to_plain().to_unix_epoch_day()
 }
 
-/// The date with this number; `None` if it is past the calendar of `jiff`.
+/// Returns the date with this number, or `None` if it is outside the calendar of `jiff`, which has
+/// the years -9999 to 9999.
+///
+/// ```
+/// assert!(rt; date_of(11017) == Some(date(2000, 3, 1)));
+/// assert!(rt; date_of(2932896).is_some() && date_of(2932897).is_none());
+/// ```
 pub fn date_of(day: i32) -> Option<Date>
-    ensures { IfSome result (λ date. epoch_day date ≡ day) }
+    ensures value { IfSome result (λ date. epoch_day date ≡ day) }
+    ensures within { IsSome result ↔ IsEpochDay day }
 {
     let plain = jiff_core::civil::Date::from_unix_epoch_day(i64::from(day)).ok()?;
     Some(Date::from_plain(plain))
 }
 
-/// The days from one date to another, or `None` if a word is no date or they are not in order.
-pub fn days_from(first: &str, last: &str) -> Option<Interval<i32>> {
-    let first: Date = first.parse().ok()?;
-    let last: Date = last.parse().ok()?;
-    let (first, last) = (day_of(first), day_of(last));
-    if first <= last && Interval::in_range(first, last) {
+/// Returns the number of the day that a word is the date of, or `None` if it is no date.
+///
+/// ```
+/// assert!(rt; day_from("2000-03-01") == Some(11017));
+/// assert!(rt; day_from("2023-02-29").is_none(), "there is no such day");
+/// ```
+pub fn day_from(word: &str) -> Option<i32>
+    ensures value { result ≡ day_number_of word.now }
+    ensures bound { IfSome result IsEpochDay }
+{
+    let date: Date = word.parse().ok()?;
+    Some(day_of(date))
+}
+
+/// Returns the days from one date to another, or `None` if a word is no date or they are not in order.
+///
+/// ```
+/// assert!(rt; days_from("1970-01-01", "2000-03-01") == Some(Interval::new(0, 11017)));
+/// assert!(rt; days_from("2023-03-01", "2023-02-28").is_none());
+/// ```
+pub fn days_from(first: &str, last: &str) -> Option<Interval<i32>>
+    ensures { result ≡ days_between first.now last.now }
+{
+    let (first, last) = (day_from(first)?, day_from(last)?);
+    if first <= last {
         Some(Interval::new(first, last))
     } else {
         None
     }
 }
 
-/// The days of an interval as they are printed, such as `2026-03-01 to 2026-03-04`.
+/// Returns the days of an interval as they are printed: `none` if there are none, or if one of its
+/// ends is outside the calendar of `jiff`. Fails only if allocation fails.
+///
+/// ```
+/// let text = interval_text(alloc, &Interval::new(-1, 59))?;
+/// assert_eq!(rt; text.as_str(), "1969-12-31 to 1970-03-01");
+/// ```
 pub fn interval_text(alloc: Global, days: &Interval<i32>) -> Result<String, AllocError> {
     if days.is_empty() {
         return String::from_str(alloc, "none");
@@ -46,7 +84,12 @@ pub fn interval_text(alloc: Global, days: &Interval<i32>) -> Result<String, Allo
     }
 }
 
-/// The runs of a set as they are printed, with commas between them; `none` if there is none.
+/// Returns the runs of a set as they are printed, with commas between them; `none` if there is none.
+/// Fails only if allocation fails.
+///
+/// ```
+/// assert_eq!(rt; set_text(alloc, &IntervalSet::empty(alloc))?.as_str(), "none");
+/// ```
 pub fn set_text(alloc: Global, days: &IntervalSet<i32>) -> Result<String, AllocError> {
     let mut text = String::new(alloc);
     for run in days.iter() {

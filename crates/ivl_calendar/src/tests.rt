@@ -1,11 +1,12 @@
 //! Rooms booked, and the days that are left.
 
-use crate::dates::{days_from, interval_text};
+use crate::dates::{date_of, day_from, day_of, days_from, interval_text, set_text};
 use crate::requests::Calendar;
 use crate::rooms::{Room, free_in_all};
 use intervallum::interval::Interval;
 use intervallum::interval_set::IntervalSet;
 use intervallum::ops::{Contains, Range};
+use jiff::civil::date;
 use std::test::Fail;
 
 #[test]
@@ -47,6 +48,17 @@ fn a_refused_booking_changes_nothing(rt: HostRuntime) -> Result<(), Fail> {
 }
 
 #[test]
+fn dates_of_days(rt: HostRuntime) -> Result<(), Fail> {
+    assert_eq!(rt; day_of(date(2000, 3, 1)), 11017);
+    assert!(rt; date_of(11017) == Some(date(2000, 3, 1)));
+    assert!(rt; date_of(2932896).is_some() && date_of(2932897).is_none());
+    assert!(rt; date_of(-4371587).is_some() && date_of(-4371588).is_none());
+    assert!(rt; day_from("2000-03-01") == Some(11017));
+    assert!(rt; day_from("2023-02-29").is_none(), "there is no such day");
+    Ok(())
+}
+
+#[test]
 fn days_of_dates(rt: HostRuntime) -> Result<(), Fail> {
     let days = days_from("1970-01-01", "2000-03-01");
     assert!(rt; days == Some(Interval::new(0, 11017)));
@@ -59,6 +71,8 @@ fn days_of_dates(rt: HostRuntime) -> Result<(), Fail> {
     assert!(rt; ever == Some(Interval::new(-4371587, 2932896)));
     let text = interval_text(rt.alloc(), &Interval::new(-1, 59))?;
     assert_eq!(rt; text.as_str(), "1969-12-31 to 1970-03-01");
+    let none = set_text(rt.alloc(), &IntervalSet::empty(rt.alloc()))?;
+    assert_eq!(rt; none.as_str(), "none");
     Ok(())
 }
 

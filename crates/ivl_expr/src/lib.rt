@@ -25,8 +25,6 @@ mod expr;
 mod fault;
 pub mod laws;
 mod nodes;
-#[cfg(test)]
-mod tests;
 
 pub use expr::Expr;
 pub use fault::EvalFault;

@@ -15,8 +15,6 @@ mod intervals;
 pub mod laws;
 mod numbers;
 mod sets;
-#[cfg(test)]
-mod tests;
 
 pub use faults::{ItemFault, JsonFault};
 pub use form::JsonForm;

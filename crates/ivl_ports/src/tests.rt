@@ -1,6 +1,7 @@
 //! Ports taken and given back, against a plain list of flags.
 
 use crate::ports::Ports;
+use crate::requests::answer;
 use intervallum::interval::Interval;
 use intervallum::ops::{Bounded, Contains, IsEmpty, Range};
 use std::test::Fail;
@@ -16,6 +17,23 @@ fn takes_and_gives_back(rt: HostRuntime) -> Result<(), Fail> {
     assert!(rt; ports.take(9)? == Some(Interval::new(1034, 1042)));
     assert!(rt; ports.take(8)? == Some(Interval::new(1024, 1031)));
     assert!(rt; ports.take(2000)?.is_none());
+    Ok(())
+}
+
+#[test]
+fn lines_and_answers(rt: HostRuntime) -> Result<(), Fail> {
+    let alloc = rt.alloc();
+    let mut ports = Ports::new(alloc, 1024, 65535)?;
+    assert_eq!(rt; answer(alloc, &mut ports, "take 8")?.as_str(), "[1024..1031]");
+    assert_eq!(rt; answer(alloc, &mut ports, "give 1024 1031")?.as_str(), "ok");
+    let some = answer(alloc, &mut ports, "give 1031 1032")?;
+    assert_eq!(rt; some.as_str(), "some of them are free");
+    let bad = answer(alloc, &mut ports, "give 1023 1024")?;
+    assert_eq!(rt;
+        bad.as_str(),
+        "write give FIRST LAST, ports from 1024 to 65535 in order"
+    );
+    assert_eq!(rt; ports.free_count(), 64512);
     Ok(())
 }
 

@@ -1,8 +1,8 @@
 -- A fault of a line, by the words that it is told with.
---     told_of fault      the fault as it is told; `None` if it is one of the store or of memory, and not of the line
+--     told_of fault      the fault as it is told; `None` if it is want of memory, which is no fault of the line
 use Rattle.std.specs.Prelude.{ℕ, List, Option, None, Some}
 use Rattle.ivl_solve.specs.declared.fault.Fault.{Fault}
-use Rattle.ivl_solve.specs.declared.fault.Fault.TheVariants.{Bytes, Command, Form, Number, Range, Unknown, Defined, Repeated, Variable, Memory}
+use Rattle.ivl_solve.specs.declared.fault.Fault.TheVariants.{Bytes, Command, Form, Number, Range, Unknown, Defined, Repeated, Memory}
 
 pub data Told : Type 0 where
   no_text : Told
@@ -23,5 +23,4 @@ told_of Range = Some out_of_range
 told_of (Unknown name) = Some (unknown name.now)
 told_of (Defined name) = Some (defined name.now)
 told_of (Repeated name) = Some (repeated name.now)
-told_of (Variable i) = None
 told_of Memory = None

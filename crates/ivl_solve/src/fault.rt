@@ -1,5 +1,4 @@
 //! Why a line is not carried out.
-use ivl_store::store::StoreFault;
 use std::alloc::AllocError;
 
 /// Why a line is not carried out. The words are those of the line.
@@ -21,8 +20,6 @@ pub enum Fault<'a> {
     Defined(&'a str),
     /// The variable is named twice in a sum.
     Repeated(&'a str),
-    /// The store has no variable with this index. This cannot happen, because names are looked up.
-    Variable(usize),
     /// An allocation failed.
     Memory,
 }
@@ -35,19 +32,5 @@ impl<'a> From<AllocError> for Fault<'a> {
 
     fn from(_: AllocError) -> Fault<'a> {
         Fault::Memory
-    }
-}
-
-impl<'a> From<StoreFault> for Fault<'a> {
-    ghost use Rattle.std.specs.Prelude.{◌≡◌, None};
-    ghost use Rattle.ivl_solve.specs.Faults.{told_of};
-
-    ghost from_gives = { λ _ fault. told_of fault ≡ None };
-
-    fn from(fault: StoreFault) -> Fault<'a> {
-        match fault {
-            StoreFault::Variable(i) => Fault::Variable(i),
-            StoreFault::Memory => Fault::Memory,
-        }
     }
 }

@@ -32,7 +32,6 @@ pub fn write_fault<W: Write>(writer: &mut W, fault: &Fault<'_>) -> io::Result<()
         Fault::Unknown(name) => writeln!(writer, "error: unknown variable {name}"),
         Fault::Defined(name) => writeln!(writer, "error: {name} is defined already"),
         Fault::Repeated(name) => writeln!(writer, "error: {name} is named twice"),
-        Fault::Variable(i) => writeln!(writer, "error: no variable {i}"),
         Fault::Memory => writeln!(writer, "error: out of memory"),
     }
 }

@@ -1,8 +1,9 @@
 //! The variables by name, their domains, and the sums that hold between them.
-ghost use Rattle.std.specs.Prelude.{◌≡◌, ◌∷◌, ◌++◌, ◌↔◌, [], Some, Any, IfErr, IfOk, IsSome, IsTrue, None, OnErr, OnOk, bytes_eq, map, position, string_bytes};
+ghost use Rattle.std.specs.Prelude.{◌≡◌, ◌∷◌, ◌++◌, ◌↔◌, ◌<◌, [], Some, All, Any, IfErr, IfOk, IfSome, IsSome, IsTrue, None, OnErr, OnOk, bytes_eq, length, map, position, string_bytes};
 ghost use Rattle.ivl_laws.specs.Runs.{Covers, IsRunsOf};
 ghost use Rattle.ivl_laws.specs.Families.{set_at};
-ghost use Rattle.ivl_store.specs.Posts.{IsLeftBy};
+ghost use Rattle.ivl_store.specs.Narrowing.{AllPresent};
+ghost use Rattle.ivl_store.specs.Posts.{IsKnown, IsLeftBy, constraints_of};
 ghost use Rattle.ivl_store.specs.Solutions.{AreDistinct};
 ghost use Rattle.ivl_store.specs.declared.store.post.Post.TheVariants.{Restrict};
 ghost use Rattle.ivl_solve.specs.Faults.{told_of, unknown};
@@ -29,15 +30,14 @@ pub struct Solver {
 }
 
 impl Model for Solver {
-    ghost use Rattle.std.specs.Prelude.{All, map, string_bytes};
-    ghost use Rattle.ivl_store.specs.Solutions.{AreDistinct};
-    ghost use Rattle.ivl_solve.specs.Solving.{State};
+    ghost use Rattle.std.specs.Prelude.{length, map, string_bytes};
+    ghost use Rattle.ivl_solve.specs.Solving.{IsSound, State};
 
     ghost Value = { State };
 
     ghost view = { λ s. record { names = map string_bytes s.names.items; domains = s.store; constraints = s.constraints.items } };
 
-    ghost invariant = { λ s. All AreDistinct s.constraints.items };
+    ghost invariant = { λ s. IsSound (length s.names.items) (length s.store) s.constraints.items };
 }
 
 impl Solver {
@@ -154,47 +154,50 @@ impl Solver {
     /// The variable of a name.
     fn known<'a>(&self, name: &'a str) -> Result<usize, Fault<'a>>
         ensures ok { IfOk result (λ i. index_in self.now.names name.now ≡ Some i) }
+        ensures present { IfOk result (λ i. i < length self.now.domains) }
         ensures none { IfErr result (λ fault. index_in self.now.names name.now ≡ None) }
         ensures fault { IfErr result (λ fault. told_of fault ≡ Some (unknown name.now)) }
     {
         self.index_of(name).ok_or(Fault::Unknown(name))
     }
 
-    /// The index of the variable that has this name.
+    /// The index of the variable that has this name, and so of its domain.
     fn index_of(&self, name: &str) -> Option<usize>
-        ensures { result ≡ index_in self.now.names name.now }
+        ensures index { result ≡ index_in self.now.names name.now }
+        ensures present { IfSome result (λ i. i < length self.now.domains) }
     {
         place_of(&self.names, name)
     }
 
     /// Posts all constraints, and then a cut.
-    fn restrict(&mut self, variable: usize, allowed: IntervalSet<i64>) -> Result<(), StoreFault>
+    fn restrict(&mut self, variable: usize, allowed: IntervalSet<i64>) -> Result<(), AllocError>
+        requires { variable < length self.old.domains }
         ensures left { OnOk result (IsLeftBy (required_by self.old.constraints ++ Restrict variable allowed ∷ []) (set_at self.old.domains) (set_at self.new.domains)) }
         ensures names { self.new.names ≡ self.old.names }
         ensures constraints { self.new.constraints ≡ self.old.constraints }
     {
         let posts = required_with(self.alloc, &self.constraints, variable, allowed)?;
-        self.store.post_all(&posts)?;
-        Ok(())
+        post(&mut self.store, &posts)
     }
 
     /// Posts all constraints, and then one more. Out of memory, the constraint is kept if domains
     /// may have changed.
-    fn require(&mut self, sum: Constraint) -> Result<(), StoreFault>
-        requires { AreDistinct sum }
+    fn require(&mut self, sum: Constraint) -> Result<(), AllocError>
+        requires distinct { AreDistinct sum }
+        requires present { AllPresent (length self.old.domains) sum }
         ensures left { OnOk result (IsLeftBy (required_by self.new.constraints) (set_at self.old.domains) (set_at self.new.domains)) }
         ensures names { self.new.names ≡ self.old.names }
         ensures constraints { OnOk result (self.new.constraints ≡ self.old.constraints ++ sum ∷ []) }
     {
         self.keep(sum)?;
         let posts = required(self.alloc, &self.constraints)?;
-        self.store.post_all(&posts)?;
-        Ok(())
+        post(&mut self.store, &posts)
     }
 
     /// Adds a constraint.
     fn keep(&mut self, sum: Constraint) -> Result<(), AllocError>
-        requires { AreDistinct sum }
+        requires distinct { AreDistinct sum }
+        requires present { AllPresent (length self.old.domains) sum }
         ensures ok { OnOk result (self.new ≡ record self.old { constraints = self.old.constraints ++ sum ∷ [] }) }
         ensures err { OnErr result (self.new ≡ self.old) }
     {
@@ -208,6 +211,20 @@ fn place_of(names: &[String], name: &str) -> Option<usize>
     ensures { result ≡ position (λ known. bytes_eq (string_bytes known) name.now) names.now }
 {
     names.iter().position(|known| known.as_str() == name)
+}
+
+/// Posts to a store that has all their variables.
+fn post(store: &mut Store<i64>, posts: &[Post<i64>]) -> Result<(), AllocError>
+    requires known { All (IsKnown (length store.old)) posts.now }
+    requires distinct { All AreDistinct (constraints_of posts.now) }
+    ensures kept_count { length store.new ≡ length store.old }
+    ensures left { OnOk result (IsLeftBy posts.now (set_at store.old) (set_at store.new)) }
+{
+    match store.post_all(posts) {
+        Ok(_) => Ok(()),
+        Err(StoreFault::Memory) => Err(AllocError),
+        Err(StoreFault::Variable(_)) => unreachable!(),
+    }
 }
 
 /// The posts that require some constraints, and then cut a domain.

@@ -7,5 +7,3 @@
 #![tactic(auto)]
 
 pub mod store;
-#[cfg(test)]
-mod tests;

@@ -7,6 +7,4 @@
 //! ```
 #![tactic(auto)]
 
-#[cfg(test)]
-mod tests;
 pub mod within;

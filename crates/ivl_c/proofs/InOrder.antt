@@ -1,0 +1,101 @@
+-- Where a number stands in a list whose pairs are in order.
+use Rattle.std.proofs.Common.{◌≡◌, ◌↔◌, inl, inr, ⊎_elim, ℕ, zero, suc, ◌<◌, ℤ, ◌≤ℤ◌, ◌<ℤ◌, Bool, IsTrue, List, [], ◌∷◌, length, get_or, map, take, drop, sym, subst, arith}
+use Rattle.std.proofs.lemmas.Int.{ints, by_lt_z}
+use Rattle.std.specs.Prelude.{Option, Some, None, MatchOption, IfSome, slice_get, option_map}
+use lib.Signed.{≤ℤ_refl}
+use Rattle.ivl_laws.specs.Sets.{AtLeast, HasNone, IsBetween, IsSubset}
+use Rattle.ivl_laws.specs.Runs.{Covers}
+use Rattle.intervallum.specs.Places.{EndBelow, EndsFrom}
+use Rattle.ivl_c.specs.Finding.{IsFirstFrom, IsNextIn}
+use Rattle.ivl_c.specs.Lists.{IsInOrder}
+
+-- no later pair ends below an earlier one, and no later member lies below its start
+later_end : {X : Type 0} (pair : X → ℤ × ℤ) (p : ℤ × ℤ) (L : List X) (i : ℕ) (d : X) → i < length L → d ≡ get_or L i d → IsInOrder (p ∷ map pair L) → p.1 ≤ℤ (pair d).1
+later_end pair p [] i d h is o = absurd (omega arith)
+later_end pair p (q ∷ L) zero d h is o = let P : _ → Type 0 = λ r. p.1 ≤ℤ (pair r).1 in subst P (sym is) o.1.1
+later_end pair p (q ∷ L) (suc i) d h is o = let k = later_end pair (pair q) L i d (omega arith) is o.2 in let f = o.1.1 in omega (arith, ints, k, f)
+
+later_member : (p : ℤ × ℤ) (M : List (ℤ × ℤ)) (z : ℤ) → IsInOrder (p ∷ M) → Covers M z → p.0 ≤ℤ z
+later_member p [] z o c = absurd c
+later_member p (q ∷ M) z o (inl b) = let f = o.1.0 in let l = b.0 in omega (arith, ints, f, l)
+later_member p (q ∷ M) z o (inr c) = let k = later_member q M z o.2 c in let f = o.1.0 in omega (arith, ints, k, f)
+
+-- ---- what a look tells of the pairs on one side
+
+pub below_to : {X : Type 0} (pair : X → ℤ × ℤ) (L : List X) (i : ℕ) (d : X) (v : ℤ) → i < length L → d ≡ get_or L i d → (pair d).1 <ℤ v → IsInOrder (map pair L) → EndBelow v (take (suc i) (map pair L))
+below_to pair [] i d v h is b o = absurd (omega arith)
+below_to pair (p ∷ L) zero d v h is b o = let P : _ → Type 0 = λ r. (pair r).1 <ℤ v in (subst P is b, tt)
+below_to pair (p ∷ L) (suc i) d v h is b o = (
+  let k = later_end pair (pair p) L i d (omega arith) is o in omega (arith, ints, k, b),
+  below_to pair L i d v (omega arith) is b o.2,
+)
+
+pub ends_from : {X : Type 0} (pair : X → ℤ × ℤ) (L : List X) (i : ℕ) (d : X) (v : ℤ) → i < length L → d ≡ get_or L i d → v ≤ℤ (pair d).1 → EndsFrom v (drop i (map pair L))
+ends_from pair [] i d v h is e = absurd (omega arith)
+ends_from pair (p ∷ L) zero d v h is e = let P : _ → Type 0 = λ r. v ≤ℤ (pair r).1 in subst P is e
+ends_from pair (p ∷ L) (suc i) d v h is e = ends_from pair L i d v (omega arith) is e
+
+pub ends_from_end : {X : Type 0} (pair : X → ℤ × ℤ) (L : List X) (v : ℤ) → EndsFrom v (drop (length L) (map pair L))
+ends_from_end pair [] v = tt
+ends_from_end pair (p ∷ L) v = ends_from_end pair L v
+
+-- ---- what the pair at a place tells
+
+pub members_at : {X : Type 0} (pair : X → ℤ × ℤ) (L : List X) (i : ℕ) (o : Option X) → o ≡ slice_get L i → IfSome o (λ r. IsSubset (IsBetween (pair r)) (Covers (map pair L)))
+members_at pair L i None e = tt
+members_at pair [] i (Some r) e = absurd (cc)
+members_at pair (p ∷ L) zero (Some r) e = λ z b. let same : r ≡ p = cc in let P : _ → Type 0 = λ q. IsBetween (pair q) z in inl (subst P same b)
+members_at pair (p ∷ L) (suc i) (Some r) e = λ z b. inr (members_at pair L i (Some r) e z b)
+
+first_more : (p : ℤ × ℤ) (M : List (ℤ × ℤ)) (v : ℤ) (q : ℤ × ℤ) → p.1 <ℤ v → IsFirstFrom v (Covers M) q → IsFirstFrom v (Covers (p ∷ M)) q
+first_more p M v q b f = record {
+  filled = f.filled;
+  ends = f.ends;
+  first = λ z u. ⊎_elim (λ i. absurd (let h = i.1 in let k = u.1 in omega (arith, ints, b, h, k))) (λ c. f.first z (c, u.1)) u.0;
+}
+
+none_more : (p : ℤ × ℤ) (M : List (ℤ × ℤ)) (v : ℤ) → p.1 <ℤ v → HasNone (AtLeast v (Covers M)) → HasNone (AtLeast v (Covers (p ∷ M)))
+none_more p M v b n = λ z u. ⊎_elim (λ i. absurd (let h = i.1 in let k = u.1 in omega (arith, ints, b, h, k))) (λ c. n z (c, u.1)) u.0
+
+pub first_at : {X : Type 0} (pair : X → ℤ × ℤ) (L : List X) (i : ℕ) (v : ℤ) (o : Option X) → o ≡ slice_get L i → EndBelow v (take i (map pair L)) → EndsFrom v (drop i (map pair L)) → IsInOrder (map pair L) →
+    MatchOption o (HasNone (AtLeast v (Covers (map pair L)))) (λ r. IsFirstFrom v (Covers (map pair L)) (pair r))
+first_at pair [] i v None e b a o = λ z u. u.0
+first_at pair [] i v (Some r) e b a o = absurd (cc)
+first_at pair (p ∷ L) zero v None e b a o = absurd (cc)
+first_at pair (p ∷ L) zero v (Some r) e b a o =
+    let same : r ≡ p = cc in
+    let P : _ → Type 0 = λ q. IsFirstFrom v (Covers (map pair (p ∷ L))) (pair q) in
+    subst P (sym same) (record {
+      filled = o.0;
+      ends = a;
+      first = λ z u. ⊎_elim (λ i. i.0) (λ c. later_member (pair p) (map pair L) z o c) u.0;
+    })
+first_at pair (p ∷ L) (suc i) v None e b a o = none_more (pair p) (map pair L) v b.0 (first_at pair L i v None e b.1 a o.2)
+first_at pair (p ∷ L) (suc i) v (Some r) e b a o = first_more (pair p) (map pair L) v (pair r) b.0 (first_at pair L i v (Some r) e b.1 a o.2)
+
+-- the place at which a search ends
+pub placed : {X : Type 0} (pair : X → ℤ × ℤ) (L : List X) (low high : ℕ) (v : ℤ) (o : Option X) → o ≡ slice_get L low → high ≡ low →
+    (IsInOrder (map pair L) → EndBelow v (take low (map pair L))) → (IsInOrder (map pair L) → EndsFrom v (drop high (map pair L))) → IsInOrder (map pair L) →
+    MatchOption o (HasNone (AtLeast v (Covers (map pair L)))) (λ r. IsFirstFrom v (Covers (map pair L)) (pair r))
+placed pair L low high v o e same below from order =
+    let P : ℕ → Type 0 = λ k. EndsFrom v (drop k (map pair L)) in
+    first_at pair L low v o e (below order) (subst P same (from order)) order
+
+-- ---- what the first pair that ends from a number on tells
+
+pub first_has : (v : ℤ) (S : ℤ → Type 0) (p : ℤ × ℤ) (t : Bool) → IsFirstFrom v S p → IsSubset (IsBetween p) S → (IsTrue t ↔ IsBetween p v) → IsTrue t ↔ S v
+first_has v S p t f h is = ((λ u. h v (is.0 u)), (λ s. is.1 (f.first v (s, ≤ℤ_refl v), f.ends)))
+
+pub none_here : (v : ℤ) (S : ℤ → Type 0) → HasNone (AtLeast v S) → ¬ (S v)
+none_here v S n s = n v (s, ≤ℤ_refl v)
+
+pub next_member : {K : Type 0} (value : K → ℤ) (v : ℤ) (S T : ℤ → Type 0) (o : Option K) → IsNextIn v S (option_map value o) → IsSubset S T → IfSome o (λ x. AtLeast v T (value x))
+next_member value v S T None n h = tt
+next_member value v S T (Some x) n h = (h (value x) n.0.0, n.0.1)
+
+pub first_next : (v : ℤ) (S : ℤ → Type 0) (p : ℤ × ℤ) (o : Option ℤ) → IsFirstFrom v S p → IsSubset (IsBetween p) S → IsNextIn v (IsBetween p) o → IsNextIn v S o
+first_next v S p None f h n = absurd (n p.1 ((f.filled, ≤ℤ_refl p.1), f.ends))
+first_next v S p (Some x) f h n = (
+  (h x n.0.0, n.0.1),
+  λ z u. by_lt_z p.1 z (λ above. let high = n.0.0.1 in omega (arith, ints, above, high)) (λ within. n.1 z ((f.first z u, within), u.1)),
+)

@@ -1,0 +1,26 @@
+//! A long array whose last item is no interval.
+
+use ivl_json::{ItemFault, JsonFault, JsonForm};
+use intervallum::IntervalSet;
+use serde_json::{Value, json};
+use std::alloc::{AllocError, Global};
+use std::test::Fail;
+
+/// An array of 999 pairs, and one of a single number.
+fn thousand(alloc: Global) -> Result<Value, AllocError> {
+    let mut items = Vec::new(alloc);
+    for place in 0..999u32 {
+        items.push(json!(in alloc; [place, 5000])?)?;
+    }
+    items.push(json!(in alloc; [1])?)?;
+    Ok(Value::from(items))
+}
+
+#[test]
+fn the_last_of_a_thousand(rt: HostRuntime) -> Result<(), Fail> {
+    let alloc = rt.alloc();
+    let value = thousand(alloc)?;
+    let read = IntervalSet::<i32>::from_value(alloc, &value);
+    assert_eq!(rt; read.err(), Some(JsonFault::At(999, ItemFault::Length(1))));
+    Ok(())
+}
