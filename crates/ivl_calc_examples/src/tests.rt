@@ -4,8 +4,8 @@ mod commands;
 mod ends;
 mod refusals;
 
-use ivl_calc::Calc;
 use intervallum::width::Width;
+use ivl_calc::Calc;
 use std::alloc::Global;
 use std::fmt::Display;
 use std::process::Abort;

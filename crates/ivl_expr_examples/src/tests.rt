@@ -5,9 +5,9 @@ mod docs;
 mod faults;
 mod shapes;
 
-use ivl_expr::{Expr, eval};
 use intervallum::interval_set::IntervalSet;
 use intervallum::width::Width;
+use ivl_expr::{Expr, eval};
 use std::alloc::{AllocError, Global};
 use std::fmt::Display;
 use std::process::Abort;

@@ -24,7 +24,10 @@ fn takes_and_gives_back(rt: HostRuntime) -> Result<(), Fail> {
 fn lines_and_answers(rt: HostRuntime) -> Result<(), Fail> {
     let alloc = rt.alloc();
     let mut ports = Ports::new(alloc, 1024, 65535)?;
-    assert_eq!(rt; answer(alloc, &mut ports, "take 8")?.as_str(), "[1024..1031]");
+    assert_eq!(rt;
+        answer(alloc, &mut ports, "take 8")?.as_str(),
+        "[1024..1031]"
+    );
     assert_eq!(rt; answer(alloc, &mut ports, "give 1024 1031")?.as_str(), "ok");
     let some = answer(alloc, &mut ports, "give 1031 1032")?;
     assert_eq!(rt; some.as_str(), "some of them are free");

@@ -4,10 +4,10 @@ mod narrowing;
 mod posting;
 mod rounds;
 
-use ivl_store::store::{Constraint, Store};
 use intervallum::interval::Interval;
 use intervallum::interval_set::{IntervalSet, ToIntervalSet};
 use intervallum::width::Width;
+use ivl_store::store::{Constraint, Store};
 use std::alloc::{AllocError, Global};
 use std::fmt::Display;
 use std::process::Abort;

@@ -1,8 +1,8 @@
 //! Each command where nothing is refused.
 use super::check_register;
-use ivl_calc::{Calc, Command, Reply};
 use intervallum::interval::Interval;
 use intervallum::ops::Range;
+use ivl_calc::{Calc, Command, Reply};
 use std::test::Fail;
 
 #[test]

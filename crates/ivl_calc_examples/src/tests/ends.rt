@@ -1,9 +1,9 @@
 //! Sums and differences at both ends of small types.
 use super::check_register;
+use intervallum::interval_set::IntervalSet;
 use ivl_calc::store::{Constraint, Store};
 use ivl_calc::within::{add_within, sub_within};
 use ivl_calc::{Calc, Command, Reply};
-use intervallum::interval_set::IntervalSet;
 use std::test::Fail;
 
 /// The number in a reply of `Low` or `High`, if there is one.

@@ -1,10 +1,10 @@
 //! The set of an expression.
 use super::{add, check_answer, mul, sub};
-use ivl_expr::{Expr, eval};
 use intervallum::interval::Interval;
 use intervallum::interval_set::{IntervalSet, ToIntervalSet};
 use intervallum::ops::{Cardinality, Range};
 use intervallum::sweep::coalesce;
+use ivl_expr::{Expr, eval};
 use std::alloc::{AllocError, Global};
 use std::test::Fail;
 

@@ -1,6 +1,6 @@
 //! The examples of the docs, word for word.
-use ivl_expr::{EvalFault, Expr, eval};
 use intervallum::interval_set::IntervalSet;
+use ivl_expr::{EvalFault, Expr, eval};
 use std::test::Fail;
 
 #[test]

@@ -1,7 +1,7 @@
 //! What is refused, which fault is told, and the texts of the faults.
 use super::{add, check_answer, mul, sub};
-use ivl_expr::{EvalFault, Expr, eval};
 use intervallum::interval_set::IntervalSet;
+use ivl_expr::{EvalFault, Expr, eval};
 use std::alloc::AllocError;
 use std::test::Fail;
 

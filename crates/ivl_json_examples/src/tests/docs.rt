@@ -1,9 +1,9 @@
 //! The examples of the docs.
 
-use ivl_json::{ItemFault, JsonFault, JsonForm};
 use intervallum::interval_set::ToIntervalSet;
 use intervallum::ops::{Empty, Range};
 use intervallum::{Interval, IntervalSet};
+use ivl_json::{ItemFault, JsonFault, JsonForm};
 use serde_json::Value;
 use std::alloc::AllocError;
 use std::test::Fail;

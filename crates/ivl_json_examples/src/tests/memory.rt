@@ -1,7 +1,7 @@
 //! A long array whose last item is no interval.
 
-use ivl_json::{ItemFault, JsonFault, JsonForm};
 use intervallum::IntervalSet;
+use ivl_json::{ItemFault, JsonFault, JsonForm};
 use serde_json::{Value, json};
 use std::alloc::{AllocError, Global};
 use std::test::Fail;

@@ -1,8 +1,8 @@
 //! Values that are read, and values that are refused.
 
 use super::{check_fault, check_read};
-use ivl_json::{ItemFault, JsonFault};
 use intervallum::{Interval, IntervalSet};
+use ivl_json::{ItemFault, JsonFault};
 use std::test::Fail;
 
 #[test]

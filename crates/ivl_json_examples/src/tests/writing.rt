@@ -1,9 +1,9 @@
 //! The JSON text of intervals and sets.
 
-use ivl_json::JsonForm;
 use intervallum::interval_set::ToIntervalSet;
 use intervallum::ops::{Empty, Range, Whole};
 use intervallum::{Interval, IntervalSet};
+use ivl_json::JsonForm;
 use std::alloc::{AllocError, Global};
 use std::test::Fail;
 

@@ -1,10 +1,10 @@
 //! Sums and differences in windows.
-use ivl_within::within::{
-    Combined, add_within, differences_in_window, image, kept, sub_within, sums_in_window,
-};
 use intervallum::interval::Interval;
 use intervallum::interval_set::{IntervalSet, ToIntervalSet};
 use intervallum::ops::{Intersection, IsEmpty, Range, Whole};
+use ivl_within::within::{
+    Combined, add_within, differences_in_window, image, kept, sub_within, sums_in_window,
+};
 use std::alloc::Global;
 use std::process::Abort;
 use std::test::Fail;
