@@ -26,8 +26,9 @@ impl<B: Width> IntervalSet<B> {
     /// The runs are maximal and lie in the range. This does nothing: its contract is the fact.
     ///
     /// ```
-    /// let a = IntervalSet::new(alloc, 1, 5)?;
+    /// let a: IntervalSet<i32> = IntervalSet::new(alloc, 1, 5)?;
     /// a.in_whole(); // a proof knows from here on that the members of `a` are in the range
+    /// assert!(rt; !a.contains(&i32::MIN));
     /// ```
     pub fn in_whole(&self)
         ensures { IsRunListIn B.whole self.now }
