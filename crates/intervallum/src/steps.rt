@@ -12,7 +12,7 @@ pub use combine::common;
 pub(crate) use combine::{gaps, have_common};
 pub(crate) use differences::{one_alone, without};
 pub use merge::unite;
-pub(crate) use places::{first_from, last_up_to};
+pub(crate) use places::{first_from, last_up_to, runs_before, runs_up_to};
 pub use probes::Probes;
 pub(crate) use search::find_from;
 pub use search::{Place, find};

@@ -60,7 +60,7 @@ pub fn set_size<B: Width>(set: &IntervalSet<B>) -> B::Output
 pub fn set_is_empty<B: Width>(set: &IntervalSet<B>) -> bool
     ensures { IsTrue result ↔ (set.now ≡ []) }
 {
-    let _runs = set.interval_count();
+    set.in_whole();
     callers::is_empty_by_bound(set)
 }
 

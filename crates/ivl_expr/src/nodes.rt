@@ -82,8 +82,7 @@ impl<'a, B: Width> NodeSet<'a, B> {
         ensures lent { runs_of result ≡ set.now }
         ensures runs { IsRunListIn B.whole set.now }
     {
-        // Not for the runs: the call tells that they are maximal and lie in the range.
-        let _ = set.iter();
+        set.in_whole();
         NodeSet::Lent(set)
     }
 

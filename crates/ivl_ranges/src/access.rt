@@ -53,8 +53,7 @@ pub fn safe_indexes(
         return index.try_clone();
     }
     let window = window(offset, length);
-    // No run is wanted: the count tells that all members are values of `i64`.
-    let _count = index.interval_count();
+    index.in_whole();
     index.intersection(&window)
 }
 

@@ -77,6 +77,9 @@ fn slices_of_runs(rt: HostRuntime) -> Result<(), Fail> {
     let a = IntervalSet::new(alloc, 1, 2)?;
     let b = IntervalSet::singleton(a.allocator(), 3)?;
     assert!(rt; !a.overlap(&b));
+    let a: IntervalSet<i32> = IntervalSet::new(alloc, 1, 5)?;
+    a.in_whole(); // a proof knows from here on that the members of `a` are in the range
+    assert!(rt; !a.contains(&i32::MIN));
     Ok(())
 }
 

@@ -64,7 +64,7 @@ impl<B: Width> Store<B> {
         ensures { result ≡ domains.items }
     {
         for domain in &domains {
-            let _ = domain.interval_count();
+            domain.in_whole();
         }
         Store { alloc, domains }
     }

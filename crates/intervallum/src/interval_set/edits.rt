@@ -40,7 +40,7 @@ impl<B: Width> IntervalSet<B> {
         ensures is_new { IfOk result (λ is_new. IsTrue is_new ↔ ¬ (Covers self.old (B.value value))) }
         ensures err { OnErr result (self.new ≡ self.old) }
     {
-        self.as_runs();
+        self.in_whole();
         if self.contains(&value) {
             return Ok(false);
         }
@@ -69,7 +69,7 @@ impl<B: Width> IntervalSet<B> {
         ensures was_member { IfOk result (λ was_member. IsTrue was_member ↔ Covers self.old (B.value value)) }
         ensures err { OnErr result (self.new ≡ self.old) }
     {
-        self.as_runs();
+        self.in_whole();
         if !self.contains(&value) {
             return Ok(false);
         }

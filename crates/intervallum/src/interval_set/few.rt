@@ -33,8 +33,7 @@ pub(super) fn common_with_few<B: Width>(
     // for each of the few no more looks than four times the binary digits of the number of the many
     ensures looks { (digits : ℕ) → length many.old.runs + 1 < 2 ^ digits → many.new.looks ≤ many.old.looks + length few.now * (4 * digits) }
 {
-    // the runs are those of a set, which the count tells
-    let _count = many.len();
+    many.in_whole();
     let mut set = IntervalSet::with_room(few.allocator(), few.interval_count())?;
     let mut from = 0;
     for run in few.as_runs() {
@@ -52,7 +51,7 @@ pub(super) fn without_few<B: Width>(
     ensures members { IfOk result (λ L. IsRunsOf L (Without (Covers many.now) (Covers few.now))) }
 {
     // the members of the many are in the range, and so in the complement of the few where not in them
-    many.as_runs();
+    many.in_whole();
     let free = few.complement()?;
     common_with_few(&free, &mut Probes::new(many))
 }

@@ -1,4 +1,4 @@
-//! The runs of a set as a slice.
+//! The runs of a set as a slice, and what is known of them.
 ghost use Rattle.std.specs.Prelude.{◌≡◌, All};
 ghost use Rattle.ivl_laws.specs.Sets.{HasSome, IsBetween};
 ghost use Rattle.ivl_laws.specs.Runs.{IsRunListIn};
@@ -21,5 +21,18 @@ impl<B: Width> IntervalSet<B> {
         ensures filled { All (λ run. HasSome (IsBetween run)) self.now }
     {
         self.iter().as_slice()
+    }
+
+    /// The runs are maximal and lie in the range. This does nothing: its contract is the fact.
+    ///
+    /// ```
+    /// let a: IntervalSet<i32> = IntervalSet::new(alloc, 1, 5)?;
+    /// a.in_whole(); // a proof knows from here on that the members of `a` are in the range
+    /// assert!(rt; !a.contains(&i32::MIN));
+    /// ```
+    pub fn in_whole(&self)
+        ensures { IsRunListIn B.whole self.now }
+    {
+        self.as_runs();
     }
 }

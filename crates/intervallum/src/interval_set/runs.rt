@@ -126,7 +126,10 @@ fn is_same<B: Width>(run: Interval<B>, other: Interval<B>) -> bool
     requires other { other.0 ≤ℤ other.1 }
     ensures { IsTrue result ↔ (run ≡ other) }
 {
-    run.lower() == other.lower() && run.upper() == other.upper()
+    // by one branch for both
+    let lower_is_same = run.lower() == other.lower();
+    let upper_is_same = run.upper() == other.upper();
+    lower_is_same & upper_is_same
 }
 
 /// No number is missing between a run and one that starts no lower.

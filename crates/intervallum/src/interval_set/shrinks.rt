@@ -11,7 +11,7 @@ use crate::interval::Interval;
 use crate::ops::{
     Bounded, IsEmpty, ShrinkLeft, ShrinkRight, StrictShrinkLeft, StrictShrinkRight, Whole,
 };
-use crate::steps::{Place, Probes, find};
+use crate::steps::{Probes, runs_before, runs_up_to};
 use crate::width::Width;
 use std::alloc::{AllocError, Global};
 
@@ -113,36 +113,6 @@ pub(super) fn cut<B: Width>(
     let end = runs_up_to(&mut probes, window.upper());
     let kept = &runs[start..end];
     cut_runs(set.allocator(), kept, window)
-}
-
-/// How many runs of a set lie below a value.
-fn runs_before<B: Width>(probes: &mut Probes<'_, B>, value: B) -> usize
-    ensures below { EndBelow (B.value value) (take result probes.old.runs) }
-    ensures rest { EndsFrom (B.value value) (drop result probes.old.runs) }
-    ensures at_most { result ≤ length probes.old.runs }
-    ensures same { probes.new.runs ≡ probes.old.runs }
-{
-    // the runs are those of a set, which the count tells
-    let _count = probes.len();
-    match find(probes, value) {
-        Place::In(i) => i,
-        Place::Gap(i) => i,
-    }
-}
-
-/// How many runs of a set start at a value or below.
-fn runs_up_to<B: Width>(probes: &mut Probes<'_, B>, value: B) -> usize
-    ensures starts { StartsBy (B.value value) (take result probes.old.runs) }
-    ensures above { StartAbove (B.value value) (drop result probes.old.runs) }
-    ensures at_most { result ≤ length probes.old.runs }
-    ensures same { probes.new.runs ≡ probes.old.runs }
-{
-    // the runs are those of a set, and no more than can be counted
-    let _count = probes.len();
-    match find(probes, value) {
-        Place::In(i) => i + 1,
-        Place::Gap(i) => i,
-    }
 }
 
 /// The numbers of runs that lie in an interval: all of each run but the first and the last.

@@ -93,7 +93,7 @@ impl<B: Width> Intersection<B> for IntervalSet<B> {
         ensures runs_at_most { IfOk result (λ L. length L ≤ length self.now + 1) }
     {
         // the members are in the range, and so is the value where it is one
-        self.as_runs();
+        self.in_whole();
         if self.contains(other) {
             IntervalSet::new(self.allocator(), *other, *other)
         } else {

@@ -71,7 +71,7 @@ fn heads<B: Width>(first: &Walk<'_, B>, second: &Walk<'_, B>) -> Option<(Interva
         (λ runs. (Some runs.0 ≡ slice_get first.now.left 0) × (Some runs.1 ≡ slice_get second.now.left 0)) }
     ensures within { IsRunListIn B.whole first.now.left × IsRunListIn B.whole second.now.left }
 {
-    second.in_range();
+    second.in_whole();
     let a = first.peek()?;
     let b = second.peek()?;
     Some((a, b))
@@ -85,7 +85,7 @@ pub(super) fn push_part<B: Width>(
     requires apart { IsBelow (pos 2) (Covers set.old) (IsBetween part) }
     ensures { OnOk result (IsRunsOf set.new (Union (Covers set.old) (IsBetween part))) }
 {
-    set.as_runs();
+    set.in_whole();
     if part.is_empty() {
         return Ok(());
     }

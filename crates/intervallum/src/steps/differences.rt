@@ -98,7 +98,7 @@ fn push_rest<B: Width>(
     requires above { IsBelow (pos 1) (Covers set.old) (Covers (led_by held walk.left)) }
     ensures { OnOk result (IsRunsOf set.new (Union (Covers set.old) (Covers (led_by held walk.entry.left)))) }
 {
-    set.as_runs();
+    set.in_whole();
     'walk: while let Some(run) = held {
         push_above(set, run)?;
         held = walk.take();
@@ -111,7 +111,7 @@ fn push_above<B: Width>(set: &mut IntervalSet<B>, part: Interval<B>) -> Result<(
     requires above { IsBelow (pos 1) (Covers set.old) (IsBetween part) }
     ensures { OnOk result (IsRunsOf set.new (Union (Covers set.old) (IsBetween part))) }
 {
-    set.as_runs();
+    set.in_whole();
     if part.is_empty() {
         return Ok(());
     }

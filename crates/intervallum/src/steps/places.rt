@@ -1,11 +1,39 @@
-//! How many runs of a set lie below a value, searched for from a place on.
+//! How many runs of a set lie below a value, searched for among all or from a place on.
 ghost use Rattle.std.specs.Prelude.{◌≡◌, ℕ, ◌+◌, ◌-◌, ◌*◌, ◌^◌, ◌<◌, ◌≤◌, drop, length, take};
 ghost use Rattle.ivl_laws.specs.Runs.{StartsBy};
 ghost use Rattle.intervallum.specs.Places.{EndBelow, EndsFrom, StartAbove};
 
 use super::probes::Probes;
-use super::search::{Place, find_from};
+use super::search::{Place, find, find_from};
 use crate::width::Width;
+
+/// How many runs end below a value.
+pub(crate) fn runs_before<B: Width>(probes: &mut Probes<'_, B>, value: B) -> usize
+    ensures below { EndBelow (B.value value) (take result probes.old.runs) }
+    ensures ends { EndsFrom (B.value value) (drop result probes.old.runs) }
+    ensures at_most { result ≤ length probes.old.runs }
+    ensures same { probes.new.runs ≡ probes.old.runs }
+{
+    probes.in_whole();
+    match find(probes, value) {
+        Place::In(i) => i,
+        Place::Gap(i) => i,
+    }
+}
+
+/// How many runs start at a value or below.
+pub(crate) fn runs_up_to<B: Width>(probes: &mut Probes<'_, B>, value: B) -> usize
+    ensures starts { StartsBy (B.value value) (take result probes.old.runs) }
+    ensures above { StartAbove (B.value value) (drop result probes.old.runs) }
+    ensures at_most { result ≤ length probes.old.runs }
+    ensures same { probes.new.runs ≡ probes.old.runs }
+{
+    probes.in_whole();
+    match find(probes, value) {
+        Place::In(i) => i + 1,
+        Place::Gap(i) => i,
+    }
+}
 
 /// How many runs end below a value, as the first `from` do. Looks as `find_from` does.
 pub(crate) fn first_from<B: Width>(probes: &mut Probes<'_, B>, value: B, from: usize) -> usize
@@ -18,8 +46,7 @@ pub(crate) fn first_from<B: Width>(probes: &mut Probes<'_, B>, value: B, from: u
     ensures same { probes.new.runs ≡ probes.old.runs }
     ensures looks { (digits : ℕ) → result - from + 1 < 2 ^ digits → probes.new.looks < probes.old.looks + 2 * digits }
 {
-    // the runs are those of a set, which the count tells
-    let _count = probes.len();
+    probes.in_whole();
     match find_from(probes, value, from) {
         Place::In(i) => i,
         Place::Gap(i) => i,
@@ -38,8 +65,7 @@ pub(crate) fn last_up_to<B: Width>(probes: &mut Probes<'_, B>, value: B, from: u
     ensures same { probes.new.runs ≡ probes.old.runs }
     ensures looks { (digits : ℕ) → result - from + 1 < 2 ^ digits → probes.new.looks < probes.old.looks + 2 * digits }
 {
-    // the runs are those of a set, and no more than can be counted
-    let _count = probes.len();
+    probes.in_whole();
     match find_from(probes, value, from) {
         Place::In(i) => i + 1,
         Place::Gap(i) => i,

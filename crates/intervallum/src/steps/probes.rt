@@ -1,5 +1,5 @@
 //! The runs of a set, seen one by one, each by a look that contracts count.
-ghost use Rattle.std.specs.Prelude.{◌≡◌, ◌+◌, ◌-◌, ◌<◌, ◌≤◌, ◌≤ℤ◌, Some, drop, length, slice_get, take};
+ghost use Rattle.std.specs.Prelude.{◌≡◌, ◌+◌, ◌-◌, ◌^◌, ◌<◌, ◌≤◌, ◌≤ℤ◌, Some, drop, length, slice_get, take};
 ghost use Rattle.ivl_laws.specs.Runs.{IsRunListIn};
 
 use crate::interval::Interval;
@@ -86,6 +86,16 @@ impl<'a, B: Width> Probes<'a, B> {
         self.looks = self.looks.and(&(), &());
         run
     }
+
+    /// The runs are those of a set, and no more than can be counted. This does nothing: its contract is
+    /// the fact.
+    pub(crate) fn in_whole(&self)
+        ensures runs { IsRunListIn B.whole self.now.runs }
+        ensures counted { length self.now.runs < 2 ^ 64 }
+    {
+        self.len();
+    }
+
     /// The runs from place `start` to before place `end`, to be copied. This is no look.
     pub(crate) fn part(&self, start: usize, end: usize) -> &'a [Interval<B>]
         requires in_order { start ≤ end }

@@ -120,7 +120,7 @@ impl<'a, B: Width> Walk<'a, B> {
     }
 
     /// The runs that are left are in the range. This does nothing: its contract is the fact.
-    pub(crate) fn in_range(&self)
+    pub(crate) fn in_whole(&self)
         ensures { IsRunListIn B.whole self.now.left }
     {
         let _taken = self.taken;

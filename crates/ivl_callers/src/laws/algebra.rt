@@ -42,7 +42,7 @@ pub fn complement_of_common<B: Width>(
 pub fn complement_twice<B: Width>(a: &IntervalSet<B>) -> Result<bool, AllocError>
     ensures { IfOk result IsTrue }
 {
-    let _runs = a.interval_count();
+    a.in_whole();
     let rest = a.complement()?;
     let again = rest.complement()?;
     Ok(same_members_are_equal(&again, a))

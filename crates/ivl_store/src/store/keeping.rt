@@ -98,7 +98,7 @@ fn keep_run<B: Width>(
     requires within { IsSubset (IsBetween kept) (IsBetween run) }
     ensures { IfOk result (IsLeftOf B.whole x.now (IsBetween kept)) }
 {
-    let _ = x.interval_count();
+    x.in_whole();
     if kept == run {
         return Ok(None);
     }
@@ -118,7 +118,7 @@ pub(super) fn keep_within<B: Width>(
 ) -> Result<Option<IntervalSet<B>>, AllocError>
     ensures { IfOk result (IsLeftOf B.whole x.now (Covers allowed.now)) }
 {
-    let _ = x.interval_count();
+    x.in_whole();
     let kept = x.intersection(allowed)?;
     Ok(if kept == *x { None } else { Some(kept) })
 }

@@ -9,7 +9,7 @@ ghost use Rattle.intervallum.specs.Places.{EndBelow, EndsFrom, StartAbove};
 use crate::interval::Interval;
 use crate::interval_set::IntervalSet;
 use crate::ops::{Bounded, IsEmpty, Range, StrictShrinkLeft, StrictShrinkRight};
-use crate::steps::{Place, Probes, find, last_up_to};
+use crate::steps::{Probes, last_up_to, runs_before};
 use crate::width::Width;
 
 /// The places of the runs that end at `lower` or above and start at `upper` or below: the first,
@@ -19,24 +19,9 @@ pub(super) fn span<B: Width>(set: &IntervalSet<B>, lower: B, upper: B) -> (usize
     ensures { IsSpan set.now (B.value lower) (B.value upper) result.0 result.1 }
 {
     let mut probes = Probes::new(set);
-    let start = first_from(&mut probes, lower);
+    let start = runs_before(&mut probes, lower);
     let end = last_up_to(&mut probes, upper, start);
     (start, end)
-}
-
-/// How many runs end below a value.
-fn first_from<B: Width>(probes: &mut Probes<'_, B>, value: B) -> usize
-    ensures below { EndBelow (B.value value) (take result probes.old.runs) }
-    ensures ends { EndsFrom (B.value value) (drop result probes.old.runs) }
-    ensures at_most { result ≤ length probes.old.runs }
-    ensures same { probes.new.runs ≡ probes.old.runs }
-{
-    // the runs are those of a set, which the count tells
-    let _count = probes.len();
-    match find(probes, value) {
-        Place::In(i) => i,
-        Place::Gap(i) => i,
-    }
 }
 
 /// The places of the runs that overlap or touch an interval: the first, and the one after the last.
@@ -44,7 +29,7 @@ pub(super) fn touched<B: Width>(set: &IntervalSet<B>, interval: &Interval<B>) ->
     requires { interval.now.0 ≤ℤ interval.now.1 }
     ensures { IsSpan set.now (interval.now.0 -ℤ pos 1) (interval.now.1 +ℤ pos 1) result.0 result.1 }
 {
-    set.as_runs();
+    set.in_whole();
     let below = one_below(interval.lower());
     let above = one_above(interval.upper());
     span(set, below, above)

@@ -28,7 +28,7 @@ cut_runs-requires-clause-window g c = not_crossed c.args.window.now (untrue _ c.
 pub cut_runs-requires-clause-first : goal.cut_runs-requires-clause-first
 cut_runs-requires-clause-first g c =
     first_of_kept c.as_runs-runs.result.now c.args.set.now c.new-probes.result.runs c.runs_before-start.result (c.runs_up_to-end.result - c.runs_before-start.result) _ _
-    c.as_runs-runs.ensures.same c.new-probes.ensures.runs c.lower.ensures.value c.runs_before-start.ensures.rest
+    c.as_runs-runs.ensures.same c.new-probes.ensures.runs c.lower.ensures.value c.runs_before-start.ensures.ends
 
 pub cut_runs-requires-clause-last : goal.cut_runs-requires-clause-last
 cut_runs-requires-clause-last g c =

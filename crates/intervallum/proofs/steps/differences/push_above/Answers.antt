@@ -5,7 +5,7 @@ use Rattle.intervallum.proofs.steps.differences.push_above.Goals as goal
 
 pub push_run-requires-clause-in_order : goal.push_run-requires-clause-in_order
 push_run-requires-clause-in_order g c =
-    starts_by c.args.set.now c.args.part c.as_runs.ensures.runs.maximal (not_crossed c.args.part (untrue _ c.if-is_empty.false c.is_empty.ensures.crossed)) c.requires.above
+    starts_by c.args.set.now c.args.part c.in_whole.ensures.maximal (not_crossed c.args.part (untrue _ c.if-is_empty.false c.is_empty.ensures.crossed)) c.requires.above
 
 pub returns-then-is_empty : goal.returns-then-is_empty
-returns-then-is_empty g c = adds_none c.args.set.now _ c.as_runs.ensures.runs.maximal (c.is_empty.ensures.members.0 c.if-is_empty.true)
+returns-then-is_empty g c = adds_none c.args.set.now _ c.in_whole.ensures.maximal (c.is_empty.ensures.members.0 c.if-is_empty.true)

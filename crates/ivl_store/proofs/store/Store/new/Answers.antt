@@ -8,7 +8,7 @@ use Rattle.ivl_store.proofs.store.Store.new.Goals as goal
 pub loop-domain-preserved : goal.loop-domain-preserved
 loop-domain-preserved g c =
     All-more (IsRunListIn g.B.Width.whole) _ c.loop-domain.domain-index c.domain-item.result c.loop-domain-test.true c.loop-domain.invariant
-    (subst (IsRunListIn g.B.Width.whole) c.domain-item.is c.interval_count.ensures.runs)
+    (subst (IsRunListIn g.B.Width.whole) c.domain-item.is c.in_whole.ensures)
 
 pub invariant_of-result : goal.invariant_of-result
 invariant_of-result g c =

@@ -8,7 +8,7 @@ returns g c =
     let w = g.B.Width.whole in
     elim c.if-eq.branch [
       | then-eq b ↦ rw b.result-is
-          (keeps_all_within w _ c.in_ok-kept.kept _ c.interval_count.ensures.runs c.in_ok-kept.ensures.members (c.eq.ensures.members.0 b.if-eq.true))
+          (keeps_all_within w _ c.in_ok-kept.kept _ c.in_whole.ensures c.in_ok-kept.ensures.members (c.eq.ensures.members.0 b.if-eq.true))
       | else-eq b ↦ rw b.result-is
-          (keeps_some_within w _ c.in_ok-kept.kept _ c.interval_count.ensures.runs c.in_ok-kept.ensures.members (iff_false c.eq.ensures.members b.if-eq.false))
+          (keeps_some_within w _ c.in_ok-kept.kept _ c.in_whole.ensures c.in_ok-kept.ensures.members (iff_false c.eq.ensures.members b.if-eq.false))
     ]

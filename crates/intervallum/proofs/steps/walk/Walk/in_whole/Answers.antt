@@ -1,7 +1,7 @@
 use Rattle.std.proofs.Common.{ℤ, List, ap, subst}
 use Rattle.ivl_laws.specs.Runs.{IsRunListIn}
 use Rattle.ivl_laws.proofs.Ranges.{IsRunListIn-drop}
-use Rattle.intervallum.proofs.steps.walk.Walk.in_range.Goals as goal
+use Rattle.intervallum.proofs.steps.walk.Walk.in_whole.Goals as goal
 
 pub returns : goal.returns
 returns g c =
