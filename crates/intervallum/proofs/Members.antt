@@ -1,5 +1,5 @@
 -- The numbers of intervals, taken from either end, and the members of a list of runs.
-use Rattle.std.proofs.Common.{◌≡◌, ◌↔◌, ⊎_elim, inl, inr, ℕ, suc, zero, ℤ, pos, ◌+ℤ◌, ◌-ℤ◌, ◌≤ℤ◌, List, [], ◌∷◌, ◌++◌, append-nil, append_assoc, refl, sym, ap, ◌∙◌, subst, arith}
+use Rattle.std.proofs.Common.{◌≡◌, ◌↔◌, ⊎_elim, inl, inr, ℕ, suc, zero, ℤ, pos, ◌+ℤ◌, ◌-ℤ◌, ◌≤ℤ◌, List, [], ◌∷◌, ◌++◌, append-nil, append_assoc, length-append, refl, sym, ap, ◌∙◌, subst, arith}
 use Rattle.std.specs.Prelude.{◌<ℤ◌}
 use Rattle.std.specs.Prelude.{Option, Some, None, length, ⊤}
 use Rattle.std.specs.Iterator.{MakesProgress, YieldsFirstBy, YieldsLastBy, item_count}
@@ -167,3 +167,71 @@ first_of_part value all part left M N (Some x) h y = h.parts ∙ ap (λ (K : Lis
 pub goes_by_first : {A : Type 0} (value : A → ℤ) (all left : List ℤ) (r : Option A) → YieldsFirstBy value (λ (l : List ℤ). l) all r left → MakesProgress (λ _. ⊤) (item_count (λ (l : List ℤ). l)) all r left
 goes_by_first value all left None y = record { on = λ f. tt; keeps = tt; rests = λ f. tt }
 goes_by_first value all left (Some x) y = let e = ap length y in record { on = λ f. (tt, tt, omega arith); keeps = tt; rests = λ f. tt }
+
+-- ---- one step from the back
+
+pub record IsReadyBack (all rest part : List ℤ) : Type 0 where
+  pub parts : all ≡ rest ++ part
+  pub none : part ≡ [] → rest ≡ []
+
+pub back_as_is : (all : List ℤ) (F L : ℤ × ℤ) (B : List (ℤ × ℤ)) → numbers_of F ++ members_of B ++ numbers_of L ≡ all → HasSome (IsBetween L) →
+    IsReadyBack all (numbers_of F ++ members_of B) (numbers_of L)
+back_as_is all F L B e s = record {
+  parts = sym e;
+  none = λ n. absurd (subst (λ (M : List ℤ). IsIn M s.0) n ((in_numbers L s.0).0 s.1));
+}
+
+each_of_pushed : (P : ℤ × ℤ → Type 0) (B : List (ℤ × ℤ)) (run : ℤ × ℤ) → AllByRecursion P (B ++ run ∷ []) → AllByRecursion P B × P run
+each_of_pushed P [] run a = (tt, a.0)
+each_of_pushed P (p ∷ B) run a = let k = each_of_pushed P B run a.1 in ((a.0, k.0), k.1)
+
+-- the runs before the last one have numbers as well
+pub filled_before : (run : ℤ × ℤ) (B rest : List (ℤ × ℤ)) → AllByRecursion (λ r. r.0 ≤ℤ r.1) B → B ≡ rest ++ run ∷ [] → AllByRecursion (λ r. r.0 ≤ℤ r.1) rest
+filled_before run B rest o f = (each_of_pushed (λ r. r.0 ≤ℤ r.1) rest run (subst (AllByRecursion (λ (r : ℤ × ℤ). r.0 ≤ℤ r.1)) f o)).0
+
+-- the last of the runs between
+pub back_by_run : (all : List ℤ) (F L run : ℤ × ℤ) (B rest : List (ℤ × ℤ)) → numbers_of F ++ members_of B ++ numbers_of L ≡ all → AllByRecursion (λ r. r.0 ≤ℤ r.1) B → IsCrossed L → B ≡ rest ++ run ∷ [] →
+    IsReadyBack all (numbers_of F ++ members_of rest) (numbers_of run)
+back_by_run all F L run B rest e o c f = back_as_is all F run rest
+    (append_assoc (numbers_of F) (members_of rest) (numbers_of run)
+    ∙ ap (λ (M : List ℤ). numbers_of F ++ M) (sym (ap members_of f ∙ members_of-push rest run))
+    ∙ sym (append-nil (numbers_of F ++ members_of B))
+    ∙ ap (λ (M : List ℤ). numbers_of F ++ members_of B ++ M) (sym (numbers_of-crossed L c)) ∙ e)
+    ((some_is_not_crossed run).1 (each_of_pushed (λ r. r.0 ≤ℤ r.1) rest run (subst (AllByRecursion (λ (r : ℤ × ℤ). r.0 ≤ℤ r.1)) f o)).1)
+
+-- the part at the front, where no run is between
+pub back_by_first : (all : List ℤ) (F L E : ℤ × ℤ) (B : List (ℤ × ℤ)) → numbers_of F ++ members_of B ++ numbers_of L ≡ all → IsCrossed L → IsCrossed E → length B ≡ 0 →
+    IsReadyBack all (numbers_of E ++ members_of B) (numbers_of F)
+back_by_first all F L E [] e c d h = record {
+  parts = sym e
+      ∙ ap (λ (M : List ℤ). numbers_of F ++ [] ++ M) (numbers_of-crossed L c)
+      ∙ append-nil (numbers_of F ++ []) ∙ append-nil (numbers_of F)
+      ∙ ap (λ (M : List ℤ). M ++ [] ++ numbers_of F) (sym (numbers_of-crossed E d));
+  none = λ n. ap (λ (M : List ℤ). M ++ []) (numbers_of-crossed E d);
+}
+back_by_first all F L E (p ∷ B) e c d h = absurd (omega arith)
+
+pub last_of_part : {A : Type 0} (value : A → ℤ) (all rest part left : List ℤ) (r : Option A) → IsReadyBack all rest part →
+    YieldsLastBy value (λ (l : List ℤ). l) part r left → YieldsLastBy value (λ (l : List ℤ). l) all r (rest ++ left)
+last_of_part value all rest part left None h y =
+    let e = h.none y.0 in (
+      h.parts ∙ ap (λ (K : List ℤ). rest ++ K) y.0 ∙ ap (λ (K : List ℤ). K ++ []) e,
+      ap (λ (K : List ℤ). rest ++ K) y.1 ∙ ap (λ (K : List ℤ). K ++ []) e,
+    )
+last_of_part value all rest part left (Some x) h y = h.parts ∙ ap (λ (K : List ℤ). rest ++ K) y ∙ sym (append_assoc rest left (value x ∷ []))
+
+pub goes_by_last : {A : Type 0} (value : A → ℤ) (all left : List ℤ) (r : Option A) → YieldsLastBy value (λ (l : List ℤ). l) all r left → MakesProgress (λ _. ⊤) (item_count (λ (l : List ℤ). l)) all r left
+goes_by_last value all left None y = record { on = λ f. tt; keeps = tt; rests = λ f. tt }
+goes_by_last value all left (Some x) y = let e = ap length y in let n = length-append left (value x ∷ []) in record { on = λ f. (tt, tt, omega arith); keeps = tt; rests = λ f. tt }
+
+-- ---- all members
+
+pub all_left : (L : List (ℤ × ℤ)) (E E' : ℤ × ℤ) (B : List (ℤ × ℤ)) → IsCrossed E → IsCrossed E' → B ≡ L → numbers_of E ++ members_of B ++ numbers_of E' ≡ members_of L
+all_left L E E' B c d e = ap (λ (M : List ℤ). M ++ members_of B ++ numbers_of E') (numbers_of-crossed E c) ∙ ap (λ (M : List ℤ). members_of B ++ M) (numbers_of-crossed E' d) ∙ append-nil (members_of B) ∙ ap members_of e
+
+pub each_is_open : (L B : List (ℤ × ℤ)) → B ≡ L → IsMaximal L → AllByRecursion (λ r. r.0 ≤ℤ r.1) B
+each_is_open L B e m = subst (AllByRecursion (λ (r : ℤ × ℤ). r.0 ≤ℤ r.1)) (sym e) (go L m)
+  where
+    go : (M : List (ℤ × ℤ)) → IsMaximal M → AllByRecursion (λ (r : ℤ × ℤ). r.0 ≤ℤ r.1) M
+    go [] n = tt
+    go (p ∷ M) n = (n.0, go M n.2)
