@@ -1,7 +1,6 @@
 -- The numbers of intervals, taken from either end, and the members of a list of runs.
-use Rattle.std.proofs.Common.{◌≡◌, ◌↔◌, ⊎_elim, inl, inr, ℕ, suc, zero, ℤ, pos, ◌+ℤ◌, ◌-ℤ◌, ◌≤ℤ◌, List, [], ◌∷◌, ◌++◌, append-nil, append_assoc, length-append, refl, sym, ap, ◌∙◌, subst, arith}
-use Rattle.std.specs.Prelude.{◌<ℤ◌}
-use Rattle.std.specs.Prelude.{Option, Some, None, length, ⊤}
+use Rattle.std.proofs.Common.{◌≡◌, ⊎_elim, inl, inr, ℕ, suc, zero, ℤ, pos, ◌+ℤ◌, ◌-ℤ◌, ◌≤ℤ◌, List, [], ◌∷◌, ◌++◌, append-nil, append_assoc, length-append, refl, sym, ap, ◌∙◌, subst, arith}
+use Rattle.std.specs.Prelude.{◌<ℤ◌, Option, Some, None, length, ⊤}
 use Rattle.std.specs.Iterator.{MakesProgress, YieldsFirstBy, YieldsLastBy, item_count}
 use Rattle.std.specs.List.{AllByRecursion}
 use Rattle.std.proofs.lemmas.Int.{ints, clamps, by_lt_z}
@@ -90,28 +89,13 @@ in_members (p ∷ L) z = (
   (λ i. ⊎_elim (λ a. inl ((in_numbers p z).1 a)) (λ b. inr ((in_members L z).1 b)) (in-append (numbers_of p) (members_of L) z i)),
 )
 
-all_if_each : (P : ℤ → Type 0) (M : List ℤ) → ((z : ℤ) → IsIn M z → P z) → AllByRecursion P M
-all_if_each P [] f = tt
-all_if_each P (x ∷ M) f = (f x (inl refl), all_if_each P M (λ z i. f z (inr i)))
-
-each_if_all : (P : ℤ → Type 0) (M : List ℤ) (z : ℤ) → AllByRecursion P M → IsIn M z → P z
-each_if_all P [] z a i = absurd i
-each_if_all P (x ∷ M) z a (inl e) = subst P (sym e) a.0
-each_if_all P (x ∷ M) z a (inr i) = each_if_all P M z a.1 i
-
 ascending_numbers : (v : ℤ) (n : ℕ) → IsAscending (numbers_from v n)
 ascending_numbers v zero = tt
-ascending_numbers v (suc n) = (
-  all_if_each (λ y. v <ℤ y) (numbers_from (v +ℤ pos 1) n) (λ z i. let k = (in_numbers_from (v +ℤ pos 1) n z i).0 in omega (arith, ints)),
-  ascending_numbers (v +ℤ pos 1) n,
-)
+ascending_numbers v (suc n) = ((λ z i. let k = (in_numbers_from (v +ℤ pos 1) n z i).0 in omega (arith, ints)), ascending_numbers (v +ℤ pos 1) n)
 
 IsAscending-append : (M N : List ℤ) → IsAscending M → IsAscending N → ((x y : ℤ) → IsIn M x → IsIn N y → x <ℤ y) → IsAscending (M ++ N)
 IsAscending-append [] N a b f = b
-IsAscending-append (x ∷ M) N a b f = (
-  all_if_each (λ y. x <ℤ y) (M ++ N) (λ y i. ⊎_elim (λ j. each_if_all (λ y. x <ℤ y) M y a.0 j) (λ j. f x y (inl refl) j) (in-append M N y i)),
-  IsAscending-append M N a.1 b (λ u y i j. f u y (inr i) j),
-)
+IsAscending-append (x ∷ M) N a b f = ((λ y i. ⊎_elim (a.0 y) (f x y (inl refl)) (in-append M N y i)), IsAscending-append M N a.1 b (λ u y i j. f u y (inr i) j))
 
 pub ascending_members : (L : List (ℤ × ℤ)) → IsMaximal L → IsAscending (members_of L)
 ascending_members [] m = tt

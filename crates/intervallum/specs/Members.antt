@@ -4,8 +4,8 @@
 --     members_of L      the numbers of each run in turn
 --     IsAscending M      each number is below all those after it
 use Rattle.std.specs.Prelude.{ℕ, suc, zero, ℤ, pos, ◌+ℤ◌, ◌<ℤ◌, List, [], ◌∷◌, ◌++◌}
-use Rattle.std.specs.List.{AllByRecursion}
 use Rattle.ivl_laws.specs.Bounds.{width_of}
+use Rattle.ivl_laws.specs.Counts.{IsIn}
 
 abbrev pub numbers_from : ℤ → ℕ → List ℤ
 numbers_from v zero = []
@@ -20,4 +20,4 @@ members_of (run ∷ L) = numbers_of run ++ members_of L
 
 abbrev pub IsAscending : List ℤ → Type 0
 IsAscending [] = Unit {0}
-IsAscending (x ∷ M) = AllByRecursion (λ y. x <ℤ y) M × IsAscending M
+IsAscending (x ∷ M) = ((y : ℤ) → IsIn M y → x <ℤ y) × IsAscending M

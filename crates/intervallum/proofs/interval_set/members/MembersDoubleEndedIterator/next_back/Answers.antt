@@ -10,8 +10,8 @@ invariant_of-self g c =
     let old = c.self.inside in
     let now = c.if-is_empty.self-inside in
     let filled : AllByRecursion (λ run. run.0 ≤ℤ run.1) now.between.now = elim c.if-is_empty.branch [
-      then-is_empty w ↦ elim w.match-split_last.branch [
-        in-Some v ↦ rw (w.self-inside-is, v.self-inside-is) (filled_before v.in-Some.run'.now old.between.now v.in-Some.rest.now c.self.invariant v.in-Some.ensures.cases.0)
+      | then-is_empty w ↦ elim w.match-split_last.branch [
+        | in-Some v ↦ rw (w.self-inside-is, v.self-inside-is) (filled_before v.in-Some.run'.now old.between.now v.in-Some.rest.now c.self.invariant v.in-Some.ensures.cases.0)
         | in-None v ↦ rw (w.self-inside-is, v.self-inside-is) c.self.invariant
       ]
       | else-is_empty w ↦ rw w.self-inside-is c.self.invariant
@@ -24,8 +24,8 @@ returns-clause-steps g c =
     let old = c.self.inside in
     let now = c.if-is_empty.self-inside in
     let ready : IsReadyBack all (numbers_of now.first ++ members_of now.between.now) (numbers_of now.last) = elim c.if-is_empty.branch [
-      then-is_empty w ↦ elim w.match-split_last.branch [
-        in-Some v ↦ rw (w.self-inside-is, v.self-is, v.self-inside-is) (back_by_run all old.first old.last v.in-Some.run'.now old.between.now v.in-Some.rest.now c.self.view_is c.self.invariant (w.if-is_empty.ensures.crossed.0 refl) v.in-Some.ensures.cases.0)
+      | then-is_empty w ↦ elim w.match-split_last.branch [
+        | in-Some v ↦ rw (w.self-inside-is, v.self-is, v.self-inside-is) (back_by_run all old.first old.last v.in-Some.run'.now old.between.now v.in-Some.rest.now c.self.view_is c.self.invariant (w.if-is_empty.ensures.crossed.0 refl) v.in-Some.ensures.cases.0)
         | in-None v ↦ rw (w.self-inside-is, v.self-is, v.self-inside-is, v.replace-self-inside.ensures.value, v.replace-self-inside.ensures.after) (back_by_first all old.first old.last v.empty.result old.between.now c.self.view_is (w.if-is_empty.ensures.crossed.0 refl) v.empty.ensures.crossed v.in-None.ensures.cases)
       ]
       | else-is_empty w ↦ rw w.self-inside-is (back_as_is all old.first old.last old.between.now c.self.view_is (w.if-is_empty.ensures.filled (λ e. cc)))
