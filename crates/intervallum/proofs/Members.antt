@@ -1,5 +1,5 @@
 -- The numbers of intervals, taken from either end, and the members of a list of runs.
-use Rattle.std.proofs.Common.{◌≡◌, ⊎_elim, inl, inr, ℕ, suc, zero, ℤ, pos, ◌+ℤ◌, ◌-ℤ◌, ◌≤ℤ◌, List, [], ◌∷◌, ◌++◌, append-nil, append_assoc, length-append, refl, sym, ap, ◌∙◌, subst, arith}
+use Rattle.std.proofs.Common.{◌≡◌, ⊎_elim, inl, inr, ℕ, suc, zero, ℤ, pos, negsuc, ◌+ℤ◌, ◌-ℤ◌, ◌≤ℤ◌, List, [], ◌∷◌, ◌++◌, append-nil, append_assoc, length-append, refl, sym, ap, ◌∙◌, subst, arith}
 use Rattle.std.specs.Prelude.{◌<ℤ◌, Option, Some, None, length, ⊤}
 use Rattle.std.specs.Iterator.{MakesProgress, YieldsFirstBy, YieldsLastBy, item_count}
 use Rattle.std.specs.List.{AllByRecursion}
@@ -107,6 +107,13 @@ ascending_members (p ∷ L) m = IsAscending-append (numbers_of p) (members_of L)
 pub members_of-push : (L : List (ℤ × ℤ)) (p : ℤ × ℤ) → members_of (L ++ p ∷ []) ≡ members_of L ++ numbers_of p
 members_of-push [] p = append-nil (numbers_of p)
 members_of-push (q ∷ L) p = ap (λ (M : List ℤ). numbers_of q ++ M) (members_of-push L p) ∙ sym (append_assoc (numbers_of q) (members_of L) (numbers_of p))
+
+-- two runs, and a crossed pair between them, which has no number
+two_runs : members_of ((pos 1, pos 2) ∷ (pos 4, pos 3) ∷ (pos 5, pos 6) ∷ []) ≡ pos 1 ∷ pos 2 ∷ pos 5 ∷ pos 6 ∷ []
+two_runs = refl
+
+around_zero : members_of ((negsuc 1, pos 1) ∷ []) ≡ negsuc 1 ∷ negsuc 0 ∷ pos 0 ∷ pos 1 ∷ []
+around_zero = refl
 
 -- ---- one step of the iterator
 

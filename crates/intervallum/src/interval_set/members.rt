@@ -150,15 +150,12 @@ fn take_greatest<B: Width>(part: &mut Interval<B>) -> Option<B>
 }
 
 impl<B: Width> IntervalSet<B> {
-    /// Returns the members, ascending, from both ends. `O(1)`. Does not allocate.
+    /// Returns the members, each once and ascending, from both ends. `O(1)`. Does not allocate.
     ///
     /// ```
-    /// let a: IntervalSet<i32> = [(1, 2), (5, 6)].to_interval_set(alloc)?;
-    /// let mut sum = 0;
-    /// for member in a.members() {
-    ///     sum += member;
-    /// }
-    /// assert_eq!(rt; sum, 14);
+    /// let a: IntervalSet<i32> = [(5, 6), (1, 2)].to_interval_set(alloc)?;
+    /// let all: Vec<i32> = a.members().collect(alloc)?;
+    /// assert!(rt; all.as_slice() == [1, 2, 5, 6].as_slice());
     /// ```
     pub fn members(&self) -> Members<'_, B>
         ensures left { result ≡ members_of self.now }
