@@ -18,9 +18,9 @@ last_is_greatest : (S : ℤ → Type 0) (M : List ℤ) (x : ℤ) → SameMembers
 last_is_greatest S M x h a = (
   (h x).1 (in-append_right M (x ∷ []) x (inl refl)),
   (λ z s. ⊎_elim
-    (λ i. let k = below_last M x z a i in omega (arith, ints))
-    (⊎_elim (λ e. omega (arith, ints)) (λ n. absurd n))
-    (in-append M (x ∷ []) z ((h z).0 s))),
+      (λ i. let k = below_last M x z a i in omega (arith, ints))
+      (⊎_elim (λ e. omega (arith, ints)) (λ n. absurd n))
+      (in-append M (x ∷ []) z ((h z).0 s))),
 )
 
 pub greatest_from_back : {A : Type 0} (value : A → ℤ) (S : ℤ → Type 0) (all left : List ℤ) (r : Option A) → SameMembers S (IsIn all) → IsAscending all →
