@@ -31,3 +31,4 @@ pub mod Ranks
 pub mod Appending
 pub mod Few
 pub mod Shortening
+pub mod Members

@@ -9,3 +9,4 @@ pub mod Led
 pub mod Edits
 pub mod Neighbours
 pub mod Rooms
+pub mod Members

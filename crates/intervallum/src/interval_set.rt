@@ -18,6 +18,7 @@ mod fits;
 mod inclusion;
 mod lattice;
 mod listing;
+mod members;
 mod neighbours;
 mod operands;
 mod reading;
@@ -32,6 +33,7 @@ use crate::interval::Interval;
 use crate::ops::{Cardinality, Collection, IntervalKind, IsEmpty, Range};
 use crate::width::{SizeNumber, Width};
 pub use conversions::{IntoRuns, ToIntervalSet};
+pub use members::Members;
 use std::alloc::{AllocError, Global};
 use std::marker::Model;
 

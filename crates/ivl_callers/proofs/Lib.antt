@@ -1,3 +1,4 @@
 pub mod Sizes
 pub mod Algebra
 pub mod Items
+pub mod Greatest

@@ -132,3 +132,72 @@ fn members_by_number(rt: HostRuntime) -> Result<(), Fail> {
     assert!(rt; all.rank(0) == 9_223_372_036_854_775_807);
     Ok(())
 }
+
+#[test]
+fn members_one_by_one(rt: HostRuntime) -> Result<(), Fail> {
+    let alloc = rt.alloc();
+    let a: IntervalSet<i32> = [(1, 2), (5, 6)].to_interval_set(alloc)?;
+    let mut left = a.members();
+    assert_eq!(rt; left.next(), Some(1));
+    assert_eq!(rt; left.next_back(), Some(6));
+    assert_eq!(rt; left.next(), Some(2));
+    assert_eq!(rt; left.next_back(), Some(5));
+    assert_eq!(rt; left.next_back(), None);
+    assert_eq!(rt; left.next(), None);
+    let a: IntervalSet<i32> = [(1, 1), (5, 6)].to_interval_set(alloc)?;
+    let mut left = a.members();
+    assert_eq!(rt; left.next(), Some(1));
+    assert_eq!(rt; left.next(), Some(5));
+    let a: IntervalSet<i32> = [(1, 2), (5, 5)].to_interval_set(alloc)?;
+    let mut left = a.members();
+    assert_eq!(rt; left.next_back(), Some(5));
+    assert_eq!(rt; left.next_back(), Some(2));
+    Ok(())
+}
+
+#[test]
+fn lists_of_members(rt: HostRuntime) -> Result<(), Fail> {
+    let alloc = rt.alloc();
+    let a: IntervalSet<i32> = [(5, 6), (1, 2)].to_interval_set(alloc)?;
+    let all: Vec<i32> = a.members().collect(alloc)?;
+    assert!(rt; all.as_slice() == [1, 2, 5, 6].as_slice());
+    let descending: Vec<i32> = a.members().rev().collect(alloc)?;
+    assert!(rt; descending.as_slice() == [6, 5, 2, 1].as_slice());
+    let none = IntervalSet::<i32>::empty(alloc);
+    assert!(rt; none.members().next().is_none() && none.members().next_back().is_none());
+    Ok(())
+}
+
+#[test]
+fn clones_of_members_that_are_left(rt: HostRuntime) -> Result<(), Fail> {
+    let alloc = rt.alloc();
+    let a = IntervalSet::new(alloc, 1, 3)?;
+    let mut left = a.members();
+    assert_eq!(rt; left.next(), Some(1));
+    assert_eq!(rt; left.clone()?.next(), Some(2));
+    assert_eq!(rt; left.next(), Some(2));
+    assert_eq!(rt; left.clone()?.next_back(), Some(3));
+    Ok(())
+}
+
+#[test]
+fn members_at_the_ends_of_types(rt: HostRuntime) -> Result<(), Fail> {
+    let alloc = rt.alloc();
+    let seven = IntervalSet::singleton(alloc, 7)?;
+    let mut one = seven.members();
+    assert!(rt; one.next_back() == Some(7) && one.next().is_none() && one.next_back().is_none());
+    let bytes = IntervalSet::<u8>::whole(alloc)?;
+    let mut left = bytes.members();
+    assert!(rt; left.next() == Some(0) && left.next_back() == Some(254));
+    let top = IntervalSet::<u8>::new(alloc, 253, 254)?;
+    let mut left = top.members();
+    assert!(rt; left.next() == Some(253) && left.next() == Some(254) && left.next().is_none());
+    let signed = IntervalSet::<i8>::whole(alloc)?;
+    let mut left = signed.members();
+    assert!(rt; left.next() == Some(-127) && left.next_back() == Some(127));
+    let top = IntervalSet::new(alloc, u64::MAX - 2, u64::MAX - 1)?;
+    let mut left = top.members();
+    assert!(rt; left.next() == Some(u64::MAX - 2) && left.next() == Some(u64::MAX - 1));
+    assert!(rt; left.next().is_none());
+    Ok(())
+}

@@ -1,0 +1,172 @@
+//! The members of a set one by one, from both ends.
+ghost use Rattle.std.specs.Prelude.{◌≡◌, ⊤};
+ghost use Rattle.std.specs.Iterator.{YieldsFirstBy, YieldsLastBy, item_count};
+ghost use Rattle.ivl_laws.specs.Sets.{SameMembers};
+ghost use Rattle.ivl_laws.specs.Runs.{Covers, IsRunListIn};
+ghost use Rattle.ivl_laws.specs.Counts.{IsIn};
+ghost use Rattle.intervallum.specs.Members.{IsAscending, members_of, numbers_of};
+
+use super::IntervalSet;
+use crate::interval::Interval;
+use crate::ops::{Bounded, Empty, IsEmpty, StrictShrinkLeft, StrictShrinkRight};
+use crate::width::Width;
+use std::alloc::AllocError;
+use std::iter::FusedIterator;
+use std::marker::Model;
+use std::mem;
+
+/// The members of a set, ascending, from both ends, as `members` gives them. A contract sees the
+/// numbers that are left.
+///
+/// No call allocates.
+///
+/// ```
+/// let a: IntervalSet<i32> = [(1, 2), (5, 6)].to_interval_set(alloc)?;
+/// let mut left = a.members();
+/// assert_eq!(rt; left.next(), Some(1));
+/// assert_eq!(rt; left.next_back(), Some(6));
+/// assert_eq!(rt; left.next(), Some(2));
+/// ```
+#[derive(Drop)]
+pub struct Members<'a, B: Width> {
+    first: Interval<B>,
+    between: &'a [Interval<B>],
+    last: Interval<B>,
+}
+
+impl<'a, B: Width> Model for Members<'a, B> {
+    ghost use Rattle.std.specs.Prelude.{ℤ, ◌≤ℤ◌, List, ◌++◌};
+    ghost use Rattle.std.specs.List.{AllByRecursion};
+    ghost use Rattle.intervallum.specs.Members.{members_of, numbers_of};
+
+    ghost Value = { List ℤ };
+
+    ghost view = { λ m. numbers_of m.first ++ members_of m.between.now ++ numbers_of m.last };
+
+    ghost invariant = { λ m. AllByRecursion (λ run. run.0 ≤ℤ run.1) m.between.now };
+}
+
+impl<'a, B: Width> Clone for Members<'a, B> {
+    ghost is_clone = { λ m copy. copy ≡ m };
+
+    ghost is_infallible = { λ _. ⊤ };
+
+    /// Returns an iterator over the same members that are left. `O(1)`. Never fails.
+    ///
+    /// ```
+    /// let a = IntervalSet::new(alloc, 1, 3)?;
+    /// let mut left = a.members();
+    /// assert_eq!(rt; left.next(), Some(1));
+    /// assert_eq!(rt; left.clone()?.next(), Some(2));
+    /// assert_eq!(rt; left.next(), Some(2));
+    /// ```
+    fn clone(&self) -> Result<Self, AllocError> {
+        Ok(Members {
+            first: self.first,
+            between: self.between,
+            last: self.last,
+        })
+    }
+}
+
+impl<'a, B: Width> Iterator for Members<'a, B> {
+    type Item = B;
+
+    ghost next_gives = { YieldsFirstBy B.value (λ left. left) };
+
+    ghost remaining = { item_count (λ left. left) };
+
+    /// Returns the least member that is left, or `None` if none is. `O(1)`.
+    ///
+    /// ```
+    /// let a: IntervalSet<i32> = [(1, 1), (5, 6)].to_interval_set(alloc)?;
+    /// let mut left = a.members();
+    /// assert_eq!(rt; left.next(), Some(1));
+    /// assert_eq!(rt; left.next(), Some(5));
+    /// ```
+    fn next(&mut self) -> Option<B> {
+        if self.first.is_empty() {
+            self.first = match self.between.split_first() {
+                Some((run, rest)) => {
+                    self.between = rest;
+                    *run
+                }
+                None => mem::replace(&mut self.last, Interval::empty()),
+            };
+        }
+        take_least(&mut self.first)
+    }
+}
+
+impl<'a, B: Width> DoubleEndedIterator for Members<'a, B> {
+    ghost next_back_gives = { YieldsLastBy B.value (λ left. left) };
+
+    /// Returns the greatest member that is left, or `None` if none is. `O(1)`.
+    ///
+    /// ```
+    /// let a: IntervalSet<i32> = [(1, 2), (5, 5)].to_interval_set(alloc)?;
+    /// let mut left = a.members();
+    /// assert_eq!(rt; left.next_back(), Some(5));
+    /// assert_eq!(rt; left.next_back(), Some(2));
+    /// ```
+    fn next_back(&mut self) -> Option<B> {
+        if self.last.is_empty() {
+            self.last = match self.between.split_last() {
+                Some((run, rest)) => {
+                    self.between = rest;
+                    *run
+                }
+                None => mem::replace(&mut self.first, Interval::empty()),
+            };
+        }
+        take_greatest(&mut self.last)
+    }
+}
+
+impl<'a, B: Width> FusedIterator for Members<'a, B> {}
+
+/// Takes the least number of an interval away, if it has one.
+fn take_least<B: Width>(part: &mut Interval<B>) -> Option<B>
+    ensures { YieldsFirstBy B.value numbers_of part.old result part.new }
+{
+    if part.is_empty() {
+        return None;
+    }
+    let least = part.lower();
+    *part = part.strict_shrink_left(least);
+    Some(least)
+}
+
+/// Takes the greatest number of an interval away, if it has one.
+fn take_greatest<B: Width>(part: &mut Interval<B>) -> Option<B>
+    ensures { YieldsLastBy B.value numbers_of part.old result part.new }
+{
+    if part.is_empty() {
+        return None;
+    }
+    let greatest = part.upper();
+    *part = part.strict_shrink_right(greatest);
+    Some(greatest)
+}
+
+impl<B: Width> IntervalSet<B> {
+    /// Returns the members, each once and ascending, from both ends. `O(1)`. Does not allocate.
+    ///
+    /// ```
+    /// let a: IntervalSet<i32> = [(5, 6), (1, 2)].to_interval_set(alloc)?;
+    /// let all: Vec<i32> = a.members().collect(alloc)?;
+    /// assert!(rt; all.as_slice() == [1, 2, 5, 6].as_slice());
+    /// ```
+    pub fn members(&self) -> Members<'_, B>
+        ensures left { result ≡ members_of self.now }
+        ensures members { SameMembers (Covers self.now) (IsIn result) }
+        ensures ascending { IsAscending result }
+        ensures runs { IsRunListIn B.whole self.now }
+    {
+        Members {
+            first: Interval::empty(),
+            between: self.as_runs(),
+            last: Interval::empty(),
+        }
+    }
+}
