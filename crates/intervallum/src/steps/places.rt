@@ -16,8 +16,8 @@ pub(crate) fn runs_before<B: Width>(probes: &mut Probes<'_, B>, value: B) -> usi
 {
     probes.in_whole();
     match find(probes, value) {
-        Place::In(i) => i,
-        Place::Gap(i) => i,
+        Place::In(first) => first,
+        Place::Gap(first) => first,
     }
 }
 
@@ -30,7 +30,7 @@ pub(crate) fn runs_up_to<B: Width>(probes: &mut Probes<'_, B>, value: B) -> usiz
 {
     probes.in_whole();
     match find(probes, value) {
-        Place::In(i) => i + 1,
+        Place::In(last) => last + 1,
         Place::Gap(i) => i,
     }
 }

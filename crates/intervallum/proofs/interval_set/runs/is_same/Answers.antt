@@ -9,7 +9,7 @@ returns g c =
     let low = eq_number g.met.B.Width.ordered _ _ _ c.eq-lower_is_same.ensures in
     let high = eq_number g.met.B.Width.ordered _ _ _ c.eq-upper_is_same.ensures in (
       λ t. let both = and_parts _ _ t in
-        pair_same c.args.run c.args.other (sym c.lower.ensures.value ∙ low.0 both.0 ∙ c.lower-2.ensures.value) (sym c.upper.ensures.value ∙ high.0 both.1 ∙ c.upper-2.ensures.value),
+          pair_same c.args.run c.args.other (sym c.lower.ensures.value ∙ low.0 both.0 ∙ c.lower-2.ensures.value) (sym c.upper.ensures.value ∙ high.0 both.1 ∙ c.upper-2.ensures.value),
       λ e. and_from _ _ (low.1 (c.lower.ensures.value ∙ ap (λ (p : ℤ × ℤ). p.0) e ∙ sym c.lower-2.ensures.value))
-        (high.1 (c.upper.ensures.value ∙ ap (λ (p : ℤ × ℤ). p.1) e ∙ sym c.upper-2.ensures.value)),
+          (high.1 (c.upper.ensures.value ∙ ap (λ (p : ℤ × ℤ). p.1) e ∙ sym c.upper-2.ensures.value)),
     )

@@ -4,17 +4,17 @@ use Rattle.intervallum.proofs.steps.places.runs_up_to.Goals as goal
 
 pub overflow_add-result : goal.overflow_add-result
 overflow_add-result g c =
-    let le = (split_by_run c.args.probes.now.runs c.in-In.i (g.B.Width.value c.args.value) c.in_whole.ensures.runs.maximal c.in-In.ensures.place).at_most in
+    let le = (split_by_run c.args.probes.now.runs c.in-In.last (g.B.Width.value c.args.value) c.in_whole.ensures.runs.maximal c.in-In.ensures.place).at_most in
     omega (arith, le)
 
 pub returns-in-In-clause-above : goal.returns-in-In-clause-above
-returns-in-In-clause-above g c = (split_by_run c.args.probes.now.runs c.in-In.i (g.B.Width.value c.args.value) c.in_whole.ensures.runs.maximal c.in-In.ensures.place).above
+returns-in-In-clause-above g c = (split_by_run c.args.probes.now.runs c.in-In.last (g.B.Width.value c.args.value) c.in_whole.ensures.runs.maximal c.in-In.ensures.place).above
 
 pub returns-in-In-clause-starts : goal.returns-in-In-clause-starts
-returns-in-In-clause-starts g c = (split_by_run c.args.probes.now.runs c.in-In.i (g.B.Width.value c.args.value) c.in_whole.ensures.runs.maximal c.in-In.ensures.place).starts
+returns-in-In-clause-starts g c = (split_by_run c.args.probes.now.runs c.in-In.last (g.B.Width.value c.args.value) c.in_whole.ensures.runs.maximal c.in-In.ensures.place).starts
 
 pub returns-in-In-clause-at_most : goal.returns-in-In-clause-at_most
-returns-in-In-clause-at_most g c = (split_by_run c.args.probes.now.runs c.in-In.i (g.B.Width.value c.args.value) c.in_whole.ensures.runs.maximal c.in-In.ensures.place).at_most
+returns-in-In-clause-at_most g c = (split_by_run c.args.probes.now.runs c.in-In.last (g.B.Width.value c.args.value) c.in_whole.ensures.runs.maximal c.in-In.ensures.place).at_most
 
 pub returns-in-Gap-clause-above : goal.returns-in-Gap-clause-above
 returns-in-Gap-clause-above g c =
