@@ -1,14 +1,14 @@
 -- Runs that are laid in a room one by one, from left to right.
-use Rattle.std.proofs.Common.{◌≡◌, ◌⊎◌, inl, inr, ℕ, zero, suc, ◌+◌, ◌<◌, ◌≤◌, ℤ, pos, ◌≤ℤ◌, ◌<ℤ◌, List, [], ◌∷◌, ◌++◌, length, length-append, set, drop, map, true, false, refl, ap, ◌∙◌, sym, subst, arith}
+use Rattle.std.proofs.Common.{◌≡◌, ◌⊎◌, inl, inr, ℕ, ◌+◌, ◌≤◌, ℤ, pos, ◌≤ℤ◌, List, [], ◌∷◌, ◌++◌, length, length-append, set, drop, map, true, refl, ap, ◌∙◌, sym, subst, arith}
 use Rattle.std.proofs.lemmas.Int.{ints, by_lt_z}
 use Rattle.std.proofs.lemmas.Bool.{le-leb}
 use Rattle.std.specs.Prelude.{nat_le}
 use Rattle.ivl_laws.specs.Sets.{HasNone, IsBetween, SameMembers, Union}
-use Rattle.ivl_laws.specs.Runs.{Covers, IsMaximal, IsRunsOf}
+use Rattle.ivl_laws.specs.Runs.{Covers, IsMaximal}
 use Rattle.ivl_laws.proofs.Intervals.{none_is_crossed}
 use Rattle.ivl_laws.proofs.SetLaws.{IsRunsOf-unique}
 use Rattle.intervallum.specs.Sides.{IsBelow}
-use Rattle.intervallum.proofs.Building.{IsBuilding, adds_above, adds_none, building_below, building_ends, building_same}
+use Rattle.intervallum.proofs.Building.{IsBuilding, adds_above, adds_none, building_ends, building_same}
 use Rattle.ivl_c.specs.Answers.{IsWritten, written}
 use Rattle.ivl_c.specs.Merging.{IsLaid, LaysNext, laid}
 
@@ -29,11 +29,14 @@ pub record IsLaying (rest S : ℤ → Type 0) (old new : List (ℤ × ℤ)) (tol
   pub room : new ≡ laid W old
 
 pub laying_begins : (S : ℤ → Type 0) (old : List (ℤ × ℤ)) → (W : List (ℤ × ℤ)) × IsLaying S S old old 0 W
-laying_begins S old = ([], record {
-  state = record { maximal = tt; below = λ x y c. absurd c; members = λ z. ((λ s. inr s), begun z) };
-  count = refl;
-  room = refl;
-})
+laying_begins S old = (
+  [],
+  record {
+    state = record { maximal = tt; below = λ x y c. absurd c; members = λ z. ((λ s. inr s), begun z) };
+    count = refl;
+    room = refl;
+  },
+)
   where
     begun : (z : ℤ) → Covers [] z ⊎ S z → S z
     begun z (inl c) = absurd c
@@ -59,11 +62,14 @@ pub lays : (W : List (ℤ × ℤ)) (r : ℤ × ℤ) (old room room' : List (ℤ 
     LaysNext r room room' told told' → (W' : List (ℤ × ℤ)) × IsLaid (Union (Covers W) (IsBetween r)) old room' told' W'
 lays W r old room room' told told' m b e f l = by_lt_z r.1 r.0
     (λ lt. let (x, y) = l.crossed lt in (W, record { runs = adds_none W (IsBetween r) m ((none_is_crossed r).1 lt); count = x ∙ e; room = y ∙ f }))
-    (λ le. let (x, y) = l.filled le in (W ++ r ∷ [], record {
-      runs = (adds_above W r m le b).runs;
-      count = x ∙ length_more W r told e;
-      room = y ∙ put;
-    }))
+    (λ le. let (x, y) = l.filled le in (
+      W ++ r ∷ [],
+      record {
+        runs = (adds_above W r m le b).runs;
+        count = x ∙ length_more W r told e;
+        room = y ∙ put;
+      },
+    ))
   where
     put : set room told r ≡ laid (W ++ r ∷ []) old
     put = subst (λ (n : ℕ). set room n r ≡ laid (W ++ r ∷ []) old) (sym e) (subst (λ (M : List (ℤ × ℤ)). set M (length W) r ≡ laid (W ++ r ∷ []) old) (sym f) (laid_more W old r))

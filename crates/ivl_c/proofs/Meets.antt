@@ -1,5 +1,5 @@
 -- What two run lists have in common, from two places on: of the pairs at these places, the one that ends first is done.
-use Rattle.std.proofs.Common.{◌≡◌, ◌⊎◌, inl, inr, ℕ, ◌+◌, ◌<◌, ◌≤◌, ℤ, pos, ◌≤ℤ◌, List, [], ◌∷◌, Some, None, length, get_or, map, drop, refl, sym, subst, arith}
+use Rattle.std.proofs.Common.{◌≡◌, ◌⊎◌, inl, inr, ℕ, ◌+◌, ◌<◌, ◌≤◌, ℤ, ◌≤ℤ◌, List, ◌∷◌, Some, None, length, get_or, map, drop, refl, sym, subst}
 use Rattle.std.specs.Int.{int_max, int_min}
 use Rattle.ivl_laws.specs.Sets.{HasNone, IsBetween, Intersection, SameMembers, Union}
 use Rattle.ivl_laws.specs.Runs.{Covers, IsMaximal}
@@ -8,7 +8,7 @@ use Rattle.ivl_laws.proofs.Runs.{pair_same}
 use Rattle.intervallum.proofs.Leading.{IsLed}
 use Rattle.intervallum.proofs.Meeting.{common_first, common_second, shared_is_above}
 use Rattle.ivl_c.specs.Merging.{IsLaid, LaysNext}
-use Rattle.ivl_c.proofs.Laying.{IsLaying, laying_begins, laying_ends, laying_same, lays}
+use Rattle.ivl_c.proofs.Laying.{IsLaying, laying_begins, laying_ends, lays}
 use Rattle.ivl_c.proofs.Resting.{rest_all, rest_at, rest_maximal, rest_none}
 
 pub both_starts : {a b m n : ℤ} → a ≡ m → b ≡ n → int_min a b ≡ int_min m n
@@ -26,18 +26,24 @@ module _ (A B : List (ℤ × ℤ)) (p q r : ℤ × ℤ) (S : ℤ → Type 0) (ol
       (shared_is_above W (Some p) (Some q) A B p q r S refl refl (led p A m) (led q B n) u.state shared) u.count u.room l
 
   pub meets_first : p.1 ≤ℤ q.1 → (W' : List (ℤ × ℤ)) × IsLaying (Intersection (Covers A) (Covers (q ∷ B))) S old room' told' W'
-  meets_first h = let (W', v) = laid_next in (W', record {
-    state = common_first W (Some p) (Some q) A B p q r S refl refl (led p A m) (led q B n) u.state shared W' v.runs None A refl h;
-    count = v.count;
-    room = v.room;
-  })
+  meets_first h = let (W', v) = laid_next in (
+    W',
+    record {
+      state = common_first W (Some p) (Some q) A B p q r S refl refl (led p A m) (led q B n) u.state shared W' v.runs None A refl h;
+      count = v.count;
+      room = v.room;
+    },
+  )
 
   pub meets_second : q.1 ≤ℤ p.1 → (W' : List (ℤ × ℤ)) × IsLaying (Intersection (Covers (p ∷ A)) (Covers B)) S old room' told' W'
-  meets_second h = let (W', v) = laid_next in (W', record {
-    state = common_second W W' (Some p) (Some q) None A B B p q r S refl refl (led p A m) (led q B n) u.state shared v.runs refl h;
-    count = v.count;
-    room = v.room;
-  })
+  meets_second h = let (W', v) = laid_next in (
+    W',
+    record {
+      state = common_second W W' (Some p) (Some q) None A B B p q r S refl refl (led p A m) (led q B n) u.state shared v.runs refl h;
+      count = v.count;
+      room = v.room;
+    },
+  )
 
 -- ---- the same, by the places in two lists
 

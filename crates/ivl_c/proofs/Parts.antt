@@ -4,7 +4,7 @@ use Rattle.std.specs.Prelude.{slice_get}
 use Rattle.std.specs.Int.{int_max, int_min}
 use Rattle.std.proofs.lemmas.Int.{ints, clamps}
 use Rattle.std.proofs.lemmas.Option.{slice_get_within}
-use Rattle.ivl_laws.specs.Sets.{Above, Below, IsBetween, IsSubset, SameMembers, Union, Without}
+use Rattle.ivl_laws.specs.Sets.{Above, Below, IsBetween, SameMembers, Union, Without}
 use Rattle.ivl_laws.specs.Runs.{Covers, IsMaximal, IsRunListIn}
 use Rattle.ivl_laws.proofs.Runs.{covered_after}
 use Rattle.intervallum.specs.Led.{led_by}
@@ -50,18 +50,24 @@ module _ (A B : List (ℤ × ℤ)) (p q : ℤ × ℤ) (S : ℤ → Type 0) (old 
       (part_is_above W (Some p) (Some q) A B p q (below_part p q) S refl refl (led p A m) (led q B n) u.state (below_is p q)) u.count u.room l
 
   pub part_first : p.1 ≤ℤ q.1 → (W' : List (ℤ × ℤ)) × IsLaying (Without (Covers A) (Covers (q ∷ B))) S old room' told' W'
-  part_first h = let (W', v) = laid_next in (W', record {
-    state = parts_first W (Some p) (Some q) A B p q (below_part p q) S refl refl (led p A m) (led q B n) u.state (below_is p q) W' v.runs None A refl h;
-    count = v.count;
-    room = v.room;
-  })
+  part_first h = let (W', v) = laid_next in (
+    W',
+    record {
+      state = parts_first W (Some p) (Some q) A B p q (below_part p q) S refl refl (led p A m) (led q B n) u.state (below_is p q) W' v.runs None A refl h;
+      count = v.count;
+      room = v.room;
+    },
+  )
 
   pub part_second : q.1 <ℤ p.1 → (W' : List (ℤ × ℤ)) × IsLaying (Without (Covers (above_part p q ∷ A)) (Covers B)) S old room' told' W'
-  part_second h = let (W', v) = laid_next in (W', record {
-    state = parts_second W (Some p) (Some q) A B p q (below_part p q) S refl refl (led p A m) (led q B n) u.state (below_is p q) W' v.runs (above_part p q) None B refl h (above_is p q);
-    count = v.count;
-    room = v.room;
-  })
+  part_second h = let (W', v) = laid_next in (
+    W',
+    record {
+      state = parts_second W (Some p) (Some q) A B p q (below_part p q) S refl refl (led p A m) (led q B n) u.state (below_is p q) W' v.runs (above_part p q) None B refl h (above_is p q);
+      count = v.count;
+      room = v.room;
+    },
+  )
 
 -- the second list is at its end
 module _ (A : List (ℤ × ℤ)) (p : ℤ × ℤ) (S : ℤ → Type 0) (old room room' : List (ℤ × ℤ)) (told told' : ℕ) (m : IsMaximal (p ∷ A)) (l : LaysNext p room room' told told')

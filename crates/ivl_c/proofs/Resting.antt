@@ -1,5 +1,5 @@
 -- The pairs of a list from a place on.
-use Rattle.std.proofs.Common.{◌≡◌, inr, ℕ, zero, suc, ◌+◌, ◌<◌, ◌≤◌, ℤ, List, [], ◌∷◌, Some, None, length, get_or, map, drop, option_map, refl, ap, ap₂, sym, subst, arith}
+use Rattle.std.proofs.Common.{◌≡◌, inr, ℕ, zero, suc, ◌+◌, ◌<◌, ◌≤◌, ℤ, List, [], ◌∷◌, None, length, get_or, map, drop, option_map, refl, ap, ap₂, sym, subst, arith}
 use Rattle.std.specs.Prelude.{slice_get}
 use Rattle.ivl_laws.specs.Sets.{IsSubset}
 use Rattle.ivl_laws.specs.Runs.{Covers, IsMaximal, IsRunListIn}

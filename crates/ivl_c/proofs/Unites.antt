@@ -1,13 +1,13 @@
 -- The runs of two run lists joined from the left: the last one is held, and the others are laid.
-use Rattle.std.proofs.Common.{◌≡◌, ◌∙◌, inl, inr, ℕ, ◌+◌, ◌≤◌, ℤ, pos, ◌+ℤ◌, ◌≤ℤ◌, ◌<ℤ◌, List, [], ◌∷◌, ◌++◌, Option, Some, None, length, map, drop, set, refl, ap, sym, subst, arith}
+use Rattle.std.proofs.Common.{◌≡◌, ◌∙◌, inl, inr, ℕ, ◌+◌, ℤ, pos, ◌+ℤ◌, ◌≤ℤ◌, List, [], ◌∷◌, ◌++◌, Some, None, length, map, drop, set, refl, ap, sym, subst, arith}
 use Rattle.std.specs.Prelude.{slice_get, option_map}
 use Rattle.std.specs.Int.{int_max}
 use Rattle.std.proofs.lemmas.Int.{ints, clamps, by_lt_z}
 use lib.Signed.{≤ℤ_refl}
-use Rattle.ivl_laws.specs.Sets.{IsBetween, Union}
+use Rattle.ivl_laws.specs.Sets.{Union}
 use Rattle.ivl_laws.specs.Runs.{Covers, IsMaximal, IsRunListIn, IsRunsOf, StartsBy}
 use Rattle.ivl_laws.specs.Walks.{StartsFrom, TakesFirst}
-use Rattle.ivl_laws.proofs.Merging.{StartsBy-push, first_run, last_open, run_apart, run_joined}
+use Rattle.ivl_laws.proofs.Merging.{StartsBy-push, first_run, run_apart, run_joined}
 use Rattle.ivl_laws.proofs.Walks.{IsUniting, StartsBefore, uniting_begins, uniting_ends, uniting_next}
 use Rattle.intervallum.specs.Led.{led_by}
 use Rattle.ivl_c.specs.Merging.{IsLaid, IsRunIn, laid}
@@ -71,24 +71,29 @@ module _ (A B A' B' : List (ℤ × ℤ)) (p q : ℤ × ℤ) (S : ℤ → Type 0)
   -- the held pair is laid, and the other one is held
   pub joins_none : (room' : List (ℤ × ℤ)) → (p.1 +ℤ pos 2) ≤ℤ q.0 → room' ≡ set room told p → (V : List (ℤ × ℤ)) × IsJoining A' B' S old room' (told + 1) q V
   joins_none room' far e =
-      let o = taken_is_open (W ++ p ∷ []) A B A' B' q S u.state t in
-      (W ++ p ∷ [], record {
-        state = uniting_next (W ++ p ∷ []) ((W ++ p ∷ []) ++ q ∷ []) A B A' B' q S u.state t (run_apart W p q u.state.maximal far o) (StartsBy-push (W ++ p ∷ []) q q.0 by (≤ℤ_refl q.0));
-        count = length_more W p told u.count;
-        room = e ∙ put;
-      })
+      let o = taken_is_open (W ++ p ∷ []) A B A' B' q S u.state t in (
+        W ++ p ∷ [],
+        record {
+          state = uniting_next (W ++ p ∷ []) ((W ++ p ∷ []) ++ q ∷ []) A B A' B' q S u.state t (run_apart W p q u.state.maximal far o) (StartsBy-push (W ++ p ∷ []) q q.0 by (≤ℤ_refl q.0));
+          count = length_more W p told u.count;
+          room = e ∙ put;
+        },
+      )
     where
       put : set room told p ≡ laid (W ++ p ∷ []) old
       put = subst (λ (n : ℕ). set room n p ≡ laid (W ++ p ∷ []) old) (sym u.count) (subst (λ (M : List (ℤ × ℤ)). set M (length W) p ≡ laid (W ++ p ∷ []) old) (sym u.room) (laid_more W old p))
 
   -- the two are joined
   pub joins_both : (r : ℤ × ℤ) → ¬ ((p.1 +ℤ pos 2) ≤ℤ q.0) → r ≡ (p.0, int_max p.1 q.1) → (V : List (ℤ × ℤ)) × IsJoining A' B' S old room told r V
-  joins_both r near e = subst (λ (x : ℤ × ℤ). (V : List (ℤ × ℤ)) × IsJoining A' B' S old room told x V) (sym e) (W, record {
-    state = uniting_next (W ++ p ∷ []) (W ++ (p.0, int_max p.1 q.1) ∷ []) A B A' B' q S u.state t
-        (run_joined W p q u.state.maximal (last_starts W p q.0 by) touch) (starts_joined W p (p.0, int_max p.1 q.1) q.0 refl by);
-    count = u.count;
-    room = u.room;
-  })
+  joins_both r near e = subst (λ (x : ℤ × ℤ). (V : List (ℤ × ℤ)) × IsJoining A' B' S old room told x V) (sym e) (
+    W,
+    record {
+      state = uniting_next (W ++ p ∷ []) (W ++ (p.0, int_max p.1 q.1) ∷ []) A B A' B' q S u.state t
+          (run_joined W p q u.state.maximal (last_starts W p q.0 by) touch) (starts_joined W p (p.0, int_max p.1 q.1) q.0 refl by);
+      count = u.count;
+      room = u.room;
+    },
+  )
     where
       touch : q.0 ≤ℤ (p.1 +ℤ pos 1)
       touch = by_lt_z (p.1 +ℤ pos 1) q.0 (λ lt. absurd (near (omega (arith, ints, lt)))) (λ le. le)
@@ -110,11 +115,14 @@ joining_none A B old m n e f = ([], record { runs = done [] A B (Union (Covers A
 
 pub joining_ends : (A B : List (ℤ × ℤ)) (p : ℤ × ℤ) (S : ℤ → Type 0) (old room room' : List (ℤ × ℤ)) (told : ℕ) → A ≡ [] → B ≡ [] → (W : List (ℤ × ℤ)) × IsJoining A B S old room told p W →
     room' ≡ set room told p → (L : List (ℤ × ℤ)) × IsLaid S old room' (told + 1) L
-joining_ends A B p S old room room' told e f (W, u) h = (W ++ p ∷ [], record {
-  runs = done (W ++ p ∷ []) A B S e f u.state;
-  count = length_more W p told u.count;
-  room = h ∙ put;
-})
+joining_ends A B p S old room room' told e f (W, u) h = (
+  W ++ p ∷ [],
+  record {
+    runs = done (W ++ p ∷ []) A B S e f u.state;
+    count = length_more W p told u.count;
+    room = h ∙ put;
+  },
+)
   where
     put : set room told p ≡ laid (W ++ p ∷ []) old
     put = subst (λ (n : ℕ). set room n p ≡ laid (W ++ p ∷ []) old) (sym u.count) (subst (λ (M : List (ℤ × ℤ)). set M (length W) p ≡ laid (W ++ p ∷ []) old) (sym u.room) (laid_more W old p))

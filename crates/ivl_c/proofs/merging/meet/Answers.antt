@@ -1,5 +1,4 @@
-use Rattle.std.proofs.Common.{◌≡◌, ◌∙◌, ap, ℤ, map, arith}
-use Rattle.std.proofs.lemmas.Int.{ints}
+use Rattle.std.proofs.Common.{◌∙◌, ap, ℤ, map, arith}
 use Rattle.ivl_laws.proofs.Orders.{le_number, max_number, min_number, not_le_number}
 use Rattle.intervallum.proofs.Meeting.{ends_by, ends_past}
 use Rattle.intervallum.proofs.Pushing.{both_ends}

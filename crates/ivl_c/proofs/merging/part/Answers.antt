@@ -1,10 +1,9 @@
-use Rattle.std.proofs.Common.{◌≡◌, ◌+◌, map, arith}
-use Rattle.std.proofs.lemmas.Int.{ints}
+use Rattle.std.proofs.Common.{◌+◌, map, arith}
 use Rattle.ivl_laws.proofs.Orders.{lt_number}
 use Rattle.ivl_interval.proofs.Pairs.{not_below}
 use Rattle.intervallum.proofs.Meeting.{ends_before, ends_by}
 use Rattle.ivl_c.proofs.Laying.{one_more_at_most}
-use Rattle.ivl_c.proofs.Parts.{cut_list, held_ended, held_list, held_place, parting_alone, parting_begins, parting_ends, parting_first, parting_second}
+use Rattle.ivl_c.proofs.Parts.{cut_list, held_ended, held_list, held_place, parting_alone, parting_begins, parting_first, parting_second}
 use Rattle.ivl_c.proofs.RunLists.{run_at}
 use Rattle.ivl_c.proofs.merging.part.Goals as goal
 

@@ -1,5 +1,4 @@
 use Rattle.std.proofs.Common.{◌∙◌, sym, arith}
-use Rattle.std.proofs.lemmas.Int.{ints}
 use Rattle.std.proofs.lemmas.Option.{slice_get_within}
 use Rattle.ivl_laws.proofs.Orders.{le_number, not_le_number}
 use Rattle.intervallum.proofs.Meeting.{ends_by, ends_past}
