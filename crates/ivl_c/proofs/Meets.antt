@@ -15,7 +15,7 @@ pub both_starts : {a b m n : ℤ} → a ≡ m → b ≡ n → int_min a b ≡ in
 both_starts e f = cc
 
 -- a run before its list is led by itself
-led : (p : ℤ × ℤ) (A : List (ℤ × ℤ)) → IsMaximal (p ∷ A) → IsLed (Some p) A
+pub led : (p : ℤ × ℤ) (A : List (ℤ × ℤ)) → IsMaximal (p ∷ A) → IsLed (Some p) A
 led p A m = record { maximal = m; ended = λ t. absurd (cc) }
 
 module _ (A B : List (ℤ × ℤ)) (p q r : ℤ × ℤ) (S : ℤ → Type 0) (old room room' : List (ℤ × ℤ)) (told told' : ℕ) (m : IsMaximal (p ∷ A)) (n : IsMaximal (q ∷ B))

@@ -10,15 +10,12 @@ use Rattle.ivl_laws.proofs.Runs.{covered_after}
 use Rattle.intervallum.specs.Led.{led_by}
 use Rattle.intervallum.specs.Sides.{IsBelow}
 use Rattle.intervallum.proofs.Building.{building_below, building_takes}
-use Rattle.intervallum.proofs.Leading.{IsLed}
 use Rattle.intervallum.proofs.Parting.{cut_maximal, part_is_above, parts_first, parts_second}
 use Rattle.ivl_c.specs.Merging.{IsLaid, IsRunIn, LaysNext}
 use Rattle.ivl_c.proofs.Laying.{IsLaying, laying_begins, laying_ends, lays}
+use Rattle.ivl_c.proofs.Meets.{led}
 use Rattle.ivl_c.proofs.Resting.{led_at, none_from, rest_all, rest_at, rest_list, rest_none}
 use Rattle.ivl_c.proofs.RunLists.{first_is_run}
-
-led : (p : ℤ × ℤ) (A : List (ℤ × ℤ)) → IsMaximal (p ∷ A) → IsLed (Some p) A
-led p A m = record { maximal = m; ended = λ t. absurd (cc) }
 
 -- ---- parts of a run
 

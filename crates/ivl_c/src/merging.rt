@@ -1,4 +1,7 @@
 //! What is made of two run lists by one walk over both, in the room of the caller.
+//!
+//! A walk lays the runs of its answer in the first places of the room, as far as there are places, and
+//! tells how many runs they are. It is linear in the runs of both lists, and does not allocate.
 ghost use Rattle.std.specs.Prelude.{◌≡◌, ◌+◌, ◌^◌, ◌<◌, ◌≤◌, ℤ, ◌+ℤ◌, ◌-ℤ◌, ◌<ℤ◌, pos, IfSome, List, [], MatchOption, None, drop, length, map, slice_set};
 ghost use Rattle.std.specs.Int.{int_max, int_min};
 ghost use Rattle.ivl_laws.specs.Sets.{Intersection, Union, Without};
@@ -11,7 +14,7 @@ use crate::run_lists::leaves_free;
 use crate::searching::pair_at;
 use intervallum::width::Width;
 
-/// The runs that two run lists have in common.
+/// Lays the members of both run lists.
 pub fn meet<R: Run>(a: &[R], b: &[R], out: &mut [R]) -> usize
     requires first { IsRunListIn R.Bound.whole (map R.pair a.now) }
     requires second { IsRunListIn R.Bound.whole (map R.pair b.now) }
@@ -37,7 +40,7 @@ pub fn meet<R: Run>(a: &[R], b: &[R], out: &mut [R]) -> usize
     count
 }
 
-/// The members of the first run list that are not in the second.
+/// Lays the members of the first run list that are not in the second.
 pub fn part<R: Run>(a: &[R], b: &[R], out: &mut [R]) -> usize
     requires first { IsRunListIn R.Bound.whole (map R.pair a.now) }
     requires second { IsRunListIn R.Bound.whole (map R.pair b.now) }
@@ -70,7 +73,7 @@ pub fn part<R: Run>(a: &[R], b: &[R], out: &mut [R]) -> usize
     count
 }
 
-/// The members of either run list.
+/// Lays the members of either run list.
 pub fn unite<R: Run>(a: &[R], b: &[R], out: &mut [R]) -> usize
     requires first { IsRunListIn R.Bound.whole (map R.pair a.now) }
     requires second { IsRunListIn R.Bound.whole (map R.pair b.now) }
@@ -98,7 +101,7 @@ pub fn unite<R: Run>(a: &[R], b: &[R], out: &mut [R]) -> usize
     count + 1
 }
 
-/// The pair that starts first of those at two places, and the place after it.
+/// Takes the pair that starts first of those at two places, if there is one, and moves on its place.
 fn take_first<R: Run>(a: &[R], i: &mut usize, b: &[R], j: &mut usize) -> Option<R>
     requires first { i.old ≤ length a.now }
     requires second { j.old ≤ length b.now }
@@ -143,7 +146,8 @@ fn above<R: Run>(run: R, other: R) -> R
     R::of(run.lower().max(next), run.upper())
 }
 
-/// Lays what a run has below the start of another one, if it has anything there.
+/// Lays what a run has below the start of another one, if it has anything there, and tells how many runs
+/// are laid then.
 fn lay_below<R: Run>(out: &mut [R], count: usize, run: R, other: R) -> usize
     requires run { IsRunIn R.Bound.whole (R.pair run) }
     requires other { IsRunIn R.Bound.whole (R.pair other) }
@@ -159,8 +163,7 @@ fn lay_below<R: Run>(out: &mut [R], count: usize, run: R, other: R) -> usize
     count + 1
 }
 
-/// Writes a pair that is not crossed at a place of the room, if there is such a place, and tells how
-/// many runs are laid then.
+/// Lays a pair unless it is crossed, and tells how many runs are laid then.
 fn lay<R: Run>(out: &mut [R], count: usize, run: R) -> usize
     requires { count < 2 ^ 63 }
     ensures { LaysNext (R.pair run) (map R.pair out.old) (map R.pair out.new) count result }
