@@ -237,18 +237,58 @@ def one_outside(bounds, call, first):
     assert all((run.lower, run.upper) == (3, 4) for run in out), (call, pairs)
 
 
+def list_of_runs(low):
+    """Pairs that ascend, with at least one number missing between neighbours, often just one."""
+    pairs, at = [], low + random.randrange(4)
+    while at < low + COUNT and random.randrange(9):
+        upper = min(at + random.randrange(5), low + COUNT - 1)
+        pairs.append((at, upper))
+        at = upper + random.choice([2, 2, 3, 6])
+    return pairs
+
+
+def any_list(low):
+    pairs = []
+    for _ in range(random.randrange(7)):
+        lower = low + random.randrange(COUNT)
+        pairs.append((lower, min(max(low, lower + random.randrange(-4, 9)), low + COUNT - 1)))
+    return pairs
+
+
+def ends_of_the_range(bounds, call):
+    """Lists of runs at the ends of the range, where no bound has a number beside it."""
+    least, greatest = (-(2**63) + 1, 2**63 - 1) if bounds.is_signed else (0, 2**64 - 2)
+    cut = random.randrange(least + 2, greatest - 2)
+    first = random.choice([[(least, greatest)], [(least, cut)], [(cut, greatest)], [(least, cut - 1), (cut + 1, greatest)], []])
+    second = random.choice([[(least, greatest)], [(least, least), (greatest, greatest)], [(cut, cut)], [(cut + 1, greatest)]])
+    edges = sorted({edge for lower, upper in first + second for edge in (lower, upper + 1)})
+    expected = []
+    for lower, upper in zip(edges, edges[1:]):
+        given = [any(pair[0] <= lower <= pair[1] for pair in pairs) for pairs in (first, second)]
+        if FLAGS[call](*map(int, given)) & 1:
+            joins = expected and expected[-1][1] == lower - 1
+            expected[-1:] = [(expected[-1][0], upper - 1)] if joins else expected[-1:] + [(lower, upper - 1)]
+    room = random.randrange(5)
+    arrays, out = [array_of(bounds, pairs) for pairs in (first, second)], array_of(bounds, [(7, 5)] * 5)
+    given = [part for array, pairs in zip(arrays, (first, second)) for part in (ctypes.addressof(array), len(pairs))]
+    told = getattr(bounds, call)(*given, ctypes.addressof(out), room)
+    written = expected if len(expected) <= room else []
+    assert told == len(expected), (call, first, second, told, expected)
+    seen = [(run.lower, run.upper) for run in out]
+    assert seen == written + [(7, 5)] * (5 - len(written)), (call, first, second, seen, expected)
+
+
 def fuzz(count):
     random.seed(20)
     started, calls = time.time(), 0
     while calls < count and time.time() - started < 60:
         bounds = intervallum._types[random.choice(["i64", "u64"])]
         low = LOW if bounds.is_signed else 0
+        # half of the rounds have two lists of runs, which three of the calls merge as they are
+        draw = random.choice([any_list, list_of_runs])
         lists = []
         for _ in range(2):
-            pairs = []
-            for _ in range(random.randrange(7)):
-                lower = low + random.randrange(COUNT)
-                pairs.append((lower, min(max(low, lower + random.randrange(-4, 9)), low + COUNT - 1)))
+            pairs = draw(low)
             lists.append((array_of(bounds, pairs), pairs))
         for call in list(FLAGS) + list(ADDED) + ["complement"]:
             one_set(bounds, low, call, *lists, mark=(7, random.randrange(9)))
@@ -267,7 +307,8 @@ def fuzz(count):
         one_next(bounds, low, lists[0])
         one_search(bounds, low, lists[0])
         one_fit(bounds, low, lists[0])
-        calls += 22
+        ends_of_the_range(bounds, random.choice(["union", "intersection", "difference", "symmetric_difference"]))
+        calls += 23
     print("bindings: Python: %d random calls agree with lists of flags" % calls)
 
 

@@ -43,7 +43,10 @@ int64_t ivl_complement_i64(const ivl_run_i64 *a, size_t n, ivl_run_i64 *out, siz
 
 /* Make a set of two lists. O(n log n + m log m).
    union: the members of either; intersection: of both; difference: of `a` and not of `b`;
-   symmetric_difference: of exactly one. */
+   symmetric_difference: of exactly one.
+   The first three are O(n + m) and take no memory where both lists are lists of runs: no pair is crossed, the
+   pairs ascend with at least one number missing between neighbours, and all are in the range, as in each list
+   that a call has written. Where `room` is less than n + m, they first count the runs of the answer. */
 int64_t ivl_union_i64(const ivl_run_i64 *a, size_t n, const ivl_run_i64 *b, size_t m, ivl_run_i64 *out, size_t room);
 int64_t ivl_intersection_i64(const ivl_run_i64 *a, size_t n, const ivl_run_i64 *b, size_t m, ivl_run_i64 *out, size_t room);
 int64_t ivl_difference_i64(const ivl_run_i64 *a, size_t n, const ivl_run_i64 *b, size_t m, ivl_run_i64 *out, size_t room);
@@ -106,7 +109,10 @@ int64_t ivl_complement_u64(const ivl_run_u64 *a, size_t n, ivl_run_u64 *out, siz
 
 /* Make a set of two lists. O(n log n + m log m).
    union: the members of either; intersection: of both; difference: of `a` and not of `b`;
-   symmetric_difference: of exactly one. */
+   symmetric_difference: of exactly one.
+   The first three are O(n + m) and take no memory where both lists are lists of runs: no pair is crossed, the
+   pairs ascend with at least one number missing between neighbours, and all are in the range, as in each list
+   that a call has written. Where `room` is less than n + m, they first count the runs of the answer. */
 int64_t ivl_union_u64(const ivl_run_u64 *a, size_t n, const ivl_run_u64 *b, size_t m, ivl_run_u64 *out, size_t room);
 int64_t ivl_intersection_u64(const ivl_run_u64 *a, size_t n, const ivl_run_u64 *b, size_t m, ivl_run_u64 *out, size_t room);
 int64_t ivl_difference_u64(const ivl_run_u64 *a, size_t n, const ivl_run_u64 *b, size_t m, ivl_run_u64 *out, size_t room);

@@ -1,5 +1,5 @@
 /* Lets each request for memory of each call fail in turn: the call answers IVL_OUT_OF_MEMORY with nothing written, or its
-   right answer. Answers 0 where that holds. Linked with --wrap=malloc and the like, so that the library's requests come here. */
+   right answer. Of lists of runs, three of the calls make no request. Answers 0 where that holds. Linked with --wrap=malloc and the like, so that the library's requests come here. */
 #include "intervallum.h"
 
 #include <stdio.h>
@@ -122,10 +122,28 @@ static int refuse_each(call *made, const char *name) {
     return failures;
 }
 
+/* Lists of runs, which the first three of the calls merge with no request, whatever the room. */
+static const ivl_run_i64 runs[] = {{1, 2}, {31, 35}, {60, 70}};
+static const ivl_run_i64 others[] = {{2, 3}, {7, 7}, {33, 65}};
+
+static int refuse_all(call *made, const char *name, size_t room) {
+    ivl_run_i64 out[ROOM];
+
+    before_refusal = 0;
+    int64_t told = made(runs, 3, others, 3, out, room);
+    int was_refused = before_refusal < 0;
+    before_refusal = -1;
+    if (told < 0 || was_refused)
+        printf("failed: %s of lists of runs in a room of %zu\n", name, room);
+    return told < 0 || was_refused;
+}
+
 int main(void) {
     int failures = 0;
     for (size_t i = 0; i < sizeof calls / sizeof calls[0]; i++)
         failures += refuse_each(calls[i].made, calls[i].name);
+    for (size_t i = 0; i < 3; i++)
+        failures += refuse_all(calls[i].made, calls[i].name, ROOM) + refuse_all(calls[i].made, calls[i].name, 1);
     printf("%d failed\n", failures);
     return failures != 0;
 }

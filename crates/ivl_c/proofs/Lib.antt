@@ -4,3 +4,9 @@ pub mod Added
 pub mod Multiplied
 pub mod Least
 pub mod InOrder
+pub mod Resting
+pub mod RunLists
+pub mod Laying
+pub mod Meets
+pub mod Parts
+pub mod Unites

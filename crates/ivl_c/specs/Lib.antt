@@ -4,3 +4,4 @@ pub mod Lists
 pub mod Adding
 pub mod Multiplying
 pub mod Finding
+pub mod Merging

@@ -1,12 +1,15 @@
 //! Sets made of lists, and what is told of them.
-ghost use Rattle.std.specs.Prelude.{IfOk, map};
+ghost use Rattle.std.specs.Prelude.{◌+◌, ◌^◌, ◌<◌, ◌≤◌, ℤ, IfOk, IsTrue, List, length, map};
 ghost use Rattle.ivl_laws.specs.Sets.{IsBetween, IsSubset, Union};
-ghost use Rattle.ivl_laws.specs.Runs.{Covers, IsRunsOf};
-ghost use Rattle.ivl_c.specs.Answers.{AnswersSet};
-ghost use Rattle.ivl_c.specs.Makings.{MadeOfOne, MadeOfTwo};
+ghost use Rattle.ivl_laws.specs.Runs.{Covers, IsRunListIn, IsRunsOf};
+ghost use Rattle.ivl_c.specs.Answers.{AnswersSet, IsWritten};
+ghost use Rattle.ivl_c.specs.Makings.{IsOneWalk, MadeOfOne, MadeOfTwo};
+ghost use Rattle.ivl_c.specs.Merging.{IsLaid};
 
+use crate::merging::{meet, part, unite};
 use crate::reading::{are_inside, set_of};
 use crate::run::Run;
+use crate::run_lists::is_run_list;
 use crate::writing::{OUT_OF_RANGE, tell};
 use intervallum::interval_set::IntervalSet;
 use intervallum::ops::{Complement, Difference, Intersection, SymmetricDifference, Union};
@@ -50,6 +53,9 @@ pub fn of_two<R: Run>(alloc: Global, making: OfTwo, a: &[R], b: &[R], out: &mut 
     ensures { AnswersSet R.Bound.whole (Union (Covers (map R.pair a.now)) (Covers (map R.pair b.now)))
         (MadeOfTwo making (Covers (map R.pair a.now)) (Covers (map R.pair b.now))) (map R.pair out.old) (map R.pair out.new) result }
 {
+    if is_merged(making, a, b) {
+        return merge(making, a, b, out);
+    }
     if !are_inside(a) || !are_inside(b) {
         return OUT_OF_RANGE;
     }
@@ -88,5 +94,61 @@ fn made_of_two<R: Run>(
         OfTwo::Both => left.intersection(&right),
         OfTwo::FirstAlone => left.difference(&right),
         OfTwo::OneAlone => left.symmetric_difference(&right),
+    }
+}
+
+/// The most runs of a list that is merged, so that an answer has no more runs than `i64` counts.
+const MOST_RUNS: usize = 1 << 61;
+
+/// True only if one walk over both lists makes the answer, in the room of the caller.
+fn is_merged<R: Run>(making: OfTwo, a: &[R], b: &[R]) -> bool
+    ensures making { IsTrue result → IsOneWalk making }
+    ensures first { IsTrue result → IsRunListIn R.Bound.whole (map R.pair a.now) }
+    ensures second { IsTrue result → IsRunListIn R.Bound.whole (map R.pair b.now) }
+    ensures counted { IsTrue result → length a.now + length b.now < 2 ^ 63 }
+{
+    !matches!(making, OfTwo::OneAlone)
+        && a.len() <= MOST_RUNS
+        && b.len() <= MOST_RUNS
+        && is_run_list(a)
+        && is_run_list(b)
+}
+
+/// Writes what is made of two run lists, and tells how many runs it has. Where there may be too little
+/// room, it counts them first.
+fn merge<R: Run>(making: OfTwo, a: &[R], b: &[R], out: &mut [R]) -> i64
+    requires making { IsOneWalk making }
+    requires first { IsRunListIn R.Bound.whole (map R.pair a.now) }
+    requires second { IsRunListIn R.Bound.whole (map R.pair b.now) }
+    requires counted { length a.now + length b.now < 2 ^ 63 }
+    ensures { (L : List (ℤ × ℤ)) × IsWritten (MadeOfTwo making (Covers (map R.pair a.now)) (Covers (map R.pair b.now)))
+        (map R.pair out.old) (map R.pair out.new) result L }
+{
+    if a.len() + b.len() <= out.len() {
+        return walk(making, a, b, out) as i64;
+    }
+    let count = walk(making, a, b, &mut out[..0]);
+    if out.len() < count {
+        return count as i64;
+    }
+    walk(making, a, b, out) as i64
+}
+
+/// Lays what is made of two run lists in a room as far as there is room, and tells how many runs it
+/// has.
+fn walk<R: Run>(making: OfTwo, a: &[R], b: &[R], out: &mut [R]) -> usize
+    requires making { IsOneWalk making }
+    requires first { IsRunListIn R.Bound.whole (map R.pair a.now) }
+    requires second { IsRunListIn R.Bound.whole (map R.pair b.now) }
+    requires counted { length a.now + length b.now < 2 ^ 63 }
+    ensures runs { (L : List (ℤ × ℤ)) × IsLaid (MadeOfTwo making (Covers (map R.pair a.now)) (Covers (map R.pair b.now)))
+        (map R.pair out.old) (map R.pair out.new) result L }
+    ensures at_most { result ≤ length a.now + length b.now }
+{
+    match making {
+        OfTwo::Either => unite(a, b, out),
+        OfTwo::Both => meet(a, b, out),
+        OfTwo::FirstAlone => part(a, b, out),
+        OfTwo::OneAlone => unreachable!(),
     }
 }

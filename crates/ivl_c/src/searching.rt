@@ -68,7 +68,7 @@ fn first_from<R: Run>(runs: &[R], v: R::Bound) -> Option<R>
 }
 
 /// The pair at a place, if there is one.
-fn pair_at<R: Run>(runs: &[R], i: usize) -> Option<R>
+pub fn pair_at<R: Run>(runs: &[R], i: usize) -> Option<R>
     ensures { result ≡ slice_get runs.now i }
 {
     runs.get(i).copied()

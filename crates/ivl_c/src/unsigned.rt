@@ -30,7 +30,8 @@ pub extern "C" fn ivl_complement_u64(alloc: Global, a: &[RunU64], out: &mut [Run
     of_one(alloc, OfOne::Rest, a, out)
 }
 
-/// The members of either list. `O(n log n + m log m)`.
+/// The members of either list. `O(n log n + m log m)`; where both are lists of runs, `O(n + m)` and
+/// does not allocate.
 #[unsafe(no_mangle)]
 pub extern "C" fn ivl_union_u64(
     alloc: Global,
@@ -44,7 +45,8 @@ pub extern "C" fn ivl_union_u64(
     of_two(alloc, OfTwo::Either, a, b, out)
 }
 
-/// The members of both lists. `O(n log n + m log m)`.
+/// The members of both lists. `O(n log n + m log m)`; where both are lists of runs, `O(n + m)` and
+/// does not allocate.
 #[unsafe(no_mangle)]
 pub extern "C" fn ivl_intersection_u64(
     alloc: Global,
@@ -58,7 +60,8 @@ pub extern "C" fn ivl_intersection_u64(
     of_two(alloc, OfTwo::Both, a, b, out)
 }
 
-/// The members of the first list that are not in the second. `O(n log n + m log m)`.
+/// The members of the first list that are not in the second. `O(n log n + m log m)`; where both are
+/// lists of runs, `O(n + m)` and does not allocate.
 #[unsafe(no_mangle)]
 pub extern "C" fn ivl_difference_u64(
     alloc: Global,

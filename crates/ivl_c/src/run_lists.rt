@@ -1,0 +1,47 @@
+//! Lists that are the runs of a set already.
+ghost use Rattle.std.specs.Prelude.{◌↔◌, ◌+ℤ◌, ◌≤ℤ◌, IsTrue, map, pos};
+ghost use Rattle.ivl_laws.specs.Runs.{IsRunListIn};
+ghost use Rattle.ivl_c.specs.Merging.{IsRunIn};
+
+use crate::run::Run;
+use intervallum::interval::Interval;
+use intervallum::ops::Range;
+use intervallum::width::Width;
+
+/// True exactly when no pair is crossed, each leaves a number free after the one before it, and all
+/// are in the range. `O(n)`.
+pub fn is_run_list<R: Run>(runs: &[R]) -> bool
+    ensures { IsTrue result ↔ IsRunListIn R.Bound.whole (map R.pair runs.now) }
+{
+    let Some((first, rest)) = runs.split_first() else {
+        return true;
+    };
+    if !is_run(*first) {
+        return false;
+    }
+    let mut last = *first;
+    for run in rest {
+        if !is_run(*run) || !leaves_free(last, *run) {
+            return false;
+        }
+        last = *run;
+    }
+    true
+}
+
+/// True exactly when the pair is not crossed and its bounds are in the range.
+fn is_run<R: Run>(run: R) -> bool
+    ensures { IsTrue result ↔ IsRunIn R.Bound.whole (R.pair run) }
+{
+    run.lower() <= run.upper() && Interval::in_range(run.lower(), run.upper())
+}
+
+/// True exactly when some number lies above a run and below another one.
+pub fn leaves_free<R: Run>(last: R, run: R) -> bool
+    requires last { IsRunIn R.Bound.whole (R.pair last) }
+    requires run { IsRunIn R.Bound.whole (R.pair run) }
+    ensures { IsTrue result ↔ (((R.pair last).1 +ℤ pos 2) ≤ℤ (R.pair run).0) }
+{
+    let (end, start) = (last.upper(), run.lower());
+    end < start && end.add_in_range(R::Bound::one()) < start
+}
