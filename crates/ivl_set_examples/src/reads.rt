@@ -2,7 +2,7 @@
 
 use intervallum::interval::Interval;
 use intervallum::interval_set::{IntervalSet, ToIntervalSet};
-use intervallum::ops::{Difference, Empty, Intersection, IsEmpty, Overlap, Range, Union};
+use intervallum::ops::{Contains, Difference, Empty, Intersection, IsEmpty, Overlap, Range, Union};
 use std::test::Fail;
 
 #[test]
