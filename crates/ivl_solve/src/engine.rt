@@ -28,6 +28,10 @@ pub enum SessionFault {
 }
 
 impl From<AllocError> for SessionFault {
+    ghost use Rattle.ivl_solve.specs.declared.engine.SessionFault.TheVariants.{Memory};
+
+    ghost from_gives = { λ _ fault. fault ≡ Memory };
+
     fn from(_: AllocError) -> SessionFault {
         SessionFault::Memory
     }
