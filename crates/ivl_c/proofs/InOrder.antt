@@ -1,7 +1,8 @@
 -- Where a number stands in a list whose pairs are in order.
-use Rattle.std.proofs.Common.{◌≡◌, ◌↔◌, inl, inr, ⊎_elim, ℕ, zero, suc, ◌<◌, ℤ, ◌≤ℤ◌, ◌<ℤ◌, Bool, IsTrue, List, [], ◌∷◌, length, get_or, map, take, drop, sym, subst, arith}
+use Rattle.std.proofs.Common.{◌≡◌, ◌↔◌, inl, inr, ⊎_elim, ℕ, zero, suc, ◌<◌, ◌≤◌, ℤ, ◌≤ℤ◌, ◌<ℤ◌, Bool, false, IsTrue, List, [], ◌∷◌, length, get_or, map, take, drop, refl, sym, subst, arith}
 use Rattle.std.proofs.lemmas.Int.{ints, by_lt_z}
 use Rattle.std.specs.Prelude.{Option, Some, None, MatchOption, IfSome, slice_get, option_map}
+use Rattle.std.proofs.lemmas.Option.{slice_get_past, slice_get_read}
 use lib.Signed.{≤ℤ_refl}
 use Rattle.ivl_laws.specs.Sets.{AtLeast, HasNone, IsBetween, IsSubset}
 use Rattle.ivl_laws.specs.Runs.{Covers}
@@ -73,14 +74,6 @@ first_at pair (p ∷ L) zero v (Some r) e b a o =
 first_at pair (p ∷ L) (suc i) v None e b a o = none_more (pair p) (map pair L) v b.0 (first_at pair L i v None e b.1 a o.2)
 first_at pair (p ∷ L) (suc i) v (Some r) e b a o = first_more (pair p) (map pair L) v (pair r) b.0 (first_at pair L i v (Some r) e b.1 a o.2)
 
--- the place at which a search ends
-pub placed : {X : Type 0} (pair : X → ℤ × ℤ) (L : List X) (low high : ℕ) (v : ℤ) (o : Option X) → o ≡ slice_get L low → high ≡ low →
-    (IsInOrder (map pair L) → EndBelow v (take low (map pair L))) → (IsInOrder (map pair L) → EndsFrom v (drop high (map pair L))) → IsInOrder (map pair L) →
-    MatchOption o (HasNone (AtLeast v (Covers (map pair L)))) (λ r. IsFirstFrom v (Covers (map pair L)) (pair r))
-placed pair L low high v o e same below from order =
-    let P : ℕ → Type 0 = λ k. EndsFrom v (drop k (map pair L)) in
-    first_at pair L low v o e (below order) (subst P same (from order)) order
-
 -- ---- what the first pair that ends from a number on tells
 
 pub first_has : (v : ℤ) (S : ℤ → Type 0) (p : ℤ × ℤ) (t : Bool) → IsFirstFrom v S p → IsSubset (IsBetween p) S → (IsTrue t ↔ IsBetween p v) → IsTrue t ↔ S v
@@ -88,6 +81,35 @@ first_has v S p t f h is = ((λ u. h v (is.0 u)), (λ s. is.1 (f.first v (s, ≤
 
 pub none_here : (v : ℤ) (S : ℤ → Type 0) → HasNone (AtLeast v S) → ¬ (S v)
 none_here v S n s = n v (s, ≤ℤ_refl v)
+
+-- ---- whether the pair at a place has the number
+
+abbrev pub TellsAt : {X : Type 0} → (X → ℤ × ℤ) → ℤ → Option X → Bool → Type 0
+TellsAt pair v o t = MatchOption o (t ≡ false) (λ r. IsTrue t ↔ IsBetween (pair r) v)
+
+pub no_pair : {X : Type 0} (pair : X → ℤ × ℤ) (L : List X) (v : ℤ) (i : ℕ) → length L ≤ i → TellsAt pair v (slice_get L i) false
+no_pair pair L v i h = subst (λ (o : Option _). TellsAt pair v o false) (sym (slice_get_past L i h)) refl
+
+pub one_pair : {X : Type 0} (pair : X → ℤ × ℤ) (L : List X) (v : ℤ) (i : ℕ) (d : X) (low : ℤ) (t : Bool) → i < length L → d ≡ get_or L i d → low ≡ (pair d).0 → (IsTrue t ↔ (low ≤ℤ v)) → v ≤ℤ (pair d).1 →
+    TellsAt pair v (slice_get L i) t
+one_pair pair L v i d low t h is e le reaches =
+    subst (λ (o : Option _). TellsAt pair v o t) (sym (slice_get_read L (length L) i d refl h is))
+    ((λ u. (subst (λ (z : ℤ). z ≤ℤ v) e (le.0 u), reaches)), (λ b. le.1 (subst (λ (z : ℤ). z ≤ℤ v) (sym e) b.0)))
+
+pub has_member : {X : Type 0} (pair : X → ℤ × ℤ) (L : List X) (i : ℕ) (v : ℤ) (t : Bool) → TellsAt pair v (slice_get L i) t → IsTrue t → Covers (map pair L) v
+has_member pair L i v t = go (slice_get L i) refl
+  where
+    go : (o : Option _) → o ≡ slice_get L i → TellsAt pair v o t → IsTrue t → Covers (map pair L) v
+    go None e f u = absurd (cc)
+    go (Some r) e is u = members_at pair L i (Some r) e v (is.0 u)
+
+pub has_first : {X : Type 0} (pair : X → ℤ × ℤ) (L : List X) (i : ℕ) (v : ℤ) (t : Bool) → TellsAt pair v (slice_get L i) t → EndBelow v (take i (map pair L)) → EndsFrom v (drop i (map pair L)) → IsInOrder (map pair L) →
+    IsTrue t ↔ Covers (map pair L) v
+has_first pair L i v t tells below from o = go (slice_get L i) refl tells
+  where
+    go : (u : Option _) → u ≡ slice_get L i → TellsAt pair v u t → IsTrue t ↔ Covers (map pair L) v
+    go None e f = ((λ u. absurd (cc)), (λ s. absurd (none_here v _ (first_at pair L i v None e below from o) s)))
+    go (Some r) e is = first_has v _ (pair r) t (first_at pair L i v (Some r) e below from o) (members_at pair L i (Some r) e) is
 
 pub next_member : {K : Type 0} (value : K → ℤ) (v : ℤ) (S T : ℤ → Type 0) (o : Option K) → IsNextIn v S (option_map value o) → IsSubset S T → IfSome o (λ x. AtLeast v T (value x))
 next_member value v S T None n h = tt

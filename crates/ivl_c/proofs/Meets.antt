@@ -1,6 +1,9 @@
 -- What two run lists have in common, from two places on: of the pairs at these places, the one that ends first is done.
-use Rattle.std.proofs.Common.{◌≡◌, ◌⊎◌, inl, inr, ℕ, ◌+◌, ◌<◌, ◌≤◌, ℤ, ◌≤ℤ◌, List, ◌∷◌, Some, None, length, get_or, map, drop, refl, sym, subst}
+use Rattle.std.proofs.Common.{◌≡◌, ◌⊎◌, inl, inr, ℕ, ◌+◌, ℤ, ◌≤ℤ◌, List, ◌∷◌, Some, None, ◌∙◌, ap, map, drop, refl, sym, subst}
+use Rattle.std.specs.Prelude.{Option, slice_get}
 use Rattle.std.specs.Int.{int_max, int_min}
+use Rattle.std.specs.Option.{option_zip}
+use Rattle.std.proofs.lemmas.Option.{get_or_from_slice_get, slice_get_within}
 use Rattle.ivl_laws.specs.Sets.{HasNone, IsBetween, Intersection, SameMembers, Union}
 use Rattle.ivl_laws.specs.Runs.{Covers, IsMaximal}
 use Rattle.ivl_laws.proofs.Merging.{overlap_between}
@@ -9,10 +12,22 @@ use Rattle.intervallum.proofs.Leading.{IsLed}
 use Rattle.intervallum.proofs.Meeting.{common_first, common_second, shared_is_above}
 use Rattle.ivl_c.specs.Merging.{IsLaid, LaysNext}
 use Rattle.ivl_c.proofs.Laying.{IsLaying, laying_begins, laying_ends, lays}
-use Rattle.ivl_c.proofs.Resting.{rest_all, rest_at, rest_maximal, rest_none}
+use Rattle.ivl_c.proofs.Resting.{none_from, rest_all, rest_at, rest_maximal}
 
 pub both_starts : {a b m n : ℤ} → a ≡ m → b ≡ n → int_min a b ≡ int_min m n
 both_starts e f = cc
+
+-- ---- two pairs that are held together
+
+pub zip_some : {X : Type 0} (o u : Option X) (p : X × X) → option_zip o u ≡ Some p → (o ≡ Some p.0) × (u ≡ Some p.1)
+zip_some None u p e = absurd (cc)
+zip_some (Some x) None p e = absurd (cc)
+zip_some {X} (Some x) (Some y) p e = let same : (x, y) ≡ p = cc in (ap (λ (t : X × X). Some t.0) same, ap (λ (t : X × X). Some t.1) same)
+
+zip_none : {X : Type 0} (o u : Option X) → option_zip o u ≡ None → (o ≡ None) ⊎ (u ≡ None)
+zip_none None u e = inl refl
+zip_none (Some x) None e = inr refl
+zip_none (Some x) (Some y) e = absurd (cc)
 
 -- a run before its list is led by itself
 pub led : (p : ℤ × ℤ) (A : List (ℤ × ℤ)) → IsMaximal (p ∷ A) → IsLed (Some p) A
@@ -57,16 +72,16 @@ module _ {X : Type 0} (pair : X → ℤ × ℤ) (a b : List X) where
   pub meeting_begins : (old : List (ℤ × ℤ)) → (W : List (ℤ × ℤ)) × IsLaying (common_from 0 0) common_of old old 0 W
   meeting_begins old = rw (rest_all pair a, rest_all pair b) (laying_begins common_of old)
 
-  pub meeting_ends : (i j : ℕ) (old new : List (ℤ × ℤ)) (told : ℕ) → (length a ≤ i) ⊎ (length b ≤ j) → (W : List (ℤ × ℤ)) × IsLaying (common_from i j) common_of old new told W →
-      (L : List (ℤ × ℤ)) × IsLaid common_of old new told L
-  meeting_ends i j old new told e = laying_ends (common_from i j) common_of old new told (none e)
+  pub meeting_ends : (i j : ℕ) (held other : Option X) (old new : List (ℤ × ℤ)) (told : ℕ) → held ≡ slice_get a i → other ≡ slice_get b j → option_zip held other ≡ None →
+      (W : List (ℤ × ℤ)) × IsLaying (common_from i j) common_of old new told W → (L : List (ℤ × ℤ)) × IsLaid common_of old new told L
+  meeting_ends i j held other old new told e f z = laying_ends (common_from i j) common_of old new told (none (zip_none held other z))
     where
-      none : (length a ≤ i) ⊎ (length b ≤ j) → HasNone (common_from i j)
-      none (inl h) z c = subst (λ (L : List (ℤ × ℤ)). Covers L z) (rest_none pair a i h) c.0
-      none (inr h) z c = subst (λ (L : List (ℤ × ℤ)). Covers L z) (rest_none pair b j h) c.1
+      none : (held ≡ None) ⊎ (other ≡ None) → HasNone (common_from i j)
+      none (inl h) z c = subst (λ (L : List (ℤ × ℤ)). Covers L z) (none_from pair a i (sym e ∙ h)) c.0
+      none (inr h) z c = subst (λ (L : List (ℤ × ℤ)). Covers L z) (none_from pair b j (sym f ∙ h)) c.1
 
   module _ (i j : ℕ) (x y : X) (r : ℤ × ℤ) (old room room' : List (ℤ × ℤ)) (told told' : ℕ) (m : IsMaximal (map pair a)) (n : IsMaximal (map pair b))
-      (h : i < length a) (k : j < length b) (at : x ≡ get_or a i x) (by : y ≡ get_or b j y)
+      (at : slice_get a i ≡ Some x) (by : slice_get b j ≡ Some y)
       (starts : r.0 ≡ int_max (pair x).0 (pair y).0) (ends : r.1 ≡ int_min (pair x).1 (pair y).1) (l : LaysNext r room room' told told')
       (u : (W : List (ℤ × ℤ)) × IsLaying (common_from i j) common_of old room told W) where
     abbrev A : List (ℤ × ℤ)
@@ -76,10 +91,10 @@ module _ {X : Type 0} (pair : X → ℤ × ℤ) (a b : List X) where
     B = map pair (drop (j + 1) b)
 
     first_open : map pair (drop i a) ≡ pair x ∷ A
-    first_open = rest_at pair a i x h at
+    first_open = rest_at pair a i x (slice_get_within a i x at) (sym (get_or_from_slice_get a i x x at))
 
     second_open : map pair (drop j b) ≡ pair y ∷ B
-    second_open = rest_at pair b j y k by
+    second_open = rest_at pair b j y (slice_get_within b j y by) (sym (get_or_from_slice_get b j y y by))
 
     first_is : IsMaximal (pair x ∷ A)
     first_is = subst IsMaximal first_open (rest_maximal pair a i m)

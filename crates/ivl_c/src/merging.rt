@@ -26,15 +26,19 @@ pub fn meet<R: Run>(a: &[R], b: &[R], out: &mut [R]) -> usize
     let mut count = 0;
     let mut i = 0;
     let mut j = 0;
-    'walk: while i < a.len() && j < b.len() {
-        let (run, other) = (a[i], b[j]);
+    let mut first = pair_at(a, 0);
+    let mut second = pair_at(b, 0);
+    'walk: while let Some(runs) = first.zip(second) {
+        let (run, other) = runs;
         let start = run.lower().max(other.lower());
         let end = run.upper().min(other.upper());
         count = lay(out, count, R::of(start, end));
         if run.upper() <= other.upper() {
             i += 1;
+            first = pair_at(a, i);
         } else {
             j += 1;
+            second = pair_at(b, j);
         }
     }
     count

@@ -1,12 +1,12 @@
 //! Binary searches in lists whose pairs are in order.
-ghost use Rattle.std.specs.Prelude.{◌≡◌, ◌↔◌, false, IfSome, IsTrue, MatchOption, map, option_map, slice_get};
+ghost use Rattle.std.specs.Prelude.{◌≡◌, ◌↔◌, false, IfSome, IsTrue, MatchOption, drop, map, option_map, slice_get, take};
 ghost use Rattle.ivl_laws.specs.Sets.{AtLeast, HasNone, IsBetween, IsSubset};
 ghost use Rattle.ivl_laws.specs.Runs.{Covers};
+ghost use Rattle.intervallum.specs.Places.{EndBelow, EndsFrom};
 ghost use Rattle.ivl_c.specs.Finding.{AnswersNext, IsFirstFrom, IsNextIn};
 ghost use Rattle.ivl_c.specs.Lists.{IsInOrder};
 
 use crate::finding::least_in;
-use crate::reading::has;
 use crate::run::Run;
 
 /// True only if some pair of the list has the number, and exactly then if the list is in order.
@@ -15,10 +15,8 @@ pub fn contains<R: Run>(runs: &[R], v: R::Bound) -> bool
     ensures member { IsTrue result → Covers (map R.pair runs.now) (R.Bound.value v) }
     ensures in_order { IsInOrder (map R.pair runs.now) → (IsTrue result ↔ Covers (map R.pair runs.now) (R.Bound.value v)) }
 {
-    match first_from(runs, v) {
-        Some(run) => has(run, v),
-        None => false,
-    }
+    let (_, is_in) = search(runs, v);
+    is_in
 }
 
 /// Writes a member that is at least `v`, and the least one if the list is in order. Tells whether it
@@ -54,17 +52,32 @@ fn first_from<R: Run>(runs: &[R], v: R::Bound) -> Option<R>
         (HasNone (AtLeast (R.Bound.value v) (Covers (map R.pair runs.now))))
         (λ run. IsFirstFrom (R.Bound.value v) (Covers (map R.pair runs.now)) (R.pair run)) }
 {
+    let (place, _) = search(runs, v);
+    pair_at(runs, place)
+}
+
+/// The place of the first pair that ends at `v` or above, or the number of pairs, if the list is in
+/// order; and whether the pair at that place has `v`.
+fn search<R: Run>(runs: &[R], v: R::Bound) -> (usize, bool)
+    ensures has { MatchOption (slice_get runs.now result.0) (result.1 ≡ false) (λ run. IsTrue result.1 ↔ IsBetween (R.pair run) (R.Bound.value v)) }
+    ensures below { IsInOrder (map R.pair runs.now) → EndBelow (R.Bound.value v) (take result.0 (map R.pair runs.now)) }
+    ensures from { IsInOrder (map R.pair runs.now) → EndsFrom (R.Bound.value v) (drop result.0 (map R.pair runs.now)) }
+{
     let mut low = 0;
     let mut high = runs.len();
+    // a choice without a branch, as either half is as likely: that is why both bounds are read
+    let mut is_in = false;
     'search: while low < high {
         let middle = low + (high - low) / 2;
-        if runs[middle].upper() < v {
+        let run = runs[middle];
+        if run.upper() < v {
             low = middle + 1;
         } else {
             high = middle;
+            is_in = run.lower() <= v;
         }
     }
-    pair_at(runs, low)
+    (low, is_in)
 }
 
 /// The pair at a place, if there is one.

@@ -1,4 +1,5 @@
-use Rattle.std.proofs.Common.{◌+◌, ◌-◌, ◌≤◌, ℤ, List, length, map}
+use Rattle.std.proofs.Common.{◌≡◌, ◌+◌, ◌-◌, ◌≤◌, ℤ, List, length, map}
+use Rattle.std.specs.Prelude.{slice_get}
 use Rattle.ivl_c.proofs.Laying.{IsLaying}
 use Rattle.ivl_c.proofs.Meets.{common_from, common_of}
 use Rattle.ivl_c.proofs.merging.meet.Given as goal
@@ -6,6 +7,8 @@ use Rattle.ivl_c.proofs.merging.meet.Given as goal
 -- what is laid, and what the two lists have in common from the two places on, make up the answer
 abbrev pub invariant-walk : goal.invariant-walk
 invariant-walk g l = record {
+  held : l.first ≡ slice_get l.a l.i;
+  other : l.second ≡ slice_get l.b l.j;
   first : l.i ≤ length l.a;
   second : l.j ≤ length l.b;
   count : l.count ≤ l.i + l.j;

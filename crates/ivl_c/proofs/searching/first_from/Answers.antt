@@ -1,63 +1,9 @@
-use Rattle.std.proofs.Common.{◌≡◌, ◌+◌, ◌-◌, ◌/◌, ◌<◌, ◌≤ℤ◌, ◌<ℤ◌, ℕ, ℤ, suc, map, take, subst, arith}
-use Rattle.std.proofs.lemmas.Int.{by_lt_z}
-use Rattle.ivl_laws.proofs.Adding.{untrue}
-use Rattle.ivl_laws.proofs.Orders.{lt_number}
-use Rattle.intervallum.specs.Places.{EndBelow}
-use Rattle.ivl_c.proofs.InOrder.{below_to, ends_from, ends_from_end, members_at, placed}
+use Rattle.ivl_c.proofs.InOrder.{first_at, members_at}
 use Rattle.ivl_c.proofs.searching.first_from.Goals as goal
 
-pub search-init : goal.search-init
-search-init g c = record {
-  in_order = omega arith;
-  at_most = omega arith;
-  below = λ o. tt;
-  from = λ o. ends_from_end g.R.Run.pair c.args.runs.now (g.R.Bound.Width.value c.args.v);
-}
-
-pub search-preserved-then-lt : goal.search-preserved-then-lt
-search-preserved-then-lt g c =
-    let v = g.R.Bound.Width.value c.args.v in
-    let i = c.search.low + (c.search.high - c.search.low) / 2 in
-    let inv = c.search.invariant in
-    let d = c.index-runs-middle.result in
-    let t = c.search-test.true in
-    let less : i < c.search.high = omega (arith, t) in
-    let P : ℤ → Type 0 = λ z. z <ℤ v in
-    let b : (g.R.Run.pair d).1 <ℤ v = subst P c.upper.ensures ((lt_number g.met.R.Bound.Width.ordered _ _ _ c.lt.ensures).0 c.if-lt.true) in
-    let R : ℕ → Type 0 = λ k. EndBelow v (take k (map g.R.Run.pair c.args.runs.now)) in
-    let more : suc i ≡ i + 1 = omega arith in
-    record {
-      in_order = omega (arith, less);
-      at_most = inv.at_most;
-      below = λ o. subst R more (below_to g.R.Run.pair c.args.runs.now i d v (omega (arith, less, inv.at_most)) c.index-runs-middle.is b o);
-      from = inv.from;
-    }
-
-pub search-preserved : goal.search-preserved
-search-preserved g c =
-    let v = g.R.Bound.Width.value c.args.v in
-    let i = c.search.low + (c.search.high - c.search.low) / 2 in
-    let inv = c.search.invariant in
-    let d = c.index-runs-middle.result in
-    let t = c.search-test.true in
-    let less : i < c.search.high = omega (arith, t) in
-    let reaches : v ≤ℤ g.R.Bound.Width.value c.upper.result = by_lt_z (g.R.Bound.Width.value c.upper.result) v
-    (λ lt. absurd (untrue _ c.if-lt.false (lt_number g.met.R.Bound.Width.ordered _ _ _ c.lt.ensures) lt)) (λ le. le) in
-    let P : ℤ → Type 0 = λ z. v ≤ℤ z in
-    record {
-      in_order = omega (arith, t);
-      at_most = omega (arith, less, inv.at_most);
-      below = inv.below;
-      from = λ o. ends_from g.R.Run.pair c.args.runs.now i d v (omega (arith, less, inv.at_most)) c.index-runs-middle.is (subst P c.upper.ensures reaches);
-    }
-
 pub returns-clause-members : goal.returns-clause-members
-returns-clause-members g c =
-    members_at g.R.Run.pair c.args.runs.now c.search.low c.pair_at.result c.pair_at.ensures
+returns-clause-members g c = members_at g.R.Run.pair c.args.runs.now c.search-place.result.0 c.pair_at.result c.pair_at.ensures
 
 pub returns-clause-in_order : goal.returns-clause-in_order
-returns-clause-in_order g c =
-    let inv = c.search.invariant in
-    let ended = c.search-test.false in
-    let same : c.search.high ≡ c.search.low = omega (arith, ended, inv.in_order) in
-    placed g.R.Run.pair c.args.runs.now c.search.low c.search.high (g.R.Bound.Width.value c.args.v) c.pair_at.result c.pair_at.ensures same inv.below inv.from
+returns-clause-in_order g c = λ o.
+    first_at g.R.Run.pair c.args.runs.now c.search-place.result.0 (g.R.Bound.Width.value c.args.v) c.pair_at.result c.pair_at.ensures (c.search-place.ensures.below o) (c.search-place.ensures.from o) o
