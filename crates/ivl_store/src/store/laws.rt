@@ -12,24 +12,17 @@ pub fn union_is_supported()
 /// The greatest family for `k + 1` posts lies within that for `k`.
 pub fn later_lies_within<B: Width>(posts: &[Post<B>])
     ensures { LaterLiesWithin posts.now }
-{
-    let _ = posts;
-}
+{}
 
 /// Posts leave one family, so [`Store::post_all`](super::Store::post_all) has one answer.
 pub fn left_is_one<B: Width>(posts: &[Post<B>])
     ensures { LeftIsOne posts.now }
-{
-    let _ = posts;
-}
+{}
 
 /// Posts leave the same family in any order.
 pub fn order_plays_no_part<B: Width>(posts: &[Post<B>], others: &[Post<B>])
     ensures { OrderPlaysNoPart posts.now others.now }
-{
-    let _ = posts;
-    let _ = others;
-}
+{}
 
 /// A point that solves all the constraints within some domains is the only point of a supported
 /// family within them.
