@@ -75,7 +75,7 @@ pub fn contains<R: Run>(runs: &[R], v: R::Bound) -> bool
 }
 
 /// True exactly when the pair has the number.
-pub fn has<R: Run>(run: R, v: R::Bound) -> bool
+fn has<R: Run>(run: R, v: R::Bound) -> bool
     ensures { IsTrue result ↔ IsBetween (R.pair run) (R.Bound.value v) }
 {
     run.lower() <= v && v <= run.upper()

@@ -65,7 +65,8 @@ fn search<R: Run>(runs: &[R], v: R::Bound) -> (usize, bool)
 {
     let mut low = 0;
     let mut high = runs.len();
-    // a choice without a branch, as either half is as likely: that is why both bounds are read
+    // both bounds are read at each step, so that no branch chooses the half: a processor would guess
+    // it wrong as often as not
     let mut is_in = false;
     'search: while low < high {
         let middle = low + (high - low) / 2;
