@@ -9,12 +9,12 @@ pub record IsLed (held : Option (ℤ × ℤ)) (L : List (ℤ × ℤ)) : Type 0 w
   pub maximal : IsMaximal (led_by held L)
   pub ended : held ≡ None → L ≡ []
 
-pub zip_some : (a b : Option (ℤ × ℤ)) (p : (ℤ × ℤ) × (ℤ × ℤ)) → option_zip a b ≡ Some p → (a ≡ Some p.0) × (b ≡ Some p.1)
+pub zip_some : {X : Type 0} (a b : Option X) (p : X × X) → option_zip a b ≡ Some p → (a ≡ Some p.0) × (b ≡ Some p.1)
 zip_some None b p e = absurd (cc)
 zip_some (Some x) None p e = absurd (cc)
-zip_some (Some x) (Some y) p e = let same : (x, y) ≡ p = cc in (ap (λ (t : (ℤ × ℤ) × (ℤ × ℤ)). Some t.0) same, ap (λ (t : (ℤ × ℤ) × (ℤ × ℤ)). Some t.1) same)
+zip_some {X} (Some x) (Some y) p e = let same : (x, y) ≡ p = cc in (ap (λ (t : X × X). Some t.0) same, ap (λ (t : X × X). Some t.1) same)
 
-pub zip_none : (a b : Option (ℤ × ℤ)) → option_zip a b ≡ None → (a ≡ None) ⊎ (b ≡ None)
+pub zip_none : {X : Type 0} (a b : Option X) → option_zip a b ≡ None → (a ≡ None) ⊎ (b ≡ None)
 zip_none None b e = inl refl
 zip_none (Some x) None e = inr refl
 zip_none (Some x) (Some y) e = absurd (cc)

@@ -70,15 +70,37 @@ fewer_digits k digits far past e h l = ⊎_elim (λ less. less)
 pub doubled : (k far : ℕ) → far + 1 ≡ 2 ^ k → far + far + 1 + 1 ≡ 2 ^ (k + 1)
 doubled k far e = let more : k + 1 ≡ suc k = omega arith in rw more (simp unary_clauses (omega (arith, e)))
 
--- v stands in run i, or below it and those after it
-abbrev pub IsFrom : ℤ → List (ℤ × ℤ) → ℕ → Bool → Type 0
-IsFrom v L i true = IsSomeAnd (slice_get L i) (λ run. IsBetween run v)
-IsFrom v L i false = StartAbove v (drop i L)
+pub above_on : (v : ℤ) (L : List (ℤ × ℤ)) (i k : ℕ) → i ≤ k → StartAbove v (drop i L) → StartAbove v (drop k L)
+above_on v [] i zero h a = tt
+above_on v [] i (suc k) h a = tt
+above_on v (r ∷ L) zero zero h a = a
+above_on v (r ∷ L) zero (suc k) h a = above_on v L zero k (omega arith) a.1
+above_on v (r ∷ L) (suc i) zero h a = absurd (omega (arith, h))
+above_on v (r ∷ L) (suc i) (suc k) h a = above_on v L i k (omega (arith, h)) a
 
-pub is_from : (v : ℤ) (L : List (ℤ × ℤ)) (i : ℕ) (d : ℤ × ℤ) (t : Bool) → i < length L → IsMaximal L → slice_get L i ≡ Some d → v ≤ℤ d.1 → (IsTrue t ↔ (d.0 ≤ℤ v)) → IsFrom v L i t
-is_from v L i d true h m e k c =
+-- a run that has v stands in place k or before it, or v lies below the runs from k on
+abbrev pub IsFrom : ℤ → List (ℤ × ℤ) → ℕ → Bool → Type 0
+IsFrom v L k true = (i : ℕ) × (i ≤ k) × IsSomeAnd (slice_get L i) (λ run. IsBetween run v)
+IsFrom v L k false = StartAbove v (drop k L)
+
+pub is_from : (v : ℤ) (L : List (ℤ × ℤ)) (i k : ℕ) (d : ℤ × ℤ) (t : Bool) → i < length L → i ≤ k → IsMaximal L → slice_get L i ≡ Some d → v ≤ℤ d.1 → (IsTrue t ↔ (d.0 ≤ℤ v)) → IsFrom v L k t
+is_from v L i k d true h l m e r c =
     let P : Option (ℤ × ℤ) → Type 0 = λ o. IsSomeAnd o (λ run. IsBetween run v) in
-    subst P (sym e) (c.0 refl, k)
-is_from v L i d false h m e k c =
+    (i, l, subst P (sym e) (c.0 refl, r))
+is_from v L i k d false h l m e r c =
     let Q : ℤ × ℤ → Type 0 = λ r. v <ℤ r.0 in
-    above_from v L i d h (subst Q (sym (get_or_from_slice_get L i d d e)) (by_lt_z v d.0 (λ lt. lt) (λ le. absurd (untrue false refl c le)))) m
+    above_on v L i k l
+    (above_from v L i d h (subst Q (sym (get_or_from_slice_get L i d d e)) (by_lt_z v d.0 (λ lt. lt) (λ le. absurd (untrue false refl c le)))) m)
+
+-- no run before place k has v where they end below it
+not_before : (v : ℤ) (L : List (ℤ × ℤ)) (i k : ℕ) → EndBelow v (take k L) → IsSomeAnd (slice_get L i) (λ run. IsBetween run v) → k ≤ i
+not_before v [] i k b h = absurd h
+not_before v (r ∷ L) i zero b h = omega arith
+not_before v (r ∷ L) zero (suc k) b h = absurd (omega (arith, ints, b.0, h.1))
+not_before v (r ∷ L) (suc i) (suc k) b h = let l = not_before v L i k b.1 h in omega (arith, l)
+
+pub in_at : (v : ℤ) (L : List (ℤ × ℤ)) (k : ℕ) → EndBelow v (take k L) → IsFrom v L k true → IsSomeAnd (slice_get L k) (λ run. IsBetween run v)
+in_at v L k b (i, l, h) =
+    let P : ℕ → Type 0 = λ j. IsSomeAnd (slice_get L j) (λ run. IsBetween run v) in
+    let e : i ≡ k = let m = not_before v L i k b h in omega (arith, l, m) in
+    subst P e h

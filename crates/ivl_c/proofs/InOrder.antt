@@ -1,13 +1,13 @@
 -- Where a number stands in a list whose pairs are in order.
-use Rattle.std.proofs.Common.{◌≡◌, ◌↔◌, inl, inr, ⊎_elim, ℕ, zero, suc, ◌<◌, ◌≤◌, ℤ, ◌≤ℤ◌, ◌<ℤ◌, Bool, false, IsTrue, List, [], ◌∷◌, length, get_or, map, take, drop, refl, sym, subst, arith}
+use Rattle.std.proofs.Common.{◌≡◌, ◌↔◌, ◌⊎◌, inl, inr, ⊎_elim, ap, ℕ, zero, suc, ◌<◌, ◌≤◌, ℤ, ◌≤ℤ◌, ◌<ℤ◌, Bool, false, IsTrue, List, [], ◌∷◌, length, get_or, map, take, drop, refl, sym, subst, arith}
 use Rattle.std.proofs.lemmas.Int.{ints, by_lt_z}
-use Rattle.std.specs.Prelude.{Option, Some, None, MatchOption, IfSome, slice_get, option_map}
+use Rattle.std.specs.Prelude.{Option, Some, None, MatchOption, IfSome, IsSomeAnd, slice_get, option_map}
 use Rattle.std.proofs.lemmas.Option.{slice_get_past, slice_get_read}
 use lib.Signed.{≤ℤ_refl}
 use Rattle.ivl_laws.specs.Sets.{AtLeast, HasNone, IsBetween, IsSubset}
 use Rattle.ivl_laws.specs.Runs.{Covers}
 use Rattle.intervallum.specs.Places.{EndBelow, EndsFrom}
-use Rattle.ivl_c.specs.Finding.{IsFirstFrom, IsNextIn}
+use Rattle.ivl_c.specs.Finding.{IsFirstFrom, IsNextIn, TellsAt}
 use Rattle.ivl_c.specs.Lists.{IsInOrder}
 
 -- no later pair ends below an earlier one, and no later member lies below its start
@@ -30,15 +30,6 @@ below_to pair (p ∷ L) (suc i) d v h is b o = (
   let k = later_end pair (pair p) L i d (omega arith) is o in omega (arith, ints, k, b),
   below_to pair L i d v (omega arith) is b o.2,
 )
-
-pub ends_from : {X : Type 0} (pair : X → ℤ × ℤ) (L : List X) (i : ℕ) (d : X) (v : ℤ) → i < length L → d ≡ get_or L i d → v ≤ℤ (pair d).1 → EndsFrom v (drop i (map pair L))
-ends_from pair [] i d v h is e = absurd (omega arith)
-ends_from pair (p ∷ L) zero d v h is e = let P : _ → Type 0 = λ r. v ≤ℤ (pair r).1 in subst P is e
-ends_from pair (p ∷ L) (suc i) d v h is e = ends_from pair L i d v (omega arith) is e
-
-pub ends_from_end : {X : Type 0} (pair : X → ℤ × ℤ) (L : List X) (v : ℤ) → EndsFrom v (drop (length L) (map pair L))
-ends_from_end pair [] v = tt
-ends_from_end pair (p ∷ L) v = ends_from_end pair L v
 
 -- ---- what the pair at a place tells
 
@@ -84,17 +75,62 @@ none_here v S n s = n v (s, ≤ℤ_refl v)
 
 -- ---- whether the pair at a place has the number
 
-abbrev pub TellsAt : {X : Type 0} → (X → ℤ × ℤ) → ℤ → Option X → Bool → Type 0
-TellsAt pair v o t = MatchOption o (t ≡ false) (λ r. IsTrue t ↔ IsBetween (pair r) v)
-
 pub no_pair : {X : Type 0} (pair : X → ℤ × ℤ) (L : List X) (v : ℤ) (i : ℕ) → length L ≤ i → TellsAt pair v (slice_get L i) false
 no_pair pair L v i h = subst (λ (o : Option _). TellsAt pair v o false) (sym (slice_get_past L i h)) refl
 
-pub one_pair : {X : Type 0} (pair : X → ℤ × ℤ) (L : List X) (v : ℤ) (i : ℕ) (d : X) (low : ℤ) (t : Bool) → i < length L → d ≡ get_or L i d → low ≡ (pair d).0 → (IsTrue t ↔ (low ≤ℤ v)) → v ≤ℤ (pair d).1 →
-    TellsAt pair v (slice_get L i) t
-one_pair pair L v i d low t h is e le reaches =
-    subst (λ (o : Option _). TellsAt pair v o t) (sym (slice_get_read L (length L) i d refl h is))
-    ((λ u. (subst (λ (z : ℤ). z ≤ℤ v) e (le.0 u), reaches)), (λ b. le.1 (subst (λ (z : ℤ). z ≤ℤ v) (sym e) b.0)))
+-- the pair before place k ends below v
+abbrev pub IsPast : {X : Type 0} → (X → ℤ × ℤ) → ℤ → List X → ℕ → Type 0
+IsPast pair v L zero = Unit {0}
+IsPast pair v L (suc i) = IfSome (slice_get L i) (λ r. (pair r).1 <ℤ v)
+
+-- it ends at v or above, and whether it starts at v or below is told
+abbrev pub IsReached : {X : Type 0} → (X → ℤ × ℤ) → ℤ → Option X → Bool → Type 0
+IsReached pair v o t = IsSomeAnd o (λ r. (v ≤ℤ (pair r).1) × (IsTrue t ↔ ((pair r).0 ≤ℤ v)))
+
+-- such a pair stands at place k or right before it, or k is the end and none was met
+abbrev pub IsSeen : {X : Type 0} → (X → ℤ × ℤ) → ℤ → List X → ℕ → Bool → Type 0
+IsSeen pair v L k t = ((t ≡ false) × (length L ≤ k)) ⊎ ((i : ℕ) × (i ≤ k) × (k ≤ suc i) × IsReached pair v (slice_get L i) t)
+
+pub past_next : {X : Type 0} (pair : X → ℤ × ℤ) (L : List X) (v : ℤ) (i : ℕ) (d : X) → i < length L → d ≡ get_or L i d → (pair d).1 <ℤ v → IsPast pair v L (suc i)
+past_next pair L v i d h is b = subst (λ (o : Option _). IfSome o (λ r. (pair r).1 <ℤ v)) (sym (slice_get_read L (length L) i d refl h is)) b
+
+pub reached : {X : Type 0} (pair : X → ℤ × ℤ) (L : List X) (v : ℤ) (i : ℕ) (d : X) (low : ℤ) (t : Bool) → i < length L → d ≡ get_or L i d → low ≡ (pair d).0 → (IsTrue t ↔ (low ≤ℤ v)) → v ≤ℤ (pair d).1 →
+    IsReached pair v (slice_get L i) t
+reached pair L v i d low t h is e le reaches =
+    subst (λ (o : Option _). IsReached pair v o t) (sym (slice_get_read L (length L) i d refl h is)) (reaches, subst (λ (z : ℤ). IsTrue t ↔ (z ≤ℤ v)) e le)
+
+not_both : {X : Type 0} (pair : X → ℤ × ℤ) (v : ℤ) (o : Option X) (t : Bool) → IsReached pair v o t → IfSome o (λ r. (pair r).1 <ℤ v) → ⊥
+not_both pair v None t h b = h
+not_both pair v (Some r) t h b = let reaches = h.0 in omega (arith, ints, reaches, b)
+
+tells_reached : {X : Type 0} (pair : X → ℤ × ℤ) (v : ℤ) (o : Option X) (t : Bool) → IsReached pair v o t → TellsAt pair v o t
+tells_reached pair v None t h = absurd h
+tells_reached pair v (Some r) t h = ((λ u. (h.1.0 u, h.0)), (λ b. h.1.1 b.0))
+
+ends_reached : {X : Type 0} (pair : X → ℤ × ℤ) (L : List X) (i : ℕ) (v : ℤ) (t : Bool) → IsReached pair v (slice_get L i) t → EndsFrom v (drop i (map pair L))
+ends_reached pair [] i v t h = absurd h
+ends_reached pair (p ∷ L) zero v t h = h.0
+ends_reached pair (p ∷ L) (suc i) v t h = ends_reached pair L i v t h
+
+ends_past : {X : Type 0} (pair : X → ℤ × ℤ) (L : List X) (k : ℕ) (v : ℤ) → length L ≤ k → EndsFrom v (drop k (map pair L))
+ends_past pair [] zero v h = tt
+ends_past pair [] (suc k) v h = tt
+ends_past pair (p ∷ L) zero v h = absurd (omega (arith, h))
+ends_past pair (p ∷ L) (suc k) v h = ends_past pair L k v (omega (arith, h))
+
+pub place_found : {X : Type 0} (pair : X → ℤ × ℤ) (L : List X) (v : ℤ) (k : ℕ) (t : Bool) → IsPast pair v L k → IsSeen pair v L k t →
+    TellsAt pair v (slice_get L k) t × EndsFrom v (drop k (map pair L))
+place_found pair L v k t past (inl (e, h)) = (subst (λ (u : Bool). TellsAt pair v (slice_get L k) u) (sym e) (no_pair pair L v k h), ends_past pair L k v h)
+place_found pair L v k t past (inr (i, l, m, h)) = ⊎_elim
+    (λ (e : k ≡ i). let h' = subst (λ (j : ℕ). IsReached pair v (slice_get L j) t) (sym e) h in (tells_reached pair v (slice_get L k) t h', ends_reached pair L k v t h'))
+    (λ (e : k ≡ suc i). absurd (not_both pair v (slice_get L i) t h (subst (λ (j : ℕ). IsPast pair v L j) e past))) (next_to i k l m)
+  where
+    next_to : (i k : ℕ) → i ≤ k → k ≤ suc i → (k ≡ i) ⊎ (k ≡ suc i)
+    next_to zero zero l m = inl refl
+    next_to zero (suc zero) l m = inr refl
+    next_to zero (suc (suc k)) l m = absurd (omega (arith, m))
+    next_to (suc i) zero l m = absurd (omega (arith, l))
+    next_to (suc i) (suc k) l m = ⊎_elim (λ (e : k ≡ i). inl (ap suc e)) (λ (e : k ≡ suc i). inr (ap suc e)) (next_to i k (omega (arith, l)) (omega (arith, m)))
 
 pub has_member : {X : Type 0} (pair : X → ℤ × ℤ) (L : List X) (i : ℕ) (v : ℤ) (t : Bool) → TellsAt pair v (slice_get L i) t → IsTrue t → Covers (map pair L) v
 has_member pair L i v t = go (slice_get L i) refl

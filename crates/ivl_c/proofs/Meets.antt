@@ -8,7 +8,7 @@ use Rattle.ivl_laws.specs.Sets.{HasNone, IsBetween, Intersection, SameMembers, U
 use Rattle.ivl_laws.specs.Runs.{Covers, IsMaximal}
 use Rattle.ivl_laws.proofs.Merging.{overlap_between}
 use Rattle.ivl_laws.proofs.Runs.{pair_same}
-use Rattle.intervallum.proofs.Leading.{IsLed}
+use Rattle.intervallum.proofs.Leading.{IsLed, zip_none}
 use Rattle.intervallum.proofs.Meeting.{common_first, common_second, shared_is_above}
 use Rattle.ivl_c.specs.Merging.{IsLaid, LaysNext}
 use Rattle.ivl_c.proofs.Laying.{IsLaying, laying_begins, laying_ends, lays}
@@ -16,18 +16,6 @@ use Rattle.ivl_c.proofs.Resting.{none_from, rest_all, rest_at, rest_maximal}
 
 pub both_starts : {a b m n : ℤ} → a ≡ m → b ≡ n → int_min a b ≡ int_min m n
 both_starts e f = cc
-
--- ---- two pairs that are held together
-
-pub zip_some : {X : Type 0} (o u : Option X) (p : X × X) → option_zip o u ≡ Some p → (o ≡ Some p.0) × (u ≡ Some p.1)
-zip_some None u p e = absurd (cc)
-zip_some (Some x) None p e = absurd (cc)
-zip_some {X} (Some x) (Some y) p e = let same : (x, y) ≡ p = cc in (ap (λ (t : X × X). Some t.0) same, ap (λ (t : X × X). Some t.1) same)
-
-zip_none : {X : Type 0} (o u : Option X) → option_zip o u ≡ None → (o ≡ None) ⊎ (u ≡ None)
-zip_none None u e = inl refl
-zip_none (Some x) None e = inr refl
-zip_none (Some x) (Some y) e = absurd (cc)
 
 -- a run before its list is led by itself
 pub led : (p : ℤ × ℤ) (A : List (ℤ × ℤ)) → IsMaximal (p ∷ A) → IsLed (Some p) A

@@ -1,10 +1,11 @@
 -- The least member from a number on, and the lowest members in a row.
 --     IsFirstFrom v S p      p is not crossed and ends at v or above, and no member of S from v on is below p
+--     TellsAt pair v item t      whether the item has v; false where there is none
 --     IsNextIn v S next      the least member of S that is at least v; none where there is none
 --     AnswersNext v S old new told      that member is written, and true told; else nothing is written
 --     IsFitIn n S run      the lowest n members of S in a row, where n is above 0 and S has so many in a row
 --     AnswersFit whole n S old new told      what a call tells that looks for these
-use Rattle.std.specs.Prelude.{◌≡◌, ◌⊎◌, ◌<◌, ℕ, ℤ, ◌≤ℤ◌, pos, Option, MatchOption, Bool, true, false}
+use Rattle.std.specs.Prelude.{◌≡◌, ◌↔◌, ◌⊎◌, IsTrue, ◌<◌, ℕ, ℤ, ◌≤ℤ◌, pos, Option, MatchOption, Bool, true, false}
 use Rattle.ivl_laws.specs.Sets.{AtLeast, HasNone, IsBetween, IsSubset}
 use Rattle.intervallum.specs.Neighbours.{IsLeast}
 use Rattle.intervallum.specs.Rooms.{FitsAt, IsFirstFit}
@@ -14,6 +15,9 @@ pub record IsFirstFrom (v : ℤ) (S : ℤ → Type 0) (p : ℤ × ℤ) : Type 0 
   pub filled : p.0 ≤ℤ p.1
   pub ends : v ≤ℤ p.1
   pub first : (z : ℤ) → AtLeast v S z → p.0 ≤ℤ z
+
+abbrev pub TellsAt : {X : Type 0} → (X → ℤ × ℤ) → ℤ → Option X → Bool → Type 0
+TellsAt pair v item t = MatchOption item (t ≡ false) (λ x. IsTrue t ↔ IsBetween (pair x) v)
 
 abbrev pub IsNextIn : ℤ → (ℤ → Type 0) → Option ℤ → Type 0
 IsNextIn v S next = MatchOption next (HasNone (AtLeast v S)) (λ x. IsLeast x (AtLeast v S))

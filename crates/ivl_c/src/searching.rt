@@ -3,7 +3,7 @@ ghost use Rattle.std.specs.Prelude.{◌≡◌, ◌↔◌, false, IfSome, IsTrue,
 ghost use Rattle.ivl_laws.specs.Sets.{AtLeast, HasNone, IsBetween, IsSubset};
 ghost use Rattle.ivl_laws.specs.Runs.{Covers};
 ghost use Rattle.intervallum.specs.Places.{EndBelow, EndsFrom};
-ghost use Rattle.ivl_c.specs.Finding.{AnswersNext, IsFirstFrom, IsNextIn};
+ghost use Rattle.ivl_c.specs.Finding.{AnswersNext, IsFirstFrom, IsNextIn, TellsAt};
 ghost use Rattle.ivl_c.specs.Lists.{IsInOrder};
 
 use crate::finding::least_in;
@@ -59,22 +59,23 @@ fn first_from<R: Run>(runs: &[R], v: R::Bound) -> Option<R>
 /// The place of the first pair that ends at `v` or above, or the number of pairs, if the list is in
 /// order; and whether the pair at that place has `v`.
 fn search<R: Run>(runs: &[R], v: R::Bound) -> (usize, bool)
-    ensures has { MatchOption (slice_get runs.now result.0) (result.1 ≡ false) (λ run. IsTrue result.1 ↔ IsBetween (R.pair run) (R.Bound.value v)) }
+    ensures has { TellsAt R.pair (R.Bound.value v) (slice_get runs.now result.0) result.1 }
     ensures below { IsInOrder (map R.pair runs.now) → EndBelow (R.Bound.value v) (take result.0 (map R.pair runs.now)) }
-    ensures from { IsInOrder (map R.pair runs.now) → EndsFrom (R.Bound.value v) (drop result.0 (map R.pair runs.now)) }
+    ensures from { EndsFrom (R.Bound.value v) (drop result.0 (map R.pair runs.now)) }
 {
     let mut low = 0;
-    let mut high = runs.len();
-    // both bounds are read at each step, so that no branch chooses the half: a processor would guess
-    // it wrong as often as not
+    // how many are left does not depend on what is seen, so the next look need not wait for it; both
+    // bounds are read at each, so that no branch chooses the half: a processor would guess it wrong
+    // as often as not
+    let mut left = runs.len();
     let mut is_in = false;
-    'search: while low < high {
-        let middle = low + (high - low) / 2;
-        let run = runs[middle];
+    'search: while 0 < left {
+        let half = left - left / 2;
+        left -= half;
+        let run = runs[low + half - 1];
         if run.upper() < v {
-            low = middle + 1;
+            low += half;
         } else {
-            high = middle;
             is_in = run.lower() <= v;
         }
     }

@@ -1,5 +1,5 @@
 //! Accesses `a[i + k]`, where a set is known for each of the two.
-ghost use Rattle.std.specs.Prelude.{◌≡◌, ◌↔◌, ◌^◌, ℤ, pos, ◌+ℤ◌, ◌<ℤ◌, IfOk, IsTrue};
+ghost use Rattle.std.specs.Prelude.{◌≡◌, ◌↔◌, ◌^◌, ℤ, pos, ◌+ℤ◌, ◌<ℤ◌, ◌<◌, ℕ, IfOk, IsTrue, length as count};
 ghost use Rattle.ivl_laws.specs.Families.{set_at};
 ghost use Rattle.ivl_laws.specs.Runs.{Covers, IsRunsOf};
 ghost use Rattle.ivl_laws.specs.Sets.{HasSome, IsBetween, IsSubset, SameMembers, Sums};
@@ -27,7 +27,9 @@ use std::alloc::{AllocError, Global};
 /// assert!(rt; is_safe(alloc, &sets, 10)? && !is_safe(alloc, &sets, 9)?);
 /// ```
 pub fn is_safe(alloc: Global, sets: &[IntervalSet<i64>], length: u32) -> Result<bool, EvalFault>
-    ensures { IfOk result (λ r. IsTrue r ↔ IsSubset (Sums (set_at sets.now 0) (set_at sets.now 1)) (IsIndexOf length)) }
+    ensures safe { IfOk result (λ r. IsTrue r ↔ IsSubset (Sums (set_at sets.now 0) (set_at sets.now 1)) (IsIndexOf length)) }
+    // of sets that are missing the first is told
+    ensures missing { (i : ℕ) → (result ≡ Err (EvalFault.Missing i)) → (i ≡ count sets.now) × (i < 2) }
 {
     let sums = sums(alloc, sets)?;
     Ok(are_indexes(alloc, &sums, length)?)
@@ -59,7 +61,9 @@ pub fn safe_indexes(
 
 /// The sums of a member of each of the first two sets.
 fn sums(alloc: Global, sets: &[IntervalSet<i64>]) -> Result<IntervalSet<i64>, EvalFault>
-    ensures { IfOk result (λ L. IsRunsOf L (Sums (set_at sets.now 0) (set_at sets.now 1))) }
+    ensures members { IfOk result (λ L. IsRunsOf L (Sums (set_at sets.now 0) (set_at sets.now 1))) }
+    // of sets that are missing the first is told
+    ensures missing { (i : ℕ) → (result ≡ Err (EvalFault.Missing i)) → (i ≡ count sets.now) × (i < 2) }
 {
     let sum = Expr::Add(variable(alloc, 0)?, variable(alloc, 1)?);
     eval(alloc, &sum, sets)

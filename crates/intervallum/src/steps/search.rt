@@ -74,12 +74,7 @@ pub(crate) fn find_from<B: Width>(probes: &mut Probes<'_, B>, v: B, from: usize)
 }
 
 /// Where `v` stands, which lies above the first `low` runs, and below those from `high` on.
-fn find_between<B: Width>(
-    probes: &mut Probes<'_, B>,
-    v: B,
-    mut low: usize,
-    mut high: usize,
-) -> Place
+fn find_between<B: Width>(probes: &mut Probes<'_, B>, v: B, mut low: usize, high: usize) -> Place
     requires in_order { low ≤ high }
     requires at_most { high ≤ length probes.old.runs }
     requires below { EndBelow (B.value v) (take low probes.old.runs) }
@@ -90,15 +85,16 @@ fn find_between<B: Width>(
     ensures looks { (digits : ℕ) → high - low < 2 ^ digits → probes.new.looks ≤ probes.old.looks + digits }
 {
     probes.len();
-    // run `high` has been looked at and has `v`
+    // how many are left does not depend on what is seen, so the next look need not wait for it
+    let mut left = high - low;
     let mut is_in = false;
-    'search: while low < high {
-        let middle = low + (high - low) / 2;
-        let run = probes.look(middle);
+    'search: while 0 < left {
+        let half = left - left / 2;
+        left -= half;
+        let run = probes.look(low + half - 1);
         if run.upper() < v {
-            low = middle + 1;
+            low += half;
         } else {
-            high = middle;
             is_in = run.lower() <= v;
         }
     }

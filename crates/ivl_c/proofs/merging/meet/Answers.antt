@@ -4,7 +4,8 @@ use Rattle.ivl_laws.proofs.Orders.{le_number, max_number, min_number, not_le_num
 use Rattle.intervallum.proofs.Meeting.{ends_by, ends_past}
 use Rattle.intervallum.proofs.Pushing.{both_ends}
 use Rattle.ivl_c.proofs.Laying.{one_more_at_most}
-use Rattle.ivl_c.proofs.Meets.{both_starts, meeting_begins, meeting_ends, meeting_first, meeting_second, zip_some}
+use Rattle.intervallum.proofs.Leading.{zip_some}
+use Rattle.ivl_c.proofs.Meets.{both_starts, meeting_begins, meeting_ends, meeting_first, meeting_second}
 use Rattle.ivl_c.proofs.merging.meet.Goals as goal
 
 pub walk-init : goal.walk-init
