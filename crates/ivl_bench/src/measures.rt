@@ -417,7 +417,7 @@ fn extended<A: Answer>(set: &IntervalSet<i64>) -> Result<A, AllocError> {
 fn hits(set: &IntervalSet<i64>, probes: &[i64]) -> u64 {
     let mut hits: u64 = 0;
     for probe in probes {
-        // counted with no branch, which would cost more than the search where it is not foreseen
+        // counted with no branch: one that is not foreseen costs more than a search among a few runs
         hits = hits.saturating_add(u64::from(set.contains(probe)));
     }
     hits

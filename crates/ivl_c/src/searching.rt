@@ -68,6 +68,7 @@ fn search<R: Run>(runs: &[R], v: R::Bound) -> (usize, bool)
     // bounds are read at each, so that no branch chooses the half: a processor would guess it wrong
     // as often as not
     let mut left = runs.len();
+    // the last pair seen that does not end below `v` has it
     let mut is_in = false;
     'search: while 0 < left {
         let half = left - left / 2;

@@ -87,6 +87,7 @@ fn find_between<B: Width>(probes: &mut Probes<'_, B>, v: B, mut low: usize, high
     probes.len();
     // how many are left does not depend on what is seen, so the next look need not wait for it
     let mut left = high - low;
+    // the last run seen that does not end below `v` has it
     let mut is_in = false;
     'search: while 0 < left {
         let half = left - left / 2;
