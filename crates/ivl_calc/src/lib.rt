@@ -1,8 +1,9 @@
-//! A calculator over registers that hold interval sets.
+//! The calculator with what stands beside it, under one name.
 //!
-//! What a list of commands answers is what it would answer over plain sets of numbers: that is the
-//! contract of [`Calc::run`]. [`within`] has the sums and differences of sets that are cut at the
-//! ends of the range, and [`store`] narrows domains by constraints `x + y = z`.
+//! [`Calc`] carries out commands over registers that hold interval sets. [`within`] has the sums and
+//! differences of sets that are cut at the ends of the range, and [`store`] narrows domains by
+//! constraints `x + y = z`. A program that needs the calculator alone names `ivl_registers`, and does
+//! not wait for the proof of the store.
 //!
 //! ```
 //! let mut calc = Calc::new(alloc, 2)?;
@@ -12,14 +13,7 @@
 //! ```
 #![tactic(auto)]
 
+pub use ivl_registers::laws;
+pub use ivl_registers::{Calc, Command, Refusal, Reply};
 pub use ivl_store::store;
 pub use ivl_within::within;
-
-mod calc;
-mod command;
-pub mod laws;
-mod reply;
-
-pub use calc::Calc;
-pub use command::Command;
-pub use reply::{Refusal, Reply};

@@ -2,8 +2,8 @@
 use Rattle.std.proofs.Common.{◌≡◌, ℕ, ℤ, List, [], ◌∷◌, ◌++◌, map, refl, sym, ap, ◌∙◌, subst, append_assoc}
 use Rattle.std.specs.Prelude.{codes}
 use Rattle.std.proofs.lemmas.List.{append-nil, map-append}
-use Rattle.ivl_calc.specs.Actions.{Action, Answer}
-use Rattle.ivl_calc.specs.Step.{Run}
+use Rattle.ivl_registers.specs.Actions.{Action, Answer}
+use Rattle.ivl_registers.specs.Step.{Run}
 use Rattle.ivl_run.specs.Reading.{Reading, blank, bad, command, reading_of}
 use Rattle.ivl_run.specs.Printed.{printed}
 use Rattle.ivl_run.specs.Session.{i64_range, actions_of, with_newline, placed, Answers, AnswersReading}

@@ -1,6 +1,6 @@
 -- Pairs of numbers, each of which is its own value.
 use Rattle.std.proofs.Common.{◌≡◌, ℤ, List, [], ◌∷◌, refl, ap}
-use Rattle.ivl_calc.specs.View.{number_pairs}
+use Rattle.ivl_registers.specs.View.{number_pairs}
 
 pub number_pairs_same : (list : List (ℤ × ℤ)) → number_pairs (λ z. z) list ≡ list
 number_pairs_same [] = refl

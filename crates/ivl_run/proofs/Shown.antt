@@ -3,8 +3,8 @@ use Rattle.std.proofs.Common.{◌≡◌, ℤ, ◌≤ℤ◌, List, [], ◌∷◌,
 use Rattle.std.specs.Prelude.{All}
 use Rattle.std.proofs.lemmas.List.Elements.{All-nil, All-cons}
 use Rattle.ivl_laws.specs.Runs.{IsMaximal}
-use Rattle.ivl_calc.specs.Actions.{Making, pairs, union, intersection, difference, symmetric, complement, at_least, at_most, above, below, plus, minus, times, plus_value, minus_value, times_value, Question, has, size, count, low, high, same, subset, meets, show, Action, make, ask, Answer, done, cut, flag, sized, counted, value, runs, refused}
-use Rattle.ivl_calc.specs.Step.{IsReportOf, IsAnswerTo, IsEffectOf, MayStep}
+use Rattle.ivl_registers.specs.Actions.{Making, pairs, union, intersection, difference, symmetric, complement, at_least, at_most, above, below, plus, minus, times, plus_value, minus_value, times_value, Question, has, size, count, low, high, same, subset, meets, show, Action, make, ask, Answer, done, cut, flag, sized, counted, value, runs, refused}
+use Rattle.ivl_registers.specs.Step.{IsReportOf, IsAnswerTo, IsEffectOf, MayStep}
 use Rattle.ivl_run.specs.Printed.{HasRunsInOrder}
 
 in_order : (list : List (ℤ × ℤ)) → IsMaximal list → All (λ p. p.0 ≤ℤ p.1) list

@@ -1,9 +1,9 @@
 -- The text of a reply.
 use Rattle.std.specs.Prelude.{ℕ, ℤ, ◌≤ℤ◌, Bool, List, [], ◌∷◌, ◌++◌, All, codes, decimal, flat_map, if◌then◌else◌, Option, None, Some}
 use Rattle.std.specs.Fmt.{signed_decimal}
-use Rattle.ivl_calc.specs.Actions.{Answer, done, cut, flag, sized, counted, value, runs, refused}
-use Rattle.ivl_calc.specs.declared.reply.Refusal.{Refusal}
-use Rattle.ivl_calc.specs.declared.reply.Refusal.TheVariants.{Register, Range, Fit, Memory}
+use Rattle.ivl_registers.specs.Actions.{Answer, done, cut, flag, sized, counted, value, runs, refused}
+use Rattle.ivl_registers.specs.declared.reply.Refusal.{Refusal}
+use Rattle.ivl_registers.specs.declared.reply.Refusal.TheVariants.{Register, Range, Fit, Memory}
 
 abbrev pub refusal_text : Refusal → List ℕ
 refusal_text Register = codes "refused 1 register"

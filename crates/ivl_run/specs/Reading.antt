@@ -1,7 +1,7 @@
 -- What a line says: nothing, no command, or a command.
 use Rattle.std.specs.Prelude.{ℕ, List, [], ◌∷◌, if◌then◌else◌, Option, None, Some}
 use Rattle.std.specs.Str.{is_utf8}
-use Rattle.ivl_calc.specs.Actions.{Action}
+use Rattle.ivl_registers.specs.Actions.{Action}
 use Rattle.ivl_run.specs.Lines.{words_of}
 use Rattle.ivl_run.specs.Commands.{action_from}
 

@@ -4,9 +4,9 @@
 --     IsSessionText lines text      the same from 26 empty registers
 --     IsWholeSessionText lines text      the same, and no command was refused as out of memory
 use Rattle.std.specs.Prelude.{◌≡◌, ◌≢◌, ℕ, ℤ, pos, negsuc, ◌^◌, ◌-◌, All, List, [], ◌∷◌, ◌++◌, codes, map, replicate}
-use Rattle.ivl_calc.specs.Actions.{Action, Answer, refused}
-use Rattle.ivl_calc.specs.Step.{MayStep, Run}
-use Rattle.ivl_calc.specs.declared.reply.Refusal.TheVariants.{Memory}
+use Rattle.ivl_registers.specs.Actions.{Action, Answer, refused}
+use Rattle.ivl_registers.specs.Step.{MayStep, Run}
+use Rattle.ivl_registers.specs.declared.reply.Refusal.TheVariants.{Memory}
 use Rattle.ivl_run.specs.Reading.{Reading, blank, bad, command, reading_of}
 use Rattle.ivl_run.specs.Printed.{printed}
 

@@ -1,9 +1,9 @@
 -- What the code's lines and replies stand for, over numbers.
 use Rattle.std.specs.Prelude.{ℕ, ℤ}
-use Rattle.ivl_calc.specs.Actions.{Action, Answer}
-use Rattle.ivl_calc.specs.View as calc
-use Rattle.ivl_calc.specs.declared.command.Command.{Command}
-use Rattle.ivl_calc.specs.declared.reply.Reply.{Reply}
+use Rattle.ivl_registers.specs.Actions.{Action, Answer}
+use Rattle.ivl_registers.specs.View as calc
+use Rattle.ivl_registers.specs.declared.command.Command.{Command}
+use Rattle.ivl_registers.specs.declared.reply.Reply.{Reply}
 use Rattle.ivl_run.specs.Reading.{Reading, blank, bad, command}
 use Rattle.ivl_run.specs.declared.lines.Line.{Line}
 use Rattle.ivl_run.specs.declared.lines.Line.TheVariants as lines

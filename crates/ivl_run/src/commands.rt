@@ -4,7 +4,7 @@ ghost use Rattle.ivl_run.specs.Commands.{action_from, looked_up, commands, regis
 ghost use Rattle.ivl_words.specs.Words.{words_between};
 ghost use Rattle.ivl_run.specs.View.{action_of};
 
-use ivl_calc::Command;
+use ivl_registers::Command;
 use ivl_words::{next_word, number_from, one_word, pairs_from, three_words, two_words};
 use std::alloc::{AllocError, Global};
 

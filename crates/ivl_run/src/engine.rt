@@ -9,7 +9,7 @@ ghost use Rattle.ivl_run.specs.Cut.{Progress, HasNoNewline, IsSplitAtNewline};
 
 use crate::lines::{Line, read_line};
 use crate::replies::write_reply;
-use ivl_calc::Calc;
+use ivl_registers::Calc;
 use std::alloc::{AllocError, Global};
 use std::io;
 use std::io::{ErrorKind, Read, Write};

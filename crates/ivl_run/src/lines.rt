@@ -5,7 +5,7 @@ ghost use Rattle.ivl_run.specs.Reading.{reading_of};
 ghost use Rattle.ivl_run.specs.View.{view_of};
 
 use crate::commands::command_from;
-use ivl_calc::Command;
+use ivl_registers::Command;
 use ivl_words::next_word;
 use std::alloc::{AllocError, Global};
 

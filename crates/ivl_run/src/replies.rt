@@ -6,7 +6,7 @@ ghost use Rattle.ivl_run.specs.Session.{with_newline};
 ghost use Rattle.ivl_run.specs.View.{answer_of};
 
 use intervallum::interval::Interval;
-use ivl_calc::{Refusal, Reply};
+use ivl_registers::{Refusal, Reply};
 use std::io;
 use std::io::Write;
 

@@ -1,5 +1,5 @@
 use Rattle.std.proofs.Common.{ap, map, sym, ◌∙◌}
-use Rattle.ivl_calc.proofs.Determined.{runs_agree}
+use Rattle.ivl_registers.proofs.Determined.{runs_agree}
 use Rattle.ivl_run.specs.Reading.{reading_of}
 use Rattle.ivl_run.specs.Session.{actions_of, i64_range, placed, start}
 use Rattle.ivl_run.proofs.laws.texts_are_determined.Goals as goal

@@ -4,7 +4,7 @@ use Rattle.std.specs.Str.{is_utf8}
 use Rattle.std.specs.Str.Lines.{strip_carriage_return}
 use Rattle.std.proofs.lemmas.Bool.{cases_Bool}
 use Rattle.std.proofs.lemmas.Str.{IsUtf8-from_is_utf8, is_utf8-from_IsUtf8}
-use Rattle.ivl_calc.specs.declared.command.Command.{Command}
+use Rattle.ivl_registers.specs.declared.command.Command.{Command}
 use Rattle.ivl_run.specs.Commands.{action_from}
 use Rattle.ivl_words.specs.Words.{words_between}
 use Rattle.ivl_run.specs.Lines.{words_of}
