@@ -1,5 +1,5 @@
 //! Each command where nothing is refused.
-use super::check_register;
+use super::{check_register, check_reply};
 use intervallum::interval::Interval;
 use intervallum::ops::Range;
 use ivl_calc::{Calc, Command, Reply};
@@ -11,18 +11,18 @@ fn a_register_may_be_its_own_operand(rt: HostRuntime) -> Result<(), Fail> {
     let mut calc: Calc<i64> = Calc::new(alloc, 4)?;
     calc.apply(&Command::Set(0, vec![in alloc; (1, 3), (8, 8), (10, 11)]?));
     calc.apply(&Command::Set(1, vec![in alloc; (2, 5), (7, 8), (12, 15)]?));
-    assert_eq!(rt; calc.apply(&Command::Sym(2, 0, 1)), Reply::Done);
-    assert_eq!(rt; calc.apply(&Command::Count(2)), Reply::Count(4));
-    assert_eq!(rt; calc.apply(&Command::High(2)), Reply::Value(Some(15)));
-    assert_eq!(rt; calc.apply(&Command::Low(3)), Reply::Value(None));
-    assert_eq!(rt; calc.apply(&Command::Sub(2, 0)), Reply::Flag(false));
-    assert_eq!(rt; calc.apply(&Command::Meets(2, 0)), Reply::Flag(true));
-    assert_eq!(rt; calc.apply(&Command::Diff(0, 0, 0)), Reply::Done);
+    check_reply(&rt, &mut calc, Command::Sym(2, 0, 1), Reply::Done)?;
+    check_reply(&rt, &mut calc, Command::Count(2), Reply::Count(4))?;
+    check_reply(&rt, &mut calc, Command::High(2), Reply::Value(Some(15)))?;
+    check_reply(&rt, &mut calc, Command::Low(3), Reply::Value(None))?;
+    check_reply(&rt, &mut calc, Command::Sub(2, 0), Reply::Flag(false))?;
+    check_reply(&rt, &mut calc, Command::Meets(2, 0), Reply::Flag(true))?;
+    check_reply(&rt, &mut calc, Command::Diff(0, 0, 0), Reply::Done)?;
     check_register(&rt, &calc, 0, "{}")?;
-    assert_eq!(rt; calc.apply(&Command::StrictLeft(1, 1, 7)), Reply::Done);
+    check_reply(&rt, &mut calc, Command::StrictLeft(1, 1, 7), Reply::Done)?;
     check_register(&rt, &calc, 1, "{[8..8][12..15]}")?;
-    assert_eq!(rt; calc.apply(&Command::MinusValue(1, 1, 8)), Reply::Done);
-    assert_eq!(rt; calc.apply(&Command::Times(1, 1, 1)), Reply::Done);
+    check_reply(&rt, &mut calc, Command::MinusValue(1, 1, 8), Reply::Done)?;
+    check_reply(&rt, &mut calc, Command::Times(1, 1, 1), Reply::Done)?;
     check_register(&rt, &calc, 1, "{[0..0][16..49]}")
 }
 
@@ -31,21 +31,34 @@ fn sets_are_made(rt: HostRuntime) -> Result<(), Fail> {
     let alloc = rt.alloc();
     let mut calc: Calc<u8> = Calc::new(alloc, 3)?;
     // Two pairs overlap, and the crossed one adds nothing.
-    let reply = calc.apply(&Command::Set(0, vec![in alloc; (3, 8), (2, 5), (9, 4)]?));
-    assert_eq!(rt; reply, Reply::Done);
+    check_reply(
+        &rt,
+        &mut calc,
+        Command::Set(0, vec![in alloc; (3, 8), (2, 5), (9, 4)]?),
+        Reply::Done,
+    )?;
     check_register(&rt, &calc, 0, "[2..8]")?;
-    let reply = calc.apply(&Command::Set(1, vec![in alloc; (9, 9), (4, 5), (250, 254)]?));
-    assert_eq!(rt; reply, Reply::Done);
-    assert_eq!(rt; calc.apply(&Command::Union(2, 0, 1)), Reply::Done);
+    check_reply(
+        &rt,
+        &mut calc,
+        Command::Set(1, vec![in alloc; (9, 9), (4, 5), (250, 254)]?),
+        Reply::Done,
+    )?;
+    check_reply(&rt, &mut calc, Command::Union(2, 0, 1), Reply::Done)?;
     check_register(&rt, &calc, 2, "{[2..9][250..254]}")?;
-    assert_eq!(rt; calc.apply(&Command::Inter(2, 0, 1)), Reply::Done);
+    check_reply(&rt, &mut calc, Command::Inter(2, 0, 1), Reply::Done)?;
     check_register(&rt, &calc, 2, "[4..5]")?;
-    assert_eq!(rt; calc.apply(&Command::Diff(2, 0, 1)), Reply::Done);
+    check_reply(&rt, &mut calc, Command::Diff(2, 0, 1), Reply::Done)?;
     check_register(&rt, &calc, 2, "{[2..3][6..8]}")?;
-    assert_eq!(rt; calc.apply(&Command::Comp(2, 1)), Reply::Done);
+    check_reply(&rt, &mut calc, Command::Comp(2, 1), Reply::Done)?;
     check_register(&rt, &calc, 2, "{[0..3][6..8][10..249]}")?;
     // No pair at all is the empty set.
-    assert_eq!(rt; calc.apply(&Command::Set(2, Vec::new(alloc))), Reply::Done);
+    check_reply(
+        &rt,
+        &mut calc,
+        Command::Set(2, Vec::new(alloc)),
+        Reply::Done,
+    )?;
     check_register(&rt, &calc, 2, "{}")
 }
 
@@ -54,22 +67,24 @@ fn sets_are_cut_and_moved(rt: HostRuntime) -> Result<(), Fail> {
     let alloc = rt.alloc();
     let mut calc: Calc<i64> = Calc::new(alloc, 2)?;
     calc.apply(&Command::Set(0, vec![in alloc; (-4, 5), (8, 8)]?));
-    assert_eq!(rt; calc.apply(&Command::Left(1, 0, 5)), Reply::Done);
+    check_reply(&rt, &mut calc, Command::Left(1, 0, 5), Reply::Done)?;
     check_register(&rt, &calc, 1, "{[5..5][8..8]}")?;
-    assert_eq!(rt; calc.apply(&Command::Right(1, 0, -4)), Reply::Done);
+    check_reply(&rt, &mut calc, Command::Right(1, 0, -4), Reply::Done)?;
     check_register(&rt, &calc, 1, "[-4..-4]")?;
-    assert_eq!(rt; calc.apply(&Command::StrictRight(1, 0, 8)), Reply::Done);
+    check_reply(&rt, &mut calc, Command::StrictRight(1, 0, 8), Reply::Done)?;
     check_register(&rt, &calc, 1, "[-4..5]")?;
-    assert_eq!(rt; calc.apply(&Command::PlusValue(1, 0, 10)), Reply::Done);
+    check_reply(&rt, &mut calc, Command::PlusValue(1, 0, 10), Reply::Done)?;
     check_register(&rt, &calc, 1, "{[6..15][18..18]}")?;
-    assert_eq!(rt; calc.apply(&Command::TimesValue(1, 0, -2)), Reply::Done);
+    check_reply(&rt, &mut calc, Command::TimesValue(1, 0, -2), Reply::Done)?;
     check_register(&rt, &calc, 1, "{[-16..-16][-10..8]}")?;
     // A value outside the range may be added where the sums are in the range.
     calc.apply(&Command::Set(0, vec![in alloc; (1, 1)]?));
-    assert_eq!(rt;
-        calc.apply(&Command::PlusValue(0, 0, i64::MIN)),
-        Reply::Done
-    );
+    check_reply(
+        &rt,
+        &mut calc,
+        Command::PlusValue(0, 0, i64::MIN),
+        Reply::Done,
+    )?;
     check_register(
         &rt,
         &calc,
@@ -83,10 +98,10 @@ fn sums_and_differences_are_clipped(rt: HostRuntime) -> Result<(), Fail> {
     let alloc = rt.alloc();
     let mut calc: Calc<i64> = Calc::new(alloc, 4)?;
     calc.apply(&Command::Set(2, vec![in alloc; (1, 2)]?));
-    assert_eq!(rt; calc.apply(&Command::Plus(1, 2, 2)), Reply::Cut(false));
+    check_reply(&rt, &mut calc, Command::Plus(1, 2, 2), Reply::Cut(false))?;
     check_register(&rt, &calc, 1, "[2..4]")?;
     calc.apply(&Command::Set(3, vec![in alloc; (-i64::MAX, 0)]?));
-    assert_eq!(rt; calc.apply(&Command::Minus(1, 3, 2)), Reply::Cut(true));
+    check_reply(&rt, &mut calc, Command::Minus(1, 3, 2), Reply::Cut(true))?;
     check_register(&rt, &calc, 1, "[-9223372036854775807..-1]")
 }
 

@@ -1,5 +1,5 @@
 //! Sums and differences at both ends of small types.
-use super::check_register;
+use super::{check_end, check_register, check_reply};
 use intervallum::interval_set::IntervalSet;
 use ivl_calc::store::{Constraint, Store};
 use ivl_calc::within::{add_within, sub_within};
@@ -39,24 +39,32 @@ fn unsigned_ends(rt: HostRuntime) -> Result<(), Fail> {
             calc.apply(&Command::Set(0, vec![in alloc; (a, b)]?));
             calc.apply(&Command::Set(1, vec![in alloc; (c, d)]?));
             let sums = (i16::from(a) + i16::from(c), i16::from(b) + i16::from(d));
-            let reply = calc.apply(&Command::Plus(2, 0, 1));
-            assert_eq!(rt; reply, Reply::Cut(sums.1 > 254));
+            check_reply(
+                &rt,
+                &mut calc,
+                Command::Plus(2, 0, 1),
+                Reply::Cut(sums.1 > 254),
+            )?;
             let low = if sums.0 <= 254 { Some(sums.0) } else { None };
-            assert_eq!(rt; unsigned_number(&calc.apply(&Command::Low(2))), low);
+            check_end(&rt, unsigned_number(&calc.apply(&Command::Low(2))), low)?;
             let high = low.map(|_| sums.1.min(254));
-            assert_eq!(rt; unsigned_number(&calc.apply(&Command::High(2))), high);
+            check_end(&rt, unsigned_number(&calc.apply(&Command::High(2))), high)?;
 
             let differences = (i16::from(a) - i16::from(d), i16::from(b) - i16::from(c));
-            let reply = calc.apply(&Command::Minus(2, 0, 1));
-            assert_eq!(rt; reply, Reply::Cut(differences.0 < 0));
+            check_reply(
+                &rt,
+                &mut calc,
+                Command::Minus(2, 0, 1),
+                Reply::Cut(differences.0 < 0),
+            )?;
             let high = if differences.1 >= 0 {
                 Some(differences.1)
             } else {
                 None
             };
-            assert_eq!(rt; unsigned_number(&calc.apply(&Command::High(2))), high);
+            check_end(&rt, unsigned_number(&calc.apply(&Command::High(2))), high)?;
             let low = high.map(|_| differences.0.max(0));
-            assert_eq!(rt; unsigned_number(&calc.apply(&Command::Low(2))), low);
+            check_end(&rt, unsigned_number(&calc.apply(&Command::Low(2))), low)?;
         }
     }
     Ok(())
@@ -79,33 +87,38 @@ fn signed_ends(rt: HostRuntime) -> Result<(), Fail> {
             calc.apply(&Command::Set(0, vec![in alloc; (a, b)]?));
             calc.apply(&Command::Set(1, vec![in alloc; (c, d)]?));
             let sums = (of_both(a, c), of_both(b, d));
-            let reply = calc.apply(&Command::Plus(2, 0, 1));
-            assert_eq!(rt; reply, Reply::Cut(sums.0 < -127 || sums.1 > 127));
+            check_reply(
+                &rt,
+                &mut calc,
+                Command::Plus(2, 0, 1),
+                Reply::Cut(sums.0 < -127 || sums.1 > 127),
+            )?;
             let some = sums.0 <= 127 && sums.1 >= -127;
             let low = if some { Some(sums.0.max(-127)) } else { None };
-            assert_eq!(rt; signed_number(&calc.apply(&Command::Low(2))), low);
+            check_end(&rt, signed_number(&calc.apply(&Command::Low(2))), low)?;
             let high = if some { Some(sums.1.min(127)) } else { None };
-            assert_eq!(rt; signed_number(&calc.apply(&Command::High(2))), high);
+            check_end(&rt, signed_number(&calc.apply(&Command::High(2))), high)?;
 
             let differences = (between(a, d), between(b, c));
-            let reply = calc.apply(&Command::Minus(2, 0, 1));
-            assert_eq!(rt;
-                reply,
-                Reply::Cut(differences.0 < -127 || differences.1 > 127)
-            );
+            check_reply(
+                &rt,
+                &mut calc,
+                Command::Minus(2, 0, 1),
+                Reply::Cut(differences.0 < -127 || differences.1 > 127),
+            )?;
             let some = differences.0 <= 127 && differences.1 >= -127;
             let low = if some {
                 Some(differences.0.max(-127))
             } else {
                 None
             };
-            assert_eq!(rt; signed_number(&calc.apply(&Command::Low(2))), low);
+            check_end(&rt, signed_number(&calc.apply(&Command::Low(2))), low)?;
             let high = if some {
                 Some(differences.1.min(127))
             } else {
                 None
             };
-            assert_eq!(rt; signed_number(&calc.apply(&Command::High(2))), high);
+            check_end(&rt, signed_number(&calc.apply(&Command::High(2))), high)?;
         }
     }
     Ok(())
@@ -117,21 +130,21 @@ fn several_runs(rt: HostRuntime) -> Result<(), Fail> {
     let mut calc: Calc<u8> = Calc::new(alloc, 3)?;
     calc.apply(&Command::Set(0, vec![in alloc; (250, 254)]?));
     calc.apply(&Command::Set(1, vec![in alloc; (0, 1), (10, 10)]?));
-    assert_eq!(rt; calc.apply(&Command::Plus(2, 0, 1)), Reply::Cut(true));
+    check_reply(&rt, &mut calc, Command::Plus(2, 0, 1), Reply::Cut(true))?;
     check_register(&rt, &calc, 2, "[250..254]")?;
     calc.apply(&Command::Set(0, vec![in alloc; (254, 254)]?));
     calc.apply(&Command::Set(1, vec![in alloc; (1, 1)]?));
-    assert_eq!(rt; calc.apply(&Command::Plus(2, 0, 1)), Reply::Cut(true));
+    check_reply(&rt, &mut calc, Command::Plus(2, 0, 1), Reply::Cut(true))?;
     check_register(&rt, &calc, 2, "{}")?;
     calc.apply(&Command::Set(0, vec![in alloc; (0, 5)]?));
     calc.apply(&Command::Set(1, vec![in alloc; (3, 3)]?));
-    assert_eq!(rt; calc.apply(&Command::Minus(2, 0, 1)), Reply::Cut(true));
+    check_reply(&rt, &mut calc, Command::Minus(2, 0, 1), Reply::Cut(true))?;
     check_register(&rt, &calc, 2, "[0..2]")?;
 
     let mut calc: Calc<i8> = Calc::new(alloc, 3)?;
     calc.apply(&Command::Set(0, vec![in alloc; (-127, -127), (0, 0)]?));
     calc.apply(&Command::Set(1, vec![in alloc; (-1, 0)]?));
-    assert_eq!(rt; calc.apply(&Command::Plus(2, 0, 1)), Reply::Cut(true));
+    check_reply(&rt, &mut calc, Command::Plus(2, 0, 1), Reply::Cut(true))?;
     check_register(&rt, &calc, 2, "{[-127..-127][-1..0]}")
 }
 
@@ -142,7 +155,7 @@ fn sets_of_registers(rt: HostRuntime) -> Result<(), Fail> {
     let mut calc: Calc<u8> = Calc::new(alloc, 3)?;
     calc.apply(&Command::Set(0, vec![in alloc; (240, 250)]?));
     calc.apply(&Command::Set(1, vec![in alloc; (4, 4)]?));
-    assert_eq!(rt; calc.apply(&Command::Plus(2, 0, 1)), Reply::Cut(false));
+    check_reply(&rt, &mut calc, Command::Plus(2, 0, 1), Reply::Cut(false))?;
     let (Some(a), Some(b), Some(sums)) = (calc.get(0), calc.get(1), calc.get(2)) else {
         assert!(rt; false, "all registers are there");
         return Ok(());
