@@ -18,7 +18,7 @@ pub mod Listing
 pub mod Parting
 pub mod Alternating
 pub mod Windows
-pub mod Turning
+pub mod Scaling
 pub mod Shifting
 pub mod Splicing
 pub mod Touching
