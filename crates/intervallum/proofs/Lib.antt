@@ -1,4 +1,5 @@
 pub mod Equality
+pub mod RunByRun
 pub mod Walking
 pub mod Joining
 pub mod Pushing
