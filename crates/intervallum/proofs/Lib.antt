@@ -1,4 +1,5 @@
 pub mod Equality
+pub mod RunByRun
 pub mod Walking
 pub mod Joining
 pub mod Pushing
@@ -18,7 +19,7 @@ pub mod Listing
 pub mod Parting
 pub mod Alternating
 pub mod Windows
-pub mod Turning
+pub mod Scaling
 pub mod Shifting
 pub mod Splicing
 pub mod Touching

@@ -1,9 +1,10 @@
 //! How a run list is read and made: every set is built by pushing runs at its end.
-ghost use Rattle.std.specs.Prelude.{◌≡◌, ◌↔◌, ◌+◌, ◌≤◌, ℕ, pos, ◌+ℤ◌, ◌-ℤ◌, ◌≤ℤ◌, [], ◌∷◌, ◌++◌, IsTrue, IfOk, OnOk, OnErr};
+ghost use Rattle.std.specs.Prelude.{◌≡◌, ◌↔◌, ◌+◌, ◌<◌, ◌≤◌, ℕ, pos, ◌+ℤ◌, ◌-ℤ◌, ◌≤ℤ◌, [], ◌∷◌, ◌++◌, IsTrue, IfOk, OnOk, OnErr, length};
 ghost use Rattle.ivl_laws.specs.Sets.{IsBetween, IsSubset};
 ghost use Rattle.ivl_laws.specs.Runs.{AddsRun, Covers, IsMaximal, IsRunListIn, StartsBy};
 ghost use Rattle.ivl_laws.specs.Counts.{IsCountOf};
 ghost use Rattle.ivl_laws.specs.Bounds.{width_of};
+ghost use Rattle.intervallum.specs.Sweeps.{run_at};
 
 use super::IntervalSet;
 use crate::interval::Interval;
@@ -112,12 +113,31 @@ pub(super) fn are_the_same<B: Width>(a: &[Interval<B>], b: &[Interval<B>]) -> bo
     if a.len() != b.len() {
         return false;
     }
-    for i in 0..a.len() {
-        if !is_same(a[i], b[i]) {
+    let pairs = a.len() / 2;
+    for i in 0..pairs {
+        if !two_are_the_same(a, b, 2 * i) {
             return false;
         }
     }
-    true
+    if a.len() % 2 == 0 {
+        return true;
+    }
+    let last = a.len() - 1;
+    is_same(a[last], b[last])
+}
+
+/// Two lists have the same runs at a place and the next.
+fn two_are_the_same<B: Width>(a: &[Interval<B>], b: &[Interval<B>], i: usize) -> bool
+    requires left { IsMaximal a.now }
+    requires right { IsMaximal b.now }
+    requires there { i + 1 < length a.now }
+    requires there_too { i + 1 < length b.now }
+    ensures { IsTrue result ↔ ((run_at a.now i ≡ run_at b.now i) × (run_at a.now (i + 1) ≡ run_at b.now (i + 1))) }
+{
+    // by one branch for both
+    let first_is_same = is_same(a[i], b[i]);
+    let next_is_same = is_same(a[i + 1], b[i + 1]);
+    first_is_same & next_is_same
 }
 
 /// Two intervals that are not empty have the same bounds.
