@@ -9,7 +9,7 @@ use Rattle.ivl_laws.proofs.Products.{by_corners, differences_of_intervals, hull_
 
 -- ---- the ends are members
 
-ordered : (p : ℤ × ℤ) (l u : ℤ) → (l, u) ≡ p → ¬ (IsCrossed p) → l ≤ℤ u
+pub ordered : (p : ℤ × ℤ) (l u : ℤ) → (l, u) ≡ p → ¬ (IsCrossed p) → l ≤ℤ u
 ordered p l u e n = let o = not_crossed p n in rw (← e) at o
 
 pub lower_of : (p : ℤ × ℤ) (l u : ℤ) → (l, u) ≡ p → ¬ (IsCrossed p) → IsBetween p l
