@@ -1,13 +1,13 @@
 -- Intervals by the numbers of their stored ends: when the ends are in range, and what tests of them tell.
-use Rattle.std.proofs.Common.{◌≡◌, ℤ, ◌≤ℤ◌, ◌↔◌, IsTrue, Bool, true, false, arith, sym, ◌∙◌}
+use Rattle.std.proofs.Common.{◌≡◌, ℤ, pos, ◌+ℤ◌, ◌-ℤ◌, ◌≤ℤ◌, ◌<ℤ◌, ◌↔◌, IsTrue, Bool, true, false, arith, refl, sym, ◌∙◌}
 use Rattle.std.proofs.Math.Bool.{true≢false}
 use Rattle.std.specs.Int.{int_max, int_min}
 use Rattle.std.proofs.lemmas.Int.{ints, clamps}
-use Rattle.ivl_laws.specs.Sets.{AtLeast, AtMost, IsBetween, IsCrossed, IsHullOf, IsInRange, IsSubset, SameMembers, Without}
-use Rattle.ivl_laws.proofs.Intervals.{none_is_crossed}
+use Rattle.ivl_laws.specs.Sets.{Above, AtLeast, AtMost, Below, HasNone, HasSome, IsBetween, IsCrossed, IsHullOf, IsInRange, IsSubset, Only, SameMembers, Without}
+use Rattle.ivl_laws.proofs.Intervals.{none_is_crossed, not_crossed, some_is_not_crossed}
 use Rattle.ivl_laws.proofs.Spans.{hull_of_none}
 use Rattle.ivl_interval.proofs.Arithmetic.{ordered}
-use Rattle.ivl_interval.proofs.Pairs.{subset_by_lower, subset_by_upper}
+use Rattle.ivl_interval.proofs.Pairs.{above_rest, below_rest, only_by_bounds, subset_by_lower, subset_by_upper}
 
 -- ---- the ends of results
 
@@ -37,8 +37,51 @@ at_most_by_min p r pl pu v u ep er eu =
       λ m. (m.0.0, omega (arith, ints, clamps)),
     ))
 
+-- ---- cuts at a value
+
+pub above_all : (p : ℤ × ℤ) (l u v : ℤ) → (l, u) ≡ p → v <ℤ l → SameMembers (IsBetween (l, u)) (Above v (IsBetween p))
+above_all p l u v e h = rw (← e) (λ z. (λ m. (m, omega (arith, ints, m.0)), λ m. m.0))
+
+pub below_all : (p : ℤ × ℤ) (l u v : ℤ) → (l, u) ≡ p → u <ℤ v → SameMembers (IsBetween (l, u)) (Below v (IsBetween p))
+below_all p l u v e h = rw (← e) (λ z. (λ m. (m, omega (arith, ints, m.1)), λ m. m.0))
+
+pub above_by_ends : (p r : ℤ × ℤ) (l u v s : ℤ) → (l, u) ≡ p → r ≡ (s, u) → l ≤ℤ v → s ≡ (v +ℤ pos 1) → SameMembers (IsBetween r) (Above v (IsBetween p))
+above_by_ends p r l u v s ep er h es = rw (← ep, er) (above_rest (l, u) (s, u) v h es refl)
+
+pub below_by_ends : (p r : ℤ × ℤ) (l u v s : ℤ) → (l, u) ≡ p → r ≡ (l, s) → v ≤ℤ u → s ≡ (v -ℤ pos 1) → SameMembers (IsBetween r) (Below v (IsBetween p))
+below_by_ends p r l u v s ep er h es = rw (← ep, er) (below_rest (l, u) (l, s) v h refl es)
+
+pub next_at_least : (low l v s : ℤ) → low ≤ℤ l → l ≤ℤ v → s ≡ (v +ℤ pos 1) → low ≤ℤ s
+next_at_least low l v s h k e = omega (arith, ints)
+
+pub previous_at_most : (high u v s : ℤ) → u ≤ℤ high → v ≤ℤ u → s ≡ (v -ℤ pos 1) → s ≤ℤ high
+previous_at_most high u v s h k e = omega (arith, ints)
+
+pub next_in_range : (whole : ℤ × ℤ) (l u v : ℤ) → IsInRange whole (l, u) → l ≤ℤ v → v <ℤ u → (whole.0 ≤ℤ v) × (v <ℤ whole.1)
+next_in_range whole l u v r h k = (omega (arith, ints, r.0), omega (arith, ints, r.1))
+
+pub previous_in_range : (whole : ℤ × ℤ) (l u v : ℤ) → IsInRange whole (l, u) → l <ℤ v → v ≤ℤ u → (whole.0 <ℤ v) × (v ≤ℤ whole.1)
+previous_in_range whole l u v r h k = (omega (arith, ints, r.0), omega (arith, ints, r.1))
+
 pub crossed_stays : (p : ℤ × ℤ) (T : ℤ → Type 0) → IsCrossed p → IsHullOf p (Without (IsBetween p) T)
 crossed_stays p T c = (hull_of_none (Without (IsBetween p) T) p (λ z m. (none_is_crossed p).1 c z m.0)).1 c
+
+-- ---- one test
+
+pub crossed_by_test : (p : ℤ × ℤ) (l u : ℤ) (r : Bool) → (l, u) ≡ p → (IsTrue r ↔ (u <ℤ l)) → IsTrue r ↔ IsCrossed p
+crossed_by_test p l u r e h = rw (← e) h
+
+pub empty_by_test : (p : ℤ × ℤ) (r : Bool) → (IsTrue r ↔ IsCrossed p) → IsTrue r ↔ HasNone (IsBetween p)
+empty_by_test p r k = let n = none_is_crossed p in ((λ t. n.1 (k.0 t)), (λ h. k.1 (n.0 h)))
+
+pub filled_by_test : (p : ℤ × ℤ) (r : Bool) → (IsTrue r ↔ IsCrossed p) → ¬ (IsTrue r) → HasSome (IsBetween p)
+filled_by_test p r k n = (some_is_not_crossed p).1 (not_crossed p (λ h. n (k.1 h)))
+
+pub equal_by_test : (p : ℤ × ℤ) (l u : ℤ) (r : Bool) → (l, u) ≡ p → (IsTrue r ↔ (l ≡ u)) → IsTrue r ↔ (p.0 ≡ p.1)
+equal_by_test p l u r e h = rw (← e) h
+
+pub only_by_test : (p : ℤ × ℤ) (r : Bool) → (IsTrue r ↔ (p.0 ≡ p.1)) → IsTrue r ↔ ((x : ℤ) × SameMembers (IsBetween p) (Only x))
+only_by_test p r k = let n = only_by_bounds p in ((λ t. n.1 (k.0 t)), (λ h. k.1 (n.0 h)))
 
 -- ---- two tests, the lower end first
 
