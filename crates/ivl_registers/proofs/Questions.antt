@@ -1,14 +1,15 @@
 -- A question is a step, and so is its refusal where a register is missing.
-use Rattle.std.proofs.Common.{◌≡◌, ◌↔◌, inl, inr, ℕ, ◌<◌, ℤ, Bool, false, IsTrue, List, [], ◌∷◌, length, slice_index_or, refl, sym, ap, subst}
+use Rattle.std.proofs.Common.{◌≡◌, ◌↔◌, inl, inr, ℕ, ◌<◌, ℤ, Bool, false, Option, IsTrue, List, [], ◌∷◌, length, slice_index_or, refl, sym, ap, subst}
 use Rattle.std.proofs.lemmas.List.Elements.{All-nil, All-cons, All-head, All-tail}
 use Rattle.std.proofs.Math.Bool.{true≢false}
 use Rattle.std.specs.Prelude.{All}
+use Rattle.ivl_laws.specs.Counts.{IsCountOf}
 use Rattle.ivl_laws.specs.Runs.{Covers, IsMaximal}
 use Rattle.ivl_laws.specs.Sets.{HasSome, Intersection, IsSubset, SameMembers}
 use Rattle.ivl_laws.proofs.SetLaws.{same_members_refl}
 use Rattle.ivl_registers.specs.declared.reply.Refusal.TheVariants.{Register}
-use Rattle.ivl_registers.specs.Actions.{Question, count, same, subset, meets, ask, Answer, flag, counted, refused}
-use Rattle.ivl_registers.specs.Step.{MayStep, IsAnswerTo, subjects_of}
+use Rattle.ivl_registers.specs.Actions.{Question, size, count, low, high, same, subset, meets, ask, Answer, flag, sized, counted, value, refused}
+use Rattle.ivl_registers.specs.Step.{MayStep, IsAnswerTo, IsEndOf, IsGreatest, IsLeast, subjects_of}
 use Rattle.ivl_registers.proofs.Registers.{two_named}
 
 module _ (whole : ℤ × ℤ) (s : List (List (ℤ × ℤ))) (question : Question) (a : ℕ) (one : subjects_of question ≡ a ∷ []) where
@@ -30,6 +31,15 @@ module _ (whole : ℤ × ℤ) (s : List (List (ℤ × ℤ))) (question : Questio
 
   pub asks_right_none : (IsTrue false ↔ (b < length s)) → MayStep whole s (ask question) (refused Register) s
   asks_right_none known = inl (Register, refl, (λ all. true≢false (sym (known.1 (named all).1))), refl)
+
+pub size_seen : (s : List (List (ℤ × ℤ))) (a n : ℕ) (L : List (ℤ × ℤ)) → L ≡ slice_index_or s a [] → IsCountOf n (Covers L) → IsAnswerTo s (size a) (sized n)
+size_seen s a n L seen h = (n, refl, subst (λ (M : List (ℤ × ℤ)). IsCountOf n (Covers M)) seen h)
+
+pub low_seen : (s : List (List (ℤ × ℤ))) (a : ℕ) (end : Option ℤ) (L : List (ℤ × ℤ)) → L ≡ slice_index_or s a [] → IsEndOf IsLeast (Covers L) end → IsAnswerTo s (low a) (value end)
+low_seen s a end L seen h = (end, refl, subst (λ (M : List (ℤ × ℤ)). IsEndOf IsLeast (Covers M) end) seen h)
+
+pub high_seen : (s : List (List (ℤ × ℤ))) (a : ℕ) (end : Option ℤ) (L : List (ℤ × ℤ)) → L ≡ slice_index_or s a [] → IsEndOf IsGreatest (Covers L) end → IsAnswerTo s (high a) (value end)
+high_seen s a end L seen h = (end, refl, subst (λ (M : List (ℤ × ℤ)). IsEndOf IsGreatest (Covers M) end) seen h)
 
 pub count_seen : (s : List (List (ℤ × ℤ))) (a n : ℕ) (L : List (ℤ × ℤ)) → L ≡ slice_index_or s a [] → n ≡ length L → IsMaximal L → IsAnswerTo s (count a) (counted n)
 count_seen s a n L seen e maximal =

@@ -87,12 +87,16 @@ module _ {E : Type 0} (whole : ℤ × ℤ) (old new : List (List (ℤ × ℤ))) 
       writes (times a b) made (all, tt, rw (← a_seen, ← b_seen) inside) (λ d. d) (rw (← a_seen, ← b_seen) runs) put lacked
 
   module _ (made : Result (List (ℤ × ℤ)) E) (put : IfOk made (λ L. (answer ≡ done) × (new ≡ slice_set old r L))) (lacked : OnErr made ((answer ≡ refused Memory) × (new ≡ old))) where
-    pub writes_merge : (merge : Merge) (a b : ℕ) → All (λ x. x < length old) (r ∷ a ∷ b ∷ []) → IfOk made (λ L. IsRunsOf L (MergedBy merge (set_at old a) (set_at old b)))
+    writes_merge : (merge : Merge) (a b : ℕ) → All (λ x. x < length old) (r ∷ a ∷ b ∷ []) → IfOk made (λ L. IsRunsOf L (MergedBy merge (set_at old a) (set_at old b)))
         → MayStep whole old (make r (of_two merge a b)) answer new
     writes_merge merges.Union a b all runs = writes (union a b) made (all, tt, λ z n. absurd n) (λ d. d) runs put lacked
     writes_merge merges.Intersection a b all runs = writes (intersection a b) made (all, tt, λ z n. absurd n) (λ d. d) runs put lacked
     writes_merge merges.Difference a b all runs = writes (difference a b) made (all, tt, λ z n. absurd n) (λ d. d) runs put lacked
     writes_merge merges.SymmetricDifference a b all runs = writes (symmetric a b) made (all, tt, λ z n. absurd n) (λ d. d) runs put lacked
+
+    pub writes_merged : (merge : Merge) (a b : ℕ) (L M : List (ℤ × ℤ)) → All (λ x. x < length old) (r ∷ a ∷ b ∷ []) → L ≡ slice_index_or old a [] → M ≡ slice_index_or old b []
+        → IfOk made (λ N. IsRunsOf N (MergedBy merge (Covers L) (Covers M))) → MayStep whole old (make r (of_two merge a b)) answer new
+    writes_merged merge a b L M all a_seen b_seen runs = writes_merge merge a b all (rw (← a_seen, ← b_seen) runs)
 
     pub writes_part : (part : Part) (a : ℕ) (v : ℤ) → All (λ x. x < length old) (r ∷ a ∷ []) → IfOk made (λ L. IsRunsOf L (PartBy part v (set_at old a)))
         → MayStep whole old (make r (of_part part a v)) answer new
