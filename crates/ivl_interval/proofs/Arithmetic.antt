@@ -9,7 +9,7 @@ use Rattle.ivl_laws.proofs.Products.{by_corners, differences_of_intervals, hull_
 
 -- ---- the ends are members
 
-ordered : (p : ℤ × ℤ) (l u : ℤ) → (l, u) ≡ p → ¬ (IsCrossed p) → l ≤ℤ u
+pub ordered : (p : ℤ × ℤ) (l u : ℤ) → (l, u) ≡ p → ¬ (IsCrossed p) → l ≤ℤ u
 ordered p l u e n = let o = not_crossed p n in rw (← e) at o
 
 pub lower_of : (p : ℤ × ℤ) (l u : ℤ) → (l, u) ≡ p → ¬ (IsCrossed p) → IsBetween p l
@@ -49,6 +49,13 @@ pub corners_in_range : (whole : ℤ × ℤ) (al au bl bu l u : ℤ) → l ≡ (c
 corners_in_range whole al au bl bu l u el eu m n p q =
     let h = by_corners (IsBetween whole) (al, au) (bl, bu) m n p q in
     rw (el, eu) (h.0.0, h.1.1)
+
+module _ (al au bl bu ll lh hl hh m n e : ℤ) (ll_is : ll ≡ al *ℤ bl) (lh_is : lh ≡ al *ℤ bu) (hl_is : hl ≡ au *ℤ bl) (hh_is : hh ≡ au *ℤ bu) where
+  pub least_corner : m ≡ int_min ll lh → n ≡ int_min hl hh → e ≡ int_min m n → e ≡ (corner_hull (al, au) (bl, bu)).0
+  least_corner f g h = rw (h, f, g, ll_is, lh_is, hl_is, hh_is)
+
+  pub greatest_corner : m ≡ int_max ll lh → n ≡ int_max hl hh → e ≡ int_max m n → e ≡ (corner_hull (al, au) (bl, bu)).1
+  greatest_corner f g h = rw (h, f, g, ll_is, lh_is, hl_is, hh_is)
 
 min_twice : (x y : ℤ) → int_min (int_min x x) (int_min y y) ≡ int_min x y
 min_twice x y = omega (arith, ints, clamps)

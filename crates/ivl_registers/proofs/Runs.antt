@@ -21,3 +21,8 @@ one_more whole action_of answer_of old mid new commands k command replies more r
     let actions = map_more action_of commands k command within ∙ ap (λ x. map action_of (take k commands) ++ action_of x ∷ []) (sym is) in
     let answers = ap (map answer_of) pushed ∙ map-append answer_of replies (reply ∷ []) in
     rw (actions, answers) (Run-more whole old mid new (map action_of (take k commands)) (map answer_of replies) (action_of command) (answer_of reply) run step)
+
+-- a step of what a command stands for, where the command is another's copy
+pub MayStep-of : {C : Type 0} (action_of : C → Action) (whole : ℤ × ℤ) (old new : List (List (ℤ × ℤ))) (answer : Answer) (x y : C) → x ≡ y
+    → MayStep whole old (action_of y) answer new → MayStep whole old (action_of x) answer new
+MayStep-of action_of whole old new answer x y e h = subst (λ z. MayStep whole old (action_of z) answer new) (sym e) h

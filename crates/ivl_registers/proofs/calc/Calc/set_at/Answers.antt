@@ -1,4 +1,4 @@
-use Rattle.std.proofs.Common.{arith}
+use Rattle.std.proofs.Common.{lit<}
 use Rattle.ivl_laws.specs.Sets.{IsInRange}
 use Rattle.ivl_registers.specs.Actions.{pairs}
 use Rattle.ivl_registers.specs.View.{number_pairs}
@@ -10,7 +10,7 @@ pub to_interval_set-made-requires : goal.to_interval_set-made-requires
 to_interval_set-made-requires g c = all_of_mapped (IsInRange g.B.Width.whole) (λ p. (g.B.Width.value p.0, g.B.Width.value p.1)) c.args.list.now (c.are_in_range.ensures.0 c.if-not-are_in_range.false)
 
 pub put-requires : goal.put-requires
-put-requires g c = c.has_registers.ensures.0 c.if-not-has_registers.false 0 0 (omega arith)
+put-requires g c = c.has_registers.ensures.0 c.if-not-has_registers.false 0 0 (lit< tt)
 
 pub returns : goal.returns
 returns g c = writes _ _ _ _ _ (pairs (number_pairs g.B.Width.value c.args.list.now)) c.to_interval_set-made.result

@@ -1,15 +1,8 @@
-use Rattle.std.proofs.Common.{rules, ◌↔◌, IsTrue}
-use Rattle.ivl_laws.specs.Sets.{IsCrossed}
-use Rattle.ivl_laws.proofs.Intervals.{none_is_crossed, not_crossed, some_is_not_crossed}
+use Rattle.ivl_laws.proofs.Orders.{gt_number}
+use Rattle.ivl_interval.proofs.Ends.{crossed_by_test, empty_by_test, filled_by_test}
 use Rattle.ivl_interval.proofs.interval.bounds.IntervalIsEmpty.is_empty.Goals as goal
 
-pub returns-clause-members : goal.returns-clause-members
-returns-clause-members g c =
-    let k : IsTrue c.gt.result ↔ IsCrossed c.args.self.now = search rules in
-    let n = none_is_crossed c.args.self.now in
-    (λ t. n.1 (k.0 t), λ h. k.1 (n.0 h))
-
-pub returns-clause-filled : goal.returns-clause-filled
-returns-clause-filled g c n =
-    let k : IsTrue c.gt.result ↔ IsCrossed c.args.self.now = search rules in
-    (some_is_not_crossed c.args.self.now).1 (not_crossed c.args.self.now (λ h. n (k.1 h)))
+pub returns : goal.returns
+returns g c =
+    let k = crossed_by_test _ _ _ _ c.self.view_is (gt_number g.met.B.Width.ordered _ _ _ c.gt.ensures) in
+    record { members = empty_by_test _ _ k; filled = filled_by_test _ _ k; crossed = k }
