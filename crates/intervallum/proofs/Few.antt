@@ -4,7 +4,7 @@ use Rattle.std.proofs.lemmas.Int.{ints}
 use Rattle.std.proofs.Math.Nat.{mul-le-mul_right}
 use Rattle.std.proofs.lemmas.Result.{IfOk-weaker}
 use Rattle.std.specs.Prelude.{Result, IfOk}
-use Rattle.ivl_laws.specs.Sets.{IsBetween, Intersection, SameMembers, Union, Without}
+use Rattle.ivl_laws.specs.Sets.{Complement, IsBetween, Intersection, SameMembers, Union, Without}
 use Rattle.ivl_laws.specs.Runs.{Covers, IsMaximal, IsRunListIn, IsRunsOf, StartsBy}
 use Rattle.ivl_laws.proofs.Places.{open_at, runs_ascend}
 use Rattle.ivl_laws.proofs.SetLaws.{IsRunsOf-same}
@@ -115,3 +115,10 @@ pub without_shared : {E : Type 0} (r : Result (List (ℤ × ℤ)) E) (F C few sh
 without_shared r F C few shared M e f u = IfOk-weaker r _ _ (λ R i. IsRunsOf-same (Without (Covers few) (Covers shared)) (Without (Covers few) (Covers M)) R
     (λ z. ((λ (c, n). (c, λ m. n ((u.members z).1 (c, m)))), (λ (c, n). (c, λ s. n ((u.members z).0 s).1))))
     (subst (λ (K : List (ℤ × ℤ)). IsRunsOf R (Without (Covers few) (Covers K))) f (subst (λ (K : List (ℤ × ℤ)). IsRunsOf R (Without (Covers K) (Covers C))) e i)))
+
+-- F is the complement of few runs, and K the many, as a search saw them
+pub without_free : {E : Type 0} (r : Result (List (ℤ × ℤ)) E) (whole : ℤ × ℤ) (F K many few : List (ℤ × ℤ)) → K ≡ many → IsRunListIn whole many → IsRunsOf F (Complement whole (Covers few)) →
+    IfOk r (λ R. IsRunsOf R (Intersection (Covers F) (Covers K))) → IfOk r (λ R. IsRunsOf R (Without (Covers many) (Covers few)))
+without_free r whole F K many few e m f = IfOk-weaker r _ _ (λ R i. IsRunsOf-same (Intersection (Covers F) (Covers many)) (Without (Covers many) (Covers few)) R
+    (λ z. ((λ (a, b). (b, ((f.members z).0 a).1)), (λ (b, n). ((f.members z).1 (m.within z b, n), b))))
+    (subst (λ (L : List (ℤ × ℤ)). IsRunsOf R (Intersection (Covers F) (Covers L))) e i))

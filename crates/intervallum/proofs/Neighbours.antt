@@ -1,5 +1,5 @@
 -- The runs on both sides of a number, and the members next to it.
-use Rattle.std.proofs.Common.{◌≡◌, ◌<◌, ◌-◌, inl, inr, ⊎_elim, ℕ, zero, suc, ℤ, List, [], ◌∷◌, take, drop, Some, None, arith, refl, subst}
+use Rattle.std.proofs.Common.{◌≡◌, ◌<◌, ◌≤◌, ◌-◌, inl, inr, ⊎_elim, ℕ, zero, suc, ℤ, List, [], ◌∷◌, length, take, drop, take_all, Some, None, arith, refl, sym, subst}
 use Rattle.std.specs.Prelude.{◌<ℤ◌, Option, MatchOption, IfSome, slice_get, IsSomeAnd}
 use Rattle.std.proofs.lemmas.Int.{ints}
 use Rattle.ivl_laws.specs.Sets.{AtLeast, AtMost, HasNone, IsBetween, SameMembers}
@@ -13,7 +13,7 @@ use Rattle.intervallum.specs.Places.{EndBelow, IsPlaceOf, StartAbove}
 use Rattle.intervallum.specs.declared.steps.search.Place.{Place}
 use Rattle.intervallum.specs.declared.steps.search.Place.TheVariants.{In, Gap}
 use Rattle.intervallum.proofs.Finding.{has_at_place, in_from_place}
-use Rattle.intervallum.proofs.Windows.{above_all, split_by_gap}
+use Rattle.intervallum.proofs.Windows.{above_all, below_all, split_by_gap}
 
 -- ---- the next member
 
@@ -32,6 +32,17 @@ pub next_of_gap : (L : List (ℤ × ℤ)) (i : ℕ) (v : ℤ) → IsMaximal L �
 next_of_gap [] i v m b a = λ z c. c.0
 next_of_gap (p ∷ L) zero v m b a = let above = a.0 in ((inl (lower_end p m.0), omega (arith, ints)), λ z c. covered_from p L z m c.0)
 next_of_gap (p ∷ L) (suc i) v m b a = least_same (slice_get L i) _ _ (next_of_rest p L v b.0) (next_of_gap L i v m.2 b.1 a)
+
+-- the runs of a set M, which a search saw as L, and N after it
+pub next_at : (L M N : List (ℤ × ℤ)) (i : ℕ) (v x : ℤ) (run : ℤ × ℤ) → L ≡ M → N ≡ L → IsGapAt L v i → slice_get N i ≡ Some run → x ≡ run.0 → IsLeast x (AtLeast v (Covers M))
+next_at L M N i v x run e f gap s h =
+    let P : Option (ℤ × ℤ) → Type 0 = λ o. MatchOption o (HasNone (AtLeast v (Covers L))) (λ r. IsLeast r.0 (AtLeast v (Covers L))) in
+    let least : IsLeast run.0 (AtLeast v (Covers L)) = subst P (subst (λ (K : List (ℤ × ℤ)). slice_get K i ≡ Some run) f s) gap.next in
+    subst (λ (K : List (ℤ × ℤ)). IsLeast x (AtLeast v (Covers K))) e (subst (λ (y : ℤ). IsLeast y (AtLeast v (Covers L))) (sym h) least)
+
+pub no_next : (L M : List (ℤ × ℤ)) (i : ℕ) (v : ℤ) → L ≡ M → IsGapAt L v i → length L ≤ i → HasNone (AtLeast v (Covers M))
+no_next L M i v e gap h = subst (λ (K : List (ℤ × ℤ)). HasNone (AtLeast v (Covers K))) e
+    (λ z c. let low = below_all v L z (subst (EndBelow v) (take_all i L h) gap.below) c.0 in let high = c.1 in omega (arith, ints))
 
 -- ---- the previous member
 

@@ -1,5 +1,5 @@
 -- What a walk has left, and what its first run tells.
-use Rattle.std.proofs.Common.{◌≡◌, ◌≢◌, ℕ, zero, suc, ◌+◌, ℤ, ◌≤ℤ◌, List, [], ◌∷◌, Some, None, drop, arith, refl, sym, subst, inl, inr}
+use Rattle.std.proofs.Common.{◌≡◌, ◌≢◌, ℕ, zero, suc, ◌+◌, ◌<◌, ℤ, ◌≤ℤ◌, List, [], ◌∷◌, Some, None, drop, length, arith, refl, sym, subst, inl, inr}
 use Rattle.std.specs.Prelude.{slice_get}
 use Rattle.ivl_laws.specs.Runs.{IsMaximal}
 use Rattle.ivl_laws.specs.Walks.{StartsFrom, TakesFirst}
@@ -13,6 +13,12 @@ left_more (r ∷ L) (suc i) n =
     let P : ℕ → Type 0 = λ m. (x : ℤ × ℤ) × (drop (suc i) (r ∷ L) ≡ x ∷ drop m (r ∷ L)) in
     let e : suc (i + 1) ≡ suc i + 1 = omega arith in
     subst P e (left_more L i n)
+
+pub is_more : (L : List (ℤ × ℤ)) (i : ℕ) → drop i L ≢ [] → i < length L
+is_more [] zero n = absurd (n refl)
+is_more [] (suc i) n = absurd (n refl)
+is_more (r ∷ L) zero n = omega arith
+is_more (r ∷ L) (suc i) n = let more = is_more L i n in omega arith
 
 -- ---- what `peek` answers
 

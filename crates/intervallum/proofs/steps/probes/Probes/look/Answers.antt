@@ -7,3 +7,8 @@ returns-clause-has_member g c =
     let P : ℤ × ℤ → Type 0 = λ r. r.0 ≤ℤ r.1 in
     let Q : List (ℤ × ℤ) → Type 0 = λ L. c.args.i < length L in
     subst P (sym c.index-runs-i.is) (open_at c.self.inside.runs.now c.args.i c.index-runs-i.result c.self.invariant.maximal (subst Q (sym (ap (λ s. s.runs) c.self.view_is)) c.requires))
+
+pub bounds-runs-i : goal.bounds-runs-i
+bounds-runs-i g c =
+    let Q : List (ℤ × ℤ) → Type 0 = λ L. c.args.i < length L in
+    subst Q (sym (ap (λ s. s.runs) c.self.view_is)) c.requires
