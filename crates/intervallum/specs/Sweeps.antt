@@ -2,11 +2,11 @@
 --     IsResultOf op p q r      r holds the results of two runs: the sums, the differences, the least interval of the products
 --     ResultsBy op S T      the members of the answer
 --     ExactResultsBy op S T      the results over one member of each, which have to fit
+--     run_at L i      the run at a place, in a list that is that long
 --     AreImages op L M entries      one entry for each pair of runs: that of run i of L and run j of M stands at place i * m + j
 --     result_of op p q      the pair that holds the results of two runs
---     TurnsOrder op v      the results with v descend where the runs ascend
 --     IsShift op      the results with a value are the runs, moved by it
-use Rattle.std.specs.Prelude.{◌≡◌, ℕ, ◌+◌, ◌*◌, ◌<◌, ℤ, ◌<ℤ◌, List, length, slice_index_or, pos}
+use Rattle.std.specs.Prelude.{◌≡◌, ℕ, ◌+◌, ◌*◌, ◌<◌, ℤ, List, length, slice_index_or, pos}
 use Rattle.ivl_laws.specs.Sets.{IsBetween, SameMembers, Sums, Differences, ExactProducts, Products, IsHullOf}
 use Rattle.ivl_laws.specs.Runs.{Covers}
 use Rattle.ivl_laws.specs.Arithmetic.{interval_sum, interval_difference, corner_hull}
@@ -28,7 +28,6 @@ ExactResultsBy Sum = Sums
 ExactResultsBy Difference = Differences
 ExactResultsBy Product = ExactProducts
 
--- the run at a place, in a list that is that long
 abbrev pub run_at : List (ℤ × ℤ) → ℕ → ℤ × ℤ
 run_at L i = slice_index_or L i (pos 0, pos 0)
 
@@ -41,11 +40,6 @@ abbrev pub result_of : Op → ℤ × ℤ → ℤ × ℤ → ℤ × ℤ
 result_of Sum = interval_sum
 result_of Difference = interval_difference
 result_of Product = corner_hull
-
-abbrev pub TurnsOrder : Op → ℤ → Type 0
-TurnsOrder Sum v = ⊥
-TurnsOrder Difference v = ⊥
-TurnsOrder Product v = v <ℤ pos 0
 
 abbrev pub IsShift : Op → Type 0
 IsShift Sum = Unit {0}
