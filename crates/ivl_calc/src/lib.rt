@@ -13,7 +13,6 @@
 //! ```
 #![tactic(auto)]
 
-pub use ivl_registers::laws;
-pub use ivl_registers::{Calc, Command, Refusal, Reply};
+pub use ivl_registers::{Calc, Command, Refusal, Reply, laws};
 pub use ivl_store::store;
 pub use ivl_within::within;
