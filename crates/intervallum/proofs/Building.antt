@@ -1,5 +1,5 @@
 -- What a walk keeps that writes a set from left to right: what is written lies below what is still to write.
-use Rattle.std.proofs.Common.{◌↔◌, ◌⊎◌, inl, inr, ⊎_elim, ℤ, pos, ◌+ℤ◌, ◌≤ℤ◌, List, [], ◌∷◌, ◌++◌, arith}
+use Rattle.std.proofs.Common.{◌≡◌, ◌↔◌, ◌⊎◌, inl, inr, ⊎_elim, ℤ, pos, ◌+ℤ◌, ◌≤ℤ◌, List, [], ◌∷◌, ◌++◌, arith, sym, subst}
 use Rattle.std.proofs.lemmas.Int.{ints}
 use lib.Signed.{≤ℤ_refl}
 use Rattle.ivl_laws.specs.Sets.{IsBetween, IsSubset, HasNone, SameMembers, Union}
@@ -13,6 +13,10 @@ pub record IsBuilding (gap : ℤ) (written : List (ℤ × ℤ)) (rest S : ℤ �
   pub maximal : IsMaximal written
   pub below : IsBelow gap (Covers written) rest
   pub members : (z : ℤ) → S z ↔ (Covers written z ⊎ rest z)
+
+pub building_starts : (gap : ℤ) (written : List (ℤ × ℤ)) (S : ℤ → Type 0) → written ≡ [] → IsBuilding gap written S S
+building_starts gap written S e = subst (λ (L : List (ℤ × ℤ)). IsBuilding gap L S S) (sym e)
+    (record { maximal = tt; below = λ x y c s. absurd c; members = λ z. ((λ s. inr s), ⊎_elim (λ c. absurd c) (λ s. s)) })
 
 pub building_ends : (gap : ℤ) (written : List (ℤ × ℤ)) (rest S : ℤ → Type 0) → IsBuilding gap written rest S → HasNone rest → IsRunsOf written S
 building_ends gap written rest S u n = record {

@@ -1,5 +1,6 @@
 -- The results over each pair of runs, for each operation.
-use Rattle.std.proofs.Common.{◌≡◌, ℕ, ◌<◌, ◌≤◌, ℤ, pos, ◌≤ℤ◌, List, [], ◌∷◌, take, length, get_or, take_all, sym, ap, ◌∙◌, subst}
+use Rattle.std.proofs.Common.{◌≡◌, ℕ, ◌+◌, ◌<◌, ◌≤◌, ℤ, pos, ◌≤ℤ◌, List, [], ◌∷◌, ◌++◌, append_assoc, map, take, length, get_or, take_all, sym, ap, ◌∙◌, subst}
+use Rattle.std.proofs.lemmas.List.{map_more}
 use Rattle.ivl_laws.specs.Sets.{IsBetween, IsSubset, SameMembers, Sums, Differences, ExactProducts, IsHullOf, Only}
 use Rattle.ivl_laws.specs.Runs.{Covers, IsMaximal}
 use Rattle.ivl_laws.specs.Arithmetic.{pairwise}
@@ -120,3 +121,11 @@ results_with_value op L L' E v i e l h is =
 
 pub open_here_seen : (L L' : List (ℤ × ℤ)) (i : ℕ) (p : ℤ × ℤ) → L ≡ L' → IsMaximal L' → i < length L → p ≡ get_or L i p → p.0 ≤ℤ p.1
 open_here_seen L L' i p e m h is = open_here L i p (subst IsMaximal (sym e) m) h is
+
+-- ---- one result more
+
+pub next_result : {X Y : Type 0} (f : X → Y) (xs : List X) (i : ℕ) (d : X) (old L M : List Y) (y : Y) → i < length xs → d ≡ get_or xs i d → L ≡ old ++ map f (take i xs) → M ≡ L ++ y ∷ [] → y ≡ f d → M ≡ old ++ map f (take (i + 1) xs)
+next_result f xs i d old L M y h e p q s =
+    let more = map_more f xs i d h in
+    let joined = append_assoc old (map f (take i xs)) (y ∷ []) in
+    cc

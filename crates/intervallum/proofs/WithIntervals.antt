@@ -1,10 +1,12 @@
 -- Sets beside an interval.
-use Rattle.std.proofs.Common.{◌≡◌, ◌↔◌, ⊎_elim, inl, ℤ, pos, ◌+ℤ◌, ◌≤ℤ◌, Bool, IsTrue, List, [], ◌∷◌, arith, sym, subst, ◌+◌, ◌≤◌, length}
+use Rattle.std.proofs.Common.{◌≡◌, ◌↔◌, ⊎_elim, inl, ℕ, ℤ, pos, ◌+ℤ◌, ◌≤ℤ◌, Bool, IsTrue, List, [], ◌∷◌, ◌++◌, arith, sym, subst, ◌+◌, ◌≤◌, length}
 use Rattle.std.specs.Prelude.{◌<ℤ◌, Result, IfOk}
 use Rattle.std.proofs.lemmas.Int.{ints, by_lt_z}
 use Rattle.std.proofs.lemmas.Result.{IfOk-weaker}
-use Rattle.ivl_laws.specs.Sets.{AtLeast, HasSome, Intersection, IsBetween, IsSubset, Without}
-use Rattle.ivl_laws.specs.Runs.{Covers, IsRunsOf}
+use Rattle.ivl_laws.specs.Sets.{AtLeast, HasSome, Intersection, IsBetween, IsInRange, IsSubset, Without}
+use Rattle.ivl_laws.specs.Runs.{Covers, IsRunListIn, IsRunsOf}
+use Rattle.ivl_laws.specs.Counts.{IsCountOf}
+use Rattle.ivl_laws.proofs.Counts.{IsCountOf-same}
 use Rattle.ivl_laws.proofs.Ranges.{IsRunsOf-one}
 use Rattle.ivl_laws.proofs.Runs.{pair_same}
 use Rattle.ivl_laws.proofs.SetLaws.{IsRunsOf-same}
@@ -16,6 +18,15 @@ use Rattle.intervallum.specs.Neighbours.{IsLeast, IsRunWith}
 pub of_some : {E : Type 0} (r : Result (List (ℤ × ℤ)) E) (p : ℤ × ℤ) (a b : ℤ) → p.0 ≤ℤ p.1 → a ≡ p.0 → b ≡ p.1 → IfOk r (λ L. L ≡ (a, b) ∷ []) → IfOk r (λ L. IsRunsOf L (IsBetween p))
 of_some r p a b o e f h = IfOk-weaker r _ _ (λ L i.
     subst (λ (M : List (ℤ × ℤ)). IsRunsOf M (IsBetween p)) (sym i) (subst (λ (q : ℤ × ℤ). IsRunsOf (q ∷ []) (IsBetween p)) (sym (pair_same (a, b) p e f)) (IsRunsOf-one p o))) h
+
+-- the list L holds the pair p, put into the empty list I
+pub holds_one : (whole q p : ℤ × ℤ) (I L : List (ℤ × ℤ)) (n : ℕ) → p ≡ q → I ≡ [] → L ≡ I ++ p ∷ [] → q.0 ≤ℤ q.1 → IsInRange whole q → IsCountOf n (IsBetween p) → IsRunListIn whole L × IsCountOf n (Covers L)
+holds_one whole q p I L n e f h o b c =
+    let one : L ≡ q ∷ [] = cc in
+    subst (λ (M : List (ℤ × ℤ)). IsRunListIn whole M × IsCountOf n (Covers M)) (sym one) (
+      record { maximal = (o, tt, tt); within = λ z s. ⊎_elim (λ (i : IsBetween q z). let low = i.0 in let high = i.1 in (omega (arith, ints), omega (arith, ints))) (λ s. absurd s) s },
+      IsCountOf-same (IsBetween q) (Covers (q ∷ [])) n (λ z. ((λ i. inl i), ⊎_elim (λ i. i) (λ s. absurd s))) (subst (λ (r : ℤ × ℤ). IsCountOf n (IsBetween r)) e c),
+    )
 
 -- ---- how many runs are left without an interval
 

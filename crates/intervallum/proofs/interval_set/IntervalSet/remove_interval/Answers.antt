@@ -1,4 +1,4 @@
-use Rattle.std.proofs.Common.{ℤ, List, subst, sym}
+use Rattle.std.proofs.Common.{ℤ, List, subst, sym, arith}
 use Rattle.std.proofs.lemmas.Result.{on_ok_weaker}
 use Rattle.ivl_laws.specs.Sets.{IsBetween, Without}
 use Rattle.ivl_laws.specs.Runs.{Covers, IsRunsOf}
@@ -25,3 +25,20 @@ returns-clause-ok g c =
     let P : List (ℤ × ℤ) → Type 0 = λ L. IsRunsOf (replaced L c.span-start.result.0 c.span-start.result.1 c.rests-below.result.0 c.rests-below.result.1) (Without (Covers L) (IsBetween c.args.interval)) in
     let runs = subst P c.as_runs-runs.ensures.same c.rests-below.ensures in
     on_ok_weaker c.replace.result (λ e. subst (λ (N : List (ℤ × ℤ)). IsRunsOf N (Without (Covers c.args.self.now) (IsBetween c.args.interval))) (sym e) runs) c.replace.ensures.ok
+
+pub returns-then-is_empty-clause-ok : goal.returns-then-is_empty-clause-ok
+returns-then-is_empty-clause-ok g c =
+    let none = c.is_empty.ensures.members.0 c.if-is_empty.true in
+    record { maximal = c.as_runs-runs.ensures.runs.maximal; members = λ z. ((λ s. (s, none z)), λ s. s.0) }
+
+pub replace-requires-clause-in_order : goal.replace-requires-clause-in_order
+replace-requires-clause-in_order g c = c.span-start.ensures.in_order
+
+pub replace-requires-clause-at_most : goal.replace-requires-clause-at_most
+replace-requires-clause-at_most g c = c.span-start.ensures.at_most
+
+pub replace-requires-clause-two : goal.replace-requires-clause-two
+replace-requires-clause-two g c = λ run e. let apart = c.if-start-end.false in let le = c.span-start.ensures.in_order in omega arith
+
+pub returns-clause-err : goal.returns-clause-err
+returns-clause-err g c = c.replace.ensures.err

@@ -1,5 +1,6 @@
-use Rattle.std.proofs.Common.{ℤ, ◌-◌, List, ap, drop, sum_by, take, arith}
+use Rattle.std.proofs.Common.{ℤ, ◌-◌, ◌∙◌, List, ap, drop, sum_by, take, arith}
 use Rattle.ivl_laws.specs.Bounds.{width_of}
+use Rattle.intervallum.specs.Edits.{replaced}
 use Rattle.intervallum.proofs.Splicing.{is_resized}
 use Rattle.intervallum.proofs.interval_set.IntervalSet.replace.Goals as goal
 
@@ -45,3 +46,18 @@ invariant_of-self-2 g c =
     let same = ap (λ (L : List (ℤ × ℤ)). sum_by width_of (take (c.args.end - c.args.start) (drop c.args.start L))) c.deref.ensures.value in
     let counts = r.counts (g.B.Output.SizeNumber.size c.shrunk-kept.result) (omega (arith, same, c.total_size-gone.ensures, c.shrunk-kept.ensures)) in
     rw (c.in_ok-replace_runs.ensures.ok, c.grown-size.ensures, c.grown.ensures, c.size_of.ensures, c.size_of-2.ensures) (r.list, counts)
+
+pub replace_runs-requires-clause-in_order : goal.replace_runs-requires-clause-in_order
+replace_runs-requires-clause-in_order g c = c.requires.in_order
+
+pub replace_runs-requires-clause-at_most : goal.replace_runs-requires-clause-at_most
+replace_runs-requires-clause-at_most g c = rw c.self.view_is c.requires.at_most
+
+pub replace_runs-requires-clause-two : goal.replace_runs-requires-clause-two
+replace_runs-requires-clause-two g c = c.requires.two
+
+pub invariant_of-self : goal.invariant_of-self
+invariant_of-self g c = rw c.in_err-replace_runs.ensures.err (c.self.invariant.0, c.self.invariant.1)
+
+pub returns-clause-ok : goal.returns-clause-ok
+returns-clause-ok g c = c.in_ok-replace_runs.ensures.ok ∙ ap (λ (L : List (ℤ × ℤ)). replaced L c.args.start c.args.end c.args.first c.args.second) c.self.view_is

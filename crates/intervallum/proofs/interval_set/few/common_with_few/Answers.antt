@@ -1,10 +1,10 @@
-use Rattle.std.proofs.Common.{ℤ, ◌+◌, ◌*◌, ◌^◌, ◌<◌, ◌≤◌, ◌≤ℤ◌, List, length, take, sym, subst, ◌∙◌, arith}
+use Rattle.std.proofs.Common.{ℤ, ◌+◌, ◌*◌, ◌^◌, ◌<◌, ◌≤◌, ◌≤ℤ◌, List, length, take, refl, sym, subst, ◌∙◌, arith}
 use Rattle.ivl_laws.specs.Sets.{IsBetween, Intersection, Union}
 use Rattle.ivl_laws.specs.Runs.{Covers, IsRunsOf}
 use Rattle.ivl_laws.proofs.Lengths.{length_of_intersection}
 use Rattle.ivl_laws.proofs.Places.{open_at}
 use Rattle.intervallum.specs.Places.{EndBelow}
-use Rattle.intervallum.proofs.Few.{all_looks, more_looks, shared_by_all, shared_by_next, written_below}
+use Rattle.intervallum.proofs.Few.{all_looks, more_looks, shared_by_all, shared_by_next, shared_by_none, written_below}
 use Rattle.intervallum.proofs.interval_set.few.common_with_few.Goals as goal
 
 pub push_shared-requires-clause-filled : goal.push_shared-requires-clause-filled
@@ -51,3 +51,32 @@ returns-clause-runs_at_most g c =
     rw c.fitted.ensures (length_of_intersection c.args.few.now M c.loop-run.set
     (subst (λ (N : List (ℤ × ℤ)). IsRunsOf c.loop-run.set (Intersection (Covers N) (Covers M))) inv.1
     (shared_by_all c.as_runs-run-items.result.now M c.loop-run.set c.loop-run.run-index c.loop-run.from c.loop-run-test.false inv.3)))
+
+pub loop-run-init : goal.loop-run-init
+loop-run-init g c = (
+  refl,
+  c.as_runs-run-items.ensures.same,
+  rw c.as_runs-run-items.ensures.same c.as_runs-run-items.ensures.runs.maximal,
+  rw c.in_ok-set.ensures (shared_by_none c.as_runs-run-items.result.now c.args.many.now.runs),
+  λ digits h. omega arith,
+)
+
+pub push_shared-requires-clause-at_most : goal.push_shared-requires-clause-at_most
+push_shared-requires-clause-at_most g c = rw c.loop-run.invariant.0 c.loop-run.invariant.3.at_most
+
+pub push_shared-requires-clause-below : goal.push_shared-requires-clause-below
+push_shared-requires-clause-below g c = rw c.loop-run.invariant.0 (c.loop-run.invariant.3.below c.run-item.result c.loop-run-test.true c.run-item.is)
+
+pub returns-clause-members : goal.returns-clause-members
+returns-clause-members g c =
+    let inv = c.loop-run.invariant in
+    let M = c.args.many.now.runs in
+    rw c.fitted.ensures (subst (λ (N : List (ℤ × ℤ)). IsRunsOf c.loop-run.set (Intersection (Covers N) (Covers M))) inv.1
+    (shared_by_all c.as_runs-run-items.result.now M c.loop-run.set c.loop-run.run-index c.loop-run.from c.loop-run-test.false inv.3))
+
+pub returns-clause-looks : goal.returns-clause-looks
+returns-clause-looks g c = λ digits h.
+    let inv = c.loop-run.invariant in
+    let k = c.loop-run.run-index in
+    let most : k ≤ length c.args.few.now = subst (λ (N : List (ℤ × ℤ)). k ≤ length N) inv.1 (omega arith) in
+    all_looks k (length c.args.few.now) (4 * digits) c.args.many.now.looks c.loop-run.many.looks most (inv.4 digits h)

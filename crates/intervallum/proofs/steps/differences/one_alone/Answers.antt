@@ -6,7 +6,7 @@ use Rattle.ivl_laws.proofs.Orders.{lt_number}
 use Rattle.ivl_laws.proofs.Runs.{≤ℤ_antisymm}
 use Rattle.ivl_interval.proofs.Pairs.{not_below}
 use Rattle.intervallum.proofs.Alternating.{alone_at_end, alone_both, alone_first, alone_second, apart_at_end, lower_part_is_above}
-use Rattle.intervallum.proofs.Building.{building_done, building_same, building_takes}
+use Rattle.intervallum.proofs.Building.{building_done, building_same, building_starts, building_takes}
 use Rattle.intervallum.proofs.Leading.{led_by_next, open_held, zip_none, zip_some}
 use Rattle.intervallum.proofs.Meeting.{ends_before, ends_by}
 use Rattle.intervallum.proofs.Parting.{cut_above, led_by_cut}
@@ -150,3 +150,16 @@ push_rest-requires-clause-above g c =
     let ended = zip_none c.walk.a c.walk.b (sym c.zip.ensures ∙ c.in_default.is) in
     let rest = building_same (pos 1) c.walk.set _ _ _ (alone_at_end c.walk.a c.walk.b c.walk.first.left c.walk.second.left c.walk.invariant.first c.walk.invariant.second ended) c.walk.invariant.state in
     λ x y w r. rest.below x y w (inl r)
+
+pub walk-init : goal.walk-init
+walk-init g c = record {
+  first = led_by_next c.take-a.result c.args.first.left c.take-a.new.self.left c.take-a.ensures.runs.maximal c.take-a.ensures.taken c.take-a.ensures.none;
+  second = led_by_next c.take-b.result c.args.second.left c.take-b.new.self.left c.take-b.ensures.runs.maximal c.take-b.ensures.taken c.take-b.ensures.none;
+  state = rw (c.take-a.ensures.taken, c.take-b.ensures.taken) (building_starts (pos 1) c.in_ok-set.set _ c.in_ok-set.ensures);
+}
+
+pub push_rest-requires-clause-maximal : goal.push_rest-requires-clause-maximal
+push_rest-requires-clause-maximal g c = c.walk.invariant.first.maximal
+
+pub push_rest-requires-clause-ended : goal.push_rest-requires-clause-ended
+push_rest-requires-clause-ended g c = c.walk.invariant.first.ended

@@ -1,8 +1,9 @@
-use Rattle.std.proofs.Common.{arith}
+use Rattle.std.proofs.Common.{ℤ, pos, List, subst, arith}
 use Rattle.ivl_laws.specs.Sets.{Union}
 use Rattle.ivl_laws.specs.Runs.{Covers}
 use Rattle.intervallum.specs.Led.{led_by}
-use Rattle.intervallum.proofs.Leading.{led_by_next}
+use Rattle.intervallum.proofs.Building.{building_ends}
+use Rattle.intervallum.proofs.Leading.{led_by_next, leads_none}
 use Rattle.intervallum.proofs.Parting.{rest_goes_on}
 use Rattle.intervallum.proofs.Shortening.{length_taken}
 use Rattle.intervallum.proofs.steps.differences.push_rest.Goals as goal
@@ -18,3 +19,14 @@ pub walk-smaller : goal.walk-smaller
 walk-smaller g c =
     let taken = length_taken c.walk.held c.take-held.result c.in-Some.run' c.walk.walk.left c.take-held.new.self.left c.in-Some.is c.take-held.ensures.taken in
     omega arith
+
+pub walk-init : goal.walk-init
+walk-init g c = record {
+  led = record { maximal = c.requires.maximal; ended = c.requires.ended };
+  state = record { maximal = c.in_whole.ensures.maximal; below = c.requires.above; members = λ z. ((λ s. s), (λ s. s)) };
+}
+
+pub returns : goal.returns
+returns g c =
+    let none = leads_none c.walk.held c.walk.walk.left c.walk.invariant.led c.in_default.is in
+    building_ends (pos 1) c.walk.set _ _ c.walk.invariant.state (λ z s. subst (λ (L : List (ℤ × ℤ)). Covers L z) none s)

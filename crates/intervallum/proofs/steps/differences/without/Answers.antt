@@ -5,7 +5,7 @@ use Rattle.ivl_laws.proofs.Intervals.{some_is_not_crossed}
 use Rattle.ivl_laws.proofs.Orders.{lt_number}
 use Rattle.ivl_interval.proofs.Pairs.{not_below}
 use Rattle.intervallum.specs.Led.{led_by}
-use Rattle.intervallum.proofs.Building.{building_done, building_same, nearer}
+use Rattle.intervallum.proofs.Building.{building_done, building_same, building_starts, nearer}
 use Rattle.intervallum.proofs.Leading.{led_by_next, open_held, zip_none, zip_some}
 use Rattle.intervallum.proofs.Meeting.{ends_before, ends_by}
 use Rattle.intervallum.proofs.Parting.{cut_above, cut_below, led_by_cut, left_alone, part_is_above, parts_first, parts_second}
@@ -96,3 +96,16 @@ walk-smaller g c =
     let held = zip_some c.walk.a c.walk.b c.in-Some.runs (sym c.zip.ensures ∙ c.in-Some.is) in
     let taken = length_taken c.walk.a c.take-a-else-lt.result c.in-Some.runs.0 c.walk.first.left c.take-a-else-lt.new.self.left held.0 c.take-a-else-lt.ensures.taken in
     omega arith
+
+pub walk-init : goal.walk-init
+walk-init g c = record {
+  first = led_by_next c.take-a.result c.args.first.left c.take-a.new.self.left c.take-a.ensures.runs.maximal c.take-a.ensures.taken c.take-a.ensures.none;
+  second = led_by_next c.take-b.result c.args.second.left c.take-b.new.self.left c.take-b.ensures.runs.maximal c.take-b.ensures.taken c.take-b.ensures.none;
+  state = rw (c.take-a.ensures.taken, c.take-b.ensures.taken) (building_starts (pos 2) c.in_ok-set.set _ c.in_ok-set.ensures);
+}
+
+pub push_rest-requires-clause-maximal : goal.push_rest-requires-clause-maximal
+push_rest-requires-clause-maximal g c = c.walk.invariant.first.maximal
+
+pub push_rest-requires-clause-ended : goal.push_rest-requires-clause-ended
+push_rest-requires-clause-ended g c = c.walk.invariant.first.ended
