@@ -1,4 +1,4 @@
-//! The examples in the docs of intervals, word for word, as tests.
+//! The examples in the docs of intervals as tests: the same calls, with the same values.
 #![tactic(auto)]
 
 #[cfg(test)]
