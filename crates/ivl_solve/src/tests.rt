@@ -78,7 +78,7 @@ const BAD_LINES: [(&str, &str); 20] = [
 
 #[test]
 fn bad_lines(rt: HostRuntime) -> Result<(), Fail> {
-    for (line, answer) in BAD_LINES {
+    for (line, answer) in &BAD_LINES {
         let lines = format!(in rt.alloc(); "var x 1 9\nvar y 1 9\n{line}\nshow")?;
         let answers = format!(in rt.alloc(); "ok\nok\nerror: {answer}\nx [1..9]\ny [1..9]\nok\n")?;
         check_session(&rt, lines.as_str(), answers.as_str())?;
