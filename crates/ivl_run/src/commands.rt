@@ -1,5 +1,5 @@
 //! The command that a line's words are: its name, and after it the words of its form.
-ghost use Rattle.std.specs.Prelude.{◌≡◌, IfOk, option_map};
+ghost use Rattle.std.specs.Prelude.{◌≡◌, IfOk, IsSomeAnd, MatchOption, None, option_map};
 ghost use Rattle.ivl_run.specs.Commands.{action_from, looked_up, commands, register_of, register_alone_of, two_registers_of, three_registers_of, register_and_number_of, two_registers_and_number_of, of_pairs};
 ghost use Rattle.ivl_words.specs.Words.{words_between};
 ghost use Rattle.ivl_run.specs.View.{action_of};
@@ -32,32 +32,82 @@ fn command_by_name(name: &str, words: &str) -> Option<Command<i64>>
     ensures { option_map action_of result ≡ looked_up commands name.now (words_between words.now) }
 {
     match name {
-        "union" => three_registers(words).map(|(r, a, b)| Command::Union(r, a, b)),
-        "inter" => three_registers(words).map(|(r, a, b)| Command::Inter(r, a, b)),
-        "diff" => three_registers(words).map(|(r, a, b)| Command::Diff(r, a, b)),
-        "sym" => three_registers(words).map(|(r, a, b)| Command::Sym(r, a, b)),
-        "comp" => two_registers(words).map(|(r, a)| Command::Comp(r, a)),
-        "left" => two_registers_and_number(words).map(|(r, a, v)| Command::Left(r, a, v)),
-        "right" => two_registers_and_number(words).map(|(r, a, v)| Command::Right(r, a, v)),
-        "sleft" => two_registers_and_number(words).map(|(r, a, v)| Command::StrictLeft(r, a, v)),
-        "sright" => two_registers_and_number(words).map(|(r, a, v)| Command::StrictRight(r, a, v)),
-        "plus" => three_registers(words).map(|(r, a, b)| Command::Plus(r, a, b)),
-        "minus" => three_registers(words).map(|(r, a, b)| Command::Minus(r, a, b)),
-        "times" => three_registers(words).map(|(r, a, b)| Command::Times(r, a, b)),
-        "plusv" => two_registers_and_number(words).map(|(r, a, v)| Command::PlusValue(r, a, v)),
-        "minusv" => two_registers_and_number(words).map(|(r, a, v)| Command::MinusValue(r, a, v)),
-        "timesv" => two_registers_and_number(words).map(|(r, a, v)| Command::TimesValue(r, a, v)),
-        "has" => register_and_number(words).map(|(a, v)| Command::Has(a, v)),
+        "union" => of_three_registers(words, Command::Union),
+        "inter" => of_three_registers(words, Command::Inter),
+        "diff" => of_three_registers(words, Command::Diff),
+        "sym" => of_three_registers(words, Command::Sym),
+        "comp" => of_two_registers(words, Command::Comp),
+        "left" => of_two_registers_and_number(words, Command::Left),
+        "right" => of_two_registers_and_number(words, Command::Right),
+        "sleft" => of_two_registers_and_number(words, Command::StrictLeft),
+        "sright" => of_two_registers_and_number(words, Command::StrictRight),
+        "plus" => of_three_registers(words, Command::Plus),
+        "minus" => of_three_registers(words, Command::Minus),
+        "times" => of_three_registers(words, Command::Times),
+        "plusv" => of_two_registers_and_number(words, Command::PlusValue),
+        "minusv" => of_two_registers_and_number(words, Command::MinusValue),
+        "timesv" => of_two_registers_and_number(words, Command::TimesValue),
+        "has" => of_register_and_number(words, Command::Has),
         "size" => register_alone(words).map(Command::Size),
         "count" => register_alone(words).map(Command::Count),
         "low" => register_alone(words).map(Command::Low),
         "high" => register_alone(words).map(Command::High),
-        "same" => two_registers(words).map(|(a, b)| Command::Same(a, b)),
-        "sub" => two_registers(words).map(|(a, b)| Command::Sub(a, b)),
-        "meets" => two_registers(words).map(|(a, b)| Command::Meets(a, b)),
+        "same" => of_two_registers(words, Command::Same),
+        "sub" => of_two_registers(words, Command::Sub),
+        "meets" => of_two_registers(words, Command::Meets),
         "show" => register_alone(words).map(Command::Show),
         _ => None,
     }
+}
+
+// The command that `make` gives for the registers and the number that the words are, or `None` where
+// they are not just these.
+fn of_two_registers<F: FnOnce(usize, usize) -> Command<i64>>(
+    words: &str,
+    make: F,
+) -> Option<Command<i64>>
+    requires { F.IsAlwaysCallable make }
+    ensures { MatchOption (two_registers_of (words_between words.now)) (result ≡ None)
+        (λ x. IsSomeAnd result (F.post make x.0 x.1)) }
+{
+    let (a, b) = two_registers(words)?;
+    Some(make(a, b))
+}
+
+fn of_three_registers<F: FnOnce(usize, usize, usize) -> Command<i64>>(
+    words: &str,
+    make: F,
+) -> Option<Command<i64>>
+    requires { F.IsAlwaysCallable make }
+    ensures { MatchOption (three_registers_of (words_between words.now)) (result ≡ None)
+        (λ x. IsSomeAnd result (F.post make x.0 x.1 x.2)) }
+{
+    let (r, a, b) = three_registers(words)?;
+    Some(make(r, a, b))
+}
+
+fn of_register_and_number<F: FnOnce(usize, i64) -> Command<i64>>(
+    words: &str,
+    make: F,
+) -> Option<Command<i64>>
+    requires { F.IsAlwaysCallable make }
+    ensures { MatchOption (register_and_number_of (words_between words.now)) (result ≡ None)
+        (λ x. IsSomeAnd result (F.post make x.0 x.1)) }
+{
+    let (a, v) = register_and_number(words)?;
+    Some(make(a, v))
+}
+
+fn of_two_registers_and_number<F: FnOnce(usize, usize, i64) -> Command<i64>>(
+    words: &str,
+    make: F,
+) -> Option<Command<i64>>
+    requires { F.IsAlwaysCallable make }
+    ensures { MatchOption (two_registers_and_number_of (words_between words.now)) (result ≡ None)
+        (λ x. IsSomeAnd result (F.post make x.0 x.1 x.2)) }
+{
+    let (r, a, v) = two_registers_and_number(words)?;
+    Some(make(r, a, v))
 }
 
 // `set r l u l u ..`
