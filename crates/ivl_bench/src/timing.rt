@@ -27,11 +27,10 @@ impl Limits {
 /// Prints a line for each call at sets of `n` runs: `name n ns_per_operation runs size`.
 pub fn print_times(rt: &(impl Print + AllocGlobal + Clock), n: u32, limits: &Limits) -> Result<()> {
     let inputs = Inputs::new(rt.alloc(), n)?;
-    for measure in Measure::ALL {
+    for measure in Measure::all() {
         if measure.is_for(n) {
             let time = least_time(rt, measure, &inputs, limits)?;
-            let outcome: Outcome = measure.run(&inputs)?;
-            let text = outcome.to_text(rt.alloc())?;
+            let text = measure.answer(&inputs)?;
             println!(rt; "{} {n} {time} {text}", measure.name())?;
         }
     }
