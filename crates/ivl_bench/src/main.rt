@@ -23,9 +23,13 @@ use timing::Limits;
 /// Prints what each call answers: its runs and its size, or its one number.
 fn print_answers(rt: &(impl Print + AllocGlobal), n: u32) -> Result<()> {
     let inputs = Inputs::new(rt.alloc(), n)?;
+    print_answers_to(rt, n, &inputs)
+}
+
+fn print_answers_to(rt: &impl Print, n: u32, inputs: &Inputs) -> Result<()> {
     for measure in Measure::all() {
         if measure.is_for(n) {
-            let text = measure.answer(&inputs)?;
+            let text = measure.answer(inputs)?;
             println!(rt; "{} {n} {text}", measure.name())?;
         }
     }
