@@ -33,41 +33,85 @@ pub struct Inputs {
 impl Inputs {
     /// The operands for sets of `n` runs.
     pub fn new(alloc: Global, n: u32) -> Result<Inputs> {
-        let mut pairs = dense(alloc, n, 1)?;
-        let a = set_of(alloc, &pairs)?;
-        let b = set_of(alloc, &dense(alloc, n, 2)?)?;
-        let (lower, _) = *pairs.first().context("there are no runs")?;
-        let (_, upper) = *pairs.last().context("there are no runs")?;
-        shuffle(&mut pairs, 3);
+        let (pairs, (lower, upper), a) = first(alloc, n)?;
+        let (b, clone_of_a, in_both) = second(alloc, n, &a)?;
+        let (runs, json) = written(alloc, &pairs, &a)?;
+        let (probes, edits) = values(alloc, n, lower.saturating_sub(5), upper.saturating_add(5))?;
+        let (sparse, uneven, expressions) = others(alloc, n, &a, &b)?;
         Ok(Inputs {
             alloc,
-            clone_of_a: a.try_clone()?,
-            in_both: a.intersection(&b)?,
-            runs: runs_of(alloc, &pairs)?,
-            json: JsonInputs::new(alloc, &pairs, &a)?,
-            pairs,
-            probes: probes(
-                alloc,
-                1000,
-                5,
-                lower.saturating_sub(5),
-                upper.saturating_add(5),
-            )?,
-            edits: probes(
-                alloc,
-                n,
-                6,
-                lower.saturating_sub(5),
-                upper.saturating_add(5),
-            )?,
-            middle: lower.saturating_add(upper) / 2,
-            sparse: Sparse::new(alloc, n)?,
-            uneven: Uneven::new(alloc)?,
-            expressions: Expressions::new(alloc, &a, &b)?,
             a,
             b,
+            clone_of_a,
+            in_both,
+            pairs,
+            runs,
+            probes,
+            edits,
+            middle: lower.saturating_add(upper) / 2,
+            sparse,
+            uneven,
+            json,
+            expressions,
         })
     }
+}
+
+/// The first set of `n` runs: its pairs, shuffled, its ends, and itself.
+fn first(alloc: Global, n: u32) -> Result<(Vec<(i64, i64)>, (i64, i64), IntervalSet<i64>)> {
+    let mut pairs = dense(alloc, n, 1)?;
+    let set = set_of(alloc, &pairs)?;
+    let ends = ends(&pairs).context("there are no runs")?;
+    shuffle(&mut pairs, 3);
+    Ok((pairs, ends, set))
+}
+
+/// The lower bound of the first pair, and the upper bound of the last.
+fn ends(pairs: &[(i64, i64)]) -> Option<(i64, i64)> {
+    Some((pairs.first()?.0, pairs.last()?.1))
+}
+
+/// The second set of `n` runs, a copy of the first, and what both have.
+fn second(
+    alloc: Global,
+    n: u32,
+    first: &IntervalSet<i64>,
+) -> Result<(IntervalSet<i64>, IntervalSet<i64>, IntervalSet<i64>)> {
+    let set = set_of(alloc, &dense(alloc, n, 2)?)?;
+    let copy = first.try_clone()?;
+    let in_both = first.intersection(&set)?;
+    Ok((set, copy, in_both))
+}
+
+/// The runs of the pairs, and the JSON values of the pairs and of the set.
+fn written(
+    alloc: Global,
+    pairs: &[(i64, i64)],
+    set: &IntervalSet<i64>,
+) -> Result<(Vec<Interval<i64>>, JsonInputs)> {
+    Ok((runs_of(alloc, pairs)?, JsonInputs::new(alloc, pairs, set)?))
+}
+
+/// The probes, and the values of `n` edits.
+fn values(alloc: Global, n: u32, lower: i64, upper: i64) -> Result<(Vec<i64>, Vec<i64>)> {
+    Ok((
+        probes(alloc, 1000, 5, lower, upper)?,
+        probes(alloc, n, 6, lower, upper)?,
+    ))
+}
+
+/// What is not made of the pairs.
+fn others(
+    alloc: Global,
+    n: u32,
+    a: &IntervalSet<i64>,
+    b: &IntervalSet<i64>,
+) -> Result<(Sparse, Uneven, Expressions)> {
+    Ok((
+        Sparse::new(alloc, n)?,
+        Uneven::new(alloc)?,
+        Expressions::new(alloc, a, b)?,
+    ))
 }
 
 /// Two sets of `n` runs whose sums and products have many runs.

@@ -15,7 +15,7 @@ mod timing;
 
 use anyhow::{Context, Result, bail};
 use inputs::Inputs;
-use measures::{Measure, Outcome};
+use measures::Measure;
 use std::env;
 use std::time::Duration;
 use timing::Limits;
@@ -23,10 +23,13 @@ use timing::Limits;
 /// Prints what each call answers: its runs and its size, or its one number.
 fn print_answers(rt: &(impl Print + AllocGlobal), n: u32) -> Result<()> {
     let inputs = Inputs::new(rt.alloc(), n)?;
-    for measure in Measure::ALL {
+    print_answers_to(rt, n, &inputs)
+}
+
+fn print_answers_to(rt: &impl Print, n: u32, inputs: &Inputs) -> Result<()> {
+    for measure in Measure::all() {
         if measure.is_for(n) {
-            let outcome: Outcome = measure.run(&inputs)?;
-            let text = outcome.to_text(rt.alloc())?;
+            let text = measure.answer(inputs)?;
             println!(rt; "{} {n} {text}", measure.name())?;
         }
     }

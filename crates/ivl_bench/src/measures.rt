@@ -144,44 +144,47 @@ impl Outcome {
 }
 
 impl Measure {
-    pub const ALL: [Measure; 36] = [
-        Measure::BuildExtend,
-        Measure::BuildPairs,
-        Measure::ExtendOne,
-        Measure::Clone,
-        Measure::Union,
-        Measure::Intersection,
-        Measure::Difference,
-        Measure::Symmetric,
-        Measure::Complement,
-        Measure::ShrinkLeft,
-        Measure::PlusValue,
-        Measure::TimesValue,
-        Measure::Contains,
-        Measure::EqualYes,
-        Measure::EqualNo,
-        Measure::Subset,
-        Measure::PlusDense,
-        Measure::MinusDense,
-        Measure::TimesDense,
-        Measure::PlusSparse,
-        Measure::TimesSparse,
-        Measure::JsonRead,
-        Measure::JsonWrite,
-        Measure::JsonText,
-        Measure::EvalSum,
-        Measure::EvalChain,
-        Measure::UnionFew,
-        Measure::IntersectionFew,
-        Measure::DifferenceFew,
-        Measure::SubsetFew,
-        Measure::IntersectionValue,
-        Measure::NextFrom,
-        Measure::FirstFit,
-        Measure::InsertRandom,
-        Measure::RemoveRandom,
-        Measure::PopFirst,
-    ];
+    /// Every call, in the order in which they are made.
+    pub fn all() -> [Measure; 36] {
+        [
+            Measure::BuildExtend,
+            Measure::BuildPairs,
+            Measure::ExtendOne,
+            Measure::Clone,
+            Measure::Union,
+            Measure::Intersection,
+            Measure::Difference,
+            Measure::Symmetric,
+            Measure::Complement,
+            Measure::ShrinkLeft,
+            Measure::PlusValue,
+            Measure::TimesValue,
+            Measure::Contains,
+            Measure::EqualYes,
+            Measure::EqualNo,
+            Measure::Subset,
+            Measure::PlusDense,
+            Measure::MinusDense,
+            Measure::TimesDense,
+            Measure::PlusSparse,
+            Measure::TimesSparse,
+            Measure::JsonRead,
+            Measure::JsonWrite,
+            Measure::JsonText,
+            Measure::EvalSum,
+            Measure::EvalChain,
+            Measure::UnionFew,
+            Measure::IntersectionFew,
+            Measure::DifferenceFew,
+            Measure::SubsetFew,
+            Measure::IntersectionValue,
+            Measure::NextFrom,
+            Measure::FirstFit,
+            Measure::InsertRandom,
+            Measure::RemoveRandom,
+            Measure::PopFirst,
+        ]
+    }
 
     pub fn name(self) -> &'static str {
         match self {
@@ -255,6 +258,12 @@ impl Measure {
     /// Whether the time is that of making the answer, without dropping it.
     pub fn is_of_making_alone(self) -> bool {
         matches!(self, Measure::JsonWrite | Measure::JsonText)
+    }
+
+    /// What the call answers, as text.
+    pub fn answer(self, inputs: &Inputs) -> Result<String, AllocError> {
+        let outcome: Outcome = self.run(inputs)?;
+        outcome.to_text(inputs.alloc)
     }
 
     /// Makes the call. Each is a function of its own: the compiled code clears what one function keeps

@@ -63,23 +63,30 @@ struct Instance {
 impl Instance {
     fn read(rt: &(impl AllocGlobal + Files), path: &str) -> Result<Instance> {
         let alloc = rt.alloc();
-        let mut domains = Vec::new(alloc);
-        let mut constraints = Vec::new(alloc);
+        let mut instance = Instance::empty(alloc);
         for line in BufReader::new(alloc, File::open(rt, path)?)?.lines(alloc) {
-            match Line::parse(alloc, line?.as_str())? {
-                Line::Domain(domain) => domains.push(domain)?,
-                Line::Sum(constraint) => constraints.push(constraint)?,
+            instance.add(Line::parse(alloc, line?.as_str())?)?;
+        }
+        Ok(instance)
+    }
+
+    fn empty(alloc: Global) -> Instance {
+        Instance {
+            domains: Vec::new(alloc),
+            constraints: Vec::new(alloc),
+            posts: Vec::new(alloc),
+        }
+    }
+
+    fn add(&mut self, line: Line) -> Result<(), AllocError> {
+        match line {
+            Line::Domain(domain) => self.domains.push(domain)?,
+            Line::Sum(constraint) => {
+                self.constraints.push(constraint)?;
+                self.posts.push(Post::Require(constraint))?;
             }
         }
-        let mut posts = Vec::with_capacity(alloc, constraints.len())?;
-        for constraint in &constraints {
-            posts.push(Post::Require(*constraint))?;
-        }
-        Ok(Instance {
-            domains,
-            constraints,
-            posts,
-        })
+        Ok(())
     }
 
     /// A store with the domains as they were read.
@@ -137,29 +144,46 @@ fn constraint(numbers: &[i64]) -> Option<Constraint> {
 
 /// Prints for each instance and each way how many domains are those of its `.fixed` file.
 pub fn print_answers(rt: &(impl Print + AllocGlobal + Files)) -> Result<()> {
-    let alloc = rt.alloc();
     for name in ["chain", "random", "planted", "loop"] {
-        let path = format!(in alloc; "{name}.txt")?;
-        let instance = Instance::read(rt, path.as_str())?;
-        let path = format!(in alloc; "{name}.fixed")?;
-        let fixed = Instance::read(rt, path.as_str())?;
-        for way in Way::BOTH {
-            let mut store = instance.fresh(alloc)?;
-            let is_fixed = instance.solve(&mut store, way)?;
-            let same = store
-                .domains()
-                .iter()
-                .zip(&fixed.domains)
-                .filter(|(ours, theirs)| ours == theirs)
-                .count();
-            println!(rt;
-                "store {name} {} {is_fixed} {same} of {}",
-                way.name(),
-                fixed.domains.len()
-            )?;
-        }
+        print_answers_of(rt, name)?;
     }
     Ok(())
+}
+
+fn print_answers_of(rt: &(impl Print + AllocGlobal + Files), name: &str) -> Result<()> {
+    let instance = read_named(rt, name, "txt")?;
+    let fixed = read_named(rt, name, "fixed")?;
+    for way in Way::BOTH {
+        let (is_fixed, same) = solved(rt.alloc(), &instance, &fixed, way)?;
+        println!(rt;
+            "store {name} {} {is_fixed} {same} of {}",
+            way.name(),
+            fixed.domains.len()
+        )?;
+    }
+    Ok(())
+}
+
+fn read_named(rt: &(impl AllocGlobal + Files), name: &str, extension: &str) -> Result<Instance> {
+    let path = format!(in rt.alloc(); "{name}.{extension}")?;
+    Instance::read(rt, path.as_str())
+}
+
+/// Whether an instance reaches its fixed point, and how many domains are then those of another instance.
+fn solved(alloc: Global, instance: &Instance, fixed: &Instance, way: Way) -> Result<(bool, usize)> {
+    let mut store = instance.fresh(alloc)?;
+    let is_fixed = instance.solve(&mut store, way)?;
+    Ok((is_fixed, same_domains(&store, fixed)))
+}
+
+/// How many domains of a store are those of an instance.
+fn same_domains(store: &Store<i64>, fixed: &Instance) -> usize {
+    store
+        .domains()
+        .iter()
+        .zip(&fixed.domains)
+        .filter(|(ours, theirs)| ours == theirs)
+        .count()
 }
 
 /// Prints for each way the least nanoseconds from fresh domains to the fixed point.

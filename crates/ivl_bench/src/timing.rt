@@ -27,11 +27,19 @@ impl Limits {
 /// Prints a line for each call at sets of `n` runs: `name n ns_per_operation runs size`.
 pub fn print_times(rt: &(impl Print + AllocGlobal + Clock), n: u32, limits: &Limits) -> Result<()> {
     let inputs = Inputs::new(rt.alloc(), n)?;
-    for measure in Measure::ALL {
+    print_times_of(rt, n, &inputs, limits)
+}
+
+fn print_times_of(
+    rt: &(impl Print + Clock),
+    n: u32,
+    inputs: &Inputs,
+    limits: &Limits,
+) -> Result<()> {
+    for measure in Measure::all() {
         if measure.is_for(n) {
-            let time = least_time(rt, measure, &inputs, limits)?;
-            let outcome: Outcome = measure.run(&inputs)?;
-            let text = outcome.to_text(rt.alloc())?;
+            let time = least_time(rt, measure, inputs, limits)?;
+            let text = measure.answer(inputs)?;
             println!(rt; "{} {n} {time} {text}", measure.name())?;
         }
     }

@@ -44,36 +44,33 @@ fn alone<B: Width>(call: &str, a: Interval<B>) -> Option<Answer<B>> {
 }
 
 fn with_interval<B: Width>(call: &str, a: Interval<B>, b: Interval<B>) -> Option<Answer<B>> {
-    Some(match call {
-        "i.intersection" => Answer::Interval(a.intersection(&b)),
-        "i.difference" => Answer::Interval(a.difference(&b)),
-        "i.hull" => Answer::Interval(a.hull(&b)),
-        "i.join" => Answer::Interval(a.join(b)),
-        "i.meet" => Answer::Interval(a.meet(b)),
-        "i.eq" => Answer::Truth(a == b),
-        "i.overlap" => Answer::Truth(a.overlap(&b)),
-        "i.is_disjoint" => Answer::Truth(a.is_disjoint(&b)),
-        "i.is_subset" => Answer::Truth(a.is_subset(&b)),
-        "i.is_proper_subset" => Answer::Truth(a.is_proper_subset(&b)),
-        "i.entail" => Answer::Entailment(a.entail(&b)),
-        _ => return arithmetic_with_interval(call, a, b),
-    })
+    Some(Answer::Interval(match call {
+        "i.intersection" => a.intersection(&b),
+        "i.difference" => a.difference(&b),
+        "i.hull" => a.hull(&b),
+        "i.join" => a.join(b),
+        "i.meet" => a.meet(b),
+        "i.add" if a.fits_add(&b) => a + b,
+        "i.sub" if a.fits_sub(&b) => a - b,
+        "i.mul" if a.fits_mul(&b) => a * b,
+        _ => return asked_of_intervals(call, &a, &b),
+    }))
 }
 
-fn arithmetic_with_interval<B: Width>(
-    call: &str,
-    a: Interval<B>,
-    b: Interval<B>,
-) -> Option<Answer<B>> {
-    Some(match call {
-        "i.fits_add" => Answer::Truth(a.fits_add(&b)),
-        "i.fits_sub" => Answer::Truth(a.fits_sub(&b)),
-        "i.fits_mul" => Answer::Truth(a.fits_mul(&b)),
-        "i.add" if a.fits_add(&b) => Answer::Interval(a + b),
-        "i.sub" if a.fits_sub(&b) => Answer::Interval(a - b),
-        "i.mul" if a.fits_mul(&b) => Answer::Interval(a * b),
+/// The calls that make no interval.
+fn asked_of_intervals<B: Width>(call: &str, a: &Interval<B>, b: &Interval<B>) -> Option<Answer<B>> {
+    Some(Answer::Truth(match call {
+        "i.fits_add" => a.fits_add(b),
+        "i.fits_sub" => a.fits_sub(b),
+        "i.fits_mul" => a.fits_mul(b),
+        "i.eq" => a == b,
+        "i.overlap" => a.overlap(b),
+        "i.is_disjoint" => a.is_disjoint(b),
+        "i.is_subset" => a.is_subset(b),
+        "i.is_proper_subset" => a.is_proper_subset(b),
+        "i.entail" => return Some(Answer::Entailment(a.entail(b))),
         _ => return None,
-    })
+    }))
 }
 
 fn with_value<B: Width>(call: &str, a: Interval<B>, x: B) -> Option<Answer<B>> {

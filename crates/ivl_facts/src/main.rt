@@ -37,17 +37,17 @@ where
     B::Err: Drop,
 {
     let answer = if fact.is_of_texts() {
-        texts::answer::<B>(alloc, fact)?
+        texts::answer::<B>(alloc, fact)
     } else if fact.is_of_sets() {
-        sets::answer::<B>(alloc, fact)?
+        sets::answer::<B>(alloc, fact)
     } else if fact.is_of_lists() {
-        lists::answer::<B>(alloc, fact)?
+        lists::answer::<B>(alloc, fact)
     } else if fact.is_of_values() {
-        values::answer::<B>(fact)
+        Ok(values::answer::<B>(fact))
     } else {
-        calls::answer::<B>(fact)
+        Ok(calls::answer::<B>(fact))
     };
-    match answer {
+    match answer? {
         Some(answer) => Ok(Some(answer.to_text(alloc)?)),
         None => Ok(None),
     }

@@ -28,31 +28,50 @@ where
     let Some(a) = set(alloc, fact.first)? else {
         return Ok(None);
     };
-    let Some(second) = fact.second else {
-        return alone(fact.call, a);
-    };
-    if fact.call == "s.overlap_o" {
+    match fact.second {
+        Some(second) => with_second(alloc, fact.call, &a, second),
+        None => alone(fact.call, a),
+    }
+}
+
+fn with_second<B: Width + FromStr>(
+    alloc: Global,
+    call: &str,
+    a: &IntervalSet<B>,
+    second: &str,
+) -> Result<Option<Answer<B>>, AllocError>
+where
+    B::Err: Drop,
+{
+    if call == "s.overlap_o" {
         return Ok(optional(second).map(|b| Answer::Truth(a.overlap(&b))));
     }
     if let Ok(x) = second.parse() {
-        return with_value(fact.call, &a, x);
+        return with_value(call, a, x);
     }
     match set(alloc, second)? {
-        Some(b) => with_set(fact.call, &a, &b),
+        Some(b) => with_set(call, a, &b),
         None => Ok(None),
     }
 }
 
 fn alone<B: Width>(call: &str, a: IntervalSet<B>) -> Result<Option<Answer<B>>, AllocError> {
-    Ok(Some(match call {
-        "s.from_pairs" => Answer::Set(a),
-        "s.try_clone" => Answer::Set(a.try_clone()?),
-        "s.complement" => Answer::Set(a.complement()?),
-        "s.count" => Answer::Count(a.interval_count()),
-        "s.is_empty" => Answer::Truth(a.is_empty()),
-        "s.is_singleton" => Answer::Truth(a.is_singleton()),
+    if call == "s.from_pairs" {
+        return Ok(Some(Answer::Set(a)));
+    }
+    asked_alone(call, &a)
+}
+
+fn asked_alone<B: Width>(call: &str, a: &IntervalSet<B>) -> Result<Option<Answer<B>>, AllocError> {
+    let set = match call {
+        "s.try_clone" => a.try_clone(),
+        "s.complement" => a.complement(),
+        "s.count" => return Ok(Some(Answer::Count(a.interval_count()))),
+        "s.is_empty" => return Ok(Some(Answer::Truth(a.is_empty()))),
+        "s.is_singleton" => return Ok(Some(Answer::Truth(a.is_singleton()))),
         _ => return Ok(None),
-    }))
+    };
+    Ok(Some(Answer::Set(set?)))
 }
 
 fn with_set<B: Width>(
@@ -60,51 +79,53 @@ fn with_set<B: Width>(
     a: &IntervalSet<B>,
     b: &IntervalSet<B>,
 ) -> Result<Option<Answer<B>>, AllocError> {
-    Ok(Some(match call {
-        "s.union" => Answer::Set(a.union(b)?),
-        "s.intersection" => Answer::Set(a.intersection(b)?),
-        "s.difference" => Answer::Set(a.difference(b)?),
-        "s.symmetric_difference" => Answer::Set(a.symmetric_difference(b)?),
-        "s.eq" => Answer::Truth(a == b),
-        "s.overlap" => Answer::Truth(a.overlap(b)),
-        "s.is_disjoint" => Answer::Truth(a.is_disjoint(b)),
-        "s.is_subset" => Answer::Truth(a.is_subset(b)),
-        "s.is_proper_subset" => Answer::Truth(a.is_proper_subset(b)),
-        "s.entail" => Answer::Entailment(a.entail(b)),
-        "s.join" | "s.meet" => return consuming(call, a.try_clone()?, b.try_clone()?),
-        _ => return arithmetic_with_set(call, a, b),
-    }))
+    let set = match call {
+        "s.union" => a.union(b),
+        "s.intersection" => a.intersection(b),
+        "s.difference" => a.difference(b),
+        "s.symmetric_difference" => a.symmetric_difference(b),
+        "s.join" => a.try_clone()?.join(b.try_clone()?),
+        "s.meet" => a.try_clone()?.meet(b.try_clone()?),
+        "s.add" if a.fits_add(b) => a + b,
+        "s.sub" if a.fits_sub(b) => a - b,
+        "s.mul" if a.fits_mul(b) => a * b,
+        _ => return images_of(call, a, b),
+    };
+    Ok(Some(Answer::Set(set?)))
 }
 
-/// The calls that consume both sets.
-fn consuming<B: Width>(
-    call: &str,
-    a: IntervalSet<B>,
-    b: IntervalSet<B>,
-) -> Result<Option<Answer<B>>, AllocError> {
-    Ok(Some(Answer::Set(match call {
-        "s.join" => a.join(b)?,
-        "s.meet" => a.meet(b)?,
-        _ => return Ok(None),
-    })))
-}
-
-fn arithmetic_with_set<B: Width>(
+/// The calls that answer the images of the runs, in the order in which they are made.
+fn images_of<B: Width>(
     call: &str,
     a: &IntervalSet<B>,
     b: &IntervalSet<B>,
 ) -> Result<Option<Answer<B>>, AllocError> {
-    Ok(Some(match call {
-        "s.fits_add" => Answer::Truth(a.fits_add(b)),
-        "s.fits_sub" => Answer::Truth(a.fits_sub(b)),
-        "s.fits_mul" => Answer::Truth(a.fits_mul(b)),
-        "s.add" if a.fits_add(b) => Answer::Set((a + b)?),
-        "s.sub" if a.fits_sub(b) => Answer::Set((a - b)?),
-        "s.mul" if a.fits_mul(b) => Answer::Set((a * b)?),
-        "s.images_add" if a.fits_add(b) => Answer::List(images(a, b, Op::Sum)?),
-        "s.images_sub" if a.fits_sub(b) => Answer::List(images(a, b, Op::Difference)?),
-        "s.images_mul" if a.fits_mul(b) => Answer::List(images(a, b, Op::Product)?),
-        _ => return Ok(None),
+    let list = match call {
+        "s.images_add" if a.fits_add(b) => images(a, b, Op::Sum),
+        "s.images_sub" if a.fits_sub(b) => images(a, b, Op::Difference),
+        "s.images_mul" if a.fits_mul(b) => images(a, b, Op::Product),
+        _ => return Ok(asked_of_sets(call, a, b)),
+    };
+    Ok(Some(Answer::List(list?)))
+}
+
+/// The calls that make no set.
+fn asked_of_sets<B: Width>(
+    call: &str,
+    a: &IntervalSet<B>,
+    b: &IntervalSet<B>,
+) -> Option<Answer<B>> {
+    Some(Answer::Truth(match call {
+        "s.fits_add" => a.fits_add(b),
+        "s.fits_sub" => a.fits_sub(b),
+        "s.fits_mul" => a.fits_mul(b),
+        "s.eq" => a == b,
+        "s.overlap" => a.overlap(b),
+        "s.is_disjoint" => a.is_disjoint(b),
+        "s.is_subset" => a.is_subset(b),
+        "s.is_proper_subset" => a.is_proper_subset(b),
+        "s.entail" => return Some(Answer::Entailment(a.entail(b))),
+        _ => return None,
     }))
 }
 
@@ -113,36 +134,32 @@ fn with_value<B: Width>(
     a: &IntervalSet<B>,
     x: B,
 ) -> Result<Option<Answer<B>>, AllocError> {
-    Ok(Some(match call {
-        "s.contains" => Answer::Truth(a.contains(&x)),
-        "s.overlap_v" => Answer::Truth(a.overlap(&x)),
-        "s.place" => Answer::Place(find(&mut Probes::new(a), x)),
-        "s.union_v" if Interval::in_range(x, x) => Answer::Set(a.union(&x)?),
-        "s.intersection_v" => Answer::Set(a.intersection(&x)?),
-        "s.difference_v" => Answer::Set(a.difference(&x)?),
-        "s.symmetric_difference_v" if Interval::in_range(x, x) => {
-            Answer::Set(a.symmetric_difference(&x)?)
-        }
-        "s.shrink_left" => Answer::Set(a.shrink_left(x)?),
-        "s.shrink_right" => Answer::Set(a.shrink_right(x)?),
-        "s.strict_shrink_left" => Answer::Set(a.strict_shrink_left(x)?),
-        "s.strict_shrink_right" => Answer::Set(a.strict_shrink_right(x)?),
-        _ => return arithmetic_with_value(call, a, x),
-    }))
+    let set = match call {
+        "s.union_v" if Interval::in_range(x, x) => a.union(&x),
+        "s.intersection_v" => a.intersection(&x),
+        "s.difference_v" => a.difference(&x),
+        "s.symmetric_difference_v" if Interval::in_range(x, x) => a.symmetric_difference(&x),
+        "s.shrink_left" => a.shrink_left(x),
+        "s.shrink_right" => a.shrink_right(x),
+        "s.strict_shrink_left" => a.strict_shrink_left(x),
+        "s.strict_shrink_right" => a.strict_shrink_right(x),
+        "s.add_v" if a.fits_add(&x) => a + x,
+        "s.sub_v" if a.fits_sub(&x) => a - x,
+        "s.mul_v" if a.fits_mul(&x) => a * x,
+        _ => return Ok(asked_of_value(call, a, x)),
+    };
+    Ok(Some(Answer::Set(set?)))
 }
 
-fn arithmetic_with_value<B: Width>(
-    call: &str,
-    a: &IntervalSet<B>,
-    x: B,
-) -> Result<Option<Answer<B>>, AllocError> {
-    Ok(Some(match call {
-        "s.fits_add_v" => Answer::Truth(a.fits_add(&x)),
-        "s.fits_sub_v" => Answer::Truth(a.fits_sub(&x)),
-        "s.fits_mul_v" => Answer::Truth(a.fits_mul(&x)),
-        "s.add_v" if a.fits_add(&x) => Answer::Set((a + x)?),
-        "s.sub_v" if a.fits_sub(&x) => Answer::Set((a - x)?),
-        "s.mul_v" if a.fits_mul(&x) => Answer::Set((a * x)?),
-        _ => return Ok(None),
+/// The calls that make no set.
+fn asked_of_value<B: Width>(call: &str, a: &IntervalSet<B>, x: B) -> Option<Answer<B>> {
+    Some(Answer::Truth(match call {
+        "s.fits_add_v" => a.fits_add(&x),
+        "s.fits_sub_v" => a.fits_sub(&x),
+        "s.fits_mul_v" => a.fits_mul(&x),
+        "s.contains" => a.contains(&x),
+        "s.overlap_v" => a.overlap(&x),
+        "s.place" => return Some(Answer::Place(find(&mut Probes::new(a), x))),
+        _ => return None,
     }))
 }

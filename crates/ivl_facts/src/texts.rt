@@ -35,13 +35,14 @@ where
 
 /// The text in a form.
 fn text<T: Display>(alloc: Global, form: &str, value: &T) -> Result<Option<String>, AllocError> {
-    Ok(Some(match form {
-        "" => format!(in alloc; "{value}")?,
-        ":>20" => format!(in alloc; "{value:>20}")?,
-        ":020" => format!(in alloc; "{value:020}")?,
-        ":*<9" => format!(in alloc; "{value:*<9}")?,
-        ":*^9" => format!(in alloc; "{value:*^9}")?,
-        ":+" => format!(in alloc; "{value:+}")?,
+    let text = match form {
+        "" => format!(in alloc; "{value}"),
+        ":>20" => format!(in alloc; "{value:>20}"),
+        ":020" => format!(in alloc; "{value:020}"),
+        ":*<9" => format!(in alloc; "{value:*<9}"),
+        ":*^9" => format!(in alloc; "{value:*^9}"),
+        ":+" => format!(in alloc; "{value:+}"),
         _ => return Ok(None),
-    }))
+    };
+    Ok(Some(text?))
 }
