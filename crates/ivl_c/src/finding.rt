@@ -36,7 +36,7 @@ fn least_from<R: Run>(runs: &[R], v: R::Bound) -> Option<R::Bound>
     least
 }
 
-/// The least number of a pair that is at least `v`.
+/// Returns the least number of a pair that is at least `v`.
 pub fn least_in<R: Run>(run: R, v: R::Bound) -> Option<R::Bound>
     ensures { IsNextIn (R.Bound.value v) (IsBetween (R.pair run)) (option_map R.Bound.value result) }
 {

@@ -20,7 +20,7 @@ use std::alloc::{AllocError, Global};
 pub enum OfOne {
     /// Its members.
     Same,
-    /// The numbers of the range that are no members.
+    /// The complement within the range.
     Rest,
 }
 

@@ -12,7 +12,7 @@ use intervallum::sweep::coalesce;
 use intervallum::width::Width;
 use std::alloc::{AllocError, Global};
 
-/// True exactly when each member of the pairs is in the range.
+/// Returns true exactly when each member of the pairs is in the range.
 pub fn are_inside<R: Run>(runs: &[R]) -> bool
     ensures { IsTrue result ↔ IsSubset (Covers (map R.pair runs.now)) (IsBetween R.Bound.whole) }
 {
@@ -38,7 +38,7 @@ fn is_crossed<R: Run>(run: R) -> bool
     run.upper() < run.lower()
 }
 
-/// The set of the members of the pairs.
+/// Returns the set of the members of the pairs.
 pub fn set_of<R: Run>(alloc: Global, runs: &[R]) -> Result<IntervalSet<R::Bound>, AllocError>
     requires { IsSubset (Covers (map R.pair runs.now)) (IsBetween R.Bound.whole) }
     ensures { IfOk result (λ L. IsRunsOf L (Covers (map R.pair runs.now))) }
@@ -62,7 +62,7 @@ fn interval_of<R: Run>(run: R) -> Interval<R::Bound>
     }
 }
 
-/// True exactly when some pair of the list has the number. `O(n)`.
+/// Returns true exactly when some pair of the list has the number. `O(n)`.
 pub fn contains<R: Run>(runs: &[R], v: R::Bound) -> bool
     ensures { IsTrue result ↔ Covers (map R.pair runs.now) (R.Bound.value v) }
 {

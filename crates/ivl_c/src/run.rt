@@ -11,15 +11,15 @@ pub trait Run: Copy {
     /// The numbers of the bounds.
     ghost pair: { Self → ℤ × ℤ };
 
-    /// The lower bound.
+    /// Returns the lower bound.
     fn lower(self) -> Self::Bound
         ensures { Self.Bound.value result ≡ (pair self).0 };
 
-    /// The upper bound.
+    /// Returns the upper bound.
     fn upper(self) -> Self::Bound
         ensures { Self.Bound.value result ≡ (pair self).1 };
 
-    /// The pair of two bounds.
+    /// Returns the pair of two bounds.
     fn of(lower: Self::Bound, upper: Self::Bound) -> Self
         ensures { pair result ≡ (Self.Bound.value lower, Self.Bound.value upper) };
 }

@@ -8,8 +8,8 @@ use intervallum::interval::Interval;
 use intervallum::ops::Range;
 use intervallum::width::Width;
 
-/// True exactly when no pair is crossed, each leaves a number free after the one before it, and all
-/// are in the range. `O(n)`.
+/// Returns true exactly when no pair is crossed, each leaves a number free after the one before it,
+/// and all are in the range. `O(n)`.
 pub fn is_run_list<R: Run>(runs: &[R]) -> bool
     ensures { IsTrue result ↔ IsRunListIn R.Bound.whole (map R.pair runs.now) }
 {
@@ -36,7 +36,7 @@ fn is_run<R: Run>(run: R) -> bool
     run.lower() <= run.upper() && Interval::in_range(run.lower(), run.upper())
 }
 
-/// True exactly when some number lies above a run and below another one.
+/// Returns true exactly when some number lies above a run and below another one.
 pub fn leaves_free<R: Run>(last: R, run: R) -> bool
     requires last { IsRunIn R.Bound.whole (R.pair last) }
     requires run { IsRunIn R.Bound.whole (R.pair run) }

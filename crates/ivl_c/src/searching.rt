@@ -83,7 +83,7 @@ fn search<R: Run>(runs: &[R], v: R::Bound) -> (usize, bool)
     (low, is_in)
 }
 
-/// The pair at a place, if there is one.
+/// Returns the pair at a place, if there is one.
 pub fn pair_at<R: Run>(runs: &[R], i: usize) -> Option<R>
     ensures { result ≡ slice_get runs.now i }
 {

@@ -22,7 +22,7 @@ pub extern "C" fn ivl_normalize_i64(alloc: Global, a: &[RunI64], out: &mut [RunI
     of_one(alloc, OfOne::Same, a, out)
 }
 
-/// The numbers of the range that are no members. `O(n log n)`.
+/// The complement within the range. `O(n log n)`.
 #[unsafe(no_mangle)]
 pub extern "C" fn ivl_complement_i64(alloc: Global, a: &[RunI64], out: &mut [RunI64]) -> i64
     ensures { AnswersSet range_i64 (members_i64 a.now) (Complement range_i64 (members_i64 a.now)) (pairs_i64 out.old) (pairs_i64 out.new) result }

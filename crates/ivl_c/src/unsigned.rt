@@ -22,7 +22,7 @@ pub extern "C" fn ivl_normalize_u64(alloc: Global, a: &[RunU64], out: &mut [RunU
     of_one(alloc, OfOne::Same, a, out)
 }
 
-/// The numbers of the range that are no members. `O(n log n)`.
+/// The complement within the range. `O(n log n)`.
 #[unsafe(no_mangle)]
 pub extern "C" fn ivl_complement_u64(alloc: Global, a: &[RunU64], out: &mut [RunU64]) -> i64
     ensures { AnswersSet range_u64 (members_u64 a.now) (Complement range_u64 (members_u64 a.now)) (pairs_u64 out.old) (pairs_u64 out.new) result }

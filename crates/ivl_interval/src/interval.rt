@@ -51,7 +51,7 @@ impl<B: Width> Clone for Interval<B> {
 
     ghost is_infallible = { λ _. ⊤ };
 
-    /// A copy. It takes no memory, so there is never an error.
+    /// Returns a copy. Does not allocate, so it never fails.
     fn clone(&self) -> Result<Self, AllocError> {
         Ok(*self)
     }

@@ -42,7 +42,7 @@ pub trait IntervalKind {}
 pub trait Empty {
     ghost members: { Self → ℤ → Type 0 };
 
-    /// A set with no member.
+    /// Returns an empty set.
     fn empty() -> Self
         ensures { HasNone (members result) };
 }
@@ -71,7 +71,7 @@ pub trait Bot {
 
     ghost whole: { ℤ × ℤ };
 
-    /// The numbers of the range, which every set entails.
+    /// Returns the numbers of the range, which every set entails.
     fn bot() -> Self
         ensures { SameMembers (members result) (IsBetween whole) };
 }
@@ -86,7 +86,7 @@ pub trait Whole {
 
     ghost whole: { ℤ × ℤ };
 
-    /// The numbers of the range.
+    /// Returns the numbers of the range.
     fn whole() -> Self
         ensures { SameMembers (members result) (IsBetween whole) };
 }
@@ -99,8 +99,8 @@ pub trait Whole {
 pub trait Singleton: Collection {
     ghost whole: { ℤ × ℤ };
 
-    /// The set of `item` alone. Condition: `item` is in the range, which `whole().contains(&item)`
-    /// tests.
+    /// Returns the set of `item` alone. The caller must ensure that `item` is in the range. Check
+    /// with `whole().contains(&item)`.
     fn singleton(item: Self::Item) -> Self
         requires { IsBetween whole (Self.number item) }
         ensures { SameMembers (Self.members result) (Only (Self.number item)) };
@@ -114,8 +114,9 @@ pub trait Singleton: Collection {
 pub trait Range: Collection {
     ghost whole: { ℤ × ℤ };
 
-    /// The items from `lb` to `ub`, both included; none where they cross. Condition: `lb` is not
-    /// below the range and `ub` is not above it, which `Interval::in_range(lb, ub)` tests.
+    /// Returns the items from `lb` to `ub`, both included; there are none if they cross. The caller
+    /// must ensure that `lb` is not below the range and `ub` is not above it. Check with
+    /// `Interval::in_range(lb, ub)`.
     fn new(lb: Self::Item, ub: Self::Item) -> Self
         requires { IsInRange whole (Self.number lb, Self.number ub) }
         ensures { SameMembers (Self.members result) (IsBetween (Self.number lb, Self.number ub)) };
@@ -128,13 +129,14 @@ pub trait Range: Collection {
 /// assert_eq!(rt; (a.lower(), a.upper()), (3, 8));
 /// ```
 pub trait Bounded: Collection {
-    /// The least member. Condition: there is one, which `is_empty` tests.
+    /// Returns the least member. The caller must ensure that there is one. Check with `is_empty`.
     fn lower(&self) -> Self::Item
         requires { HasSome (Self.members self.now) }
         ensures member { Self.members self.now (Self.number result) }
         ensures least { (z : ℤ) → Self.members self.now z → Self.number result ≤ℤ z };
 
-    /// The greatest member. Condition: there is one, which `is_empty` tests.
+    /// Returns the greatest member. The caller must ensure that there is one. Check with
+    /// `is_empty`.
     fn upper(&self) -> Self::Item
         requires { HasSome (Self.members self.now) }
         ensures member { Self.members self.now (Self.number result) }
@@ -276,8 +278,9 @@ pub trait Union<R> {
 
     ghost answers: { Self.Output → (ℤ → Type 0) → Type 0 };
 
-    /// The numbers that are a member of at least one of the two. Condition: a single value beside a
-    /// set is in the range, which `Interval::whole().contains(&value)` tests.
+    /// Returns the numbers that are members of at least one of the two. The caller must ensure that
+    /// a single value beside a set is in the range. Check with
+    /// `Interval::whole().contains(&value)`.
     fn union(&self, other: &R) -> Self::Output
         requires { can_unite self.now other.now }
         ensures { answers result (Union (members self.now) (other_members other.now)) };
@@ -298,7 +301,7 @@ pub trait Intersection<R> {
 
     ghost answers: { Self.Output → (ℤ → Type 0) → Type 0 };
 
-    /// The numbers that are a member of both.
+    /// Returns the numbers that are members of both.
     fn intersection(&self, other: &R) -> Self::Output
         ensures { answers result (Intersection (members self.now) (other_members other.now)) };
 }
@@ -318,7 +321,8 @@ pub trait Difference<R> {
 
     ghost answers: { Self.Output → (ℤ → Type 0) → Type 0 };
 
-    /// The members that are not in `other`, or what holds them where the answer is an interval.
+    /// Returns the members that are not in `other`, or what holds them where the answer is an
+    /// interval.
     fn difference(&self, other: &R) -> Self::Output
         ensures { answers result (Without (members self.now) (other_members other.now)) };
 }
@@ -342,8 +346,9 @@ pub trait SymmetricDifference<R> {
 
     ghost answers: { Self.Output → (ℤ → Type 0) → Type 0 };
 
-    /// The numbers that are a member of one of the two and not of the other. Condition: a single
-    /// value beside a set is in the range, which `Interval::whole().contains(&value)` tests.
+    /// Returns the numbers that are members of exactly one of the two. The caller must ensure that
+    /// a single value beside a set is in the range. Check with
+    /// `Interval::whole().contains(&value)`.
     fn symmetric_difference(&self, other: &R) -> Self::Output
         requires { can_unite self.now other.now }
         ensures { answers result (SymmetricDifference (members self.now) (other_members other.now)) };
@@ -367,8 +372,8 @@ pub trait Hull<R> {
 
     ghost answers: { Self.Output → (ℤ → Type 0) → Type 0 };
 
-    /// What holds the members of both. Condition: a single value is in the range, which
-    /// `Interval::whole().contains(&value)` tests.
+    /// Returns what holds the members of both. The caller must ensure that a single value is in the
+    /// range. Check with `Interval::whole().contains(&value)`.
     fn hull(&self, other: &R) -> Self::Output
         requires { can_join self.now other.now }
         ensures { answers result (Union (members self.now) (other_members other.now)) };
@@ -390,7 +395,7 @@ pub trait Complement {
 
     ghost answers: { Self.Output → (ℤ → Type 0) → Type 0 };
 
-    /// The numbers of the range that are not in the set.
+    /// Returns the numbers of the range that are not in the set.
     fn complement(&self) -> Self::Output
         ensures { answers result (Complement whole (members self.now)) };
 }
@@ -406,7 +411,7 @@ pub trait ShrinkLeft: Collection {
 
     ghost answers: { Self.Output → (ℤ → Type 0) → Type 0 };
 
-    /// The members that are at least `lower`, for any value of its type.
+    /// Returns the members that are at least `lower`, for any value of its type.
     fn shrink_left(&self, lower: Self::Item) -> Self::Output
         ensures { answers result (AtLeast (Self.number lower) (Self.members self.now)) };
 }
@@ -422,7 +427,7 @@ pub trait ShrinkRight: Collection {
 
     ghost answers: { Self.Output → (ℤ → Type 0) → Type 0 };
 
-    /// The members that are at most `upper`, for any value of its type.
+    /// Returns the members that are at most `upper`, for any value of its type.
     fn shrink_right(&self, upper: Self::Item) -> Self::Output
         ensures { answers result (AtMost (Self.number upper) (Self.members self.now)) };
 }
@@ -438,7 +443,7 @@ pub trait StrictShrinkLeft: Collection {
 
     ghost answers: { Self.Output → (ℤ → Type 0) → Type 0 };
 
-    /// The members above `lower`, for any value of its type.
+    /// Returns the members above `lower`, for any value of its type.
     fn strict_shrink_left(&self, lower: Self::Item) -> Self::Output
         ensures { answers result (Above (Self.number lower) (Self.members self.now)) };
 }
@@ -454,7 +459,7 @@ pub trait StrictShrinkRight: Collection {
 
     ghost answers: { Self.Output → (ℤ → Type 0) → Type 0 };
 
-    /// The members below `upper`, for any value of its type.
+    /// Returns the members below `upper`, for any value of its type.
     fn strict_shrink_right(&self, upper: Self::Item) -> Self::Output
         ensures { answers result (Below (Self.number upper) (Self.members self.now)) };
 }
@@ -473,7 +478,7 @@ pub trait Join: Sized {
 
     ghost answers: { Self.Output → (ℤ → Type 0) → Type 0 };
 
-    /// The members of both.
+    /// Returns the members of both.
     fn join(self, other: Self) -> Self::Output
         ensures { answers result (Intersection (members self) (members other)) };
 }
@@ -492,7 +497,7 @@ pub trait Meet: Sized {
 
     ghost answers: { Self.Output → (ℤ → Type 0) → Type 0 };
 
-    /// The members of at least one, or what holds them where the answer is an interval.
+    /// Returns the members of at least one, or what holds them where the answer is an interval.
     fn meet(self, other: Self) -> Self::Output
         ensures { answers result (Union (members self) (members other)) };
 }
@@ -506,7 +511,7 @@ pub trait Meet: Sized {
 pub trait Entailment {
     ghost members: { Self → ℤ → Type 0 };
 
-    /// `True` where each member is a member of `other`, else `False` where it is the other way
+    /// Returns `True` if each member is a member of `other`, else `False` if it is the other way
     /// round, else `Unknown`.
     fn entail(&self, other: &Self) -> SKleene
         ensures { IsEntailmentOf (members self.now) (members other.now) result };
@@ -525,8 +530,8 @@ pub trait ToInterval<B: Width> {
     /// The pair of numbers that the value stands for.
     ghost interval: { Self → ℤ × ℤ };
 
-    /// The interval that the value stands for. Condition: its bounds are not outside the range,
-    /// which `Interval::in_range` tests.
+    /// Returns the interval that the value stands for. The caller must ensure that its bounds are
+    /// not outside the range. Check with `Interval::in_range`.
     fn to_interval(self) -> Interval<B>
         requires { can_convert self }
         ensures members { SameMembers (IsBetween result) (IsBetween (interval self)) }

@@ -29,7 +29,7 @@ impl<T> Model for Optional<T> {
 }
 
 impl<T> Optional<T> {
-    /// None.
+    /// Returns an option with no value.
     ///
     /// ```
     /// assert!(rt; Optional::<i32>::empty().is_empty());
@@ -40,7 +40,7 @@ impl<T> Optional<T> {
         Optional { value: None }
     }
 
-    /// The value `x`.
+    /// Returns an option with the value `x`.
     ///
     /// ```
     /// assert_eq!(rt; Optional::singleton(5i32).as_ref(), Some(&5));
@@ -73,7 +73,7 @@ impl<T> Optional<T> {
         self.value.is_some()
     }
 
-    /// The value behind a reference, if there is one.
+    /// Returns the value behind a reference, if there is one.
     ///
     /// ```
     /// assert_eq!(rt; Optional::<i32>::empty().as_ref(), None);

@@ -25,7 +25,7 @@ pub trait SizeNumber: Ord + Copy {
     /// The greatest number of a value.
     ghost greatest: { ℕ };
 
-    /// The number of a value.
+    /// Returns the number of a value.
     ///
     /// ```
     /// assert_eq!(rt; <u8 as SizeNumber>::number(255), 255);
@@ -34,7 +34,7 @@ pub trait SizeNumber: Ord + Copy {
         ensures number { result ≡ size self }
         ensures at_most { size self ≤ greatest };
 
-    /// The value of a number; `None` if the number is above the greatest one.
+    /// Returns the value of a number; `None` if the number is above the greatest one.
     ///
     /// ```
     /// assert_eq!(rt; <u8 as SizeNumber>::from_number(256), None);
@@ -43,7 +43,7 @@ pub trait SizeNumber: Ord + Copy {
         ensures known { IsSome result ↔ (number ≤ greatest) }
         ensures same_number { IfSome result (λ x. size x ≡ number) };
 
-    /// The value of 0.
+    /// Returns the value of 0.
     ///
     /// ```
     /// assert_eq!(rt; <u8 as SizeNumber>::zero(), 0);
@@ -54,7 +54,7 @@ pub trait SizeNumber: Ord + Copy {
         Self::from_number(0).unwrap()
     }
 
-    /// The sum; `None` if it is not a number of the type.
+    /// Returns the sum; `None` if it is not a number of the type.
     ///
     /// ```
     /// assert_eq!(rt; <u8 as SizeNumber>::checked_add(200, 55), Some(255));
@@ -67,7 +67,7 @@ pub trait SizeNumber: Ord + Copy {
         Self::from_number(self.number().checked_add(other.number())?)
     }
 
-    /// The difference; `None` if it is negative.
+    /// Returns the difference; `None` if it is negative.
     ///
     /// ```
     /// assert_eq!(rt; <u8 as SizeNumber>::checked_sub(3, 4), None);
@@ -79,8 +79,8 @@ pub trait SizeNumber: Ord + Copy {
         Self::from_number(self.number().checked_sub(other.number())?)
     }
 
-    /// The sum, which the caller knows to be a number of the type. Condition: it is one, which
-    /// `checked_add(other).is_some()` tests.
+    /// Returns the sum. The caller must ensure that it is a number of the type. Check with
+    /// `checked_add(other).is_some()`.
     ///
     /// ```
     /// assert!(rt; <u8 as SizeNumber>::checked_add(200, 55).is_some());
@@ -128,7 +128,7 @@ pub trait Width: Ord + Copy {
     /// The least and the greatest number that an interval may have.
     ghost whole: { ℤ × ℤ };
 
-    /// The least value of the range.
+    /// Returns the least value of the range.
     ///
     /// ```
     /// assert_eq!(rt; <i8 as Width>::min_value(), -127);
@@ -136,7 +136,7 @@ pub trait Width: Ord + Copy {
     fn min_value() -> Self
         ensures { value result ≡ whole.0 };
 
-    /// The greatest value of the range.
+    /// Returns the greatest value of the range.
     ///
     /// ```
     /// assert_eq!(rt; <u8 as Width>::max_value(), 254);
@@ -144,7 +144,7 @@ pub trait Width: Ord + Copy {
     fn max_value() -> Self
         ensures { value result ≡ whole.1 };
 
-    /// The number of a value.
+    /// Returns the number of a value.
     ///
     /// ```
     /// assert_eq!(rt; <i8 as Width>::number(-128), -128);
@@ -152,7 +152,7 @@ pub trait Width: Ord + Copy {
     fn number(self) -> i128
         ensures { result ≡ value self };
 
-    /// The value of a number; `None` if the number is not in the range.
+    /// Returns the value of a number; `None` if the number is not in the range.
     ///
     /// ```
     /// assert_eq!(rt; <u8 as Width>::from_number(254), Some(254));
@@ -162,9 +162,9 @@ pub trait Width: Ord + Copy {
         ensures known { IsSome result ↔ IsBetween whole number }
         ensures same_number { IfSome result (λ x. value x ≡ number) };
 
-    /// How many numbers lie from `lower` to `upper`, both included. Condition: both are in the
-    /// range, and `lower` is at most `upper`, which `Interval::in_range(*lower, *upper)` and
-    /// `lower <= upper` test.
+    /// Returns how many numbers lie from `lower` to `upper`, both included. The caller must ensure
+    /// that both are in the range, and `lower` is at most `upper`. Check with
+    /// `Interval::in_range(*lower, *upper)` and `lower <= upper`.
     ///
     /// ```
     /// assert_eq!(rt; <i8 as Width>::width(&-127, &127), 255u8);
@@ -178,7 +178,7 @@ pub trait Width: Ord + Copy {
         Self::Output::from_number(last + 1).unwrap()
     }
 
-    /// The value of 0.
+    /// Returns the value of 0.
     ///
     /// ```
     /// assert_eq!(rt; <i8 as Width>::zero(), 0);
@@ -189,7 +189,7 @@ pub trait Width: Ord + Copy {
         Self::from_number(0).unwrap()
     }
 
-    /// The value of 1.
+    /// Returns the value of 1.
     ///
     /// ```
     /// assert_eq!(rt; <i8 as Width>::one(), 1);
@@ -200,7 +200,7 @@ pub trait Width: Ord + Copy {
         Self::from_number(1).unwrap()
     }
 
-    /// The sum; `None` if it is not in the range.
+    /// Returns the sum; `None` if it is not in the range.
     ///
     /// ```
     /// assert_eq!(rt; <u8 as Width>::checked_add(200, 54), Some(254));
@@ -213,7 +213,7 @@ pub trait Width: Ord + Copy {
         Self::from_number(self.number().checked_add(other.number())?)
     }
 
-    /// The difference; `None` if it is not in the range.
+    /// Returns the difference; `None` if it is not in the range.
     ///
     /// ```
     /// assert_eq!(rt; <u8 as Width>::checked_sub(3, 4), None);
@@ -225,7 +225,7 @@ pub trait Width: Ord + Copy {
         Self::from_number(self.number().checked_sub(other.number())?)
     }
 
-    /// The product; `None` if it is not in the range. Two numbers of 64 bits can have a
+    /// Returns the product; `None` if it is not in the range. Two numbers of 64 bits can have a
     /// product beyond 128 bits, which is outside every range.
     ///
     /// ```
@@ -238,8 +238,8 @@ pub trait Width: Ord + Copy {
         Self::from_number(self.number().checked_mul(other.number())?)
     }
 
-    /// The sum, which the caller knows to be in the range. Condition: it is, which
-    /// `checked_add(other).is_some()` tests.
+    /// Returns the sum. The caller must ensure that it is in the range. Check with
+    /// `checked_add(other).is_some()`.
     ///
     /// ```
     /// assert!(rt; <u8 as Width>::checked_add(200, 54).is_some());
@@ -252,8 +252,8 @@ pub trait Width: Ord + Copy {
         self.checked_add(other).unwrap()
     }
 
-    /// The difference, which the caller knows to be in the range. Condition: it is, which
-    /// `checked_sub(other).is_some()` tests.
+    /// Returns the difference. The caller must ensure that it is in the range. Check with
+    /// `checked_sub(other).is_some()`.
     ///
     /// ```
     /// assert!(rt; <i8 as Width>::checked_sub(3, 4).is_some());
@@ -266,8 +266,8 @@ pub trait Width: Ord + Copy {
         self.checked_sub(other).unwrap()
     }
 
-    /// The product, which the caller knows to be in the range. Condition: it is, which
-    /// `checked_mul(other).is_some()` tests.
+    /// Returns the product. The caller must ensure that it is in the range. Check with
+    /// `checked_mul(other).is_some()`.
     ///
     /// ```
     /// assert!(rt; <i8 as Width>::checked_mul(-64, 1).is_some());

@@ -57,7 +57,7 @@ impl From<ItemFault> for JsonFault {
 
     ghost from_gives = { λ fault same. same ≡ fault_of fault };
 
-    /// The same fault, of an interval that is read on its own.
+    /// Returns the same fault, of an interval that is read on its own.
     ///
     /// ```
     /// assert_eq!(rt; JsonFault::from(ItemFault::Length(3)), JsonFault::Length(3));

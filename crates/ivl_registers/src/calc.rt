@@ -56,14 +56,14 @@ impl<B: Width> Calc<B> {
         })
     }
 
-    /// How many registers there are. It never changes. `O(1)`. Does not allocate.
+    /// Returns how many registers there are. It never changes. `O(1)`. Does not allocate.
     pub fn registers(&self) -> usize
         ensures { result ≡ length self.now }
     {
         self.registers.len()
     }
 
-    /// The set in a register; `None` if the index has no register. `O(1)`. Does not
+    /// Returns the set in a register; `None` if the index has no register. `O(1)`. Does not
     /// allocate.
     pub fn get(&self, register: usize) -> Option<&IntervalSet<B>>
         ensures known { IsSome result ↔ (register < length self.now) }

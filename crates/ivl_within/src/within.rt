@@ -27,7 +27,7 @@ pub enum Combined {
     Difference,
 }
 
-/// The sums of a member of each that are in the range, and whether some sum is not. Has no
+/// Returns the sums of a member of each that are in the range, and whether some sum is not. Has no
 /// condition. A set with no member gives the set with none, and false.
 ///
 /// `O(n m log (n m))` for `n` and `m` runs. Allocates room for twice `n * m` runs.
@@ -52,8 +52,9 @@ pub fn add_within<B: Width>(
     Ok((combine_all(a, b, Combined::Sum)?, is_cut))
 }
 
-/// The differences of a member of `a` and one of `b` that are in the range, and whether some
-/// difference is not. Has no condition. A set with no member gives the set with none, and false.
+/// Returns the differences of a member of `a` and one of `b` that are in the range, and whether
+/// some difference is not. Has no condition. A set with no member gives the set with none, and
+/// false.
 ///
 /// `O(n m log (n m))` for `n` and `m` runs. Allocates room for twice `n * m` runs.
 ///

@@ -115,7 +115,8 @@ impl<B: Width> Add<Interval<B>> for Interval<B> {
 
     ghost add_gives = { λ a b r. SameMembers (IsBetween r) (Sums (IsBetween a) (IsBetween b)) };
 
-    /// The sums of a member of each, and nothing else. Condition: `fits_add`.
+    /// Returns the sums of a member of each, and nothing else. The caller must ensure that the sums
+    /// are in the range. Check with `fits_add`.
     ///
     /// ```
     /// let (a, b) = (Interval::new(1i32, 2), Interval::new(10, 20));
@@ -134,7 +135,8 @@ impl<B: Width> Add<&Interval<B>> for Interval<B> {
 
     ghost add_gives = { λ a b r. SameMembers (IsBetween r) (Sums (IsBetween a) (IsBetween b.now)) };
 
-    /// The sums of a member of each, and nothing else. Condition: `fits_add`.
+    /// Returns the sums of a member of each, and nothing else. The caller must ensure that the sums
+    /// are in the range. Check with `fits_add`.
     fn add(self, rhs: &Interval<B>) -> Interval<B> {
         sums(self, *rhs)
     }
@@ -147,7 +149,8 @@ impl<B: Width> Add<Interval<B>> for &Interval<B> {
 
     ghost add_gives = { λ a b r. SameMembers (IsBetween r) (Sums (IsBetween a.now) (IsBetween b)) };
 
-    /// The sums of a member of each, and nothing else. Condition: `fits_add`.
+    /// Returns the sums of a member of each, and nothing else. The caller must ensure that the sums
+    /// are in the range. Check with `fits_add`.
     fn add(self, rhs: Interval<B>) -> Interval<B> {
         sums(*self, rhs)
     }
@@ -160,7 +163,8 @@ impl<B: Width> Add<&Interval<B>> for &Interval<B> {
 
     ghost add_gives = { λ a b r. SameMembers (IsBetween r) (Sums (IsBetween a.now) (IsBetween b.now)) };
 
-    /// The sums of a member of each, and nothing else. Condition: `fits_add`.
+    /// Returns the sums of a member of each, and nothing else. The caller must ensure that the sums
+    /// are in the range. Check with `fits_add`.
     fn add(self, rhs: &Interval<B>) -> Interval<B> {
         sums(*self, *rhs)
     }
@@ -173,7 +177,8 @@ impl<B: Width> Add<B> for Interval<B> {
 
     ghost add_gives = { λ a x r. SameMembers (IsBetween r) (Sums (IsBetween a) (Only (B.value x))) };
 
-    /// The sums of a member and the value. Condition: `fits_add`.
+    /// Returns the sums of a member and the value. The caller must ensure that the sums are in the
+    /// range. Check with `fits_add`.
     ///
     /// ```
     /// let a = Interval::new(1i32, 2);
@@ -192,7 +197,8 @@ impl<B: Width> Add<&B> for Interval<B> {
 
     ghost add_gives = { λ a x r. SameMembers (IsBetween r) (Sums (IsBetween a) (Only (B.value x.now))) };
 
-    /// The sums of a member and the value. Condition: `fits_add`.
+    /// Returns the sums of a member and the value. The caller must ensure that the sums are in the
+    /// range. Check with `fits_add`.
     fn add(self, rhs: &B) -> Interval<B> {
         sums_with(self, *rhs)
     }
@@ -205,7 +211,8 @@ impl<B: Width> Add<B> for &Interval<B> {
 
     ghost add_gives = { λ a x r. SameMembers (IsBetween r) (Sums (IsBetween a.now) (Only (B.value x))) };
 
-    /// The sums of a member and the value. Condition: `fits_add`.
+    /// Returns the sums of a member and the value. The caller must ensure that the sums are in the
+    /// range. Check with `fits_add`.
     fn add(self, rhs: B) -> Interval<B> {
         sums_with(*self, rhs)
     }
@@ -218,7 +225,8 @@ impl<B: Width> Add<&B> for &Interval<B> {
 
     ghost add_gives = { λ a x r. SameMembers (IsBetween r) (Sums (IsBetween a.now) (Only (B.value x.now))) };
 
-    /// The sums of a member and the value. Condition: `fits_add`.
+    /// Returns the sums of a member and the value. The caller must ensure that the sums are in the
+    /// range. Check with `fits_add`.
     fn add(self, rhs: &B) -> Interval<B> {
         sums_with(*self, *rhs)
     }
@@ -231,7 +239,8 @@ impl<B: Width> Sub<Interval<B>> for Interval<B> {
 
     ghost sub_gives = { λ a b r. SameMembers (IsBetween r) (Differences (IsBetween a) (IsBetween b)) };
 
-    /// The differences of a member of each, and nothing else. Condition: `fits_sub`.
+    /// Returns the differences of a member of each, and nothing else. The caller must ensure that
+    /// the differences are in the range. Check with `fits_sub`.
     ///
     /// ```
     /// let (a, b) = (Interval::new(1i32, 2), Interval::new(10, 20));
@@ -250,7 +259,8 @@ impl<B: Width> Sub<&Interval<B>> for Interval<B> {
 
     ghost sub_gives = { λ a b r. SameMembers (IsBetween r) (Differences (IsBetween a) (IsBetween b.now)) };
 
-    /// The differences of a member of each, and nothing else. Condition: `fits_sub`.
+    /// Returns the differences of a member of each, and nothing else. The caller must ensure that
+    /// the differences are in the range. Check with `fits_sub`.
     fn sub(self, rhs: &Interval<B>) -> Interval<B> {
         differences(self, *rhs)
     }
@@ -263,7 +273,8 @@ impl<B: Width> Sub<Interval<B>> for &Interval<B> {
 
     ghost sub_gives = { λ a b r. SameMembers (IsBetween r) (Differences (IsBetween a.now) (IsBetween b)) };
 
-    /// The differences of a member of each, and nothing else. Condition: `fits_sub`.
+    /// Returns the differences of a member of each, and nothing else. The caller must ensure that
+    /// the differences are in the range. Check with `fits_sub`.
     fn sub(self, rhs: Interval<B>) -> Interval<B> {
         differences(*self, rhs)
     }
@@ -276,7 +287,8 @@ impl<B: Width> Sub<&Interval<B>> for &Interval<B> {
 
     ghost sub_gives = { λ a b r. SameMembers (IsBetween r) (Differences (IsBetween a.now) (IsBetween b.now)) };
 
-    /// The differences of a member of each, and nothing else. Condition: `fits_sub`.
+    /// Returns the differences of a member of each, and nothing else. The caller must ensure that
+    /// the differences are in the range. Check with `fits_sub`.
     fn sub(self, rhs: &Interval<B>) -> Interval<B> {
         differences(*self, *rhs)
     }
@@ -289,7 +301,8 @@ impl<B: Width> Sub<B> for Interval<B> {
 
     ghost sub_gives = { λ a x r. SameMembers (IsBetween r) (Differences (IsBetween a) (Only (B.value x))) };
 
-    /// The differences of a member and the value. Condition: `fits_sub`.
+    /// Returns the differences of a member and the value. The caller must ensure that the
+    /// differences are in the range. Check with `fits_sub`.
     ///
     /// ```
     /// let a = Interval::new(1i32, 2);
@@ -308,7 +321,8 @@ impl<B: Width> Sub<&B> for Interval<B> {
 
     ghost sub_gives = { λ a x r. SameMembers (IsBetween r) (Differences (IsBetween a) (Only (B.value x.now))) };
 
-    /// The differences of a member and the value. Condition: `fits_sub`.
+    /// Returns the differences of a member and the value. The caller must ensure that the
+    /// differences are in the range. Check with `fits_sub`.
     fn sub(self, rhs: &B) -> Interval<B> {
         differences_with(self, *rhs)
     }
@@ -321,7 +335,8 @@ impl<B: Width> Sub<B> for &Interval<B> {
 
     ghost sub_gives = { λ a x r. SameMembers (IsBetween r) (Differences (IsBetween a.now) (Only (B.value x))) };
 
-    /// The differences of a member and the value. Condition: `fits_sub`.
+    /// Returns the differences of a member and the value. The caller must ensure that the
+    /// differences are in the range. Check with `fits_sub`.
     fn sub(self, rhs: B) -> Interval<B> {
         differences_with(*self, rhs)
     }
@@ -334,7 +349,8 @@ impl<B: Width> Sub<&B> for &Interval<B> {
 
     ghost sub_gives = { λ a x r. SameMembers (IsBetween r) (Differences (IsBetween a.now) (Only (B.value x.now))) };
 
-    /// The differences of a member and the value. Condition: `fits_sub`.
+    /// Returns the differences of a member and the value. The caller must ensure that the
+    /// differences are in the range. Check with `fits_sub`.
     fn sub(self, rhs: &B) -> Interval<B> {
         differences_with(*self, *rhs)
     }
@@ -347,7 +363,8 @@ impl<B: Width> Mul<Interval<B>> for Interval<B> {
 
     ghost mul_gives = { λ a b r. IsHullOf r (ExactProducts (IsBetween a) (IsBetween b)) };
 
-    /// The least interval that holds the products of a member of each. Condition: `fits_mul`.
+    /// Returns the least interval that holds the products of a member of each. The caller must
+    /// ensure that the products are in the range. Check with `fits_mul`.
     ///
     /// ```
     /// let (a, b) = (Interval::new(1i32, 2), Interval::new(10, 20));
@@ -366,7 +383,8 @@ impl<B: Width> Mul<&Interval<B>> for Interval<B> {
 
     ghost mul_gives = { λ a b r. IsHullOf r (ExactProducts (IsBetween a) (IsBetween b.now)) };
 
-    /// The least interval that holds the products of a member of each. Condition: `fits_mul`.
+    /// Returns the least interval that holds the products of a member of each. The caller must
+    /// ensure that the products are in the range. Check with `fits_mul`.
     fn mul(self, rhs: &Interval<B>) -> Interval<B> {
         products(self, *rhs)
     }
@@ -379,7 +397,8 @@ impl<B: Width> Mul<Interval<B>> for &Interval<B> {
 
     ghost mul_gives = { λ a b r. IsHullOf r (ExactProducts (IsBetween a.now) (IsBetween b)) };
 
-    /// The least interval that holds the products of a member of each. Condition: `fits_mul`.
+    /// Returns the least interval that holds the products of a member of each. The caller must
+    /// ensure that the products are in the range. Check with `fits_mul`.
     fn mul(self, rhs: Interval<B>) -> Interval<B> {
         products(*self, rhs)
     }
@@ -392,7 +411,8 @@ impl<B: Width> Mul<&Interval<B>> for &Interval<B> {
 
     ghost mul_gives = { λ a b r. IsHullOf r (ExactProducts (IsBetween a.now) (IsBetween b.now)) };
 
-    /// The least interval that holds the products of a member of each. Condition: `fits_mul`.
+    /// Returns the least interval that holds the products of a member of each. The caller must
+    /// ensure that the products are in the range. Check with `fits_mul`.
     fn mul(self, rhs: &Interval<B>) -> Interval<B> {
         products(*self, *rhs)
     }
@@ -405,7 +425,8 @@ impl<B: Width> Mul<B> for Interval<B> {
 
     ghost mul_gives = { λ a x r. IsHullOf r (ExactProducts (IsBetween a) (Only (B.value x))) };
 
-    /// The least interval that holds the products of a member and the value. Condition: `fits_mul`.
+    /// Returns the least interval that holds the products of a member and the value. The caller
+    /// must ensure that the products are in the range. Check with `fits_mul`.
     ///
     /// In the original a negative value crosses the bounds of an interval of several members.
     ///
@@ -426,7 +447,8 @@ impl<B: Width> Mul<&B> for Interval<B> {
 
     ghost mul_gives = { λ a x r. IsHullOf r (ExactProducts (IsBetween a) (Only (B.value x.now))) };
 
-    /// The least interval that holds the products of a member and the value. Condition: `fits_mul`.
+    /// Returns the least interval that holds the products of a member and the value. The caller
+    /// must ensure that the products are in the range. Check with `fits_mul`.
     fn mul(self, rhs: &B) -> Interval<B> {
         products_with(self, *rhs)
     }
@@ -439,7 +461,8 @@ impl<B: Width> Mul<B> for &Interval<B> {
 
     ghost mul_gives = { λ a x r. IsHullOf r (ExactProducts (IsBetween a.now) (Only (B.value x))) };
 
-    /// The least interval that holds the products of a member and the value. Condition: `fits_mul`.
+    /// Returns the least interval that holds the products of a member and the value. The caller
+    /// must ensure that the products are in the range. Check with `fits_mul`.
     fn mul(self, rhs: B) -> Interval<B> {
         products_with(*self, rhs)
     }
@@ -452,7 +475,8 @@ impl<B: Width> Mul<&B> for &Interval<B> {
 
     ghost mul_gives = { λ a x r. IsHullOf r (ExactProducts (IsBetween a.now) (Only (B.value x.now))) };
 
-    /// The least interval that holds the products of a member and the value. Condition: `fits_mul`.
+    /// Returns the least interval that holds the products of a member and the value. The caller
+    /// must ensure that the products are in the range. Check with `fits_mul`.
     fn mul(self, rhs: &B) -> Interval<B> {
         products_with(*self, *rhs)
     }

@@ -26,8 +26,8 @@ impl<B: Width> Interval<B> {
         lb >= B::min_value() && ub <= B::max_value()
     }
 
-    /// The lower bound as it is stored, also where there is no member. Intervals can be put in
-    /// order by it without a test of each; what is least in an interval is told by `lower`.
+    /// Returns the lower bound as it is stored, also where there is no member. Intervals can be put
+    /// in order by it without a test of each; what is least in an interval is told by `lower`.
     ///
     /// ```
     /// assert_eq!(rt; Interval::new(8i32, 3).lower_bound(), 8);
@@ -38,7 +38,7 @@ impl<B: Width> Interval<B> {
         self.lb
     }
 
-    /// Each member is in the range. This does nothing: its contract is the fact.
+    /// Does nothing: its contract states that each member is in the range.
     ///
     /// ```
     /// let a = Interval::new(3i32, 8);
@@ -62,7 +62,8 @@ impl<B: Width> IntervalKind for Interval<B> {}
 impl<B: Width> Range for Interval<B> {
     ghost whole = { B.whole };
 
-    /// The numbers from `lb` to `ub`; none where `lb` is above `ub`. Condition: `in_range(lb, ub)`.
+    /// Returns the interval from `lb` to `ub`, which is empty if `lb` is above `ub`. The caller
+    /// must ensure `in_range(lb, ub)`.
     ///
     /// ```
     /// assert_eq!(rt; Interval::new(1i32, 5).size(), 5);
@@ -80,7 +81,7 @@ impl<B: Width> Range for Interval<B> {
 impl<B: Width> Empty for Interval<B> {
     ghost members = { IsBetween };
 
-    /// An interval with no member.
+    /// Returns an empty interval.
     ///
     /// ```
     /// assert!(rt; !Interval::<i32>::empty().contains(&0));
@@ -96,7 +97,7 @@ impl<B: Width> Empty for Interval<B> {
 impl<B: Width> Top for Interval<B> {
     ghost members = { IsBetween };
 
-    /// An interval with no member, which entails every other.
+    /// Returns an empty interval, which entails every other.
     ///
     /// ```
     /// assert_eq!(rt; Interval::top().entail(&Interval::new(1i32, 2)), SKleene::True);
@@ -114,7 +115,7 @@ impl<B: Width> Whole for Interval<B> {
 
     ghost whole = { B.whole };
 
-    /// The range of `B`. A value is in the range where `whole().contains(&value)` is true.
+    /// Returns the range of `B`. A value is in the range where `whole().contains(&value)` is true.
     ///
     /// ```
     /// let range = Interval::<i8>::whole();
@@ -133,7 +134,7 @@ impl<B: Width> Bot for Interval<B> {
 
     ghost whole = { B.whole };
 
-    /// The range of `B`, which every interval entails.
+    /// Returns the range of `B`, which every interval entails.
     ///
     /// ```
     /// assert_eq!(rt; Interval::new(1i32, 2).entail(&Interval::bot()), SKleene::True);
@@ -149,8 +150,8 @@ impl<B: Width> Bot for Interval<B> {
 impl<B: Width> Singleton for Interval<B> {
     ghost whole = { B.whole };
 
-    /// The interval of `item` alone. Condition: `item` is in the range, which
-    /// `whole().contains(&item)` tests.
+    /// Returns the interval of `item` alone. The caller must ensure that `item` is in the range.
+    /// Check with `whole().contains(&item)`.
     ///
     /// ```
     /// assert_eq!(rt; Interval::singleton(5i32).size(), 1);
@@ -165,7 +166,7 @@ impl<B: Width> Singleton for Interval<B> {
 }
 
 impl<B: Width> Bounded for Interval<B> {
-    /// The least member. Condition: there is one, which `is_empty` tests.
+    /// Returns the least member. The caller must ensure that there is one. Check with `is_empty`.
     ///
     /// ```
     /// assert_eq!(rt; Interval::new(3i32, 8).lower(), 3);
@@ -180,7 +181,8 @@ impl<B: Width> Bounded for Interval<B> {
         self.lb
     }
 
-    /// The greatest member. Condition: there is one, which `is_empty` tests.
+    /// Returns the greatest member. The caller must ensure that there is one. Check with
+    /// `is_empty`.
     ///
     /// ```
     /// assert_eq!(rt; Interval::new(3i32, 8).upper(), 8);

@@ -13,7 +13,7 @@ impl<B: Width> ToInterval<B> for Interval<B> {
 
     ghost interval = { λ p. p };
 
-    /// The interval itself.
+    /// Returns the interval itself.
     ///
     /// ```
     /// let a = Interval::new(1i32, 5);
@@ -34,8 +34,8 @@ impl<B: Width> ToInterval<B> for (B, B) {
 
     ghost interval = { λ bounds. (B.value bounds.0, B.value bounds.1) };
 
-    /// The numbers from the first bound to the second; none where they cross. Condition:
-    /// `Interval::in_range` of the two.
+    /// Returns the interval from the first bound to the second, which is empty if they cross. The
+    /// caller must ensure that no bound is outside the range. Check with `Interval::in_range`.
     ///
     /// ```
     /// let pair: Interval<i32> = (1, 5).to_interval();
@@ -56,7 +56,7 @@ impl<B: Width> ToInterval<B> for () {
 
     ghost interval = { λ _. (pos 1, pos 0) };
 
-    /// No number.
+    /// Returns an empty interval.
     ///
     /// ```
     /// let none: Interval<i32> = ().to_interval();
@@ -76,8 +76,8 @@ impl<B: Width> ToInterval<B> for B {
 
     ghost interval = { λ x. (B.value x, B.value x) };
 
-    /// The value alone. Condition: it is in the range, which `Interval::whole().contains(&value)`
-    /// tests.
+    /// Returns the value alone. The caller must ensure that it is in the range. Check with
+    /// `Interval::whole().contains(&value)`.
     ///
     /// ```
     /// let five: Interval<i32> = 5.to_interval();
@@ -98,8 +98,8 @@ impl<B: Width> ToInterval<B> for RangeInclusive<B> {
 
     ghost interval = { λ range. (B.value (range_inclusive_start range), B.value (range_inclusive_end range)) };
 
-    /// The numbers from the start to the end of `a..=b`; none where they cross. Condition:
-    /// `Interval::in_range` of the two.
+    /// Returns the interval from the start to the end of `a..=b`, which is empty if they cross. The
+    /// caller must ensure that no bound is outside the range. Check with `Interval::in_range`.
     ///
     /// ```
     /// let crossed: Interval<i32> = (8..=3).to_interval();
@@ -121,8 +121,8 @@ impl<B: Width> ToInterval<B> for RangeFrom<B> {
 
     ghost interval = { λ range. (B.value range.start, B.whole.1) };
 
-    /// The numbers of the range from the start of `a..` on. Condition: the start is in the range,
-    /// which `Interval::whole().contains(&start)` tests.
+    /// Returns the numbers of the range from the start of `a..` on. The caller must ensure that the
+    /// start is in the range. Check with `Interval::whole().contains(&start)`.
     ///
     /// ```
     /// let high: Interval<u8> = (250..).to_interval();
@@ -143,8 +143,8 @@ impl<B: Width> ToInterval<B> for RangeToInclusive<B> {
 
     ghost interval = { λ range. (B.whole.0, B.value range.end) };
 
-    /// The numbers of the range up to the end of `..=b`. Condition: the end is in the range, which
-    /// `Interval::whole().contains(&end)` tests.
+    /// Returns the numbers of the range up to the end of `..=b`. The caller must ensure that the
+    /// end is in the range. Check with `Interval::whole().contains(&end)`.
     ///
     /// ```
     /// let low: Interval<u8> = (..=5).to_interval();

@@ -50,7 +50,7 @@ impl<B: Width> Intersection<Interval<B>> for Interval<B> {
 
     ghost answers = { λ p S. SameMembers (IsBetween p) S };
 
-    /// The numbers that are a member of both.
+    /// Returns the numbers that are members of both.
     ///
     /// ```
     /// let a = Interval::new(1i32, 3);
@@ -73,8 +73,8 @@ impl<B: Width> Difference<Interval<B>> for Interval<B> {
 
     ghost answers = { IsHullOf };
 
-    /// The least interval that holds the members that are not in `other`. So a hole in the middle
-    /// is not cut: `[0..9]` without `[4..5]` is `[0..9]`.
+    /// Returns the least interval that holds the members that are not in `other`. So a hole in the
+    /// middle is not cut: `[0..9]` without `[4..5]` is `[0..9]`.
     ///
     /// ```
     /// let a = Interval::new(0u8, 9);
@@ -136,7 +136,7 @@ impl<B: Width> Hull<Interval<B>> for Interval<B> {
 
     ghost answers = { IsHullOf };
 
-    /// The least interval that holds both.
+    /// Returns the least interval that holds both.
     ///
     /// ```
     /// let a = Interval::new(1i32, 2);
@@ -190,7 +190,7 @@ impl<B: Width> Join for Interval<B> {
 
     ghost answers = { λ p S. SameMembers (IsBetween p) S };
 
-    /// The intersection.
+    /// Returns the intersection.
     ///
     /// ```
     /// assert_eq!(rt; Interval::new(1i32, 2).join(Interval::new(2, 3)), Interval::new(2, 2));
@@ -207,7 +207,7 @@ impl<B: Width> Meet for Interval<B> {
 
     ghost answers = { IsHullOf };
 
-    /// The hull.
+    /// Returns the hull.
     ///
     /// ```
     /// assert_eq!(rt; Interval::new(1i32, 2).meet(Interval::new(5, 6)), Interval::new(1, 6));
@@ -220,7 +220,7 @@ impl<B: Width> Meet for Interval<B> {
 impl<B: Width> Entailment for Interval<B> {
     ghost members = { IsBetween };
 
-    /// `True` where `other` includes this interval, else `False` where this one includes `other`,
+    /// Returns `True` if `other` includes this interval, else `False` if this one includes `other`,
     /// else `Unknown`. So `[1..2]` entails `[0..10]`.
     ///
     /// ```

@@ -11,7 +11,7 @@ impl<B: Width> ShrinkLeft for Interval<B> {
 
     ghost answers = { λ p S. SameMembers (IsBetween p) S };
 
-    /// The members that are at least `lower`, which may be any value of its type.
+    /// Returns the members that are at least `lower`, which may be any value of its type.
     ///
     /// ```
     /// let a = Interval::new(1u8, 9);
@@ -28,7 +28,7 @@ impl<B: Width> ShrinkRight for Interval<B> {
 
     ghost answers = { λ p S. SameMembers (IsBetween p) S };
 
-    /// The members that are at most `upper`, which may be any value of its type.
+    /// Returns the members that are at most `upper`, which may be any value of its type.
     ///
     /// ```
     /// let a = Interval::new(1u8, 9);
@@ -45,7 +45,7 @@ impl<B: Width> StrictShrinkLeft for Interval<B> {
 
     ghost answers = { λ p S. SameMembers (IsBetween p) S };
 
-    /// The members above `lower`, which may be any value of its type.
+    /// Returns the members above `lower`, which may be any value of its type.
     ///
     /// ```
     /// let a = Interval::new(1u8, 9);
@@ -69,7 +69,7 @@ impl<B: Width> StrictShrinkRight for Interval<B> {
 
     ghost answers = { λ p S. SameMembers (IsBetween p) S };
 
-    /// The members below `upper`, which may be any value of its type.
+    /// Returns the members below `upper`, which may be any value of its type.
     ///
     /// ```
     /// let a = Interval::new(1u8, 9);

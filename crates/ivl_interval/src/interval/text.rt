@@ -11,7 +11,7 @@ impl<B: Width + fmt::Display> fmt::Display for Interval<B> {
 
     ghost styled_output = { λ p _. styled_interval_text p };
 
-    /// `{}` where there is no member, else `[1..5]` with the two bounds. Width and fill of the
+    /// Writes `{}` if there is no member, else `[1..5]` with the two bounds. Width and fill of the
     /// formatter have no effect.
     ///
     /// The only errors are those of the formatter and of the texts of the bounds.

@@ -51,7 +51,8 @@ impl<B: Width> Intersection<B> for Interval<B> {
 
     ghost answers = { λ p S. SameMembers (IsBetween p) S };
 
-    /// The value alone where it is a member, else no number; for any value of its type.
+    /// Returns the value alone if it is a member, else an empty interval. It may be any value of
+    /// its type.
     ///
     /// ```
     /// let a = Interval::new(3i32, 8);
@@ -71,7 +72,8 @@ impl<B: Width> Difference<B> for Interval<B> {
 
     ghost answers = { IsHullOf };
 
-    /// The least interval that holds the members but the value; for any value of its type.
+    /// Returns the least interval that holds the members except the value, which may be any value
+    /// of its type.
     ///
     /// The original adds to a stored lower bound or takes from a stored upper one that equals the
     /// value, and so overflows at `empty().difference(&0)` of `u32` and at
@@ -104,8 +106,8 @@ impl<B: Width> Hull<B> for Interval<B> {
 
     ghost answers = { IsHullOf };
 
-    /// The least interval that holds the members and the value. Condition: the value is in the
-    /// range, which `whole().contains(other)` tests.
+    /// Returns the least interval that holds the members and the value. The caller must ensure that
+    /// the value is in the range. Check with `whole().contains(other)`.
     ///
     /// ```
     /// let a = Interval::new(3i32, 8);
@@ -160,7 +162,7 @@ impl<B: Width> Intersection<Optional<B>> for Interval<B> {
 
     ghost answers = { λ p S. SameMembers (IsBetween p) S };
 
-    /// The value alone where there is one and it is a member, else no number.
+    /// Returns the value alone if there is one and it is a member, else an empty interval.
     ///
     /// ```
     /// let a = Interval::new(3i32, 8);
@@ -183,7 +185,8 @@ impl<B: Width> Difference<Optional<B>> for Interval<B> {
 
     ghost answers = { IsHullOf };
 
-    /// The least interval that holds the members but the value; where there is none, the interval.
+    /// Returns the least interval that holds the members except the value; without a value, the
+    /// interval itself.
     ///
     /// ```
     /// let a = Interval::new(3i32, 8);
@@ -240,8 +243,8 @@ impl<B: Width> Hull<Interval<B>> for B {
 
     ghost answers = { IsHullOf };
 
-    /// The least interval that holds the value and the members of `other`. Condition: the value is
-    /// in the range, which `whole().contains(self)` tests.
+    /// Returns the least interval that holds the value and the members of `other`. The caller must
+    /// ensure that the value is in the range. Check with `whole().contains(self)`.
     ///
     /// ```
     /// let a = Interval::new(3i32, 8);
@@ -293,7 +296,7 @@ impl<B: Width> Intersection<Interval<B>> for Optional<B> {
 
     ghost answers = { λ o S. SameMembers (Held (option_map B.value o)) S };
 
-    /// The value itself where it is a member of `other`, else none.
+    /// Returns the value if it is a member of `other`, else no value.
     ///
     /// ```
     /// let a = Interval::new(3i32, 8);
@@ -320,7 +323,7 @@ impl<B: Width> Difference<Interval<B>> for Optional<B> {
 
     ghost answers = { λ o S. SameMembers (Held (option_map B.value o)) S };
 
-    /// The value itself where it is no member of `other`, else none.
+    /// Returns the value if it is not a member of `other`, else no value.
     ///
     /// ```
     /// let a = Interval::new(3i32, 8);
