@@ -2,6 +2,7 @@
 //! has advanced and how often a search has looked.
 mod combine;
 mod differences;
+mod looks;
 mod merge;
 mod places;
 mod probes;
