@@ -127,9 +127,13 @@ impl<B: Width> IntervalSet<B> {
     /// Adds the members of every interval that an iterator gives, in any order; an interval with no
     /// member adds nothing. Condition: the iterator comes to its end.
     ///
-    /// All items are gathered first and the set is changed last: after an error, which is want of
-    /// memory, it is as it was. `O(k log k + n)` for `k` items and `n` runs, in memory for
-    /// `2 k + n` runs besides what the gathering of the items leaves over.
+    /// A single item is added in place, as by `insert_interval`. Several are gathered first, and the
+    /// set is changed last. After an error, which is want of memory, the set is as it was.
+    ///
+    /// For one item `O(log n + j)`, where it meets `j` of the `n` runs, and `O(n)` where the number of
+    /// runs changes; memory is taken only where a run is added and there is no room for it. For more,
+    /// `O(k log k + n)` for `k` items, in memory for `2 k + n` runs besides what the gathering of the
+    /// items leaves over.
     ///
     /// ```
     /// let mut a = IntervalSet::new(alloc, 1, 2)?;
@@ -138,31 +142,43 @@ impl<B: Width> IntervalSet<B> {
     /// ```
     pub fn extend<I: Iterator<Item = Interval<B>> + Drop>(
         &mut self,
-        iterator: I,
+        mut iterator: I,
     ) -> Result<(), AllocError>
         requires can { I.can_next iterator }
         requires ends { IsFinite (I.remaining iterator) }
         ensures ok { OnOk result ((items : List (ℤ × ℤ)) × Drains I.next_gives iterator items × IsRunsOf self.new (Union (Covers self.old) (Covers items))) }
         ensures err { OnErr result (self.new ≡ self.old) }
     {
-        let added = gathered(self.allocator(), iterator)?;
+        self.in_whole();
+        let Some(first) = iterator.next() else {
+            return Ok(());
+        };
+        let Some(second) = iterator.next() else {
+            return self.insert_interval(first);
+        };
+        let added = gathered(self.allocator(), first, second, iterator)?;
         let all = self.union(&added)?;
         *self = all;
         Ok(())
     }
 }
 
-/// The set of the members of all items.
+/// The set of the members of two items and all others of an iterator.
 fn gathered<B: Width, I: Iterator<Item = Interval<B>> + Drop>(
     alloc: Global,
-    iterator: I,
+    first: Interval<B>,
+    second: Interval<B>,
+    others: I,
 ) -> Result<IntervalSet<B>, AllocError>
-    requires can { I.can_next iterator }
-    requires ends { IsFinite (I.remaining iterator) }
-    ensures { IfOk result (λ L. (items : List (ℤ × ℤ)) × Drains I.next_gives iterator items × IsRunsOf L (Covers items)) }
+    requires can { I.can_next others }
+    requires ends { IsFinite (I.remaining others) }
+    ensures { IfOk result (λ L. (items : List (ℤ × ℤ)) × Drains I.next_gives others items × IsRunsOf L (Covers (first ∷ second ∷ items))) }
 {
-    let mut list = Vec::new(alloc);
-    for run in iterator {
+    let (at_least, _) = others.size_hint();
+    let mut list = Vec::with_capacity(alloc, at_least.saturating_add(2))?;
+    list.push(first)?;
+    list.push(second)?;
+    for run in others {
         list.push(run)?;
     }
     coalesce(alloc, list)
