@@ -21,7 +21,8 @@ impl Calendar {
         }
     }
 
-    /// The answer to a line: what was asked, or what is wrong with the line, which then changes nothing.
+    /// Returns the answer to a line: what was asked, or what is wrong with the line, which then
+    /// changes nothing.
     pub fn answer(&mut self, alloc: Global, line: &str) -> Result<String, AllocError> {
         let (name, words) = next_word(line).unwrap_or(("", ""));
         match name {

@@ -40,7 +40,7 @@ impl Room {
         }
     }
 
-    /// The days on which the room is busy.
+    /// Returns the days on which the room is busy.
     pub fn busy(&self) -> &IntervalSet<i32>
         ensures { result.now ≡ self.now }
     {

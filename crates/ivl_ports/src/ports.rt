@@ -43,14 +43,14 @@ impl Ports {
         })
     }
 
-    /// The free ports.
+    /// Returns the free ports.
     pub fn free(&self) -> &IntervalSet<u32>
         ensures { result.now ≡ self.now }
     {
         &self.free
     }
 
-    /// How many ports are free.
+    /// Returns how many ports are free.
     pub fn free_count(&self) -> u32
         ensures { IsCountOf result (Covers self.now) }
     {

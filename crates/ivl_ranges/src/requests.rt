@@ -25,8 +25,8 @@ impl Access {
         }
     }
 
-    /// The answer to a line: `ok`, what the check tells, or what is wrong with the line, which then
-    /// changes nothing.
+    /// Returns the answer to a line: `ok`, what the check tells, or what is wrong with the line,
+    /// which then changes nothing.
     pub fn answer(&mut self, alloc: Global, line: &str) -> Result<String, EvalFault> {
         let (name, words) = next_word(line).unwrap_or(("", ""));
         match name {

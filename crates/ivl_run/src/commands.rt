@@ -8,7 +8,7 @@ use ivl_registers::Command;
 use ivl_words::{next_word, number_from, one_word, pairs_from, three_words, two_words};
 use std::alloc::{AllocError, Global};
 
-/// The command of this name and the words after it, or `None` where that is no command.
+/// Returns the command of this name and the words after it, or `None` where that is no command.
 ///
 /// # Errors
 ///

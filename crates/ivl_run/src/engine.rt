@@ -208,7 +208,7 @@ fn write_answer<W: Write>(calc: &mut Calc<i64>, line: &Line, writer: &mut W) -> 
     }
 }
 
-/// The status with which the program ends, and what it says on standard error.
+/// Returns the status with which the program ends, and what it says on standard error.
 ///
 /// ```
 /// assert_eq!(rt; outcome(&Ok(())), (0, ""));

@@ -20,7 +20,7 @@ pub enum Line {
     Command(Command<i64>),
 }
 
-/// What the line says, without the newline that ended it. The time is linear in its length.
+/// Returns what the line says, without the newline that ended it. The time is linear in its length.
 ///
 /// # Errors
 ///

@@ -10,8 +10,8 @@ use ivl_registers::{Refusal, Reply};
 use std::io;
 use std::io::Write;
 
-/// Writes the reply, and a newline. Condition: no run of the reply is crossed, which `is_empty` of
-/// the run tests.
+/// Writes the reply, and a newline. The caller must ensure that no run of the reply is crossed.
+/// Check with `is_empty` of the run.
 ///
 /// # Errors
 ///

@@ -182,7 +182,7 @@ fn answer_request<W: Write>(
     write_state(writer, solver)
 }
 
-/// The status with which the program ends, and what it says on standard error.
+/// Returns the status with which the program ends, and what it says on standard error.
 ///
 /// ```
 /// assert_eq!(rt; outcome(&Ok(())), (0, ""));

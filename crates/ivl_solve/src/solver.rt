@@ -68,14 +68,14 @@ impl Solver {
         }
     }
 
-    /// The names, in the order in which they were defined.
+    /// Returns the names, in the order in which they were defined.
     pub fn names(&self) -> &[String]
         ensures { map string_bytes result.now ≡ self.now.names }
     {
         &self.names
     }
 
-    /// The domains, in the order of the names.
+    /// Returns the domains, in the order of the names.
     pub fn domains(&self) -> &[IntervalSet<i64>]
         ensures { result.now ≡ self.now.domains }
     {

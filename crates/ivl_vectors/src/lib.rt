@@ -1,4 +1,4 @@
-//! Bounds of one's own, and tests of the interval crates with answers from outside.
+//! Bound types that a user could write, and tests of the interval crates with answers from outside.
 //!
 //! The crates below are proved generically. Here stand two types of bounds, [`bit`] and [`narrow`], which use every
 //! layer through the public contracts alone; their ranges in plain numbers; and the tests.

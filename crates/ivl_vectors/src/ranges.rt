@@ -7,35 +7,35 @@ use intervallum::interval::Interval;
 use intervallum::ops::{Cardinality, Whole};
 use std::alloc::{AllocError, Global};
 
-/// The range of [`Bit`].
+/// Returns the range of [`Bit`].
 pub fn whole_of_bit() -> Interval<Bit>
     ensures { result ≡ (pos 0, pos 1) }
 {
     Interval::whole()
 }
 
-/// How many numbers the range of [`Bit`] has.
+/// Returns how many numbers the range of [`Bit`] has.
 pub fn size_of_bit() -> u8
     ensures { result ≡ 2 }
 {
     whole_of_bit().size()
 }
 
-/// The range of [`Narrow`].
+/// Returns the range of [`Narrow`].
 pub fn whole_of_narrow() -> Interval<Narrow>
     ensures { result ≡ (negsuc 99, pos 100) }
 {
     Interval::whole()
 }
 
-/// How many numbers the range of [`Narrow`] has.
+/// Returns how many numbers the range of [`Narrow`] has.
 pub fn size_of_narrow() -> u16
     ensures { result ≡ 201 }
 {
     whole_of_narrow().size()
 }
 
-/// The range of bits, as text.
+/// Returns the range of bits, as text.
 pub fn text_of_bits(alloc: Global) -> Result<String, AllocError>
     ensures { IfOk result (λ text. string_bytes text ≡ codes "[0..1]") }
 {

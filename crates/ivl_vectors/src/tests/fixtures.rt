@@ -14,7 +14,7 @@ use std::test::Fail;
 /// The numbers of the bounds of an interval; none where it has no member.
 pub type Pair = Option<(i128, i128)>;
 
-/// The value of a number of the range.
+/// Returns the value of a number of the range.
 pub fn value_of<B: Width>(rt: &impl Abort, number: i128) -> B
     ensures in_range { IsBetween B.whole number }
     ensures number { B.value result ≡ number }
@@ -22,12 +22,12 @@ pub fn value_of<B: Width>(rt: &impl Abort, number: i128) -> B
     B::from_number(number).expect(rt, "a number of the range")
 }
 
-/// The numbers from one to another, both of which are in the range.
+/// Returns the numbers from one to another, both of which are in the range.
 pub fn interval_of<B: Width>(rt: &impl Abort, (lower, upper): (i128, i128)) -> Interval<B> {
     Interval::new(value_of(rt, lower), value_of(rt, upper))
 }
 
-/// The union of some pairs, each of which is in the range.
+/// Returns the union of some pairs, each of which is in the range.
 pub fn set_of<B: Width>(
     rt: &(impl Alloc<A = Global> + Abort),
     pairs: &[(i128, i128)],
@@ -40,7 +40,7 @@ pub fn set_of<B: Width>(
     Ok(set)
 }
 
-/// The numbers of the bounds; none where there is no member.
+/// Returns the numbers of the bounds; none where there is no member.
 pub fn pair_of<B: Width>(run: &Interval<B>) -> Pair {
     if run.is_empty() {
         return None;
