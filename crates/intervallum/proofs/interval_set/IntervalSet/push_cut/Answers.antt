@@ -52,3 +52,12 @@ size_of_runs-more-requires g c = rest_in g.B.Width.whole c.cut_ends.new.runs.ite
 
 pub returns-clause-count : goal.returns-clause-count
 returns-clause-count g c = c.cut_ends.ensures.count ∙ ap length c.in_ok-extend_from_slice.ensures.items ∙ length-append c.self.inside.intervals.items c.args.runs.now ∙ ap (λ (L : List (ℤ × ℤ)). length L + length c.args.runs.now) c.self.view_is
+
+pub cut_ends-requires-clause-window : goal.cut_ends-requires-clause-window
+cut_ends-requires-clause-window g c = c.requires.window
+
+pub cut_ends-requires-clause-at_most : goal.cut_ends-requires-clause-at_most
+cut_ends-requires-clause-at_most g c =
+    let len = c.self.inside.intervals.ok.0 in
+    let longer = ap length c.in_ok-extend_from_slice.ensures.items ∙ length-append c.self.inside.intervals.items c.args.runs.now in
+    omega (arith, len)

@@ -2,6 +2,7 @@ use Rattle.std.proofs.Common.{◌≡◌, ℤ, List, Some, subst}
 use Rattle.std.specs.Prelude.{slice_get}
 use Rattle.ivl_laws.specs.Runs.{IsRunListIn}
 use Rattle.ivl_laws.proofs.Orders.{le_number}
+use Rattle.ivl_laws.proofs.Intervals.{some_is_not_crossed}
 use Rattle.intervallum.proofs.Finding.{held_by_none, holds_at_place}
 use Rattle.intervallum.proofs.interval_set.inclusion.holder.Goals as goal
 
@@ -20,3 +21,21 @@ returns-else-le-clause-held g c =
     held_by_none c.args.runs.now.runs c.in-In.i c.look-other.result c.args.run.now _ _ _ c.le.result
     (subst P c.find_from.ensures.same c.look-other.ensures.runs).maximal c.requires.filled (subst Q c.find_from.ensures.same c.look-other.ensures.run) c.in-In.ensures.place
     c.lower.ensures.value c.upper.ensures.value c.upper-in-In.ensures.value (le_number g.met.B.Width.ordered _ _ _ c.le.ensures) c.if-le.false
+
+pub lower-requires : goal.lower-requires
+lower-requires g c = (some_is_not_crossed c.args.run.now).1 c.requires.filled
+
+pub upper-requires : goal.upper-requires
+upper-requires g c = (some_is_not_crossed c.args.run.now).1 c.requires.filled
+
+pub upper-requires-in-In : goal.upper-requires-in-In
+upper-requires-in-In g c = (some_is_not_crossed c.look-other.result).1 c.look-other.ensures.has_member
+
+pub find_from-requires-clause-below : goal.find_from-requires-clause-below
+find_from-requires-clause-below g c = rw c.lower.ensures.value c.requires.below
+
+pub find_from-requires-clause-at_most : goal.find_from-requires-clause-at_most
+find_from-requires-clause-at_most g c = c.requires.at_most
+
+pub returns-in-Gap-clause-same : goal.returns-in-Gap-clause-same
+returns-in-Gap-clause-same g c = c.find_from.ensures.same

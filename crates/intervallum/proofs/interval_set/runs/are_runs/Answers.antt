@@ -17,3 +17,6 @@ loop-run-preserved g c =
 
 pub returns : goal.returns
 returns g c = λ _. all_are_read _ g.B.Width.whole _ _ _ c.loop-run.invariant c.loop-run-test.false
+
+pub joins-requires-clause-run : goal.joins-requires-clause-run
+joins-requires-clause-run g c = not_crossed _ (untrue _ c.if-is_empty-2.false c.is_empty-in-loop-run.ensures.crossed)

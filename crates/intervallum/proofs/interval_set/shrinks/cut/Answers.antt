@@ -1,7 +1,9 @@
-use Rattle.std.proofs.Common.{◌-◌, sym, subst}
+use Rattle.std.proofs.Common.{◌-◌, sym, subst, zero-le}
 use Rattle.ivl_laws.specs.Runs.{IsRunListIn}
 use Rattle.ivl_laws.proofs.Adding.{untrue}
 use Rattle.ivl_laws.proofs.Intervals.{not_crossed, some_is_not_crossed}
+use Rattle.std.proofs.lemmas.Result.{IfOk-weaker}
+use Rattle.ivl_laws.proofs.Ranges.{IsRunsOf-none}
 use Rattle.intervallum.proofs.Windows.{is_window, cut_from_part, first_of_kept, part_is_run_list, starts_of_kept}
 use Rattle.intervallum.proofs.interval_set.shrinks.cut.Goals as goal
 
@@ -48,3 +50,18 @@ returns-clause-members g c =
     (not_crossed c.args.window.now (untrue _ c.if-is_empty.false c.is_empty.ensures.crossed)) c.lower.ensures.value c.upper.ensures.value
     c.runs_before-start.ensures.at_most c.runs_before-start.ensures.below c.runs_up_to-end.ensures.above)
     c.cut_runs.ensures.members
+
+pub upper-requires : goal.upper-requires
+upper-requires g c = (_, c.lower.ensures.member)
+
+pub returns-clause-within : goal.returns-clause-within
+returns-clause-within g c = c.as_runs-runs.ensures.runs
+
+pub returns-then-is_empty-clause-within : goal.returns-then-is_empty-clause-within
+returns-then-is_empty-clause-within g c = c.as_runs-runs.ensures.runs
+
+pub returns-then-is_empty-clause-members : goal.returns-then-is_empty-clause-members
+returns-then-is_empty-clause-members g c = IfOk-weaker c.with_room.result _ _ (λ L e. rw e (IsRunsOf-none _ (λ z i. c.is_empty.ensures.members.0 c.if-is_empty.true z i.1))) c.with_room.ensures
+
+pub returns-then-is_empty-clause-runs_at_most : goal.returns-then-is_empty-clause-runs_at_most
+returns-then-is_empty-clause-runs_at_most g c = IfOk-weaker c.with_room.result _ _ (λ L e. rw e (zero-le)) c.with_room.ensures

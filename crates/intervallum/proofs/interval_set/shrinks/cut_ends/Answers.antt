@@ -1,4 +1,5 @@
 use Rattle.std.proofs.Common.{◌-◌, set, arith}
+use Rattle.ivl_laws.proofs.Intervals.{some_is_not_crossed}
 use Rattle.intervallum.proofs.Cutting.{IsCutFrom, is_cut_from}
 use Rattle.intervallum.proofs.interval_set.shrinks.cut_ends.Goals as goal
 
@@ -31,3 +32,9 @@ returns-clause-within g c =
     c.requires.runs c.requires.window c.requires.first c.requires.last (omega (arith, len, filled, c.requires.at_most)) (omega (arith, len, filled, c.requires.at_most)) c.lower.ensures.value c.upper.ensures.value
     c.index.ensures c.shrink_left.ensures c.index-2.ensures c.shrink_right.ensures in
     cut.part.list
+
+pub lower-requires : goal.lower-requires
+lower-requires g c = (some_is_not_crossed c.args.window.now).1 c.requires.window
+
+pub upper-requires : goal.upper-requires
+upper-requires g c = (some_is_not_crossed c.args.window.now).1 c.requires.window

@@ -1,10 +1,11 @@
-use Rattle.std.proofs.Common.{◌∙◌, pos, sym}
+use Rattle.std.proofs.Common.{◌∙◌, pos, sym, arith}
 use Rattle.ivl_laws.specs.Sets.{Intersection}
 use Rattle.ivl_laws.specs.Runs.{Covers}
 use Rattle.ivl_laws.proofs.Intervals.{some_is_not_crossed}
 use Rattle.ivl_laws.proofs.Lengths.{length_of_intersection}
 use Rattle.ivl_laws.proofs.Orders.{le_number, not_le_number}
-use Rattle.intervallum.proofs.Building.{building_ends}
+use Rattle.intervallum.proofs.Shortening.{length_taken}
+use Rattle.intervallum.proofs.Building.{building_ends, building_starts}
 use Rattle.intervallum.proofs.Leading.{led_by_next, open_held, zip_none, zip_some}
 use Rattle.intervallum.proofs.Meeting.{common_first, common_second, ends_by, ends_past, no_common, shared_is_above}
 use Rattle.intervallum.proofs.steps.combine.common.Goals as goal
@@ -70,3 +71,22 @@ returns-clause-runs_at_most g c =
     let ended = zip_none c.walk.a c.walk.b (sym c.zip.ensures ∙ c.in_default.is) in
     let none = no_common c.walk.a c.walk.b c.walk.first.left c.walk.second.left c.walk.invariant.first c.walk.invariant.second ended in
     rw c.fitted.ensures (length_of_intersection c.args.first.left c.args.second.left c.walk.set (building_ends (pos 2) c.walk.set _ _ c.walk.invariant.state none))
+
+pub walk-init : goal.walk-init
+walk-init g c = record {
+  first = led_by_next c.take-a.result c.args.first.left c.take-a.new.self.left c.take-a.ensures.runs.maximal c.take-a.ensures.taken c.take-a.ensures.none;
+  second = led_by_next c.take-b.result c.args.second.left c.take-b.new.self.left c.take-b.ensures.runs.maximal c.take-b.ensures.taken c.take-b.ensures.none;
+  state = rw (c.take-a.ensures.taken, c.take-b.ensures.taken) (building_starts (pos 2) c.in_ok-set.set _ c.in_ok-set.ensures);
+}
+
+pub walk-smaller-then-le : goal.walk-smaller-then-le
+walk-smaller-then-le g c =
+    let held = zip_some c.walk.a c.walk.b c.in-Some.runs (sym c.zip.ensures ∙ c.in-Some.is) in
+    let taken = length_taken c.walk.a c.take-a-then-le.result c.in-Some.runs.0 c.walk.first.left c.take-a-then-le.new.self.left held.0 c.take-a-then-le.ensures.taken in
+    omega arith
+
+pub walk-smaller : goal.walk-smaller
+walk-smaller g c =
+    let held = zip_some c.walk.a c.walk.b c.in-Some.runs (sym c.zip.ensures ∙ c.in-Some.is) in
+    let taken = length_taken c.walk.b c.take-b-else-le.result c.in-Some.runs.1 c.walk.second.left c.take-b-else-le.new.self.left held.1 c.take-b-else-le.ensures.taken in
+    omega arith

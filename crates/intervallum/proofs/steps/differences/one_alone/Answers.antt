@@ -163,3 +163,18 @@ push_rest-requires-clause-maximal g c = c.walk.invariant.first.maximal
 
 pub push_rest-requires-clause-ended : goal.push_rest-requires-clause-ended
 push_rest-requires-clause-ended g c = c.walk.invariant.first.ended
+
+pub upper-requires-then-lt : goal.upper-requires-then-lt
+upper-requires-then-lt g c = (_, c.upper.ensures.member)
+
+pub upper-requires-else-lt : goal.upper-requires-else-lt
+upper-requires-else-lt g c = (_, c.upper-in-Some.ensures.member)
+
+pub upper-requires-else-lt-2 : goal.upper-requires-else-lt-2
+upper-requires-else-lt-2 g c = (_, c.upper.ensures.member)
+
+pub push_rest-requires-2-clause-maximal : goal.push_rest-requires-2-clause-maximal
+push_rest-requires-2-clause-maximal g c = c.walk.invariant.second.maximal
+
+pub push_rest-requires-2-clause-ended : goal.push_rest-requires-2-clause-ended
+push_rest-requires-2-clause-ended g c = c.walk.invariant.second.ended

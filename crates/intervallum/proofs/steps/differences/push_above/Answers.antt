@@ -1,3 +1,4 @@
+use Rattle.std.proofs.lemmas.Result.{on_ok_weaker}
 use Rattle.ivl_laws.proofs.Adding.{untrue}
 use Rattle.ivl_laws.proofs.Intervals.{not_crossed}
 use Rattle.intervallum.proofs.Building.{adds_none, starts_by}
@@ -9,3 +10,9 @@ push_run-requires-clause-in_order g c =
 
 pub returns-then-is_empty : goal.returns-then-is_empty
 returns-then-is_empty g c = adds_none c.args.set.now _ c.in_whole.ensures.maximal (c.is_empty.ensures.members.0 c.if-is_empty.true)
+
+pub push_run-requires-clause-filled : goal.push_run-requires-clause-filled
+push_run-requires-clause-filled g c = not_crossed c.args.part (untrue _ c.if-is_empty.false c.is_empty.ensures.crossed)
+
+pub returns : goal.returns
+returns g c = on_ok_weaker c.push_run.result (λ a. a.runs) c.push_run.ensures.ok

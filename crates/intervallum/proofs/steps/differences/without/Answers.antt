@@ -109,3 +109,11 @@ push_rest-requires-clause-maximal g c = c.walk.invariant.first.maximal
 
 pub push_rest-requires-clause-ended : goal.push_rest-requires-clause-ended
 push_rest-requires-clause-ended g c = c.walk.invariant.first.ended
+
+pub upper-requires : goal.upper-requires
+upper-requires g c =
+    let held = zip_some c.walk.a c.walk.b c.in-Some.runs (sym c.zip.ensures ∙ c.in-Some.is) in
+    (some_is_not_crossed c.in-Some.runs.1).1 (open_held c.walk.b c.in-Some.runs.1 c.walk.second.left c.walk.invariant.second held.1).0
+
+pub upper-requires-then-lt : goal.upper-requires-then-lt
+upper-requires-then-lt g c = (_, c.upper.ensures.member)
