@@ -3,6 +3,7 @@
 use crate::answer::Answer;
 use crate::fact::Fact;
 use crate::read::{list, set};
+use crate::unanswered::Unanswered;
 use intervallum::interval::Interval;
 use intervallum::interval_set::IntervalSet;
 use intervallum::ops::Union;
@@ -11,48 +12,34 @@ use intervallum::width::Width;
 use std::alloc::{AllocError, Global};
 use std::str::FromStr;
 
-/// What the call of a fact answers here; none where the call is not known or an operand can't be read.
-pub fn answer<B: Width + FromStr>(
-    alloc: Global,
-    fact: &Fact<'_>,
-) -> Result<Option<Answer<B>>, AllocError>
+/// What the call of a fact answers here.
+pub fn answer<B: Width + FromStr>(alloc: Global, fact: &Fact<'_>) -> Result<Answer<B>, Unanswered>
 where
     B::Err: Drop,
 {
-    let Some(list) = list::<B>(alloc, fact.first)? else {
-        return Ok(None);
+    let list = list(alloc, fact.first)?;
+    let set = match (fact.call, fact.second) {
+        ("l.coalesce", None) => coalesce(alloc, list),
+        ("l.unite", None) => united(alloc, &list),
+        ("l.extend", Some(second)) => extended(set(alloc, second)?, list),
+        _ => return Err(Unanswered::Unknown),
     };
-    let Some(second) = fact.second else {
-        return alone(alloc, fact.call, list);
-    };
-    if fact.call != "l.extend" {
-        return Ok(None);
-    }
-    let Some(mut set) = set(alloc, second)? else {
-        return Ok(None);
-    };
-    set.extend(list.into_iter())?;
-    Ok(Some(Answer::Set(set)))
+    Ok(Answer::Set(set?))
 }
 
-fn alone<B: Width>(
-    alloc: Global,
-    call: &str,
+fn extended<B: Width>(
+    mut set: IntervalSet<B>,
     list: Vec<Interval<B>>,
-) -> Result<Option<Answer<B>>, AllocError> {
-    Ok(Some(Answer::Set(match call {
-        "l.coalesce" => coalesce(alloc, list)?,
-        "l.unite" => united(alloc, &list)?,
-        _ => return Ok(None),
-    })))
+) -> Result<IntervalSet<B>, AllocError> {
+    set.extend(list.into_iter())?;
+    Ok(set)
 }
 
 /// The sets of one interval each, united in the order of the list.
 fn united<B: Width>(alloc: Global, list: &[Interval<B>]) -> Result<IntervalSet<B>, AllocError> {
     let mut set = IntervalSet::empty(alloc);
     for interval in list {
-        let one = IntervalSet::of(alloc, *interval)?;
-        set = set.union(&one)?;
+        set = set.union(&IntervalSet::of(alloc, *interval)?)?;
     }
     Ok(set)
 }

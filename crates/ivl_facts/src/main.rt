@@ -9,8 +9,10 @@ mod lists;
 mod read;
 mod sets;
 mod texts;
+mod unanswered;
 mod values;
 
+use answer::Answer;
 use anyhow::{Context, Result, ensure};
 use fact::Fact;
 use intervallum::width::Width;
@@ -18,9 +20,10 @@ use std::alloc::{AllocError, Global};
 use std::env;
 use std::fmt::Display;
 use std::fs::File;
-use std::io::{BufRead, BufReader};
+use std::io::{BufRead, BufReader, Lines};
 use std::rt::Files;
 use std::str::FromStr;
+use unanswered::Unanswered;
 
 /// How the lines of a file went.
 #[derive(Default, Drop)]
@@ -30,32 +33,36 @@ struct Tally {
     unanswered: u64,
 }
 
-/// What a call answers here, as the file writes it; none where there is no answer.
-fn text_of_answer<B>(alloc: Global, fact: &Fact<'_>) -> Result<Option<String>, AllocError>
+/// What a call answers here, as the file writes it.
+fn text_of_answer<B>(alloc: Global, fact: &Fact<'_>) -> Result<String, Unanswered>
 where
     B: Width + FromStr + Display,
     B::Err: Drop,
 {
-    let answer = if fact.is_of_texts() {
-        texts::answer::<B>(alloc, fact)
+    Ok(answered::<B>(alloc, fact)?.to_text(alloc)?)
+}
+
+/// What a call answers here.
+fn answered<B>(alloc: Global, fact: &Fact<'_>) -> Result<Answer<B>, Unanswered>
+where
+    B: Width + FromStr + Display,
+    B::Err: Drop,
+{
+    if fact.is_of_texts() {
+        texts::answer(alloc, fact)
     } else if fact.is_of_sets() {
-        sets::answer::<B>(alloc, fact)
+        sets::answer(alloc, fact)
     } else if fact.is_of_lists() {
-        lists::answer::<B>(alloc, fact)
+        lists::answer(alloc, fact)
     } else if fact.is_of_values() {
-        Ok(values::answer::<B>(fact))
+        values::answer(fact).ok_or(Unanswered::Unknown)
     } else {
-        Ok(calls::answer::<B>(fact))
-    };
-    match answer? {
-        Some(answer) => Ok(Some(answer.to_text(alloc)?)),
-        None => Ok(None),
+        calls::answer(fact).ok_or(Unanswered::Unknown)
     }
 }
 
-/// What a call answers here, at the type that the line names; none where there is no such type or no
-/// answer.
-fn replay(alloc: Global, fact: &Fact<'_>) -> Result<Option<String>, AllocError> {
+/// What a call answers here, at the type that the line names.
+fn replay(alloc: Global, fact: &Fact<'_>) -> Result<String, Unanswered> {
     match fact.type_name {
         "i8" => text_of_answer::<i8>(alloc, fact),
         "i16" => text_of_answer::<i16>(alloc, fact),
@@ -67,7 +74,7 @@ fn replay(alloc: Global, fact: &Fact<'_>) -> Result<Option<String>, AllocError> 
         "u32" => text_of_answer::<u32>(alloc, fact),
         "u64" => text_of_answer::<u64>(alloc, fact),
         "usize" => text_of_answer::<usize>(alloc, fact),
-        _ => Ok(None),
+        _ => Err(Unanswered::Unknown),
     }
 }
 
@@ -77,25 +84,34 @@ fn take(rt: &(impl Print + AllocGlobal), line: &str, tally: &mut Tally) -> Resul
         return Ok(());
     }
     let fact = Fact::parse(line).context(format_args!("reading {line:?}"))?;
-    let Some(here) = replay(rt.alloc(), &fact)? else {
-        tally.unanswered = tally.unanswered.saturating_add(1);
-        println!(rt; "{line}, but there is no answer here")?;
-        return Ok(());
-    };
-    if here.as_str() == fact.answer {
-        tally.agreeing = tally.agreeing.saturating_add(1);
-    } else {
-        tally.differing = tally.differing.saturating_add(1);
-        println!(rt; "{line}, but here {here}")?;
+    match replay(rt.alloc(), &fact) {
+        Ok(here) => {
+            if here.as_str() == fact.answer {
+                tally.agreeing = tally.agreeing.saturating_add(1);
+            } else {
+                tally.differing = tally.differing.saturating_add(1);
+                println!(rt; "{line}, but here {here}")?;
+            }
+        }
+        Err(Unanswered::Unknown) => {
+            tally.unanswered = tally.unanswered.saturating_add(1);
+            println!(rt; "{line}, but there is no answer here")?;
+        }
+        Err(Unanswered::Memory) => return Err(AllocError.into()),
     }
     Ok(())
+}
+
+/// The lines of a file.
+fn lines<R: AllocGlobal + Files>(rt: &R, path: &str) -> Result<Lines<BufReader<R::File>>> {
+    let file = File::open(rt, path).context(format_args!("opening {path:?}"))?;
+    Ok(BufReader::new(rt.alloc(), file)?.lines(rt.alloc()))
 }
 
 /// Replays the lines of a file.
 fn replay_file(rt: &(impl Print + AllocGlobal + Files), path: &str) -> Result<Tally> {
     let mut tally = Tally::default();
-    let file = File::open(rt, path).context(format_args!("opening {path:?}"))?;
-    for line in BufReader::new(rt.alloc(), file)?.lines(rt.alloc()) {
+    for line in lines(rt, path)? {
         take(rt, line?.as_str(), &mut tally)?;
     }
     Ok(tally)

@@ -1,11 +1,12 @@
 //! Operands as the files write them.
 
+use crate::unanswered::Unanswered;
 use intervallum::interval::Interval;
 use intervallum::interval_set::{IntervalSet, ToIntervalSet};
 use intervallum::ops::{Bot, Contains, Empty, Range, ToInterval, Top, Whole};
 use intervallum::optional::Optional;
 use intervallum::width::Width;
-use std::alloc::{AllocError, Global};
+use std::alloc::Global;
 use std::str::FromStr;
 
 /// Two numbers, which may cross, or the word of a call that makes an interval; `-` for `empty`.
@@ -20,10 +21,27 @@ where
         "bot" => Some(Interval::bot()),
         "()" => Some(().to_interval()),
         _ => {
-            let (lower, upper) = text.split_once(' ')?;
-            interval_between(lower.parse().ok()?, upper.parse().ok()?)
+            let (lower, upper) = bounds(text)?;
+            interval_between(lower, upper)
         }
     }
+}
+
+/// A number.
+pub fn number<B: FromStr>(text: &str) -> Option<B>
+where
+    B::Err: Drop,
+{
+    text.parse().ok()
+}
+
+/// Two numbers with a blank between them.
+fn bounds<B: Width + FromStr>(text: &str) -> Option<(B, B)>
+where
+    B::Err: Drop,
+{
+    let (lower, upper) = text.split_once(' ')?;
+    Some((number(lower)?, number(upper)?))
 }
 
 /// The interval of two bounds; none where a bound is outside the range.
@@ -43,101 +61,90 @@ where
     if text == "none" {
         return Some(Optional::empty());
     }
-    Some(Optional::singleton(text.parse().ok()?))
+    Some(Optional::singleton(number(text)?))
 }
 
 /// The set of pairs `l u l u ..`, or of none, `-`, or what a call makes: the word of the call, and its
 /// operands where it has some.
-pub fn set<B: Width + FromStr>(
-    alloc: Global,
-    text: &str,
-) -> Result<Option<IntervalSet<B>>, AllocError>
+pub fn set<B: Width + FromStr>(alloc: Global, text: &str) -> Result<IntervalSet<B>, Unanswered>
 where
     B::Err: Drop,
 {
-    match text {
-        "empty" => Ok(Some(IntervalSet::empty(alloc))),
-        "whole" => Ok(Some(IntervalSet::whole(alloc)?)),
-        "top" => Ok(Some(IntervalSet::top(alloc))),
-        "bot" => Ok(Some(IntervalSet::bot(alloc)?)),
-        _ => match (text.strip_prefix("new "), text.strip_prefix("singleton ")) {
-            (Some(bounds), _) => set_of_bounds(alloc, bounds),
-            (None, Some(value)) => set_of_value(alloc, value),
-            (None, None) => set_of_pairs(alloc, text),
-        },
+    let set = match text {
+        "empty" => Ok(IntervalSet::empty(alloc)),
+        "whole" => IntervalSet::whole(alloc),
+        "top" => Ok(IntervalSet::top(alloc)),
+        "bot" => IntervalSet::bot(alloc),
+        _ => return made_set(alloc, text),
+    };
+    Ok(set?)
+}
+
+/// The set of a call that has operands, or of pairs.
+fn made_set<B: Width + FromStr>(alloc: Global, text: &str) -> Result<IntervalSet<B>, Unanswered>
+where
+    B::Err: Drop,
+{
+    if let Some(text) = text.strip_prefix("new ") {
+        return set_of_bounds(alloc, text);
+    }
+    match text.strip_prefix("singleton ") {
+        Some(text) => set_of_value(alloc, text),
+        None => set_of_pairs(alloc, text),
     }
 }
 
 fn set_of_bounds<B: Width + FromStr>(
     alloc: Global,
     text: &str,
-) -> Result<Option<IntervalSet<B>>, AllocError>
+) -> Result<IntervalSet<B>, Unanswered>
 where
     B::Err: Drop,
 {
-    let Some((lower, upper)) = text.split_once(' ') else {
-        return Ok(None);
-    };
-    let (Ok(lower), Ok(upper)) = (lower.parse(), upper.parse()) else {
-        return Ok(None);
-    };
+    let (lower, upper) = bounds(text).ok_or(Unanswered::Unknown)?;
     if lower <= upper && Interval::in_range(lower, upper) {
-        Ok(Some(IntervalSet::new(alloc, lower, upper)?))
+        Ok(IntervalSet::new(alloc, lower, upper)?)
     } else {
-        Ok(None)
+        Err(Unanswered::Unknown)
     }
 }
 
-fn set_of_value<B: Width + FromStr>(
-    alloc: Global,
-    text: &str,
-) -> Result<Option<IntervalSet<B>>, AllocError>
+fn set_of_value<B: Width + FromStr>(alloc: Global, text: &str) -> Result<IntervalSet<B>, Unanswered>
 where
     B::Err: Drop,
 {
-    let Ok(x) = text.parse() else {
-        return Ok(None);
-    };
-    if Interval::whole().contains(&x) {
-        Ok(Some(IntervalSet::singleton(alloc, x)?))
-    } else {
-        Ok(None)
+    match number(text) {
+        Some(x) if Interval::whole().contains(&x) => Ok(IntervalSet::singleton(alloc, x)?),
+        _ => Err(Unanswered::Unknown),
     }
 }
 
-fn set_of_pairs<B: Width + FromStr>(
-    alloc: Global,
-    text: &str,
-) -> Result<Option<IntervalSet<B>>, AllocError>
+fn set_of_pairs<B: Width + FromStr>(alloc: Global, text: &str) -> Result<IntervalSet<B>, Unanswered>
 where
     B::Err: Drop,
 {
-    let Some(pairs) = pairs::<B>(alloc, text)? else {
-        return Ok(None);
-    };
+    let pairs = pairs::<B>(alloc, text)?;
     if !pairs
         .iter()
         .all(|&(lower, upper)| Interval::in_range(lower, upper))
     {
-        return Ok(None);
+        return Err(Unanswered::Unknown);
     }
-    Ok(Some(pairs.to_interval_set(alloc)?))
+    Ok(pairs.to_interval_set(alloc)?)
 }
 
 /// The numbers of a text, two by two.
-fn pairs<B: Width + FromStr>(alloc: Global, text: &str) -> Result<Option<Vec<(B, B)>>, AllocError>
+fn pairs<B: Width + FromStr>(alloc: Global, text: &str) -> Result<Vec<(B, B)>, Unanswered>
 where
     B::Err: Drop,
 {
     let mut pairs = Vec::new(alloc);
     if text == "-" {
-        return Ok(Some(pairs));
+        return Ok(pairs);
     }
     let mut lower = None;
     for word in text.split(' ') {
-        let Ok(number) = word.parse() else {
-            return Ok(None);
-        };
+        let number = number(word).ok_or(Unanswered::Unknown)?;
         lower = match lower {
             Some(first) => {
                 pairs.push((first, number))?;
@@ -146,26 +153,22 @@ where
             None => Some(number),
         };
     }
-    Ok(if lower.is_none() { Some(pairs) } else { None })
+    if lower.is_none() {
+        Ok(pairs)
+    } else {
+        Err(Unanswered::Unknown)
+    }
 }
 
 /// The intervals `l u l u ..`, any of which may cross, in the order of the text.
-pub fn list<B: Width + FromStr>(
-    alloc: Global,
-    text: &str,
-) -> Result<Option<Vec<Interval<B>>>, AllocError>
+pub fn list<B: Width + FromStr>(alloc: Global, text: &str) -> Result<Vec<Interval<B>>, Unanswered>
 where
     B::Err: Drop,
 {
-    let Some(pairs) = pairs::<B>(alloc, text)? else {
-        return Ok(None);
-    };
     let mut list = Vec::new(alloc);
-    for &(lower, upper) in pairs.iter() {
-        match interval_between(lower, upper) {
-            Some(interval) => list.push(interval)?,
-            None => return Ok(None),
-        }
+    for &(lower, upper) in pairs(alloc, text)?.iter() {
+        let interval = interval_between(lower, upper).ok_or(Unanswered::Unknown)?;
+        list.push(interval)?;
     }
-    Ok(Some(list))
+    Ok(list)
 }

@@ -3,38 +3,31 @@
 use crate::answer::Answer;
 use crate::fact::Fact;
 use crate::read::{interval, set};
+use crate::unanswered::Unanswered;
 use intervallum::width::Width;
-use std::alloc::{AllocError, Global};
+use std::alloc::Global;
 use std::fmt::Display;
 use std::str::FromStr;
 
-/// The printed text; none where the call or its form is not known, or an operand can't be read.
-pub fn answer<B>(alloc: Global, fact: &Fact<'_>) -> Result<Option<Answer<B>>, AllocError>
+/// The printed text.
+pub fn answer<B>(alloc: Global, fact: &Fact<'_>) -> Result<Answer<B>, Unanswered>
 where
     B: Width + FromStr + Display,
     B::Err: Drop,
 {
     let text = if let Some(form) = fact.call.strip_prefix("i.display") {
-        match interval::<B>(fact.first) {
-            Some(interval) => text(alloc, form, &interval)?,
-            None => None,
-        }
+        let interval = interval::<B>(fact.first).ok_or(Unanswered::Unknown)?;
+        text(alloc, form, &interval)
     } else if let Some(form) = fact.call.strip_prefix("s.display") {
-        match set::<B>(alloc, fact.first)? {
-            Some(set) => text(alloc, form, &set)?,
-            None => None,
-        }
+        text(alloc, form, &set::<B>(alloc, fact.first)?)
     } else {
-        None
+        Err(Unanswered::Unknown)
     };
-    match text {
-        Some(text) => Ok(Some(Answer::Text(text))),
-        None => Ok(None),
-    }
+    Ok(Answer::Text(text?))
 }
 
 /// The text in a form.
-fn text<T: Display>(alloc: Global, form: &str, value: &T) -> Result<Option<String>, AllocError> {
+fn text<T: Display>(alloc: Global, form: &str, value: &T) -> Result<String, Unanswered> {
     let text = match form {
         "" => format!(in alloc; "{value}"),
         ":>20" => format!(in alloc; "{value:>20}"),
@@ -42,7 +35,7 @@ fn text<T: Display>(alloc: Global, form: &str, value: &T) -> Result<Option<Strin
         ":*<9" => format!(in alloc; "{value:*<9}"),
         ":*^9" => format!(in alloc; "{value:*^9}"),
         ":+" => format!(in alloc; "{value:+}"),
-        _ => return Ok(None),
+        _ => return Err(Unanswered::Unknown),
     };
-    Ok(Some(text?))
+    Ok(text?)
 }

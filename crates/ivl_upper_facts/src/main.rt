@@ -7,6 +7,7 @@ mod fact;
 mod json;
 mod sets;
 mod store;
+mod unanswered;
 
 use anyhow::{Context, Result, ensure};
 use fact::Fact;
@@ -16,7 +17,9 @@ use std::env;
 use std::fmt::Display;
 use std::fs::File;
 use std::io::{BufRead, BufReader};
+use std::rt::Files;
 use std::str::FromStr;
+use unanswered::Unanswered;
 
 /// How the lines of a file went.
 #[derive(Default, Drop)]
@@ -26,8 +29,8 @@ struct Tally {
     unanswered: u64,
 }
 
-/// What a call answers here, as the file writes it; none where there is no answer.
-fn text_of_answer<B>(alloc: Global, fact: &Fact<'_>) -> Result<Option<String>, AllocError>
+/// What a call answers here, as the file writes it.
+fn text_of_answer<B>(alloc: Global, fact: &Fact<'_>) -> Result<String, Unanswered>
 where
     B: Width + FromStr + Display,
     B::Err: Drop,
@@ -39,9 +42,8 @@ where
     }
 }
 
-/// What a call answers here, at the type that the line names; none where there is no such type or no
-/// answer.
-fn replay(alloc: Global, fact: &Fact<'_>) -> Result<Option<String>, AllocError> {
+/// What a call answers here, at the type that the line names.
+fn replay(alloc: Global, fact: &Fact<'_>) -> Result<String, Unanswered> {
     match fact.type_name {
         "i8" => text_of_answer::<i8>(alloc, fact),
         "i16" => text_of_answer::<i16>(alloc, fact),
@@ -51,7 +53,7 @@ fn replay(alloc: Global, fact: &Fact<'_>) -> Result<Option<String>, AllocError> 
         "u16" => text_of_answer::<u16>(alloc, fact),
         "u32" => text_of_answer::<u32>(alloc, fact),
         "u64" => text_of_answer::<u64>(alloc, fact),
-        _ => Ok(None),
+        _ => Err(Unanswered::Unknown),
     }
 }
 
@@ -61,27 +63,37 @@ fn take(rt: &(impl Print + AllocGlobal), line: &str, tally: &mut Tally) -> Resul
         return Ok(());
     }
     let fact = Fact::parse(line).context(format_args!("reading {line:?}"))?;
-    let Some(here) = replay(rt.alloc(), &fact)? else {
-        tally.unanswered = tally.unanswered.saturating_add(1);
-        println!(rt; "{line}, but there is no answer here")?;
-        return Ok(());
-    };
-    if fact.is_answered_by(here.as_str()) {
-        tally.agreeing = tally.agreeing.saturating_add(1);
-    } else {
-        tally.differing = tally.differing.saturating_add(1);
-        println!(rt; "{line}, but here {here}")?;
+    match replay(rt.alloc(), &fact) {
+        Ok(here) => {
+            if fact.is_answered_by(here.as_str()) {
+                tally.agreeing = tally.agreeing.saturating_add(1);
+            } else {
+                tally.differing = tally.differing.saturating_add(1);
+                println!(rt; "{line}, but here {here}")?;
+            }
+        }
+        Err(Unanswered::Unknown) => {
+            tally.unanswered = tally.unanswered.saturating_add(1);
+            println!(rt; "{line}, but there is no answer here")?;
+        }
+        Err(Unanswered::Memory) => return Err(AllocError.into()),
     }
     Ok(())
 }
 
+/// Replays the lines of a file.
+fn replay_file(rt: &(impl Print + AllocGlobal + Files), path: &str) -> Result<Tally> {
+    let mut tally = Tally::default();
+    let file = File::open(rt, path)?;
+    for line in BufReader::new(rt.alloc(), file)?.lines(rt.alloc()) {
+        take(rt, line?.as_str(), &mut tally)?;
+    }
+    Ok(tally)
+}
+
 fn main(rt: HostRuntime) -> Result<()> {
     let path = env::args(&rt)?.nth(1).context("give the file of facts")?;
-    let file = File::open(&rt, path.as_str())?;
-    let mut tally = Tally::default();
-    for line in BufReader::new(rt.alloc(), file)?.lines(rt.alloc()) {
-        take(&rt, line?.as_str(), &mut tally)?;
-    }
+    let tally = replay_file(&rt, path.as_str())?;
     println!(rt; "{} lines agree", tally.agreeing)?;
     println!(rt; "{} lines have no answer here", tally.unanswered)?;
     ensure!(tally.differing == 0, "{} lines differ", tally.differing);

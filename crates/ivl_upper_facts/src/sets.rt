@@ -1,5 +1,6 @@
 //! Sets as the file writes them.
 
+use crate::unanswered::Unanswered;
 use intervallum::interval::Interval;
 use intervallum::interval_set::{IntervalSet, ToIntervalSet};
 use intervallum::ops::{Bounded, IsEmpty};
@@ -8,61 +9,64 @@ use std::alloc::{AllocError, Global};
 use std::fmt::Display;
 use std::str::FromStr;
 
-/// The sets of a text, " | " between them; none where one can't be read. The text `none` has no set.
+/// A number.
+pub fn number<N: FromStr>(text: &str) -> Result<N, Unanswered>
+where
+    N::Err: Drop,
+{
+    text.parse().ok().ok_or(Unanswered::Unknown)
+}
+
+/// The two parts of a text around the first of these marks.
+pub fn two<'a>(text: &'a str, mark: &str) -> Result<(&'a str, &'a str), Unanswered> {
+    text.split_once(mark).ok_or(Unanswered::Unknown)
+}
+
+/// The sets of a text, " | " between them. The text `none` has no set.
 pub fn sets<B: Width + FromStr>(
     alloc: Global,
     text: &str,
-) -> Result<Option<Vec<IntervalSet<B>>>, AllocError>
+) -> Result<Vec<IntervalSet<B>>, Unanswered>
 where
     B::Err: Drop,
 {
     let mut sets = Vec::new(alloc);
     if text == "none" {
-        return Ok(Some(sets));
+        return Ok(sets);
     }
     for part in text.split(" | ") {
-        let Some(set) = set(alloc, part)? else {
-            return Ok(None);
-        };
-        sets.push(set)?;
+        sets.push(set(alloc, part)?)?;
     }
-    Ok(Some(sets))
+    Ok(sets)
 }
 
-/// The set of runs `l u l u ..`, or of none, `-`; none where a word is no bound, or out of range.
-pub fn set<B: Width + FromStr>(
-    alloc: Global,
-    text: &str,
-) -> Result<Option<IntervalSet<B>>, AllocError>
+/// The set of runs `l u l u ..`, or of none, `-`; each bound is in range.
+pub fn set<B: Width + FromStr>(alloc: Global, text: &str) -> Result<IntervalSet<B>, Unanswered>
 where
     B::Err: Drop,
 {
-    let Some(pairs) = pairs::<B>(alloc, text)? else {
-        return Ok(None);
-    };
+    let pairs = pairs::<B>(alloc, text)?;
     if !pairs
         .iter()
         .all(|&(lower, upper)| Interval::in_range(lower, upper))
     {
-        return Ok(None);
+        return Err(Unanswered::Unknown);
     }
-    Ok(Some(pairs.to_interval_set(alloc)?))
+    Ok(pairs.to_interval_set(alloc)?)
 }
 
 /// The numbers of a text, two by two.
-fn pairs<B: Width + FromStr>(alloc: Global, text: &str) -> Result<Option<Vec<(B, B)>>, AllocError>
+fn pairs<B: Width + FromStr>(alloc: Global, text: &str) -> Result<Vec<(B, B)>, Unanswered>
 where
     B::Err: Drop,
 {
     let mut pairs = Vec::new(alloc);
     if text == "-" {
-        return Ok(Some(pairs));
+        return Ok(pairs);
     }
     let mut lower = None;
     for word in text.split(' ') {
-        let Ok(number) = word.parse() else {
-            return Ok(None);
-        };
+        let number = number(word)?;
         lower = match lower {
             Some(first) => {
                 pairs.push((first, number))?;
@@ -71,7 +75,11 @@ where
             None => Some(number),
         };
     }
-    Ok(if lower.is_none() { Some(pairs) } else { None })
+    if lower.is_none() {
+        Ok(pairs)
+    } else {
+        Err(Unanswered::Unknown)
+    }
 }
 
 /// `-` for no member, else the bounds of each run.

@@ -1,6 +1,8 @@
 //! The domain store.
 
-use crate::sets::{set, set_text, sets};
+use crate::sets::{number, set, set_text, sets, two};
+use crate::unanswered::Unanswered;
+use intervallum::interval_set::IntervalSet;
 use intervallum::width::Width;
 use ivl_store::store::callers::post_if_distinct;
 use ivl_store::store::{Constraint, Post, Store, StoreFault};
@@ -8,154 +10,138 @@ use std::alloc::{AllocError, Global};
 use std::fmt::Display;
 use std::str::FromStr;
 
-/// What the call answers over the operands, " ; " and the domains that it leaves; none where it is
-/// not known or they can't be read.
-pub fn answer<B>(alloc: Global, call: &str, operands: &str) -> Result<Option<String>, AllocError>
+/// What the call answers over the operands, " ; " and the domains that it leaves.
+pub fn answer<B>(alloc: Global, call: &str, operands: &str) -> Result<String, Unanswered>
 where
     B: Width + FromStr + Display,
     B::Err: Drop,
 {
-    let Some((domains, rest)) = operands.split_once(" ; ") else {
-        return Ok(None);
-    };
-    let Some(domains) = sets::<B>(alloc, domains)? else {
-        return Ok(None);
-    };
-    let mut store = Store::new(alloc, domains);
-    let reply = match call {
-        "narrow" => narrowed(alloc, &mut store, rest)?,
-        "propagate" => propagated(alloc, &mut store, rest)?,
-        _ => posted(alloc, &mut store, rest)?,
-    };
-    let Some(mut text) = reply else {
-        return Ok(None);
-    };
+    let (domains, rest) = two(operands, " ; ")?;
+    let mut store = Store::new(alloc, sets::<B>(alloc, domains)?);
+    let mut text = match call {
+        "narrow" => narrowed(alloc, &mut store, rest),
+        "propagate" => propagated(alloc, &mut store, rest),
+        _ => posted(alloc, &mut store, rest),
+    }?;
+    push_domains(alloc, &mut text, store.domains())?;
+    Ok(text)
+}
+
+/// Adds " ; " and the domains, " | " between them.
+fn push_domains<B: Width + Display>(
+    alloc: Global,
+    text: &mut String,
+    domains: &[IntervalSet<B>],
+) -> Result<(), AllocError> {
     text.push_str(" ; ")?;
-    for (i, domain) in store.domains().iter().enumerate() {
+    for (i, domain) in domains.iter().enumerate() {
         if i > 0 {
             text.push_str(" | ")?;
         }
         text.push_str(set_text(alloc, domain)?.as_str())?;
     }
-    Ok(Some(text))
+    Ok(())
 }
 
+/// The reply of a constraint that narrows once.
 fn narrowed<B: Width>(
     alloc: Global,
     store: &mut Store<B>,
     text: &str,
-) -> Result<Option<String>, AllocError> {
-    match constraint(text) {
-        Some(constraint) => truth(alloc, store.narrow(&constraint)),
-        None => Ok(None),
-    }
+) -> Result<String, Unanswered> {
+    let answer = store.narrow(&constraint(text)?);
+    Ok(truth(alloc, answer)?)
 }
 
+/// The reply of constraints that narrow in so many rounds.
 fn propagated<B: Width>(
     alloc: Global,
     store: &mut Store<B>,
     text: &str,
-) -> Result<Option<String>, AllocError> {
-    let Some((list, rounds)) = text.split_once(" ; ") else {
-        return Ok(None);
-    };
-    let Some(constraints) = constraints(alloc, list)? else {
-        return Ok(None);
-    };
-    match rounds.parse() {
-        Ok(rounds) => truth(alloc, store.propagate(&constraints, rounds)),
-        Err(_) => Ok(None),
-    }
+) -> Result<String, Unanswered> {
+    let (list, rounds) = two(text, " ; ")?;
+    let constraints = constraints(alloc, list)?;
+    let answer = store.propagate(&constraints, number(rounds)?);
+    Ok(truth(alloc, answer)?)
 }
 
-fn posted<B>(alloc: Global, store: &mut Store<B>, text: &str) -> Result<Option<String>, AllocError>
+/// The replies of posts.
+fn posted<B>(alloc: Global, store: &mut Store<B>, text: &str) -> Result<String, Unanswered>
 where
     B: Width + FromStr,
     B::Err: Drop,
 {
-    let Some(posts) = posts(alloc, text)? else {
-        return Ok(None);
+    let posts = posts(alloc, text)?;
+    let text = match post_if_distinct(store, &posts) {
+        Ok(Some(replies)) => truths(alloc, &replies),
+        Ok(None) => return Err(Unanswered::Unknown),
+        Err(fault) => fault_text(alloc, fault),
     };
-    match post_if_distinct(store, &posts) {
-        Ok(Some(replies)) => Ok(Some(truths(alloc, &replies)?)),
-        Ok(None) => Ok(None),
-        Err(fault) => Ok(Some(fault_text(alloc, fault)?)),
-    }
+    Ok(text?)
 }
 
 /// The constraint `sum x y z`.
-fn constraint(text: &str) -> Option<Constraint> {
-    let (x, rest) = text.strip_prefix("sum ")?.split_once(' ')?;
-    let (y, z) = rest.split_once(' ')?;
-    Some(Constraint {
-        x: x.parse().ok()?,
-        y: y.parse().ok()?,
-        z: z.parse().ok()?,
+fn constraint(text: &str) -> Result<Constraint, Unanswered> {
+    let variables = text.strip_prefix("sum ").ok_or(Unanswered::Unknown)?;
+    let (x, rest) = two(variables, " ")?;
+    let (y, z) = two(rest, " ")?;
+    Ok(Constraint {
+        x: number(x)?,
+        y: number(y)?,
+        z: number(z)?,
     })
 }
 
 /// The constraints of a text, " | " between them, or `none`.
-fn constraints(alloc: Global, text: &str) -> Result<Option<Vec<Constraint>>, AllocError> {
+fn constraints(alloc: Global, text: &str) -> Result<Vec<Constraint>, Unanswered> {
     let mut constraints = Vec::new(alloc);
     if text == "none" {
-        return Ok(Some(constraints));
+        return Ok(constraints);
     }
     for part in text.split(" | ") {
-        let Some(constraint) = constraint(part) else {
-            return Ok(None);
-        };
-        constraints.push(constraint)?;
+        constraints.push(constraint(part)?)?;
     }
-    Ok(Some(constraints))
+    Ok(constraints)
 }
 
 /// The posts of a text, " | " between them, or `none`.
-fn posts<B>(alloc: Global, text: &str) -> Result<Option<Vec<Post<B>>>, AllocError>
+fn posts<B>(alloc: Global, text: &str) -> Result<Vec<Post<B>>, Unanswered>
 where
     B: Width + FromStr,
     B::Err: Drop,
 {
     let mut posts = Vec::new(alloc);
     if text == "none" {
-        return Ok(Some(posts));
+        return Ok(posts);
     }
     for part in text.split(" | ") {
-        let Some(post) = post(alloc, part)? else {
-            return Ok(None);
-        };
-        posts.push(post)?;
+        posts.push(post(alloc, part)?)?;
     }
-    Ok(Some(posts))
+    Ok(posts)
 }
 
 /// The post `cut i l u l u ..` or `sum x y z`.
-fn post<B>(alloc: Global, text: &str) -> Result<Option<Post<B>>, AllocError>
+fn post<B>(alloc: Global, text: &str) -> Result<Post<B>, Unanswered>
 where
     B: Width + FromStr,
     B::Err: Drop,
 {
-    if let Some(constraint) = constraint(text) {
-        return Ok(Some(Post::Require(constraint)));
+    match text.strip_prefix("cut ") {
+        Some(cut) => {
+            let (variable, runs) = two(cut, " ")?;
+            Ok(Post::Restrict(number(variable)?, set(alloc, runs)?))
+        }
+        None => Ok(Post::Require(constraint(text)?)),
     }
-    let Some((variable, runs)) = text
-        .strip_prefix("cut ")
-        .and_then(|rest| rest.split_once(' '))
-    else {
-        return Ok(None);
-    };
-    let Ok(variable) = variable.parse() else {
-        return Ok(None);
-    };
-    Ok(set(alloc, runs)?.map(|allowed| Post::Restrict(variable, allowed)))
 }
 
-fn truth(alloc: Global, answer: Result<bool, StoreFault>) -> Result<Option<String>, AllocError> {
-    let text = match answer {
-        Ok(true) => String::from_str(alloc, "yes")?,
-        Ok(false) => String::from_str(alloc, "no")?,
-        Err(fault) => fault_text(alloc, fault)?,
-    };
-    Ok(Some(text))
+/// `yes` or `no`, or the fault.
+fn truth(alloc: Global, answer: Result<bool, StoreFault>) -> Result<String, AllocError> {
+    match answer {
+        Ok(true) => String::from_str(alloc, "yes"),
+        Ok(false) => String::from_str(alloc, "no"),
+        Err(fault) => fault_text(alloc, fault),
+    }
 }
 
 /// `yes` or `no` for each reply, blanks between them; `none` for no reply.
