@@ -83,8 +83,9 @@ impl<B: Width> IntervalSet<B> {
         }
     }
 
-    /// The numbers from `lb` to `ub`, as one run. Conditions: `Interval::in_range(lb, ub)`, and
-    /// `lb <= ub`. `O(1)`. Allocates one run. Fails only if allocation fails.
+    /// Returns the numbers from `lb` to `ub`, as one run. The caller must ensure
+    /// `Interval::in_range(lb, ub)` and `lb <= ub`. `O(1)`. Allocates one run. Fails only if
+    /// allocation fails.
     ///
     /// ```
     /// let a = IntervalSet::new(alloc, 1, 2)?;

@@ -24,7 +24,8 @@ impl<B: Width> Add<IntervalSet<B>> for IntervalSet<B> {
 
     ghost add_gives = { λ a b r. IfOk r (λ L. IsRunsOf L (Sums (Covers a) (Covers b))) };
 
-    /// The sums of a member of each. Condition: the sums are in the range, which `fits_add` tests.
+    /// Returns the sums of a member of each. The caller must ensure that the sums are in the range.
+    /// Check with `fits_add`.
     ///
     /// `O(n m log (n m))` for `n` and `m` runs. Allocates room for twice `n * m` runs. Fails only
     /// if allocation fails.
@@ -46,7 +47,8 @@ impl<B: Width> Add<&IntervalSet<B>> for IntervalSet<B> {
 
     ghost add_gives = { λ a b r. IfOk r (λ L. IsRunsOf L (Sums (Covers a) (Covers b.now))) };
 
-    /// The sums of a member of each. Condition: the sums are in the range, which `fits_add` tests.
+    /// Returns the sums of a member of each. The caller must ensure that the sums are in the range.
+    /// Check with `fits_add`.
     ///
     /// `O(n m log (n m))` for `n` and `m` runs. Allocates room for twice `n * m` runs. Fails only
     /// if allocation fails.
@@ -62,7 +64,8 @@ impl<B: Width> Add<IntervalSet<B>> for &IntervalSet<B> {
 
     ghost add_gives = { λ a b r. IfOk r (λ L. IsRunsOf L (Sums (Covers a.now) (Covers b))) };
 
-    /// The sums of a member of each. Condition: the sums are in the range, which `fits_add` tests.
+    /// Returns the sums of a member of each. The caller must ensure that the sums are in the range.
+    /// Check with `fits_add`.
     ///
     /// `O(n m log (n m))` for `n` and `m` runs. Allocates room for twice `n * m` runs. Fails only
     /// if allocation fails.
@@ -78,7 +81,8 @@ impl<B: Width> Add<&IntervalSet<B>> for &IntervalSet<B> {
 
     ghost add_gives = { λ a b r. IfOk r (λ L. IsRunsOf L (Sums (Covers a.now) (Covers b.now))) };
 
-    /// The sums of a member of each. Condition: the sums are in the range, which `fits_add` tests.
+    /// Returns the sums of a member of each. The caller must ensure that the sums are in the range.
+    /// Check with `fits_add`.
     ///
     /// `O(n m log (n m))` for `n` and `m` runs. Allocates room for twice `n * m` runs. Fails only
     /// if allocation fails.
@@ -94,8 +98,8 @@ impl<B: Width> Add<B> for IntervalSet<B> {
 
     ghost add_gives = { λ a x r. IfOk r (λ L. IsRunsOf L (Sums (Covers a) (Only (B.value x)))) };
 
-    /// The sums of a member and the value. Condition: the sums are in the range, which `fits_add`
-    /// tests; the value itself may lie outside.
+    /// Returns the sums of a member and the value. The caller must ensure that the sums are in the
+    /// range. Check with `fits_add`. The value itself may lie outside.
     ///
     /// `O(n)` for `n` runs. Reserves as many once. Fails only if allocation fails.
     ///
@@ -120,8 +124,8 @@ impl<B: Width> Add<&B> for IntervalSet<B> {
 
     ghost add_gives = { λ a x r. IfOk r (λ L. IsRunsOf L (Sums (Covers a) (Only (B.value x.now)))) };
 
-    /// The sums of a member and the value. Condition: the sums are in the range, which `fits_add`
-    /// tests; the value itself may lie outside.
+    /// Returns the sums of a member and the value. The caller must ensure that the sums are in the
+    /// range. Check with `fits_add`. The value itself may lie outside.
     ///
     /// `O(n)` for `n` runs. Reserves as many once. Fails only if allocation fails.
     fn add(self, rhs: &B) -> Result<IntervalSet<B>, AllocError>
@@ -140,8 +144,8 @@ impl<B: Width> Add<B> for &IntervalSet<B> {
 
     ghost add_gives = { λ a x r. IfOk r (λ L. IsRunsOf L (Sums (Covers a.now) (Only (B.value x)))) };
 
-    /// The sums of a member and the value. Condition: the sums are in the range, which `fits_add`
-    /// tests; the value itself may lie outside.
+    /// Returns the sums of a member and the value. The caller must ensure that the sums are in the
+    /// range. Check with `fits_add`. The value itself may lie outside.
     ///
     /// `O(n)` for `n` runs. Reserves as many once. Fails only if allocation fails.
     fn add(self, rhs: B) -> Result<IntervalSet<B>, AllocError>
@@ -160,8 +164,8 @@ impl<B: Width> Add<&B> for &IntervalSet<B> {
 
     ghost add_gives = { λ a x r. IfOk r (λ L. IsRunsOf L (Sums (Covers a.now) (Only (B.value x.now)))) };
 
-    /// The sums of a member and the value. Condition: the sums are in the range, which `fits_add`
-    /// tests; the value itself may lie outside.
+    /// Returns the sums of a member and the value. The caller must ensure that the sums are in the
+    /// range. Check with `fits_add`. The value itself may lie outside.
     ///
     /// `O(n)` for `n` runs. Reserves as many once. Fails only if allocation fails.
     fn add(self, rhs: &B) -> Result<IntervalSet<B>, AllocError>
@@ -180,8 +184,8 @@ impl<B: Width> Sub<IntervalSet<B>> for IntervalSet<B> {
 
     ghost sub_gives = { λ a b r. IfOk r (λ L. IsRunsOf L (Differences (Covers a) (Covers b))) };
 
-    /// The differences of a member of each. Condition: the differences are in the range, which
-    /// `fits_sub` tests.
+    /// Returns the differences of a member of each. The caller must ensure that the differences are
+    /// in the range. Check with `fits_sub`.
     ///
     /// `O(n m log (n m))` for `n` and `m` runs. Allocates room for twice `n * m` runs. Fails only
     /// if allocation fails.
@@ -203,8 +207,8 @@ impl<B: Width> Sub<&IntervalSet<B>> for IntervalSet<B> {
 
     ghost sub_gives = { λ a b r. IfOk r (λ L. IsRunsOf L (Differences (Covers a) (Covers b.now))) };
 
-    /// The differences of a member of each. Condition: the differences are in the range, which
-    /// `fits_sub` tests.
+    /// Returns the differences of a member of each. The caller must ensure that the differences are
+    /// in the range. Check with `fits_sub`.
     ///
     /// `O(n m log (n m))` for `n` and `m` runs. Allocates room for twice `n * m` runs. Fails only
     /// if allocation fails.
@@ -220,8 +224,8 @@ impl<B: Width> Sub<IntervalSet<B>> for &IntervalSet<B> {
 
     ghost sub_gives = { λ a b r. IfOk r (λ L. IsRunsOf L (Differences (Covers a.now) (Covers b))) };
 
-    /// The differences of a member of each. Condition: the differences are in the range, which
-    /// `fits_sub` tests.
+    /// Returns the differences of a member of each. The caller must ensure that the differences are
+    /// in the range. Check with `fits_sub`.
     ///
     /// `O(n m log (n m))` for `n` and `m` runs. Allocates room for twice `n * m` runs. Fails only
     /// if allocation fails.
@@ -237,8 +241,8 @@ impl<B: Width> Sub<&IntervalSet<B>> for &IntervalSet<B> {
 
     ghost sub_gives = { λ a b r. IfOk r (λ L. IsRunsOf L (Differences (Covers a.now) (Covers b.now))) };
 
-    /// The differences of a member of each. Condition: the differences are in the range, which
-    /// `fits_sub` tests.
+    /// Returns the differences of a member of each. The caller must ensure that the differences are
+    /// in the range. Check with `fits_sub`.
     ///
     /// `O(n m log (n m))` for `n` and `m` runs. Allocates room for twice `n * m` runs. Fails only
     /// if allocation fails.
@@ -254,8 +258,8 @@ impl<B: Width> Sub<B> for IntervalSet<B> {
 
     ghost sub_gives = { λ a x r. IfOk r (λ L. IsRunsOf L (Differences (Covers a) (Only (B.value x)))) };
 
-    /// The differences of a member and the value. Condition: the differences are in the range,
-    /// which `fits_sub` tests; the value itself may lie outside.
+    /// Returns the differences of a member and the value. The caller must ensure that the
+    /// differences are in the range. Check with `fits_sub`. The value itself may lie outside.
     ///
     /// `O(n)` for `n` runs. Reserves as many once. Fails only if allocation fails.
     ///
@@ -280,8 +284,8 @@ impl<B: Width> Sub<&B> for IntervalSet<B> {
 
     ghost sub_gives = { λ a x r. IfOk r (λ L. IsRunsOf L (Differences (Covers a) (Only (B.value x.now)))) };
 
-    /// The differences of a member and the value. Condition: the differences are in the range,
-    /// which `fits_sub` tests; the value itself may lie outside.
+    /// Returns the differences of a member and the value. The caller must ensure that the
+    /// differences are in the range. Check with `fits_sub`. The value itself may lie outside.
     ///
     /// `O(n)` for `n` runs. Reserves as many once. Fails only if allocation fails.
     fn sub(self, rhs: &B) -> Result<IntervalSet<B>, AllocError>
@@ -300,8 +304,8 @@ impl<B: Width> Sub<B> for &IntervalSet<B> {
 
     ghost sub_gives = { λ a x r. IfOk r (λ L. IsRunsOf L (Differences (Covers a.now) (Only (B.value x)))) };
 
-    /// The differences of a member and the value. Condition: the differences are in the range,
-    /// which `fits_sub` tests; the value itself may lie outside.
+    /// Returns the differences of a member and the value. The caller must ensure that the
+    /// differences are in the range. Check with `fits_sub`. The value itself may lie outside.
     ///
     /// `O(n)` for `n` runs. Reserves as many once. Fails only if allocation fails.
     fn sub(self, rhs: B) -> Result<IntervalSet<B>, AllocError>
@@ -320,8 +324,8 @@ impl<B: Width> Sub<&B> for &IntervalSet<B> {
 
     ghost sub_gives = { λ a x r. IfOk r (λ L. IsRunsOf L (Differences (Covers a.now) (Only (B.value x.now)))) };
 
-    /// The differences of a member and the value. Condition: the differences are in the range,
-    /// which `fits_sub` tests; the value itself may lie outside.
+    /// Returns the differences of a member and the value. The caller must ensure that the
+    /// differences are in the range. Check with `fits_sub`. The value itself may lie outside.
     ///
     /// `O(n)` for `n` runs. Reserves as many once. Fails only if allocation fails.
     fn sub(self, rhs: &B) -> Result<IntervalSet<B>, AllocError>
@@ -340,8 +344,8 @@ impl<B: Width> Mul<IntervalSet<B>> for IntervalSet<B> {
 
     ghost mul_gives = { λ a b r. IfOk r (λ L. IsRunsOf L (Products (Covers a) (Covers b))) };
 
-    /// For each pair of runs, the numbers from the least to the greatest product. Condition: the
-    /// products are in the range, which `fits_mul` tests.
+    /// Returns, for each pair of runs, the numbers from the least to the greatest product. The
+    /// caller must ensure that the products are in the range. Check with `fits_mul`.
     ///
     /// `O(n m log (n m))` for `n` and `m` runs. Allocates room for twice `n * m` runs. Fails only
     /// if allocation fails.
@@ -363,8 +367,8 @@ impl<B: Width> Mul<&IntervalSet<B>> for IntervalSet<B> {
 
     ghost mul_gives = { λ a b r. IfOk r (λ L. IsRunsOf L (Products (Covers a) (Covers b.now))) };
 
-    /// For each pair of runs, the numbers from the least to the greatest product. Condition: the
-    /// products are in the range, which `fits_mul` tests.
+    /// Returns, for each pair of runs, the numbers from the least to the greatest product. The
+    /// caller must ensure that the products are in the range. Check with `fits_mul`.
     ///
     /// `O(n m log (n m))` for `n` and `m` runs. Allocates room for twice `n * m` runs. Fails only
     /// if allocation fails.
@@ -380,8 +384,8 @@ impl<B: Width> Mul<IntervalSet<B>> for &IntervalSet<B> {
 
     ghost mul_gives = { λ a b r. IfOk r (λ L. IsRunsOf L (Products (Covers a.now) (Covers b))) };
 
-    /// For each pair of runs, the numbers from the least to the greatest product. Condition: the
-    /// products are in the range, which `fits_mul` tests.
+    /// Returns, for each pair of runs, the numbers from the least to the greatest product. The
+    /// caller must ensure that the products are in the range. Check with `fits_mul`.
     ///
     /// `O(n m log (n m))` for `n` and `m` runs. Allocates room for twice `n * m` runs. Fails only
     /// if allocation fails.
@@ -397,8 +401,8 @@ impl<B: Width> Mul<&IntervalSet<B>> for &IntervalSet<B> {
 
     ghost mul_gives = { λ a b r. IfOk r (λ L. IsRunsOf L (Products (Covers a.now) (Covers b.now))) };
 
-    /// For each pair of runs, the numbers from the least to the greatest product. Condition: the
-    /// products are in the range, which `fits_mul` tests.
+    /// Returns, for each pair of runs, the numbers from the least to the greatest product. The
+    /// caller must ensure that the products are in the range. Check with `fits_mul`.
     ///
     /// `O(n m log (n m))` for `n` and `m` runs. Allocates room for twice `n * m` runs. Fails only
     /// if allocation fails.
@@ -414,8 +418,9 @@ impl<B: Width> Mul<B> for IntervalSet<B> {
 
     ghost mul_gives = { λ a x r. IfOk r (λ L. IsRunsOf L (Products (Covers a) (Only (B.value x)))) };
 
-    /// For each run, the numbers from the least to the greatest product with the value. Condition:
-    /// the products are in the range, which `fits_mul` tests; the value itself may lie outside.
+    /// Returns, for each run, the numbers from the least to the greatest product with the value.
+    /// The caller must ensure that the products are in the range. Check with `fits_mul`. The value
+    /// itself may lie outside.
     ///
     /// `O(n)` for `n` runs. Reserves as many once. Fails only if allocation fails.
     ///
@@ -443,8 +448,9 @@ impl<B: Width> Mul<&B> for IntervalSet<B> {
 
     ghost mul_gives = { λ a x r. IfOk r (λ L. IsRunsOf L (Products (Covers a) (Only (B.value x.now)))) };
 
-    /// For each run, the numbers from the least to the greatest product with the value. Condition:
-    /// the products are in the range, which `fits_mul` tests; the value itself may lie outside.
+    /// Returns, for each run, the numbers from the least to the greatest product with the value.
+    /// The caller must ensure that the products are in the range. Check with `fits_mul`. The value
+    /// itself may lie outside.
     ///
     /// `O(n)` for `n` runs. Reserves as many once. Fails only if allocation fails.
     fn mul(self, rhs: &B) -> Result<IntervalSet<B>, AllocError>
@@ -463,8 +469,9 @@ impl<B: Width> Mul<B> for &IntervalSet<B> {
 
     ghost mul_gives = { λ a x r. IfOk r (λ L. IsRunsOf L (Products (Covers a.now) (Only (B.value x)))) };
 
-    /// For each run, the numbers from the least to the greatest product with the value. Condition:
-    /// the products are in the range, which `fits_mul` tests; the value itself may lie outside.
+    /// Returns, for each run, the numbers from the least to the greatest product with the value.
+    /// The caller must ensure that the products are in the range. Check with `fits_mul`. The value
+    /// itself may lie outside.
     ///
     /// `O(n)` for `n` runs. Reserves as many once. Fails only if allocation fails.
     fn mul(self, rhs: B) -> Result<IntervalSet<B>, AllocError>
@@ -483,8 +490,9 @@ impl<B: Width> Mul<&B> for &IntervalSet<B> {
 
     ghost mul_gives = { λ a x r. IfOk r (λ L. IsRunsOf L (Products (Covers a.now) (Only (B.value x.now)))) };
 
-    /// For each run, the numbers from the least to the greatest product with the value. Condition:
-    /// the products are in the range, which `fits_mul` tests; the value itself may lie outside.
+    /// Returns, for each run, the numbers from the least to the greatest product with the value.
+    /// The caller must ensure that the products are in the range. Check with `fits_mul`. The value
+    /// itself may lie outside.
     ///
     /// `O(n)` for `n` runs. Reserves as many once. Fails only if allocation fails.
     fn mul(self, rhs: &B) -> Result<IntervalSet<B>, AllocError>

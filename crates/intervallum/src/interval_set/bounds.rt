@@ -9,8 +9,8 @@ use crate::width::Width;
 use std::alloc::{AllocError, Global};
 
 impl<B: Width> IntervalSet<B> {
-    /// The set of `x` alone. Condition: `x` is in the range, which `Interval::whole().contains(&x)`
-    /// tests. `O(1)`. Allocates one run. Fails only if allocation fails.
+    /// Returns the set of `x` alone. The caller must ensure that `x` is in the range. Check with
+    /// `Interval::whole().contains(&x)`. `O(1)`. Allocates one run. Fails only if allocation fails.
     ///
     /// ```
     /// let five = IntervalSet::singleton(alloc, 5)?;
@@ -23,7 +23,8 @@ impl<B: Width> IntervalSet<B> {
         Self::new(alloc, x, x)
     }
 
-    /// The range of `B`, as one run. `O(1)`. Allocates one run. Fails only if allocation fails.
+    /// Returns the range of `B`, as one run. `O(1)`. Allocates one run. Fails only if allocation
+    /// fails.
     ///
     /// ```
     /// let bytes = IntervalSet::<u8>::whole(alloc)?;
@@ -35,7 +36,7 @@ impl<B: Width> IntervalSet<B> {
         Self::new(alloc, B::min_value(), B::max_value())
     }
 
-    /// The range of `B`, which every set entails. `O(1)`. Allocates one run. Fails only if
+    /// Returns the range of `B`, which every set entails. `O(1)`. Allocates one run. Fails only if
     /// allocation fails.
     ///
     /// ```
@@ -60,8 +61,8 @@ impl<B: Width> IntervalSet<B> {
 }
 
 impl<B: Width> Bounded for IntervalSet<B> {
-    /// The least member: the start of the first run. Condition: there is a member, which `is_empty`
-    /// tests. `O(1)`. Does not allocate.
+    /// Returns the least member: the start of the first run. The caller must ensure that there is a
+    /// member. Check with `is_empty`. `O(1)`. Does not allocate.
     ///
     /// ```
     /// let a: IntervalSet<i32> = [(1, 2), (5, 6)].to_interval_set(alloc)?;
@@ -77,8 +78,8 @@ impl<B: Width> Bounded for IntervalSet<B> {
         first.lower()
     }
 
-    /// The greatest member: the end of the last run. Condition: there is a member, which `is_empty`
-    /// tests. `O(1)`. Does not allocate.
+    /// Returns the greatest member: the end of the last run. The caller must ensure that there is a
+    /// member. Check with `is_empty`. `O(1)`. Does not allocate.
     ///
     /// ```
     /// let a: IntervalSet<i32> = [(1, 2), (5, 6)].to_interval_set(alloc)?;

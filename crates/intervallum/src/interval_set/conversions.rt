@@ -51,7 +51,8 @@ impl<B: Width> Iterator for IntoRuns<B> {
 
     ghost remaining = { item_count (λ rest. rest) };
 
-    /// The first of the runs that are left; none where no run is. `O(1)`. Does not allocate.
+    /// Returns the first of the runs that are left; `None` if there is none. `O(1)`. Does not
+    /// allocate.
     ///
     /// ```
     /// let a: IntervalSet<i32> = [(1, 2), (5, 6)].to_interval_set(alloc)?;
@@ -66,7 +67,8 @@ impl<B: Width> Iterator for IntoRuns<B> {
 impl<B: Width> DoubleEndedIterator for IntoRuns<B> {
     ghost next_back_gives = { YieldsLast (λ rest. rest) };
 
-    /// The last of the runs that are left; none where no run is. `O(1)`. Does not allocate.
+    /// Returns the last of the runs that are left; `None` if there is none. `O(1)`. Does not
+    /// allocate.
     ///
     /// ```
     /// let a: IntervalSet<i32> = [(1, 2), (5, 6)].to_interval_set(alloc)?;
@@ -85,7 +87,7 @@ impl<B: Width> IntoIterator for IntervalSet<B> {
 
     ghost into_iter_gives = { λ s it. it ≡ s };
 
-    /// Returns the runs, ascending, from both ends; the set is taken apart. `O(1)`. Does not
+    /// Returns the runs, ascending, from both ends, and consumes the set. `O(1)`. Does not
     /// allocate.
     ///
     /// ```
@@ -125,15 +127,14 @@ impl<'a, B: Width> IntoIterator for &'a IntervalSet<B> {
 
 impl<B: Width> IntervalSet<B> {
     /// Adds the members of every interval that an iterator gives, in any order; an interval with no
-    /// member adds nothing. Condition: the iterator comes to its end.
+    /// member adds nothing. The caller must ensure that the iterator ends.
     ///
     /// A single item is added in place, as by `insert_interval`. Several are gathered first, and the
-    /// set is changed last. After an error, which is want of memory, the set is as it was.
+    /// set is changed last. If allocation fails, the set is unchanged.
     ///
     /// For one item `O(log n + j)`, where it meets `j` of the `n` runs, and `O(n)` where the number of
-    /// runs changes; memory is taken only where a run is added and there is no room for it. For more,
-    /// `O(k log k + n)` for `k` items, in memory for `2 k + n` runs besides what the gathering of the
-    /// items leaves over.
+    /// runs changes; allocates only where a run is added and there is no room for it. For `k` items
+    /// `O(k log k + n)`; allocates `2 k + n` runs besides what gathering the items leaves over.
     ///
     /// ```
     /// let mut a = IntervalSet::new(alloc, 1, 2)?;
@@ -197,12 +198,11 @@ pub trait ToIntervalSet<B: Width> {
     /// The pairs of numbers that the value stands for.
     ghost pairs: { Self → List (ℤ × ℤ) };
 
-    /// The set of the members of every pair. Condition: no bound is outside the range, which
-    /// `Interval::in_range` tests. Pairs may stand in any order and overlap; a pair whose bounds
-    /// cross adds nothing.
+    /// Returns the set of the members of every pair. The caller must ensure that no bound is
+    /// outside the range. Check with `Interval::in_range`. Pairs may stand in any order and
+    /// overlap; a pair whose bounds cross adds nothing.
     ///
-    /// `O(n log n)` for `n` pairs, in memory for twice as many runs. Fails only if allocation
-    /// fails.
+    /// `O(n log n)` for `n` pairs. Reserves twice as many runs. Fails only if allocation fails.
     ///
     /// ```
     /// let a: IntervalSet<i32> = [(3, 8), (2, 5), (9, 4)].to_interval_set(alloc)?;
@@ -218,8 +218,8 @@ impl<B: Width> ToIntervalSet<B> for (B, B) {
 
     ghost pairs = { λ p. (B.value p.0, B.value p.1) ∷ [] };
 
-    /// The set of the numbers from the first to the second; none where they cross. `O(1)`, in
-    /// memory for two runs. Fails only if allocation fails.
+    /// Returns the set of the numbers from the first to the second, which is empty if they cross.
+    /// `O(1)`. Reserves two runs. Fails only if allocation fails.
     fn to_interval_set(self, alloc: Global) -> Result<IntervalSet<B>, AllocError> {
         let mut list = Vec::with_capacity(alloc, 1)?;
         list.push(Interval::new(self.0, self.1))?;
@@ -232,8 +232,8 @@ impl<B: Width> ToIntervalSet<B> for &[(B, B)] {
 
     ghost pairs = { λ s. map (λ p. (B.value p.0, B.value p.1)) s.now };
 
-    /// The set of the members of every pair. Fails only if allocation fails. The pairs are not
-    /// changed.
+    /// Returns the set of the members of every pair. Fails only if allocation fails. The pairs are
+    /// not changed.
     fn to_interval_set(self, alloc: Global) -> Result<IntervalSet<B>, AllocError> {
         of_pairs(alloc, self)
     }
@@ -244,7 +244,8 @@ impl<B: Width> ToIntervalSet<B> for Vec<(B, B)> {
 
     ghost pairs = { λ v. map (λ p. (B.value p.0, B.value p.1)) v.items };
 
-    /// The set of the members of every pair. Fails only if allocation fails. The vector is consumed.
+    /// Returns the set of the members of every pair. Fails only if allocation fails. The vector is
+    /// consumed.
     fn to_interval_set(self, alloc: Global) -> Result<IntervalSet<B>, AllocError> {
         of_pairs(alloc, self.as_slice())
     }
@@ -255,7 +256,7 @@ impl<B: Width, const N: usize> ToIntervalSet<B> for [(B, B); N] {
 
     ghost pairs = { λ a. map (λ p. (B.value p.0, B.value p.1)) a };
 
-    /// The set of the members of every pair. Fails only if allocation fails.
+    /// Returns the set of the members of every pair. Fails only if allocation fails.
     fn to_interval_set(self, alloc: Global) -> Result<IntervalSet<B>, AllocError> {
         of_pairs(alloc, &self)
     }

@@ -7,7 +7,7 @@ use crate::width::Width;
 use std::alloc::AllocError;
 
 impl<B: Width> IntervalSet<B> {
-    /// The same set once more. `O(n)`, in memory for `n` runs. Fails only if allocation fails.
+    /// Returns a copy of the set. `O(n)`. Reserves `n` runs. Fails only if allocation fails.
     ///
     /// ```
     /// let a = IntervalSet::new(alloc, 1, 2)?;

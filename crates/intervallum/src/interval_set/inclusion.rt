@@ -79,7 +79,7 @@ impl<B: Width> ProperSubset for IntervalSet<B> {
 impl<B: Width> Entailment for IntervalSet<B> {
     ghost members = { Covers };
 
-    /// `True` where `other` includes this set, else `False` where this one includes `other`, else
+    /// Returns `True` if `other` includes this set, else `False` if this one includes `other`, else
     /// `Unknown`. `O(n log m + m log n)`. Does not allocate.
     ///
     /// ```

@@ -23,7 +23,7 @@ impl<B: Width> IntervalSet<B> {
         self.iter().as_slice()
     }
 
-    /// The runs are maximal and lie in the range. This does nothing: its contract is the fact.
+    /// Does nothing: its contract states that the runs are maximal and lie in the range.
     ///
     /// ```
     /// let a: IntervalSet<i32> = IntervalSet::new(alloc, 1, 5)?;

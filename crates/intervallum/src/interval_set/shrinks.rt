@@ -20,8 +20,9 @@ impl<B: Width> ShrinkLeft for IntervalSet<B> {
 
     ghost answers = { λ r S. IfOk r (λ L. IsRunsOf L S) };
 
-    /// The members that are at least `lower`, which may be any value of its type. Binary search:
-    /// `O(log n + k)` where `k` runs stay. Reserves `k` runs once. Fails only if allocation fails.
+    /// Returns the members that are at least `lower`, which may be any value of its type. Binary
+    /// search: `O(log n + k)` where `k` runs stay. Reserves `k` runs once. Fails only if allocation
+    /// fails.
     ///
     /// ```
     /// let a = IntervalSet::new(alloc, 1, 5)?;
@@ -40,8 +41,9 @@ impl<B: Width> ShrinkRight for IntervalSet<B> {
 
     ghost answers = { λ r S. IfOk r (λ L. IsRunsOf L S) };
 
-    /// The members that are at most `upper`, which may be any value of its type. Binary search:
-    /// `O(log n + k)` where `k` runs stay. Reserves `k` runs once. Fails only if allocation fails.
+    /// Returns the members that are at most `upper`, which may be any value of its type. Binary
+    /// search: `O(log n + k)` where `k` runs stay. Reserves `k` runs once. Fails only if allocation
+    /// fails.
     ///
     /// ```
     /// let a = IntervalSet::new(alloc, 1, 5)?;
@@ -60,8 +62,8 @@ impl<B: Width> StrictShrinkLeft for IntervalSet<B> {
 
     ghost answers = { λ r S. IfOk r (λ L. IsRunsOf L S) };
 
-    /// The members above `lower`, which may be any value of its type. Binary search: `O(log n + k)`
-    /// where `k` runs stay. Reserves `k` runs once. Fails only if allocation fails.
+    /// Returns the members above `lower`, which may be any value of its type. Binary search:
+    /// `O(log n + k)` where `k` runs stay. Reserves `k` runs once. Fails only if allocation fails.
     ///
     /// ```
     /// let a = IntervalSet::new(alloc, 1, 5)?;
@@ -80,8 +82,8 @@ impl<B: Width> StrictShrinkRight for IntervalSet<B> {
 
     ghost answers = { λ r S. IfOk r (λ L. IsRunsOf L S) };
 
-    /// The members below `upper`, which may be any value of its type. Binary search: `O(log n + k)`
-    /// where `k` runs stay. Reserves `k` runs once. Fails only if allocation fails.
+    /// Returns the members below `upper`, which may be any value of its type. Binary search:
+    /// `O(log n + k)` where `k` runs stay. Reserves `k` runs once. Fails only if allocation fails.
     ///
     /// ```
     /// let a = IntervalSet::new(alloc, 1, 5)?;

@@ -19,10 +19,11 @@ impl<B: Width> Union<B> for IntervalSet<B> {
 
     ghost answers = { λ r S. IfOk r (λ L. IsRunsOf L S) };
 
-    /// The members, and the value. `O(n)`: one copy and a binary search, in memory for `n + 1` runs.
-    /// Fails only if allocation fails.
+    /// Returns the members, and the value. `O(n)`: one copy and a binary search. Reserves `n + 1`
+    /// runs. Fails only if allocation fails.
     ///
-    /// Condition: the value is in the range, which `Interval::in_range(value, value)` tests.
+    /// The caller must ensure that the value is in the range. Check with
+    /// `Interval::in_range(value, value)`.
     ///
     /// ```
     /// let a = IntervalSet::new(alloc, 1, 5)?;
@@ -50,10 +51,11 @@ impl<B: Width> SymmetricDifference<B> for IntervalSet<B> {
 
     ghost answers = { λ r S. IfOk r (λ L. IsRunsOf L S) };
 
-    /// The members without the value where it is one, else with it. `O(n)`: one copy and two binary
-    /// searches, in memory for `n + 1` runs. Fails only if allocation fails.
+    /// Returns the members without the value if it is one of them, else with it. `O(n)`: one copy
+    /// and two binary searches. Reserves `n + 1` runs. Fails only if allocation fails.
     ///
-    /// Condition: the value is in the range, which `Interval::in_range(value, value)` tests.
+    /// The caller must ensure that the value is in the range. Check with
+    /// `Interval::in_range(value, value)`.
     ///
     /// ```
     /// let a = IntervalSet::new(alloc, 1, 5)?;
@@ -81,8 +83,8 @@ impl<B: Width> Intersection<B> for IntervalSet<B> {
 
     ghost answers = { λ r S. IfOk r (λ L. IsRunsOf L S) };
 
-    /// The value alone where it is a member, else none; for any value of its type. `O(log n)`, in
-    /// memory for one run where it is a member. Fails only if allocation fails.
+    /// Returns the value alone if it is a member, else the empty set. It may be any value of its
+    /// type. `O(log n)`. Allocates one run if it is a member. Fails only if allocation fails.
     ///
     /// ```
     /// let a = IntervalSet::new(alloc, 1, 5)?;
@@ -111,8 +113,8 @@ impl<B: Width> Difference<B> for IntervalSet<B> {
 
     ghost answers = { λ r S. IfOk r (λ L. IsRunsOf L S) };
 
-    /// The members but the value; for any value of its type. `O(n)`: one copy and a binary search, in
-    /// memory for `n + 1` runs. Fails only if allocation fails.
+    /// Returns the members except the value, which may be any value of its type. `O(n)`: one copy
+    /// and a binary search. Reserves `n + 1` runs. Fails only if allocation fails.
     ///
     /// ```
     /// let a = IntervalSet::new(alloc, 1, 5)?;

@@ -13,9 +13,9 @@ use crate::ops::{
 use crate::width::Width;
 use std::alloc::AllocError;
 
-/// The members that the runs left in two walks have in common. Advances once for each of these runs
-/// at most, and takes memory once, for as many runs. The set has the allocator of the first walk.
-/// An error is memory that was refused; the sets that are walked over are not changed.
+/// Returns the members that the runs left in two walks have in common. Advances once for each of
+/// these runs at most, and reserves as many runs once. The set has the allocator of the first walk.
+/// Fails only if allocation fails; the sets that are walked over are unchanged.
 ///
 /// ```
 /// let (a, b) = (IntervalSet::new(alloc, 1, 5)?, IntervalSet::new(alloc, 4, 9)?);
@@ -46,8 +46,8 @@ pub fn common<B: Width>(
 }
 
 /// The numbers of the range that no run covers of those that are left in a walk. Advances once for
-/// each of these runs, and takes memory once, for one run more. The set has the allocator of the
-/// walk. An error is memory that was refused; the set that is walked over is not changed.
+/// each of these runs, and reserves one run more than these once. The set has the allocator of the
+/// walk. Fails only if allocation fails; the set that is walked over is unchanged.
 pub(crate) fn gaps<B: Width>(mut walk: Walk<'_, B>) -> Result<IntervalSet<B>, AllocError>
     ensures members { IfOk result (λ L. IsRunsOf L (Complement B.whole (Covers walk.entry.left))) }
     ensures runs_at_most { IfOk result (λ L. length L ≤ length walk.entry.left + 1) }
@@ -120,7 +120,7 @@ pub(super) fn push_part<B: Width>(
 }
 
 /// Whether the runs left in two walks have a member in common. Advances once for each of these runs
-/// at most: `O(n + m)`. Stops at the first common member, and takes no memory.
+/// at most: `O(n + m)`. Stops at the first common member, and does not allocate.
 pub(crate) fn have_common<B: Width>(mut first: Walk<'_, B>, mut second: Walk<'_, B>) -> bool
     ensures { IsTrue result ↔ HasSome (Intersection (Covers first.entry.left) (Covers second.entry.left)) }
 {

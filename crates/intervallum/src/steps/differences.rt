@@ -14,8 +14,8 @@ use crate::width::Width;
 use std::alloc::AllocError;
 
 /// The members that the first walk has left and the second has not. Advances once for each of these
-/// runs at most, and takes memory once, for as many runs. The set has the allocator of the first
-/// walk. An error is memory that was refused; the sets that are walked over are not changed.
+/// runs at most, and reserves as many runs once. The set has the allocator of the first walk. Fails
+/// only if allocation fails; the sets that are walked over are unchanged.
 pub(crate) fn without<B: Width>(
     mut first: Walk<'_, B>,
     mut second: Walk<'_, B>,

@@ -11,9 +11,9 @@ use crate::ops::Bounded;
 use crate::width::Width;
 use std::alloc::AllocError;
 
-/// The members of the runs that are left in either walk. Advances once for each of these runs, and
-/// takes memory once, for as many runs. The set has the allocator of the first walk. An error is
-/// memory that was refused; the sets that are walked over are not changed.
+/// Returns the members of the runs that are left in either walk. Advances once for each of these
+/// runs, and reserves as many runs once. The set has the allocator of the first walk. Fails only if
+/// allocation fails; the sets that are walked over are unchanged.
 ///
 /// ```
 /// let (a, b) = (IntervalSet::new(alloc, 1, 5)?, IntervalSet::new(alloc, 4, 9)?);

@@ -9,7 +9,7 @@ use crate::width::Width;
 use std::marker::Model;
 
 /// The runs of a set. A contract sees them, and how often one was looked at; at run time nothing
-/// counts. Takes no memory.
+/// counts. Does not allocate.
 ///
 /// ```
 /// let a: IntervalSet<i32> = [(1, 2), (5, 6)].to_interval_set(alloc)?;
@@ -35,7 +35,7 @@ impl<'a, B: Width> Model for Probes<'a, B> {
 }
 
 impl<'a, B: Width> Probes<'a, B> {
-    /// The runs of the set, with no look taken. `O(1)`. Does not allocate.
+    /// Returns the runs of the set, with no look taken. `O(1)`. Does not allocate.
     ///
     /// ```
     /// let a: IntervalSet<i32> = [(1, 2), (5, 6)].to_interval_set(alloc)?;
@@ -51,7 +51,7 @@ impl<'a, B: Width> Probes<'a, B> {
         }
     }
 
-    /// How many runs there are. This is no look. `O(1)`. Does not allocate.
+    /// Returns how many runs there are. This is no look. `O(1)`. Does not allocate.
     ///
     /// ```
     /// let a: IntervalSet<i32> = [(1, 2), (5, 6)].to_interval_set(alloc)?;
@@ -65,8 +65,8 @@ impl<'a, B: Width> Probes<'a, B> {
         self.runs.len()
     }
 
-    /// Run number `i`, from 0, by one look. Condition: `i` is less than `len()`. `O(1)`. Does not
-    /// allocate.
+    /// Returns run number `i`, from 0, by one look. The caller must ensure that `i` is less than
+    /// `len()`. `O(1)`. Does not allocate.
     ///
     /// ```
     /// let a: IntervalSet<i32> = [(1, 2), (5, 6)].to_interval_set(alloc)?;

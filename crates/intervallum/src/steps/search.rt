@@ -44,10 +44,10 @@ pub fn find<B: Width>(probes: &mut Probes<'_, B>, v: B) -> Place
 }
 
 /// Where `v` stands, from a place on: `from` runs lie below it. Doubles its steps until it is past
-/// `v`, and then searches by halves: `O(log d)` where it goes on by `d` runs, with no memory.
+/// `v`, and then does a binary search: `O(log d)` where it goes on by `d` runs. Does not allocate.
 ///
-/// Conditions: `from` is at most `probes.len()`, and the runs before place `from` end below `v`, as
-/// they do where an earlier search for a lower value answered that place.
+/// The caller must ensure that `from` is at most `probes.len()`, and the runs before place `from`
+/// end below `v`, as they do where an earlier search for a lower value answered that place.
 pub(crate) fn find_from<B: Width>(probes: &mut Probes<'_, B>, v: B, from: usize) -> Place
     requires at_most { from ≤ length probes.old.runs }
     requires below { EndBelow (B.value v) (take from probes.old.runs) }

@@ -11,7 +11,7 @@ use std::alloc::Global;
 use std::marker::Model;
 
 /// The runs that are left of a set. A contract sees them, how many were taken away, and how many
-/// the set has. Takes no memory.
+/// the set has. Does not allocate.
 ///
 /// ```
 /// let a: IntervalSet<i32> = [(1, 2), (5, 6)].to_interval_set(alloc)?;
@@ -40,7 +40,7 @@ impl<'a, B: Width> Model for Walk<'a, B> {
 }
 
 impl<'a, B: Width> Walk<'a, B> {
-    /// A walk that has all runs of the set before it. `O(1)`. Does not allocate.
+    /// Returns a walk that has all runs of the set before it. `O(1)`. Does not allocate.
     ///
     /// ```
     /// let a: IntervalSet<i32> = [(1, 2), (5, 6)].to_interval_set(alloc)?;
@@ -58,7 +58,8 @@ impl<'a, B: Width> Walk<'a, B> {
         }
     }
 
-    /// The first of the runs that are left; none where no run is. `O(1)`. Does not allocate.
+    /// Returns the first of the runs that are left; `None` if there is none. `O(1)`. Does not
+    /// allocate.
     ///
     /// ```
     /// let a: IntervalSet<i32> = [(1, 2), (5, 6)].to_interval_set(alloc)?;
@@ -73,8 +74,8 @@ impl<'a, B: Width> Walk<'a, B> {
         self.runs.get(self.taken).copied()
     }
 
-    /// Takes the first of the runs away. Condition: there is one, which `peek` tests. `O(1)`. Does
-    /// not allocate.
+    /// Takes the first of the runs away. The caller must ensure that there is one. Check with
+    /// `peek`. `O(1)`. Does not allocate.
     ///
     /// ```
     /// let a: IntervalSet<i32> = [(1, 2), (5, 6)].to_interval_set(alloc)?;
@@ -103,8 +104,8 @@ impl<'a, B: Width> Walk<'a, B> {
         Some(run)
     }
 
-    /// How many runs are left: with the advances made, they are the runs of the set. `O(1)`. Does
-    /// not allocate.
+    /// Returns how many runs are left: with the advances made, they are the runs of the set.
+    /// `O(1)`. Does not allocate.
     ///
     /// ```
     /// let a: IntervalSet<i32> = [(1, 2), (5, 6)].to_interval_set(alloc)?;
@@ -126,7 +127,7 @@ impl<'a, B: Width> Walk<'a, B> {
         let _taken = self.taken;
     }
 
-    /// The allocator of the set. `O(1)`. Does not allocate.
+    /// Returns the allocator of the set. `O(1)`. Does not allocate.
     ///
     /// ```
     /// let a: IntervalSet<i32> = [(1, 2), (5, 6)].to_interval_set(alloc)?;
