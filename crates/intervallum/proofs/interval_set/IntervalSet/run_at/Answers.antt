@@ -2,6 +2,7 @@ use Rattle.std.proofs.Common.{◌≡◌, ℤ, List, Some, subst}
 use Rattle.std.specs.Prelude.{slice_get}
 use Rattle.ivl_laws.specs.Runs.{Covers}
 use Rattle.intervallum.specs.Neighbours.{IsRunWith}
+use Rattle.intervallum.proofs.Finding.{place_is_less}
 use Rattle.intervallum.proofs.interval_set.IntervalSet.run_at.Goals as goal
 
 pub returns-in-In : goal.returns-in-In
@@ -13,3 +14,6 @@ returns-in-In g c =
 
 pub returns-in-Gap : goal.returns-in-Gap
 returns-in-Gap g c = subst (λ (L : List (ℤ × ℤ)). ¬ (Covers L (g.B.Width.value c.args.v))) c.new-runs.ensures.runs c.in-Gap.ensures.place.0
+
+pub look-requires : goal.look-requires
+look-requires g c = rw c.find.ensures.same (place_is_less c.new-runs.result.runs c.in-In.i _ c.in-In.ensures.place)

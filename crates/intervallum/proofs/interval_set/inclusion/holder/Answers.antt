@@ -3,7 +3,7 @@ use Rattle.std.specs.Prelude.{slice_get}
 use Rattle.ivl_laws.specs.Runs.{IsRunListIn}
 use Rattle.ivl_laws.proofs.Orders.{le_number}
 use Rattle.ivl_laws.proofs.Intervals.{some_is_not_crossed}
-use Rattle.intervallum.proofs.Finding.{held_by_none, holds_at_place}
+use Rattle.intervallum.proofs.Finding.{held_by_none, holds_at_place, place_is_less}
 use Rattle.intervallum.proofs.interval_set.inclusion.holder.Goals as goal
 
 pub returns-then-le-clause-held : goal.returns-then-le-clause-held
@@ -34,8 +34,5 @@ upper-requires-in-In g c = (some_is_not_crossed c.look-other.result).1 c.look-ot
 pub find_from-requires-clause-below : goal.find_from-requires-clause-below
 find_from-requires-clause-below g c = rw c.lower.ensures.value c.requires.below
 
-pub find_from-requires-clause-at_most : goal.find_from-requires-clause-at_most
-find_from-requires-clause-at_most g c = c.requires.at_most
-
-pub returns-in-Gap-clause-same : goal.returns-in-Gap-clause-same
-returns-in-Gap-clause-same g c = c.find_from.ensures.same
+pub look-other-requires : goal.look-other-requires
+look-other-requires g c = rw c.find_from.ensures.same (place_is_less c.args.runs.now.runs c.in-In.i _ c.in-In.ensures.place)

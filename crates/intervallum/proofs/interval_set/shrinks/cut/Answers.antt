@@ -51,15 +51,6 @@ returns-clause-members g c =
     c.runs_before-start.ensures.at_most c.runs_before-start.ensures.below c.runs_up_to-end.ensures.above)
     c.cut_runs.ensures.members
 
-pub upper-requires : goal.upper-requires
-upper-requires g c = (_, c.lower.ensures.member)
-
-pub returns-clause-within : goal.returns-clause-within
-returns-clause-within g c = c.as_runs-runs.ensures.runs
-
-pub returns-then-is_empty-clause-within : goal.returns-then-is_empty-clause-within
-returns-then-is_empty-clause-within g c = c.as_runs-runs.ensures.runs
-
 pub returns-then-is_empty-clause-members : goal.returns-then-is_empty-clause-members
 returns-then-is_empty-clause-members g c = IfOk-weaker c.with_room.result _ _ (λ L e. rw e (IsRunsOf-none _ (λ z i. c.is_empty.ensures.members.0 c.if-is_empty.true z i.1))) c.with_room.ensures
 
