@@ -24,7 +24,7 @@ impl Expressions {
     ) -> Result<Expressions, AllocError> {
         Ok(Expressions {
             sum: sum(alloc, Expr::Var(0), Expr::Var(1))?,
-            operands: vec![in alloc; a.try_clone()?, b.try_clone()?]?,
+            operands: operands(alloc, a, b)?,
             chain: chain(alloc)?,
             links: links(alloc)?,
         })
@@ -53,6 +53,15 @@ fn answer(
 
 fn sum(alloc: Global, a: Expr<i64>, b: Expr<i64>) -> Result<Expr<i64>, AllocError> {
     Ok(Expr::Add(Box::new(alloc, a)?, Box::new(alloc, b)?))
+}
+
+/// Copies of both sets.
+fn operands(
+    alloc: Global,
+    a: &IntervalSet<i64>,
+    b: &IntervalSet<i64>,
+) -> Result<Vec<IntervalSet<i64>>, AllocError> {
+    Ok(vec![in alloc; a.try_clone()?, b.try_clone()?]?)
 }
 
 /// The sum of the variables, from the left.

@@ -22,15 +22,20 @@ impl JsonInputs {
         pairs: &[(i64, i64)],
         set: &IntervalSet<i64>,
     ) -> Result<JsonInputs, AllocError> {
-        let mut items = Vec::with_capacity(alloc, pairs.len())?;
-        for &(lower, upper) in pairs {
-            items.push(json!(in alloc; [lower, upper])?)?;
-        }
         Ok(JsonInputs {
-            pairs: Value::from(items),
+            pairs: array(alloc, pairs)?,
             written: set.to_value(alloc)?,
         })
     }
+}
+
+/// The array of the pairs.
+fn array(alloc: Global, pairs: &[(i64, i64)]) -> Result<Value, AllocError> {
+    let mut items = Vec::with_capacity(alloc, pairs.len())?;
+    for &(lower, upper) in pairs {
+        items.push(json!(in alloc; [lower, upper])?)?;
+    }
+    Ok(Value::from(items))
 }
 
 /// The set that the array of the pairs reads as.

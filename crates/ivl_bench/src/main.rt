@@ -17,6 +17,7 @@ use anyhow::{Context, Result, bail};
 use inputs::Inputs;
 use measures::Measure;
 use std::env;
+use std::rt::Clock;
 use std::time::Duration;
 use timing::Limits;
 
@@ -27,10 +28,35 @@ fn print_answers(rt: &(impl Print + AllocGlobal), n: u32) -> Result<()> {
 }
 
 fn print_answers_to(rt: &impl Print, n: u32, inputs: &Inputs) -> Result<()> {
-    for measure in Measure::all() {
+    for &measure in &Measure::ALL {
         if measure.is_for(n) {
             let text = measure.answer(inputs)?;
             println!(rt; "{} {n} {text}", measure.name())?;
+        }
+    }
+    Ok(())
+}
+
+/// How long calls are timed, at least so many seconds each.
+fn read_limits(seconds: &str) -> Result<Limits> {
+    let seconds = seconds.parse().ok().context("reading the seconds")?;
+    let least = Duration::try_from_secs_f64(seconds)
+        .ok()
+        .context("the seconds do not fit")?;
+    Ok(Limits::new(least))
+}
+
+/// Prints how long each call takes, at sets of up to so many runs.
+fn print_times(
+    rt: &(impl Print + AllocGlobal + Clock),
+    seconds: &str,
+    greatest: &str,
+) -> Result<()> {
+    let limits = read_limits(seconds)?;
+    let greatest: u32 = greatest.parse().ok().context("reading the greatest n")?;
+    for n in [10, 100, 300, 1_000, 10_000] {
+        if n <= greatest {
+            timing::print_times(rt, n, &limits)?;
         }
     }
     Ok(())
@@ -52,24 +78,5 @@ fn main(rt: HostRuntime) -> Result<()> {
     }
     let seconds = arguments.next().context("give the seconds")?;
     let greatest = arguments.next().context("give the greatest n")?;
-    let seconds = seconds
-        .as_str()
-        .parse()
-        .ok()
-        .context("reading the seconds")?;
-    let least = Duration::try_from_secs_f64(seconds)
-        .ok()
-        .context("the seconds do not fit")?;
-    let limits = Limits::new(least);
-    let greatest: u32 = greatest
-        .as_str()
-        .parse()
-        .ok()
-        .context("reading the greatest n")?;
-    for n in [10, 100, 300, 1_000, 10_000] {
-        if n <= greatest {
-            timing::print_times(&rt, n, &limits)?;
-        }
-    }
-    Ok(())
+    print_times(&rt, seconds.as_str(), greatest.as_str())
 }

@@ -10,7 +10,7 @@ use ivl_store::store::callers::post_if_distinct;
 use ivl_store::store::{Constraint, Post, Store, StoreFault};
 use std::alloc::{AllocError, Global};
 use std::fs::File;
-use std::io::{BufRead, BufReader};
+use std::io::{BufRead, BufReader, Lines};
 use std::rt::{Clock, Files};
 use std::time::{Duration, Instant};
 
@@ -62,12 +62,17 @@ struct Instance {
 
 impl Instance {
     fn read(rt: &(impl AllocGlobal + Files), path: &str) -> Result<Instance> {
-        let alloc = rt.alloc();
-        let mut instance = Instance::empty(alloc);
-        for line in BufReader::new(alloc, File::open(rt, path)?)?.lines(alloc) {
-            instance.add(Line::parse(alloc, line?.as_str())?)?;
+        let mut instance = Instance::empty(rt.alloc());
+        for line in lines(rt, path)? {
+            instance.add_line(rt.alloc(), line?.as_str())?;
         }
         Ok(instance)
+    }
+
+    /// Adds what a line of a file has.
+    fn add_line(&mut self, alloc: Global, text: &str) -> Result<()> {
+        let line = Line::parse(alloc, text)?;
+        Ok(self.add(line)?)
     }
 
     fn empty(alloc: Global) -> Instance {
@@ -105,6 +110,12 @@ impl Instance {
             Way::Propagate => store.propagate(&self.constraints, usize::MAX),
         }
     }
+}
+
+/// The lines of a file.
+fn lines<R: AllocGlobal + Files>(rt: &R, path: &str) -> Result<Lines<BufReader<R::File>>> {
+    let file = File::open(rt, path)?;
+    Ok(BufReader::new(rt.alloc(), file)?.lines(rt.alloc()))
 }
 
 /// The numbers of a text, blanks between them.
@@ -150,17 +161,30 @@ pub fn print_answers(rt: &(impl Print + AllocGlobal + Files)) -> Result<()> {
     Ok(())
 }
 
+/// Prints the same for one instance.
 fn print_answers_of(rt: &(impl Print + AllocGlobal + Files), name: &str) -> Result<()> {
     let instance = read_named(rt, name, "txt")?;
     let fixed = read_named(rt, name, "fixed")?;
     for way in Way::BOTH {
-        let (is_fixed, same) = solved(rt.alloc(), &instance, &fixed, way)?;
-        println!(rt;
-            "store {name} {} {is_fixed} {same} of {}",
-            way.name(),
-            fixed.domains.len()
-        )?;
+        print_answer(rt, name, &instance, &fixed, way)?;
     }
+    Ok(())
+}
+
+/// Prints how many domains of an instance are those of another instance, once the one way has narrowed them.
+fn print_answer(
+    rt: &(impl Print + AllocGlobal),
+    name: &str,
+    instance: &Instance,
+    fixed: &Instance,
+    way: Way,
+) -> Result<()> {
+    let (is_fixed, same) = solved(rt.alloc(), instance, fixed, way)?;
+    println!(rt;
+        "store {name} {} {is_fixed} {same} of {}",
+        way.name(),
+        fixed.domains.len()
+    )?;
     Ok(())
 }
 
@@ -190,19 +214,29 @@ fn same_domains(store: &Store<i64>, fixed: &Instance) -> usize {
 pub fn print_times(rt: &(impl Print + AllocGlobal + Files + Clock), path: &str) -> Result<()> {
     let instance = Instance::read(rt, path)?;
     for way in Way::BOTH {
-        let mut least = duration(rt, &instance, way)?;
-        let mut all = least;
-        for _ in 0..1_000_000u32 {
-            if all >= Duration::from_secs(1) {
-                break;
-            }
-            let time = duration(rt, &instance, way)?;
-            least = least.min(time);
-            all = all.saturating_add(time);
-        }
+        let least = least_duration(rt, &instance, way)?;
         println!(rt; "store {path} {} {}", way.name(), least.as_nanos())?;
     }
     Ok(())
+}
+
+/// The least of the times that it takes within a second.
+fn least_duration(
+    rt: &(impl AllocGlobal + Clock),
+    instance: &Instance,
+    way: Way,
+) -> Result<Duration> {
+    let mut least = duration(rt, instance, way)?;
+    let mut all = least;
+    for _ in 0..1_000_000u32 {
+        if all >= Duration::from_secs(1) {
+            break;
+        }
+        let time = duration(rt, instance, way)?;
+        least = least.min(time);
+        all = all.saturating_add(time);
+    }
+    Ok(least)
 }
 
 /// How long it takes once; the fresh domains are made before.

@@ -36,7 +36,7 @@ fn print_times_of(
     inputs: &Inputs,
     limits: &Limits,
 ) -> Result<()> {
-    for measure in Measure::all() {
+    for &measure in &Measure::ALL {
         if measure.is_for(n) {
             let time = least_time(rt, measure, inputs, limits)?;
             let text = measure.answer(inputs)?;
@@ -53,22 +53,35 @@ fn least_time(
     inputs: &Inputs,
     limits: &Limits,
 ) -> Result<u128> {
-    let mut count = 1;
-    let mut time = duration(clock, measure, inputs, count)?;
-    if time > limits.once {
-        return Ok(per_operation(time, measure, inputs, count));
+    let once = duration(clock, measure, inputs, 1)?;
+    if once > limits.once {
+        return Ok(per_operation(once, measure, inputs, 1));
     }
-    for _ in 0..40 {
-        if time >= limits.least {
-            break;
-        }
-        count = 2u64.saturating_mul(count);
-        time = duration(clock, measure, inputs, count)?;
-    }
+    let (count, mut time) = long_enough(clock, measure, inputs, limits, once)?;
     for _ in 0..2 {
         time = time.min(duration(clock, measure, inputs, count)?);
     }
     Ok(per_operation(time, measure, inputs, count))
+}
+
+/// A number of calls that lasts long enough, and how long it lasted; `once` is how long one call lasts.
+fn long_enough(
+    clock: &impl Clock,
+    measure: Measure,
+    inputs: &Inputs,
+    limits: &Limits,
+    once: Duration,
+) -> Result<(u64, Duration)> {
+    let mut count = 1u64;
+    let mut time = once;
+    for _ in 0..40 {
+        if time >= limits.least {
+            break;
+        }
+        count = count.saturating_mul(2);
+        time = duration(clock, measure, inputs, count)?;
+    }
+    Ok((count, time))
 }
 
 /// How long a number of calls takes.

@@ -1,8 +1,7 @@
 //! The calls of the calculator that take memory, and the sums and differences within the range. Each ends in its answer,
 //! or is out of memory with what it was given as before.
 
-use crate::calls::{DIFFERENCES, FIRST, SECOND, SUMS, UNITED};
-use crate::has_runs;
+use crate::runs::{DIFFERENCES, FIRST, SECOND, SUMS, UNITED, has_runs};
 use intervallum::prelude::*;
 use intervallum::sweep::{Op, coalesce, images};
 use ivl_calc::within::{add_within, sub_within};
@@ -18,27 +17,29 @@ const MANY: usize = 1000;
 /// Whether the call of this name gives the right answer; none where there is no such call.
 pub fn call(
     alloc: Global,
-    name: &[u8],
+    name: &str,
     a: &IntervalSet<i32>,
     b: &IntervalSet<i32>,
 ) -> Option<Result<bool, AllocError>> {
     match name {
-        b"add_within" => Some(is_added(a, b)),
-        b"sub_within" => Some(is_subtracted(a, b)),
-        b"images" => Some(are_images(a, b)),
-        b"coalesce" => Some(is_coalesced(alloc)),
-        b"extend_by_nothing" => Some(is_left_by_nothing(alloc, a)),
-        b"calc_new" => Some(is_new(alloc)),
-        b"calc_run" => Some(is_run_right(alloc)),
+        "add_within" => Some(is_added(a, b)),
+        "sub_within" => Some(is_subtracted(a, b)),
+        "images" => Some(are_images(a, b)),
+        "coalesce" => Some(is_coalesced(alloc)),
+        "extend_by_nothing" => Some(is_left_by_nothing(alloc, a)),
+        "calc_new" => Some(is_new(alloc)),
+        "calc_run" => Some(is_run_right(alloc)),
         _ => None,
     }
 }
 
+/// The sums, none of which is cut.
 fn is_added(a: &IntervalSet<i32>, b: &IntervalSet<i32>) -> Result<bool, AllocError> {
     let (sums, is_cut) = add_within(a, b)?;
     Ok(has_runs(&sums, SUMS) && !is_cut)
 }
 
+/// The differences, none of which is cut.
 fn is_subtracted(a: &IntervalSet<i32>, b: &IntervalSet<i32>) -> Result<bool, AllocError> {
     let (differences, is_cut) = sub_within(a, b)?;
     Ok(has_runs(&differences, DIFFERENCES) && !is_cut)
@@ -66,6 +67,7 @@ fn is_coalesced(alloc: Global) -> Result<bool, AllocError> {
     Ok(has_runs(&coalesce(alloc, list)?, &FIRST))
 }
 
+/// A copy is as before once it is extended by many empty intervals.
 fn is_left_by_nothing(alloc: Global, a: &IntervalSet<i32>) -> Result<bool, AllocError> {
     let mut none = Vec::with_capacity(alloc, MANY)?;
     for _ in 0..MANY {
@@ -79,13 +81,13 @@ fn is_left_by_nothing(alloc: Global, a: &IntervalSet<i32>) -> Result<bool, Alloc
     answer.map(|_| true)
 }
 
+/// A new calculator has empty registers.
 fn is_new(alloc: Global) -> Result<bool, AllocError> {
     let calc: Calc<i32> = Calc::new(alloc, 3)?;
     Ok(calc.registers() == 3 && has_registers(&calc, &[], &[], &[]))
 }
 
-/// After an error every register is as before. Where a reply tells that there was no memory, that command has left no
-/// trace, and the others did what they do without it.
+/// After an error every register is as before.
 fn is_run_right(alloc: Global) -> Result<bool, AllocError> {
     let mut calc = loaded(alloc)?;
     let commands = vec![in alloc;
@@ -93,32 +95,46 @@ fn is_run_right(alloc: Global) -> Result<bool, AllocError> {
         Command::Union(0, 0, 1),
         Command::Size(2),
     ]?;
-    let Ok(replies) = calc.run(&commands) else {
-        return if has_registers(&calc, &FIRST, &SECOND, &[]) {
-            Err(AllocError)
-        } else {
-            Ok(false)
-        };
-    };
-    let (Some(plus), Some(union), Some(size)) = (replies.first(), replies.get(1), replies.get(2))
-    else {
+    match calc.run(&commands) {
+        Ok(replies) => is_as_replied(&calc, &replies),
+        Err(_) if has_registers(&calc, &FIRST, &SECOND, &[]) => Err(AllocError),
+        Err(_) => Ok(false),
+    }
+}
+
+/// Where a reply tells that there was no memory, that command has left no trace, and the others did what they do
+/// without it.
+fn is_as_replied(calc: &Calc<i32>, replies: &[Reply<i32>]) -> Result<bool, AllocError> {
+    let [plus, union, size] = replies else {
         return Ok(false);
     };
-    let is_added = *plus == Reply::Cut(false);
-    let is_united = *union == Reply::Done;
-    let is_right = has_registers(
-        &calc,
-        if is_united { UNITED } else { &FIRST },
-        &SECOND,
-        if is_added { SUMS } else { &[] },
-    ) && *size == Reply::Size(if is_added { SUM_COUNT } else { 0 });
-    if !is_right || !(is_added || is_refused(plus)) || !(is_united || is_refused(union)) {
+    let (Some(is_added), Some(is_united)) = (
+        is_done(plus, &Reply::Cut(false)),
+        is_done(union, &Reply::Done),
+    ) else {
+        return Ok(false);
+    };
+    let first = if is_united { UNITED } else { &FIRST };
+    let third = if is_added { SUMS } else { &[] };
+    let count = if is_added { SUM_COUNT } else { 0 };
+    if !has_registers(calc, first, &SECOND, third) || *size != Reply::Size(count) {
         return Ok(false);
     }
     if is_added && is_united {
         Ok(true)
     } else {
         Err(AllocError)
+    }
+}
+
+/// Whether a command was done, and not refused for want of memory; none where its reply is another.
+fn is_done(reply: &Reply<i32>, done: &Reply<i32>) -> Option<bool> {
+    if *reply == *done {
+        Some(true)
+    } else if *reply == Reply::Refused(Refusal::Memory) {
+        Some(false)
+    } else {
+        None
     }
 }
 
@@ -134,10 +150,7 @@ fn loaded(alloc: Global) -> Result<Calc<i32>, AllocError> {
     }
 }
 
-fn is_refused(reply: &Reply<i32>) -> bool {
-    *reply == Reply::Refused(Refusal::Memory)
-}
-
+/// The registers have these runs.
 fn has_registers(
     calc: &Calc<i32>,
     first: &[(i32, i32)],

@@ -1,63 +1,78 @@
 //! The edits of a set in place that take memory, each on a copy, with the runs that it is to leave.
 
-use crate::calls::Row;
+use crate::runs::is_of;
 use intervallum::interval::Interval;
 use intervallum::interval_set::IntervalSet;
 use intervallum::ops::Range;
-use std::alloc::AllocError;
+use std::alloc::{AllocError, Global};
 
-/// The edit of this name; none where there is no such edit.
-pub fn call(name: &[u8], a: &IntervalSet<i32>) -> Option<Row> {
-    let row: Row = match name {
-        b"insert" => (inserted(a), &[(1, 2), (5, 6), (9, 10), (13, 14), (20, 20)]),
-        b"remove" => (removed(a), &[(1, 2), (5, 6), (9, 10), (13, 14), (16, 20)]),
-        b"insert_interval" => (
+/// Whether the edit of this name leaves the right set; none where there is no such edit.
+pub fn call(alloc: Global, name: &str, a: &IntervalSet<i32>) -> Option<Result<bool, AllocError>> {
+    Some(match name {
+        "extend" => is_of(extended(alloc, a), &[(1, 6), (9, 10), (13, 14), (20, 20)]),
+        "insert" => is_of(inserted(a), &[(1, 2), (5, 6), (9, 10), (13, 14), (20, 20)]),
+        "remove" => is_of(removed(a), &[(1, 2), (5, 6), (9, 10), (13, 14), (16, 20)]),
+        "insert_interval" => is_of(
             inserted_interval(a),
             &[(1, 2), (5, 6), (9, 10), (13, 14), (20, 30)],
         ),
-        b"remove_interval" => (
+        "remove_interval" => is_of(
             removed_interval(a),
             &[(1, 2), (5, 6), (9, 10), (13, 14), (18, 20)],
         ),
         _ => return None,
-    };
-    Some(row)
+    })
 }
 
-// A set that a refusal had changed would be taken for an answer, and differ from the runs.
-
-fn inserted(a: &IntervalSet<i32>) -> Result<IntervalSet<i32>, AllocError> {
-    let mut set = a.try_clone()?;
-    match set.insert(20) {
-        Err(error) if set == *a => Err(error),
+/// What an edit left of a copy: an error only where the edit was refused, and left the copy as it was. A set that a
+/// refusal had changed is taken for an answer, and differs from the runs.
+fn left(
+    refusal: Option<AllocError>,
+    set: IntervalSet<i32>,
+    before: &IntervalSet<i32>,
+) -> Result<IntervalSet<i32>, AllocError> {
+    match refusal {
+        Some(error) if set == *before => Err(error),
         _ => Ok(set),
     }
 }
 
+/// A copy, extended by two intervals in no order.
+fn extended(alloc: Global, a: &IntervalSet<i32>) -> Result<IntervalSet<i32>, AllocError> {
+    let more = vec![in alloc; Interval::new(20, 20), Interval::new(3, 4)]?;
+    let mut set = a.try_clone()?;
+    let refusal = set.extend(more.into_iter()).err();
+    left(refusal, set, a)
+}
+
+/// A copy with one more number.
+fn inserted(a: &IntervalSet<i32>) -> Result<IntervalSet<i32>, AllocError> {
+    let mut set = a.try_clone()?;
+    let refusal = set.insert(20).err();
+    left(refusal, set, a)
+}
+
+/// A longer copy without a number in its last run.
 fn removed(a: &IntervalSet<i32>) -> Result<IntervalSet<i32>, AllocError> {
     let before = lengthened(a)?;
     let mut set = before.try_clone()?;
-    match set.remove(15) {
-        Err(error) if set == before => Err(error),
-        _ => Ok(set),
-    }
+    let refusal = set.remove(15).err();
+    left(refusal, set, &before)
 }
 
+/// A copy with one more interval.
 fn inserted_interval(a: &IntervalSet<i32>) -> Result<IntervalSet<i32>, AllocError> {
     let mut set = a.try_clone()?;
-    match set.insert_interval(Interval::new(20, 30)) {
-        Err(error) if set == *a => Err(error),
-        _ => Ok(set),
-    }
+    let refusal = set.insert_interval(Interval::new(20, 30)).err();
+    left(refusal, set, a)
 }
 
+/// A longer copy without an interval in its last run.
 fn removed_interval(a: &IntervalSet<i32>) -> Result<IntervalSet<i32>, AllocError> {
     let before = lengthened(a)?;
     let mut set = before.try_clone()?;
-    match set.remove_interval(Interval::new(15, 17)) {
-        Err(error) if set == before => Err(error),
-        _ => Ok(set),
-    }
+    let refusal = set.remove_interval(Interval::new(15, 17)).err();
+    left(refusal, set, &before)
 }
 
 /// A copy whose last run is longer, so that it can be split.

@@ -1,6 +1,6 @@
 //! Evaluation, which takes memory for each set that it makes.
 
-use crate::calls::{DIFFERENCES, FIRST, Row, SUMS};
+use crate::runs::{DIFFERENCES, FIRST, SUMS, is_of};
 use intervallum::interval_set::IntervalSet;
 use ivl_expr::{EvalFault, Expr, eval};
 use std::alloc::{AllocError, Global};
@@ -16,16 +16,20 @@ const DOUBLED: &[(i32, i32)] = &[
     (-8, 24),
 ];
 
-/// The evaluation of this name; none where there is no such.
-pub fn call(alloc: Global, name: &[u8], a: &IntervalSet<i32>, b: &IntervalSet<i32>) -> Option<Row> {
-    let row: Row = match name {
-        b"eval_variable" => (evaluated(alloc, Ok(Expr::Var(0)), a, b), &FIRST),
-        b"eval_sum" => (evaluated(alloc, sum(alloc), a, b), SUMS),
-        b"eval_difference" => (evaluated(alloc, difference(alloc), a, b), DIFFERENCES),
-        b"eval_doubled" => (evaluated(alloc, doubled(alloc), a, b), DOUBLED),
+/// Whether the evaluation of this name gives the right set; none where there is no such.
+pub fn call(
+    alloc: Global,
+    name: &str,
+    a: &IntervalSet<i32>,
+    b: &IntervalSet<i32>,
+) -> Option<Result<bool, AllocError>> {
+    Some(match name {
+        "eval_variable" => is_of(evaluated(alloc, Ok(Expr::Var(0)), a, b), &FIRST),
+        "eval_sum" => is_of(evaluated(alloc, sum(alloc), a, b), SUMS),
+        "eval_difference" => is_of(evaluated(alloc, difference(alloc), a, b), DIFFERENCES),
+        "eval_doubled" => is_of(evaluated(alloc, doubled(alloc), a, b), DOUBLED),
         _ => return None,
-    };
-    Some(row)
+    })
 }
 
 /// What `eval` answers over the two sets; no set where it changed one, or told another fault than a
@@ -49,6 +53,7 @@ fn evaluated(
     }
 }
 
+/// The sum of the two sets.
 fn sum(alloc: Global) -> Result<Expr<i32>, AllocError> {
     Ok(Expr::Add(
         Box::new(alloc, Expr::Var(0))?,
@@ -56,6 +61,7 @@ fn sum(alloc: Global) -> Result<Expr<i32>, AllocError> {
     ))
 }
 
+/// The difference of the two sets.
 fn difference(alloc: Global) -> Result<Expr<i32>, AllocError> {
     Ok(Expr::Sub(
         Box::new(alloc, Expr::Var(0))?,
@@ -63,6 +69,7 @@ fn difference(alloc: Global) -> Result<Expr<i32>, AllocError> {
     ))
 }
 
+/// Twice that difference.
 fn doubled(alloc: Global) -> Result<Expr<i32>, AllocError> {
     Ok(Expr::Mul(
         Box::new(alloc, difference(alloc)?)?,

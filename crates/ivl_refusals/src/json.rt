@@ -1,7 +1,6 @@
 //! The JSON calls, each with the answer that was worked out by hand.
 
-use crate::calls::FIRST;
-use crate::has_runs;
+use crate::runs::{FIRST, has_runs};
 use intervallum::interval::Interval;
 use intervallum::interval_set::IntervalSet;
 use intervallum::ops::Range;
@@ -14,34 +13,37 @@ const SHUFFLED: [(i32, i32); 4] = [(13, 14), (1, 2), (9, 10), (5, 6)];
 
 /// Whether the call of this name gives the right answer and leaves its value as it was; none where there is no such
 /// call.
-pub fn call(alloc: Global, name: &[u8], a: &IntervalSet<i32>) -> Option<Result<bool, AllocError>> {
+pub fn call(alloc: Global, name: &str, a: &IntervalSet<i32>) -> Option<Result<bool, AllocError>> {
     match name {
-        b"json_write_interval" => Some(is_interval_written(alloc)),
-        b"json_write_set" => Some(is_set_written(alloc, a)),
-        b"json_read_interval" => Some(is_interval_read(alloc)),
-        b"json_read_set" => Some(is_set_read(alloc)),
-        b"json_read_thousand" => Some(is_last_of_thousand_refused(alloc)),
+        "json_write_interval" => Some(is_interval_written(alloc)),
+        "json_write_set" => Some(is_set_written(alloc, a)),
+        "json_read_interval" => Some(is_interval_read(alloc)),
+        "json_read_set" => Some(is_set_read(alloc)),
+        "json_read_thousand" => Some(is_last_of_thousand_refused(alloc)),
         _ => None,
     }
 }
 
+/// An interval is written as the array of its bounds.
 fn is_interval_written(alloc: Global) -> Result<bool, AllocError> {
     let value = Interval::new(3, 8).to_value(alloc)?;
     Ok(is_pair(&value, (3, 8)))
 }
 
+/// A set is written as the array of its runs.
 fn is_set_written(alloc: Global, a: &IntervalSet<i32>) -> Result<bool, AllocError> {
     let value = a.to_value(alloc)?;
     Ok(has_pairs(&value, &FIRST))
 }
 
-// An interval's reading takes no memory, so that want of it is a wrong answer.
+/// An interval is read of its bounds. Its reading takes no memory, so that want of it is a wrong answer.
 fn is_interval_read(alloc: Global) -> Result<bool, AllocError> {
     let value = json!(in alloc; [3, 8])?;
     let read = Interval::<i32>::from_value(alloc, &value);
     Ok(read == Ok(Interval::new(3, 8)) && is_pair(&value, (3, 8)))
 }
 
+/// A set is read of its runs in no order.
 fn is_set_read(alloc: Global) -> Result<bool, AllocError> {
     let value = pairs_value(alloc, &SHUFFLED)?;
     let read = IntervalSet::<i32>::from_value(alloc, &value);

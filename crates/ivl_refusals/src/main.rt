@@ -11,10 +11,11 @@ mod calls;
 mod edits;
 mod expr;
 mod json;
+mod runs;
 mod store;
 
-use calls::{FIRST, SECOND, call};
-use intervallum::prelude::{Bounded, Interval, IntervalSet, IsEmpty, ToIntervalSet};
+use intervallum::prelude::{IntervalSet, ToIntervalSet};
+use runs::{FIRST, SECOND, has_runs};
 use std::alloc::{AllocError, Global};
 use std::io;
 use std::io::Read;
@@ -28,7 +29,7 @@ fn main(rt: HostRuntime) -> io::Result<()> {
     for line in bytes[..count].split(|byte| *byte == b'\n') {
         if !line.is_empty() {
             let (name, requests) = name_and_requests(line).unwrap_or(("this line", 0));
-            println!(rt; "{name} {}", ending(rt.alloc(), name.as_bytes(), requests))?;
+            println!(rt; "{name} {}", ending(rt.alloc(), name, requests))?;
         }
     }
     Ok(())
@@ -52,58 +53,50 @@ fn ask_for_memory(alloc: Global, requests: u32) -> Result<(), AllocError> {
 }
 
 /// How the call of this name ended, after so many requests for memory.
-fn ending(alloc: Global, name: &[u8], requests: u32) -> &'static str {
+fn ending(alloc: Global, name: &str, requests: u32) -> &'static str {
     match ask_for_memory(alloc, requests).and_then(|()| tried(alloc, name)) {
         Ok(ending) => ending,
         Err(AllocError) => "out of memory",
     }
 }
 
-/// How the call ended; an error where its operands found no memory.
-fn tried(alloc: Global, name: &[u8]) -> Result<&'static str, AllocError> {
+/// How the call ended; an error where it or its operands found no memory.
+fn tried(alloc: Global, name: &str) -> Result<&'static str, AllocError> {
     if let Some(ended) = store::ending(alloc, name) {
         return ended;
     }
     let a = FIRST.to_interval_set(alloc)?;
     let b = SECOND.to_interval_set(alloc)?;
-    if let Some(is_right) = json::call(alloc, name, &a).or_else(|| calculator::call(
-        alloc, name, &a, &b,
-    )) {
-        return Ok(match is_right {
-            _ if !has_runs(&a, &FIRST) || !has_runs(&b, &SECOND) => "changed an operand",
-            Ok(true) => "answered",
-            Ok(false) => "gave a wrong answer",
-            Err(error) => return Err(error),
-        });
-    }
-    let Some((answer, runs)) = call(alloc, name, &a, &b) else {
-        return Ok("is no call");
-    };
-    if !has_runs(&a, &FIRST) || !has_runs(&b, &SECOND) {
-        return Ok("changed an operand");
-    }
-    match answer {
-        Ok(set) if has_runs(&set, runs) => Ok("answered"),
-        Ok(_) => Ok("gave a wrong answer"),
-        Err(error) => Err(error),
+    let answered = call(alloc, name, &a, &b);
+    if has_runs(&a, &FIRST) && has_runs(&b, &SECOND) {
+        told(answered)
+    } else {
+        Ok("changed an operand")
     }
 }
 
-/// The set has these runs.
-fn has_runs(set: &IntervalSet<i32>, runs: &[(i32, i32)]) -> bool {
-    for (run, (lower, upper)) in set.iter().zip(runs) {
-        if !is_run(run, *lower, *upper) {
-            return false;
-        }
-    }
-    set.interval_count() == runs.len()
+/// Whether the call of this name gives the right answer; none where there is no such call.
+fn call(
+    alloc: Global,
+    name: &str,
+    a: &IntervalSet<i32>,
+    b: &IntervalSet<i32>,
+) -> Option<Result<bool, AllocError>> {
+    calls::call(alloc, name, a, b)
+        .or_else(|| edits::call(alloc, name, a))
+        .or_else(|| expr::call(alloc, name, a, b))
+        .or_else(|| json::call(alloc, name, a))
+        .or_else(|| calculator::call(alloc, name, a, b))
 }
 
-/// The interval holds the numbers from one to another.
-fn is_run(run: &Interval<i32>, lower: i32, upper: i32) -> bool {
-    if run.is_empty() {
-        return false;
+/// How a call ended, in words.
+fn told(answered: Option<Result<bool, AllocError>>) -> Result<&'static str, AllocError> {
+    match answered {
+        Some(is_right) => Ok(if is_right? {
+            "answered"
+        } else {
+            "gave a wrong answer"
+        }),
+        None => Ok("is no call"),
     }
-    let (first, last) = (run.lower(), run.upper());
-    first == lower && last == upper
 }

@@ -1,6 +1,7 @@
 //! The calls of a store that take memory. Each ends in its answer, or is out of memory with the
 //! domains as the call says they are then.
 
+use crate::runs::has_runs;
 use intervallum::prelude::{Interval, IntervalSet, ToIntervalSet};
 use ivl_store::store::callers::post_if_distinct;
 use ivl_store::store::{Constraint, Post, Store, StoreFault};
@@ -33,15 +34,16 @@ const ROUND: Family = [&[(0, 3)], &[(1, 1), (4, 5)], &[(2, 2), (5, 6)], &[(1, 1)
 const FIXED: Family = [&[(0, 2)], &[(1, 1), (4, 5)], &[(2, 2), (5, 6)], &[(1, 1)]];
 
 /// How the call of this name ended; none where there is no such call.
-pub fn ending(alloc: Global, name: &[u8]) -> Option<Result<&'static str, AllocError>> {
+pub fn ending(alloc: Global, name: &str) -> Option<Result<&'static str, AllocError>> {
     match name {
-        b"store_narrow" => Some(narrowed(alloc)),
-        b"store_propagate" => Some(propagated(alloc)),
-        b"store_post_all" => Some(posted(alloc)),
+        "store_narrow" => Some(narrowed(alloc)),
+        "store_propagate" => Some(propagated(alloc)),
+        "store_post_all" => Some(posted(alloc)),
         _ => None,
     }
 }
 
+/// One constraint narrows the domains once.
 fn narrowed(alloc: Global) -> Result<&'static str, AllocError> {
     let mut store = store_of(alloc, &FRESH)?;
     let answer = store.narrow(&SUM);
@@ -54,6 +56,7 @@ fn narrowed(alloc: Global) -> Result<&'static str, AllocError> {
     ))
 }
 
+/// Two constraints narrow the domains until neither does.
 fn propagated(alloc: Global) -> Result<&'static str, AllocError> {
     let mut store = store_of(alloc, &FRESH)?;
     let answer = store.propagate(&[SUM, NEXT], 9);
@@ -67,6 +70,7 @@ fn propagated(alloc: Global) -> Result<&'static str, AllocError> {
     ))
 }
 
+/// Two constraints and a cut are posted together.
 fn posted(alloc: Global) -> Result<&'static str, AllocError> {
     let mut store = store_of(alloc, &FRESH)?;
     let cut = [(-5, 25)].to_interval_set(alloc)?;
@@ -84,6 +88,7 @@ fn posted(alloc: Global) -> Result<&'static str, AllocError> {
     Ok(judged(&store, is_right, is_refusal(&answer), &FIXED, &between))
 }
 
+/// The call was refused for want of memory.
 fn is_refusal<T>(answer: &Result<T, StoreFault>) -> bool {
     match answer {
         Err(StoreFault::Memory) => true,
@@ -113,15 +118,17 @@ fn judged(
     }
 }
 
+/// The domains have these runs.
 fn has_domains(store: &Store<i32>, family: &Family) -> bool {
     for (domain, runs) in store.domains().iter().zip(family) {
-        if !crate::has_runs(domain, runs) {
+        if !has_runs(domain, runs) {
             return false;
         }
     }
     store.domains().len() == family.len()
 }
 
+/// The store of these domains.
 fn store_of(alloc: Global, family: &Family) -> Result<Store<i32>, AllocError> {
     let mut domains: Vec<IntervalSet<i32>> = Vec::with_capacity(alloc, family.len())?;
     for runs in family {

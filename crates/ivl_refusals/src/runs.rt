@@ -1,0 +1,95 @@
+//! The runs of the operands and of the answers, which were worked out by hand.
+
+use intervallum::prelude::{Bounded, Interval, IntervalSet, IsEmpty};
+use std::alloc::AllocError;
+
+/// The pairs of the first operand of each call.
+pub const FIRST: [(i32, i32); 4] = [(1, 2), (5, 6), (9, 10), (13, 14)];
+
+/// The pairs of the second operand of each call.
+pub const SECOND: [(i32, i32); 4] = [(2, 5), (20, 21), (30, 31), (40, 41)];
+
+const GREATEST: i32 = i32::MAX;
+
+/// The run of every number in range.
+pub const WHOLE: &[(i32, i32)] = &[(-GREATEST, GREATEST)];
+
+/// What one of the operands has.
+pub const UNITED: &[(i32, i32)] = &[(1, 6), (9, 10), (13, 14), (20, 21), (30, 31), (40, 41)];
+
+/// What both operands have.
+pub const SHARED: &[(i32, i32)] = &[(2, 2), (5, 5)];
+
+/// What one operand has alone.
+pub const APART: &[(i32, i32)] = &[
+    (1, 1),
+    (3, 4),
+    (6, 6),
+    (9, 10),
+    (13, 14),
+    (20, 21),
+    (30, 31),
+    (40, 41),
+];
+
+/// What the first operand lacks.
+pub const BETWEEN: &[(i32, i32)] = &[(-GREATEST, 0), (3, 4), (7, 8), (11, 12), (15, GREATEST)];
+
+/// The sums of the operands' numbers.
+pub const SUMS: &[(i32, i32)] = &[
+    (3, 19),
+    (21, 23),
+    (25, 27),
+    (29, 37),
+    (39, 47),
+    (49, 51),
+    (53, 55),
+];
+
+/// Their differences.
+pub const DIFFERENCES: &[(i32, i32)] = &[
+    (-40, -38),
+    (-36, -34),
+    (-32, -24),
+    (-22, -14),
+    (-12, -10),
+    (-8, -6),
+    (-4, 12),
+];
+
+/// Their products.
+pub const PRODUCTS: &[(i32, i32)] = &[
+    (2, 82),
+    (100, 126),
+    (150, 246),
+    (260, 310),
+    (360, 434),
+    (520, 574),
+];
+
+/// Whether a call answered the set of these runs.
+pub fn is_of(
+    answer: Result<IntervalSet<i32>, AllocError>,
+    runs: &[(i32, i32)],
+) -> Result<bool, AllocError> {
+    Ok(has_runs(&answer?, runs))
+}
+
+/// The set has these runs.
+pub fn has_runs(set: &IntervalSet<i32>, runs: &[(i32, i32)]) -> bool {
+    for (run, (lower, upper)) in set.iter().zip(runs) {
+        if !is_run(run, *lower, *upper) {
+            return false;
+        }
+    }
+    set.interval_count() == runs.len()
+}
+
+/// The interval holds the numbers from one to another.
+fn is_run(run: &Interval<i32>, lower: i32, upper: i32) -> bool {
+    if run.is_empty() {
+        return false;
+    }
+    let (first, last) = (run.lower(), run.upper());
+    first == lower && last == upper
+}
