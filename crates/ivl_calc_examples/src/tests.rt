@@ -1,4 +1,6 @@
 //! The commands by example, with values that were worked out by hand.
+//!
+//! The proof of a test pays for each assertion and for each `?`, so that the tests share a few functions that have them.
 
 mod commands;
 mod ends;
@@ -6,10 +8,14 @@ mod refusals;
 
 use intervallum::width::Width;
 use ivl_calc::{Calc, Command, Reply};
-use std::alloc::Global;
+use std::alloc::{AllocError, Global};
 use std::fmt::{Debug, Display};
 use std::process::Abort;
-use std::test::Fail;
+
+/// What memory was left for.
+fn made<T: Drop>(rt: &impl Abort, made: Result<T, AllocError>) -> T {
+    made.expect(rt, "memory is left")
+}
 
 /// The set in a register is printed as a text.
 fn check_register<B: Width + Display>(
@@ -17,35 +23,54 @@ fn check_register<B: Width + Display>(
     calc: &Calc<B>,
     register: usize,
     text: &str,
-) -> Result<(), Fail> {
-    let alloc = rt.alloc();
+) {
     match calc.get(register) {
-        Some(set) => assert_eq!(rt; format!(in alloc; "{set}")?.as_str(), text),
+        Some(set) => {
+            let printed = made(rt, format!(in rt.alloc(); "{set}"));
+            assert_eq!(rt; printed.as_str(), text);
+        }
         None => assert!(rt; false, "there is no register {register}"),
     }
-    Ok(())
 }
 
-/// A command is answered by a reply. One assertion for all of them, because the proof of a test pays for each.
+/// A command is answered by a reply.
 fn check_reply<B: Width + Debug>(
-    rt: &(impl Alloc<A = Global> + Abort),
+    rt: &impl Abort,
     calc: &mut Calc<B>,
     command: Command<B>,
     reply: Reply<B>,
-) -> Result<(), Fail>
+)
 where
     B::Output: Debug,
 {
     assert_eq!(rt; calc.apply(&command), reply);
-    Ok(())
 }
 
-/// The number that a reply has is this, or there is none.
-fn check_end(
+/// Pairs are put into a register.
+fn set<B: Width + Debug>(
     rt: &(impl Alloc<A = Global> + Abort),
-    number: Option<i16>,
-    wanted: Option<i16>,
-) -> Result<(), Fail> {
-    assert_eq!(rt; number, wanted);
-    Ok(())
+    calc: &mut Calc<B>,
+    register: usize,
+    pairs: &[(B, B)],
+)
+where
+    B::Output: Debug,
+{
+    let pairs = made(rt, Vec::from_slice(rt.alloc(), pairs));
+    check_reply(rt, calc, Command::Set(register, pairs), Reply::Done);
+}
+
+/// A command is done, and the set in its register is then printed as a text.
+fn check_done<B: Width + Debug + Display>(
+    rt: &(impl Alloc<A = Global> + Abort),
+    calc: &mut Calc<B>,
+    command: Command<B>,
+    register: usize,
+    text: &str,
+)
+where
+    B::Output: Debug,
+{
+    check_reply(rt, calc, command, Reply::Done);
+    check_register(rt, calc, register, text);
 }

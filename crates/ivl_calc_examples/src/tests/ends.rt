@@ -1,174 +1,200 @@
 //! Sums and differences at both ends of small types.
-use super::{check_end, check_register, check_reply};
+use super::{check_register, check_reply, made, set};
 use intervallum::interval_set::IntervalSet;
+use intervallum::width::Width;
 use ivl_calc::store::{Constraint, Store};
 use ivl_calc::within::{add_within, sub_within};
 use ivl_calc::{Calc, Command, Reply};
+use std::alloc::Global;
+use std::fmt::Debug;
+use std::process::Abort;
 use std::test::Fail;
 
-/// The number in a reply of `Low` or `High`, if there is one.
-fn unsigned_number(reply: &Reply<u8>) -> Option<i16> {
-    match reply {
-        Reply::Value(Some(number)) => Some(i16::from(*number)),
+/// The least and the greatest of some numbers.
+type Ends = (i128, i128);
+
+/// The ends of the numbers between two that are in a range, if there are any.
+fn clipped(range: Ends, ends: Ends) -> Option<Ends> {
+    if ends.1 < range.0 || ends.0 > range.1 {
+        return None;
+    }
+    Some((ends.0.max(range.0), ends.1.min(range.1)))
+}
+
+/// A reply of `Low` or `High` has this number, or there is none.
+fn check_number<B: Width>(rt: &impl Abort, reply: &Reply<B>, wanted: Option<i128>) {
+    let number = match reply {
+        Reply::Value(Some(value)) => Some(value.number()),
         _ => None,
+    };
+    assert_eq!(rt; number, wanted);
+}
+
+/// A command that would make the numbers between two cuts them to the range, and register 2 then has what is left.
+fn check_ends<B: Width + Debug>(
+    rt: &impl Abort,
+    calc: &mut Calc<B>,
+    command: Command<B>,
+    range: Ends,
+    ends: Ends,
+)
+where
+    B::Output: Debug,
+{
+    let is_cut = ends.0 < range.0 || ends.1 > range.1;
+    check_reply(rt, calc, command, Reply::Cut(is_cut));
+    let left = clipped(range, ends);
+    check_number(rt, &calc.apply(&Command::Low(2)), left.map(|(low, _)| low));
+    check_number(
+        rt,
+        &calc.apply(&Command::High(2)),
+        left.map(|(_, high)| high),
+    );
+}
+
+/// The ends of the sums of two runs.
+fn sums(a: Ends, b: Ends) -> Ends {
+    (a.0.saturating_add(b.0), a.1.saturating_add(b.1))
+}
+
+/// The ends of the differences of two runs.
+fn differences(a: Ends, b: Ends) -> Ends {
+    (a.0.saturating_sub(b.1), a.1.saturating_sub(b.0))
+}
+
+/// The numbers of two bounds.
+fn numbers<B: Width>(run: (B, B)) -> Ends {
+    (run.0.number(), run.1.number())
+}
+
+/// A list of one pair.
+fn one<B: Width>(rt: &(impl Alloc<A = Global> + Abort), pair: (B, B)) -> Vec<(B, B)> {
+    let mut pairs = Vec::new(rt.alloc());
+    let is_pushed = pairs.push(pair).is_ok();
+    assert!(rt; is_pushed, "memory is left");
+    pairs
+}
+
+/// The sums and the differences of two runs.
+fn check_runs<B: Width + Debug>(
+    rt: &(impl Alloc<A = Global> + Abort),
+    calc: &mut Calc<B>,
+    range: Ends,
+    first: (B, B),
+    second: (B, B),
+)
+where
+    B::Output: Debug,
+{
+    check_reply(rt, calc, Command::Set(0, one(rt, first)), Reply::Done);
+    check_reply(rt, calc, Command::Set(1, one(rt, second)), Reply::Done);
+    let (a, b) = (numbers(first), numbers(second));
+    check_ends(rt, calc, Command::Plus(2, 0, 1), range, sums(a, b));
+    check_ends(rt, calc, Command::Minus(2, 0, 1), range, differences(a, b));
+}
+
+/// The sums and the differences of a run and each of several.
+fn check_beside<B: Width + Debug>(
+    rt: &(impl Alloc<A = Global> + Abort),
+    calc: &mut Calc<B>,
+    range: Ends,
+    first: (B, B),
+    others: &[(B, B)],
+)
+where
+    B::Output: Debug,
+{
+    for &second in others {
+        check_runs(rt, calc, range, first, second);
     }
 }
 
-fn signed_number(reply: &Reply<i8>) -> Option<i16> {
-    match reply {
-        Reply::Value(Some(number)) => Some(i16::from(*number)),
-        _ => None,
+const UNSIGNED: [(u8, u8); 6] = [(0, 0), (0, 3), (2, 9), (120, 140), (250, 254), (0, 254)];
+
+#[test]
+fn unsigned_ends(rt: HostRuntime) {
+    let mut calc = made(&rt, Calc::new(rt.alloc(), 3));
+    for first in UNSIGNED {
+        check_beside(&rt, &mut calc, (0, 254), first, &UNSIGNED);
     }
 }
 
-fn of_both(a: i8, b: i8) -> i16 {
-    i16::from(a).saturating_add(i16::from(b))
-}
+const SIGNED: [(i8, i8); 6] = [
+    (-127, -127),
+    (-127, -100),
+    (-3, 4),
+    (0, 0),
+    (99, 127),
+    (-127, 127),
+];
 
-fn between(a: i8, b: i8) -> i16 {
-    i16::from(a).saturating_sub(i16::from(b))
+#[test]
+fn signed_ends(rt: HostRuntime) {
+    let mut calc = made(&rt, Calc::new(rt.alloc(), 3));
+    for first in SIGNED {
+        check_beside(&rt, &mut calc, (-127, 127), first, &SIGNED);
+    }
 }
 
 #[test]
-fn unsigned_ends(rt: HostRuntime) -> Result<(), Fail> {
-    let alloc = rt.alloc();
-    let ends: [(u8, u8); 6] = [(0, 0), (0, 3), (2, 9), (120, 140), (250, 254), (0, 254)];
-    let mut calc: Calc<u8> = Calc::new(alloc, 3)?;
-    for &(a, b) in &ends {
-        for &(c, d) in &ends {
-            calc.apply(&Command::Set(0, vec![in alloc; (a, b)]?));
-            calc.apply(&Command::Set(1, vec![in alloc; (c, d)]?));
-            let sums = (i16::from(a) + i16::from(c), i16::from(b) + i16::from(d));
-            check_reply(
-                &rt,
-                &mut calc,
-                Command::Plus(2, 0, 1),
-                Reply::Cut(sums.1 > 254),
-            )?;
-            let low = if sums.0 <= 254 { Some(sums.0) } else { None };
-            check_end(&rt, unsigned_number(&calc.apply(&Command::Low(2))), low)?;
-            let high = low.map(|_| sums.1.min(254));
-            check_end(&rt, unsigned_number(&calc.apply(&Command::High(2))), high)?;
+fn several_runs(rt: HostRuntime) {
+    let mut calc: Calc<u8> = made(&rt, Calc::new(rt.alloc(), 3));
+    set(&rt, &mut calc, 0, &[(250, 254)]);
+    set(&rt, &mut calc, 1, &[(0, 1), (10, 10)]);
+    check_reply(&rt, &mut calc, Command::Plus(2, 0, 1), Reply::Cut(true));
+    check_register(&rt, &calc, 2, "[250..254]");
+    set(&rt, &mut calc, 0, &[(254, 254)]);
+    set(&rt, &mut calc, 1, &[(1, 1)]);
+    check_reply(&rt, &mut calc, Command::Plus(2, 0, 1), Reply::Cut(true));
+    check_register(&rt, &calc, 2, "{}");
+    set(&rt, &mut calc, 0, &[(0, 5)]);
+    set(&rt, &mut calc, 1, &[(3, 3)]);
+    check_reply(&rt, &mut calc, Command::Minus(2, 0, 1), Reply::Cut(true));
+    check_register(&rt, &calc, 2, "[0..2]");
+}
 
-            let differences = (i16::from(a) - i16::from(d), i16::from(b) - i16::from(c));
-            check_reply(
-                &rt,
-                &mut calc,
-                Command::Minus(2, 0, 1),
-                Reply::Cut(differences.0 < 0),
-            )?;
-            let high = if differences.1 >= 0 {
-                Some(differences.1)
-            } else {
-                None
-            };
-            check_end(&rt, unsigned_number(&calc.apply(&Command::High(2))), high)?;
-            let low = high.map(|_| differences.0.max(0));
-            check_end(&rt, unsigned_number(&calc.apply(&Command::Low(2))), low)?;
-        }
-    }
+#[test]
+fn several_signed_runs(rt: HostRuntime) {
+    let mut calc: Calc<i8> = made(&rt, Calc::new(rt.alloc(), 3));
+    set(&rt, &mut calc, 0, &[(-127, -127), (0, 0)]);
+    set(&rt, &mut calc, 1, &[(-1, 0)]);
+    check_reply(&rt, &mut calc, Command::Plus(2, 0, 1), Reply::Cut(true));
+    check_register(&rt, &calc, 2, "{[-127..-127][-1..0]}");
+}
+
+/// The third set has the sums of the first two, and the first the differences of the third and the second.
+fn check_sums(rt: &impl Abort, a: &IntervalSet<u8>, b: &IntervalSet<u8>, sums: &IntervalSet<u8>) {
+    assert!(rt; made(rt, add_within(a, b)).0 == *sums);
+    assert!(rt; made(rt, sub_within(sums, b)).0 == *a);
+}
+
+/// Of all values, those are left that the second set takes to the third: the first set.
+fn check_kept(
+    rt: &(impl Alloc<A = Global> + Abort),
+    a: &IntervalSet<u8>,
+    b: &IntervalSet<u8>,
+    sums: &IntervalSet<u8>,
+) -> Result<(), Fail> {
+    let all = made(rt, IntervalSet::new(rt.alloc(), 0, 254));
+    let copies = (made(rt, b.try_clone()), made(rt, sums.try_clone()));
+    let domains = vec![in rt.alloc(); all, copies.0, copies.1]?;
+    let mut store = Store::new(rt.alloc(), domains);
+    assert_eq!(rt; store.narrow(&Constraint { x: 0, y: 1, z: 2 }), Ok(true));
+    assert!(rt; store.domains()[0] == *a);
     Ok(())
-}
-
-#[test]
-fn signed_ends(rt: HostRuntime) -> Result<(), Fail> {
-    let alloc = rt.alloc();
-    let ends: [(i8, i8); 6] = [
-        (-127, -127),
-        (-127, -100),
-        (-3, 4),
-        (0, 0),
-        (99, 127),
-        (-127, 127),
-    ];
-    let mut calc: Calc<i8> = Calc::new(alloc, 3)?;
-    for &(a, b) in &ends {
-        for &(c, d) in &ends {
-            calc.apply(&Command::Set(0, vec![in alloc; (a, b)]?));
-            calc.apply(&Command::Set(1, vec![in alloc; (c, d)]?));
-            let sums = (of_both(a, c), of_both(b, d));
-            check_reply(
-                &rt,
-                &mut calc,
-                Command::Plus(2, 0, 1),
-                Reply::Cut(sums.0 < -127 || sums.1 > 127),
-            )?;
-            let some = sums.0 <= 127 && sums.1 >= -127;
-            let low = if some { Some(sums.0.max(-127)) } else { None };
-            check_end(&rt, signed_number(&calc.apply(&Command::Low(2))), low)?;
-            let high = if some { Some(sums.1.min(127)) } else { None };
-            check_end(&rt, signed_number(&calc.apply(&Command::High(2))), high)?;
-
-            let differences = (between(a, d), between(b, c));
-            check_reply(
-                &rt,
-                &mut calc,
-                Command::Minus(2, 0, 1),
-                Reply::Cut(differences.0 < -127 || differences.1 > 127),
-            )?;
-            let some = differences.0 <= 127 && differences.1 >= -127;
-            let low = if some {
-                Some(differences.0.max(-127))
-            } else {
-                None
-            };
-            check_end(&rt, signed_number(&calc.apply(&Command::Low(2))), low)?;
-            let high = if some {
-                Some(differences.1.min(127))
-            } else {
-                None
-            };
-            check_end(&rt, signed_number(&calc.apply(&Command::High(2))), high)?;
-        }
-    }
-    Ok(())
-}
-
-#[test]
-fn several_runs(rt: HostRuntime) -> Result<(), Fail> {
-    let alloc = rt.alloc();
-    let mut calc: Calc<u8> = Calc::new(alloc, 3)?;
-    calc.apply(&Command::Set(0, vec![in alloc; (250, 254)]?));
-    calc.apply(&Command::Set(1, vec![in alloc; (0, 1), (10, 10)]?));
-    check_reply(&rt, &mut calc, Command::Plus(2, 0, 1), Reply::Cut(true))?;
-    check_register(&rt, &calc, 2, "[250..254]")?;
-    calc.apply(&Command::Set(0, vec![in alloc; (254, 254)]?));
-    calc.apply(&Command::Set(1, vec![in alloc; (1, 1)]?));
-    check_reply(&rt, &mut calc, Command::Plus(2, 0, 1), Reply::Cut(true))?;
-    check_register(&rt, &calc, 2, "{}")?;
-    calc.apply(&Command::Set(0, vec![in alloc; (0, 5)]?));
-    calc.apply(&Command::Set(1, vec![in alloc; (3, 3)]?));
-    check_reply(&rt, &mut calc, Command::Minus(2, 0, 1), Reply::Cut(true))?;
-    check_register(&rt, &calc, 2, "[0..2]")?;
-
-    let mut calc: Calc<i8> = Calc::new(alloc, 3)?;
-    calc.apply(&Command::Set(0, vec![in alloc; (-127, -127), (0, 0)]?));
-    calc.apply(&Command::Set(1, vec![in alloc; (-1, 0)]?));
-    check_reply(&rt, &mut calc, Command::Plus(2, 0, 1), Reply::Cut(true))?;
-    check_register(&rt, &calc, 2, "{[-127..-127][-1..0]}")
 }
 
 // The sums in a register are those of `within`, and what a store keeps of them is the register that was added to.
 #[test]
 fn sets_of_registers(rt: HostRuntime) -> Result<(), Fail> {
-    let alloc = rt.alloc();
-    let mut calc: Calc<u8> = Calc::new(alloc, 3)?;
-    calc.apply(&Command::Set(0, vec![in alloc; (240, 250)]?));
-    calc.apply(&Command::Set(1, vec![in alloc; (4, 4)]?));
-    check_reply(&rt, &mut calc, Command::Plus(2, 0, 1), Reply::Cut(false))?;
+    let mut calc: Calc<u8> = made(&rt, Calc::new(rt.alloc(), 3));
+    set(&rt, &mut calc, 0, &[(240, 250)]);
+    set(&rt, &mut calc, 1, &[(4, 4)]);
+    check_reply(&rt, &mut calc, Command::Plus(2, 0, 1), Reply::Cut(false));
     let (Some(a), Some(b), Some(sums)) = (calc.get(0), calc.get(1), calc.get(2)) else {
         assert!(rt; false, "all registers are there");
         return Ok(());
     };
-    assert!(rt; add_within(a, b)?.0 == *sums);
-    assert!(rt; sub_within(sums, b)?.0 == *a);
-    let domains = vec![in alloc;
-        IntervalSet::new(alloc, 0, 254)?,
-        b.try_clone()?,
-        sums.try_clone()?,
-    ]?;
-    let mut store = Store::new(alloc, domains);
-    assert_eq!(rt; store.narrow(&Constraint { x: 0, y: 1, z: 2 }), Ok(true));
-    assert!(rt; store.domains()[0] == *a);
-    Ok(())
+    check_sums(&rt, a, b, sums);
+    check_kept(&rt, a, b, sums)
 }

@@ -1,16 +1,32 @@
 //! What is refused, which reason is told, and that the registers stay.
-use super::check_register;
+use super::{check_register, made, set};
 use ivl_calc::{Calc, Command, Refusal, Reply};
-use std::test::Fail;
+use std::alloc::Global;
+use std::process::Abort;
+
+/// The commands are run together, and each is refused for the reason at its place.
+fn check_refused(
+    rt: &(impl Alloc<A = Global> + Abort),
+    calc: &mut Calc<i64>,
+    commands: &[Command<i64>],
+    wanted: &[Refusal],
+) {
+    let replies = made(rt, calc.run(commands));
+    assert_eq!(rt; replies.len(), wanted.len());
+    for (reply, why) in replies.iter().zip(wanted) {
+        assert!(rt; *reply == Reply::Refused(*why));
+    }
+}
 
 #[test]
-fn refused_commands_change_nothing(rt: HostRuntime) -> Result<(), Fail> {
-    let alloc = rt.alloc();
-    let mut calc: Calc<i64> = Calc::new(alloc, 1)?;
-    calc.apply(&Command::Set(0, vec![in alloc; (1, i64::MAX)]?));
-    let commands = vec![in alloc;
-        // The least value of the type is outside the range.
-        Command::Set(0, vec![in alloc; (2, 3), (i64::MIN, 0)]?),
+fn refused_commands_change_nothing(rt: HostRuntime) {
+    let mut calc: Calc<i64> = made(&rt, Calc::new(rt.alloc(), 1));
+    set(&rt, &mut calc, 0, &[(1, i64::MAX)]);
+    // The least value of the type is outside the range.
+    let outside = made(&rt, Vec::from_slice(rt.alloc(), &[(2, 3), (i64::MIN, 0)]));
+    let also_outside = made(&rt, Vec::from_slice(rt.alloc(), &[(i64::MIN, 0)]));
+    let commands = [
+        Command::Set(0, outside),
         Command::Union(0, 0, 1),
         Command::Minus(0, 1, 0),
         Command::Times(0, 0, 0),
@@ -18,10 +34,9 @@ fn refused_commands_change_nothing(rt: HostRuntime) -> Result<(), Fail> {
         Command::MinusValue(0, 0, -1),
         Command::TimesValue(0, 0, i64::MIN),
         // The register is asked for before the range, and before whether results fit.
-        Command::Set(1, vec![in alloc; (i64::MIN, 0)]?),
+        Command::Set(1, also_outside),
         Command::PlusValue(1, 0, 1),
-    ]?;
-    let replies = calc.run(&commands)?;
+    ];
     let wanted = [
         Refusal::Range,
         Refusal::Register,
@@ -33,20 +48,17 @@ fn refused_commands_change_nothing(rt: HostRuntime) -> Result<(), Fail> {
         Refusal::Register,
         Refusal::Register,
     ];
-    assert_eq!(rt; replies.len(), wanted.len());
-    for (reply, why) in replies.iter().zip(&wanted) {
-        assert!(rt; *reply == Reply::Refused(*why));
-    }
-    check_register(&rt, &calc, 0, "[1..9223372036854775807]")
+    check_refused(&rt, &mut calc, &commands, &wanted);
+    check_register(&rt, &calc, 0, "[1..9223372036854775807]");
 }
 
 #[test]
-fn no_register_is_no_answer(rt: HostRuntime) -> Result<(), Fail> {
+fn no_register_is_no_answer(rt: HostRuntime) {
     let alloc = rt.alloc();
-    let mut calc: Calc<i64> = Calc::new(alloc, 0)?;
+    let mut calc: Calc<i64> = made(&rt, Calc::new(alloc, 0));
     assert_eq!(rt; calc.registers(), 0);
     assert!(rt; calc.get(0).is_none());
-    let commands = vec![in alloc;
+    let commands = [
         Command::Set(0, Vec::new(alloc)),
         Command::Union(0, 0, 0),
         Command::Inter(0, 0, 0),
@@ -72,11 +84,6 @@ fn no_register_is_no_answer(rt: HostRuntime) -> Result<(), Fail> {
         Command::Sub(0, 0),
         Command::Meets(0, 0),
         Command::Show(0),
-    ]?;
-    let replies = calc.run(&commands)?;
-    assert_eq!(rt; replies.len(), commands.len());
-    for reply in &replies {
-        assert!(rt; *reply == Reply::Refused(Refusal::Register));
-    }
-    Ok(())
+    ];
+    check_refused(&rt, &mut calc, &commands, &[Refusal::Register; 25]);
 }
