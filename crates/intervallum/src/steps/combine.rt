@@ -1,6 +1,6 @@
 //! Two walks, and what they have in common; one walk, and what it leaves free.
-ghost use Rattle.std.specs.Prelude.{◌≡◌, ◌↔◌, ◌+◌, ◌≤◌, pos, ◌+ℤ◌, ◌-ℤ◌, ◌≤ℤ◌, IfOk, IsTrue, MatchOption, OnOk, Some, length, slice_get};
-ghost use Rattle.ivl_laws.specs.Sets.{Complement, HasNone, HasSome, Intersection, IsBetween, IsSubset, Union};
+ghost use Rattle.std.specs.Prelude.{◌≡◌, ◌↔◌, ◌+◌, ◌≤◌, IfOk, IsTrue, MatchOption, OnOk, Some, length, pos, slice_get};
+ghost use Rattle.ivl_laws.specs.Sets.{Complement, HasNone, HasSome, Intersection, IsBetween, Union};
 ghost use Rattle.ivl_laws.specs.Runs.{Covers, IsRunListIn, IsRunsOf};
 ghost use Rattle.intervallum.specs.Sides.{IsBelow};
 
@@ -54,40 +54,14 @@ pub(crate) fn gaps<B: Width>(mut walk: Walk<'_, B>) -> Result<IntervalSet<B>, Al
 {
     let room = walk.left().saturating_add(1);
     let mut set = IntervalSet::with_room(walk.alloc(), room)?;
-    let Some(first) = walk.peek() else {
-        push_part(&mut set, Interval::whole())?;
-        return Ok(set);
-    };
-    push_part(
-        &mut set,
-        Interval::whole().strict_shrink_right(first.lower()),
-    )?;
-    walk.advance();
-    let mut last = first;
+    let mut rest = Interval::whole();
     'walk: while let Some(run) = walk.peek() {
-        set.push_apart(between(last, run))?;
-        last = run;
+        push_part(&mut set, rest.strict_shrink_right(run.lower()))?;
+        rest = rest.strict_shrink_left(run.upper());
         walk.advance();
     }
-    push_part(&mut set, Interval::whole().strict_shrink_left(last.upper()))?;
+    push_part(&mut set, rest)?;
     Ok(set.fitted())
-}
-
-/// The numbers between two runs, of which there is at least one.
-fn between<B: Width>(last: Interval<B>, run: Interval<B>) -> Interval<B>
-    requires last { last.0 ≤ℤ last.1 }
-    requires run { run.0 ≤ℤ run.1 }
-    requires apart { (last.1 +ℤ pos 2) ≤ℤ run.0 }
-    ensures value { result ≡ (last.1 +ℤ pos 1, run.0 -ℤ pos 1) }
-    ensures within { IsSubset (IsBetween result) (IsBetween B.whole) }
-{
-    last.in_whole();
-    run.in_whole();
-    let lower = last.upper().add_in_range(B::one());
-    let upper = run.lower().sub_in_range(B::one());
-    let part = Interval::new(lower, upper);
-    part.in_whole();
-    part
 }
 
 /// The first runs of two walks, where both have one.
