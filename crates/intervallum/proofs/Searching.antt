@@ -1,5 +1,5 @@
 -- What one look tells of the runs on one side of it.
-use Rattle.std.proofs.Common.{◌≡◌, ℕ, zero, suc, ◌+◌, ◌*◌, ◌^◌, ◌<◌, ◌≤◌, ℤ, ◌≤ℤ◌, ◌<ℤ◌, List, [], ◌∷◌, length, get_or, slice_get, Some, take, drop, ⊎_elim, arith, refl, sym, subst, inl, inr, true, false}
+use Rattle.std.proofs.Common.{◌≡◌, ℕ, zero, suc, ◌+◌, ◌*◌, ◌^◌, ◌<◌, ◌≤◌, ℤ, ◌≤ℤ◌, ◌<ℤ◌, Bool, IsTrue, ◌↔◌, List, [], ◌∷◌, length, get_or, slice_get, Some, take, drop, ⊎_elim, arith, refl, sym, subst, inl, inr, true, false}
 use Rattle.std.specs.Prelude.{int_lt, IsSomeAnd, Option}
 use Rattle.std.proofs.lemmas.Int.{ints, by_lt_z}
 use Rattle.std.proofs.Math.Nat.{pow-le-pow_right}
@@ -8,6 +8,7 @@ use native.Mathlib.Numerals.{unary_clauses}
 use Rattle.std.proofs.lemmas.Option.{get_or_from_slice_get}
 use Rattle.ivl_laws.specs.Sets.{IsBetween}
 use Rattle.ivl_laws.specs.Runs.{Covers, IsMaximal, runs_below}
+use Rattle.ivl_laws.proofs.Adding.{untrue}
 use Rattle.intervallum.specs.Places.{EndBelow, StartAbove}
 
 pub int_lt_false : (a b : ℤ) → b <ℤ a → int_lt a b ≡ false
@@ -77,9 +78,19 @@ above_on v (r ∷ L) zero (suc k) h a = above_on v L zero k (omega arith) a.1
 above_on v (r ∷ L) (suc i) zero h a = absurd (omega (arith, h))
 above_on v (r ∷ L) (suc i) (suc k) h a = above_on v L i k (omega (arith, h)) a
 
--- a run in place k or before it was seen, which starts at s and does not end below v
-abbrev pub IsSeenBy : ℤ → List (ℤ × ℤ) → ℕ → ℤ → Type 0
-IsSeenBy v L k s = (i : ℕ) × (run : ℤ × ℤ) × (i < length L) × (i ≤ k) × (slice_get L i ≡ Some run) × (v ≤ℤ run.1) × (s ≡ run.0)
+-- a run that has v stands in place k or before it, or v lies below the runs from k on
+abbrev pub IsFrom : ℤ → List (ℤ × ℤ) → ℕ → Bool → Type 0
+IsFrom v L k true = (i : ℕ) × (i ≤ k) × IsSomeAnd (slice_get L i) (λ run. IsBetween run v)
+IsFrom v L k false = StartAbove v (drop k L)
+
+pub is_from : (v : ℤ) (L : List (ℤ × ℤ)) (i k : ℕ) (d : ℤ × ℤ) (t : Bool) → i < length L → i ≤ k → IsMaximal L → slice_get L i ≡ Some d → v ≤ℤ d.1 → (IsTrue t ↔ (d.0 ≤ℤ v)) → IsFrom v L k t
+is_from v L i k d true h l m e r c =
+    let P : Option (ℤ × ℤ) → Type 0 = λ o. IsSomeAnd o (λ run. IsBetween run v) in
+    (i, l, subst P (sym e) (c.0 refl, r))
+is_from v L i k d false h l m e r c =
+    let Q : ℤ × ℤ → Type 0 = λ r. v <ℤ r.0 in
+    above_on v L i k l
+    (above_from v L i d h (subst Q (sym (get_or_from_slice_get L i d d e)) (by_lt_z v d.0 (λ lt. lt) (λ le. absurd (untrue false refl c le)))) m)
 
 -- no run before place k has v where they end below it
 not_before : (v : ℤ) (L : List (ℤ × ℤ)) (i k : ℕ) → EndBelow v (take k L) → IsSomeAnd (slice_get L i) (λ run. IsBetween run v) → k ≤ i
@@ -88,19 +99,8 @@ not_before v (r ∷ L) i zero b h = omega arith
 not_before v (r ∷ L) zero (suc k) b h = absurd (omega (arith, ints, b.0, h.1))
 not_before v (r ∷ L) (suc i) (suc k) b h = let l = not_before v L i k b.1 h in omega (arith, l)
 
--- where the runs before place k end below v, the run that was seen is in that place if it has v, and no run has v otherwise
-pub seen_at : (v : ℤ) (L : List (ℤ × ℤ)) (k : ℕ) (s : ℤ) → EndBelow v (take k L) → IsSeenBy v L k s → s ≤ℤ v → IsSomeAnd (slice_get L k) (λ run. IsBetween run v)
-seen_at v L k s b (i, run, less, at_most, seen, reaches, start) h =
-    let P : Option (ℤ × ℤ) → Type 0 = λ o. IsSomeAnd o (λ run. IsBetween run v) in
-    let Q : ℕ → Type 0 = λ j. IsSomeAnd (slice_get L j) (λ run. IsBetween run v) in
-    let R : ℤ → Type 0 = λ z. z ≤ℤ v in
-    let here : IsSomeAnd (slice_get L i) (λ run. IsBetween run v) = subst P (sym seen) (subst R start h, reaches) in
-    let e : i ≡ k = let m = not_before v L i k b here in omega (arith, at_most, m) in
-    subst Q e here
-
-pub gap_seen : (v : ℤ) (L : List (ℤ × ℤ)) (k : ℕ) (s : ℤ) → k ≤ length L → EndBelow v (take k L) → IsMaximal L → IsSeenBy v L k s → ¬ (s ≤ℤ v) → (¬ Covers L v) × (runs_below v L ≡ k)
-gap_seen v L k s h b m (i, run, less, at_most, seen, reaches, start) n =
-    let R : ℤ → Type 0 = λ z. ¬ (z ≤ℤ v) in
-    let Q : ℤ × ℤ → Type 0 = λ r. v <ℤ r.0 in
-    let low : v <ℤ run.0 = by_lt_z v run.0 (λ lt. lt) (λ le. absurd (subst R start n le)) in
-    gap_at v L k h b (above_on v L i k at_most (above_from v L i run less (subst Q (sym (get_or_from_slice_get L i run run seen)) low) m)) m
+pub in_at : (v : ℤ) (L : List (ℤ × ℤ)) (k : ℕ) → EndBelow v (take k L) → IsFrom v L k true → IsSomeAnd (slice_get L k) (λ run. IsBetween run v)
+in_at v L k b (i, l, h) =
+    let P : ℕ → Type 0 = λ j. IsSomeAnd (slice_get L j) (λ run. IsBetween run v) in
+    let e : i ≡ k = let m = not_before v L i k b h in omega (arith, l, m) in
+    subst P e h

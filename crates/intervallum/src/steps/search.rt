@@ -87,21 +87,19 @@ fn find_between<B: Width>(probes: &mut Probes<'_, B>, v: B, mut low: usize, high
     probes.len();
     // how many are left does not depend on what is seen, so the next look need not wait for it
     let mut left = high - low;
-    // where the last run seen starts that does not end below `v`
-    let mut start = v;
+    // the last run seen that does not end below `v` has it
+    let mut is_in = false;
     'search: while 0 < left {
         let half = left - left / 2;
         left -= half;
         let run = probes.look(low + half - 1);
-        let lower = run.lower();
         if run.upper() < v {
             low += half;
         } else {
-            start = lower;
+            is_in = run.lower() <= v;
         }
     }
-    // no such run was seen where none is left
-    if low < high && start <= v {
+    if is_in {
         Place::In(low)
     } else {
         Place::Gap(low)

@@ -1,12 +1,11 @@
-use Rattle.std.proofs.Common.{rules, ◌≡◌, ℕ, suc, ◌+◌, ◌-◌, ◌/◌, ◌<◌, ℤ, ◌≤ℤ◌, ◌<ℤ◌, List, slice_get, Some, take, drop, arith, subst, sym, ◌∙◌}
+use Rattle.std.proofs.Common.{rules, ◌≡◌, ◌↔◌, IsTrue, ℕ, suc, ◌+◌, ◌-◌, ◌/◌, ◌<◌, ℤ, ◌≤ℤ◌, ◌<ℤ◌, List, slice_get, Some, take, arith, subst, sym, true, false, Bool, ◌∙◌}
 use Rattle.std.proofs.lemmas.Int.{by_lt_z}
 use Rattle.std.proofs.lemmas.Option.{get_or_from_slice_get}
 use Rattle.ivl_laws.proofs.Adding.{untrue}
 use Rattle.ivl_laws.proofs.Orders.{le_number, lt_number}
-use Rattle.intervallum.specs.Places.{EndBelow, StartAbove}
-use Rattle.intervallum.proofs.Searching.{IsSeenBy, below_to, gap_at, gap_seen, seen_at, shrink}
+use Rattle.intervallum.specs.Places.{EndBelow}
+use Rattle.intervallum.proofs.Searching.{IsFrom, below_to, gap_at, in_at, is_from, shrink}
 use Rattle.intervallum.proofs.steps.search.find_between.Goals as goal
-use Rattle.intervallum.proofs.steps.search.find_between.Goals.{else-low-high-via-then-low-high+else-le, else-low-high-via-else-low-high}
 
 pub search-preserved-then-lt : goal.search-preserved-then-lt
 search-preserved-then-lt g c =
@@ -23,7 +22,7 @@ search-preserved-then-lt g c =
     let to = below_to v L i c.look-run.result (omega (arith, inv.0, inv.1, t)) (subst Q (sym (get_or_from_slice_get L i c.look-run.result c.look-run.result seen)) b) inv.3 in
     let R : ℕ → Type 0 = λ k. EndBelow v (take k L) in
     let more : suc i ≡ c.search.low + half = omega (arith, t) in
-    let S : ℕ → Type 0 = λ k. k < c.args.high → IsSeenBy v L k (g.B.Width.value c.search.start) in
+    let S : ℕ → Type 0 = λ k. IsFrom v L k c.search.is_in in
     let still : c.search.low + c.search.left ≡ c.search.low + half + (c.search.left - half) = omega (arith, t) in (
       omega (arith, t, inv.0),
       inv.1,
@@ -48,15 +47,19 @@ search-preserved g c =
     let inv = c.search.invariant in
     let t : 0 < c.search.left = search rules in
     let seen : slice_get L i ≡ Some run = subst (λ (M : List (ℤ × ℤ)). slice_get M i ≡ Some run) inv.2 c.look-run.ensures.run in
+    let up = c.upper.ensures.value in
+    let low = c.lower.ensures.value in
     let P : ℤ → Type 0 = λ z. v ≤ℤ z in
     let reaches : v ≤ℤ g.B.Width.value c.upper.result = by_lt_z (g.B.Width.value c.upper.result) v
-    (λ lt. absurd (untrue _ c.if-lt.false (lt_number g.met.B.Width.ordered _ _ _ c.lt.ensures) lt)) (λ le. le) in (
+    (λ lt. absurd (untrue _ c.if-lt.false (lt_number g.met.B.Width.ordered _ _ _ c.lt.ensures) lt)) (λ le. le) in
+    let Q : ℤ → Type 0 = λ z. IsTrue c.le-is_in.result ↔ (z ≤ℤ v) in
+    let starts : IsTrue c.le-is_in.result ↔ (run.0 ≤ℤ v) = subst Q low (le_number g.met.B.Width.ordered _ _ _ c.le-is_in.ensures) in (
       omega (arith, t, inv.0),
       inv.1,
       c.look-run.ensures.same ∙ inv.2,
       inv.3,
       inv.4,
-      λ h. (i, run, omega (arith, inv.0, inv.1, t), omega (arith, t), seen, subst P c.upper.ensures.value reaches, c.lower-lower.ensures.value),
+      is_from v L i (c.search.low + (c.search.left - half)) run c.le-is_in.result (omega (arith, inv.0, inv.1, t)) (omega (arith, t)) inv.3 seen (subst P up reaches) starts,
       λ digits h.
           let p = inv.6 digits h in
           let q = shrink _ (c.search.left - half) p.0 (omega (arith, t)) p.2 (omega arith) in
@@ -64,31 +67,22 @@ search-preserved g c =
       inv.7,
     )
 
-pub returns-then-le-clause-place : goal.returns-then-le-clause-place
-returns-then-le-clause-place g c =
+pub returns-then-is_in-clause-place : goal.returns-then-is_in-clause-place
+returns-then-is_in-clause-place g c =
     let inv = c.search.invariant in
     let v = g.B.Width.value c.args.v in
     let L = c.args.probes.now.runs in
-    let start = g.B.Width.value c.search.start in
-    let e : c.search.low + c.search.left ≡ c.search.low = omega (arith, c.search-test.false) in
-    let S : ℕ → Type 0 = λ k. k < c.args.high → IsSeenBy v L k start in
-    let starts : start ≤ℤ v = (le_number g.met.B.Width.ordered _ _ _ c.le.ensures).0 c.if-le.true in
-    seen_at v L c.search.low start inv.4 (subst S e inv.5 c.if-low-high.true) starts
+    let e : c.search.low + c.search.left ≡ c.search.low = search rules in
+    let there : IsFrom v L (c.search.low + c.search.left) true = subst (λ (t : Bool). IsFrom v L (c.search.low + c.search.left) t) c.if-is_in.true inv.5 in
+    let Q : ℕ → Type 0 = λ k. IsFrom v L k true in
+    in_at v L c.search.low inv.4 (subst Q e there)
 
-pub returns-else-low-high-clause-place : goal.returns-else-low-high-clause-place
-returns-else-low-high-clause-place g c =
+pub returns-else-is_in-clause-place : goal.returns-else-is_in-clause-place
+returns-else-is_in-clause-place g c =
     let inv = c.search.invariant in
     let v = g.B.Width.value c.args.v in
     let L = c.args.probes.now.runs in
-    let start = g.B.Width.value c.search.start in
-    let e : c.search.low + c.search.left ≡ c.search.low = omega (arith, c.search-test.false) in
-    let S : ℕ → Type 0 = λ k. k < c.args.high → IsSeenBy v L k start in
-    let T : ℕ → Type 0 = λ k. StartAbove v (drop k L) in
-    elim c.else-low-high.branch [
-      | else-low-high-via-then-low-high+else-le w ↦
-          gap_seen v L c.search.low start (omega (arith, inv.0, inv.1)) inv.4 inv.3 (subst S e inv.5 w.if-low-high.true)
-          (untrue _ w.if-le.false (le_number g.met.B.Width.ordered _ _ _ w.le.ensures))
-      | else-low-high-via-else-low-high w ↦
-          let all : c.args.high ≡ c.search.low = (let none = w.if-low-high.false in omega (arith, inv.0, none)) in
-          gap_at v L c.search.low (omega (arith, inv.0, inv.1)) inv.4 (subst T all c.requires.above) inv.3
-    ]
+    let e : c.search.low + c.search.left ≡ c.search.low = search rules in
+    let there : IsFrom v L (c.search.low + c.search.left) false = subst (λ (t : Bool). IsFrom v L (c.search.low + c.search.left) t) c.if-is_in.false inv.5 in
+    let Q : ℕ → Type 0 = λ k. IsFrom v L k false in
+    gap_at _ _ _ (omega (arith, inv.0, inv.1)) inv.4 (subst Q e there) inv.3

@@ -1,15 +1,14 @@
 use Rattle.std.proofs.Common.{◌≡◌, ℕ, ◌+◌, ◌-◌, ◌^◌, ◌<◌, ◌≤◌, length, take}
 use Rattle.ivl_laws.specs.Runs.{IsMaximal}
 use Rattle.intervallum.specs.Places.{EndBelow}
-use Rattle.intervallum.proofs.Searching.{IsSeenBy}
+use Rattle.intervallum.proofs.Searching.{IsFrom}
 use Rattle.intervallum.proofs.steps.search.find_between.Given as goal
 
 abbrev pub invariant-search : goal.invariant-search
 invariant-search g l =
     let runs = l.fn.probes.runs in
     let v = g.B.Width.value l.fn.v in
-    (l.low + l.left ≤ l.fn.high) × (l.fn.high ≤ length runs) × (l.probes.runs ≡ runs) × IsMaximal runs × EndBelow v (take l.low runs)
-    × (l.low + l.left < l.fn.high → IsSeenBy v runs (l.low + l.left) (g.B.Width.value l.start))
+    (l.low + l.left ≤ l.fn.high) × (l.fn.high ≤ length runs) × (l.probes.runs ≡ runs) × IsMaximal runs × EndBelow v (take l.low runs) × IsFrom v runs (l.low + l.left) l.is_in
     × ((digits : ℕ) → l.fn.high - l.fn.low < 2 ^ digits → (rest : ℕ) × (l.probes.looks + rest ≡ l.fn.probes.looks + digits) × (l.left < 2 ^ rest))
     × (l.fn.low ≤ l.low)
 
