@@ -43,6 +43,16 @@ fn sum(x: usize, y: usize, z: usize) -> Constraint {
     Constraint { x, y, z }
 }
 
+/// A set is printed as this text.
+fn check_text<B: Width + Display>(
+    rt: &(impl Alloc<A = Global> + Abort),
+    set: &IntervalSet<B>,
+    text: &str,
+) {
+    let printed = made(rt, format!(in rt.alloc(); "{set}"));
+    assert_eq!(rt; printed.as_str(), text);
+}
+
 /// The domains are printed as these texts.
 fn check_domains<B: Width + Display>(
     rt: &(impl Alloc<A = Global> + Abort),
@@ -51,8 +61,7 @@ fn check_domains<B: Width + Display>(
 ) {
     assert_eq!(rt; store.domains().len(), texts.len());
     for (domain, text) in store.domains().iter().zip(texts) {
-        let printed = made(rt, format!(in rt.alloc(); "{domain}"));
-        assert_eq!(rt; printed.as_str(), *text);
+        check_text(rt, domain, text);
     }
 }
 
@@ -80,6 +89,20 @@ fn check_rounds<B: Width + Display>(
     check_domains(rt, store, texts);
 }
 
+/// Posts were answered by these replies, or by none, or refused for a fault.
+fn check_told(
+    rt: &impl Abort,
+    answer: &Result<Option<Vec<bool>>, StoreFault>,
+    replies: Result<Option<&[bool]>, StoreFault>,
+) {
+    let told = match answer {
+        Ok(Some(told)) => Ok(Some(told.as_slice())),
+        Ok(None) => Ok(None),
+        Err(fault) => Err(*fault),
+    };
+    assert_eq!(rt; told, replies);
+}
+
 /// The posts are answered by these replies, if each constraint has three variables, and leave these domains.
 fn check_posts<B: Width + Display>(
     rt: &(impl Alloc<A = Global> + Abort),
@@ -88,12 +111,6 @@ fn check_posts<B: Width + Display>(
     replies: Result<Option<&[bool]>, StoreFault>,
     texts: &[&str],
 ) {
-    let answer = post_if_distinct(store, posts);
-    let told = match &answer {
-        Ok(Some(told)) => Ok(Some(told.as_slice())),
-        Ok(None) => Ok(None),
-        Err(fault) => Err(*fault),
-    };
-    assert_eq!(rt; told, replies);
+    check_told(rt, &post_if_distinct(store, posts), replies);
     check_domains(rt, store, texts);
 }
