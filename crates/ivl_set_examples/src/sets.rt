@@ -26,7 +26,7 @@ fn head(rt: HostRuntime) {
 #[test]
 fn made_sets(rt: HostRuntime) {
     let alloc = rt.alloc();
-    check_set(&rt, Ok(IntervalSet::<i32>::empty(alloc)), &[]);
+    assert!(rt; IntervalSet::<i32>::empty(alloc).is_empty());
     let a = made(&rt, IntervalSet::new(alloc, 1, 2));
     check_all(
         &rt,
@@ -51,7 +51,7 @@ fn whole_ranges(rt: HostRuntime) {
         &[true, true, false],
     );
     check(&rt, made(&rt, IntervalSet::bot(alloc)), bytes);
-    check_set(&rt, Ok(IntervalSet::<u8>::top(alloc)), &[]);
+    assert!(rt; IntervalSet::<u8>::top(alloc).is_empty());
 }
 
 #[test]
@@ -71,7 +71,7 @@ fn read_sets(rt: HostRuntime) {
             a.overlap(&Optional::singleton(5)),
             a.overlap(&Optional::empty()),
             a.is_empty(),
-            set::<i32>(&rt, &[]).is_empty(),
+            IntervalSet::<i32>::empty(rt.alloc()).is_empty(),
         ],
         &[
             false, true, true, false, true, false, true, false, false, true,
@@ -294,6 +294,7 @@ fn two_walks(rt: HostRuntime) {
 #[test]
 fn a_walk(rt: HostRuntime) {
     let a = set(&rt, &[(1, 2), (5, 6)]);
+    check(&rt, Walk::new(&a).left(), 2);
     let mut walk = Walk::new(&a);
     let first = (walk.left(), walk.peek());
     assert!(rt; walk.peek().is_some());
@@ -310,6 +311,7 @@ fn a_walk(rt: HostRuntime) {
 #[test]
 fn a_search(rt: HostRuntime) {
     let a = set(&rt, &[(1, 2), (5, 6)]);
+    check(&rt, Probes::new(&a).len(), 2);
     let mut probes = Probes::new(&a);
     check(&rt, probes.len(), 2);
     assert!(rt; probes.len() > 1 && probes.look(1) == Interval::new(5, 6));
