@@ -1,15 +1,15 @@
-/* Sets of whole numbers as lists of runs, by calls whose answers are proved.
+/* Sets of whole numbers as lists of runs. The answer of each call is proved.
 
-   A list of pairs may stand in any order and overlap; it is taken as the set of the numbers in some
-   pair, and a crossed pair has none. A list of no pairs may have any address that is not null.
+   A list of pairs may be in any order and overlap. It stands for the set of the numbers in some pair; a crossed
+   pair has none.
 
-   A call that makes a set answers how many runs the set has. They are written to `out`, ascending, with at
-   least one number missing between neighbours, if `room` is that many; else nothing is written, and the
-   call may be made again with more room. The places of `out` after them stay as they were. A negative
-   answer is a code, and then nothing was written.
+   A call that makes a set returns the number of runs of the set. If `room` is at least that, the runs are
+   written to `out`, ascending, with at least one number missing between neighbours, and the rest of `out` is
+   unchanged. Otherwise nothing is written, and the call can be repeated with more room. A negative result is an
+   error code; then nothing was written.
 
-   No input is refused but for the codes. `out`, `size` and `found` overlap no input. A call is not made from a signal
-   handler, or from the forked child of a process with threads. */
+   The caller must ensure that no pointer is null, even if its count is 0, and that `out`, `size` and `found`
+   overlap no input. Do not call from a signal handler, or from the forked child of a process with threads. */
 #ifndef INTERVALLUM_H
 #define INTERVALLUM_H
 
@@ -30,23 +30,23 @@ extern "C" {
 
 /* ---- int64_t: the members of a set lie from -INT64_MAX to INT64_MAX */
 
-/* The numbers from `lower` to `upper`, both included; none where the two cross. */
+/* The numbers from `lower` to `upper`, bounds included; none if `lower` is above `upper`. */
 typedef struct {
     int64_t lower;
     int64_t upper;
 } ivl_run_i64;
 
 /* Make a set of one list. O(n log n).
-   normalize: its members; complement: the numbers of the range that are no members. */
+   normalize: its members; complement: the other numbers of the range. */
 int64_t ivl_normalize_i64(const ivl_run_i64 *a, size_t n, ivl_run_i64 *out, size_t room);
 int64_t ivl_complement_i64(const ivl_run_i64 *a, size_t n, ivl_run_i64 *out, size_t room);
 
 /* Make a set of two lists. O(n log n + m log m).
    union: the members of either; intersection: of both; difference: of `a` and not of `b`;
    symmetric_difference: of exactly one.
-   The first three are O(n + m) and take no memory where both lists are lists of runs: no pair is crossed, the
-   pairs ascend with at least one number missing between neighbours, and all are in the range, as in each list
-   that a call has written. Where `room` is less than n + m, they first count the runs of the answer. */
+   The first three are O(n + m) and do not allocate if both lists are lists of runs: no pair is crossed, the
+   pairs ascend with at least one number missing between neighbours, and all are in the range, as in every list
+   that a call has written. If `room` is less than n + m, they first count the runs of the answer. */
 int64_t ivl_union_i64(const ivl_run_i64 *a, size_t n, const ivl_run_i64 *b, size_t m, ivl_run_i64 *out, size_t room);
 int64_t ivl_intersection_i64(const ivl_run_i64 *a, size_t n, const ivl_run_i64 *b, size_t m, ivl_run_i64 *out, size_t room);
 int64_t ivl_difference_i64(const ivl_run_i64 *a, size_t n, const ivl_run_i64 *b, size_t m, ivl_run_i64 *out, size_t room);
@@ -62,57 +62,59 @@ int64_t ivl_differences_i64(const ivl_run_i64 *a, size_t n, const ivl_run_i64 *b
    O(n m log (n m)). */
 int64_t ivl_products_i64(const ivl_run_i64 *a, size_t n, const ivl_run_i64 *b, size_t m, ivl_run_i64 *out, size_t room);
 
-/* Ask of two lists: 1 for yes, 0 for no, or a code. O(n log n + m log m).
+/* Compare two lists: 1 for yes, 0 for no, or an error code. O(n log n + m log m).
    is_subset: each member of `a` is one of `b`; overlap: some number is a member of both;
    equal: the members are the same. */
 int64_t ivl_is_subset_i64(const ivl_run_i64 *a, size_t n, const ivl_run_i64 *b, size_t m);
 int64_t ivl_overlap_i64(const ivl_run_i64 *a, size_t n, const ivl_run_i64 *b, size_t m);
 int64_t ivl_equal_i64(const ivl_run_i64 *a, size_t n, const ivl_run_i64 *b, size_t m);
 
-/* Writes how many members a list has, and answers 0; or a code, and nothing is written.
+/* Writes the number of members and returns 0, or returns an error code and writes nothing.
    O(n log n). */
 int64_t ivl_size_i64(const ivl_run_i64 *a, size_t n, uint64_t *size);
 
-/* Whether `v`, any number of its type, is a member of any list. O(n), with no memory and no code. */
+/* Returns true exactly when `v` is a member. The list may be in any order, and `v` may be outside the range.
+   O(n), does not allocate, has no error code. */
 bool ivl_contains_i64(const ivl_run_i64 *a, size_t n, int64_t v);
 
-/* The same by binary search, for a list in order: no pair is crossed, and neither the lower nor the upper
-   bounds descend. Each list that a call has written is in order. Of any other list, true still means that `v`
-   is a member, and false means nothing. O(log n), with no memory and no code. */
+/* The same by binary search, for a sorted list: no pair is crossed, and neither the lower nor the upper bounds
+   descend. Every list that a call has written is sorted. For any other list, true still means that `v` is a
+   member, and false means nothing. O(log n), does not allocate, has no error code. */
 bool ivl_contains_sorted_i64(const ivl_run_i64 *a, size_t n, int64_t v);
 
-/* Writes the least member of any list that is at least `v`, any number of its type, and answers true; or
-   false, and nothing is written. O(n), with no memory and no code. */
+/* Writes the least member that is at least `v` and returns true, or writes nothing and returns false if there is
+   none. The list may be in any order, and `v` may be outside the range. O(n), does not allocate, has no error
+   code. */
 bool ivl_next_from_i64(const ivl_run_i64 *a, size_t n, int64_t v, int64_t *found);
 
-/* The same by binary search, for a list in order as in contains_sorted. Of any other list, what is written is
-   still a member that is at least `v`, but perhaps not the least one, and false means no more than that nothing
-   is written. O(log n), with no memory and no code. */
+/* The same by binary search, for a list that is sorted as for contains_sorted. For any other list, a number that
+   is written is still a member that is at least `v`, but perhaps not the least one, and false means only that
+   nothing is written. O(log n), does not allocate, has no error code. */
 bool ivl_next_from_sorted_i64(const ivl_run_i64 *a, size_t n, int64_t v, int64_t *found);
 
-/* Writes the lowest `count` members in a row as one run, and answers 1; 0 where there are none or where
-   `count` is 0, or a code, and nothing is written. O(n log n). */
+/* Writes the lowest `count` consecutive members as one run and returns 1. Otherwise writes nothing, and returns 0
+   if there is no such run or `count` is 0, or an error code. O(n log n). */
 int64_t ivl_first_fit_i64(const ivl_run_i64 *a, size_t n, uint64_t count, ivl_run_i64 *found);
 
 /* ---- uint64_t: the members of a set lie from 0 to UINT64_MAX - 1 */
 
-/* The numbers from `lower` to `upper`, both included; none where the two cross. */
+/* The numbers from `lower` to `upper`, bounds included; none if `lower` is above `upper`. */
 typedef struct {
     uint64_t lower;
     uint64_t upper;
 } ivl_run_u64;
 
 /* Make a set of one list. O(n log n).
-   normalize: its members; complement: the numbers of the range that are no members. */
+   normalize: its members; complement: the other numbers of the range. */
 int64_t ivl_normalize_u64(const ivl_run_u64 *a, size_t n, ivl_run_u64 *out, size_t room);
 int64_t ivl_complement_u64(const ivl_run_u64 *a, size_t n, ivl_run_u64 *out, size_t room);
 
 /* Make a set of two lists. O(n log n + m log m).
    union: the members of either; intersection: of both; difference: of `a` and not of `b`;
    symmetric_difference: of exactly one.
-   The first three are O(n + m) and take no memory where both lists are lists of runs: no pair is crossed, the
-   pairs ascend with at least one number missing between neighbours, and all are in the range, as in each list
-   that a call has written. Where `room` is less than n + m, they first count the runs of the answer. */
+   The first three are O(n + m) and do not allocate if both lists are lists of runs: no pair is crossed, the
+   pairs ascend with at least one number missing between neighbours, and all are in the range, as in every list
+   that a call has written. If `room` is less than n + m, they first count the runs of the answer. */
 int64_t ivl_union_u64(const ivl_run_u64 *a, size_t n, const ivl_run_u64 *b, size_t m, ivl_run_u64 *out, size_t room);
 int64_t ivl_intersection_u64(const ivl_run_u64 *a, size_t n, const ivl_run_u64 *b, size_t m, ivl_run_u64 *out, size_t room);
 int64_t ivl_difference_u64(const ivl_run_u64 *a, size_t n, const ivl_run_u64 *b, size_t m, ivl_run_u64 *out, size_t room);
@@ -128,36 +130,38 @@ int64_t ivl_differences_u64(const ivl_run_u64 *a, size_t n, const ivl_run_u64 *b
    O(n m log (n m)). */
 int64_t ivl_products_u64(const ivl_run_u64 *a, size_t n, const ivl_run_u64 *b, size_t m, ivl_run_u64 *out, size_t room);
 
-/* Ask of two lists: 1 for yes, 0 for no, or a code. O(n log n + m log m).
+/* Compare two lists: 1 for yes, 0 for no, or an error code. O(n log n + m log m).
    is_subset: each member of `a` is one of `b`; overlap: some number is a member of both;
    equal: the members are the same. */
 int64_t ivl_is_subset_u64(const ivl_run_u64 *a, size_t n, const ivl_run_u64 *b, size_t m);
 int64_t ivl_overlap_u64(const ivl_run_u64 *a, size_t n, const ivl_run_u64 *b, size_t m);
 int64_t ivl_equal_u64(const ivl_run_u64 *a, size_t n, const ivl_run_u64 *b, size_t m);
 
-/* Writes how many members a list has, and answers 0; or a code, and nothing is written.
+/* Writes the number of members and returns 0, or returns an error code and writes nothing.
    O(n log n). */
 int64_t ivl_size_u64(const ivl_run_u64 *a, size_t n, uint64_t *size);
 
-/* Whether `v`, any number of its type, is a member of any list. O(n), with no memory and no code. */
+/* Returns true exactly when `v` is a member. The list may be in any order, and `v` may be outside the range.
+   O(n), does not allocate, has no error code. */
 bool ivl_contains_u64(const ivl_run_u64 *a, size_t n, uint64_t v);
 
-/* The same by binary search, for a list in order: no pair is crossed, and neither the lower nor the upper
-   bounds descend. Each list that a call has written is in order. Of any other list, true still means that `v`
-   is a member, and false means nothing. O(log n), with no memory and no code. */
+/* The same by binary search, for a sorted list: no pair is crossed, and neither the lower nor the upper bounds
+   descend. Every list that a call has written is sorted. For any other list, true still means that `v` is a
+   member, and false means nothing. O(log n), does not allocate, has no error code. */
 bool ivl_contains_sorted_u64(const ivl_run_u64 *a, size_t n, uint64_t v);
 
-/* Writes the least member of any list that is at least `v`, any number of its type, and answers true; or
-   false, and nothing is written. O(n), with no memory and no code. */
+/* Writes the least member that is at least `v` and returns true, or writes nothing and returns false if there is
+   none. The list may be in any order, and `v` may be outside the range. O(n), does not allocate, has no error
+   code. */
 bool ivl_next_from_u64(const ivl_run_u64 *a, size_t n, uint64_t v, uint64_t *found);
 
-/* The same by binary search, for a list in order as in contains_sorted. Of any other list, what is written is
-   still a member that is at least `v`, but perhaps not the least one, and false means no more than that nothing
-   is written. O(log n), with no memory and no code. */
+/* The same by binary search, for a list that is sorted as for contains_sorted. For any other list, a number that
+   is written is still a member that is at least `v`, but perhaps not the least one, and false means only that
+   nothing is written. O(log n), does not allocate, has no error code. */
 bool ivl_next_from_sorted_u64(const ivl_run_u64 *a, size_t n, uint64_t v, uint64_t *found);
 
-/* Writes the lowest `count` members in a row as one run, and answers 1; 0 where there are none or where
-   `count` is 0, or a code, and nothing is written. O(n log n). */
+/* Writes the lowest `count` consecutive members as one run and returns 1. Otherwise writes nothing, and returns 0
+   if there is no such run or `count` is 0, or an error code. O(n log n). */
 int64_t ivl_first_fit_u64(const ivl_run_u64 *a, size_t n, uint64_t count, ivl_run_u64 *found);
 
 #ifdef __cplusplus

@@ -1,4 +1,4 @@
-"""Sets of whole numbers over the static library of proved calls, by `ctypes` alone.
+"""Sets of whole numbers, by `ctypes` over the proved calls of the static library.
 
 >>> free = IntervalSet([(8, 11), (12, 13)])
 >>> free
@@ -11,8 +11,8 @@ IntervalSet([(8, 13)])
 Traceback (most recent call last):
 intervallum.OutOfRange: a member is outside the range
 
-The shared library is looked for beside this file, as `libintervallum.so`, or where the variable
-`INTERVALLUM_LIBRARY` says; `tests/bindings` builds it.
+The shared library is `libintervallum.so` beside this file, or the path in the environment variable
+`INTERVALLUM_LIBRARY`; `tests/bindings` builds it.
 """
 
 import ctypes
@@ -69,7 +69,7 @@ class _Bounds:
             setattr(self, call, found)
 
     def holds(self, value):
-        """Whether the number is a value of the type, in or outside the range of sets."""
+        """Returns whether the number is a value of the type, even one outside the range of sets."""
         low, high = self.limits
         return low <= value <= high
 
@@ -89,7 +89,7 @@ def _checked(told):
 
 
 class IntervalSet:
-    """A set of whole numbers, made of pairs in any order; a crossed pair has no member.
+    """A set of whole numbers, made of pairs in any order. A crossed pair adds nothing.
 
     >>> IntervalSet([(5, 6), (1, 2), (9, 4)]) | IntervalSet([(3, 3)])
     IntervalSet([(1, 3), (5, 6)])
@@ -141,23 +141,23 @@ class IntervalSet:
         return self._of(self._type, call, *self._lists(other), room=self._count + other._count)
 
     def __or__(self, other):
-        """The members of either."""
+        """Returns the members of either set."""
         return self._with(self._type.union, other)
 
     def __and__(self, other):
-        """The members of both."""
+        """Returns the members of both sets."""
         return self._with(self._type.intersection, other)
 
     def __sub__(self, other):
-        """The members that are not in the other."""
+        """Returns the members that are not in the other set."""
         return self._with(self._type.difference, other)
 
     def __xor__(self, other):
-        """The members of exactly one."""
+        """Returns the members of exactly one set."""
         return self._with(self._type.symmetric_difference, other)
 
     def sums(self, other):
-        """The sums of a member of each that are in the range.
+        """Returns the sums of a member of each set that are in the range.
 
         >>> IntervalSet([(1, 2), (9, 9)]).sums(IntervalSet([(10, 10)]))
         IntervalSet([(11, 12), (19, 19)])
@@ -165,7 +165,7 @@ class IntervalSet:
         return self._with(self._type.sums, other)
 
     def differences(self, other):
-        """The differences of a member of this and one of the other that are in the range.
+        """Returns the differences of a member of this set and one of the other that are in the range.
 
         >>> IntervalSet([(0, 5)], bounds="u64").differences(IntervalSet([(3, 3)], bounds="u64"))
         IntervalSet([(0, 2)], bounds='u64')
@@ -173,7 +173,7 @@ class IntervalSet:
         return self._with(self._type.differences, other)
 
     def products(self, other):
-        """For each pair of runs, the numbers from their least to their greatest product.
+        """Returns, for each pair of runs, the numbers from their least to their greatest product.
 
         >>> IntervalSet([(1, 2)]).products(IntervalSet([(10, 10)]))
         IntervalSet([(10, 20)])
@@ -184,7 +184,7 @@ class IntervalSet:
         return self._with(self._type.products, other)
 
     def __invert__(self):
-        """The numbers of the range that are no members."""
+        """Returns the complement within the range."""
         return self._of(self._type, self._type.complement, self._at(), self._count, room=self._count + 1)
 
     def __contains__(self, value):
@@ -198,7 +198,7 @@ class IntervalSet:
     __hash__ = None
 
     def issubset(self, other):
-        """Whether each member is one of the other.
+        """Returns whether each member is in the other set.
 
         >>> IntervalSet([(1, 2)]).issubset(IntervalSet([(0, 5)]))
         True
@@ -206,7 +206,7 @@ class IntervalSet:
         return bool(_checked(self._type.is_subset(*self._lists(other))))
 
     def overlaps(self, other):
-        """Whether some number is a member of both.
+        """Returns whether some number is in both sets.
 
         >>> IntervalSet([(1, 2)]).overlaps(IntervalSet([(3, 5)]))
         False
@@ -214,7 +214,7 @@ class IntervalSet:
         return bool(_checked(self._type.overlap(*self._lists(other))))
 
     def next_from(self, value):
-        """The least member that is at least the value, or None.
+        """Returns the least member that is at least the value, or None.
 
         >>> IntervalSet([(1, 2), (5, 6)]).next_from(3), IntervalSet([(1, 2)]).next_from(3)
         (5, None)
@@ -227,7 +227,7 @@ class IntervalSet:
         return found.value if is_there else None
 
     def first_fit(self, count):
-        """The lowest so many members in a row as a pair, or None.
+        """Returns the lowest `count` consecutive members as a pair, or None.
 
         >>> IntervalSet([(1, 2), (5, 9)]).first_fit(3), IntervalSet([(1, 2)]).first_fit(3)
         ((5, 7), None)
@@ -240,7 +240,7 @@ class IntervalSet:
 
     @property
     def size(self):
-        """The number of members. `len` is the same, and fails above `sys.maxsize`."""
+        """The number of members. `len` is the same, but fails above `sys.maxsize`."""
         size = ctypes.c_uint64()
         _checked(self._type.size(self._at(), self._count, ctypes.addressof(size)))
         return size.value
@@ -255,11 +255,11 @@ class IntervalSet:
         return iter(self.runs())
 
     def runs(self):
-        """The runs as pairs, ascending."""
+        """Returns the runs as pairs, ascending."""
         return [(run.lower, run.upper) for run in self._list[: self._count]]
 
     def array(self):
-        """The runs as an array of numpy of shape (n, 2), which is not copied and cannot be written."""
+        """Returns the runs as a read-only numpy array of shape (n, 2), without a copy."""
         kind = numpy.int64 if self._type.is_signed else numpy.uint64
         array = numpy.frombuffer(self._list, dtype=kind)[: 2 * self._count].reshape(self._count, 2)
         array.flags.writeable = False
@@ -271,7 +271,7 @@ class IntervalSet:
 
 
 def _pairs(bounds, pairs):
-    """The array, its address and the number of pairs; an array of numpy that fits is not copied."""
+    """Returns the array, its address and the number of pairs. A contiguous numpy array is not copied."""
     if numpy is not None and isinstance(pairs, numpy.ndarray):
         kind = numpy.int64 if bounds.is_signed else numpy.uint64
         if pairs.dtype != kind or pairs.ndim != 2 or pairs.shape[1] != 2:
