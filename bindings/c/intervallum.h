@@ -8,8 +8,9 @@
    unchanged. Otherwise nothing is written, and the call can be repeated with more room. A negative result is an
    error code; then nothing was written.
 
-   The caller must ensure that no pointer is null, even if its count is 0, and that `out`, `size` and `found`
-   overlap no input. Do not call from a signal handler, or from the forked child of a process with threads. */
+   The caller must ensure that each pointer is valid for its count, and not null even if that is 0, and that
+   `out`, `size` and `found` overlap no input. There is no condition on values. Do not call from a signal
+   handler, or from the forked child of a process with threads. */
 #ifndef INTERVALLUM_H
 #define INTERVALLUM_H
 

@@ -1,4 +1,4 @@
-//! Sums and differences of the members of two lists, as far as they lie in the range.
+//! Sums and differences of the members of two lists, cut to the range.
 ghost use Rattle.std.specs.Prelude.{IfOk, map};
 ghost use Rattle.ivl_laws.specs.Sets.{IsBetween, IsSubset, Union};
 ghost use Rattle.ivl_laws.specs.Runs.{Covers, IsRunsOf};
@@ -22,7 +22,7 @@ pub enum Adding {
     Difference,
 }
 
-/// Makes the set of the sums or differences, and writes its runs.
+/// Makes the set of the sums or differences that are in the range, and writes its runs.
 pub fn of_members<R: Run>(alloc: Global, adding: Adding, a: &[R], b: &[R], out: &mut [R]) -> i64
     ensures { AnswersSet R.Bound.whole (Union (Covers (map R.pair a.now)) (Covers (map R.pair b.now)))
         (AddedBy R.Bound.whole adding (Covers (map R.pair a.now)) (Covers (map R.pair b.now))) (map R.pair out.old) (map R.pair out.new) result }

@@ -1,4 +1,4 @@
-//! Questions on lists, which need the sets of their members.
+//! Queries on lists, which make the sets of their members.
 ghost use Rattle.std.specs.Prelude.{◌↔◌, IfOk, IsTrue, map};
 ghost use Rattle.ivl_laws.specs.Sets.{IsBetween, IsSubset, Union};
 ghost use Rattle.ivl_laws.specs.Runs.{Covers};
@@ -23,7 +23,7 @@ pub enum Asking {
     Alike,
 }
 
-/// Tells 1 for yes and 0 for no.
+/// Returns 1 for yes, 0 for no, or an error code.
 pub fn ask<R: Run>(alloc: Global, asking: Asking, a: &[R], b: &[R]) -> i64
     ensures { AnswersQuestion R.Bound.whole (Union (Covers (map R.pair a.now)) (Covers (map R.pair b.now)))
         (HoldsOf asking (Covers (map R.pair a.now)) (Covers (map R.pair b.now))) result }
@@ -52,7 +52,7 @@ fn asked<R: Run>(alloc: Global, asking: Asking, a: &[R], b: &[R]) -> Result<bool
     })
 }
 
-/// Writes the number of members.
+/// Writes the number of members and returns 0, or returns an error code.
 pub fn count<R: Run>(alloc: Global, a: &[R], size: &mut <R::Bound as Width>::Output) -> i64
     ensures { AnswersSize R.Bound.whole (Covers (map R.pair a.now))
         (R.Bound.Output.size size.old) (R.Bound.Output.size size.new) result }

@@ -1,4 +1,4 @@
-//! The least member from a number on, and the lowest members in a row.
+//! The least member from a number on, and the lowest consecutive members.
 ghost use Rattle.std.specs.Prelude.{ℤ, List, IfOk, map, option_map};
 ghost use Rattle.ivl_laws.specs.Sets.{IsBetween, IsSubset, Union};
 ghost use Rattle.ivl_laws.specs.Runs.{Covers};
@@ -12,7 +12,8 @@ use intervallum::ops::Bounded;
 use intervallum::width::{SizeNumber, Width};
 use std::alloc::{AllocError, Global};
 
-/// Writes the least member that is at least `v`, and tells whether there is one. `O(n)`.
+/// Writes the least member that is at least `v`. Returns true exactly when there is one. `O(n)`,
+/// does not allocate.
 pub fn next_from<R: Run>(runs: &[R], v: R::Bound, found: &mut R::Bound) -> bool
     ensures { AnswersNext (R.Bound.value v) (Covers (map R.pair runs.now)) (R.Bound.value found.old) (R.Bound.value found.new) result }
 {
@@ -49,7 +50,7 @@ pub fn least_in<R: Run>(run: R, v: R::Bound) -> Option<R::Bound>
     }
 }
 
-/// The lesser of two numbers, of those that there are.
+/// The lesser of two numbers, or the only one.
 fn lesser<B: Width>(a: Option<B>, b: Option<B>) -> Option<B>
     ensures { (v : ℤ) (L : List (ℤ × ℤ)) (p : ℤ × ℤ) → IsNextIn v (Covers L) (option_map B.value a) → IsNextIn v (IsBetween p) (option_map B.value b)
         → IsNextIn v (Union (Covers L) (IsBetween p)) (option_map B.value result) }
@@ -61,7 +62,8 @@ fn lesser<B: Width>(a: Option<B>, b: Option<B>) -> Option<B>
     }
 }
 
-/// Writes the lowest `count` members in a row, and tells 1, or 0 where there are none.
+/// Writes the lowest `count` consecutive members and returns 1, or returns 0 if there are none, or
+/// an error code.
 pub fn first_fit<R: Run>(
     alloc: Global,
     a: &[R],
@@ -83,7 +85,7 @@ pub fn first_fit<R: Run>(
     }
 }
 
-/// The lowest `count` members in a row, where `count` is above 0 and there are so many.
+/// The lowest `count` consecutive members; `None` if there are none or `count` is 0.
 fn lowest_fit<R: Run>(
     alloc: Global,
     a: &[R],

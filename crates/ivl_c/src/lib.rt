@@ -1,9 +1,10 @@
-//! The calls of sets for C, over arrays of runs: arrays in, an array out in the room of the caller.
+//! The calls of sets for C. They read arrays of runs, and write an array into the caller's buffer.
 //!
-//! A list of pairs is taken as the set of its members: it may stand in any order and overlap, and a
-//! crossed pair has none. A list of runs has no crossed pair, its pairs ascend and leave a number free
-//! between neighbours, and all are in the range; each list that a call writes is one.
-//! `bindings/c/intervallum.h` declares the calls.
+//! A list of pairs stands for the set of its members: it may be in any order and overlap, and a
+//! crossed pair has no member. A list of runs has no crossed pair, its pairs ascend with at least
+//! one number missing between neighbours, and all are in the range; every list that a call writes
+//! is one. A call returns a negative code and writes nothing if a member is outside the range or an
+//! allocation fails. `bindings/c/intervallum.h` declares the calls.
 #![tactic(auto)]
 
 mod adding;

@@ -1,4 +1,4 @@
-//! Sets made of lists, and what is told of them.
+//! Sets made of lists.
 ghost use Rattle.std.specs.Prelude.{◌+◌, ◌^◌, ◌<◌, ◌≤◌, ℤ, IfOk, IsTrue, List, length, map};
 ghost use Rattle.ivl_laws.specs.Sets.{IsBetween, IsSubset, Union};
 ghost use Rattle.ivl_laws.specs.Runs.{Covers, IsRunListIn, IsRunsOf};
@@ -37,7 +37,7 @@ pub enum OfTwo {
     OneAlone,
 }
 
-/// Makes a set of one list, and writes its runs.
+/// Makes a set of one list, and writes its runs. Returns their number or an error code.
 pub fn of_one<R: Run>(alloc: Global, making: OfOne, a: &[R], out: &mut [R]) -> i64
     ensures { AnswersSet R.Bound.whole (Covers (map R.pair a.now))
         (MadeOfOne R.Bound.whole making (Covers (map R.pair a.now))) (map R.pair out.old) (map R.pair out.new) result }
@@ -48,7 +48,7 @@ pub fn of_one<R: Run>(alloc: Global, making: OfOne, a: &[R], out: &mut [R]) -> i
     tell(made_of_one(alloc, making, a), out)
 }
 
-/// Makes a set of two lists, and writes its runs.
+/// Makes a set of two lists, and writes its runs. Returns their number or an error code.
 pub fn of_two<R: Run>(alloc: Global, making: OfTwo, a: &[R], b: &[R], out: &mut [R]) -> i64
     ensures { AnswersSet R.Bound.whole (Union (Covers (map R.pair a.now)) (Covers (map R.pair b.now)))
         (MadeOfTwo making (Covers (map R.pair a.now)) (Covers (map R.pair b.now))) (map R.pair out.old) (map R.pair out.new) result }
@@ -97,10 +97,10 @@ fn made_of_two<R: Run>(
     }
 }
 
-/// The most runs of a list that is merged, so that an answer has no more runs than `i64` counts.
+/// The most runs of a list that is merged, so that the number of runs of an answer fits `i64`.
 const MOST_RUNS: usize = 1 << 61;
 
-/// True only if one walk over both lists makes the answer, in the room of the caller.
+/// True only if both lists are lists of runs, and one walk over both makes the answer.
 fn is_merged<R: Run>(making: OfTwo, a: &[R], b: &[R]) -> bool
     ensures making { IsTrue result → IsOneWalk making }
     ensures first { IsTrue result → IsRunListIn R.Bound.whole (map R.pair a.now) }
@@ -114,8 +114,8 @@ fn is_merged<R: Run>(making: OfTwo, a: &[R], b: &[R]) -> bool
         && is_run_list(b)
 }
 
-/// Writes what is made of two run lists, and tells how many runs it has. Where there may be too little
-/// room, it counts them first.
+/// Writes what is made of two run lists, and returns its number of runs. If there may be too little
+/// room, counts them first.
 fn merge<R: Run>(making: OfTwo, a: &[R], b: &[R], out: &mut [R]) -> i64
     requires making { IsOneWalk making }
     requires first { IsRunListIn R.Bound.whole (map R.pair a.now) }
@@ -134,8 +134,8 @@ fn merge<R: Run>(making: OfTwo, a: &[R], b: &[R], out: &mut [R]) -> i64
     walk(making, a, b, out) as i64
 }
 
-/// Lays what is made of two run lists in a room as far as there is room, and tells how many runs it
-/// has.
+/// Writes as many runs of what is made of two run lists as there is room for, and returns the
+/// number of all of them.
 fn walk<R: Run>(making: OfTwo, a: &[R], b: &[R], out: &mut [R]) -> usize
     requires making { IsOneWalk making }
     requires first { IsRunListIn R.Bound.whole (map R.pair a.now) }

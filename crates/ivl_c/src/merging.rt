@@ -1,7 +1,8 @@
-//! What is made of two run lists by one walk over both, in the room of the caller.
+//! What is made of two run lists by one walk over both, in the caller's buffer.
 //!
-//! A walk lays the runs of its answer in the first places of the room, as far as there are places, and
-//! tells how many runs they are. It is linear in the runs of both lists, and does not allocate.
+//! A walk writes the runs of its answer to the first places of the buffer, as many as there are
+//! places, and returns the number of all of them. It is linear in the runs of both lists, and does
+//! not allocate.
 ghost use Rattle.std.specs.Prelude.{◌≡◌, ◌+◌, ◌^◌, ◌<◌, ◌≤◌, ℤ, ◌+ℤ◌, ◌-ℤ◌, ◌<ℤ◌, pos, IfSome, List, [], MatchOption, None, drop, length, map, slice_set};
 ghost use Rattle.std.specs.Int.{int_max, int_min};
 ghost use Rattle.ivl_laws.specs.Sets.{Intersection, Union, Without};
@@ -14,7 +15,7 @@ use crate::run_lists::leaves_free;
 use crate::searching::pair_at;
 use intervallum::width::Width;
 
-/// Lays the members of both run lists.
+/// Writes the members of both run lists.
 pub fn meet<R: Run>(a: &[R], b: &[R], out: &mut [R]) -> usize
     requires first { IsRunListIn R.Bound.whole (map R.pair a.now) }
     requires second { IsRunListIn R.Bound.whole (map R.pair b.now) }
@@ -44,7 +45,7 @@ pub fn meet<R: Run>(a: &[R], b: &[R], out: &mut [R]) -> usize
     count
 }
 
-/// Lays the members of the first run list that are not in the second.
+/// Writes the members of the first run list that are not in the second.
 pub fn part<R: Run>(a: &[R], b: &[R], out: &mut [R]) -> usize
     requires first { IsRunListIn R.Bound.whole (map R.pair a.now) }
     requires second { IsRunListIn R.Bound.whole (map R.pair b.now) }
@@ -77,7 +78,7 @@ pub fn part<R: Run>(a: &[R], b: &[R], out: &mut [R]) -> usize
     count
 }
 
-/// Lays the members of either run list.
+/// Writes the members of either run list.
 pub fn unite<R: Run>(a: &[R], b: &[R], out: &mut [R]) -> usize
     requires first { IsRunListIn R.Bound.whole (map R.pair a.now) }
     requires second { IsRunListIn R.Bound.whole (map R.pair b.now) }
@@ -105,7 +106,8 @@ pub fn unite<R: Run>(a: &[R], b: &[R], out: &mut [R]) -> usize
     count + 1
 }
 
-/// Takes the pair that starts first of those at two places, if there is one, and moves on its place.
+/// Takes the pair that starts first of those at two places, if there is one, and advances its
+/// place.
 fn take_first<R: Run>(a: &[R], i: &mut usize, b: &[R], j: &mut usize) -> Option<R>
     requires first { i.old ≤ length a.now }
     requires second { j.old ≤ length b.now }
@@ -139,7 +141,7 @@ fn take_first<R: Run>(a: &[R], i: &mut usize, b: &[R], j: &mut usize) -> Option<
     }
 }
 
-/// What a run has above another one that ends below its end.
+/// The part of a run above another one that ends below its end.
 fn above<R: Run>(run: R, other: R) -> R
     requires run { IsRunIn R.Bound.whole (R.pair run) }
     requires other { IsRunIn R.Bound.whole (R.pair other) }
@@ -150,8 +152,8 @@ fn above<R: Run>(run: R, other: R) -> R
     R::of(run.lower().max(next), run.upper())
 }
 
-/// Lays what a run has below the start of another one, if it has anything there, and tells how many runs
-/// are laid then.
+/// Writes the part of a run below the start of another one, if there is any. Returns how many runs
+/// are then written.
 fn lay_below<R: Run>(out: &mut [R], count: usize, run: R, other: R) -> usize
     requires run { IsRunIn R.Bound.whole (R.pair run) }
     requires other { IsRunIn R.Bound.whole (R.pair other) }
@@ -167,7 +169,7 @@ fn lay_below<R: Run>(out: &mut [R], count: usize, run: R, other: R) -> usize
     count + 1
 }
 
-/// Lays a pair unless it is crossed, and tells how many runs are laid then.
+/// Writes a pair unless it is crossed. Returns how many runs are then written.
 fn lay<R: Run>(out: &mut [R], count: usize, run: R) -> usize
     requires { count < 2 ^ 63 }
     ensures { LaysNext (R.pair run) (map R.pair out.old) (map R.pair out.new) count result }
@@ -179,7 +181,7 @@ fn lay<R: Run>(out: &mut [R], count: usize, run: R) -> usize
     count + 1
 }
 
-/// Writes a pair at a place of the room, if there is such a place.
+/// Writes a pair at a place of the buffer, if there is such a place.
 fn put<R: Run>(out: &mut [R], place: usize, run: R)
     ensures { map R.pair out.new ≡ slice_set (map R.pair out.old) place (R.pair run) }
 {

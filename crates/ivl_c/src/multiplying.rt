@@ -13,7 +13,7 @@ use intervallum::ops::Fits;
 use intervallum::width::Width;
 use std::alloc::{AllocError, Global};
 
-/// Makes the set of the products, and writes its runs.
+/// Makes the set of the products, and writes its runs. Returns their number or an error code.
 pub fn products<R: Run>(alloc: Global, a: &[R], b: &[R], out: &mut [R]) -> i64
     ensures { AnswersProducts R.Bound.whole (Covers (map R.pair a.now)) (Covers (map R.pair b.now)) (map R.pair out.old) (map R.pair out.new) result }
 {
@@ -27,7 +27,7 @@ pub fn products<R: Run>(alloc: Global, a: &[R], b: &[R], out: &mut [R]) -> i64
     }
 }
 
-/// The set of the products; none where some product is outside the range.
+/// The set of the products; `None` if some product is outside the range.
 fn multiplied<R: Run>(
     alloc: Global,
     a: &[R],
@@ -42,7 +42,7 @@ fn multiplied<R: Run>(
     product(&left, &right)
 }
 
-/// The product of two sets; none where some product of members is outside the range.
+/// The product of two sets; `None` if some product of members is outside the range.
 fn product<B: Width>(
     left: &IntervalSet<B>,
     right: &IntervalSet<B>,

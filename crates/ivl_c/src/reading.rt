@@ -62,7 +62,7 @@ fn interval_of<R: Run>(run: R) -> Interval<R::Bound>
     }
 }
 
-/// Returns true exactly when some pair of the list has the number. `O(n)`.
+/// Returns true exactly when some pair of the list has the number. `O(n)`, does not allocate.
 pub fn contains<R: Run>(runs: &[R], v: R::Bound) -> bool
     ensures { IsTrue result ↔ Covers (map R.pair runs.now) (R.Bound.value v) }
 {

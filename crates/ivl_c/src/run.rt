@@ -3,7 +3,7 @@ ghost use Rattle.std.specs.Prelude.{◌≡◌, ℤ, pos};
 
 use intervallum::width::Width;
 
-/// The numbers from a lower to an upper bound, both included; none where the two cross.
+/// The numbers from a lower to an upper bound, bounds included; none if the two cross.
 pub trait Run: Copy {
     /// The type of the bounds.
     type Bound: Width;

@@ -1,4 +1,4 @@
-//! Lists that are the runs of a set already.
+//! Lists that are already the runs of a set.
 ghost use Rattle.std.specs.Prelude.{◌↔◌, ◌+ℤ◌, ◌≤ℤ◌, IsTrue, map, pos};
 ghost use Rattle.ivl_laws.specs.Runs.{IsRunListIn};
 ghost use Rattle.ivl_c.specs.Merging.{IsRunIn};
@@ -8,8 +8,8 @@ use intervallum::interval::Interval;
 use intervallum::ops::Range;
 use intervallum::width::Width;
 
-/// Returns true exactly when no pair is crossed, each leaves a number free after the one before it,
-/// and all are in the range. `O(n)`.
+/// Returns true exactly when no pair is crossed, the pairs ascend with at least one number missing
+/// between neighbours, and all are in the range. `O(n)`, does not allocate.
 pub fn is_run_list<R: Run>(runs: &[R]) -> bool
     ensures { IsTrue result ↔ IsRunListIn R.Bound.whole (map R.pair runs.now) }
 {
@@ -36,7 +36,7 @@ fn is_run<R: Run>(run: R) -> bool
     run.lower() <= run.upper() && Interval::in_range(run.lower(), run.upper())
 }
 
-/// Returns true exactly when some number lies above a run and below another one.
+/// Returns true exactly when some number lies above one run and below another.
 pub fn leaves_free<R: Run>(last: R, run: R) -> bool
     requires last { IsRunIn R.Bound.whole (R.pair last) }
     requires run { IsRunIn R.Bound.whole (R.pair run) }

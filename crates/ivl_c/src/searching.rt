@@ -1,4 +1,4 @@
-//! Binary searches in lists whose pairs are in order.
+//! Binary search in sorted lists.
 ghost use Rattle.std.specs.Prelude.{◌≡◌, ◌↔◌, false, IfSome, IsTrue, MatchOption, drop, map, option_map, slice_get, take};
 ghost use Rattle.ivl_laws.specs.Sets.{AtLeast, HasNone, IsBetween, IsSubset};
 ghost use Rattle.ivl_laws.specs.Runs.{Covers};
@@ -9,8 +9,8 @@ ghost use Rattle.ivl_c.specs.Lists.{IsInOrder};
 use crate::finding::least_in;
 use crate::run::Run;
 
-/// True only if some pair of the list has the number, and exactly then if the list is in order.
-/// `O(log n)`.
+/// Returns true only if some pair of the list has the number, and exactly then if the list is
+/// sorted. `O(log n)`, does not allocate.
 pub fn contains<R: Run>(runs: &[R], v: R::Bound) -> bool
     ensures member { IsTrue result → Covers (map R.pair runs.now) (R.Bound.value v) }
     ensures in_order { IsInOrder (map R.pair runs.now) → (IsTrue result ↔ Covers (map R.pair runs.now) (R.Bound.value v)) }
@@ -19,8 +19,8 @@ pub fn contains<R: Run>(runs: &[R], v: R::Bound) -> bool
     is_in
 }
 
-/// Writes a member that is at least `v`, and the least one if the list is in order. Tells whether it
-/// found one. `O(log n)`.
+/// Writes a member that is at least `v`, and the least one if the list is sorted. Returns whether
+/// it found one. `O(log n)`, does not allocate.
 pub fn next_from<R: Run>(runs: &[R], v: R::Bound, found: &mut R::Bound) -> bool
     ensures member { IsTrue result → AtLeast (R.Bound.value v) (Covers (map R.pair runs.now)) (R.Bound.value found.new) }
     ensures same { result ≡ false → R.Bound.value found.new ≡ R.Bound.value found.old }
@@ -36,7 +36,7 @@ pub fn next_from<R: Run>(runs: &[R], v: R::Bound, found: &mut R::Bound) -> bool
     }
 }
 
-/// A member that is at least `v`, and the least one if the list is in order.
+/// A member that is at least `v`, and the least one if the list is sorted.
 fn least_from<R: Run>(runs: &[R], v: R::Bound) -> Option<R::Bound>
     ensures member { IfSome result (λ x. AtLeast (R.Bound.value v) (Covers (map R.pair runs.now)) (R.Bound.value x)) }
     ensures in_order { IsInOrder (map R.pair runs.now) → IsNextIn (R.Bound.value v) (Covers (map R.pair runs.now)) (option_map R.Bound.value result) }
@@ -45,7 +45,7 @@ fn least_from<R: Run>(runs: &[R], v: R::Bound) -> Option<R::Bound>
     least_in(run, v)
 }
 
-/// A pair of the list, and the first that ends at `v` or above if the list is in order.
+/// A pair of the list, and the first that ends at `v` or above if the list is sorted.
 fn first_from<R: Run>(runs: &[R], v: R::Bound) -> Option<R>
     ensures members { IfSome result (λ run. IsSubset (IsBetween (R.pair run)) (Covers (map R.pair runs.now))) }
     ensures in_order { IsInOrder (map R.pair runs.now) → MatchOption result
@@ -56,8 +56,8 @@ fn first_from<R: Run>(runs: &[R], v: R::Bound) -> Option<R>
     pair_at(runs, place)
 }
 
-/// The place of the first pair that ends at `v` or above, or the number of pairs, if the list is in
-/// order; and whether the pair at that place has `v`.
+/// The place of the first pair that ends at `v` or above, or the number of pairs, if the list is
+/// sorted; and whether the pair at that place has `v`.
 fn search<R: Run>(runs: &[R], v: R::Bound) -> (usize, bool)
     ensures has { TellsAt R.pair (R.Bound.value v) (slice_get runs.now result.0) result.1 }
     ensures below { IsInOrder (map R.pair runs.now) → EndBelow (R.Bound.value v) (take result.0 (map R.pair runs.now)) }

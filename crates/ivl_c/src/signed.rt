@@ -14,7 +14,7 @@ use crate::run::RunI64;
 use crate::{reading, searching};
 use std::alloc::Global;
 
-/// The members of a list, as runs that ascend and neither overlap nor touch. `O(n log n)`.
+/// Writes the members of a list as a list of runs. `O(n log n)`.
 #[unsafe(no_mangle)]
 pub extern "C" fn ivl_normalize_i64(alloc: Global, a: &[RunI64], out: &mut [RunI64]) -> i64
     ensures { AnswersSet range_i64 (members_i64 a.now) (members_i64 a.now) (pairs_i64 out.old) (pairs_i64 out.new) result }
@@ -22,7 +22,7 @@ pub extern "C" fn ivl_normalize_i64(alloc: Global, a: &[RunI64], out: &mut [RunI
     of_one(alloc, OfOne::Same, a, out)
 }
 
-/// The complement within the range. `O(n log n)`.
+/// Writes the complement within the range. `O(n log n)`.
 #[unsafe(no_mangle)]
 pub extern "C" fn ivl_complement_i64(alloc: Global, a: &[RunI64], out: &mut [RunI64]) -> i64
     ensures { AnswersSet range_i64 (members_i64 a.now) (Complement range_i64 (members_i64 a.now)) (pairs_i64 out.old) (pairs_i64 out.new) result }
@@ -30,8 +30,8 @@ pub extern "C" fn ivl_complement_i64(alloc: Global, a: &[RunI64], out: &mut [Run
     of_one(alloc, OfOne::Rest, a, out)
 }
 
-/// The members of either list. `O(n log n + m log m)`; where both are lists of runs, `O(n + m)` and
-/// does not allocate.
+/// Writes the members of either list. `O(n log n + m log m)`; if both are lists of runs,
+/// `O(n + m)`, and does not allocate.
 #[unsafe(no_mangle)]
 pub extern "C" fn ivl_union_i64(
     alloc: Global,
@@ -45,8 +45,8 @@ pub extern "C" fn ivl_union_i64(
     of_two(alloc, OfTwo::Either, a, b, out)
 }
 
-/// The members of both lists. `O(n log n + m log m)`; where both are lists of runs, `O(n + m)` and
-/// does not allocate.
+/// Writes the members of both lists. `O(n log n + m log m)`; if both are lists of runs, `O(n + m)`,
+/// and does not allocate.
 #[unsafe(no_mangle)]
 pub extern "C" fn ivl_intersection_i64(
     alloc: Global,
@@ -60,8 +60,8 @@ pub extern "C" fn ivl_intersection_i64(
     of_two(alloc, OfTwo::Both, a, b, out)
 }
 
-/// The members of the first list that are not in the second. `O(n log n + m log m)`; where both are
-/// lists of runs, `O(n + m)` and does not allocate.
+/// Writes the members of the first list that are not in the second. `O(n log n + m log m)`; if both
+/// are lists of runs, `O(n + m)`, and does not allocate.
 #[unsafe(no_mangle)]
 pub extern "C" fn ivl_difference_i64(
     alloc: Global,
@@ -75,7 +75,7 @@ pub extern "C" fn ivl_difference_i64(
     of_two(alloc, OfTwo::FirstAlone, a, b, out)
 }
 
-/// The members of exactly one list. `O(n log n + m log m)`.
+/// Writes the members of exactly one list. `O(n log n + m log m)`.
 #[unsafe(no_mangle)]
 pub extern "C" fn ivl_symmetric_difference_i64(
     alloc: Global,
@@ -89,7 +89,7 @@ pub extern "C" fn ivl_symmetric_difference_i64(
     of_two(alloc, OfTwo::OneAlone, a, b, out)
 }
 
-/// Whether each member of the first list is one of the second. `O(n log n + m log m)`.
+/// Returns whether each member of the first list is one of the second. `O(n log n + m log m)`.
 #[unsafe(no_mangle)]
 pub extern "C" fn ivl_is_subset_i64(alloc: Global, a: &[RunI64], b: &[RunI64]) -> i64
     ensures { AnswersQuestion range_i64 (Union (members_i64 a.now) (members_i64 b.now)) (IsSubset (members_i64 a.now) (members_i64 b.now)) result }
@@ -97,7 +97,7 @@ pub extern "C" fn ivl_is_subset_i64(alloc: Global, a: &[RunI64], b: &[RunI64]) -
     ask(alloc, Asking::Within, a, b)
 }
 
-/// Whether some number is a member of both lists. `O(n log n + m log m)`.
+/// Returns whether some number is a member of both lists. `O(n log n + m log m)`.
 #[unsafe(no_mangle)]
 pub extern "C" fn ivl_overlap_i64(alloc: Global, a: &[RunI64], b: &[RunI64]) -> i64
     ensures { AnswersQuestion range_i64 (Union (members_i64 a.now) (members_i64 b.now)) (HasSome (Intersection (members_i64 a.now) (members_i64 b.now))) result }
@@ -105,7 +105,7 @@ pub extern "C" fn ivl_overlap_i64(alloc: Global, a: &[RunI64], b: &[RunI64]) -> 
     ask(alloc, Asking::Meets, a, b)
 }
 
-/// Whether the lists have the same members. `O(n log n + m log m)`.
+/// Returns whether the lists have the same members. `O(n log n + m log m)`.
 #[unsafe(no_mangle)]
 pub extern "C" fn ivl_equal_i64(alloc: Global, a: &[RunI64], b: &[RunI64]) -> i64
     ensures { AnswersQuestion range_i64 (Union (members_i64 a.now) (members_i64 b.now)) (SameMembers (members_i64 a.now) (members_i64 b.now)) result }
@@ -113,7 +113,7 @@ pub extern "C" fn ivl_equal_i64(alloc: Global, a: &[RunI64], b: &[RunI64]) -> i6
     ask(alloc, Asking::Alike, a, b)
 }
 
-/// Writes how many members a list has. `O(n log n)`.
+/// Writes the number of members of a list. `O(n log n)`.
 #[unsafe(no_mangle)]
 pub extern "C" fn ivl_size_i64(alloc: Global, a: &[RunI64], size: &mut u64) -> i64
     ensures { AnswersSize range_i64 (members_i64 a.now) size.old size.new result }
@@ -121,7 +121,7 @@ pub extern "C" fn ivl_size_i64(alloc: Global, a: &[RunI64], size: &mut u64) -> i
     count(alloc, a, size)
 }
 
-/// Whether a number is a member of the list, which may be any list. `O(n)`. Does not allocate.
+/// Returns true exactly when a number is a member of the list. `O(n)`, does not allocate.
 #[unsafe(no_mangle)]
 pub extern "C" fn ivl_contains_i64(a: &[RunI64], v: i64) -> bool
     ensures { IsTrue result ↔ members_i64 a.now v }
@@ -129,8 +129,8 @@ pub extern "C" fn ivl_contains_i64(a: &[RunI64], v: i64) -> bool
     reading::contains(a, v)
 }
 
-/// Whether a number is a member of a list that is in order. Of any other list, true is told only if
-/// the number is a member. `O(log n)`. Does not allocate.
+/// Returns true exactly when a number is a member of a sorted list. For any other list, returns
+/// true only if the number is a member. `O(log n)`, does not allocate.
 #[unsafe(no_mangle)]
 pub extern "C" fn ivl_contains_sorted_i64(a: &[RunI64], v: i64) -> bool
     ensures member { IsTrue result → members_i64 a.now v }
@@ -139,7 +139,7 @@ pub extern "C" fn ivl_contains_sorted_i64(a: &[RunI64], v: i64) -> bool
     searching::contains(a, v)
 }
 
-/// The sums of a member of each list that are in the range. `O(n m log (n m))`.
+/// Writes the sums of a member of each list that are in the range. `O(n m log (n m))`.
 #[unsafe(no_mangle)]
 pub extern "C" fn ivl_sums_i64(alloc: Global, a: &[RunI64], b: &[RunI64], out: &mut [RunI64]) -> i64
     ensures { AnswersSet range_i64 (Union (members_i64 a.now) (members_i64 b.now))
@@ -149,7 +149,8 @@ pub extern "C" fn ivl_sums_i64(alloc: Global, a: &[RunI64], b: &[RunI64], out: &
     of_members(alloc, Adding::Sum, a, b, out)
 }
 
-/// The differences of a member of `a` and one of `b` that are in the range. `O(n m log (n m))`.
+/// Writes the differences of a member of `a` and one of `b` that are in the range.
+/// `O(n m log (n m))`.
 #[unsafe(no_mangle)]
 pub extern "C" fn ivl_differences_i64(
     alloc: Global,
@@ -164,8 +165,8 @@ pub extern "C" fn ivl_differences_i64(
     of_members(alloc, Adding::Difference, a, b, out)
 }
 
-/// For each pair of runs, the numbers from the least to the greatest product. A code where some
-/// product is outside the range. `O(n m log (n m))`.
+/// Writes, for each pair of runs, the numbers from the least to the greatest product. Returns a
+/// code if some product is outside the range. `O(n m log (n m))`.
 #[unsafe(no_mangle)]
 pub extern "C" fn ivl_products_i64(
     alloc: Global,
@@ -178,8 +179,8 @@ pub extern "C" fn ivl_products_i64(
     products(alloc, a, b, out)
 }
 
-/// Writes the least member that is at least `v`, and tells whether there is one; the list may be any
-/// list. `O(n)`. Does not allocate.
+/// Writes the least member that is at least `v`. Returns true exactly when there is one. `O(n)`,
+/// does not allocate.
 #[unsafe(no_mangle)]
 pub extern "C" fn ivl_next_from_i64(a: &[RunI64], v: i64, found: &mut i64) -> bool
     ensures { AnswersNext v (members_i64 a.now) found.old found.new result }
@@ -187,9 +188,9 @@ pub extern "C" fn ivl_next_from_i64(a: &[RunI64], v: i64, found: &mut i64) -> bo
     next_from(a, v, found)
 }
 
-/// Writes the least member that is at least `v`, and tells whether there is one, of a list that is in
-/// order. Of any other list, what is written is a member that is at least `v`. `O(log n)`. Does not
-/// allocate.
+/// Writes the least member of a sorted list that is at least `v`. Returns true exactly when there
+/// is one. For any other list, what is written is a member that is at least `v`. `O(log n)`, does
+/// not allocate.
 #[unsafe(no_mangle)]
 pub extern "C" fn ivl_next_from_sorted_i64(a: &[RunI64], v: i64, found: &mut i64) -> bool
     ensures member { IsTrue result → AtLeast v (members_i64 a.now) found.new }
@@ -199,8 +200,8 @@ pub extern "C" fn ivl_next_from_sorted_i64(a: &[RunI64], v: i64, found: &mut i64
     searching::next_from(a, v, found)
 }
 
-/// Writes the lowest `count` members in a row as one run, and tells 1; 0 where there are none, or
-/// where `count` is 0. `O(n log n)`.
+/// Writes the lowest `count` consecutive members as one run and returns 1, or returns 0 if there
+/// are none or `count` is 0. `O(n log n)`.
 #[unsafe(no_mangle)]
 pub extern "C" fn ivl_first_fit_i64(
     alloc: Global,

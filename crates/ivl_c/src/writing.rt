@@ -1,4 +1,4 @@
-//! What is told of an answer, and how it is written to the caller's room.
+//! The error codes, and how an answer is written to the caller's buffer.
 ghost use Rattle.std.specs.Prelude.{◌≡◌, ◌⊎◌, ◌++◌, ◌≤◌, pos, drop, length, map, IsOkAnd};
 ghost use Rattle.ivl_c.specs.Answers.{Refuses, out_of_memory, written};
 
@@ -16,7 +16,8 @@ pub const OUT_OF_MEMORY: i64 = -2;
 /// Some product is outside the range.
 pub const PRODUCT_OUT_OF_RANGE: i64 = -3;
 
-/// Writes the runs of a set to the room if there is so much, and tells how many they are.
+/// Writes the runs of a set if there is room for all, and returns their number. Returns a code if
+/// making the set failed, or if the number does not fit `i64`.
 pub fn tell<R: Run>(made: Result<IntervalSet<R::Bound>, AllocError>, out: &mut [R]) -> i64
     ensures { Refuses out_of_memory (map R.pair out.old) (map R.pair out.new) result
         ⊎ IsOkAnd made (λ L. (result ≡ pos (length L)) × (map R.pair out.new ≡ written L (map R.pair out.old))) }
@@ -33,7 +34,7 @@ pub fn tell<R: Run>(made: Result<IntervalSet<R::Bound>, AllocError>, out: &mut [
     count
 }
 
-/// Writes the runs of a set to the first places of the room.
+/// Writes the runs of a set to the first places of the buffer.
 fn write<R: Run>(set: &IntervalSet<R::Bound>, out: &mut [R])
     requires { length set.now ≤ length out.old }
     ensures { map R.pair out.new ≡ set.now ++ drop (length set.now) (map R.pair out.old) }

@@ -1,10 +1,10 @@
-//! Finite domains narrowed by constraints `x + y = z`.
+//! Finite domains, narrowed by constraints `x + y = z`.
 //!
 //! A [`Store`] has a set of numbers for each variable, its domain. Variables are named by their
-//! indexes from 0. Narrowing by a constraint removes from the domains of its variables members that
-//! stand in no solution, and never one that does. [`Store::narrow`] narrows by one constraint once,
-//! [`Store::propagate`] by a list in rounds, and [`Store::post_all`] takes cuts and constraints one by
-//! one and tells after each whether a domain is empty.
+//! indexes from 0. Narrowing by a constraint removes members that are in no solution from the
+//! domains of its variables, and never removes one that is. [`Store::narrow`] narrows by one
+//! constraint once, [`Store::propagate`] by a list in rounds, and [`Store::post_all`] takes cuts
+//! and constraints one by one and replies after each whether a domain is empty.
 //!
 //! ```
 //! // x + y = z
@@ -34,7 +34,8 @@ pub use post::Post;
 use std::alloc::Global;
 use std::marker::Model;
 
-/// A set of numbers for each variable. A contract sees the list of the run lists of the domains.
+/// The domains of some variables: a set of numbers for each. A contract sees the list of their run
+/// lists.
 ///
 /// The number of variables never changes, and domains only lose members. A call that fails with
 /// [`StoreFault::Variable`] leaves the store unchanged.
@@ -53,8 +54,8 @@ impl<B: Width> Model for Store<B> {
 }
 
 impl<B: Width> Store<B> {
-    /// Creates a store with these domains, in this order. `alloc` is for the bookkeeping of later
-    /// calls. `O(1)` per domain, does not allocate.
+    /// Creates a store with these domains, in this order. Later calls use `alloc` for their
+    /// bookkeeping. `O(1)` per domain, does not allocate.
     ///
     /// ```
     /// let store: Store<i32> = Store::new(alloc, vec![in alloc; IntervalSet::new(alloc, 0, 9)?]?);

@@ -1,5 +1,4 @@
-//! Sums and differences of sets, as far as they lie in the range of the bounds or in a window: see
-//! [`within`].
+//! Sums and differences of sets, cut to the range of the bounds or to a window: see [`within`].
 //!
 //! ```
 //! // `a` is {[0..0][10..12][90..95]}, and `b` is {[1..2][50..60]}

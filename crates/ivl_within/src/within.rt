@@ -1,5 +1,4 @@
-//! Sums and differences of sets, as far as they lie in a window: the range of the bounds, or an
-//! interval.
+//! Sums and differences of sets, cut to a window: the range of the bounds, or an interval.
 ghost use Rattle.std.specs.Prelude.{◌↔◌, ◌≤ℤ◌, IfOk, IsTrue};
 ghost use Rattle.ivl_laws.specs.Sets.{Differences, HasSome, IsBetween, Sums, Without};
 ghost use Rattle.ivl_laws.specs.Runs.{Covers, IsMaximal, IsRunListIn, IsRunsOf};
@@ -27,14 +26,15 @@ pub enum Combined {
     Difference,
 }
 
-/// Returns the sums of a member of each that are in the range, and whether some sum is not. Has no
-/// condition. A set with no member gives the set with none, and false.
+/// Returns the sums of a member of each set that are in the range, and true exactly when some sum
+/// is not. If either set is empty, returns the empty set and false.
 ///
-/// `O(n m log (n m))` for `n` and `m` runs. Allocates room for twice `n * m` runs.
+/// `O(n m log (n m))` for `n` and `m` runs. Reserves `n * m` runs for the pairs, and then as many for
+/// the answer unless the sorted pairs are its runs.
 ///
 /// # Errors
 ///
-/// `AllocError` if allocation fails. Room for all pairs of runs is reserved first, that of the answer after it.
+/// Fails only if allocation fails, or if `n * m` is above `usize::MAX`.
 ///
 /// ```
 /// // `whole` is the set of all numbers of the range of `i8`
@@ -52,15 +52,15 @@ pub fn add_within<B: Width>(
     Ok((combine_all(a, b, Combined::Sum)?, is_cut))
 }
 
-/// Returns the differences of a member of `a` and one of `b` that are in the range, and whether
-/// some difference is not. Has no condition. A set with no member gives the set with none, and
-/// false.
+/// Returns the differences of a member of `a` and one of `b` that are in the range, and true
+/// exactly when some difference is not. If either set is empty, returns the empty set and false.
 ///
-/// `O(n m log (n m))` for `n` and `m` runs. Allocates room for twice `n * m` runs.
+/// `O(n m log (n m))` for `n` and `m` runs. Reserves `n * m` runs for the pairs, and then as many for
+/// the answer unless the sorted pairs are its runs.
 ///
 /// # Errors
 ///
-/// `AllocError` if allocation fails. Room for all pairs of runs is reserved first, that of the answer after it.
+/// Fails only if allocation fails, or if `n * m` is above `usize::MAX`.
 ///
 /// ```
 /// // `none` is the empty set of `i8`, and `whole` that of all numbers of its range
@@ -78,16 +78,16 @@ pub fn sub_within<B: Width>(
     Ok((combine_all(a, b, Combined::Difference)?, is_cut))
 }
 
-/// Returns the sums of a member of each set that are in the window. A window with no member, or a
-/// set with none, gives the empty set.
+/// Returns the sums of a member of each set that are in the window. If the window or either set is
+/// empty, returns the empty set.
 ///
 /// Makes only the `k` pairs of runs whose sums reach the window, each by one run of `a` and
-/// neighbours in `b`: `O(n log m + k log k)` for `n` and `m` runs. Allocates as it goes, for about
-/// three times `k` runs at most; for one run each, for one run at most.
+/// neighbours in `b`: `O(n log m + k log k)` for `n` and `m` runs. Allocates as it goes, at most about
+/// `3 k` runs; if both sets are one run, at most one run.
 ///
 /// # Errors
 ///
-/// `AllocError` if allocation fails.
+/// Fails only if allocation fails.
 ///
 /// ```
 /// let a: IntervalSet<i64> = [(0, 0), (10, 12), (90, 95)].to_interval_set(alloc)?;
@@ -105,16 +105,16 @@ pub fn sums_in_window<B: Width>(
     combine(a, b, Combined::Sum, *window, 0)
 }
 
-/// Returns the differences of a member of `a` and one of `b` that are in the window. A window with
-/// no member, or a set with none, gives the empty set.
+/// Returns the differences of a member of `a` and one of `b` that are in the window. If the window
+/// or either set is empty, returns the empty set.
 ///
 /// Makes only the `k` pairs of runs whose differences reach the window, each by one run of `a` and
-/// neighbours in `b`: `O(n log m + k log k)` for `n` and `m` runs. Allocates as it goes, for about
-/// three times `k` runs at most; for one run each, for one run at most.
+/// neighbours in `b`: `O(n log m + k log k)` for `n` and `m` runs. Allocates as it goes, at most about
+/// `3 k` runs; if both sets are one run, at most one run.
 ///
 /// # Errors
 ///
-/// `AllocError` if allocation fails.
+/// Fails only if allocation fails.
 ///
 /// ```
 /// let a: IntervalSet<i64> = [(0, 0), (10, 12), (90, 95)].to_interval_set(alloc)?;

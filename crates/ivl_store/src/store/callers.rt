@@ -1,4 +1,4 @@
-//! The condition of [`Store::post_all`], tested and met.
+//! Tests of the condition of [`Store::post_all`].
 ghost use Rattle.std.specs.Prelude.{◌≡◌, ◌↔◌, ℕ, ℤ, List, All, Err, IfOk, IsNone, IsSome, IsTrue, MatchOption, None, Some, length, ⊤};
 ghost use Rattle.ivl_laws.specs.Families.{set_at};
 ghost use Rattle.ivl_store.specs.Posts.{AnswersPosts, Cut, IsLeftBy, OfConstraint, constraints_of, first_unknown_post as first_unknown_in_posts};
@@ -7,8 +7,8 @@ ghost use Rattle.ivl_store.specs.Solutions.{AreDistinct, LiesWithin, SupportedBy
 use super::{Post, Store, StoreFault};
 use intervallum::width::Width;
 
-/// Returns true exactly when each constraint among the posts has three variables. Once it has, the
-/// posts may be passed to [`Store::post_all`].
+/// Returns true exactly when each constraint among the posts has three different variables. Then
+/// the posts may be passed to [`Store::post_all`]. Linear, does not allocate.
 pub fn all_distinct<B: Width>(posts: &[Post<B>]) -> bool
     ensures { IsTrue result ↔ All AreDistinct (constraints_of posts.now) }
 {
@@ -20,7 +20,7 @@ pub fn all_distinct<B: Width>(posts: &[Post<B>]) -> bool
     true
 }
 
-/// Whether the post's constraint, if it has one, has three variables.
+/// Whether the post's constraint, if it has one, has three different variables.
 fn is_distinct<B: Width>(post: &Post<B>) -> bool
     ensures { IsTrue result ↔ OfConstraint AreDistinct post.now }
 {
@@ -30,12 +30,12 @@ fn is_distinct<B: Width>(post: &Post<B>) -> bool
     }
 }
 
-/// Takes the posts, unless a constraint among them has a variable twice: then it returns `None`, and
-/// the store is unchanged.
+/// Passes the posts to [`Store::post_all`], unless a constraint among them has a variable twice:
+/// then returns `None`, and leaves the store unchanged.
 ///
 /// # Errors
 ///
-/// As [`Store::post_all`], and only if each constraint has three variables.
+/// Those of [`Store::post_all`], and only if each constraint has three different variables.
 pub fn post_if_distinct<B: Width>(
     store: &mut Store<B>,
     posts: &[Post<B>],

@@ -1,4 +1,4 @@
-//! Constraints between three variables, and why a store refuses a call.
+//! Constraints between three variables, and the errors of a store.
 ghost use Rattle.std.specs.Prelude.{◌≡◌, ◌↔◌, ◌⊎◌, IsTrue};
 ghost use Rattle.ivl_store.specs.Solutions.{AreDistinct, Names};
 ghost use Rattle.ivl_store.specs.Narrowing.{first_unknown, first_unknown_of as first_unknown_in};
@@ -6,10 +6,10 @@ ghost use Rattle.ivl_store.specs.Narrowing.{first_unknown, first_unknown_of as f
 use std::alloc::AllocError;
 use thiserror::Error;
 
-/// The sum of variables `x` and `y` is variable `z`.
+/// The constraint that variables `x` and `y` add to variable `z`.
 ///
-/// A variable may stand in two places or three. [`Store::post_all`](super::Store::post_all) alone
-/// asks for three variables; check with [`distinct`](Constraint::distinct).
+/// A variable may stand in two or three places. Only [`Store::post_all`](super::Store::post_all)
+/// requires three different variables; check with [`distinct`](Constraint::distinct).
 #[derive(Clone, Copy, Debug, PartialEq, Eq)]
 pub struct Constraint {
     pub x: usize,
@@ -18,7 +18,7 @@ pub struct Constraint {
 }
 
 impl Constraint {
-    /// Returns true exactly when `x`, `y` and `z` are three variables.
+    /// Returns true exactly when `x`, `y` and `z` are three different variables.
     ///
     /// ```
     /// assert!(rt; Constraint { x: 0, y: 1, z: 2 }.distinct());
@@ -72,14 +72,14 @@ pub(super) fn first_unknown_of(constraints: &[Constraint], count: usize) -> Opti
     None
 }
 
-/// Why a store refused a call.
+/// Why a call of a store failed.
 #[derive(Clone, Copy, Debug, PartialEq, Eq, Error)]
 pub enum StoreFault {
-    /// The store has no variable with this index: the first such one, constraint by constraint, and
-    /// within a constraint in the order `x`, `y`, `z`. Nothing was changed.
+    /// The store has no variable with this index. It is the first such index, constraint by
+    /// constraint, and within a constraint in the order `x`, `y`, `z`. The store is unchanged.
     #[error("no variable {0}")]
     Variable(usize),
-    /// An allocation failed. The call says what the store is then.
+    /// An allocation failed. Each call says what the store is then.
     #[error("memory")]
     Memory,
 }

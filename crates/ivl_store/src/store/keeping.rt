@@ -1,4 +1,4 @@
-//! What narrowing leaves of a domain. A new set is made only if a member is lost.
+//! What narrowing leaves of a domain; `None` stands for a domain that loses no member.
 ghost use Rattle.std.specs.Prelude.{◌≡◌, ◌∷◌, [], IfOk, length};
 ghost use Rattle.ivl_laws.specs.Sets.{Differences, IsBetween, IsSubset, Sums};
 ghost use Rattle.ivl_laws.specs.Runs.{Covers, IsRunListIn};
@@ -15,8 +15,8 @@ use intervallum::width::Width;
 use ivl_within::within::{Combined, image, kept};
 use std::alloc::AllocError;
 
-/// Returns what narrowing leaves at x, y and z: `None` at each place that loses no member. A variable
-/// that stands in two places has its set at the last.
+/// Returns what narrowing leaves at x, y and z, or `None` for a place that loses no member. A
+/// variable that stands in two places has its set at the last.
 pub(super) fn narrowed_sets<B: Width>(
     domains: &[IntervalSet<B>],
     c: &Constraint,

@@ -4,7 +4,7 @@ ghost use Rattle.ivl_store.specs.FamilyLaws.{LaterLiesWithin, LeftIsOne, OrderPl
 use super::Post;
 use intervallum::width::Width;
 
-/// Domain by domain, the union of two families that the constraints support is supported too.
+/// The union, domain by domain, of two families that the constraints support is supported too.
 pub fn union_is_supported()
     ensures { UnionIsSupported }
 {}

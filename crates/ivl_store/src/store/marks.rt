@@ -1,4 +1,4 @@
-//! Marks, one a constraint, of those by which narrowing would change nothing.
+//! Marks, one per constraint: by a marked constraint, narrowing would change nothing.
 ghost use Rattle.std.specs.Prelude.{◌≡◌, ◌↔◌, ◌<◌, ◌⊎◌, ℕ, ℤ, List, HoldsAt, IfOk, IsTrue, false, length, replicate};
 ghost use Rattle.ivl_laws.specs.Families.{set_at};
 ghost use Rattle.ivl_store.specs.Narrowing.{Narrowed};
@@ -24,15 +24,16 @@ impl Lost {
     }
 }
 
-/// No mark is set.
+/// Returns a list of marks, none of them set.
 pub(super) fn no_marks(alloc: Global, count: usize) -> Result<Vec<bool>, AllocError>
     ensures { IfOk result (λ marks. marks.items ≡ replicate count false) }
 {
     vec![in alloc; false; count]
 }
 
-/// Moves the marks once constraint `i` was narrowed by. No constraint that names a variable which
-/// lost a member keeps its mark; `i` itself is settled unless it lost one and has a variable twice.
+/// Updates the marks after narrowing by constraint `i`. Constraints that name a variable which lost
+/// a member lose their mark; `i` itself is marked unless a member was lost and it has a variable
+/// twice.
 pub(super) fn move_marks(constraints: &[Constraint], i: usize, lost: Lost, settled: &mut Vec<bool>)
     requires in_list { i < length constraints.now }
     requires one_each { length settled.old.items ≡ length constraints.now }

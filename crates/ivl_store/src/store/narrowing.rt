@@ -19,12 +19,13 @@ use std::alloc::AllocError;
 
 impl<B: Width> Store<B> {
     /// Narrows by one constraint: `x` keeps its members that are a member of `z` less one of `y`,
-    /// `y` those that are a member of `z` less one of `x`, and `z` those that are a sum of both, all
-    /// over the domains as they were. Returns true exactly when some domain lost a member.
+    /// `y` keeps those that are a member of `z` less one of `x`, and `z` keeps those that are a sum
+    /// of both, all over the domains before the call. Returns true exactly when some domain lost a
+    /// member.
     ///
-    /// A variable that stands in two places takes the rule of its last. Each new domain costs a sum or
-    /// difference of two domains, as far as it lies in the hull of the old one, and `O(1)` if all
-    /// three are single runs; a domain that keeps its members is not written.
+    /// A variable that stands in two places takes the rule of its last. Each domain costs a sum or
+    /// difference of two domains, cut to its own hull, and `O(1)` if all three are single runs. A
+    /// domain that keeps its members is not written.
     ///
     /// # Errors
     ///
@@ -88,7 +89,7 @@ impl<B: Width> Store<B> {
         }
     }
 
-    /// Narrows by constraint `i`, which is passed over if it is marked as settled.
+    /// Narrows by constraint `i`, unless it is marked as settled.
     pub(super) fn narrow_next(
         &mut self,
         constraints: &[Constraint],
@@ -113,7 +114,7 @@ impl<B: Width> Store<B> {
         Ok(lost.any())
     }
 
-    /// Narrows by each constraint in turn, and answers whether a member was lost.
+    /// Narrows by each constraint in turn. Returns true exactly when a member was lost.
     pub(super) fn round(
         &mut self,
         constraints: &[Constraint],
@@ -139,22 +140,23 @@ impl<B: Width> Store<B> {
     }
 
     /// Narrows by the constraints in rounds, until a round changes no domain or `rounds` rounds are
-    /// made. A round narrows by each constraint once, in list order. Returns true after a round that
-    /// changed no domain, and false if all rounds were made and each of them changed one; so it
-    /// returns false for no rounds.
+    /// made. A round narrows by each constraint once, in list order. Returns true after a round
+    /// that changed no domain, and false if `rounds` rounds were made and each of them changed one,
+    /// so always if `rounds` is 0.
     ///
-    /// Domains lose no member that stands in a common solution of the constraints. After true, no
+    /// Domains lose no member that is in a common solution of the constraints. After true, no
     /// constraint narrows any further; if each has three variables, the domains are the greatest
     /// ones in which every member is supported, whatever the order of the list.
     ///
-    /// Costs what its narrowings cost. A constraint whose domains did not change since it narrowed
-    /// them is passed over in `O(1)`.
+    /// Costs what its narrowings cost, and a pass over the constraints for each domain that
+    /// changes. Reserves one mark per constraint. A constraint of three different variables whose
+    /// domains did not change since it narrowed them is skipped in `O(1)`.
     ///
     /// # Errors
     ///
     /// [`StoreFault::Variable`] for the first unknown index in list order, before anything changes.
-    /// [`StoreFault::Memory`] if allocation fails: the store is then as after the last narrowing
-    /// that ended.
+    /// [`StoreFault::Memory`] if allocation fails: the store is then as the last completed
+    /// narrowing left it.
     ///
     /// ```
     /// // a + one = b and b + one = a, for a and b from 0 to 9

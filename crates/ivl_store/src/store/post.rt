@@ -9,7 +9,7 @@ use intervallum::width::Width;
 /// A cut of one domain, or one more constraint.
 #[derive(Drop)]
 pub enum Post<B: Width> {
-    /// The domain of a variable keeps its members in a set.
+    /// The domain of a variable keeps only the members in this set.
     Restrict(usize, IntervalSet<B>),
     /// The constraint holds, together with those posted before it.
     Require(Constraint),

@@ -1,4 +1,4 @@
-//! Posts taken one by one, each with a reply.
+//! Posts, taken one by one, with a reply to each.
 ghost use Rattle.std.specs.Prelude.{◌≡◌, ◌↔◌, ◌<◌, ◌++◌, ◌∷◌, [], ℕ, ℤ, List, All, Err, IfOk, IsTrue, OnErr, OnOk, Some, false, length};
 ghost use Rattle.ivl_laws.specs.Runs.{Covers};
 ghost use Rattle.ivl_laws.specs.Families.{set_at};
@@ -18,21 +18,22 @@ use std::alloc::AllocError;
 
 impl<B: Width> Store<B> {
     /// Takes the posts in turn. Each cuts one domain or adds a constraint to those of this call;
-    /// then the constraints so far narrow the domains until none changes one. Returns one reply a
-    /// post: true exactly when some domain is empty then.
+    /// then the constraints so far narrow the domains until nothing changes. Returns one reply per
+    /// post: true exactly when some domain is then empty.
     ///
     /// After all posts the domains are the greatest ones, within the old domains and the sets of
-    /// all cuts, in which every member is supported by each constraint. They depend on the posts
-    /// alone and not on their order, and so does each reply on the posts up to its own.
+    /// all cuts, in which every member is supported by each constraint. They do not depend on the
+    /// order of the posts, and each reply depends only on the posts up to its own.
     ///
-    /// The caller must ensure that each constraint has three variables; check with
+    /// The caller must ensure that each constraint has three different variables. Check with
     /// [`Constraint::distinct`], or [`all_distinct`](super::callers::all_distinct) for a list.
     ///
     /// # Errors
     ///
     /// [`StoreFault::Variable`] for the first unknown index in list order, that of a cut included,
     /// before anything changes. [`StoreFault::Memory`] if allocation fails: the store is then as
-    /// after the last cut or narrowing that ended. The replies are reserved before the first cut.
+    /// the last completed cut or narrowing left it. Replies, constraints and marks are reserved
+    /// before the first cut.
     ///
     /// ```
     /// // x + y = z, for x, y and z from 0 to 9; then z is 0 or 1
@@ -87,7 +88,8 @@ impl<B: Width> Store<B> {
         Ok(replies)
     }
 
-    /// Takes one post over the constraints so far, and answers whether some domain is empty then.
+    /// Takes one post over the constraints so far. Returns true exactly when some domain is then
+    /// empty.
     fn take_post(
         &mut self,
         post: &Post<B>,
@@ -137,7 +139,7 @@ impl<B: Width> Store<B> {
         Ok(())
     }
 
-    /// Keeps the members of one domain that are allowed, and answers whether some other was there.
+    /// Keeps the members of one domain that are allowed. Returns false if that is all of them.
     fn restrict(&mut self, i: usize, allowed: &IntervalSet<B>) -> Result<bool, AllocError>
         requires { i < length self.old }
         ensures refused { OnErr result (self.new ≡ self.old) }

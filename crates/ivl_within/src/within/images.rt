@@ -10,7 +10,7 @@ use intervallum::width::Width;
 
 /// Returns the sums, or the differences, of a number of each interval that are in the window.
 ///
-/// The caller must ensure that no interval is empty, the window included. Check with
+/// The caller must ensure that neither interval nor the window is empty. Check with
 /// [`IsEmpty::is_empty`](intervallum::ops::IsEmpty::is_empty). `O(1)`, does not allocate.
 ///
 /// ```

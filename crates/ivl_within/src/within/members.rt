@@ -16,10 +16,11 @@ use std::alloc::AllocError;
 ///
 /// Makes only the results between the least and the greatest member of `x`, at the cost of
 /// [`sums_in_window`](super::sums_in_window), and intersects them with `x` unless `x` is one run.
+/// Returns the empty set if `x` is empty, and then does not allocate.
 ///
 /// # Errors
 ///
-/// `AllocError` if allocation fails.
+/// Fails only if allocation fails.
 ///
 /// ```
 /// // `a` is {[0..0][10..12][90..95]}, and `b` is {[1..2][50..60]}

@@ -1,4 +1,4 @@
-//! The results of one run and those runs of a list that reach a window.
+//! The results of one run and the runs of a list whose results reach a window.
 ghost use Rattle.std.specs.Prelude.{◌≤◌, ◌≤ℤ◌, OnOk, length, map, take};
 ghost use Rattle.ivl_laws.specs.Sets.{IsBetween, SameMembers, Union};
 ghost use Rattle.ivl_laws.specs.Runs.{Covers, IsMaximal, IsRunListIn};
@@ -12,8 +12,9 @@ use intervallum::ops::{Bounded, IsEmpty, Whole};
 use intervallum::width::Width;
 use std::alloc::AllocError;
 
-/// Adds the results of one run and each run of a list, as far as they are in the window. Of the
-/// list it looks at the runs that reach the window, which are neighbours, and at the one after.
+/// Adds the results of one run and each run of a list, cut to the window. Finds the first run that
+/// reaches the window by binary search, and looks at the runs from there to the first that starts
+/// above.
 pub fn push_row<B: Width>(
     entries: &mut Vec<Interval<B>>,
     run: Interval<B>,
@@ -53,7 +54,7 @@ fn reach<B: Width>(run: Interval<B>, op: Combined, window: Interval<B>) -> Inter
     }
 }
 
-/// How many runs end below a value. They come first. Binary search.
+/// Returns how many runs end below a value; these come first. Binary search.
 fn first_from<B: Width>(runs: &[Interval<B>], v: B) -> usize
     requires { IsMaximal runs.now }
     ensures bound { result ≤ length runs.now }
