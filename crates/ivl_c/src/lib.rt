@@ -3,8 +3,8 @@
 //! A list of pairs stands for the set of its members: it may be in any order and overlap, and a
 //! crossed pair has no member. A list of runs has no crossed pair, its pairs ascend with at least
 //! one number missing between neighbours, and all are in the range; every list that a call writes
-//! is one. A call returns a negative code and writes nothing if a member is outside the range or an
-//! allocation fails. `bindings/c/intervallum.h` declares the calls.
+//! is one. A negative result is an error code, and then nothing is written.
+//! `bindings/c/intervallum.h` declares the calls.
 #![tactic(auto)]
 
 mod adding;

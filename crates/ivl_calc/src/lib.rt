@@ -1,9 +1,9 @@
-//! The calculator with what stands beside it, under one name.
+//! The calculator, windows and the domain store under one name.
 //!
-//! [`Calc`] carries out commands over registers that hold interval sets. [`within`] has the sums and
-//! differences of sets that are cut at the ends of the range, and [`store`] narrows domains by
-//! constraints `x + y = z`. A program that needs the calculator alone names `ivl_registers`, and does
-//! not wait for the proof of the store.
+//! [`Calc`] carries out commands over registers that hold interval sets. [`within`] has the sums
+//! and differences of sets, cut to the range or to a window, and [`store`] narrows domains by
+//! constraints `x + y = z`. A program that needs only the calculator depends on `ivl_registers`,
+//! and does not wait for the proof of the store.
 //!
 //! ```
 //! let mut calc = Calc::new(alloc, 2)?;

@@ -4,11 +4,11 @@ ghost use Rattle.ivl_expr.specs.Variables.{HasProduct, Occurs, ReadOnce, ShareVa
 
 /// An expression: sums, differences and products of variables and constants.
 ///
-/// A variable is the index of its set in the slice that [`eval`](crate::eval) is given. A constant may
-/// be any value of the type; one outside its range has no set.
+/// A variable is the index of its set in the slice that is passed to [`eval`](crate::eval). A
+/// constant may be any value of the type; `eval` fails for one outside the range.
 ///
-/// The calls of an expression, and dropping one, recurse: they use stack in proportion to its depth,
-/// so an expression that is built by a loop can be too deep for the stack of its thread.
+/// The calls of an expression, and dropping one, recurse: they use stack in proportion to its
+/// depth, so an expression that is built in a loop can overflow the stack.
 ///
 /// ```
 /// // (x0 + x1) - 3
@@ -18,9 +18,9 @@ ghost use Rattle.ivl_expr.specs.Variables.{HasProduct, Occurs, ReadOnce, ShareVa
 /// ```
 #[derive(Drop)]
 pub enum Expr<B> {
-    /// The variable of this index.
+    /// The variable with this index.
     Var(usize),
-    /// A number.
+    /// A constant.
     Const(B),
     /// The sum of the two.
     Add(Box<Expr<B>>, Box<Expr<B>>),
@@ -31,7 +31,7 @@ pub enum Expr<B> {
 }
 
 impl<B> Expr<B> {
-    /// Returns true if and only if variable `i` occurs. Linear in the nodes; does not allocate.
+    /// Returns true exactly when variable `i` occurs. Linear in the nodes, does not allocate.
     ///
     /// ```
     /// let sum = Expr::Add(Box::new(alloc, Expr::Var(3))?, Box::new(alloc, Expr::Const(5i32))?);
@@ -47,11 +47,11 @@ impl<B> Expr<B> {
         }
     }
 
-    /// Returns true if and only if no variable occurs twice. Then both ends of each run that
+    /// Returns true exactly when no variable occurs twice. Then both ends of each run that
     /// [`eval`](crate::eval) returns are values.
     ///
-    /// Compares each variable with the nodes on its right at most once: at worst the number of
-    /// variables times the number of nodes. Does not allocate.
+    /// Compares each variable with the nodes on its right at most once: at worst `O(v n)` for `v`
+    /// variables and `n` nodes. Does not allocate.
     ///
     /// ```
     /// let sum = Expr::Add(Box::new(alloc, Expr::Var(0))?, Box::new(alloc, Expr::Var(1))?);
@@ -70,7 +70,7 @@ impl<B> Expr<B> {
         }
     }
 
-    /// Returns true if and only if a product occurs. Linear in the nodes; does not allocate.
+    /// Returns true exactly when a product occurs. Linear in the nodes, does not allocate.
     ///
     /// ```
     /// let product = Expr::Mul(Box::new(alloc, Expr::Var(0))?, Box::new(alloc, Expr::Const(2i32))?);
@@ -87,7 +87,7 @@ impl<B> Expr<B> {
         }
     }
 
-    /// Returns true if and only if some variable occurs in both.
+    /// Returns true exactly when some variable occurs in both.
     fn shares(&self, other: &Expr<B>) -> bool
         ensures { IsTrue result ↔ ShareVariable self.now other.now }
     {

@@ -1,11 +1,11 @@
-//! Why an expression was not evaluated.
+//! The errors of evaluation.
 use std::alloc::AllocError;
 use thiserror::Error;
 
 /// Why [`eval`](crate::eval) returned no set.
 #[derive(Clone, Copy, PartialEq, Eq, Debug, Error)]
 pub enum EvalFault {
-    /// There is no set for the variable of this index.
+    /// There is no set for the variable with this index.
     #[error("missing variable {0}")]
     Missing(usize),
     /// The set of some node has a member outside the range of the type.

@@ -17,9 +17,9 @@ pub fn values_lie_in_node<B: Width>(expr: &Expr<B>)
     ensures { (sets : List (List (ℤ × ℤ))) → IsSubset (Values B.value expr.now (set_at sets)) (Node B.value expr.now (set_at sets)) }
 {}
 
-/// With larger sets for the variables that occur, an expression has more values and a larger node
-/// set. So an analysis that widens its sets stays sound: what it showed of the wider answer holds for
-/// the narrower one.
+/// If the sets of the variables that occur grow, so do the values and the node set of an
+/// expression. So an analysis that widens its sets stays sound: what holds for all members of the
+/// wider answer holds for those of the narrower one.
 pub fn wider_sets_give_more<B: Width>(expr: &Expr<B>)
     ensures values { (sets wider : List (List (ℤ × ℤ))) → ((i : ℕ) → Occurs i expr.now → IsSubset (set_at sets i) (set_at wider i)) →
         IsSubset (Values B.value expr.now (set_at sets)) (Values B.value expr.now (set_at wider)) }
@@ -29,7 +29,7 @@ pub fn wider_sets_give_more<B: Width>(expr: &Expr<B>)
         IsRunsOf L (Node B.value expr.now (set_at sets)) → IsRunsOf M (Node B.value expr.now (set_at wider)) → IsSubset (Covers L) (Covers M) }
 {}
 
-/// Where no variable repeats and no product stands, the node set has the values and nothing else.
+/// If no variable repeats and there is no product, the node set has exactly the values.
 pub fn node_is_exact<B: Width>(expr: &Expr<B>)
     ensures { (sets : List (List (ℤ × ℤ))) → ReadOnce expr.now → NoProduct expr.now →
         SameMembers (Node B.value expr.now (set_at sets)) (Values B.value expr.now (set_at sets)) }

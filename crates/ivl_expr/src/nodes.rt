@@ -16,31 +16,31 @@ use intervallum::ops::{Contains, Fits, Whole};
 use intervallum::width::Width;
 use std::alloc::{AllocError, Global};
 
-/// Evaluates an expression: returns its node set, where variable `i` has the set `sets[i]`.
+/// Evaluates an expression: returns its node set, with `sets[i]` as the set of variable `i`.
 ///
-/// Every value of the expression is a member. Where [`Expr::read_once`] holds, both ends of each run
-/// are values; where also [`Expr::has_product`] does not, all members are. The set of a variable that
-/// does not occur may be any, also an empty one.
+/// Every value of the expression is a member. If [`Expr::read_once`] returns true, both ends of
+/// each run are values; if also [`Expr::has_product`] returns false, all members are values. The
+/// set of a variable that does not occur may be any set, even an empty one.
 ///
-/// Costs what the operators do: a sum, difference or product of operands with `n` and `m` runs takes
-/// `O(n m log (n m))`, in memory for twice `n * m` runs. The set of a variable is borrowed, and copied
-/// only where the expression is that variable; the set of an operand is dropped once the set of its
-/// node is made. Uses stack in proportion to the depth of the expression.
+/// Costs what the operators do: a sum, difference or product of operands with `n` and `m` runs
+/// takes `O(n m log (n m))`, and reserves at most twice `n * m` runs. The set of a variable is
+/// borrowed, and copied only if the expression is that variable; the set of an operand is dropped
+/// once the set of its node is made. Uses stack in proportion to the depth of the expression.
 ///
 /// # Errors
 ///
 /// `sets` is unchanged after an error.
 ///
-/// - [`EvalFault::Missing`] if a variable has no set: the leftmost such. Looked for before anything
-///   else, without memory.
-/// - [`EvalFault::Range`] if the set of some node has a member outside the range of the type: of a
-///   constant too, of a node whose value returns to the range further up, and of a node beside an
-///   empty set. `Interval::whole().contains`, and `fits_add`, `fits_sub` and `fits_mul` of the
-///   operands' sets, are the tests.
+/// - [`EvalFault::Missing`] for the leftmost variable that has no set. This is checked first, and
+///   does not allocate.
+/// - [`EvalFault::Range`] if the set of some node has a member outside the range of the type, even
+///   if the value returns to the range further up, or the other operand is empty. A constant is
+///   such a node too. Check with `Interval::whole().contains`, and with `fits_add`, `fits_sub` and
+///   `fits_mul` of the operands' sets.
 /// - [`EvalFault::Memory`] if an allocation fails.
 ///
-/// Nodes are evaluated from the left, operands first; of `Range` and `Memory` the one is returned that
-/// is met first.
+/// Nodes are evaluated from the left, operands first; of `Range` and `Memory`, the one that is met
+/// first is returned.
 ///
 /// ```
 /// let sum = Expr::Add(Box::new(alloc, Expr::Var(0))?, Box::new(alloc, Expr::Var(1))?);
@@ -70,7 +70,7 @@ pub fn eval<B: Width>(
     Ok(node_set(alloc, expr, sets)?.into_set()?)
 }
 
-/// The set of a node: that of a variable is lent, and any other is made.
+/// The set of a node: borrowed for a variable, and made for any other node.
 #[derive(Drop)]
 enum NodeSet<'a, B: Width> {
     Lent(&'a IntervalSet<B>),

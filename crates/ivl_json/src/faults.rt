@@ -1,8 +1,8 @@
-//! Why a JSON value is refused.
+//! The errors of reading a JSON value.
 use std::alloc::AllocError;
 use thiserror::Error;
 
-/// Why a JSON value is no interval.
+/// Why a JSON value is not an interval.
 ///
 /// ```
 /// assert_eq!(rt; format!(in alloc; "{}", ItemFault::Length(3))?.as_str(), "length 3");
@@ -12,7 +12,7 @@ pub enum ItemFault {
     /// The value is neither null nor an array.
     #[error("shape")]
     Shape,
-    /// The array has another number of elements than two: this many.
+    /// The array does not have two elements, but this many.
     #[error("length {0}")]
     Length(usize),
     /// An element is not a whole number of 64 bits.
@@ -23,7 +23,7 @@ pub enum ItemFault {
     Range,
 }
 
-/// Why `from_value` refuses a JSON value.
+/// Why `from_value` failed.
 ///
 /// ```
 /// let fault = JsonFault::At(2, ItemFault::Range);
@@ -34,7 +34,7 @@ pub enum JsonFault {
     /// The value is neither null nor an array.
     #[error("shape")]
     Shape,
-    /// The array of an interval has another number of elements than two: this many.
+    /// The array of an interval does not have two elements, but this many.
     #[error("length {0}")]
     Length(usize),
     /// An element of an interval's array is not a whole number of 64 bits.
@@ -46,7 +46,7 @@ pub enum JsonFault {
     /// An allocation failed. Only a set's `from_value` allocates.
     #[error("memory")]
     Memory,
-    /// The item of a set at this place, counted from 0, is the first that is no interval.
+    /// The item of a set at this place, counted from 0, is the first that is not an interval.
     #[error("item {0}: {1}")]
     At(usize, ItemFault),
 }
@@ -57,7 +57,7 @@ impl From<ItemFault> for JsonFault {
 
     ghost from_gives = { λ fault same. same ≡ fault_of fault };
 
-    /// Returns the same fault, of an interval that is read on its own.
+    /// Returns the same fault, for an interval that is not an item of a set.
     ///
     /// ```
     /// assert_eq!(rt; JsonFault::from(ItemFault::Length(3)), JsonFault::Length(3));
@@ -78,7 +78,7 @@ impl From<AllocError> for JsonFault {
 
     ghost from_gives = { λ _ fault. fault ≡ Memory };
 
-    /// Out of memory.
+    /// Returns [`JsonFault::Memory`].
     ///
     /// ```
     /// assert_eq!(rt; JsonFault::from(AllocError), JsonFault::Memory);

@@ -1,4 +1,4 @@
-//! The trait of what has a JSON form.
+//! The trait of types that have a JSON form.
 ghost use Rattle.std.specs.Prelude.{◌≡◌, IfOk, IfErr};
 ghost use Rattle.serde_json.specs.Data.{Data};
 ghost use Rattle.serde_json.specs.View.{view};
@@ -12,7 +12,7 @@ use std::alloc::{AllocError, Global};
 /// Conversion to and from a JSON value, for `Interval<B>` and `IntervalSet<B>` over every bound
 /// type `B`.
 ///
-/// A value is a `serde_json::Value`. To go from text and back, use its `from_str` and `to_string`:
+/// A JSON value is a `serde_json::Value`. Its `from_str` and `to_string` convert from and to text:
 ///
 /// ```
 /// let value = Value::from_str(alloc, "[[1, 3], [2, 8], null, [9, 4]]")?;
@@ -24,8 +24,8 @@ use std::alloc::{AllocError, Global};
 /// # What is written
 ///
 /// An empty interval and an empty set are `null`. Any other interval is the array of its two
-/// bounds, `[3,8]`; any other set is the array of its runs, ascending, `[[1,2],[5,5]]`. What is
-/// written reads back as an equal value.
+/// bounds, as in `[3,8]`; any other set is the array of its runs, ascending, as in `[[1,2],[5,5]]`.
+/// What is written reads back as an equal value.
 ///
 /// # What is accepted
 ///
@@ -42,31 +42,32 @@ use std::alloc::{AllocError, Global};
 /// 2. [`Length`](JsonFault::Length): an interval's array does not have two elements, whatever its
 ///    elements are.
 /// 3. [`Number`](JsonFault::Number) or [`Range`](JsonFault::Range), of the first element, and then
-///    of the second. An element is asked first whether it is a whole number of 64 bits: `1.0`,
-///    `-0`, `1e2`, `18446744073709551616` and `"1"` are not. Then it has to be in the range of `B`,
-///    also if the two cross: as bounds of `u8`, `[255,0]` is refused.
+///    of the second. An element must be a whole number of 64 bits: `1.0`, `-0`, `1e2`,
+///    `18446744073709551616` and `"1"` are not. It must also be in the range of `B`, even if the
+///    two cross: as bounds of `u8`, `[255,0]` is refused.
 ///
-/// The items of a set are read from the left. The first that is refused is named with its place,
-/// counted from 0, by [`At`](JsonFault::At). No value is both read and refused, and nothing is
+/// The items of a set are read from the left. [`At`](JsonFault::At) has the place, counted from 0,
+/// and the fault of the first that is refused. No value is both read and refused, and nothing is
 /// read in part.
 ///
 /// # Cost and memory
 ///
-/// An interval is read in `O(1)` and does not allocate; it is written with one allocation, of two
-/// elements. A set of `k` items is read in `O(k log k)`: one pass over the array into a list that is
-/// reserved once, and then one [`coalesce`](intervallum::sweep::coalesce), which reserves room for
-/// the runs once. It is written in `O(n)` for `n` runs, with one allocation for the array and one
-/// for each run. The value that is read is borrowed, and never copied.
+/// Reading an interval is `O(1)` and does not allocate; writing one allocates an array of two,
+/// unless it is empty. Reading a set of `k` items is `O(k log k)`: one pass over the array into a
+/// list that is reserved once, and then one [`coalesce`](intervallum::sweep::coalesce), which
+/// reserves room for the runs at most once. Writing a set of `n` runs is `O(n)`, with one
+/// allocation for the array and one for each run. The value that is read is borrowed, and never
+/// copied.
 ///
 /// # Contracts
 ///
-/// A contract sees a value as serde_json's `Data`, by `view`. Generic code learns from the clauses
-/// that what is written reads back, and from the two laws that a value reads one way at most.
+/// A contract sees a value as serde_json's `Data`, by `view`. For generic code the clauses state
+/// that what is written reads back, and the two laws that a value reads in at most one way.
 pub trait JsonForm {
-    /// A JSON value reads as this.
+    /// The JSON value reads as this.
     ghost reads: { Data → Self → Type 0 };
 
-    /// A JSON value may be refused for this fault.
+    /// The JSON value may be refused with this fault.
     ghost faults: { Data → JsonFault → Type 0 };
 
     /// The JSON value that is written.
@@ -75,7 +76,7 @@ pub trait JsonForm {
     /// Two values are equal.
     ghost same: { Self → Self → Type 0 };
 
-    /// Returns the JSON value of this.
+    /// Returns the JSON value of this interval or set.
     ///
     /// # Errors
     ///
@@ -89,7 +90,7 @@ pub trait JsonForm {
         ensures written { IfOk result (λ v. view v ≡ json self.now) }
         ensures reads_back { reads (json self.now) self.now };
 
-    /// Reads a JSON value, which stays as it is.
+    /// Reads a JSON value, which is unchanged.
     ///
     /// # Errors
     ///
@@ -105,7 +106,7 @@ pub trait JsonForm {
         ensures read { IfOk result (reads (view value.now)) }
         ensures fault { IfErr result (faults (view value.now)) };
 
-    /// A JSON value reads as one value at most.
+    /// A JSON value reads as at most one value.
     ghost one_way: { (d : Data) (x y : Self) → reads d x → reads d y → same x y };
 
     /// A JSON value that can be read is refused only if memory runs out.

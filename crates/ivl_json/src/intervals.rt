@@ -30,8 +30,8 @@ impl<B: Width> JsonForm for Interval<B> {
 
     ghost not_refused = { interval_refused_alone B.whole };
 
-    /// Returns `null` if there is no member, and else the array of the two bounds. `O(1)`, with one
-    /// allocation. Fails only if allocation fails.
+    /// Returns `null` if the interval is empty, and else the array of the two bounds. `O(1)`, with
+    /// at most one allocation. Fails only if allocation fails.
     ///
     /// ```
     /// let none = Interval::<i32>::empty().to_value(alloc)?;
@@ -42,7 +42,7 @@ impl<B: Width> JsonForm for Interval<B> {
         interval_value(alloc, *self)
     }
 
-    /// Reads `null` or an array of two bounds. `O(1)`, and does not allocate, so the fault is never
+    /// Reads `null` or an array of two bounds. `O(1)`, does not allocate, so the fault is never
     /// [`JsonFault::Memory`].
     ///
     /// ```
@@ -70,7 +70,7 @@ pub(crate) fn interval_value<B: Width>(
     Ok(Value::from(vec![in alloc; lower, upper]?))
 }
 
-/// Reads an interval, with the bounds as they stand, also where they cross.
+/// Reads an interval, with the bounds as they stand, even if they cross.
 pub(crate) fn interval_from<B: Width>(value: &Value) -> Result<Interval<B>, ItemFault>
     ensures read { IfOk result (λ p. interval_read B.whole (view value.now) ≡ Ok p) }
     ensures fault { IfErr result (λ f. interval_read B.whole (view value.now) ≡ Err f) }

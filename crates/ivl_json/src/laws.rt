@@ -11,7 +11,7 @@ ghost use Rattle.ivl_json.specs.declared.faults.JsonFault.{JsonFault};
 
 use ivl_laws::sets::NumberSet;
 
-/// The JSON of an interval of the range reads as its members; that of one with no member is null.
+/// The JSON of an interval of the range reads as its members.
 pub fn interval_reads_back()
     ensures { (whole p : ℤ × ℤ) → IsSubset (IsBetween p) (IsBetween whole) → Reads whole (interval_json p) (IsBetween p) }
 {}
@@ -26,14 +26,14 @@ pub fn runs_read_back()
     ensures { (whole : ℤ × ℤ) (L : List (ℤ × ℤ)) → IsRunListIn whole L → SetReads whole (set_json L) (Covers L) }
 {}
 
-/// A value reads as one interval at most, and then it is not refused.
+/// A value reads as at most one interval, and if it does, it is not refused and is in the range.
 pub fn intervals_are_read_one_way<S: NumberSet, T: NumberSet>()
     ensures one { (whole : ℤ × ℤ) (d : Data) → Reads whole d S.members → Reads whole d T.members → SameMembers S.members T.members }
     ensures not_refused { (whole : ℤ × ℤ) (d : Data) (fault : ItemFault) → Reads whole d S.members → interval_read whole d ≢ Err fault }
     ensures in_range { (whole : ℤ × ℤ) (d : Data) → Reads whole d S.members → IsSubset S.members (IsBetween whole) }
 {}
 
-/// A value reads as one set at most, and then it is not refused.
+/// A value reads as at most one set, and if it does, it is not refused and is in the range.
 pub fn sets_are_read_one_way<S: NumberSet, T: NumberSet>()
     ensures one { (whole : ℤ × ℤ) (d : Data) → SetReads whole d S.members → SetReads whole d T.members → SameMembers S.members T.members }
     ensures not_refused { (whole : ℤ × ℤ) (d : Data) (fault : JsonFault) → SetReads whole d S.members → set_read whole d ≢ Err fault }

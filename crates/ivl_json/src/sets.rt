@@ -29,7 +29,7 @@ impl<B: Width> JsonForm for IntervalSet<B> {
 
     ghost not_refused = { set_refused_alone B.whole };
 
-    /// Returns `null` if there is no member, and else the array of the runs, ascending. `O(n)`, with
+    /// Returns `null` if the set is empty, and else the array of the runs, ascending. `O(n)`, with
     /// one allocation for the array and one for each run. Fails only if allocation fails.
     ///
     /// ```
@@ -41,8 +41,8 @@ impl<B: Width> JsonForm for IntervalSet<B> {
         runs_value(alloc, self.iter().as_slice())
     }
 
-    /// Reads `null` or an array of intervals in any order. `O(k log k)` for `k` items, in a list and
-    /// a set that are each reserved once for `k` intervals.
+    /// Reads `null` or an array of intervals in any order. `O(k log k)` for `k` items. Reserves `k`
+    /// intervals for the list, and as many for the set unless the sorted list is its runs.
     ///
     /// ```
     /// let value = Value::from_str(alloc, "[[1, 2], [3]]")?;

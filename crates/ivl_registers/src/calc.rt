@@ -15,7 +15,7 @@ use making::{Merge, Part};
 use std::alloc::{AllocError, Global};
 use std::marker::Model;
 
-/// A fixed number of registers, each a set, which commands read and write.
+/// A fixed number of registers that each hold a set, for commands to read and write.
 ///
 /// Registers are named by their indexes from 0. A contract sees the list of their run lists.
 ///
@@ -37,12 +37,12 @@ impl<B: Width> Model for Calc<B> {
 }
 
 impl<B: Width> Calc<B> {
-    /// A number of registers, all empty; there may be none. `O(registers)`, in memory for the list
-    /// of the registers.
+    /// Creates a calculator with this number of registers, which may be 0. All are empty.
+    /// `O(registers)`; allocates the list of the registers.
     ///
     /// # Errors
     ///
-    /// `AllocError` where that memory is refused.
+    /// Fails only if allocation fails.
     pub fn new(alloc: Global, registers: usize) -> Result<Calc<B>, AllocError>
         ensures { IfOk result (λ c. c ≡ replicate registers []) }
     {
@@ -56,14 +56,14 @@ impl<B: Width> Calc<B> {
         })
     }
 
-    /// Returns how many registers there are. It never changes. `O(1)`. Does not allocate.
+    /// Returns the number of registers, which never changes. `O(1)`, does not allocate.
     pub fn registers(&self) -> usize
         ensures { result ≡ length self.now }
     {
         self.registers.len()
     }
 
-    /// Returns the set in a register; `None` if the index has no register. `O(1)`. Does not
+    /// Returns the set in a register, or `None` if there is no such register. `O(1)`, does not
     /// allocate.
     pub fn get(&self, register: usize) -> Option<&IntervalSet<B>>
         ensures known { IsSome result ↔ (register < length self.now) }
@@ -72,24 +72,24 @@ impl<B: Width> Calc<B> {
         self.registers.get(register)
     }
 
-    /// Carries out one command. [`Refusal`](crate::Refusal) says what is refused, and in which
-    /// order; a refused command leaves all registers as they were.
+    /// Carries out one command. [`Refusal`](crate::Refusal) lists why a command is refused, in
+    /// which order; a refused command leaves all registers unchanged.
     ///
-    /// The costs are for `n` and `m` runs of the registers that are read. What writes a register
-    /// makes the new set first, and then puts it in place of the old one.
+    /// `n` and `m` are the numbers of runs of the registers that are read. A command that writes a
+    /// register makes the new set first, and then replaces the old one.
     ///
     /// | Command | Cost | Memory |
     /// |---|---|---|
-    /// | `Set` of `k` pairs | `O(k log k)` | twice `k` runs |
-    /// | `Union`, `Inter`, `Diff`, `Sym` | `O(n + m)` | `n + m` runs |
+    /// | `Set` of `k` pairs | `O(k log k)` | at most twice `k` runs |
+    /// | `Union`, `Inter`, `Diff`, `Sym` | `O(n + m)` | about `n + m` runs at most |
     /// | `Comp` | `O(n)` | `n + 1` runs |
-    /// | `Left`, `Right`, `StrictLeft`, `StrictRight`, where `k` runs stay | `O(log n + k)` | `k` runs |
-    /// | `Plus`, `Minus`, `Times` | `O(n m log (n m))` | twice `n * m` runs |
+    /// | `Left`, `Right`, `StrictLeft`, `StrictRight`, which keep `k` runs | `O(log n + k)` | `k` runs |
+    /// | `Plus`, `Minus`, `Times` | `O(n m log (n m))` | at most twice `n * m` runs |
     /// | `PlusValue`, `MinusValue`, `TimesValue` | `O(n)` | `n` runs |
     /// | `Has` | `O(log n)` | none |
     /// | `Size`, `Count`, `Low`, `High` | `O(1)` | none |
-    /// | `Same` | `O(n)`, `O(1)` where the sizes differ | none |
-    /// | `Sub` | `O(n log m)` | none |
+    /// | `Same` | `O(n)`, `O(1)` if the sizes differ | none |
+    /// | `Sub` | `O(n log (m / n + 2))` | none |
     /// | `Meets` | `O(n + m)` | none |
     /// | `Show` | `O(n)` | a copy of the runs |
     ///
@@ -131,14 +131,15 @@ impl<B: Width> Calc<B> {
     }
 
     /// Carries out the commands one by one, and returns their replies in order. A command that is
-    /// refused, also because an allocation fails, leaves the registers, and the next goes on.
+    /// refused, even because an allocation fails, leaves the registers unchanged, and the next one
+    /// runs.
     ///
-    /// Costs what the commands cost, and takes memory for one reply a command besides.
+    /// Costs what the commands cost. Reserves one reply per command.
     ///
     /// # Errors
     ///
-    /// `AllocError` where room for the replies is refused. It is asked for first: after an error no
-    /// command has run.
+    /// Fails only if room for the replies cannot be allocated. It is reserved first: after an error
+    /// no command has run.
     ///
     /// ```
     /// let mut calc: Calc<i64> = Calc::new(alloc, 2)?;
@@ -159,7 +160,7 @@ impl<B: Width> Calc<B> {
         Ok(replies)
     }
 
-    /// Each index has a register.
+    /// Returns true exactly when each index has a register.
     fn has_registers<const N: usize>(&self, indexes: [usize; N]) -> bool
         ensures { IsTrue result ↔ All (λ r. r < length self.now) indexes.entry }
     {

@@ -1,52 +1,54 @@
 //! The commands.
 
-/// A command over registers, which are named by their indexes from 0. The register that is written
-/// stands first, and may be an operand too: operands are read before it is written.
+/// A command over registers, which are named by their indexes from 0. A register that is written
+/// comes first, and may be an operand too: operands are read before it is written.
 ///
-/// [`Calc::apply`](crate::Calc::apply) says what each costs.
+/// See [`Calc::apply`](crate::Calc::apply) for costs.
 #[derive(Drop)]
 pub enum Command<B> {
     /// The register gets the union of the pairs. A pair whose first is above its second adds nothing.
     Set(usize, Vec<(B, B)>),
     /// The first register gets the union of the other two.
     Union(usize, usize, usize),
-    /// The first register gets the members that both others have.
+    /// The first register gets the intersection of the other two.
     Inter(usize, usize, usize),
-    /// The first register gets the members of the second that the third has not.
+    /// The first register gets the members of the second that are not in the third.
     Diff(usize, usize, usize),
-    /// The first register gets the members that just one of the other two has.
+    /// The first register gets the members of exactly one of the other two.
     Sym(usize, usize, usize),
-    /// The first register gets the numbers of the range that the second has not.
+    /// The first register gets the complement of the second within the range.
     Comp(usize, usize),
-    /// The first register gets the members of the second from the value up.
+    /// The first register gets the members of the second that are at least the value.
     Left(usize, usize, B),
-    /// The first register gets the members of the second up to the value.
+    /// The first register gets the members of the second that are at most the value.
     Right(usize, usize, B),
     /// The first register gets the members of the second above the value.
     StrictLeft(usize, usize, B),
     /// The first register gets the members of the second below the value.
     StrictRight(usize, usize, B),
-    /// The first register gets the sums of a member of each of the other two, those in the range.
+    /// The first register gets the sums of a member of each of the other two that are in the range.
     Plus(usize, usize, usize),
-    /// The first register gets the differences of a member of the second and one of the third, those in the range.
+    /// The first register gets the differences of a member of the second and one of the third that
+    /// are in the range.
     Minus(usize, usize, usize),
-    /// The first register gets, for each two runs of the other two, the least run that holds their products.
+    /// The first register gets, for each run of the second and each run of the third, the least run
+    /// that holds their products.
     Times(usize, usize, usize),
-    /// The first register gets the members of the second, the value added to each.
+    /// The first register gets the members of the second, each plus the value.
     PlusValue(usize, usize, B),
-    /// The first register gets the members of the second, the value taken from each.
+    /// The first register gets the members of the second, each minus the value.
     MinusValue(usize, usize, B),
     /// The first register gets, for each run of the second, the least run that holds its products with the value.
     TimesValue(usize, usize, B),
     /// Whether a value is in a register.
     Has(usize, B),
-    /// How many numbers are in a register.
+    /// The number of members of a register.
     Size(usize),
-    /// How many runs a register has.
+    /// The number of runs of a register.
     Count(usize),
-    /// The least number in a register.
+    /// The least member of a register.
     Low(usize),
-    /// The greatest number in a register.
+    /// The greatest member of a register.
     High(usize),
     /// Whether two registers have the same members.
     Same(usize, usize),

@@ -4,15 +4,15 @@ ghost use Rattle.ivl_registers.specs.Actions.{Action, Answer, refused};
 ghost use Rattle.ivl_registers.specs.Step.{MayStep, Run};
 ghost use Rattle.ivl_registers.specs.declared.reply.Refusal.TheVariants.{Memory};
 
-/// An action has one answer and one state that follows, where no memory is refused.
+/// An action has one answer and one next state, unless it runs out of memory.
 pub fn steps_are_determined()
     ensures { (whole : ℤ × ℤ) (old : List (List (ℤ × ℤ))) (action : Action) (answer other : Answer) (new next : List (List (ℤ × ℤ)))
         → answer ≢ refused Memory → other ≢ refused Memory
         → MayStep whole old action answer new → MayStep whole old action other next → (answer ≡ other) × (new ≡ next) }
 {}
 
-/// A list of actions has one list of answers and one state in the end, where no memory is refused.
-/// So [`Calc::run`](crate::Calc::run) can answer nothing else than it does.
+/// A list of actions has one list of answers and one final state, unless one runs out of memory. So
+/// these determine what [`Calc::run`](crate::Calc::run) returns.
 pub fn runs_are_determined()
     ensures { (whole : ℤ × ℤ) (old : List (List (ℤ × ℤ))) (actions : List Action) (answers others : List Answer) (new next : List (List (ℤ × ℤ)))
         → All (λ a. a ≢ refused Memory) answers → All (λ a. a ≢ refused Memory) others

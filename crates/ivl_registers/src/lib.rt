@@ -1,7 +1,7 @@
 //! A calculator over registers that hold interval sets.
 //!
-//! What a list of commands answers is what it would answer over plain sets of numbers: that is the
-//! contract of [`Calc::run`].
+//! A list of commands gets the answers that it would get over plain sets of numbers. The contract
+//! of [`Calc::run`] states this.
 //!
 //! ```
 //! let mut calc = Calc::new(alloc, 2)?;

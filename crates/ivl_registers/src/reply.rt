@@ -3,21 +3,20 @@ use intervallum::interval::Interval;
 use intervallum::width::Width;
 use thiserror::Error;
 
-/// Why a command was refused. The first reason in this order is told, and the registers stay as
-/// they were.
+/// Why a command was refused: the first reason in this order. The registers are unchanged.
 #[derive(Clone, Copy, Debug, PartialEq, Eq, Error)]
 pub enum Refusal {
-    /// An index has no register.
+    /// There is no register with some index.
     #[error("refused 1 register")]
     Register,
     /// A pair is not in the range of the bounds.
     #[error("refused 2 range")]
     Range,
-    /// A product, or a result with a value, does not lie in the range. `Plus` and `Minus` of two
-    /// registers are clipped in place of that.
+    /// A product, or a result with a value, is outside the range. `Plus` and `Minus` of two
+    /// registers are cut to the range instead.
     #[error("refused 3 fit")]
     Fit,
-    /// Memory that the command asked for was refused. `Show` and what writes a register ask for some.
+    /// An allocation failed. Only `Show` and the commands that write a register allocate.
     #[error("refused 4 memory")]
     Memory,
 }
@@ -27,18 +26,19 @@ pub enum Refusal {
 pub enum Reply<B: Width> {
     /// A register was written.
     Done,
-    /// A register was written with the sums or differences that are in the range; true where some are not.
+    /// A register was written with the sums or differences that are in the range; true if some are
+    /// not.
     Cut(bool),
     /// The answer to a yes-or-no question.
     Flag(bool),
-    /// How many numbers there are.
+    /// The number of members.
     Size(B::Output),
-    /// How many runs there are.
+    /// The number of runs.
     Count(usize),
-    /// The least or the greatest number; none where there is no number.
+    /// The least or the greatest member; `None` if the register is empty.
     Value(Option<B>),
-    /// Returns the runs, ascending.
+    /// The runs, ascending.
     Runs(Vec<Interval<B>>),
-    /// The command was refused, and all registers are as they were.
+    /// The command was refused, and all registers are unchanged.
     Refused(Refusal),
 }

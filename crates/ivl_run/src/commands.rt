@@ -1,4 +1,4 @@
-//! The command that a line's words are: its name, and after it the words of its form.
+//! Parses the words of a line as a command.
 ghost use Rattle.std.specs.Prelude.{◌≡◌, IfOk, IsSomeAnd, MatchOption, None, option_map};
 ghost use Rattle.ivl_run.specs.Commands.{action_from, looked_up, commands, register_of, register_alone_of, two_registers_of, three_registers_of, register_and_number_of, two_registers_and_number_of, of_pairs};
 ghost use Rattle.ivl_words.specs.Words.{words_between};
@@ -8,11 +8,11 @@ use ivl_registers::Command;
 use ivl_words::{next_word, number_from, one_word, pairs_from, three_words, two_words};
 use std::alloc::{AllocError, Global};
 
-/// Returns the command of this name and the words after it, or `None` where that is no command.
+/// Returns the command with this name and these words after it, or `None` if that is not a command.
 ///
 /// # Errors
 ///
-/// Where the numbers of `set` find no memory; no other command asks for any.
+/// Fails only if an allocation for the numbers of `set` fails; no other command allocates.
 pub fn command_from(
     alloc: Global,
     name: &str,
@@ -60,8 +60,8 @@ fn command_by_name(name: &str, words: &str) -> Option<Command<i64>>
     }
 }
 
-// The command that `make` gives for the registers and the number that the words are, or `None` where
-// they are not just these.
+// The command that `make` returns for the registers and the number in the words, or `None` if the
+// words are not exactly these.
 fn of_two_registers<F: FnOnce(usize, usize) -> Command<i64>>(
     words: &str,
     make: F,

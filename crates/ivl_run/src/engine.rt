@@ -1,4 +1,4 @@
-//! The program's engine.
+//! The session: reads lines, carries them out and writes the answers.
 ghost use Rattle.std.specs.Prelude.{◌≡◌, ◌≢◌, ℕ, List, [], ◌∷◌, ◌++◌, OnOk, IfSome, IfNone, IfErr, IsErrOf};
 ghost use Rattle.std.specs.Io.KnownBytes.{Appends, Consumes, Keeps, IsAtEnd};
 ghost use Rattle.ivl_run.specs.Lines.{lines_of, ended_lines_of};
@@ -24,7 +24,7 @@ pub enum SessionFault {
     /// A write or a flush failed.
     #[error("write failed")]
     Write,
-    /// Memory was refused.
+    /// An allocation failed.
     #[error("out of memory")]
     Memory,
 }
@@ -41,7 +41,7 @@ impl From<AllocError> for SessionFault {
 
 const REGISTERS: usize = 26;
 
-// As many bytes as one read may bring.
+// The most bytes that one read may return.
 const PIECE: usize = 65536;
 
 /// Answers each line of the input, over registers that are empty at first. What is written is
@@ -49,9 +49,9 @@ const PIECE: usize = 65536;
 ///
 /// # Errors
 ///
-/// `Read` where a read failed, or the reader still gave bytes after 2^64 - 1 reads; an interrupted
-/// read is read again. `Write` where a write or a flush failed. `Memory` where the registers, a
-/// line or the numbers of a `set` found no memory.
+/// `Read` if a read failed, or the reader still returned bytes after 2^64 - 1 reads; an interrupted
+/// read is repeated. `Write` if a write or a flush failed. `Memory` if an allocation for the
+/// registers, a line or the numbers of a `set` failed.
 ///
 /// ```
 /// let mut input: &[u8] = b"set a 5 6\nshow a";
@@ -141,7 +141,7 @@ fn answer_piece<W: Write>(
     Ok(())
 }
 
-// The bytes before the first newline and those after it, or `None` where there is no newline.
+// The bytes before the first newline and those after it, or `None` if there is no newline.
 fn split_line(bytes: &[u8]) -> Option<(&[u8], &[u8])>
     ensures none { IfNone result (HasNoNewline bytes.now) }
     ensures some { IfSome result (λ parts. IsSplitAtNewline bytes.now parts.0.now parts.1.now) }
@@ -150,7 +150,7 @@ fn split_line(bytes: &[u8]) -> Option<(&[u8], &[u8])>
     Some((&bytes[..at], &bytes[at + 1..]))
 }
 
-// Answers the line that begins with what was kept of earlier pieces, and goes on with these bytes.
+// Answers the line that begins with what was kept of earlier pieces and ends with these bytes.
 fn answer_ended<W: Write>(
     alloc: Global,
     calc: &mut Calc<i64>,
@@ -208,7 +208,7 @@ fn write_answer<W: Write>(calc: &mut Calc<i64>, line: &Line, writer: &mut W) -> 
     }
 }
 
-/// Returns the status with which the program ends, and what it says on standard error.
+/// Returns the exit status of the program, and what it writes to standard error.
 ///
 /// ```
 /// assert_eq!(rt; outcome(&Ok(())), (0, ""));

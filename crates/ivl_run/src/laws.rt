@@ -2,7 +2,7 @@
 ghost use Rattle.std.specs.Prelude.{◌≡◌, ℕ, List};
 ghost use Rattle.ivl_run.specs.Session.{IsWholeSessionText};
 
-/// The same lines have one text, where no command is refused as out of memory.
+/// The same lines have one text, unless a command is refused as out of memory.
 pub fn texts_are_determined()
     ensures { (lines : List (List ℕ)) (text other : List ℕ) → IsWholeSessionText lines text → IsWholeSessionText lines other → text ≡ other }
 {}

@@ -9,22 +9,22 @@ use ivl_registers::Command;
 use ivl_words::next_word;
 use std::alloc::{AllocError, Global};
 
-/// What a line says: nothing, no command, or a command.
+/// What a line says: nothing, a command, or something that is not a command.
 #[derive(Drop)]
 pub enum Line {
     /// The line has no words.
     Blank,
-    /// The line has words that are no command.
+    /// The line has words that are not a command.
     Bad,
     /// The line is this command.
     Command(Command<i64>),
 }
 
-/// Returns what the line says, without the newline that ended it. The time is linear in its length.
+/// Reads a line, given without its newline. Linear in its length.
 ///
 /// # Errors
 ///
-/// Where the numbers of a `set` find no memory.
+/// Fails only if an allocation for the numbers of a `set` fails.
 pub fn read_line(alloc: Global, line: &[u8]) -> Result<Line, AllocError>
     ensures { IfOk result (λ read. view_of read ≡ reading_of line.now) }
 {

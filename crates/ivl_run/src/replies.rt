@@ -10,12 +10,12 @@ use ivl_registers::{Refusal, Reply};
 use std::io;
 use std::io::Write;
 
-/// Writes the reply, and a newline. The caller must ensure that no run of the reply is crossed.
-/// Check with `is_empty` of the run.
+/// Writes the reply and a newline. The caller must ensure that no run of the reply is empty. Check
+/// with `is_empty`.
 ///
 /// # Errors
 ///
-/// That of a write. Some of the text may be written then.
+/// Returns the error of a failed write. Part of the text may then be written.
 pub fn write_reply<W: Write>(writer: &mut W, reply: &Reply<i64>) -> io::Result<()>
     requires { HasRunsInOrder (answer_of reply.now) }
     ensures { OnOk result (Appends (W.contents writer.old) (W.contents writer.new)
@@ -48,7 +48,7 @@ fn refusal_bytes(why: Refusal) -> &'static [u8]
     }
 }
 
-// In braces, unless there is just one run.
+// Writes the runs, in braces unless there is exactly one.
 fn write_runs<W: Write>(writer: &mut W, runs: &[Interval<i64>]) -> io::Result<()>
     requires { All (λ p. p.0 ≤ℤ p.1) runs.now }
     ensures { OnOk result (Appends (W.contents writer.old) (W.contents writer.new) (runs_text runs.now)) }

@@ -16,7 +16,7 @@ fn write_line(text: &mut Vec<u8>, line: &str) -> Result<(), AllocError> {
     Ok(())
 }
 
-// What a session has written is the answers of the table, one a line.
+// Asserts that a session has written the answers of the table, one per line.
 fn assert_written(rt: &impl Abort, written: &[u8], table: &[(&str, &str)]) {
     let text = str::from_utf8(written).unwrap_or("no UTF-8");
     let mut answers = text.lines();
@@ -26,7 +26,7 @@ fn assert_written(rt: &impl Abort, written: &[u8], table: &[(&str, &str)]) {
     assert!(rt; answers.next().is_none());
 }
 
-// One session over the lines of the table answers each as it says there.
+// Asserts that one session over the lines of the table gives each the answer there.
 fn assert_answers(rt: &impl Abort, alloc: Global, table: &[(&str, &str)]) -> Result<(), Fail> {
     let mut input = Vec::new(alloc);
     for (line, _) in table {

@@ -1,4 +1,4 @@
-//! The program's engine.
+//! The session: reads lines, carries them out and writes the answers.
 ghost use Rattle.std.specs.Prelude.{◌≡◌, ◌==◌, ◌++◌, ◌∷◌, IfNone, IfSome, None, OnOk, Some, length, position};
 ghost use Rattle.std.specs.Io.KnownBytes.{IsAtEnd};
 ghost use Rattle.ivl_solve.specs.Outcome.{outcome_of};
@@ -22,7 +22,7 @@ pub enum SessionFault {
     /// A write or a flush failed.
     #[error("write failed")]
     Write,
-    /// An allocation for a line that comes in pieces failed.
+    /// An allocation for the output buffer or the bytes of a line failed.
     #[error("out of memory")]
     Memory,
 }
@@ -37,7 +37,7 @@ impl From<AllocError> for SessionFault {
     }
 }
 
-// As many bytes as one read may bring.
+// The most bytes that one read may return.
 const PIECE: usize = 65536;
 
 /// Answers each line of the input, over a solver that has no variables at first. What is written is
@@ -45,9 +45,10 @@ const PIECE: usize = 65536;
 ///
 /// # Errors
 ///
-/// `Read` if a read failed, or the reader still gave bytes after 2^64 - 1 reads; an interrupted
-/// read is read again. `Write` if a write or a flush failed. `Memory` if a line that comes in
-/// pieces cannot be kept. Out of memory inside a line is an answer, and the session goes on.
+/// `Read` if a read failed, or the reader still returned bytes after 2^64 - 1 reads; an interrupted
+/// read is repeated. `Write` if a write or a flush failed. `Memory` if an allocation for the bytes
+/// of a line failed. A line that runs out of memory when it is carried out is answered with that,
+/// and the session continues.
 ///
 /// ```
 /// let mut input: &[u8] = b"var x 1 9\ncut x 2 5\nshow";
@@ -182,7 +183,7 @@ fn answer_request<W: Write>(
     write_state(writer, solver)
 }
 
-/// Returns the status with which the program ends, and what it says on standard error.
+/// Returns the exit status of the program, and what it writes to standard error.
 ///
 /// ```
 /// assert_eq!(rt; outcome(&Ok(())), (0, ""));

@@ -1,16 +1,16 @@
 //! Why a line is not carried out.
 use std::alloc::AllocError;
 
-/// Why a line is not carried out. The words are those of the line.
+/// Why a line is not carried out. The texts are words of the line.
 #[derive(Drop)]
 pub enum Fault<'a> {
     /// The line is not UTF-8.
     Bytes,
-    /// The first word is no command.
+    /// The first word is not a command.
     Command(&'a str),
     /// The words after the command do not have its form, which is this.
     Form(&'static str),
-    /// The word is no number of `i64`.
+    /// The word is not a number of `i64`.
     Number(&'a str),
     /// A bound is outside the range, which is that of `i64` without its least number.
     Range,

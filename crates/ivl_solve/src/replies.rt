@@ -4,7 +4,7 @@ use crate::solver::Solver;
 use std::io;
 use std::io::Write;
 
-/// Writes whether a domain is empty.
+/// Writes `no solution` if a domain is empty, and `ok` otherwise.
 pub fn write_state<W: Write>(writer: &mut W, solver: &Solver) -> io::Result<()> {
     if solver.has_empty() {
         writer.write_all(b"no solution\n")
@@ -13,7 +13,7 @@ pub fn write_state<W: Write>(writer: &mut W, solver: &Solver) -> io::Result<()> 
     }
 }
 
-/// Writes the domain of each variable, one a line.
+/// Writes the domain of each variable, one per line.
 pub fn write_domains<W: Write>(writer: &mut W, solver: &Solver) -> io::Result<()> {
     for (name, domain) in solver.names().iter().zip(solver.domains()) {
         writeln!(writer, "{name} {domain}")?;

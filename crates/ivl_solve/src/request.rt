@@ -34,7 +34,7 @@ const SHOW: &str = "show";
 ///
 /// # Errors
 ///
-/// `Command`, `Form`, `Number` and `Memory`, as [`Fault`] says.
+/// `Command`, `Form`, `Number` or `Memory`: see [`Fault`].
 pub fn request_from<'a>(
     alloc: Global,
     name: &'a str,
@@ -89,7 +89,7 @@ fn variable_and_pairs<'a>(
     }
 }
 
-/// The first word that is no number.
+/// The first word that is not a number.
 fn first_bad_number(words: &str) -> Option<&str>
     ensures { option_map (λ word. word.now) result ≡ first_bad_number_of (words_between words.entry.now) }
 {

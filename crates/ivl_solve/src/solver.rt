@@ -82,7 +82,7 @@ impl Solver {
         self.store.domains()
     }
 
-    /// Whether some domain is empty.
+    /// Returns true exactly when some domain is empty.
     pub fn has_empty(&self) -> bool
         ensures { IsTrue result ↔ Any (λ L. L ≡ []) self.now.domains }
     {

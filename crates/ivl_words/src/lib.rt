@@ -1,4 +1,4 @@
-//! The words of a line of text, and the numbers among them: what the programs read their lines by.
+//! The words and numbers of a line of text, for the programs that read lines.
 #![tactic(auto)]
 
 mod numbers;

@@ -6,8 +6,8 @@ ghost use Rattle.ivl_words.specs.Numbers.{number_of, pair_of, pairs_of};
 use crate::words::next_word;
 use std::alloc::{AllocError, Global};
 
-/// Returns the number that a word is: an optional minus sign and one or more digits. `None` if it
-/// is no number of `i64`. Linear; does not allocate.
+/// Parses a number: an optional minus sign and one or more digits. Returns `None` if the word is
+/// not a number of `i64`. Linear, does not allocate.
 ///
 /// ```
 /// assert_eq!(rt; number_from("-12"), Some(-12));
@@ -22,12 +22,12 @@ pub fn number_from(word: &str) -> Option<i64>
     word.parse().ok()
 }
 
-/// Returns the words of a text as numbers, two by two; `None` if one is no number, or their count
-/// is odd. Linear; allocates the list of the pairs.
+/// Parses the words of a text as pairs of numbers. Returns `None` if a word is not a number, or the
+/// count of words is odd. Linear; allocates the list of the pairs.
 ///
 /// # Errors
 ///
-/// `AllocError` if allocation fails.
+/// Fails only if allocation fails.
 ///
 /// ```
 /// assert_eq!(rt; pairs_from(alloc, "1 9 20 30")?, Some(vec![in alloc; (1, 9), (20, 30)]?));

@@ -1,9 +1,9 @@
-//! The words of a text, which are separated by spaces.
+//! The words of a text, separated by spaces.
 ghost use Rattle.std.specs.Prelude.{◌≡◌, ◌≢◌, ◌<◌, [], ◌∷◌, length, IfNone, IfSome};
 ghost use Rattle.ivl_words.specs.Words.{words_between};
 
-/// Returns the first word and what comes after it; `None` if there is no word. Linear in what is
-/// passed over; does not allocate.
+/// Returns the first word and the text after it, or `None` if there is no word. Linear in what it
+/// skips and returns as the word, does not allocate.
 ///
 /// ```
 /// assert_eq!(rt; next_word("  sum x  y"), Some(("sum", "x  y")));
@@ -27,7 +27,8 @@ pub fn next_word(text: &str) -> Option<(&str, &str)>
     Some((rest, ""))
 }
 
-/// Returns the word of a text that has exactly one. Linear; does not allocate.
+/// Returns the only word of a text, or `None` unless there is exactly one. Linear, does not
+/// allocate.
 ///
 /// ```
 /// assert_eq!(rt; one_word(" x "), Some("x"));
@@ -44,7 +45,8 @@ pub fn one_word(text: &str) -> Option<&str>
     }
 }
 
-/// Returns the words of a text that has exactly two. Linear; does not allocate.
+/// Returns the two words of a text, or `None` unless there are exactly two. Linear, does not
+/// allocate.
 ///
 /// ```
 /// assert_eq!(rt; two_words("x y "), Some(("x", "y")));
@@ -59,7 +61,8 @@ pub fn two_words(text: &str) -> Option<(&str, &str)>
     Some((a, b))
 }
 
-/// Returns the words of a text that has exactly three. Linear; does not allocate.
+/// Returns the three words of a text, or `None` unless there are exactly three. Linear, does not
+/// allocate.
 ///
 /// ```
 /// assert_eq!(rt; three_words("x y z"), Some(("x", "y", "z")));

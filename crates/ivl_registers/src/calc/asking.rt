@@ -1,4 +1,4 @@
-//! The commands that ask. None of them writes a register, and but for `Show` none takes memory.
+//! The commands that query registers. None of them writes a register, and only `Show` allocates.
 ghost use Rattle.std.specs.Prelude.{option_map};
 ghost use Rattle.ivl_laws.specs.Runs.{Covers};
 ghost use Rattle.ivl_registers.specs.Actions.{has, size, count, low, high, same, subset, meets, show, ask};
@@ -97,7 +97,7 @@ impl<B: Width> Calc<B> {
     }
 }
 
-/// The least member; none where there is no member.
+/// The least member; `None` if the set is empty.
 fn least<B: Width>(set: &IntervalSet<B>) -> Option<B>
     ensures { IsEndOf IsLeast (Covers set.now) (option_map B.value result) }
 {
@@ -108,7 +108,7 @@ fn least<B: Width>(set: &IntervalSet<B>) -> Option<B>
     }
 }
 
-/// The greatest member; none where there is no member.
+/// The greatest member; `None` if the set is empty.
 fn greatest<B: Width>(set: &IntervalSet<B>) -> Option<B>
     ensures { IsEndOf IsGreatest (Covers set.now) (option_map B.value result) }
 {

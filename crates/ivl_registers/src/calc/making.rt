@@ -1,5 +1,5 @@
-//! The commands that write a register. Each makes the new set whole before it is put in place, so
-//! the register may be one of those that are read, and stays as it was where something is refused.
+//! The commands that write a register. Each completes the new set before it replaces the old one,
+//! so the register may be an operand too, and is unchanged if the command is refused.
 ghost use Rattle.std.specs.Prelude.{◌≡◌, ◌↔◌, ◌<◌, All, length, slice_set, IsTrue, IfOk, OnErr};
 ghost use Rattle.intervallum.specs.Sweeps.{ExactResultsBy, ResultsBy};
 ghost use Rattle.ivl_laws.specs.Sets.{IsBetween, IsInRange, IsSubset, Only};
@@ -154,7 +154,7 @@ impl<B: Width> Calc<B> {
         }
     }
 
-    /// Puts a set that was made into a register, and tells whether it was cut.
+    /// Puts a set that was made into a register, and replies whether it was cut.
     fn put_cut(
         &mut self,
         target: usize,
@@ -174,7 +174,7 @@ impl<B: Width> Calc<B> {
     }
 }
 
-/// Each pair may be the bounds of an interval.
+/// Whether each pair may be the bounds of an interval.
 fn are_in_range<B: Width>(list: &[(B, B)]) -> bool
     ensures { IsTrue result ↔ All (IsInRange B.whole) (number_pairs B.value list.now) }
 {
@@ -211,7 +211,7 @@ fn part_of<B: Width>(
     }
 }
 
-/// The results of a set and a value are in the range.
+/// Whether the results of a set and a value are in the range.
 fn fits<B: Width>(set: &IntervalSet<B>, value: B, op: Op) -> bool
     ensures { IsTrue result ↔ IsSubset (ExactResultsBy op (Covers set.now) (Only (B.value value))) (IsBetween B.whole) }
 {

@@ -9,7 +9,7 @@ use std::io::{BufWriter, ErrorKind, Read, Write};
 use std::process::Abort;
 use std::test::Fail;
 
-// Gives its text one byte a read. Where `failure` is there, the read after the text fails so.
+// Gives its text one byte per read. With a `failure`, the read after the text fails with it.
 #[derive(Drop)]
 struct Slow<'a> {
     text: &'a [u8],
@@ -138,7 +138,7 @@ fn a_failed_write(rt: HostRuntime) -> Result<(), Fail> {
     Ok(())
 }
 
-// What a buffer holds is written before the session ends, so that its failure is told.
+// What a buffer holds is written before the session ends, so that its failure is returned.
 #[test]
 fn a_failed_write_behind_a_buffer(rt: HostRuntime) -> Result<(), Fail> {
     let mut input: &[u8] = b"set a 1 2\nshow a";
@@ -171,8 +171,8 @@ impl<'a> Write for Flushed<'a> {
     }
 }
 
-// Gives a piece a read, and fails where the answers to the lines before it are not yet flushed:
-// `answered` has how many bytes they have.
+// Gives one piece per read, and fails if the answers to the lines before it are not yet flushed: `answered` has their
+// numbers of bytes.
 #[derive(Drop)]
 struct Pieces<'a> {
     pieces: &'a [&'a [u8]],
@@ -232,7 +232,7 @@ fn answers_are_flushed_before_each_read_and_at_the_end(rt: HostRuntime) {
     );
 }
 
-// Gives a line a read, and fails where the answers to the lines before it are not yet flushed.
+// Gives one line per read, and fails if the answers to the lines before it are not yet flushed.
 #[derive(Drop)]
 struct Waiting<'a> {
     given: usize,

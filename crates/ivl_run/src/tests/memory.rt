@@ -18,15 +18,15 @@ fn answers_without(alloc: Global, left_out: Option<usize>) -> Result<Vec<u8>, Se
     Ok(written)
 }
 
-// The place of the answer that says that memory was refused.
+// The place of the answer that reports that an allocation failed.
 fn refused_line(written: &[u8]) -> Option<usize> {
     written
         .split(|b| *b == b'\n')
         .position(|line| line == b"refused 4 memory".as_slice())
 }
 
-// A session ends out of memory, or one command is refused and the others answer as if it had not been there, or
-// all are answered.
+// A session runs out of memory, or one command is refused and the others answer as if it had not been there, or all are
+// answered.
 #[test]
 fn one_refused_request(rt: HostRuntime) -> Result<(), Fail> {
     let written = match answers_without(rt.alloc(), None) {

@@ -115,7 +115,7 @@ const CUT_OR_NOT: &[(&str, &str)] = &[
     ("show b", "[-9223372036854775807..-1]"),
 ];
 
-// Questions of a register without members, and what is made of it.
+// Queries on an empty register, and commands that read it.
 const WITHOUT_MEMBERS: &[(&str, &str)] = &[
     ("set a 1 4", "ok"),
     ("size z", "0"),
