@@ -31,7 +31,7 @@ fn is_inside<R: Run>(run: R) -> bool
     is_crossed(run) || Interval::in_range(run.lower(), run.upper())
 }
 
-/// True exactly when the pair has no member.
+/// True exactly when the pair is crossed.
 fn is_crossed<R: Run>(run: R) -> bool
     ensures { IsTrue result ↔ IsCrossed (R.pair run) }
 {

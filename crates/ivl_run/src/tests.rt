@@ -1,4 +1,4 @@
-//! Sessions over memory. Readers and writers that fail or wait stand in `ends`.
+//! Sessions over memory. Readers and writers that fail or wait are in `ends`.
 mod callers;
 mod ends;
 mod memory;

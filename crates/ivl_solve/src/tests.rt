@@ -1,4 +1,4 @@
-//! Sessions over memory. Readers and writers that fail stand in `ends`.
+//! Sessions over memory. Readers and writers that fail are in `ends`.
 mod ends;
 
 use crate::engine::{SessionFault, outcome, session};

@@ -183,10 +183,10 @@ impl<B: Width> Store<B> {
         ensures fixed { IfOk result (λ b. IsTrue b → All (IsFixed (set_at self.new)) constraints.now) }
         ensures greatest { IfOk result (λ b. IsTrue b → All AreDistinct constraints.now → IsGreatestFamily constraints.now (set_at self.old) (set_at self.new)) }
 
-        // False: each round took a member.
+        // False: each round removed a member.
         ensures fewer { IfOk result (λ b. b ≡ false → rounds + total B.whole self.new ≤ total B.whole self.old) }
 
-        // Just what whole rounds leave: all of them, each of which took a member, or those before the first that took none.
+        // Exactly what whole rounds leave: all of them if each removed a member, or those before the first that removed none.
         ensures steps { IfOk result (λ b. (k : ℕ) × After constraints.now k (set_at self.old) (set_at self.new)
             × EachLost constraints.now k (set_at self.old)
             × (b ≡ false → k ≡ rounds)

@@ -170,7 +170,7 @@ impl<B: Width> Store<B> {
         Ok(())
     }
 
-    /// Whether some domain has no member.
+    /// Whether some domain is empty.
     fn has_empty(&self) -> bool
         ensures { IsTrue result ↔ HasEmpty (length self.now) (set_at self.now) }
     {
