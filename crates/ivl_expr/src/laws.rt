@@ -1,5 +1,5 @@
-//! The laws of values and node sets, over the definitions that the contract of [`eval`](crate::eval)
-//! cites. Each function here does nothing: its contract is the law.
+//! The laws of values and node sets, over the definitions that the contract of
+//! [`eval`](crate::eval) cites. Each function here does nothing: its contract is the law.
 ghost use Rattle.std.specs.Prelude.{ℕ, ℤ, List};
 ghost use Rattle.ivl_laws.specs.Families.{set_at};
 ghost use Rattle.ivl_laws.specs.Runs.{Covers, IsRunsOf};
@@ -36,7 +36,8 @@ pub fn node_is_exact<B: Width>(expr: &Expr<B>)
 {}
 
 /// Node sets are the least that hold what each node is made of: the sums and differences of the
-/// operands' members, and all that lies between two products of factors from one run of each operand.
+/// operands' members, and all that lies between two products of factors from one run of each
+/// operand.
 pub fn node_is_least<B: Width>()
     ensures holds { (sets : List (List (ℤ × ℤ))) → HoldsNodes B.value (λ e. Node B.value e (set_at sets)) (set_at sets) }
     ensures least { (sets : List (List (ℤ × ℤ))) (F : Expr B → List (ℤ × ℤ)) → HoldsNodes B.value (λ e. Covers (F e)) (set_at sets) →

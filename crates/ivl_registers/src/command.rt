@@ -6,7 +6,8 @@
 /// See [`Calc::apply`](crate::Calc::apply) for costs.
 #[derive(Drop)]
 pub enum Command<B> {
-    /// The register gets the union of the pairs. A pair whose first is above its second adds nothing.
+    /// The register gets the union of the pairs. A pair whose first is above its second adds
+    /// nothing.
     Set(usize, Vec<(B, B)>),
     /// The first register gets the union of the other two.
     Union(usize, usize, usize),
@@ -38,7 +39,8 @@ pub enum Command<B> {
     PlusValue(usize, usize, B),
     /// The first register gets the members of the second, each minus the value.
     MinusValue(usize, usize, B),
-    /// The first register gets, for each run of the second, the least run that holds its products with the value.
+    /// The first register gets, for each run of the second, the least run that holds its products
+    /// with the value.
     TimesValue(usize, usize, B),
     /// Whether a value is in a register.
     Has(usize, B),

@@ -13,7 +13,8 @@ use std::alloc::Global;
 pub enum Request<'a> {
     /// `var x l u l u ..`: a new variable, whose domain is the union of the pairs.
     Var(&'a str, Vec<(i64, i64)>),
-    /// `cut x l u l u ..`: the variable keeps the members of its domain that are in the union of the pairs.
+    /// `cut x l u l u ..`: the variable keeps the members of its domain that are in the union of
+    /// the pairs.
     Cut(&'a str, Vec<(i64, i64)>),
     /// `sum x y z`: the first and the second variable add to the third.
     Sum(&'a str, &'a str, &'a str),

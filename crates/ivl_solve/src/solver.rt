@@ -53,7 +53,8 @@ impl Solver {
         }
     }
 
-    /// Carries out what a line asks for. A fault of the line changes nothing.
+    /// Carries out what a line asks for. A fault of the line changes nothing; after
+    /// [`Fault::Memory`], a `cut` or `sum` may be carried out in part.
     pub fn carry_out<'a>(&mut self, request: Request<'a>) -> Result<(), Fault<'a>>
         ensures carried { OnOk result (Carries (asked_of request.entry) self.old self.new) }
         ensures no_fault { OnOk result (fault_of (asked_of request.entry) self.old ≡ None) }
@@ -180,8 +181,8 @@ impl Solver {
         post(&mut self.store, &posts)
     }
 
-    /// Posts all constraints, and then one more. Out of memory, the constraint is kept if domains
-    /// may have changed.
+    /// Adds a constraint, and posts all. If allocation fails once it is added, it is kept, because
+    /// domains may have changed.
     fn require(&mut self, sum: Constraint) -> Result<(), AllocError>
         requires distinct { AreDistinct sum }
         requires present { AllPresent (length self.old.domains) sum }

@@ -29,8 +29,8 @@ pub enum Combined {
 /// Returns the sums of a member of each set that are in the range, and true exactly when some sum
 /// is not. If either set is empty, returns the empty set and false.
 ///
-/// `O(n m log (n m))` for `n` and `m` runs. Reserves `n * m` runs for the pairs, and then as many for
-/// the answer unless the sorted pairs are its runs.
+/// `O(n m log (n m))` for `n` and `m` runs. Reserves `n * m` runs for the pairs, and then as many
+/// for the answer unless the sorted pairs are its runs.
 ///
 /// # Errors
 ///
@@ -55,8 +55,8 @@ pub fn add_within<B: Width>(
 /// Returns the differences of a member of `a` and one of `b` that are in the range, and true
 /// exactly when some difference is not. If either set is empty, returns the empty set and false.
 ///
-/// `O(n m log (n m))` for `n` and `m` runs. Reserves `n * m` runs for the pairs, and then as many for
-/// the answer unless the sorted pairs are its runs.
+/// `O(n m log (n m))` for `n` and `m` runs. Reserves `n * m` runs for the pairs, and then as many
+/// for the answer unless the sorted pairs are its runs.
 ///
 /// # Errors
 ///
@@ -82,8 +82,8 @@ pub fn sub_within<B: Width>(
 /// empty, returns the empty set.
 ///
 /// Makes only the `k` pairs of runs whose sums reach the window, each by one run of `a` and
-/// neighbours in `b`: `O(n log m + k log k)` for `n` and `m` runs. Allocates as it goes, at most about
-/// `3 k` runs; if both sets are one run, at most one run.
+/// neighbours in `b`: `O(n log m + k log k)` for `n` and `m` runs. Allocates as it goes, at most
+/// about `3 k` runs; if both sets are one run, at most one run.
 ///
 /// # Errors
 ///
@@ -109,8 +109,8 @@ pub fn sums_in_window<B: Width>(
 /// or either set is empty, returns the empty set.
 ///
 /// Makes only the `k` pairs of runs whose differences reach the window, each by one run of `a` and
-/// neighbours in `b`: `O(n log m + k log k)` for `n` and `m` runs. Allocates as it goes, at most about
-/// `3 k` runs; if both sets are one run, at most one run.
+/// neighbours in `b`: `O(n log m + k log k)` for `n` and `m` runs. Allocates as it goes, at most
+/// about `3 k` runs; if both sets are one run, at most one run.
 ///
 /// # Errors
 ///

@@ -8,7 +8,8 @@ ghost use Rattle.ivl_store.specs.Solutions.{AreDistinct};
 use super::Constraint;
 use std::alloc::{AllocError, Global};
 
-/// Whether a member was lost at x, at y and at z; a variable in two places has the mark of its last.
+/// Whether a member was lost at x, at y and at z; a variable in two places has the mark of its
+/// last.
 #[derive(Clone, Copy)]
 pub(super) struct Lost {
     pub(super) x: bool,

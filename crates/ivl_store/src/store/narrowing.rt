@@ -186,7 +186,7 @@ impl<B: Width> Store<B> {
         // False: each round removed a member.
         ensures fewer { IfOk result (λ b. b ≡ false → rounds + total B.whole self.new ≤ total B.whole self.old) }
 
-        // Exactly what whole rounds leave: all of them if each removed a member, or those before the first that removed none.
+        // What whole rounds leave: all of them if each removed a member, or those before the first that removed none.
         ensures steps { IfOk result (λ b. (k : ℕ) × After constraints.now k (set_at self.old) (set_at self.new)
             × EachLost constraints.now k (set_at self.old)
             × (b ≡ false → k ≡ rounds)

@@ -12,7 +12,8 @@ use intervallum::steps::Walk;
 use intervallum::width::Width;
 use std::alloc::AllocError;
 
-/// Returns the members of `x` that are the sum, or the difference, of a member of `a` and one of `b`.
+/// Returns the members of `x` that are the sum, or the difference, of a member of `a` and one of
+/// `b`.
 ///
 /// Makes only the results between the least and the greatest member of `x`, at the cost of
 /// [`sums_in_window`](super::sums_in_window), and intersects them with `x` unless `x` is one run.
