@@ -152,8 +152,8 @@ fn above<R: Run>(run: R, other: R) -> R
     R::of(run.lower().max(next), run.upper())
 }
 
-/// Writes the part of a run below the start of another one, if there is any. Returns how many runs
-/// are then written.
+/// Writes the part of a run below the start of another one, if there is any. Returns the new number
+/// of runs.
 fn lay_below<R: Run>(out: &mut [R], count: usize, run: R, other: R) -> usize
     requires run { IsRunIn R.Bound.whole (R.pair run) }
     requires other { IsRunIn R.Bound.whole (R.pair other) }
@@ -169,7 +169,7 @@ fn lay_below<R: Run>(out: &mut [R], count: usize, run: R, other: R) -> usize
     count + 1
 }
 
-/// Writes a pair unless it is crossed. Returns how many runs are then written.
+/// Writes a pair unless it is crossed. Returns the new number of runs.
 fn lay<R: Run>(out: &mut [R], count: usize, run: R) -> usize
     requires { count < 2 ^ 63 }
     ensures { LaysNext (R.pair run) (map R.pair out.old) (map R.pair out.new) count result }

@@ -89,7 +89,8 @@ pub extern "C" fn ivl_symmetric_difference_i64(
     of_two(alloc, OfTwo::OneAlone, a, b, out)
 }
 
-/// Returns whether each member of the first list is one of the second. `O(n log n + m log m)`.
+/// Returns 1 if each member of the first list is one of the second, and 0 if not.
+/// `O(n log n + m log m)`.
 #[unsafe(no_mangle)]
 pub extern "C" fn ivl_is_subset_i64(alloc: Global, a: &[RunI64], b: &[RunI64]) -> i64
     ensures { AnswersQuestion range_i64 (Union (members_i64 a.now) (members_i64 b.now)) (IsSubset (members_i64 a.now) (members_i64 b.now)) result }
@@ -97,7 +98,7 @@ pub extern "C" fn ivl_is_subset_i64(alloc: Global, a: &[RunI64], b: &[RunI64]) -
     ask(alloc, Asking::Within, a, b)
 }
 
-/// Returns whether some number is a member of both lists. `O(n log n + m log m)`.
+/// Returns 1 if some number is a member of both lists, and 0 if not. `O(n log n + m log m)`.
 #[unsafe(no_mangle)]
 pub extern "C" fn ivl_overlap_i64(alloc: Global, a: &[RunI64], b: &[RunI64]) -> i64
     ensures { AnswersQuestion range_i64 (Union (members_i64 a.now) (members_i64 b.now)) (HasSome (Intersection (members_i64 a.now) (members_i64 b.now))) result }
@@ -105,7 +106,7 @@ pub extern "C" fn ivl_overlap_i64(alloc: Global, a: &[RunI64], b: &[RunI64]) -> 
     ask(alloc, Asking::Meets, a, b)
 }
 
-/// Returns whether the lists have the same members. `O(n log n + m log m)`.
+/// Returns 1 if the lists have the same members, and 0 if not. `O(n log n + m log m)`.
 #[unsafe(no_mangle)]
 pub extern "C" fn ivl_equal_i64(alloc: Global, a: &[RunI64], b: &[RunI64]) -> i64
     ensures { AnswersQuestion range_i64 (Union (members_i64 a.now) (members_i64 b.now)) (SameMembers (members_i64 a.now) (members_i64 b.now)) result }
@@ -113,7 +114,7 @@ pub extern "C" fn ivl_equal_i64(alloc: Global, a: &[RunI64], b: &[RunI64]) -> i6
     ask(alloc, Asking::Alike, a, b)
 }
 
-/// Writes the number of members of a list. `O(n log n)`.
+/// Writes the number of members of a list, and returns 0. `O(n log n)`.
 #[unsafe(no_mangle)]
 pub extern "C" fn ivl_size_i64(alloc: Global, a: &[RunI64], size: &mut u64) -> i64
     ensures { AnswersSize range_i64 (members_i64 a.now) size.old size.new result }

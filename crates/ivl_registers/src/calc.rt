@@ -72,8 +72,8 @@ impl<B: Width> Calc<B> {
         self.registers.get(register)
     }
 
-    /// Carries out one command. [`Refusal`](crate::Refusal) lists why a command is refused, in
-    /// which order; a refused command leaves all registers unchanged.
+    /// Carries out one command. [`Refusal`](crate::Refusal) lists the reasons for a refusal in
+    /// their order; a refused command leaves all registers unchanged.
     ///
     /// `n` and `m` are the numbers of runs of the registers that are read. A command that writes a
     /// register makes the new set first, and then replaces the old one.
