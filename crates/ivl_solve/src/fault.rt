@@ -1,7 +1,7 @@
 //! Why a line is not carried out.
 use std::alloc::AllocError;
 
-/// Why a line is not carried out. The texts are words of the line.
+/// Why a line is not carried out. The texts are words of the line, except that of `Form`.
 #[derive(Drop)]
 pub enum Fault<'a> {
     /// The line is not UTF-8.
