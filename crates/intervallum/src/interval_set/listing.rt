@@ -1,4 +1,4 @@
-//! The runs of a set as a slice, and what is known of them.
+//! The runs of a set as a slice, and the facts about them.
 ghost use Rattle.std.specs.Prelude.{◌≡◌, All};
 ghost use Rattle.ivl_laws.specs.Sets.{HasSome, IsBetween};
 ghost use Rattle.ivl_laws.specs.Runs.{IsRunListIn};

@@ -58,8 +58,8 @@ impl<B: Width> IntervalSet<B> {
         IntervalSet { intervals, size }
     }
 
-    /// The same set, which gives memory back where it has room for more than twice as many runs. Where
-    /// that is refused, the set keeps its room.
+    /// The same set, shrunk if less than half of its capacity is used. If shrinking fails, it keeps
+    /// its capacity.
     pub(crate) fn fitted(mut self) -> Self
         ensures { result ≡ self }
     {

@@ -1,4 +1,4 @@
-//! How many runs of a set lie below a value, searched for among all or from a place on.
+//! The number of runs below a value, by a search among all or from a place on.
 ghost use Rattle.std.specs.Prelude.{◌≡◌, ℕ, ◌+◌, ◌-◌, ◌*◌, ◌^◌, ◌<◌, ◌≤◌, drop, length, take};
 ghost use Rattle.ivl_laws.specs.Runs.{StartsBy};
 ghost use Rattle.intervallum.specs.Places.{EndBelow, EndsFrom, StartAbove};
