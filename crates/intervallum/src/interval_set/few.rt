@@ -13,7 +13,7 @@ use crate::steps::{Probes, Walk, first_from, last_up_to, without};
 use crate::width::Width;
 use std::alloc::AllocError;
 
-/// How many times more runs the other set has to have, for a search to take fewer steps than a walk.
+/// How many times as many runs the other set must have for a search to take fewer steps.
 const FAR_MORE: usize = 16;
 
 /// The first set has so few runs beside the second that a search for each of them takes fewer steps
@@ -50,7 +50,7 @@ pub(super) fn without_few<B: Width>(
 ) -> Result<IntervalSet<B>, AllocError>
     ensures members { IfOk result (λ L. IsRunsOf L (Without (Covers many.now) (Covers few.now))) }
 {
-    // the members of the many are in the range, and so in the complement of the few where not in them
+    // members of the many are in the range, so in the complement of the few unless in them
     many.in_whole();
     let free = few.complement()?;
     common_with_few(&free, &mut Probes::new(many))

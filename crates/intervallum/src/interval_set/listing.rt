@@ -8,8 +8,8 @@ use crate::interval::Interval;
 use crate::width::Width;
 
 impl<B: Width> IntervalSet<B> {
-    /// Returns the runs as a slice: non-empty intervals within the type's range, in ascending order,
-    /// with at least one number missing between neighbours. `O(1)`. Does not allocate.
+    /// Returns the runs as a slice: non-empty intervals within the type's range, in ascending
+    /// order, with a number missing between neighbours. `O(1)`. Does not allocate.
     ///
     /// ```
     /// let a: IntervalSet<i32> = [(5, 6), (1, 2)].to_interval_set(alloc)?;

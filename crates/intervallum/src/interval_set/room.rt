@@ -78,8 +78,8 @@ impl<B: Width> IntervalSet<B> {
     }
 }
 
-/// The lowest consecutive numbers, `count` of them, that are at least `v` and lie in one of the runs.
-/// Run number `i` holds `v`.
+/// The lowest `count` consecutive numbers that are at least `v` and lie in one of the runs. Run
+/// number `i` holds `v`.
 fn fit_from_run<B: Width>(
     runs: &[Interval<B>],
     i: usize,
@@ -103,7 +103,7 @@ fn fit_from_run<B: Width>(
     }
 }
 
-/// The lowest consecutive numbers, `count` of them, that lie in one of the runs.
+/// The lowest `count` consecutive numbers that lie in one of the runs.
 fn fit_in<B: Width>(runs: &[Interval<B>], count: B::Output) -> Option<Interval<B>>
     requires above_zero { 0 < B.Output.size count }
     requires runs { IsRunListIn B.whole runs.now }

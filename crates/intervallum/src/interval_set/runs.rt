@@ -184,7 +184,8 @@ pub(super) fn grown<B: Width>(size: B::Output, more: B::Output) -> B::Output
     size.add_in_range(more)
 }
 
-/// The intervals are a list of runs: none is empty, they ascend, and a number is free between neighbours.
+/// The intervals are a list of runs: none is empty, they ascend, and a number is missing between
+/// neighbours.
 pub(crate) fn are_runs<B: Width>(list: &[Interval<B>]) -> bool
     ensures { IsTrue result → IsRunListIn B.whole list.now }
 {

@@ -87,8 +87,8 @@ impl<'a, B: Width> Probes<'a, B> {
         run
     }
 
-    /// The runs are those of a set, and no more than can be counted. This does nothing: its contract is
-    /// the fact.
+    /// The runs are those of a set, and their number fits a `usize`. This does nothing: its
+    /// contract is the fact.
     pub(crate) fn in_whole(&self)
         ensures runs { IsRunListIn B.whole self.now.runs }
         ensures counted { length self.now.runs < 2 ^ 64 }
