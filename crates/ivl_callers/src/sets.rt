@@ -18,7 +18,7 @@ use intervallum::width::Width;
 use ivl_interval_callers::callers;
 use std::alloc::{AllocError, Global};
 
-/// Returns a set of no run.
+/// Returns an empty set: it has no run.
 pub fn empty_set<B: Width>(alloc: Global) -> IntervalSet<B>
     ensures { result ≡ [] }
 {

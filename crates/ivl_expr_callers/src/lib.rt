@@ -14,7 +14,7 @@ use intervallum::width::Width;
 use ivl_expr::Expr;
 use std::alloc::{AllocError, Global};
 
-/// An operand, in a box of its own.
+/// An operand in a box.
 pub(crate) fn operand<B: Width>(alloc: Global, expr: Expr<B>) -> Result<Box<Expr<B>>, AllocError>
     ensures { IfOk result (λ b. b.value ≡ expr) }
 {

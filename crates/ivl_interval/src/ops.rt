@@ -277,8 +277,8 @@ pub trait Union<R> {
 
     ghost answers: { Self.Output → (ℤ → Type 0) → Type 0 };
 
-    /// Returns the numbers that are members of at least one of the two. The caller must ensure that
-    /// a single value beside a set is in the range. Check with
+    /// Returns the numbers that are members of at least one of the two. If `other` is a single
+    /// value, the caller must ensure that it is in the range. Check with
     /// `Interval::whole().contains(&value)`.
     fn union(&self, other: &R) -> Self::Output
         requires { can_unite self.now other.now }
@@ -345,8 +345,8 @@ pub trait SymmetricDifference<R> {
 
     ghost answers: { Self.Output → (ℤ → Type 0) → Type 0 };
 
-    /// Returns the numbers that are members of exactly one of the two. The caller must ensure that
-    /// a single value beside a set is in the range. Check with
+    /// Returns the numbers that are members of exactly one of the two. If `other` is a single
+    /// value, the caller must ensure that it is in the range. Check with
     /// `Interval::whole().contains(&value)`.
     fn symmetric_difference(&self, other: &R) -> Self::Output
         requires { can_unite self.now other.now }
@@ -371,8 +371,9 @@ pub trait Hull<R> {
 
     ghost answers: { Self.Output → (ℤ → Type 0) → Type 0 };
 
-    /// Returns the least interval that holds the members of both. The caller must ensure that a
-    /// single value is in the range. Check with `Interval::whole().contains(&value)`.
+    /// Returns the least interval that holds the members of both. If one of the two is a single
+    /// value, the caller must ensure that it is in the range. Check with
+    /// `Interval::whole().contains(&value)`.
     fn hull(&self, other: &R) -> Self::Output
         requires { can_join self.now other.now }
         ensures { answers result (Union (members self.now) (other_members other.now)) };

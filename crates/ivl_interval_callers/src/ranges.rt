@@ -1,8 +1,8 @@
 //! The range of each type of bounds and how many numbers it has, as plain numbers.
 //!
 //! The contracts of the crates below name the range of a type by a ghost member of the type. Here the range is also
-//! given in numbers, so that a range that lost a number at an end would not be proved. `negsuc n` is the number -(n +
-//! 1).
+//! given in numbers, so that a range that lost a number at an end would not be proved. `negsuc n` is the number
+//! `-(n + 1)`.
 ghost use Rattle.std.specs.Prelude.{◌≡◌, negsuc, pos};
 
 use ivl_interval::interval::Interval;

@@ -12,7 +12,7 @@ pub fn arithmetic_of_intervals()
     ensures differences { (p q : ℤ × ℤ) → p.0 ≤ℤ p.1 → q.0 ≤ℤ q.1 → SameMembers (IsBetween (interval_difference p q)) (Differences (IsBetween p) (IsBetween q)) }
 {}
 
-/// The sums, differences and products of sets are those of each pair of their runs.
+/// The sums, differences and products of sets are those over each pair of their runs.
 pub fn arithmetic_by_runs()
     ensures sums { (L M : List (ℤ × ℤ)) → IsMaximal L → IsMaximal M → SameMembers (Sums (Covers L) (Covers M)) (Covers (pairwise interval_sum L M)) }
     ensures differences { (L M : List (ℤ × ℤ)) → IsMaximal L → IsMaximal M → SameMembers (Differences (Covers L) (Covers M)) (Covers (pairwise interval_difference L M)) }

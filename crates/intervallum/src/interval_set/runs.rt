@@ -70,7 +70,7 @@ impl<B: Width> IntervalSet<B> {
     }
 
     /// Adds the members of a run that starts no lower than the last run does, joined with that one
-    /// where the two overlap or touch.
+    /// if the two overlap or touch.
     pub(crate) fn push_run(&mut self, run: Interval<B>) -> Result<(), AllocError>
         requires filled { run.0 ≤ℤ run.1 }
         requires within { IsSubset (IsBetween run) (IsBetween B.whole) }

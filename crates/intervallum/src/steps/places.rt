@@ -53,7 +53,7 @@ pub(crate) fn first_from<B: Width>(probes: &mut Probes<'_, B>, value: B, from: u
     }
 }
 
-/// How many runs start at a value or below, of which the first `from` end below it. Looks as
+/// How many runs start at a value or below, as the first `from` do, which end below it. Looks as
 /// `find_from` does.
 pub(crate) fn last_up_to<B: Width>(probes: &mut Probes<'_, B>, value: B, from: usize) -> usize
     requires at_most { from ≤ length probes.old.runs }

@@ -45,8 +45,8 @@ pub fn find<B: Width>(probes: &mut Probes<'_, B>, v: B) -> Place
     find_between(probes, v, 0, count)
 }
 
-/// Where `v` stands, from a place on: `from` runs lie below it. Doubles its steps until it is past
-/// `v`, and then does a binary search: `O(log d)` where it goes on by `d` runs. Does not allocate.
+/// The place of `v`, searched for from place `from` on. Doubles its steps until it is past `v`, and
+/// then does a binary search: `O(log d)` if it advances by `d` runs. Does not allocate.
 ///
 /// The caller must ensure that `from` is at most `probes.len()`, and the runs before place `from`
 /// end below `v`, as they do if an earlier search for a lower value returned that place.
@@ -75,7 +75,7 @@ pub(crate) fn find_from<B: Width>(probes: &mut Probes<'_, B>, v: B, from: usize)
     find_between(probes, v, low, count)
 }
 
-/// Where `v` stands, which lies above the first `low` runs, and below those from `high` on.
+/// The place of `v`, which lies above the first `low` runs and below those from `high` on.
 fn find_between<B: Width>(probes: &mut Probes<'_, B>, v: B, mut low: usize, high: usize) -> Place
     requires in_order { low ≤ high }
     requires at_most { high ≤ length probes.old.runs }

@@ -47,24 +47,24 @@ pub fn products_fit<B: Width>(a: &IntervalSet<B>, b: &IntervalSet<B>) -> bool
     callers::fits_mul_by_bound(a, b)
 }
 
-/// Returns true exactly when each product with a value is in the range; the value itself may lie
-/// outside.
+/// Returns true exactly when each product with a value is in the range; the value itself may be
+/// outside the range.
 pub fn products_with_value_fit<B: Width>(a: &IntervalSet<B>, x: &B) -> bool
     ensures { IsTrue result ↔ IsSubset (ExactProducts (Covers a.now) (Only (B.value x.now))) (IsBetween B.whole) }
 {
     callers::fits_mul_by_bound(a, x)
 }
 
-/// Returns true exactly when each sum with a value is in the range; the value itself may lie
-/// outside.
+/// Returns true exactly when each sum with a value is in the range; the value itself may be outside
+/// the range.
 pub fn sums_with_value_fit<B: Width>(a: &IntervalSet<B>, x: &B) -> bool
     ensures { IsTrue result ↔ IsSubset (Sums (Covers a.now) (Only (B.value x.now))) (IsBetween B.whole) }
 {
     callers::fits_add_by_bound(a, x)
 }
 
-/// Returns true exactly when each difference with a value is in the range; the value itself may lie
-/// outside.
+/// Returns true exactly when each difference with a value is in the range; the value itself may be
+/// outside the range.
 pub fn differences_with_value_fit<B: Width>(a: &IntervalSet<B>, x: &B) -> bool
     ensures { IsTrue result ↔ IsSubset (Differences (Covers a.now) (Only (B.value x.now))) (IsBetween B.whole) }
 {

@@ -15,7 +15,7 @@ pub fn interval_of_interval<B: Width>(a: Interval<B>) -> Interval<B>
     to_interval_by_bound(a)
 }
 
-/// Returns an interval of no number.
+/// Returns an empty interval.
 pub fn interval_of_nothing<B: Width>() -> Interval<B>
     ensures { HasNone (IsBetween result) }
 {

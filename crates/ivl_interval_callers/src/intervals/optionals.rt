@@ -21,7 +21,7 @@ pub fn interval_overlaps_optional<B: Width>(a: &Interval<B>, o: &Optional<B>) ->
     callers::overlap_by_bound(a, o)
 }
 
-/// Returns the interval of the value alone, or of no number.
+/// Returns the interval of the value alone, or an empty one.
 pub fn interval_common_with_optional<B: Width>(a: &Interval<B>, o: &Optional<B>) -> Interval<B>
     ensures { SameMembers (IsBetween result) (Intersection (IsBetween a.now) (Held (option_map B.value o.now))) }
 {

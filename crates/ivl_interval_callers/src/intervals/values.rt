@@ -20,7 +20,7 @@ pub fn interval_overlaps_value<B: Width>(a: &Interval<B>, x: &B) -> bool
     callers::overlap_by_bound(a, x)
 }
 
-/// Returns the interval of the value alone, or of no number.
+/// Returns the interval of the value alone, or an empty one.
 pub fn interval_common_with_value<B: Width>(a: &Interval<B>, x: &B) -> Interval<B>
     ensures { SameMembers (IsBetween result) (Intersection (IsBetween a.now) (Only (B.value x.now))) }
 {
