@@ -68,8 +68,8 @@ pub(super) fn few_without<B: Width>(
     without(Walk::new(few), Walk::new(&shared))
 }
 
-/// Adds what a run has in common with a list of runs, the first `from` of which end below it.
-/// Returns how many do.
+/// Adds what a run has in common with runs whose first `from` end below it. Returns how many end
+/// below it.
 fn push_shared<B: Width>(
     set: &mut IntervalSet<B>,
     many: &mut Probes<'_, B>,

@@ -22,12 +22,12 @@ pub fn value_of<B: Width>(rt: &impl Abort, number: i128) -> B
     B::from_number(number).expect(rt, "a number of the range")
 }
 
-/// Returns the numbers from one to another, both of which are in the range.
+/// Returns the interval from one number to another, both in the range.
 pub fn interval_of<B: Width>(rt: &impl Abort, (lower, upper): (i128, i128)) -> Interval<B> {
     Interval::new(value_of(rt, lower), value_of(rt, upper))
 }
 
-/// Returns the union of some pairs, each of which is in the range.
+/// Returns the union of some pairs, each in the range.
 pub fn set_of<B: Width>(
     rt: &(impl Alloc<A = Global> + Abort),
     pairs: &[(i128, i128)],
