@@ -1,4 +1,4 @@
-//! A set of whole numbers as a list of runs.
+//! A set of integers as a list of runs.
 ghost use Rattle.std.specs.Prelude.{◌≡◌, ◌↔◌, ℤ, All, List, [], ◌∷◌, ◌≤ℤ◌, IsTrue, IfOk, length};
 ghost use Rattle.ivl_laws.specs.Sets.{HasNone, HasSome, IsBetween, IsInRange, SameMembers};
 ghost use Rattle.ivl_laws.specs.Runs.{Covers, IsRunListIn};
@@ -37,23 +37,24 @@ pub use members::Members;
 use std::alloc::{AllocError, Global};
 use std::marker::Model;
 
-/// A set of whole numbers. A contract sees the list of its runs, each a pair of numbers.
+/// A set of integers. A contract sees the list of its runs, each a pair of numbers.
 ///
-/// The runs are intervals of the range that are not empty; they ascend, and at least one number is
-/// missing between neighbours. The number of members is kept beside them.
+/// The runs are non-empty intervals within the type's range, in ascending order, with at least one
+/// number missing between neighbours. The set also stores the number of its members.
 ///
-/// If an allocation fails, the operands of the call are unchanged, and so is a set that was to be changed.
+/// If an allocation fails, borrowed operands are unchanged, and so is a set that was to be changed.
 ///
-/// A call reserves the room that its answer may need, and gives back what is left of it where that
-/// is more than half. Where giving back is refused the set keeps that room; its answer is the same.
+/// Unless its docs say otherwise, a call that returns a set reserves memory for the most runs that
+/// the result may have, and shrinks the result if less than half is used. If shrinking fails, the
+/// result keeps its capacity.
 ///
 /// ```
 /// let hours: IntervalSet<u8> = [(12, 13), (8, 11)].to_interval_set(alloc)?;
 /// assert!(rt; hours == IntervalSet::new(alloc, 8, 13)?);
 /// ```
 ///
-/// The original derives `Clone`, where this set has `try_clone`. Its `iter_mut`, by which runs
-/// could be made to overlap, is left out.
+/// The original derives `Clone`; this set has `try_clone`. The `iter_mut` of the original, which
+/// can make runs overlap, is left out.
 #[derive(Drop, Debug)]
 pub struct IntervalSet<B: Width> {
     intervals: Vec<Interval<B>>,
@@ -83,7 +84,7 @@ impl<B: Width> IntervalSet<B> {
         }
     }
 
-    /// Returns the numbers from `lb` to `ub`, as one run. The caller must ensure
+    /// Returns the set of the numbers from `lb` to `ub`, both included. The caller must ensure
     /// `Interval::in_range(lb, ub)` and `lb <= ub`. `O(1)`. Allocates one run. Fails only if
     /// allocation fails.
     ///
@@ -118,7 +119,8 @@ impl<B: Width> IntervalSet<B> {
         self.intervals.len()
     }
 
-    /// Returns the runs, ascending, from both ends. `O(1)`. Does not allocate.
+    /// Returns a double-ended iterator over the runs, in ascending order. `O(1)`. Does not
+    /// allocate.
     ///
     /// ```
     /// let a: IntervalSet<i32> = [(1, 2), (5, 6)].to_interval_set(alloc)?;
@@ -152,7 +154,8 @@ impl<B: Width> Cardinality for IntervalSet<B> {
 
     ghost size_number = { B.Output.size };
 
-    /// Returns the number of members, which is kept: `O(1)`. Does not allocate. It never overflows.
+    /// Returns the number of members, which the set stores. `O(1)`. Never overflows. Does not
+    /// allocate.
     ///
     /// ```
     /// let a: IntervalSet<i32> = [(1, 2), (5, 6)].to_interval_set(alloc)?;
@@ -166,7 +169,7 @@ impl<B: Width> Cardinality for IntervalSet<B> {
 impl<B: Width> IsEmpty for IntervalSet<B> {
     ghost members = { Covers };
 
-    /// Returns true exactly when there is no member. `O(1)`. Does not allocate.
+    /// Returns true exactly when the set has no members. `O(1)`. Does not allocate.
     ///
     /// ```
     /// let a = IntervalSet::new(alloc, 1, 2)?;
@@ -186,8 +189,8 @@ impl<B: Width> PartialEq for IntervalSet<B> {
 
     ghost laws = { same_runs_laws };
 
-    /// Returns true exactly when the members agree. `O(n)`, and `O(1)` where the sizes differ. Does
-    /// not allocate.
+    /// Returns true exactly when both sets have the same members. `O(n)`, or `O(1)` if the sizes
+    /// differ. Does not allocate.
     ///
     /// ```
     /// let a: IntervalSet<i32> = [(3, 4), (1, 2)].to_interval_set(alloc)?;

@@ -1,8 +1,8 @@
-//! Sets of whole numbers as ascending closed runs that neither overlap nor touch, generic over the
-//! type of their bounds.
+//! Sets of integers, stored as sorted runs that neither overlap nor touch, generic over the type of
+//! their bounds. A run is a closed interval.
 //!
-//! Every [`IntervalSet`] that public calls make is the one list of maximal runs of its members: two
-//! sets are equal exactly where their members are, and `size` is how many there are.
+//! Every [`IntervalSet`] made by public calls is the one list of maximal runs of its members, so
+//! `==` compares members and `size` is their number.
 //!
 //! ```
 //! let a = IntervalSet::new(alloc, 1, 2)?;

@@ -1,4 +1,4 @@
-//! What most programs over sets want at hand: the types, and every trait of their operations.
+//! The types and every trait of their operations, for glob imports.
 pub use crate::interval::Interval;
 pub use crate::interval_set::{IntervalSet, ToIntervalSet};
 pub use crate::ops::{

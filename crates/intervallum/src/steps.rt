@@ -1,5 +1,5 @@
-//! Walks over the runs of sets from the left, and a search in them. A contract sees how often a walk
-//! has advanced and how often a search has looked.
+//! Walks over the runs of sets from the left, and binary search among them. A contract sees how
+//! often a walk has advanced and how often a search has looked at a run.
 mod combine;
 mod differences;
 mod looks;

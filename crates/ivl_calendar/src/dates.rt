@@ -21,8 +21,8 @@ pub fn day_of(date: Date) -> i32
     date.to_plain().to_unix_epoch_day()
 }
 
-/// Returns the date with this number, or `None` if it is outside the calendar of `jiff`, which has
-/// the years -9999 to 9999.
+/// Returns the date with this number, or `None` if it is outside the calendar of `jiff`, which spans the years -9999 to
+/// 9999.
 ///
 /// ```
 /// assert!(rt; date_of(11017) == Some(date(2000, 3, 1)));
@@ -36,7 +36,7 @@ pub fn date_of(day: i32) -> Option<Date>
     Some(Date::from_plain(plain))
 }
 
-/// Returns the number of the day that a word is the date of, or `None` if it is no date.
+/// Returns the number of the day whose date a word is, or `None` if it is not a date.
 ///
 /// ```
 /// assert!(rt; day_from("2000-03-01") == Some(11017));
@@ -50,7 +50,7 @@ pub fn day_from(word: &str) -> Option<i32>
     Some(day_of(date))
 }
 
-/// Returns the days from one date to another, or `None` if a word is no date or they are not in order.
+/// Returns the days from one date to another, or `None` if a word is not a date or they are not in order.
 ///
 /// ```
 /// assert!(rt; days_from("1970-01-01", "2000-03-01") == Some(Interval::new(0, 11017)));
@@ -67,8 +67,8 @@ pub fn days_from(first: &str, last: &str) -> Option<Interval<i32>>
     }
 }
 
-/// Returns the days of an interval as they are printed: `none` if there are none, or if one of its
-/// ends is outside the calendar of `jiff`. Fails only if allocation fails.
+/// Returns the text of the days of an interval: `none` if it is empty, or if one of its ends is outside the calendar of
+/// `jiff`. Fails only if allocation fails.
 ///
 /// ```
 /// let text = interval_text(alloc, &Interval::new(-1, 59))?;
@@ -84,8 +84,8 @@ pub fn interval_text(alloc: Global, days: &Interval<i32>) -> Result<String, Allo
     }
 }
 
-/// Returns the runs of a set as they are printed, with commas between them; `none` if there is none.
-/// Fails only if allocation fails.
+/// Returns the text of the runs of a set, separated by commas, or `none` if the set is empty. Fails only if allocation
+/// fails.
 ///
 /// ```
 /// assert_eq!(rt; set_text(alloc, &IntervalSet::empty(alloc))?.as_str(), "none");

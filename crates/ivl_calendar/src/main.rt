@@ -1,6 +1,6 @@
-//! A calendar of rooms, one request a line: `room blue` adds a room, `book blue 2026-03-01 2026-03-04` books it if it is
-//! free, `gap blue 3 2026-03-01 2026-03-31` finds the first three days on which it is free, and
-//! `free 2026-03-01 2026-03-31` prints the days on which all rooms are.
+//! A calendar of rooms, one request per line: `room blue` adds a room, `book blue 2026-03-01 2026-03-04` books it if it
+//! is free, `gap blue 3 2026-03-01 2026-03-31` finds the first three days on which it is free, and
+//! `free 2026-03-01 2026-03-31` prints the days on which all rooms are free.
 #![tactic(auto)]
 
 mod dates;

@@ -1,11 +1,11 @@
-//! What a line asks of the calendar, and the line that answers it.
+//! The requests of the calendar and their answers, one line each.
 
 use crate::dates::{days_from, interval_text, set_text};
 use crate::rooms::{Room, free_in_all};
 use ivl_words::{next_word, number_from, one_word, three_words, two_words};
 use std::alloc::{AllocError, Global};
 
-/// Rooms, each with its name at the same place.
+/// Rooms, each with its name at the same index.
 #[derive(Drop)]
 pub struct Calendar {
     names: Vec<String>,
@@ -13,7 +13,7 @@ pub struct Calendar {
 }
 
 impl Calendar {
-    /// A calendar with no room.
+    /// Returns a calendar without rooms.
     pub fn new(alloc: Global) -> Calendar {
         Calendar {
             names: Vec::new(alloc),
@@ -21,8 +21,8 @@ impl Calendar {
         }
     }
 
-    /// Returns the answer to a line: what was asked, or what is wrong with the line, which then
-    /// changes nothing.
+    /// Returns the answer to a line: the result, or an error message. A line with an error changes
+    /// nothing.
     pub fn answer(&mut self, alloc: Global, line: &str) -> Result<String, AllocError> {
         let (name, words) = next_word(line).unwrap_or(("", ""));
         match name {

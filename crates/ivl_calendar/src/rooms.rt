@@ -47,17 +47,16 @@ impl Room {
         &self.busy
     }
 
-    /// Returns the days of a window on which the room is free. `O(log n + k)`, where `k` of the `n`
-    /// runs of busy days meet the window. Fails only if allocation fails.
+    /// Returns the days of a window on which the room is free. `O(log n + k)`, where `k` of the `n` runs of busy days
+    /// overlap the window. Fails only if allocation fails.
     pub fn free_within(&self, window: Interval<i32>) -> Result<IntervalSet<i32>, AllocError>
         ensures { IfOk result (λ L. IsRunsOf L (Without (IsBetween window) (Covers self.now))) }
     {
         self.busy.gaps_within(&window)
     }
 
-    /// Returns the first days of a window, `days` of them and consecutive, on which the room is free,
-    /// or `None` if there are none. The caller must ensure that `days` is above 0. Costs what
-    /// `free_within` does. Fails only if allocation fails.
+    /// Returns the first `days` consecutive days of a window on which the room is free, or `None` if there are none.
+    /// The caller must ensure that `days` is above 0. Costs what `free_within` does. Fails only if allocation fails.
     pub fn first_gap(
         &self,
         window: Interval<i32>,
@@ -72,13 +71,13 @@ impl Room {
         Ok(free.first_fit(days))
     }
 
-    /// Books the room if it is free on all of these days, and tells whether it was.
+    /// Books the room if it is free on all of these days, and returns whether it was.
     ///
-    /// `O(log n)` to find the place, and `O(n)` where the number of runs changes.
+    /// `O(log n)`, or `O(n)` if the number of runs of busy days changes.
     ///
     /// # Errors
     ///
-    /// Fails only if allocation fails. Nothing is booked then, nor where the answer is false.
+    /// Fails only if allocation fails. Nothing is booked after an error, or if the result is false.
     pub fn book(&mut self, days: Interval<i32>) -> Result<bool, AllocError>
         ensures booked { IfOk result (λ done. IsTrue done → IsRunsOf self.new (Union (Covers self.old) (IsBetween days))) }
         ensures unless_busy { IfOk result (λ done. IsTrue done ↔ HasNone (Intersection (Covers self.old) (IsBetween days))) }

@@ -1,4 +1,4 @@
-//! Rooms booked, and the days that are left.
+//! Booked rooms, and the days that are left.
 
 use crate::dates::{date_of, day_from, day_of, days_from, interval_text, set_text};
 use crate::requests::Calendar;

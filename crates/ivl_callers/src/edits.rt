@@ -1,4 +1,4 @@
-//! What the edits of a set in place mean, as a caller learns it: the members before and after, and
+//! What the in-place edits of a set mean, as a caller learns it: the members before and after, and
 //! that a set is unchanged after an error.
 ghost use Rattle.std.specs.Prelude.{◌≡◌, ◌↔◌, ℤ, ◌≤ℤ◌, [], IfOk, IfSome, IsTrue, MatchOption, None, OnErr, OnOk};
 ghost use Rattle.ivl_laws.specs.Sets.{IsBetween, IsInRange, Only, Union, Without};
@@ -10,7 +10,7 @@ use intervallum::ops::Range;
 use intervallum::width::Width;
 use std::alloc::AllocError;
 
-/// Adds a value, if `in_range` tells that it may be a member. Whether it was none before.
+/// Adds a value if `in_range` allows it, and returns whether it was not a member before.
 pub fn insert_if_in_range<B: Width>(
     set: &mut IntervalSet<B>,
     value: B,
@@ -26,7 +26,7 @@ pub fn insert_if_in_range<B: Width>(
     }
 }
 
-/// Takes out a value, which may be any value of its type. Whether it was a member.
+/// Removes a value, which may be any value of its type, and returns whether it was a member.
 pub fn set_loses_value<B: Width>(set: &mut IntervalSet<B>, value: B) -> Result<bool, AllocError>
     ensures answer { IfOk result (λ was_member. IsTrue was_member ↔ Covers set.old (B.value value)) }
     ensures members { OnOk result (IsRunsOf set.new (Without (Covers set.old) (Only (B.value value)))) }
@@ -35,7 +35,8 @@ pub fn set_loses_value<B: Width>(set: &mut IntervalSet<B>, value: B) -> Result<b
     set.remove(value)
 }
 
-/// Adds the numbers of two bounds, if `in_range` lets them be an interval; they may cross.
+/// Adds the numbers of two bounds, which may cross, if `in_range` allows them, and returns whether
+/// it does.
 pub fn insert_bounds_if_in_range<B: Width>(
     set: &mut IntervalSet<B>,
     lb: B,
@@ -52,7 +53,7 @@ pub fn insert_bounds_if_in_range<B: Width>(
     Ok(true)
 }
 
-/// Takes out the numbers of an interval.
+/// Removes the numbers of an interval.
 pub fn set_loses_interval<B: Width>(
     set: &mut IntervalSet<B>,
     interval: Interval<B>,
@@ -63,14 +64,14 @@ pub fn set_loses_interval<B: Width>(
     set.remove_interval(interval)
 }
 
-/// No run is left.
+/// Removes all members: no run is left.
 pub fn set_loses_all<B: Width>(set: &mut IntervalSet<B>)
     ensures { set.new ≡ [] }
 {
     set.clear();
 }
 
-/// The least number that is covered, which is taken out.
+/// Removes and returns the least number that is covered.
 pub fn least_taken<B: Width>(set: &mut IntervalSet<B>) -> Option<B>
     ensures none { (result ≡ None) → set.old ≡ [] }
     ensures member { IfSome result (λ v. Covers set.old (B.value v)) }
@@ -80,7 +81,7 @@ pub fn least_taken<B: Width>(set: &mut IntervalSet<B>) -> Option<B>
     set.pop_first()
 }
 
-/// The greatest number that is covered, which is taken out.
+/// Removes and returns the greatest number that is covered.
 pub fn greatest_taken<B: Width>(set: &mut IntervalSet<B>) -> Option<B>
     ensures none { (result ≡ None) → set.old ≡ [] }
     ensures member { IfSome result (λ v. Covers set.old (B.value v)) }
@@ -90,7 +91,7 @@ pub fn greatest_taken<B: Width>(set: &mut IntervalSet<B>) -> Option<B>
     set.pop_last()
 }
 
-/// A value that was taken out of a set may go into another with no test: it is in the range.
+/// Moves the least member of a set into another. It needs no test, since a member is in the range.
 pub fn move_least<B: Width>(
     from: &mut IntervalSet<B>,
     to: &mut IntervalSet<B>,

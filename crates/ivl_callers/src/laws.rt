@@ -1,4 +1,4 @@
-//! Laws of sets as a caller meets them: by the contracts alone, the answers are known before the calls.
+//! Laws of sets, as a caller learns them: the contracts alone give the results of the calls.
 ghost use Rattle.std.specs.Prelude.{◌≡◌, ◌↔◌, ◌⊎◌, IfOk, IsTrue};
 ghost use Rattle.ivl_laws.specs.Sets.{SameMembers};
 ghost use Rattle.ivl_laws.specs.Runs.{Covers};
@@ -11,7 +11,7 @@ use intervallum::ops::{Cardinality, Contains, Union};
 use intervallum::width::Width;
 use std::alloc::AllocError;
 
-/// Two sets united either way give equal sets.
+/// The unions of two sets in both orders are equal.
 pub fn unions_agree<B: Width>(a: &IntervalSet<B>, b: &IntervalSet<B>) -> Result<bool, AllocError>
     ensures { IfOk result IsTrue }
 {
@@ -20,7 +20,7 @@ pub fn unions_agree<B: Width>(a: &IntervalSet<B>, b: &IntervalSet<B>) -> Result<
     Ok(one_way == other_way)
 }
 
-/// A set united with itself is equal to itself.
+/// The union of a set with itself is equal to the set.
 pub fn union_with_itself_is_equal<B: Width>(a: &IntervalSet<B>) -> Result<bool, AllocError>
     ensures { IfOk result IsTrue }
 {
@@ -56,7 +56,7 @@ pub fn same_members_same_runs<B: Width>(a: &IntervalSet<B>, b: &IntervalSet<B>) 
     a.interval_count() == b.interval_count()
 }
 
-/// Two sets of the same members have one size.
+/// Two sets of the same members have the same size.
 pub fn same_members_same_size<B: Width>(a: &IntervalSet<B>, b: &IntervalSet<B>) -> bool
     requires { SameMembers (Covers a.now) (Covers b.now) }
     ensures { IsTrue result }

@@ -1,8 +1,8 @@
-//! What callers of sets can rest on, each as a function that learns it from the public contracts alone.
+//! What callers of sets can rely on, each as a function that learns it from the public contracts alone.
 //!
-//! [`sets`] say what the answer of each bound is at sets, in plain lists of runs; [`numbers`] give the numbers of the ten
-//! integer types, and what a value of each overlaps; [`laws`] carry the laws over sets of numbers to the answers of calls;
-//! [`reads`] ask sets for neighbours, room and runs, and [`members`] for their members one by one.
+//! [`sets`] gives the result of each trait for sets, in plain lists of runs; [`numbers`] gives the numbers of the ten
+//! integer types, and what a value of each overlaps; [`laws`] carries the laws over sets of numbers to the results of
+//! calls; [`reads`] queries sets for neighbours, room and runs, and [`members`] iterates over their members.
 #![tactic(auto)]
 
 pub mod edits;

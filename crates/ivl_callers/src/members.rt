@@ -1,4 +1,4 @@
-//! Callers that take the members of a set one by one, from either end.
+//! Callers that iterate over the members of a set, from either end.
 ghost use Rattle.std.specs.Prelude.{◌≡◌, IfOk, IsOk, MatchOption, map};
 ghost use Rattle.ivl_laws.specs.Sets.{HasNone};
 ghost use Rattle.ivl_laws.specs.Runs.{Covers};
@@ -9,28 +9,28 @@ use intervallum::interval_set::{IntervalSet, Members};
 use intervallum::width::Width;
 use std::alloc::{AllocError, Global};
 
-/// Every member, ascending.
+/// Returns every member, in ascending order.
 pub fn all_members<B: Width>(alloc: Global, set: &IntervalSet<B>) -> Result<Vec<B>, AllocError>
     ensures { IfOk result (λ all. map B.value all.items ≡ members_of set.now) }
 {
     set.members().collect(alloc)
 }
 
-/// The least member is the first from the front.
+/// Returns the least member: the first from the front.
 pub fn least_member<B: Width>(set: &IntervalSet<B>) -> Option<B>
     ensures { MatchOption result (HasNone (Covers set.now)) (λ x. IsLeast (B.value x) (Covers set.now)) }
 {
     set.members().next()
 }
 
-/// The greatest member is the first from the back.
+/// Returns the greatest member: the first from the back.
 pub fn greatest_member<B: Width>(set: &IntervalSet<B>) -> Option<B>
     ensures { MatchOption result (HasNone (Covers set.now)) (λ x. IsGreatest (B.value x) (Covers set.now)) }
 {
     set.members().next_back()
 }
 
-/// A clone has the same members left, and cloning never fails.
+/// Returns a clone, which has the same members left. Cloning never fails.
 pub fn same_members_left<'a, B: Width>(left: &Members<'a, B>) -> Result<Members<'a, B>, AllocError>
     ensures same { IfOk result (λ copy. copy ≡ left.now) }
     ensures ok { IsOk result }

@@ -1,5 +1,5 @@
-//! Callers that read a set: its neighbours, its room, its runs, and what it has beside an interval.
-//! None of them wants a proof by hand.
+//! Callers that query a set: neighbours of a value, room, runs, and operations with an interval.
+//! None of them needs a hand-written proof.
 ghost use Rattle.std.specs.Prelude.{◌≡◌, ◌↔◌, ◌⊎◌, ◌≤◌, [], ℕ, ℤ, IfOk, IfSome, IsTrue, MatchOption};
 ghost use Rattle.ivl_laws.specs.Counts.{IsCountOf};
 ghost use Rattle.ivl_laws.specs.Sets.{AtLeast, AtMost, Below, HasNone, HasSome, Intersection, IsBetween, IsSubset, Union, Without};
@@ -14,7 +14,7 @@ use intervallum::steps::{Place, Probes, find};
 use intervallum::width::{SizeNumber, Width};
 use std::alloc::{AllocError, Global};
 
-/// The run above a gap, read off the place where a search ends.
+/// Returns the run above a gap, from the place that a search returns.
 pub fn run_above_gap<B: Width>(set: &IntervalSet<B>, value: B) -> Option<Interval<B>>
     ensures { IfSome result (λ run. IsLeast run.0 (AtLeast (B.value value) (Covers set.now))) }
 {
@@ -31,7 +31,7 @@ pub fn run_above_gap<B: Width>(set: &IntervalSet<B>, value: B) -> Option<Interva
     }
 }
 
-/// The run below a gap, read off the place where a search ends.
+/// Returns the run below a gap, from the place that a search returns.
 pub fn run_below_gap<B: Width>(set: &IntervalSet<B>, value: B) -> Option<Interval<B>>
     ensures { IfSome result (λ run. IsGreatest run.1 (AtMost (B.value value) (Covers set.now))) }
 {
@@ -42,7 +42,7 @@ pub fn run_below_gap<B: Width>(set: &IntervalSet<B>, value: B) -> Option<Interva
     }
 }
 
-/// The run that holds a value, read off the place where a search ends.
+/// Returns the run that holds a value, from the place that a search returns.
 pub fn run_by_find<B: Width>(set: &IntervalSet<B>, value: B) -> Option<Interval<B>>
     ensures { MatchOption result (¬ (Covers set.now (B.value value))) (IsRunWith (B.value value) (Covers set.now)) }
 {
@@ -53,7 +53,7 @@ pub fn run_by_find<B: Width>(set: &IntervalSet<B>, value: B) -> Option<Interval<
     }
 }
 
-/// The least member from a value on, or another value where there is none.
+/// Returns the least member from a value on, or another value if there is none.
 pub fn next_or<B: Width>(set: &IntervalSet<B>, value: B, other: B) -> B
     ensures { (HasNone (AtLeast (B.value value) (Covers set.now)) × (B.value result ≡ B.value other)) ⊎ IsLeast (B.value result) (AtLeast (B.value value) (Covers set.now)) }
 {
@@ -63,7 +63,7 @@ pub fn next_or<B: Width>(set: &IntervalSet<B>, value: B, other: B) -> B
     }
 }
 
-/// The greatest member up to a value, or another value where there is none.
+/// Returns the greatest member up to a value, or another value if there is none.
 pub fn previous_or<B: Width>(set: &IntervalSet<B>, value: B, other: B) -> B
     ensures { (HasNone (AtMost (B.value value) (Covers set.now)) × (B.value result ≡ B.value other)) ⊎ IsGreatest (B.value result) (AtMost (B.value value) (Covers set.now)) }
 {
@@ -73,14 +73,15 @@ pub fn previous_or<B: Width>(set: &IntervalSet<B>, value: B, other: B) -> B
     }
 }
 
-/// The numbers of the run that holds a value are members; none where it is no member.
+/// Returns the run that holds a value, whose numbers are members, or `None` if the value is not a
+/// member.
 pub fn members_around<B: Width>(set: &IntervalSet<B>, value: B) -> Option<Interval<B>>
     ensures { MatchOption result (¬ (Covers set.now (B.value value))) (λ run. IsSubset (IsBetween run) (Covers set.now) × IsBetween run (B.value value)) }
 {
     set.run_at(value)
 }
 
-/// The lowest members in a row, so many of them, if their number is tested to be above 0.
+/// Returns the lowest `count` consecutive members, if `count` is tested to be above 0.
 pub fn fit_if_some<B: Width>(set: &IntervalSet<B>, count: B::Output) -> Option<Interval<B>>
     ensures { MatchOption result
         ((B.Output.size count ≡ 0) ⊎ ((v : ℤ) → ¬ (FitsAt (B.Output.size count) (Covers set.now) v)))
@@ -93,7 +94,8 @@ pub fn fit_if_some<B: Width>(set: &IntervalSet<B>, count: B::Output) -> Option<I
     }
 }
 
-/// The same, from a value on.
+/// Returns the lowest `count` consecutive members from a value on, if `count` is tested to be above
+/// 0.
 pub fn fit_from_if_some<B: Width>(
     set: &IntervalSet<B>,
     value: B,
@@ -110,7 +112,7 @@ pub fn fit_from_if_some<B: Width>(
     }
 }
 
-/// The numbers of a window that are no members.
+/// Returns the numbers of a window that are not members.
 pub fn free_in<B: Width>(
     set: &IntervalSet<B>,
     window: &Interval<B>,
@@ -120,7 +122,7 @@ pub fn free_in<B: Width>(
     set.gaps_within(window)
 }
 
-/// The first run of a set, if there is one.
+/// Returns the first run of a set, if there is one.
 pub fn first_run<B: Width>(set: &IntervalSet<B>) -> Option<Interval<B>>
     ensures { MatchOption result (set.now ≡ []) (λ run. HasSome (IsBetween run)) }
 {
@@ -128,7 +130,7 @@ pub fn first_run<B: Width>(set: &IntervalSet<B>) -> Option<Interval<B>>
     if runs.is_empty() { None } else { Some(runs[0]) }
 }
 
-/// The set of an interval, whether it is empty or not.
+/// Returns the set of an interval, whether it is empty or not.
 pub fn set_of_interval<B: Width>(
     alloc: Global,
     interval: Interval<B>,
@@ -138,21 +140,21 @@ pub fn set_of_interval<B: Width>(
     IntervalSet::of(alloc, interval)
 }
 
-/// Each number of an interval is a member.
+/// Returns true exactly when each number of an interval is a member.
 pub fn has_all_of<B: Width>(set: &IntervalSet<B>, interval: &Interval<B>) -> bool
     ensures { IsTrue result ↔ IsSubset (IsBetween interval.now) (Covers set.now) }
 {
     set.includes(interval)
 }
 
-/// Some number of an interval is a member.
+/// Returns true exactly when some number of an interval is a member.
 pub fn has_some_of<B: Width>(set: &IntervalSet<B>, interval: &Interval<B>) -> bool
     ensures { IsTrue result ↔ HasSome (Intersection (Covers set.now) (IsBetween interval.now)) }
 {
     set.overlap(interval)
 }
 
-/// The members of a set and of an interval.
+/// Returns the members of a set and of an interval.
 pub fn with_interval<B: Width>(
     set: &IntervalSet<B>,
     interval: &Interval<B>,
@@ -162,7 +164,7 @@ pub fn with_interval<B: Width>(
     set.union(interval)
 }
 
-/// The members that lie in an interval.
+/// Returns the members that lie in an interval.
 pub fn within_interval<B: Width>(
     set: &IntervalSet<B>,
     interval: &Interval<B>,
@@ -172,7 +174,7 @@ pub fn within_interval<B: Width>(
     set.intersection(interval)
 }
 
-/// The members that do not lie in an interval.
+/// Returns the members that do not lie in an interval.
 pub fn without_interval<B: Width>(
     set: &IntervalSet<B>,
     interval: &Interval<B>,
@@ -182,14 +184,14 @@ pub fn without_interval<B: Width>(
     set.difference(interval)
 }
 
-/// How many members are below a value.
+/// Returns the number of members below a value.
 pub fn count_below<B: Width>(set: &IntervalSet<B>, value: B) -> B::Output
     ensures { IsCountOf (B.Output.size result) (Below (B.value value) (Covers set.now)) }
 {
     set.rank(value)
 }
 
-/// The member with so many others below it.
+/// Returns the member with so many others below it.
 pub fn member_by_number<B: Width>(set: &IntervalSet<B>, i: B::Output) -> Option<B>
     ensures { MatchOption result
         ((n : ℕ) → IsCountOf n (Covers set.now) → n ≤ B.Output.size i)

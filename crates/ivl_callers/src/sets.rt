@@ -18,14 +18,14 @@ use intervallum::width::Width;
 use ivl_interval_callers::callers;
 use std::alloc::{AllocError, Global};
 
-/// No run.
+/// Returns an empty set: it has no run.
 pub fn empty_set<B: Width>(alloc: Global) -> IntervalSet<B>
     ensures { result ≡ [] }
 {
     IntervalSet::empty(alloc)
 }
 
-/// One run.
+/// Returns a set of one run.
 pub fn set_of_one_run<B: Width>(alloc: Global, lb: B, ub: B) -> Result<IntervalSet<B>, AllocError>
     requires in_range { IsInRange B.whole (B.value lb, B.value ub) }
     requires in_order { B.value lb ≤ℤ B.value ub }
@@ -34,7 +34,7 @@ pub fn set_of_one_run<B: Width>(alloc: Global, lb: B, ub: B) -> Result<IntervalS
     IntervalSet::new(alloc, lb, ub)
 }
 
-/// The runs ascend, leave numbers free between them, and lie in the range.
+/// Returns the runs: they ascend, leave numbers free between them, and lie in the range.
 pub fn set_runs<B: Width>(set: &IntervalSet<B>) -> std::slice::Iter<'_, Interval<B>>
     ensures rest { result.rest.now ≡ set.now }
     ensures runs { IsRunListIn B.whole set.now }
@@ -42,21 +42,21 @@ pub fn set_runs<B: Width>(set: &IntervalSet<B>) -> std::slice::Iter<'_, Interval
     set.iter()
 }
 
-/// How many runs there are.
+/// Returns the number of runs.
 pub fn set_run_count<B: Width>(set: &IntervalSet<B>) -> usize
     ensures { result ≡ length set.now }
 {
     set.interval_count()
 }
 
-/// How many numbers the runs cover.
+/// Returns how many numbers the runs cover.
 pub fn set_size<B: Width>(set: &IntervalSet<B>) -> B::Output
     ensures { IsCountOf (B.Output.size result) (Covers set.now) }
 {
     callers::size_by_bound(set)
 }
 
-/// Whether there is no run.
+/// Returns true exactly when there is no run.
 pub fn set_is_empty<B: Width>(set: &IntervalSet<B>) -> bool
     ensures { IsTrue result ↔ (set.now ≡ []) }
 {
@@ -64,21 +64,21 @@ pub fn set_is_empty<B: Width>(set: &IntervalSet<B>) -> bool
     callers::is_empty_by_bound(set)
 }
 
-/// Whether a run covers a number.
+/// Returns true exactly when a run covers a number.
 pub fn set_contains<B: Width>(set: &IntervalSet<B>, item: &B) -> bool
     ensures { IsTrue result ↔ Covers set.now (B.value item.now) }
 {
     callers::contains_by_bound(set, item)
 }
 
-/// Whether the runs cover the same numbers.
+/// Returns true exactly when the runs cover the same numbers.
 pub fn sets_equal<B: Width>(a: &IntervalSet<B>, b: &IntervalSet<B>) -> bool
     ensures { IsTrue result ↔ SameMembers (Covers a.now) (Covers b.now) }
 {
     *a == *b
 }
 
-/// The runs of the numbers that either list covers.
+/// Returns the runs of the numbers that either list covers.
 pub fn sets_united<B: Width>(
     a: &IntervalSet<B>,
     b: &IntervalSet<B>,

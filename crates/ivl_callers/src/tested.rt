@@ -1,5 +1,5 @@
 //! Each condition of a call is met after its public test: the callers here have no condition of
-//! their own, and none of them wants a proof by hand.
+//! their own, and none of them needs a hand-written proof.
 ghost use Rattle.std.specs.Prelude.{◌≡◌, ◌↔◌, ◌⊎◌, ◌+◌, ◌<◌, ◌+ℤ◌, ◌-ℤ◌, ◌*ℤ◌, ◌≤ℤ◌, ◌∷◌, [], ℤ, ⊤, All, None, MatchOption, IfOk, IsTrue, length, map, slice_get};
 ghost use Rattle.ivl_laws.specs.Sets.{Differences, ExactProducts, IsBetween, IsHullOf, IsInRange, IsSubset, Only, SameMembers, Sums, SymmetricDifference, Union};
 ghost use Rattle.ivl_laws.specs.Runs.{Covers, IsRunsOf};
@@ -16,7 +16,7 @@ use intervallum::sweep::{Op, images};
 use intervallum::width::{SizeNumber, Width};
 use std::alloc::{AllocError, Global};
 
-/// The interval of two bounds, if `in_range` lets it be made.
+/// Returns the interval of two bounds, if `in_range` allows it.
 pub fn interval_if_in_range<B: Width>(lb: B, ub: B) -> Option<Interval<B>>
     ensures { MatchOption result (¬ (IsInRange B.whole (B.value lb, B.value ub))) (λ r. SameMembers (IsBetween r) (IsBetween (B.value lb, B.value ub))) }
 {
@@ -27,7 +27,7 @@ pub fn interval_if_in_range<B: Width>(lb: B, ub: B) -> Option<Interval<B>>
     }
 }
 
-/// The interval of one value, if `whole` contains it.
+/// Returns the interval of one value, if `whole` contains it.
 pub fn interval_if_contained<B: Width>(value: B) -> Option<Interval<B>>
     ensures { MatchOption result (¬ (IsBetween B.whole (B.value value))) (λ r. r ≡ (B.value value, B.value value)) }
 {
@@ -38,7 +38,7 @@ pub fn interval_if_contained<B: Width>(value: B) -> Option<Interval<B>>
     }
 }
 
-/// The least member of an interval, or another value where `is_empty` tells that there is none.
+/// Returns the least member of an interval, or another value if `is_empty` returns true.
 pub fn least_or<B: Width>(a: &Interval<B>, other: B) -> B
     ensures one { (B.value result ≡ B.value other) ⊎ IsBetween a.now (B.value result) }
     ensures least { (z : ℤ) → IsBetween a.now z → B.value result ≤ℤ z }
@@ -46,7 +46,7 @@ pub fn least_or<B: Width>(a: &Interval<B>, other: B) -> B
     if a.is_empty() { other } else { a.lower() }
 }
 
-/// The greatest member of a set, or another value where `is_empty` tells that there is none.
+/// Returns the greatest member of a set, or another value if `is_empty` returns true.
 pub fn greatest_or<B: Width>(set: &IntervalSet<B>, other: B) -> B
     ensures one { (B.value result ≡ B.value other) ⊎ Covers set.now (B.value result) }
     ensures greatest { (z : ℤ) → Covers set.now z → z ≤ℤ B.value result }
@@ -54,7 +54,7 @@ pub fn greatest_or<B: Width>(set: &IntervalSet<B>, other: B) -> B
     if set.is_empty() { other } else { set.upper() }
 }
 
-/// The set of one run, if its bounds are in the range and in order.
+/// Returns the set of one run, if its bounds are in the range and in order.
 pub fn run_if_in_order<B: Width>(
     alloc: Global,
     lb: B,
@@ -69,7 +69,7 @@ pub fn run_if_in_order<B: Width>(
     }
 }
 
-/// A set and a value, if `in_range` tells that the value is in the range.
+/// Returns the union of a set and a value, if `in_range` allows the value.
 pub fn with_value<B: Width>(
     set: &IntervalSet<B>,
     value: B,
@@ -83,7 +83,7 @@ pub fn with_value<B: Width>(
     }
 }
 
-/// The sums of two sets, if `fits_add` tells that each is in the range.
+/// Returns the sums of two sets, if `fits_add` returns true.
 pub fn sums_if_they_fit<B: Width>(
     a: &IntervalSet<B>,
     b: &IntervalSet<B>,
@@ -98,7 +98,7 @@ pub fn sums_if_they_fit<B: Width>(
     }
 }
 
-/// The differences of a set and a value, if `fits_sub` tells that each is in the range.
+/// Returns the differences of a set and a value, if `fits_sub` returns true.
 pub fn differences_if_they_fit<B: Width>(
     set: &IntervalSet<B>,
     value: B,
@@ -112,14 +112,14 @@ pub fn differences_if_they_fit<B: Width>(
     }
 }
 
-/// The hull of the products of two intervals, if `fits_mul` tells that each is in the range.
+/// Returns the hull of the products of two intervals, if `fits_mul` returns true.
 pub fn products_if_they_fit<B: Width>(a: &Interval<B>, b: &Interval<B>) -> Option<Interval<B>>
     ensures { MatchOption result (¬ (IsSubset (ExactProducts (IsBetween a.now) (IsBetween b.now)) (IsBetween B.whole))) (λ r. IsHullOf r (ExactProducts (IsBetween a.now) (IsBetween b.now))) }
 {
     if a.fits_mul(b) { Some(a * b) } else { None }
 }
 
-/// The set of a value alone, if `whole` contains it.
+/// Returns the set of a value alone, if `whole` contains it.
 pub fn alone_if_contained<B: Width>(
     alloc: Global,
     value: B,
@@ -133,7 +133,7 @@ pub fn alone_if_contained<B: Width>(
     }
 }
 
-/// A set that has a value just where the given one has it not, if the value is in the range.
+/// Returns the symmetric difference of a set and a value, if the value is in the range.
 pub fn turned_at<B: Width>(
     set: &IntervalSet<B>,
     value: B,
@@ -147,7 +147,7 @@ pub fn turned_at<B: Width>(
     }
 }
 
-/// The set of a pair of bounds, if `in_range` tells that they are those of an interval.
+/// Returns the set of a pair of bounds, if `in_range` allows them.
 pub fn set_if_in_range<B: Width>(
     alloc: Global,
     lower: B,
@@ -162,7 +162,7 @@ pub fn set_if_in_range<B: Width>(
     }
 }
 
-/// The set of pairs of bounds, if `in_range` tells that each is those of an interval.
+/// Returns the set of pairs of bounds, if `in_range` allows each pair.
 pub fn set_if_each_in_range<B: Width>(
     alloc: Global,
     pairs: &[(B, B)],
@@ -179,7 +179,7 @@ pub fn set_if_each_in_range<B: Width>(
     }
 }
 
-/// Takes the first run of a walk away, if `peek` shows one, and tells whether it did.
+/// Advances a walk if `peek` returns a run, and returns true exactly when it did.
 pub fn advanced_if_one_is_left<B: Width>(walk: &mut Walk<'_, B>) -> bool
     ensures told { IsTrue result ↔ (walk.new.advances ≡ walk.old.advances + 1) }
     ensures runs { walk.new.advances + length walk.new.left ≡ walk.old.advances + length walk.old.left }
@@ -192,7 +192,7 @@ pub fn advanced_if_one_is_left<B: Width>(walk: &mut Walk<'_, B>) -> bool
     }
 }
 
-/// Run number `i` of a search, if there is one.
+/// Returns run number `i` of a search, if there is one.
 pub fn run_if_there<B: Width>(probes: &mut Probes<'_, B>, i: usize) -> Option<Interval<B>>
     ensures { result ≡ slice_get probes.old.runs i }
 {
@@ -203,7 +203,7 @@ pub fn run_if_there<B: Width>(probes: &mut Probes<'_, B>, i: usize) -> Option<In
     }
 }
 
-/// The sums of each pair of runs, if `fits_add` tells that each is in the range.
+/// Returns the sums of each pair of runs, if `fits_add` returns true.
 pub fn sums_by_runs_if_they_fit<B: Width>(
     a: &IntervalSet<B>,
     b: &IntervalSet<B>,
@@ -217,7 +217,7 @@ pub fn sums_by_runs_if_they_fit<B: Width>(
     }
 }
 
-/// The sum of two values, if `checked_add` has one.
+/// Returns the sum of two values, if `checked_add` has one.
 pub fn sum_if_in_range<B: Width>(x: B, y: B) -> Option<B>
     ensures { MatchOption result (¬ (IsBetween B.whole (B.value x +ℤ B.value y))) (λ r. B.value r ≡ B.value x +ℤ B.value y) }
 {
@@ -228,7 +228,7 @@ pub fn sum_if_in_range<B: Width>(x: B, y: B) -> Option<B>
     }
 }
 
-/// The difference of two values, if `checked_sub` has one.
+/// Returns the difference of two values, if `checked_sub` has one.
 pub fn difference_if_in_range<B: Width>(x: B, y: B) -> Option<B>
     ensures { MatchOption result (¬ (IsBetween B.whole (B.value x -ℤ B.value y))) (λ r. B.value r ≡ B.value x -ℤ B.value y) }
 {
@@ -239,7 +239,7 @@ pub fn difference_if_in_range<B: Width>(x: B, y: B) -> Option<B>
     }
 }
 
-/// The product of two values, if `checked_mul` has one.
+/// Returns the product of two values, if `checked_mul` has one.
 pub fn product_if_in_range<B: Width>(x: B, y: B) -> Option<B>
     ensures { MatchOption result (¬ (IsBetween B.whole (B.value x *ℤ B.value y))) (λ r. B.value r ≡ B.value x *ℤ B.value y) }
 {
@@ -250,7 +250,7 @@ pub fn product_if_in_range<B: Width>(x: B, y: B) -> Option<B>
     }
 }
 
-/// The sum of two sizes, if `checked_add` has one.
+/// Returns the sum of two sizes, if `checked_add` has one.
 pub fn size_if_in_range<N: SizeNumber>(x: N, y: N) -> Option<N>
     ensures { MatchOption result (N.greatest < N.size x + N.size y) (λ r. N.size r ≡ N.size x + N.size y) }
 {

@@ -1,4 +1,4 @@
-//! What `eval` answers over small expressions.
+//! What `eval` returns for small expressions.
 ghost use Rattle.std.specs.Prelude.{◌≡◌, ◌≤◌, ◌⊎◌, All, IfOk, IfSome, length};
 ghost use Rattle.ivl_laws.specs.Families.{set_at};
 ghost use Rattle.ivl_laws.specs.Runs.{Covers, IsRunsOf};
@@ -11,7 +11,7 @@ use intervallum::width::Width;
 use ivl_expr::{EvalFault, Expr, eval};
 use std::alloc::{AllocError, Global};
 
-/// A variable has its set.
+/// Evaluates a variable: its set.
 pub fn answer_of_a_variable<B: Width>(
     alloc: Global,
     i: usize,
@@ -23,8 +23,8 @@ pub fn answer_of_a_variable<B: Width>(
     eval(alloc, &Expr::Var(i), sets)
 }
 
-/// A constant has itself alone. It has a set where it lies in the range, and `Range` is told nowhere
-/// else.
+/// Evaluates a constant: the set of it alone. Succeeds only if it is in the range, and fails with `Range` only if it is
+/// not.
 pub fn answer_of_a_constant<B: Width>(
     alloc: Global,
     c: B,
@@ -37,7 +37,7 @@ pub fn answer_of_a_constant<B: Width>(
     eval(alloc, &Expr::Const(c), sets)
 }
 
-/// A sum of two variables has the sums of their members.
+/// Evaluates a sum of two variables: the sums of their members.
 pub fn answer_of_a_sum<B: Width>(
     alloc: Global,
     sets: &[IntervalSet<B>],
@@ -48,7 +48,7 @@ pub fn answer_of_a_sum<B: Width>(
     eval(alloc, &sum, sets)
 }
 
-/// A difference of two variables has the differences of their members.
+/// Evaluates a difference of two variables: the differences of their members.
 pub fn answer_of_a_difference<B: Width>(
     alloc: Global,
     sets: &[IntervalSet<B>],
@@ -59,7 +59,7 @@ pub fn answer_of_a_difference<B: Width>(
     eval(alloc, &difference, sets)
 }
 
-/// A product of two variables has what lies between two products of factors from one run of each.
+/// Evaluates a product of two variables: all numbers between two products of factors from one run of each.
 pub fn answer_of_a_product<B: Width>(
     alloc: Global,
     sets: &[IntervalSet<B>],
@@ -70,7 +70,7 @@ pub fn answer_of_a_product<B: Width>(
     eval(alloc, &product, sets)
 }
 
-/// Of two variables without a set the left one is told.
+/// Evaluates a sum of two variables. If the left one has no set, the error names it, unless allocation fails.
 pub fn leftmost_of_two_missing<B: Width>(
     alloc: Global,
     i: usize,
@@ -83,7 +83,7 @@ pub fn leftmost_of_two_missing<B: Width>(
     eval(alloc, &sum, sets)
 }
 
-/// Each value of an expression is a member of the answer.
+/// Evaluates an expression: each of its values is a member of the result.
 pub fn every_value_is_a_member<B: Width>(
     alloc: Global,
     expr: &Expr<B>,
@@ -94,7 +94,7 @@ pub fn every_value_is_a_member<B: Width>(
     eval(alloc, expr, sets)
 }
 
-/// Where no variable repeats, the least and the greatest member of the answer are values.
+/// Evaluates an expression if no variable repeats: the least and the greatest member of the result are values.
 pub fn ends_are_values<B: Width>(
     alloc: Global,
     expr: &Expr<B>,
@@ -108,7 +108,8 @@ pub fn ends_are_values<B: Width>(
     Ok(Some(eval(alloc, expr, sets)?))
 }
 
-/// Where no variable repeats and no product stands, the answer has the values and nothing else.
+/// Evaluates an expression if it has no product and no variable repeats: the members of the result are exactly the
+/// values.
 pub fn members_are_values<B: Width>(
     alloc: Global,
     expr: &Expr<B>,
@@ -122,7 +123,7 @@ pub fn members_are_values<B: Width>(
     Ok(Some(eval(alloc, expr, sets)?))
 }
 
-/// Where memory was refused, the fault is `Memory`.
+/// Returns `Memory` for a failed allocation.
 pub fn fault_of_refused_memory(error: AllocError) -> EvalFault
     ensures { result ≡ EvalFault.Memory }
 {

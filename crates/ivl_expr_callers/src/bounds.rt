@@ -10,7 +10,7 @@ use intervallum::ops::{Contains, Subset};
 use ivl_expr::EvalFault;
 use std::alloc::{AllocError, Global};
 
-/// The indexes of a list of this length.
+/// Returns the indexes of a list of this length.
 pub fn indexes_below(alloc: Global, len: usize) -> Result<IntervalSet<usize>, AllocError>
     ensures { IfOk result (λ L. (z : ℤ) → Covers L z → (pos 0 ≤ℤ z) × (z <ℤ pos len)) }
 {
@@ -20,8 +20,8 @@ pub fn indexes_below(alloc: Global, len: usize) -> Result<IntervalSet<usize>, Al
     IntervalSet::new(alloc, 0, len - 1)
 }
 
-/// Whether the sum of variables 0 and 1 is an index of a list of this length, whatever members of
-/// their ranges the two are.
+/// Returns true only if the sum of variables 0 and 1 is an index of a list of this length, for all members of their
+/// ranges.
 pub fn sum_is_an_index(
     alloc: Global,
     ranges: &[IntervalSet<usize>],
@@ -36,8 +36,8 @@ pub fn sum_is_an_index(
     Ok(sums.is_subset(&indexes_below(alloc, len)?))
 }
 
-/// The item at `i + offset`; none where one of the two is not in its range, or the ranges let the sum
-/// be no index. The sum is not compared with the length.
+/// Returns the item at `i + offset`, or `None` if one of the two is not in its range or some sum of the ranges may be
+/// no index. The sum is not compared with the length.
 pub fn item_at<'a>(
     alloc: Global,
     ranges: &[IntervalSet<usize>],

@@ -1,7 +1,7 @@
-//! What callers of expressions can rest on, each as a function that learns it from the public contracts alone.
+//! What callers of expressions can rely on, each as a function that learns it from the public contracts alone.
 //!
 //! [`bounds`] is a range analysis: it shows that no index is out of bounds. [`answers`] says in plain words what `eval`
-//! answers, and [`shapes`] what the questions about an expression do.
+//! returns, and [`shapes`] what the queries of an expression return.
 #![tactic(auto)]
 
 ghost use Rattle.std.specs.Prelude.{◌≡◌, IfOk};
@@ -14,7 +14,7 @@ use intervallum::width::Width;
 use ivl_expr::Expr;
 use std::alloc::{AllocError, Global};
 
-/// An operand, in a box of its own.
+/// An operand in a box.
 pub(crate) fn operand<B: Width>(alloc: Global, expr: Expr<B>) -> Result<Box<Expr<B>>, AllocError>
     ensures { IfOk result (λ b. b.value ≡ expr) }
 {

@@ -1,4 +1,4 @@
-//! Which variables and products stand in small expressions.
+//! Which variables and products occur in small expressions.
 ghost use Rattle.std.specs.Prelude.{◌≡◌, ◌≢◌, ◌↔◌, ◌⊎◌, IfOk, IsTrue};
 
 use crate::operand;
@@ -6,7 +6,7 @@ use intervallum::width::Width;
 use ivl_expr::Expr;
 use std::alloc::{AllocError, Global};
 
-/// A variable occurs in the sum of two where it is one of them.
+/// Returns true exactly when the variable is one of the two in the sum.
 pub fn occurs_in_a_sum<B: Width>(
     alloc: Global,
     i: usize,
@@ -19,14 +19,14 @@ pub fn occurs_in_a_sum<B: Width>(
     Ok(sum.occurs(k))
 }
 
-/// No variable occurs in a constant.
+/// Returns false: no variable occurs in a constant.
 pub fn occurs_in_a_constant<B: Width>(c: B, k: usize) -> bool
     ensures { ¬ (IsTrue result) }
 {
     Expr::Const(c).occurs(k)
 }
 
-/// A difference of two variables reads each once where they are two.
+/// Returns true exactly when the two variables of the difference differ.
 pub fn difference_is_read_once<B: Width>(
     alloc: Global,
     i: usize,
@@ -38,7 +38,7 @@ pub fn difference_is_read_once<B: Width>(
     Ok(difference.read_once())
 }
 
-/// A product below a sum is found.
+/// Returns true: the product below the sum is found.
 pub fn product_below_a_sum<B: Width>(alloc: Global, i: usize, j: usize) -> Result<bool, AllocError>
     ensures { IfOk result IsTrue }
 {
@@ -47,7 +47,7 @@ pub fn product_below_a_sum<B: Width>(alloc: Global, i: usize, j: usize) -> Resul
     Ok(sum.has_product())
 }
 
-/// A sum of a variable and a constant has no product.
+/// Returns false: a sum of a variable and a constant has no product.
 pub fn sum_with_a_constant<B: Width>(alloc: Global, i: usize, c: B) -> Result<bool, AllocError>
     ensures { IfOk result (λ r. ¬ (IsTrue r)) }
 {

@@ -1,4 +1,4 @@
-//! A set of the numbers from -127 to 127 as a list of flags: what a set of `i8` is compared with.
+//! A set of the numbers from -127 to 127 as a list of flags, with which a set of `i8` is compared.
 
 use intervallum::interval_set::IntervalSet;
 use intervallum::ops::{Bounded, Cardinality, Contains, IsEmpty};
@@ -30,7 +30,7 @@ impl Flags {
         }
     }
 
-    /// Makes the number a member or not, and tells whether that changed anything.
+    /// Makes the number a member or not, and returns whether that changed anything.
     pub fn put(&mut self, value: i8, is_member: bool) -> bool {
         let had = self.has(value);
         if let Some(place) = place(value) {
@@ -49,7 +49,7 @@ impl Flags {
         }
     }
 
-    /// How many members lie below a number.
+    /// Returns the number of members below a number.
     pub fn rank(&self, value: i8) -> u8 {
         let mut count: u8 = 0;
         for other in -127i8..=127 {
@@ -70,7 +70,7 @@ impl Flags {
         count
     }
 
-    /// The member with so many members below it.
+    /// Returns the member with `index` members below it.
     pub fn nth(&self, index: u8) -> Option<i8> {
         let mut below: u8 = 0;
         for value in -127i8..=127 {
@@ -98,7 +98,7 @@ impl Flags {
         last
     }
 
-    /// The ends of the run that holds a number.
+    /// Returns the ends of the run that holds a number.
     pub fn run_at(&self, value: i8) -> Option<(i8, i8)> {
         let mut run: Option<(i8, i8)> = None;
         for other in -127i8..=127 {
@@ -116,7 +116,7 @@ impl Flags {
         run.filter(|ends| ends.0 <= value && value <= ends.1)
     }
 
-    /// The lowest run of so many members from a number up.
+    /// Returns the ends of the lowest `count` consecutive members from a number up.
     pub fn first_fit_from(&self, value: i8, count: u8) -> Option<(i8, i8)> {
         let mut lower = None;
         let mut length: u8 = 0;
@@ -136,7 +136,7 @@ impl Flags {
         None
     }
 
-    /// How many numbers of an interval are no members.
+    /// Returns how many numbers of an interval are not members.
     pub fn gaps_within(&self, lower: i8, upper: i8) -> u8 {
         let mut count: u8 = 0;
         for value in -127i8..=127 {
@@ -161,7 +161,7 @@ impl Flags {
         count
     }
 
-    /// Whether the set has these members, so many of them, and in as few runs.
+    /// Returns whether the set has these members, their number as its size, and as many runs.
     pub fn agree(&self, set: &IntervalSet<i8>) -> bool {
         for value in -127i8..=127 {
             if set.contains(&value) != self.has(value) {

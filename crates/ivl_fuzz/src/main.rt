@@ -1,5 +1,5 @@
-//! Makes 100,000 random edits of a set of `i8` and random questions to it, the same at each run, and compares each answer,
-//! and after each edit the whole set, with a list of flags. Prints each step that differs, and how many agree.
+//! Makes 100,000 random edits and queries of a set of `i8`, the same in each run, and compares each result, and after
+//! each edit the whole set, with a list of flags. Prints each step that differs, and how many agree.
 #![tactic(auto)]
 
 mod flags;
@@ -57,7 +57,7 @@ fn main(rt: HostRuntime) -> io::Result<()> {
     Ok(())
 }
 
-/// Makes one edit of both, and tells whether they answer the same.
+/// Makes one edit of both, and returns whether the results are the same.
 fn edit(
     set: &mut IntervalSet<i8>,
     flags: &mut Flags,
@@ -65,7 +65,7 @@ fn edit(
     value: i8,
     length: u8,
 ) -> Result<bool, AllocError> {
-    // crossed where it is 0 or 1
+    // crossed if it is 0 or 1
     let upper = after(value, length).saturating_sub(2);
     match kind {
         0 if Interval::in_range(value, value) => Ok(set.insert(value)? == flags.put(value, true)),
@@ -91,12 +91,12 @@ fn edit(
     }
 }
 
-/// The number that lies so far after another, or the greatest.
+/// The number `length` after another, or the greatest.
 fn after(value: i8, length: u8) -> i8 {
     value.saturating_add(i8::try_from(length).unwrap_or(0))
 }
 
-/// Takes the member that was popped from the flags too, and tells whether it is the right one.
+/// Removes the popped member from the flags too, and returns whether it is the right one.
 fn pop(popped: Option<i8>, expected: Option<i8>, flags: &mut Flags) -> bool {
     if let Some(value) = popped {
         flags.put(value, false);
@@ -104,7 +104,7 @@ fn pop(popped: Option<i8>, expected: Option<i8>, flags: &mut Flags) -> bool {
     popped == expected
 }
 
-/// Asks both one question, and tells whether they answer the same.
+/// Makes one query of both, and returns whether the results are the same.
 fn question(
     set: &IntervalSet<i8>,
     flags: &Flags,
@@ -133,7 +133,7 @@ fn question(
     }
 }
 
-/// The ends of an interval; none where it has no member.
+/// The ends of an interval, or `None` if it is empty.
 fn ends(interval: Interval<i8>) -> Option<(i8, i8)> {
     if interval.is_empty() {
         None
@@ -142,7 +142,7 @@ fn ends(interval: Interval<i8>) -> Option<(i8, i8)> {
     }
 }
 
-/// The numbers of an interval that are no members: as many, and none of them is a member.
+/// The gaps in an interval agree: as many numbers, and none of them is a member.
 fn gaps_agree(
     set: &IntervalSet<i8>,
     flags: &Flags,

@@ -17,11 +17,11 @@ mod shrinks;
 mod text;
 mod values;
 
-/// The whole numbers from a lower to an upper bound, both included; no number where the two cross.
+/// The integers from a lower to an upper bound, both included; empty if the bounds cross.
 ///
-/// It is two bounds and nothing else: it is `Copy`, and no call takes memory or more than a few
-/// steps. All intervals with no member are equal, whatever bounds they store. A contract sees the
-/// pair of the numbers of the bounds.
+/// An interval is two bounds and nothing else: it is `Copy`, and each call takes a few steps and
+/// does not allocate. All empty intervals are equal, whatever bounds they store. A contract sees
+/// the pair of the numbers of the bounds.
 ///
 /// ```
 /// let (a, b) = (Interval::new(1i32, 5), Interval::new(4, 9));

@@ -1,6 +1,6 @@
-//! Three values of truth.
+//! Three-valued truth.
 
-/// The answer of a question that may stay open, as of [`entail`](crate::ops::Entailment).
+/// The result of a test that may be undecided, such as [`entail`](crate::ops::Entailment).
 ///
 /// ```
 /// let (a, b) = (Interval::new(1i32, 5), Interval::new(4, 9));
@@ -8,10 +8,10 @@
 /// ```
 #[derive(Clone, Copy, PartialEq, Eq, Debug)]
 pub enum SKleene {
-    /// It is so.
+    /// True.
     True,
-    /// It is not so.
+    /// False.
     False,
-    /// Neither is known.
+    /// Neither.
     Unknown,
 }

@@ -1,8 +1,8 @@
-//! Closed, bounded intervals of whole numbers, generic over the type of their bounds.
+//! Closed, bounded intervals of integers, generic over the type of their bounds.
 //!
-//! An [`interval::Interval`] is the set of the numbers from a lower to an upper bound. The traits
-//! of [`ops`] say what the operations on sets of numbers mean, [`width`] says what a type of bounds
-//! is. Nothing here takes memory.
+//! An [`interval::Interval`] is the set of the integers from a lower to an upper bound. The traits
+//! of [`ops`] define the operations on sets of integers, and [`width`] the types of bounds. No call
+//! allocates.
 //!
 //! ```
 //! let a = Interval::new(3i32, 8);

@@ -1,15 +1,13 @@
-//! The operations on sets of whole numbers, as traits.
+//! The operations on sets of integers, as traits.
 //!
-//! Each trait says what its call means over the members of its operands. What it needs to speak of
-//! them are ghost members: `members` of a value and `other_members` of the other operand are its
-//! members as numbers, `number` is the number of an item, `whole` is the range of the type of the
-//! bounds, and `answers` says what it takes for a result to stand for a set: to have exactly its
-//! members, or to be the least interval that holds it, or to be the right one unless memory was
-//! refused.
+//! Each trait specifies its call by the members of the operands, through ghost members: `members`
+//! and `other_members` are the members of the two operands as numbers, `number` is the number of an
+//! item, `whole` is the range of the type of the bounds, and `answers` says when a result stands
+//! for a set: if it has exactly its members, if it is the least interval that holds it, or, for a
+//! `Result`, if it does so unless allocation failed.
 //!
-//! The calls of intervals take a few steps and no memory, and have no error. Those of sets say what
-//! they cost; where one makes a set its answer is a `Result`, whose only error is memory that was
-//! refused.
+//! Calls on intervals take a few steps, do not allocate and never fail. Calls on sets document
+//! their cost. Those that make a set return a `Result`, whose only error is a failed allocation.
 ghost use Rattle.std.specs.Prelude.{◌≡◌, ◌↔◌, ◌≤ℤ◌, ℕ, ℤ, IsTrue};
 ghost use Rattle.ivl_laws.specs.Sets.{Above, AtLeast, AtMost, Below, Complement, Differences, ExactProducts, HasNone, HasSome, Intersection, IsBetween, IsInRange, IsProperSubset, IsSubset, Only, SameMembers, Sums, SymmetricDifference, Union, Without};
 ghost use Rattle.ivl_laws.specs.Counts.{IsCountOf};
@@ -19,7 +17,7 @@ use crate::interval::Interval;
 use crate::kleene::SKleene;
 use crate::width::Width;
 
-/// A type whose values are sets of items, as `Interval<B>` with items of type `B`.
+/// A type whose values are sets of items, such as `Interval<B>` with items of type `B`.
 pub trait Collection {
     /// The type of the items.
     type Item;
@@ -31,10 +29,10 @@ pub trait Collection {
     ghost number: { Self.Item → ℤ };
 }
 
-/// A mark: the values are intervals, or sets made of intervals.
+/// A marker: the values are intervals, or sets of intervals.
 pub trait IntervalKind {}
 
-/// A set with no member.
+/// The empty set.
 ///
 /// ```
 /// assert!(rt; Interval::<i32>::empty().is_empty());
@@ -47,8 +45,8 @@ pub trait Empty {
         ensures { HasNone (members result) };
 }
 
-/// The top of the lattice of information, where sets are ordered by `entail`: the fewer members, the more is known, so it
-/// is the empty set.
+/// The top of the lattice of information: the empty set. Sets are ordered by `entail`: the fewer
+/// members, the more information.
 ///
 /// ```
 /// assert_eq!(rt; Interval::<i32>::top(), Interval::empty());
@@ -114,8 +112,8 @@ pub trait Singleton: Collection {
 pub trait Range: Collection {
     ghost whole: { ℤ × ℤ };
 
-    /// Returns the items from `lb` to `ub`, both included; there are none if they cross. The caller
-    /// must ensure that `lb` is not below the range and `ub` is not above it. Check with
+    /// Returns the items from `lb` to `ub`, both included; empty if they cross. The caller must
+    /// ensure that `lb` is not below the range and `ub` is not above it. Check with
     /// `Interval::in_range(lb, ub)`.
     fn new(lb: Self::Item, ub: Self::Item) -> Self
         requires { IsInRange whole (Self.number lb, Self.number ub) }
@@ -129,13 +127,14 @@ pub trait Range: Collection {
 /// assert_eq!(rt; (a.lower(), a.upper()), (3, 8));
 /// ```
 pub trait Bounded: Collection {
-    /// Returns the least member. The caller must ensure that there is one. Check with `is_empty`.
+    /// Returns the least member. The caller must ensure that the set is not empty. Check with
+    /// `is_empty`.
     fn lower(&self) -> Self::Item
         requires { HasSome (Self.members self.now) }
         ensures member { Self.members self.now (Self.number result) }
         ensures least { (z : ℤ) → Self.members self.now z → Self.number result ≤ℤ z };
 
-    /// Returns the greatest member. The caller must ensure that there is one. Check with
+    /// Returns the greatest member. The caller must ensure that the set is not empty. Check with
     /// `is_empty`.
     fn upper(&self) -> Self::Item
         requires { HasSome (Self.members self.now) }
@@ -143,7 +142,7 @@ pub trait Bounded: Collection {
         ensures greatest { (z : ℤ) → Self.members self.now z → z ≤ℤ Self.number result };
 }
 
-/// How many members a set has.
+/// The number of members of a set.
 ///
 /// ```
 /// assert_eq!(rt; Interval::new(-3i32, 3).size(), 7);
@@ -162,7 +161,7 @@ pub trait Cardinality {
         ensures { IsCountOf (size_number result) (members self.now) };
 }
 
-/// Whether a set has no member.
+/// Whether a set is empty.
 ///
 /// ```
 /// assert!(rt; Interval::new(8i32, 3).is_empty());
@@ -170,7 +169,7 @@ pub trait Cardinality {
 pub trait IsEmpty {
     ghost members: { Self → ℤ → Type 0 };
 
-    /// Returns true exactly when there is no member.
+    /// Returns true exactly when the set has no members.
     fn is_empty(&self) -> bool
         ensures members { IsTrue result ↔ HasNone (members self.now) }
         ensures filled { ¬ (IsTrue result) → HasSome (members self.now) };
@@ -184,7 +183,7 @@ pub trait IsEmpty {
 pub trait IsSingleton {
     ghost members: { Self → ℤ → Type 0 };
 
-    /// Returns true exactly when there is one member and no other.
+    /// Returns true exactly when the set has one member and no other.
     fn is_singleton(&self) -> bool
         ensures { IsTrue result ↔ ((x : ℤ) × SameMembers (members self.now) (Only x)) };
 }
@@ -196,7 +195,7 @@ pub trait IsSingleton {
 /// assert!(rt; a.contains(&8) && !a.contains(&9));
 /// ```
 pub trait Contains: Collection {
-    /// Returns true exactly when `item` is a member; any value of its type may be asked for.
+    /// Returns true exactly when `item`, which may be any value of its type, is a member.
     fn contains(&self, item: &Self::Item) -> bool
         ensures { IsTrue result ↔ Self.members self.now (Self.number item.now) };
 }
@@ -259,7 +258,7 @@ pub trait ProperSubset {
         ensures { IsTrue result ↔ IsProperSubset (members self.now) (members other.now) };
 }
 
-/// The members of two sets.
+/// The union of two sets.
 ///
 /// ```
 /// let a = IntervalSet::new(alloc, 1i32, 2)?;
@@ -273,13 +272,13 @@ pub trait Union<R> {
 
     ghost other_members: { R → ℤ → Type 0 };
 
-    /// The two may be united: a single value has to be in the range.
+    /// The condition of the call: a single value must be in the range.
     ghost can_unite: { Self → R → Type 0 };
 
     ghost answers: { Self.Output → (ℤ → Type 0) → Type 0 };
 
-    /// Returns the numbers that are members of at least one of the two. The caller must ensure that
-    /// a single value beside a set is in the range. Check with
+    /// Returns the numbers that are members of at least one of the two. If `other` is a single
+    /// value, the caller must ensure that it is in the range. Check with
     /// `Interval::whole().contains(&value)`.
     fn union(&self, other: &R) -> Self::Output
         requires { can_unite self.now other.now }
@@ -321,8 +320,8 @@ pub trait Difference<R> {
 
     ghost answers: { Self.Output → (ℤ → Type 0) → Type 0 };
 
-    /// Returns the members that are not in `other`, or what holds them where the answer is an
-    /// interval.
+    /// Returns the members that are not in `other`, or the least interval that holds them if the
+    /// result is an interval.
     fn difference(&self, other: &R) -> Self::Output
         ensures { answers result (Without (members self.now) (other_members other.now)) };
 }
@@ -341,13 +340,13 @@ pub trait SymmetricDifference<R> {
 
     ghost other_members: { R → ℤ → Type 0 };
 
-    /// The two may be joined: a single value has to be in the range.
+    /// The condition of the call: a single value must be in the range.
     ghost can_unite: { Self → R → Type 0 };
 
     ghost answers: { Self.Output → (ℤ → Type 0) → Type 0 };
 
-    /// Returns the numbers that are members of exactly one of the two. The caller must ensure that
-    /// a single value beside a set is in the range. Check with
+    /// Returns the numbers that are members of exactly one of the two. If `other` is a single
+    /// value, the caller must ensure that it is in the range. Check with
     /// `Interval::whole().contains(&value)`.
     fn symmetric_difference(&self, other: &R) -> Self::Output
         requires { can_unite self.now other.now }
@@ -367,19 +366,20 @@ pub trait Hull<R> {
 
     ghost other_members: { R → ℤ → Type 0 };
 
-    /// The two may be held by one interval: a single value has to be in the range.
+    /// The condition of the call: a single value must be in the range.
     ghost can_join: { Self → R → Type 0 };
 
     ghost answers: { Self.Output → (ℤ → Type 0) → Type 0 };
 
-    /// Returns what holds the members of both. The caller must ensure that a single value is in the
-    /// range. Check with `Interval::whole().contains(&value)`.
+    /// Returns the least interval that holds the members of both. If one of the two is a single
+    /// value, the caller must ensure that it is in the range. Check with
+    /// `Interval::whole().contains(&value)`.
     fn hull(&self, other: &R) -> Self::Output
         requires { can_join self.now other.now }
         ensures { answers result (Union (members self.now) (other_members other.now)) };
 }
 
-/// Returns the complement within the range of the type.
+/// The complement of a set within the range of its type.
 ///
 /// ```
 /// let a = IntervalSet::new(alloc, 1u8, 254)?;
@@ -432,7 +432,7 @@ pub trait ShrinkRight: Collection {
         ensures { answers result (AtMost (Self.number upper) (Self.members self.now)) };
 }
 
-/// A set cut from the left, with the item itself.
+/// A set cut from the left, excluding the item.
 ///
 /// ```
 /// let a = Interval::new(1i32, 9);
@@ -448,7 +448,7 @@ pub trait StrictShrinkLeft: Collection {
         ensures { answers result (Above (Self.number lower) (Self.members self.now)) };
 }
 
-/// A set cut from the right, with the item itself.
+/// A set cut from the right, excluding the item.
 ///
 /// ```
 /// let a = Interval::new(1i32, 9);
@@ -464,7 +464,7 @@ pub trait StrictShrinkRight: Collection {
         ensures { answers result (Below (Self.number upper) (Self.members self.now)) };
 }
 
-/// What two pieces of information say together: the common members. Sets are ordered by information, so the join is the
+/// The join of two sets: the common members. Sets are ordered by information, so the join is the
 /// intersection, although the word often stands for the union.
 ///
 /// ```
@@ -483,7 +483,7 @@ pub trait Join: Sized {
         ensures { answers result (Intersection (members self) (members other)) };
 }
 
-/// What two pieces of information agree on: what holds the members of either. Sets are ordered by information, so the
+/// The meet of two sets: what holds the members of either. Sets are ordered by information, so the
 /// meet is the union, although the word often stands for the intersection.
 ///
 /// ```
@@ -497,12 +497,13 @@ pub trait Meet: Sized {
 
     ghost answers: { Self.Output → (ℤ → Type 0) → Type 0 };
 
-    /// Returns the members of at least one, or what holds them where the answer is an interval.
+    /// Returns the members of at least one, or the least interval that holds them if the result is
+    /// an interval.
     fn meet(self, other: Self) -> Self::Output
         ensures { answers result (Union (members self) (members other)) };
 }
 
-/// Whether one set says at least as much as another.
+/// Whether one set has at least the information of another.
 ///
 /// ```
 /// let (a, b) = (Interval::new(1i32, 5), Interval::new(4, 9));
@@ -517,7 +518,7 @@ pub trait Entailment {
         ensures { IsEntailmentOf (members self.now) (members other.now) result };
 }
 
-/// A value that is read as an interval.
+/// A value that can be converted to an interval.
 ///
 /// ```
 /// let a: Interval<i32> = (1..=5).to_interval();
@@ -530,8 +531,8 @@ pub trait ToInterval<B: Width> {
     /// The pair of numbers that the value stands for.
     ghost interval: { Self → ℤ × ℤ };
 
-    /// Returns the interval that the value stands for. The caller must ensure that its bounds are
-    /// not outside the range. Check with `Interval::in_range`.
+    /// Returns the interval that the value stands for. The caller must ensure that its lower bound
+    /// is not below the range and its upper bound is not above it. Check with `Interval::in_range`.
     fn to_interval(self) -> Interval<B>
         requires { can_convert self }
         ensures members { SameMembers (IsBetween result) (IsBetween (interval self)) }
@@ -551,8 +552,8 @@ pub trait Fits<R> {
 
     ghost other_members: { R → ℤ → Type 0 };
 
-    /// Returns true exactly when each sum of a member of the one and a member of the other is in
-    /// the range.
+    /// Returns true exactly when each sum of a member of `self` and a member of `other` is in the
+    /// range.
     fn fits_add(&self, other: &R) -> bool
         ensures { IsTrue result ↔ IsSubset (Sums (members self.now) (other_members other.now)) (IsBetween whole) };
 

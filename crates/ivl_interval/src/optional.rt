@@ -6,8 +6,7 @@ use std::marker::Model;
 
 /// A value, or none. A contract sees an option.
 ///
-/// It stands for a set of at most one member, and is `Copy` where its value is. No call takes
-/// memory.
+/// It stands for a set of at most one member, and is `Copy` if its value is. No call allocates.
 ///
 /// ```
 /// let (none, some) = (Optional::empty(), Optional::singleton(5i32));
@@ -73,7 +72,7 @@ impl<T> Optional<T> {
         self.value.is_some()
     }
 
-    /// Returns the value behind a reference, if there is one.
+    /// Returns a reference to the value, or `None` if there is none.
     ///
     /// ```
     /// assert_eq!(rt; Optional::<i32>::empty().as_ref(), None);

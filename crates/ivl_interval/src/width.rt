@@ -12,7 +12,7 @@ mod unsigned;
 /// Its numbers are those from 0 to a greatest one. `u8`, `u16`, `u32`, `u64` and `usize` have it,
 /// and there every value of the type is a number.
 ///
-/// No call takes memory.
+/// No call allocates.
 ///
 /// ```
 /// assert_eq!(rt; <u8 as SizeNumber>::from_number(255), Some(255));
@@ -34,7 +34,7 @@ pub trait SizeNumber: Ord + Copy {
         ensures number { result ≡ size self }
         ensures at_most { size self ≤ greatest };
 
-    /// Returns the value of a number; `None` if the number is above the greatest one.
+    /// Returns the value of a number, or `None` if the number is above the greatest one.
     ///
     /// ```
     /// assert_eq!(rt; <u8 as SizeNumber>::from_number(256), None);
@@ -54,7 +54,7 @@ pub trait SizeNumber: Ord + Copy {
         Self::from_number(0).unwrap()
     }
 
-    /// Returns the sum; `None` if it is not a number of the type.
+    /// Returns the sum, or `None` if it is not a number of the type.
     ///
     /// ```
     /// assert_eq!(rt; <u8 as SizeNumber>::checked_add(200, 55), Some(255));
@@ -67,7 +67,7 @@ pub trait SizeNumber: Ord + Copy {
         Self::from_number(self.number().checked_add(other.number())?)
     }
 
-    /// Returns the difference; `None` if it is negative.
+    /// Returns the difference, or `None` if it is negative.
     ///
     /// ```
     /// assert_eq!(rt; <u8 as SizeNumber>::checked_sub(3, 4), None);
@@ -101,10 +101,10 @@ pub trait SizeNumber: Ord + Copy {
 
 /// The type of the bounds of an interval.
 ///
-/// Each value has a number, and two values of one number are one value. The numbers of intervals
-/// are those of the range, from `min_value()` to `max_value()`; a value outside the range may exist
-/// and be asked for, as `255u8` or `-128i8`. The range holds 0 and 1 and lies in the 64-bit
-/// numbers, and how many numbers it has is a number of `Output`.
+/// Each value has a number, and no two values have the same number. The numbers of intervals are
+/// those of the range, from `min_value()` to `max_value()`; a value outside the range, such as
+/// `255u8` or `-128i8`, is a member of no interval but may be tested. The range holds 0 and 1 and
+/// lies within the 64-bit numbers, and its size is a number of `Output`.
 ///
 /// | Type | from | to | `Output` |
 /// |---|---|---|---|
@@ -152,7 +152,7 @@ pub trait Width: Ord + Copy {
     fn number(self) -> i128
         ensures { result ≡ value self };
 
-    /// Returns the value of a number; `None` if the number is not in the range.
+    /// Returns the value of a number, or `None` if the number is not in the range.
     ///
     /// ```
     /// assert_eq!(rt; <u8 as Width>::from_number(254), Some(254));
@@ -162,8 +162,8 @@ pub trait Width: Ord + Copy {
         ensures known { IsSome result ↔ IsBetween whole number }
         ensures same_number { IfSome result (λ x. value x ≡ number) };
 
-    /// Returns how many numbers lie from `lower` to `upper`, both included. The caller must ensure
-    /// that both are in the range, and `lower` is at most `upper`. Check with
+    /// Returns how many numbers there are from `lower` to `upper`, both included. The caller must
+    /// ensure that both are in the range, and `lower` is at most `upper`. Check with
     /// `Interval::in_range(*lower, *upper)` and `lower <= upper`.
     ///
     /// ```
@@ -200,7 +200,7 @@ pub trait Width: Ord + Copy {
         Self::from_number(1).unwrap()
     }
 
-    /// Returns the sum; `None` if it is not in the range.
+    /// Returns the sum, or `None` if it is not in the range.
     ///
     /// ```
     /// assert_eq!(rt; <u8 as Width>::checked_add(200, 54), Some(254));
@@ -213,7 +213,7 @@ pub trait Width: Ord + Copy {
         Self::from_number(self.number().checked_add(other.number())?)
     }
 
-    /// Returns the difference; `None` if it is not in the range.
+    /// Returns the difference, or `None` if it is not in the range.
     ///
     /// ```
     /// assert_eq!(rt; <u8 as Width>::checked_sub(3, 4), None);
@@ -225,7 +225,7 @@ pub trait Width: Ord + Copy {
         Self::from_number(self.number().checked_sub(other.number())?)
     }
 
-    /// Returns the product; `None` if it is not in the range. Two numbers of 64 bits can have a
+    /// Returns the product, or `None` if it is not in the range. Two numbers of 64 bits can have a
     /// product beyond 128 bits, which is outside every range.
     ///
     /// ```

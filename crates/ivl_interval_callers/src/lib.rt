@@ -1,7 +1,7 @@
-//! What callers of intervals can rest on, each as a function that learns it from the public contracts alone.
+//! What callers of intervals can rely on, each as a function that learns it from the public contracts alone.
 //!
-//! [`callers`] know a type by one bound; [`intervals`] say what each bound's answer is at intervals, in plain numbers;
-//! [`ranges`] give the ranges of the ten integer types.
+//! [`callers`] know a type by one trait bound; [`intervals`] gives the result of each trait for intervals, in plain
+//! numbers; [`ranges`] gives the ranges of the ten integer types.
 #![tactic(auto)]
 
 pub mod callers;

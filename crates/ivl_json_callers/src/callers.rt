@@ -6,7 +6,7 @@ use ivl_json::{JsonFault, JsonForm};
 use serde_json::Value;
 use std::alloc::{AllocError, Global};
 
-/// The value that is written, which reads as what was written.
+/// Returns the written value, which reads back as the original.
 pub fn written_by_bound<T: JsonForm>(alloc: Global, x: &T) -> Result<Value, AllocError>
     ensures written { IfOk result (λ v. view v ≡ T.json x.now) }
     ensures reads_back { IfOk result (λ v. T.reads (view v) x.now) }
@@ -14,7 +14,7 @@ pub fn written_by_bound<T: JsonForm>(alloc: Global, x: &T) -> Result<Value, Allo
     x.to_value(alloc)
 }
 
-/// What a value reads as, or the fault for which it is refused.
+/// Returns what a value reads as, or the fault.
 pub fn read_by_bound<T: JsonForm>(alloc: Global, value: &Value) -> Result<T, JsonFault>
     ensures read { IfOk result (T.reads (view value.now)) }
     ensures fault { IfErr result (T.faults (view value.now)) }
@@ -22,7 +22,7 @@ pub fn read_by_bound<T: JsonForm>(alloc: Global, value: &Value) -> Result<T, Jso
     T::from_value(alloc, value)
 }
 
-/// What is written is read as the same again, or there is no memory.
+/// Returns what was written and read back, which is the same. Fails only if allocation fails.
 pub fn carried_by_bound<T: JsonForm>(alloc: Global, x: &T) -> Result<T, AllocError>
     ensures { IfOk result (T.same x.now) }
 {

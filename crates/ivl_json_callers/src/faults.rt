@@ -1,4 +1,4 @@
-//! What becomes of a fault of an interval, and of a failed allocation, by `?`.
+//! What `?` converts a fault of an interval, and a failed allocation, to.
 ghost use Rattle.std.specs.Prelude.{◌≡◌, ℕ};
 ghost use Rattle.ivl_json.specs.declared.faults.ItemFault.{ItemFault};
 ghost use Rattle.ivl_json.specs.declared.faults.JsonFault.{JsonFault};
@@ -6,7 +6,7 @@ ghost use Rattle.ivl_json.specs.declared.faults.JsonFault.{JsonFault};
 use ivl_json::{ItemFault, JsonFault};
 use std::alloc::AllocError;
 
-/// The fault of the same name.
+/// Returns the fault of the same name.
 pub fn fault_of_interval(fault: ItemFault) -> JsonFault
     ensures shape { fault ≡ ItemFault.Shape → result ≡ JsonFault.Shape }
     ensures length { (n : ℕ) → fault ≡ ItemFault.Length n → result ≡ JsonFault.Length n }
@@ -16,7 +16,7 @@ pub fn fault_of_interval(fault: ItemFault) -> JsonFault
     JsonFault::from(fault)
 }
 
-/// Memory.
+/// Returns `Memory`.
 pub fn fault_of_memory(error: AllocError) -> JsonFault
     ensures { result ≡ JsonFault.Memory }
 {

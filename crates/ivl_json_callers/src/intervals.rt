@@ -17,7 +17,7 @@ use ivl_json::JsonFault;
 use serde_json::Value;
 use std::alloc::{AllocError, Global};
 
-/// Null for no member, else the array of the two bounds.
+/// Returns null for an empty interval, else the array of the two bounds.
 pub fn interval_written<B: Width>(
     alloc: Global,
     interval: &Interval<B>,
@@ -28,7 +28,7 @@ pub fn interval_written<B: Width>(
     callers::written_by_bound(alloc, interval)
 }
 
-/// The interval, or the fault: a failed allocation is none of them.
+/// Returns the interval, or the fault, which is never a failed allocation.
 pub fn interval_read_of<B: Width>(alloc: Global, value: &Value) -> Result<Interval<B>, JsonFault>
     ensures null { view value.now ≡ null → MatchResult result (λ p. HasNone (IsBetween p)) (λ f. ⊥) }
     ensures shape { view value.now ≢ null → as_array (view value.now) ≡ None → result ≡ Err JsonFault.Shape }
@@ -41,7 +41,7 @@ pub fn interval_read_of<B: Width>(alloc: Global, value: &Value) -> Result<Interv
     callers::read_by_bound(alloc, value)
 }
 
-/// Two bytes: the array `[255,0]` is refused, and `[254,0]` has no member.
+/// Returns two bytes read as an interval: the array `[255,0]` is an error, and `[254,0]` is empty.
 pub fn bytes_read(alloc: Global, value: &Value) -> Result<Interval<u8>, JsonFault>
     ensures out_of_range { view value.now ≡ array (item (number (unsigned 255)) (item (number (unsigned 0)) no_items)) → result ≡ Err JsonFault.Range }
     ensures crossed { view value.now ≡ array (item (number (unsigned 254)) (item (number (unsigned 0)) no_items)) → MatchResult result (λ p. HasNone (IsBetween p)) (λ f. ⊥) }
@@ -50,7 +50,7 @@ pub fn bytes_read(alloc: Global, value: &Value) -> Result<Interval<u8>, JsonFaul
     callers::read_by_bound(alloc, value)
 }
 
-/// What is written is read as an interval with the same members.
+/// Returns the interval after writing and reading: it has the same members.
 pub fn interval_carried<B: Width>(
     alloc: Global,
     interval: &Interval<B>,

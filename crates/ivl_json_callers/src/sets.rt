@@ -17,7 +17,7 @@ use ivl_json::JsonFault;
 use serde_json::Value;
 use std::alloc::{AllocError, Global};
 
-/// Null for no run, else the array of the runs, each as an interval is written.
+/// Returns null for an empty set, else the array of the runs, each as an interval is written.
 pub fn set_written<B: Width>(alloc: Global, set: &IntervalSet<B>) -> Result<Value, AllocError>
     ensures empty { set.now ≡ [] → IfOk result (λ v. view v ≡ null) }
     ensures runs { set.now ≢ [] → IfOk result (λ v. view v ≡ array (items_of (map interval_json set.now))) }
@@ -25,7 +25,8 @@ pub fn set_written<B: Width>(alloc: Global, set: &IntervalSet<B>) -> Result<Valu
     callers::written_by_bound(alloc, set)
 }
 
-/// The set of the members of all items, or the first fault; or there is no memory.
+/// Returns the set of the members of all items, or the first fault, or `Memory` if allocation
+/// fails.
 pub fn set_read_of<B: Width>(alloc: Global, value: &Value) -> Result<IntervalSet<B>, JsonFault>
     ensures runs { IfOk result (IsRunListIn B.whole) }
     ensures null { view value.now ≡ null → IfOk result (λ L. HasNone (Covers L)) × IfErr result (λ f. f ≡ JsonFault.Memory) }
@@ -37,7 +38,7 @@ pub fn set_read_of<B: Width>(alloc: Global, value: &Value) -> Result<IntervalSet
     callers::read_by_bound(alloc, value)
 }
 
-/// Sets of bytes: `[[1,2],[3],null]` is refused for its second item, and `[]` has no member.
+/// Returns a set of bytes: `[[1,2],[3],null]` is an error for its second item, and `[]` is empty.
 pub fn byte_sets_read(alloc: Global, value: &Value) -> Result<IntervalSet<u8>, JsonFault>
     ensures second { view value.now ≡ array (item (array (item (number (unsigned 1)) (item (number (unsigned 2)) no_items))) (item (array (item (number (unsigned 3)) no_items)) (item null no_items)))
         → (result ≡ Err JsonFault.Memory) ⊎ (result ≡ Err (JsonFault.At 1 (ItemFault.Length 1))) }
@@ -46,7 +47,7 @@ pub fn byte_sets_read(alloc: Global, value: &Value) -> Result<IntervalSet<u8>, J
     callers::read_by_bound(alloc, value)
 }
 
-/// What is written is read as an equal set.
+/// Returns the set after writing and reading: it is equal.
 pub fn set_carried<B: Width>(
     alloc: Global,
     set: &IntervalSet<B>,

@@ -24,7 +24,8 @@ fn parsed(alloc: Global, text: &str) -> Result<Value, AllocError>
     }
 }
 
-/// What is written as a text is read as the same again, or there is no memory.
+/// Returns what was written as text and read back, which is the same. Fails only if allocation
+/// fails.
 pub fn carried_as_text<T: JsonForm>(alloc: Global, x: &T) -> Result<T, AllocError>
     requires { depth (T.json x.now) ≤ max_depth }
     ensures { IfOk result (T.same x.now) }
@@ -38,7 +39,7 @@ pub fn carried_as_text<T: JsonForm>(alloc: Global, x: &T) -> Result<T, AllocErro
     }
 }
 
-/// An interval that is carried through its text has the same members.
+/// Returns an interval carried through its text: it has the same members.
 pub fn interval_text_reads_back<B: Width>(
     alloc: Global,
     interval: &Interval<B>,
@@ -48,7 +49,7 @@ pub fn interval_text_reads_back<B: Width>(
     carried_as_text(alloc, interval)
 }
 
-/// A set that is carried through its text is equal to itself.
+/// Returns a set carried through its text: it is equal.
 pub fn set_text_reads_back<B: Width>(
     alloc: Global,
     set: &IntervalSet<B>,

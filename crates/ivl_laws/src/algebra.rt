@@ -5,13 +5,13 @@ ghost use Rattle.ivl_laws.specs.Sets.{Above, AtLeast, AtMost, Below, Complement,
 
 use crate::sets::NumberSet;
 
-/// What two sets do not have together is what neither has.
+/// The complement of a union is the intersection of the complements.
 pub fn complement_of_union<S: NumberSet, T: NumberSet>()
     ensures { (whole : ℤ × ℤ) → SameMembers (Complement whole (Union S.members T.members))
         (Intersection (Complement whole S.members) (Complement whole T.members)) }
 {}
 
-/// What two sets do not share is what one of them lacks.
+/// The complement of an intersection is the union of the complements.
 pub fn complement_of_intersection()
     ensures { (whole : ℤ × ℤ) (L M : List (ℤ × ℤ)) → SameMembers (Complement whole (Intersection (Covers L) (Covers M)))
         (Union (Complement whole (Covers L)) (Complement whole (Covers M))) }
@@ -23,17 +23,17 @@ pub fn complement_twice()
         SameMembers (Complement whole (Complement whole (Covers L))) (Covers L) }
 {}
 
-/// A set is a subset of another exactly where their union is the other.
+/// A set is a subset of another exactly when their union is the other.
 pub fn subset_by_union<S: NumberSet, T: NumberSet>()
     ensures { IsSubset S.members T.members ↔ SameMembers (Union S.members T.members) T.members }
 {}
 
-/// A list of runs lies within another exactly where the runs of their union are those of the other.
+/// A list of runs lies within another exactly when the runs of their union are those of the other.
 pub fn subset_by_union_of_runs()
     ensures { (L M R : List (ℤ × ℤ)) → IsMaximal M → IsRunsOf R (Union (Covers L) (Covers M)) → (IsSubset (Covers L) (Covers M) ↔ (R ≡ M)) }
 {}
 
-/// A difference is the part of the complement, and a symmetric one what the union has beside the intersection.
+/// A difference is the intersection with the complement, and a symmetric difference the union without the intersection.
 pub fn differences_by_complement<S: NumberSet, T: NumberSet>()
     ensures difference { (whole : ℤ × ℤ) → IsSubset S.members (IsBetween whole) →
         SameMembers (Without S.members T.members) (Intersection S.members (Complement whole T.members)) }
@@ -41,7 +41,7 @@ pub fn differences_by_complement<S: NumberSet, T: NumberSet>()
         (Without (Union S.members T.members) (Intersection S.members T.members)) }
 {}
 
-/// What a set within a range has on one side of a number is what it shares with an interval.
+/// The members of a set within a range on one side of a number are its intersection with an interval.
 pub fn shrinks_are_cuts<S: NumberSet>()
     ensures at_least { (whole : ℤ × ℤ) (v : ℤ) → IsSubset S.members (IsBetween whole) →
         SameMembers (AtLeast v S.members) (Intersection S.members (IsBetween (v, whole.1))) }

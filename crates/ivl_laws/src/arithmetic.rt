@@ -6,21 +6,20 @@ ghost use Rattle.ivl_laws.specs.Sets.{Differences, ExactProducts, IsBetween, IsS
 
 use crate::sets::NumberSet;
 
-/// The sums of two intervals that are not crossed make up an interval again, and so do the differences.
+/// The sums of two intervals that are not crossed are an interval, and so are the differences.
 pub fn arithmetic_of_intervals()
     ensures sums { (p q : ℤ × ℤ) → p.0 ≤ℤ p.1 → q.0 ≤ℤ q.1 → SameMembers (IsBetween (interval_sum p q)) (Sums (IsBetween p) (IsBetween q)) }
     ensures differences { (p q : ℤ × ℤ) → p.0 ≤ℤ p.1 → q.0 ≤ℤ q.1 → SameMembers (IsBetween (interval_difference p q)) (Differences (IsBetween p) (IsBetween q)) }
 {}
 
-/// Sums, differences and products of sets, from their runs.
+/// The sums, differences and products of sets are those over each pair of their runs.
 pub fn arithmetic_by_runs()
     ensures sums { (L M : List (ℤ × ℤ)) → IsMaximal L → IsMaximal M → SameMembers (Sums (Covers L) (Covers M)) (Covers (pairwise interval_sum L M)) }
     ensures differences { (L M : List (ℤ × ℤ)) → IsMaximal L → IsMaximal M → SameMembers (Differences (Covers L) (Covers M)) (Covers (pairwise interval_difference L M)) }
     ensures products { (L M : List (ℤ × ℤ)) → IsMaximal L → IsMaximal M → SameMembers (Products (Covers L) (Covers M)) (Covers (pairwise corner_hull L M)) }
 {}
 
-/// The results over each pair of n runs with each pair of m runs are n times m, and that of run i and
-/// run j stands at place i * m + j.
+/// There are n times m results over the pairs of n runs and m runs, and that of run i and run j is at place i * m + j.
 pub fn places_of_pairs()
     ensures length { (f : ℤ × ℤ → ℤ × ℤ → ℤ × ℤ) (L M : List (ℤ × ℤ)) → length (pairwise f L M) ≡ length L * length M }
     ensures place { (f : ℤ × ℤ → ℤ × ℤ → ℤ × ℤ) (L M : List (ℤ × ℤ)) (i j : ℕ) (d : ℤ × ℤ) → i < length L → j < length M →
@@ -49,7 +48,7 @@ pub fn arithmetic_of_runs_is_monotone()
         IsRunsOf R (Products (Covers L) (Covers M)) → IsRunsOf S (Products (Covers N) (Covers O)) → IsSubset (Covers R) (Covers S) }
 {}
 
-/// A number beside a set counts as the set of one run that holds it alone.
+/// A number as an operand counts as the set of one run that holds it alone.
 pub fn arithmetic_with_a_number<S: NumberSet>()
     ensures sums { (c : ℤ) → SameMembers (Sums S.members (Only c)) (Sums S.members (Covers ((c, c) ∷ []))) }
     ensures differences { (c : ℤ) → SameMembers (Differences S.members (Only c)) (Differences S.members (Covers ((c, c) ∷ []))) }
@@ -57,7 +56,7 @@ pub fn arithmetic_with_a_number<S: NumberSet>()
     ensures products { (c : ℤ) → SameMembers (Products S.members (Only c)) (Products S.members (Covers ((c, c) ∷ []))) }
 {}
 
-/// The products of members are among all products, and all products lie within a pair where those do.
+/// The exact products are among the products, and the products lie within a pair exactly when the exact ones do.
 pub fn products_fit<S: NumberSet, T: NumberSet>()
     ensures among { IsSubset (ExactProducts S.members T.members) (Products S.members T.members) }
     ensures fit { (w : ℤ × ℤ) → (IsSubset (ExactProducts S.members T.members) (IsBetween w) ↔ IsSubset (Products S.members T.members) (IsBetween w)) }

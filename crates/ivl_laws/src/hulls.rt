@@ -10,7 +10,7 @@ pub fn hull_is_least<S: NumberSet>()
     ensures { (p q : ℤ × ℤ) → IsHullOf p S.members → IsSubset S.members (IsBetween q) → IsSubset (IsBetween p) (IsBetween q) }
 {}
 
-/// A set has one hull: one pair where it has a member, and else any crossed pair.
+/// A set has one hull: one pair if it has a member, and otherwise any crossed pair.
 pub fn hull_is_unique<S: NumberSet>()
     ensures members { (p q : ℤ × ℤ) → IsHullOf p S.members → IsHullOf q S.members → SameMembers (IsBetween p) (IsBetween q) }
     ensures pair { (p q : ℤ × ℤ) → HasSome S.members → IsHullOf p S.members → IsHullOf q S.members → p ≡ q }

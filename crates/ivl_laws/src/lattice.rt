@@ -1,5 +1,5 @@
-//! The lattice of sets and that of intervals. A set stands below its subsets: the join of two is
-//! their intersection; their meet is the union, and of two intervals the hull of the union.
+//! The lattice of sets and that of intervals. A set is below its subsets: the join of two sets is their intersection,
+//! and their meet the union. The meet of two intervals is the hull of their union.
 ghost use Rattle.std.specs.Prelude.{◌↔◌, ℤ};
 ghost use Rattle.ivl_laws.specs.Sets.{Intersection, IsBetween, IsHullOf, IsSubset, SameMembers, Union};
 
@@ -11,7 +11,7 @@ pub fn bounds_of_sets<S: NumberSet, T: NumberSet, U: NumberSet>()
     ensures meet { IsSubset (Union S.members T.members) U.members ↔ (IsSubset S.members U.members × IsSubset T.members U.members) }
 {}
 
-/// Join and meet of sets make a lattice.
+/// Join and meet of sets form a lattice.
 pub fn lattice_of_sets<S: NumberSet, T: NumberSet, U: NumberSet>()
     ensures join_commutes { SameMembers (Intersection S.members T.members) (Intersection T.members S.members) }
     ensures meet_commutes { SameMembers (Union S.members T.members) (Union T.members S.members) }
@@ -31,7 +31,7 @@ pub fn intervals_have_bounds()
     ensures meet { (p q : ℤ × ℤ) → (r : ℤ × ℤ) × IsHullOf r (Union (IsBetween p) (IsBetween q)) }
 {}
 
-/// The join of intervals commutes, associates and is idempotent, and a join with the meet gives the interval back.
+/// The join of intervals is commutative, associative and idempotent, and the join with a meet gives the interval back.
 pub fn join_of_intervals()
     ensures commutes { (p q : ℤ × ℤ) → SameMembers (Intersection (IsBetween p) (IsBetween q)) (Intersection (IsBetween q) (IsBetween p)) }
     ensures associates { (p q s : ℤ × ℤ) → SameMembers (Intersection (Intersection (IsBetween p) (IsBetween q)) (IsBetween s))
@@ -41,8 +41,8 @@ pub fn join_of_intervals()
         SameMembers (Intersection (IsBetween p) (IsBetween meet)) (IsBetween p) }
 {}
 
-/// The meet of intervals commutes, associates and is idempotent, and a meet with the join gives the interval back. Answers
-/// of the two orders have the same members, and a meet lies within every interval that holds both.
+/// The meet of intervals is commutative, associative and idempotent, and the meet with a join gives the interval back.
+/// Both orders have the same members, and a meet lies within every interval that holds both.
 pub fn meet_of_intervals()
     ensures commutes { (p q r : ℤ × ℤ) → IsHullOf r (Union (IsBetween p) (IsBetween q)) → IsHullOf r (Union (IsBetween q) (IsBetween p)) }
     ensures agrees { (p q r s : ℤ × ℤ) → IsHullOf r (Union (IsBetween p) (IsBetween q)) → IsHullOf s (Union (IsBetween q) (IsBetween p)) →

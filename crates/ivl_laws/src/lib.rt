@@ -1,4 +1,4 @@
-//! The laws of interval sets, over sets of whole numbers and lists of runs. Each function here does
+//! The laws of interval sets, over sets of integers and lists of runs. Each function here does
 //! nothing: its contract is the law.
 #![tactic(auto)]
 

@@ -16,14 +16,15 @@ pub fn one_list_for_one_set<S: NumberSet>()
     ensures { (L M : List (ℤ × ℤ)) → IsRunsOf L S.members → IsRunsOf M S.members → L ≡ M }
 {}
 
-/// How many runs a union, an intersection and a complement have at most.
+/// A union or an intersection has at most as many runs as both operands together, and a complement
+/// at most one run more than its operand.
 pub fn run_counts()
     ensures union { (L M R : List (ℤ × ℤ)) → IsRunsOf R (Union (Covers L) (Covers M)) → length R ≤ length L + length M }
     ensures intersection { (L M R : List (ℤ × ℤ)) → IsRunsOf R (Intersection (Covers L) (Covers M)) → length R ≤ length L + length M }
     ensures complement { (whole : ℤ × ℤ) (L R : List (ℤ × ℤ)) → IsRunsOf R (Complement whole (Covers L)) → length R ≤ length L + 1 }
 {}
 
-/// Two numbers are in one run of a set where one pair of its maximal list covers both.
+/// Two numbers are in one run of a set exactly when one pair of its maximal list covers both.
 pub fn one_run_is_one_pair()
     ensures { (L : List (ℤ × ℤ)) (x y : ℤ) → IsMaximal L → (InOneRun (Covers L) x y ↔ CoversBoth L x y) }
 {}

@@ -1,4 +1,4 @@
-//! Laws of how many members sets have.
+//! Laws of the sizes of sets.
 ghost use Rattle.std.specs.Prelude.{◌≡◌, ℕ, ◌+◌, ◌≤◌, ◌↔◌, ℤ, List, sum_by};
 ghost use Rattle.ivl_laws.specs.Bounds.{width_of};
 ghost use Rattle.ivl_laws.specs.Counts.{IsCountOf};
@@ -7,8 +7,9 @@ ghost use Rattle.ivl_laws.specs.Sets.{Complement, HasNone, Intersection, IsBetwe
 
 use crate::sets::NumberSet;
 
-/// How many members lists of runs cover: one count each, a sublist's no more, and with as many the same numbers; those of
-/// two lists together are those of their union and their intersection, and those of the range are a list's and the rest's.
+/// Lists of runs have one count each. A list within another has no larger count, and with an equal count covers the
+/// same numbers. The counts of two lists add up to those of their union and intersection, and those of a list and its
+/// complement to that of the range.
 pub fn counts_of_runs()
     ensures unique { (L : List (ℤ × ℤ)) (m n : ℕ) → IsCountOf m (Covers L) → IsCountOf n (Covers L) → m ≡ n }
     ensures at_most { (L M : List (ℤ × ℤ)) (m n : ℕ) → IsSubset (Covers L) (Covers M) → IsCountOf m (Covers L) → IsCountOf n (Covers M) → m ≤ n }
@@ -35,7 +36,7 @@ pub fn count_of_subset<S: NumberSet, T: NumberSet>()
     ensures all { (n : ℕ) → IsSubset S.members T.members → IsCountOf n S.members → IsCountOf n T.members → SameMembers S.members T.members }
 {}
 
-/// A set has 0 members where it has none, and 1 where it is one number alone.
+/// A set has 0 members exactly when it is empty, and 1 exactly when it is one number alone.
 pub fn small_counts<S: NumberSet>()
     ensures none { IsCountOf 0 S.members ↔ HasNone S.members }
     ensures one { IsCountOf 1 S.members ↔ ((x : ℤ) × SameMembers S.members (Only x)) }
@@ -47,14 +48,14 @@ pub fn counts_are_widths()
     ensures runs { (L : List (ℤ × ℤ)) → IsMaximal L → IsCountOf (sum_by width_of L) (Covers L) }
 {}
 
-/// A union and an intersection have as many members as the two sets together.
+/// A union and an intersection together have as many members as the two sets together.
 pub fn union_and_intersection_counts<S: NumberSet, T: NumberSet>()
     ensures { (a b c d : ℕ) → IsCountOf a S.members → IsCountOf b T.members →
         IsCountOf c (Union S.members T.members) → IsCountOf d (Intersection S.members T.members) →
         c + d ≡ a + b }
 {}
 
-/// A set and its complement have as many members as the whole.
+/// A set and its complement together have as many members as the whole.
 pub fn complement_counts<S: NumberSet>()
     ensures { (whole : ℤ × ℤ) (a b c : ℕ) → IsSubset S.members (IsBetween whole) →
         IsCountOf a S.members → IsCountOf b (Complement whole S.members) → IsCountOf c (IsBetween whole) →

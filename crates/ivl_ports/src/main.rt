@@ -1,5 +1,5 @@
-//! Hands out TCP ports from 1024 to 65535, one request a line: `take 8` takes the eight lowest consecutive free ports,
-//! `give 1024 1031` gives ports back, `free` prints those that are free.
+//! Hands out TCP ports from 1024 to 65535, one request per line: `take 8` takes the eight lowest consecutive free
+//! ports, `give 1024 1031` gives ports back, `free` prints the free ports.
 #![tactic(auto)]
 
 mod ports;

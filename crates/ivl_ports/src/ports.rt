@@ -1,4 +1,4 @@
-//! An allocator of ports: it takes the lowest free ones that are consecutive.
+//! An allocator of ports, which takes the lowest consecutive free ones.
 ghost use Rattle.std.specs.Prelude.{◌≡◌, ◌↔◌, ◌<◌, ◌≤◌, ℤ, pos, ◌∷◌, [], List, IfOk, IsTrue, MatchOption, OnErr, OnOk};
 ghost use Rattle.ivl_laws.specs.Counts.{IsCountOf};
 ghost use Rattle.ivl_laws.specs.Sets.{HasNone, Intersection, IsBetween, Union, Without};
@@ -64,12 +64,12 @@ impl Ports {
         !self.free.overlap(ports)
     }
 
-    /// Takes the lowest `count` consecutive free ports, or returns `None` if there are not so many.
-    /// The caller must ensure that `count` is above 0.
+    /// Takes and returns the lowest `count` consecutive free ports, or returns `None` if there are none. The caller
+    /// must ensure that `count` is above 0.
     ///
     /// # Errors
     ///
-    /// Fails only if allocation fails. Nothing is taken then.
+    /// Fails only if allocation fails. No port is then taken.
     pub fn take(&mut self, count: u32) -> Result<Option<Interval<u32>>, AllocError>
         requires { 0 < count }
         ensures none { IfOk result (λ o. MatchOption o (((v : ℤ) → ¬ (FitsAt count (Covers self.old) v)) × (self.new ≡ self.old))
@@ -83,11 +83,11 @@ impl Ports {
         Ok(Some(ports))
     }
 
-    /// Gives ports back; those that are free already stay free.
+    /// Gives ports back; ports that are already free stay free.
     ///
     /// # Errors
     ///
-    /// Fails only if allocation fails. Nothing is given back then.
+    /// Fails only if allocation fails. No port is then given back.
     pub fn give_back(&mut self, ports: Interval<u32>) -> Result<(), AllocError>
         ensures ok { OnOk result (IsRunsOf self.new (Union (Covers self.old) (IsBetween ports))) }
         ensures err { OnErr result (self.new ≡ self.old) }

@@ -1,4 +1,4 @@
-//! What a line asks of the allocator, and the line that answers it.
+//! The requests of the allocator and their answers, one line each.
 ghost use Rattle.std.specs.Prelude.{◌≡◌, ◌≤◌, pos, IfSome, OnOk};
 ghost use Rattle.ivl_laws.specs.Runs.{Covers};
 ghost use Rattle.ivl_laws.specs.Sets.{IsBetween, IsSubset};
@@ -11,12 +11,12 @@ use intervallum::ops::Range;
 use ivl_words::{next_word, number_from, one_word, two_words};
 use std::alloc::{AllocError, Global};
 
-/// Returns the answer to a line: the ports that were taken, `none`, `ok`, the free ports, or what is
-/// wrong with the line, which then changes nothing.
+/// Returns the answer to a line: the ports that were taken, `none`, `ok`, the free ports, or an error message. A line
+/// with an error changes nothing.
 ///
 /// # Errors
 ///
-/// Fails only if allocation fails. The ports that the line takes may be taken then.
+/// Fails only if allocation fails. A `take` or `give` may then have taken effect.
 ///
 /// ```
 /// let mut ports = Ports::new(alloc, 1024, 65535)?;
@@ -104,7 +104,7 @@ fn given_from(words: &str) -> Option<Interval<u32>>
     }
 }
 
-/// The number that a word is, or `None` if it is no number from 0 to 65535.
+/// The number that a word is, or `None` if it is not a number from 0 to 65535.
 fn port_from(word: &str) -> Option<u32>
     ensures value { result ≡ port_of word.now }
     ensures within { IfSome result (λ port. port ≤ 65535) }

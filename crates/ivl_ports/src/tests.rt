@@ -1,4 +1,4 @@
-//! Ports taken and given back, against a plain list of flags.
+//! Ports taken and given back, compared with a plain list of flags.
 
 use crate::ports::Ports;
 use crate::requests::answer;
@@ -43,7 +43,7 @@ fn lines_and_answers(rt: HostRuntime) -> Result<(), Fail> {
     Ok(())
 }
 
-/// The least place from which so many flags are up.
+/// The least index from which `count` flags are up.
 fn first_free(flags: &[bool], count: usize) -> Option<usize> {
     let mut length: usize = 0;
     for (place, flag) in flags.iter().enumerate() {
@@ -55,7 +55,7 @@ fn first_free(flags: &[bool], count: usize) -> Option<usize> {
     None
 }
 
-/// Takes from 1 to 8 ports: the lowest of which so many flags are up, which then go down.
+/// Takes from 1 to 8 ports: the lowest consecutive ones whose flags are up, which then go down.
 fn take_some(
     rt: &impl Abort,
     ports: &mut Ports,

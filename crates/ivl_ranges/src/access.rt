@@ -1,4 +1,4 @@
-//! Accesses `a[i + k]`, where a set is known for each of the two.
+//! Accesses `a[i + k]`, given a set of values for each of `i` and `k`.
 ghost use Rattle.std.specs.Prelude.{◌≡◌, ◌↔◌, ◌^◌, ℤ, pos, ◌+ℤ◌, ◌<ℤ◌, ◌<◌, ℕ, IfOk, IsTrue, length as count};
 ghost use Rattle.ivl_laws.specs.Families.{set_at};
 ghost use Rattle.ivl_laws.specs.Runs.{Covers, IsRunsOf};
@@ -14,7 +14,7 @@ use std::alloc::{AllocError, Global};
 /// Returns true if and only if `i + k` is an index of an array of this length for all members `i` of
 /// the first set and `k` of the second.
 ///
-/// Makes the set of the sums: `O(n m log (n m))` for `n` and `m` runs, in memory for twice `n * m` runs.
+/// Builds the set of the sums: `O(n m log (n m))` time and `O(n m)` memory for `n` and `m` runs.
 ///
 /// # Errors
 ///
@@ -28,15 +28,15 @@ use std::alloc::{AllocError, Global};
 /// ```
 pub fn is_safe(alloc: Global, sets: &[IntervalSet<i64>], length: u32) -> Result<bool, EvalFault>
     ensures safe { IfOk result (λ r. IsTrue r ↔ IsSubset (Sums (set_at sets.now 0) (set_at sets.now 1)) (IsIndexOf length)) }
-    // of sets that are missing the first is told
+    // the error names the first set that is missing
     ensures missing { (i : ℕ) → (result ≡ Err (EvalFault.Missing i)) → (i ≡ count sets.now) × (i < 2) }
 {
     let sums = sums(alloc, sets)?;
     Ok(are_indexes(alloc, &sums, length)?)
 }
 
-/// Returns the members `i` of `index` for which `i + k` is an index of an array of this length
-/// whatever member of `offset` `k` is. So all of `index` if `offset` is empty.
+/// Returns the members `i` of `index` for which `i + k` is an index of an array of this length for every member `k` of
+/// `offset`, so all of `index` if `offset` is empty.
 ///
 /// `O(n)` for the `n` runs of `index`. Fails only if allocation fails.
 ///
@@ -62,7 +62,7 @@ pub fn safe_indexes(
 /// The sums of a member of each of the first two sets.
 fn sums(alloc: Global, sets: &[IntervalSet<i64>]) -> Result<IntervalSet<i64>, EvalFault>
     ensures members { IfOk result (λ L. IsRunsOf L (Sums (set_at sets.now 0) (set_at sets.now 1))) }
-    // of sets that are missing the first is told
+    // the error names the first set that is missing
     ensures missing { (i : ℕ) → (result ≡ Err (EvalFault.Missing i)) → (i ≡ count sets.now) × (i < 2) }
 {
     let sum = Expr::Add(variable(alloc, 0)?, variable(alloc, 1)?);
@@ -94,8 +94,7 @@ fn indexes(alloc: Global, length: u32) -> Result<IntervalSet<i64>, AllocError>
     IntervalSet::new(alloc, 0, i64::from(length) - 1)
 }
 
-/// The numbers to which every member of a set can be added to give an index, as far as they are
-/// values of `i64`.
+/// The numbers whose sum with every member of a set is an index, as far as they are values of `i64`.
 fn window(offset: &IntervalSet<i64>, length: u32) -> Interval<i64>
     requires { HasSome (Covers offset.now) }
     ensures { (x : ℤ) → x <ℤ pos (2 ^ 63) → IsBetween result x ↔ ((y : ℤ) → Covers offset.now y → IsIndexOf length (x +ℤ y)) }

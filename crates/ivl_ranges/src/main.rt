@@ -1,5 +1,5 @@
-//! Tells which accesses `a[i + k]` are within bounds, one request a line: `i 0..7` and `k -1..1 5..5`
-//! give the values that the two may have, `length 10` the length of the array, and `check` asks.
+//! Checks which accesses `a[i + k]` are within bounds, one request per line: `i 0..7` and `k -1..1 5..5` give the
+//! values that `i` and `k` may have, `length 10` gives the length of the array, and `check` prints the result.
 #![tactic(auto)]
 
 mod access;

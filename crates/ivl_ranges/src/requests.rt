@@ -1,4 +1,4 @@
-//! What a line tells or asks of an access, and the line that answers it.
+//! The requests about an access and their answers, one line each.
 ghost use Rattle.std.specs.Prelude.{◌<◌};
 
 use crate::access::{is_safe, safe_indexes};
@@ -17,7 +17,7 @@ pub struct Access {
 }
 
 impl Access {
-    /// An access to an array of no element, by an `i` and a `k` that have no value.
+    /// Returns an access to an empty array, with no values of `i` and `k`.
     pub fn new(alloc: Global) -> Access {
         Access {
             sets: [IntervalSet::empty(alloc), IntervalSet::empty(alloc)],
@@ -25,8 +25,8 @@ impl Access {
         }
     }
 
-    /// Returns the answer to a line: `ok`, what the check tells, or what is wrong with the line,
-    /// which then changes nothing.
+    /// Returns the answer to a line: `ok`, the result of the check, or an error message. A line
+    /// with an error changes nothing.
     pub fn answer(&mut self, alloc: Global, line: &str) -> Result<String, EvalFault> {
         let (name, words) = next_word(line).unwrap_or(("", ""));
         match name {
@@ -74,7 +74,7 @@ impl Access {
     }
 }
 
-/// The numbers of some ranges, or `None` if a word is no range. At least one range is wanted.
+/// The numbers of the ranges, or `None` if there is no word, or one that is not a range.
 fn set_from(alloc: Global, words: &str) -> Result<Option<IntervalSet<i64>>, AllocError> {
     let mut set = IntervalSet::empty(alloc);
     for word in words.split(' ') {
@@ -89,7 +89,7 @@ fn set_from(alloc: Global, words: &str) -> Result<Option<IntervalSet<i64>>, Allo
     Ok(if set.is_empty() { None } else { Some(set) })
 }
 
-/// A range as it is written: its two ends, with two dots between them.
+/// Reads a range: its two ends, with two dots between them.
 fn range_from(word: &str) -> Option<Interval<i64>> {
     let (lower, upper) = word.split_once("..")?;
     let (lower, upper) = (number_from(lower)?, number_from(upper)?);

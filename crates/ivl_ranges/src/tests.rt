@@ -76,7 +76,7 @@ fn is_safe_with_each(i: i64, offsets: &IntervalSet<i64>, length: u32) -> bool {
     true
 }
 
-/// The answers about two sets are those of trying all pairs.
+/// The results for two sets are those of trying all pairs.
 fn check_pairs(
     rt: &impl Abort,
     alloc: Global,

@@ -1,4 +1,4 @@
-//! A type of bounds with two values: the shortest range that there may be.
+//! A type of bounds with two values: the shortest possible range.
 ghost use Rattle.std.specs.Prelude.{Some, pos, refl};
 ghost use Rattle.std.proofs.Common.{rules};
 

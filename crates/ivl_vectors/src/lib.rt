@@ -1,6 +1,6 @@
-//! Bound types that a user could write, and tests of the interval crates with answers from outside.
+//! Bound types that a user could write, and tests of the interval crates with expected values from outside.
 //!
-//! The crates below are proved generically. Here stand two types of bounds, [`bit`] and [`narrow`], which use every
+//! The crates below are proved generically. This crate has two types of bounds, [`bit`] and [`narrow`], which use every
 //! layer through the public contracts alone; their ranges in plain numbers; and the tests.
 #![tactic(auto)]
 

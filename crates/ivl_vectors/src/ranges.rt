@@ -1,4 +1,4 @@
-//! The ranges of the two types of bounds, how many numbers they have, and a text, as plain numbers.
+//! The ranges of the two types of bounds and their sizes in plain numbers, and a text.
 ghost use Rattle.std.specs.Prelude.{◌≡◌, negsuc, pos, codes, IfOk, string_bytes};
 
 use crate::bit::Bit;
@@ -14,7 +14,7 @@ pub fn whole_of_bit() -> Interval<Bit>
     Interval::whole()
 }
 
-/// Returns how many numbers the range of [`Bit`] has.
+/// Returns the size of the range of [`Bit`].
 pub fn size_of_bit() -> u8
     ensures { result ≡ 2 }
 {
@@ -28,7 +28,7 @@ pub fn whole_of_narrow() -> Interval<Narrow>
     Interval::whole()
 }
 
-/// Returns how many numbers the range of [`Narrow`] has.
+/// Returns the size of the range of [`Narrow`].
 pub fn size_of_narrow() -> u16
     ensures { result ≡ 201 }
 {

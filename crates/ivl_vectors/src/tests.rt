@@ -1,5 +1,5 @@
-//! Tests of what no file of answers can name: own types of bounds, each form of an operand, walks and iterators, and
-//! the texts of `Debug`. Expected values are worked by hand.
+//! Tests of what no file of expected values can name: custom types of bounds, each form of an operand, walks and
+//! iterators, and the texts of `Debug`. Expected values are worked out by hand.
 mod debug_texts;
 mod fixtures;
 mod operands;

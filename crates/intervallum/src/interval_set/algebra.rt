@@ -1,4 +1,4 @@
-//! Operations on sets, by members.
+//! Set operations.
 ghost use Rattle.std.specs.Prelude.{◌↔◌, ◌≤◌, ◌+◌, IfOk, IsTrue, length, ⊤};
 ghost use Rattle.ivl_laws.specs.Sets.{Complement, HasNone, HasSome, Intersection, SymmetricDifference, Union, Without};
 ghost use Rattle.ivl_laws.specs.Runs.{Covers, IsRunsOf};
@@ -47,10 +47,12 @@ impl<B: Width> Intersection<IntervalSet<B>> for IntervalSet<B> {
 
     ghost answers = { λ r S. IfOk r (λ L. IsRunsOf L S) };
 
-    /// Returns the members of both sets. `O(n + m)`, and less where one of the sets has far fewer
-    /// runs: it searches for each of its `k` runs from where the last one was found, `O(k log n)`
-    /// and a copy of the answer's runs. Reserves `n + m` runs once, or the few, and shrinks the result
-    /// if less than half is used. Fails only if allocation fails.
+    /// Returns the members of both sets. `O(n + m)`. Reserves `n + m` runs once and shrinks the
+    /// result if less than half is used. Fails only if allocation fails.
+    ///
+    /// If one set has far fewer runs, searches for each of its `k` runs among the `n` of the other,
+    /// from where the last search ended: `O(k log n)`, plus a copy of the runs of the result. It
+    /// then reserves `k` runs, and more as the result grows.
     ///
     /// ```
     /// let (a, b) = (IntervalSet::new(alloc, 1, 5)?, IntervalSet::new(alloc, 4, 9)?);
@@ -80,10 +82,12 @@ impl<B: Width> Difference<IntervalSet<B>> for IntervalSet<B> {
     ghost answers = { λ r S. IfOk r (λ L. IsRunsOf L S) };
 
     /// Returns the members that are not in `other`. `O(n + m)`. Reserves `n + m` runs once and
-    /// shrinks the result if less than half is used. Where one of the sets has far fewer runs, each of
-    /// its `k` runs is searched for from where the last one was found: `O(k log n)`, and a copy of the
-    /// runs that they meet, or of the answer's; the complement of `other`, or what the two have in
-    /// common, is kept meanwhile. Fails only if allocation fails.
+    /// shrinks the result if less than half is used. Fails only if allocation fails.
+    ///
+    /// If one set has far fewer runs, searches for each of its `k` runs among the `n` of the other,
+    /// from where the last search ended: `O(k log n)`, plus a copy of the runs of the result or of
+    /// those that the `k` runs overlap. It then reserves memory as it copies runs, and also builds
+    /// the complement of `other`, or the intersection of the two, which it drops at the end.
     ///
     /// ```
     /// let (a, b) = (IntervalSet::new(alloc, 1, 5)?, IntervalSet::new(alloc, 4, 9)?);
@@ -122,7 +126,7 @@ impl<B: Width> SymmetricDifference<IntervalSet<B>> for IntervalSet<B> {
     /// assert!(rt; a.symmetric_difference(&b)? == [(1, 3), (6, 9)].to_interval_set(alloc)?);
     /// ```
     ///
-    /// No other set is built on the way.
+    /// Builds no intermediate set.
     fn symmetric_difference(&self, other: &IntervalSet<B>) -> Result<IntervalSet<B>, AllocError>
         ensures members { IfOk result (λ L. IsRunsOf L (SymmetricDifference (Covers self.now) (Covers other.now))) }
         ensures runs_at_most { IfOk result (λ L. length L ≤ length self.now + length other.now) }

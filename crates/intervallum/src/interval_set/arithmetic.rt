@@ -1,12 +1,12 @@
 //! Sums, differences and products of sets, and of a set with a value.
 //!
-//! Each operand is owned or borrowed. The condition of each call is that its results are in the range:
-//! `fits_add`, `fits_sub` and `fits_mul` test it, and with an empty operand it always holds. Each call
-//! answers a new set, in memory that it asks for; the operands stay as they are, and an owned one is
-//! let go.
+//! Each operand is owned or borrowed. The caller must ensure that the results of each call are in
+//! the range: check with `fits_add`, `fits_sub` and `fits_mul`. With an empty operand this always
+//! holds. Each call returns a new set; borrowed operands are unchanged, and owned ones are
+//! consumed. Two sets with more than `usize::MAX` pairs of runs count as a failed allocation.
 //!
-//! Sums and differences are those of a member of each. A product set holds, for each pair of runs, all
-//! numbers from the least to the greatest product of the two: `{[1..2]} * {[10..10]}` is `{[10..20]}`.
+//! Sums and differences are exact. A product has, for each pair of runs, all numbers from the least
+//! to the greatest product of the two: `{[1..2]} * {[10..10]}` is `{[10..20]}`.
 ghost use Rattle.std.specs.Prelude.{◌≤◌, IfOk, length};
 ghost use Rattle.ivl_laws.specs.Sets.{Differences, ExactProducts, IsBetween, IsSubset, Only, Products, Sums};
 ghost use Rattle.ivl_laws.specs.Runs.{Covers, IsRunsOf};
@@ -24,11 +24,11 @@ impl<B: Width> Add<IntervalSet<B>> for IntervalSet<B> {
 
     ghost add_gives = { λ a b r. IfOk r (λ L. IsRunsOf L (Sums (Covers a) (Covers b))) };
 
-    /// Returns the sums of a member of each. The caller must ensure that the sums are in the range.
-    /// Check with `fits_add`.
+    /// Returns all sums of a member of `self` and a member of `rhs`. The caller must ensure that
+    /// the sums are in the range. Check with `fits_add`.
     ///
-    /// `O(n m log (n m))` for `n` and `m` runs. Allocates room for twice `n * m` runs. Fails only
-    /// if allocation fails.
+    /// `O(n m log (n m))` for `n` and `m` runs. Allocates at most `2 n m` runs. Fails only if
+    /// allocation fails.
     ///
     /// ```
     /// let (a, b) = (IntervalSet::new(alloc, 1, 2)?, IntervalSet::new(alloc, 10, 20)?);
@@ -47,11 +47,11 @@ impl<B: Width> Add<&IntervalSet<B>> for IntervalSet<B> {
 
     ghost add_gives = { λ a b r. IfOk r (λ L. IsRunsOf L (Sums (Covers a) (Covers b.now))) };
 
-    /// Returns the sums of a member of each. The caller must ensure that the sums are in the range.
-    /// Check with `fits_add`.
+    /// Returns all sums of a member of `self` and a member of `rhs`. The caller must ensure that
+    /// the sums are in the range. Check with `fits_add`.
     ///
-    /// `O(n m log (n m))` for `n` and `m` runs. Allocates room for twice `n * m` runs. Fails only
-    /// if allocation fails.
+    /// `O(n m log (n m))` for `n` and `m` runs. Allocates at most `2 n m` runs. Fails only if
+    /// allocation fails.
     fn add(self, rhs: &IntervalSet<B>) -> Result<IntervalSet<B>, AllocError> {
         combine(&self, rhs, Op::Sum)
     }
@@ -64,11 +64,11 @@ impl<B: Width> Add<IntervalSet<B>> for &IntervalSet<B> {
 
     ghost add_gives = { λ a b r. IfOk r (λ L. IsRunsOf L (Sums (Covers a.now) (Covers b))) };
 
-    /// Returns the sums of a member of each. The caller must ensure that the sums are in the range.
-    /// Check with `fits_add`.
+    /// Returns all sums of a member of `self` and a member of `rhs`. The caller must ensure that
+    /// the sums are in the range. Check with `fits_add`.
     ///
-    /// `O(n m log (n m))` for `n` and `m` runs. Allocates room for twice `n * m` runs. Fails only
-    /// if allocation fails.
+    /// `O(n m log (n m))` for `n` and `m` runs. Allocates at most `2 n m` runs. Fails only if
+    /// allocation fails.
     fn add(self, rhs: IntervalSet<B>) -> Result<IntervalSet<B>, AllocError> {
         combine(self, &rhs, Op::Sum)
     }
@@ -81,11 +81,11 @@ impl<B: Width> Add<&IntervalSet<B>> for &IntervalSet<B> {
 
     ghost add_gives = { λ a b r. IfOk r (λ L. IsRunsOf L (Sums (Covers a.now) (Covers b.now))) };
 
-    /// Returns the sums of a member of each. The caller must ensure that the sums are in the range.
-    /// Check with `fits_add`.
+    /// Returns all sums of a member of `self` and a member of `rhs`. The caller must ensure that
+    /// the sums are in the range. Check with `fits_add`.
     ///
-    /// `O(n m log (n m))` for `n` and `m` runs. Allocates room for twice `n * m` runs. Fails only
-    /// if allocation fails.
+    /// `O(n m log (n m))` for `n` and `m` runs. Allocates at most `2 n m` runs. Fails only if
+    /// allocation fails.
     fn add(self, rhs: &IntervalSet<B>) -> Result<IntervalSet<B>, AllocError> {
         combine(self, rhs, Op::Sum)
     }
@@ -98,10 +98,10 @@ impl<B: Width> Add<B> for IntervalSet<B> {
 
     ghost add_gives = { λ a x r. IfOk r (λ L. IsRunsOf L (Sums (Covers a) (Only (B.value x)))) };
 
-    /// Returns the sums of a member and the value. The caller must ensure that the sums are in the
-    /// range. Check with `fits_add`. The value itself may lie outside.
+    /// Returns all sums of a member and the value. The caller must ensure that the sums are in the
+    /// range. Check with `fits_add`. The value itself may be outside the range.
     ///
-    /// `O(n)` for `n` runs. Reserves as many once. Fails only if allocation fails.
+    /// `O(n)` for `n` runs. Reserves at most `n` runs once. Fails only if allocation fails.
     ///
     /// ```
     /// let a = IntervalSet::new(alloc, 1, 2)?;
@@ -124,10 +124,10 @@ impl<B: Width> Add<&B> for IntervalSet<B> {
 
     ghost add_gives = { λ a x r. IfOk r (λ L. IsRunsOf L (Sums (Covers a) (Only (B.value x.now)))) };
 
-    /// Returns the sums of a member and the value. The caller must ensure that the sums are in the
-    /// range. Check with `fits_add`. The value itself may lie outside.
+    /// Returns all sums of a member and the value. The caller must ensure that the sums are in the
+    /// range. Check with `fits_add`. The value itself may be outside the range.
     ///
-    /// `O(n)` for `n` runs. Reserves as many once. Fails only if allocation fails.
+    /// `O(n)` for `n` runs. Reserves at most `n` runs once. Fails only if allocation fails.
     fn add(self, rhs: &B) -> Result<IntervalSet<B>, AllocError>
         requires { IsSubset (Sums (Covers self) (Only (B.value rhs.now))) (IsBetween B.whole) }
         ensures members { IfOk result (λ L. IsRunsOf L (Sums (Covers self) (Only (B.value rhs.now)))) }
@@ -144,10 +144,10 @@ impl<B: Width> Add<B> for &IntervalSet<B> {
 
     ghost add_gives = { λ a x r. IfOk r (λ L. IsRunsOf L (Sums (Covers a.now) (Only (B.value x)))) };
 
-    /// Returns the sums of a member and the value. The caller must ensure that the sums are in the
-    /// range. Check with `fits_add`. The value itself may lie outside.
+    /// Returns all sums of a member and the value. The caller must ensure that the sums are in the
+    /// range. Check with `fits_add`. The value itself may be outside the range.
     ///
-    /// `O(n)` for `n` runs. Reserves as many once. Fails only if allocation fails.
+    /// `O(n)` for `n` runs. Reserves at most `n` runs once. Fails only if allocation fails.
     fn add(self, rhs: B) -> Result<IntervalSet<B>, AllocError>
         requires { IsSubset (Sums (Covers self.now) (Only (B.value rhs))) (IsBetween B.whole) }
         ensures members { IfOk result (λ L. IsRunsOf L (Sums (Covers self.now) (Only (B.value rhs)))) }
@@ -164,10 +164,10 @@ impl<B: Width> Add<&B> for &IntervalSet<B> {
 
     ghost add_gives = { λ a x r. IfOk r (λ L. IsRunsOf L (Sums (Covers a.now) (Only (B.value x.now)))) };
 
-    /// Returns the sums of a member and the value. The caller must ensure that the sums are in the
-    /// range. Check with `fits_add`. The value itself may lie outside.
+    /// Returns all sums of a member and the value. The caller must ensure that the sums are in the
+    /// range. Check with `fits_add`. The value itself may be outside the range.
     ///
-    /// `O(n)` for `n` runs. Reserves as many once. Fails only if allocation fails.
+    /// `O(n)` for `n` runs. Reserves at most `n` runs once. Fails only if allocation fails.
     fn add(self, rhs: &B) -> Result<IntervalSet<B>, AllocError>
         requires { IsSubset (Sums (Covers self.now) (Only (B.value rhs.now))) (IsBetween B.whole) }
         ensures members { IfOk result (λ L. IsRunsOf L (Sums (Covers self.now) (Only (B.value rhs.now)))) }
@@ -184,11 +184,11 @@ impl<B: Width> Sub<IntervalSet<B>> for IntervalSet<B> {
 
     ghost sub_gives = { λ a b r. IfOk r (λ L. IsRunsOf L (Differences (Covers a) (Covers b))) };
 
-    /// Returns the differences of a member of each. The caller must ensure that the differences are
-    /// in the range. Check with `fits_sub`.
+    /// Returns all differences of a member of `self` and a member of `rhs`. The caller must ensure
+    /// that the differences are in the range. Check with `fits_sub`.
     ///
-    /// `O(n m log (n m))` for `n` and `m` runs. Allocates room for twice `n * m` runs. Fails only
-    /// if allocation fails.
+    /// `O(n m log (n m))` for `n` and `m` runs. Allocates at most `2 n m` runs. Fails only if
+    /// allocation fails.
     ///
     /// ```
     /// let (a, b) = (IntervalSet::new(alloc, 1, 2)?, IntervalSet::new(alloc, 10, 20)?);
@@ -207,11 +207,11 @@ impl<B: Width> Sub<&IntervalSet<B>> for IntervalSet<B> {
 
     ghost sub_gives = { λ a b r. IfOk r (λ L. IsRunsOf L (Differences (Covers a) (Covers b.now))) };
 
-    /// Returns the differences of a member of each. The caller must ensure that the differences are
-    /// in the range. Check with `fits_sub`.
+    /// Returns all differences of a member of `self` and a member of `rhs`. The caller must ensure
+    /// that the differences are in the range. Check with `fits_sub`.
     ///
-    /// `O(n m log (n m))` for `n` and `m` runs. Allocates room for twice `n * m` runs. Fails only
-    /// if allocation fails.
+    /// `O(n m log (n m))` for `n` and `m` runs. Allocates at most `2 n m` runs. Fails only if
+    /// allocation fails.
     fn sub(self, rhs: &IntervalSet<B>) -> Result<IntervalSet<B>, AllocError> {
         combine(&self, rhs, Op::Difference)
     }
@@ -224,11 +224,11 @@ impl<B: Width> Sub<IntervalSet<B>> for &IntervalSet<B> {
 
     ghost sub_gives = { λ a b r. IfOk r (λ L. IsRunsOf L (Differences (Covers a.now) (Covers b))) };
 
-    /// Returns the differences of a member of each. The caller must ensure that the differences are
-    /// in the range. Check with `fits_sub`.
+    /// Returns all differences of a member of `self` and a member of `rhs`. The caller must ensure
+    /// that the differences are in the range. Check with `fits_sub`.
     ///
-    /// `O(n m log (n m))` for `n` and `m` runs. Allocates room for twice `n * m` runs. Fails only
-    /// if allocation fails.
+    /// `O(n m log (n m))` for `n` and `m` runs. Allocates at most `2 n m` runs. Fails only if
+    /// allocation fails.
     fn sub(self, rhs: IntervalSet<B>) -> Result<IntervalSet<B>, AllocError> {
         combine(self, &rhs, Op::Difference)
     }
@@ -241,11 +241,11 @@ impl<B: Width> Sub<&IntervalSet<B>> for &IntervalSet<B> {
 
     ghost sub_gives = { λ a b r. IfOk r (λ L. IsRunsOf L (Differences (Covers a.now) (Covers b.now))) };
 
-    /// Returns the differences of a member of each. The caller must ensure that the differences are
-    /// in the range. Check with `fits_sub`.
+    /// Returns all differences of a member of `self` and a member of `rhs`. The caller must ensure
+    /// that the differences are in the range. Check with `fits_sub`.
     ///
-    /// `O(n m log (n m))` for `n` and `m` runs. Allocates room for twice `n * m` runs. Fails only
-    /// if allocation fails.
+    /// `O(n m log (n m))` for `n` and `m` runs. Allocates at most `2 n m` runs. Fails only if
+    /// allocation fails.
     fn sub(self, rhs: &IntervalSet<B>) -> Result<IntervalSet<B>, AllocError> {
         combine(self, rhs, Op::Difference)
     }
@@ -258,10 +258,11 @@ impl<B: Width> Sub<B> for IntervalSet<B> {
 
     ghost sub_gives = { λ a x r. IfOk r (λ L. IsRunsOf L (Differences (Covers a) (Only (B.value x)))) };
 
-    /// Returns the differences of a member and the value. The caller must ensure that the
-    /// differences are in the range. Check with `fits_sub`. The value itself may lie outside.
+    /// Returns all differences of a member and the value. The caller must ensure that the
+    /// differences are in the range. Check with `fits_sub`. The value itself may be outside the
+    /// range.
     ///
-    /// `O(n)` for `n` runs. Reserves as many once. Fails only if allocation fails.
+    /// `O(n)` for `n` runs. Reserves at most `n` runs once. Fails only if allocation fails.
     ///
     /// ```
     /// let a = IntervalSet::new(alloc, 1, 2)?;
@@ -284,10 +285,11 @@ impl<B: Width> Sub<&B> for IntervalSet<B> {
 
     ghost sub_gives = { λ a x r. IfOk r (λ L. IsRunsOf L (Differences (Covers a) (Only (B.value x.now)))) };
 
-    /// Returns the differences of a member and the value. The caller must ensure that the
-    /// differences are in the range. Check with `fits_sub`. The value itself may lie outside.
+    /// Returns all differences of a member and the value. The caller must ensure that the
+    /// differences are in the range. Check with `fits_sub`. The value itself may be outside the
+    /// range.
     ///
-    /// `O(n)` for `n` runs. Reserves as many once. Fails only if allocation fails.
+    /// `O(n)` for `n` runs. Reserves at most `n` runs once. Fails only if allocation fails.
     fn sub(self, rhs: &B) -> Result<IntervalSet<B>, AllocError>
         requires { IsSubset (Differences (Covers self) (Only (B.value rhs.now))) (IsBetween B.whole) }
         ensures members { IfOk result (λ L. IsRunsOf L (Differences (Covers self) (Only (B.value rhs.now)))) }
@@ -304,10 +306,11 @@ impl<B: Width> Sub<B> for &IntervalSet<B> {
 
     ghost sub_gives = { λ a x r. IfOk r (λ L. IsRunsOf L (Differences (Covers a.now) (Only (B.value x)))) };
 
-    /// Returns the differences of a member and the value. The caller must ensure that the
-    /// differences are in the range. Check with `fits_sub`. The value itself may lie outside.
+    /// Returns all differences of a member and the value. The caller must ensure that the
+    /// differences are in the range. Check with `fits_sub`. The value itself may be outside the
+    /// range.
     ///
-    /// `O(n)` for `n` runs. Reserves as many once. Fails only if allocation fails.
+    /// `O(n)` for `n` runs. Reserves at most `n` runs once. Fails only if allocation fails.
     fn sub(self, rhs: B) -> Result<IntervalSet<B>, AllocError>
         requires { IsSubset (Differences (Covers self.now) (Only (B.value rhs))) (IsBetween B.whole) }
         ensures members { IfOk result (λ L. IsRunsOf L (Differences (Covers self.now) (Only (B.value rhs)))) }
@@ -324,10 +327,11 @@ impl<B: Width> Sub<&B> for &IntervalSet<B> {
 
     ghost sub_gives = { λ a x r. IfOk r (λ L. IsRunsOf L (Differences (Covers a.now) (Only (B.value x.now)))) };
 
-    /// Returns the differences of a member and the value. The caller must ensure that the
-    /// differences are in the range. Check with `fits_sub`. The value itself may lie outside.
+    /// Returns all differences of a member and the value. The caller must ensure that the
+    /// differences are in the range. Check with `fits_sub`. The value itself may be outside the
+    /// range.
     ///
-    /// `O(n)` for `n` runs. Reserves as many once. Fails only if allocation fails.
+    /// `O(n)` for `n` runs. Reserves at most `n` runs once. Fails only if allocation fails.
     fn sub(self, rhs: &B) -> Result<IntervalSet<B>, AllocError>
         requires { IsSubset (Differences (Covers self.now) (Only (B.value rhs.now))) (IsBetween B.whole) }
         ensures members { IfOk result (λ L. IsRunsOf L (Differences (Covers self.now) (Only (B.value rhs.now)))) }
@@ -347,8 +351,8 @@ impl<B: Width> Mul<IntervalSet<B>> for IntervalSet<B> {
     /// Returns, for each pair of runs, the numbers from the least to the greatest product. The
     /// caller must ensure that the products are in the range. Check with `fits_mul`.
     ///
-    /// `O(n m log (n m))` for `n` and `m` runs. Allocates room for twice `n * m` runs. Fails only
-    /// if allocation fails.
+    /// `O(n m log (n m))` for `n` and `m` runs. Allocates at most `2 n m` runs. Fails only if
+    /// allocation fails.
     ///
     /// ```
     /// let (a, b) = (IntervalSet::new(alloc, 1, 2)?, IntervalSet::new(alloc, 10, 10)?);
@@ -370,8 +374,8 @@ impl<B: Width> Mul<&IntervalSet<B>> for IntervalSet<B> {
     /// Returns, for each pair of runs, the numbers from the least to the greatest product. The
     /// caller must ensure that the products are in the range. Check with `fits_mul`.
     ///
-    /// `O(n m log (n m))` for `n` and `m` runs. Allocates room for twice `n * m` runs. Fails only
-    /// if allocation fails.
+    /// `O(n m log (n m))` for `n` and `m` runs. Allocates at most `2 n m` runs. Fails only if
+    /// allocation fails.
     fn mul(self, rhs: &IntervalSet<B>) -> Result<IntervalSet<B>, AllocError> {
         combine(&self, rhs, Op::Product)
     }
@@ -387,8 +391,8 @@ impl<B: Width> Mul<IntervalSet<B>> for &IntervalSet<B> {
     /// Returns, for each pair of runs, the numbers from the least to the greatest product. The
     /// caller must ensure that the products are in the range. Check with `fits_mul`.
     ///
-    /// `O(n m log (n m))` for `n` and `m` runs. Allocates room for twice `n * m` runs. Fails only
-    /// if allocation fails.
+    /// `O(n m log (n m))` for `n` and `m` runs. Allocates at most `2 n m` runs. Fails only if
+    /// allocation fails.
     fn mul(self, rhs: IntervalSet<B>) -> Result<IntervalSet<B>, AllocError> {
         combine(self, &rhs, Op::Product)
     }
@@ -404,8 +408,8 @@ impl<B: Width> Mul<&IntervalSet<B>> for &IntervalSet<B> {
     /// Returns, for each pair of runs, the numbers from the least to the greatest product. The
     /// caller must ensure that the products are in the range. Check with `fits_mul`.
     ///
-    /// `O(n m log (n m))` for `n` and `m` runs. Allocates room for twice `n * m` runs. Fails only
-    /// if allocation fails.
+    /// `O(n m log (n m))` for `n` and `m` runs. Allocates at most `2 n m` runs. Fails only if
+    /// allocation fails.
     fn mul(self, rhs: &IntervalSet<B>) -> Result<IntervalSet<B>, AllocError> {
         combine(self, rhs, Op::Product)
     }
@@ -420,9 +424,9 @@ impl<B: Width> Mul<B> for IntervalSet<B> {
 
     /// Returns, for each run, the numbers from the least to the greatest product with the value.
     /// The caller must ensure that the products are in the range. Check with `fits_mul`. The value
-    /// itself may lie outside.
+    /// itself may be outside the range.
     ///
-    /// `O(n)` for `n` runs. Reserves as many once. Fails only if allocation fails.
+    /// `O(n)` for `n` runs. Reserves at most `n` runs once. Fails only if allocation fails.
     ///
     /// ```
     /// let a = IntervalSet::new(alloc, 1, 2)?;
@@ -430,8 +434,8 @@ impl<B: Width> Mul<B> for IntervalSet<B> {
     /// assert!(rt; (a * -3)? == IntervalSet::new(alloc, -6, -3)?);
     /// ```
     ///
-    /// In the original an interval times a negative value has crossed bounds; here the runs stay
-    /// ascending.
+    /// In the original, an interval times a negative value has crossed bounds; here the runs stay
+    /// sorted.
     fn mul(self, rhs: B) -> Result<IntervalSet<B>, AllocError>
         requires { IsSubset (ExactProducts (Covers self) (Only (B.value rhs))) (IsBetween B.whole) }
         ensures members { IfOk result (λ L. IsRunsOf L (Products (Covers self) (Only (B.value rhs)))) }
@@ -450,9 +454,9 @@ impl<B: Width> Mul<&B> for IntervalSet<B> {
 
     /// Returns, for each run, the numbers from the least to the greatest product with the value.
     /// The caller must ensure that the products are in the range. Check with `fits_mul`. The value
-    /// itself may lie outside.
+    /// itself may be outside the range.
     ///
-    /// `O(n)` for `n` runs. Reserves as many once. Fails only if allocation fails.
+    /// `O(n)` for `n` runs. Reserves at most `n` runs once. Fails only if allocation fails.
     fn mul(self, rhs: &B) -> Result<IntervalSet<B>, AllocError>
         requires { IsSubset (ExactProducts (Covers self) (Only (B.value rhs.now))) (IsBetween B.whole) }
         ensures members { IfOk result (λ L. IsRunsOf L (Products (Covers self) (Only (B.value rhs.now)))) }
@@ -471,9 +475,9 @@ impl<B: Width> Mul<B> for &IntervalSet<B> {
 
     /// Returns, for each run, the numbers from the least to the greatest product with the value.
     /// The caller must ensure that the products are in the range. Check with `fits_mul`. The value
-    /// itself may lie outside.
+    /// itself may be outside the range.
     ///
-    /// `O(n)` for `n` runs. Reserves as many once. Fails only if allocation fails.
+    /// `O(n)` for `n` runs. Reserves at most `n` runs once. Fails only if allocation fails.
     fn mul(self, rhs: B) -> Result<IntervalSet<B>, AllocError>
         requires { IsSubset (ExactProducts (Covers self.now) (Only (B.value rhs))) (IsBetween B.whole) }
         ensures members { IfOk result (λ L. IsRunsOf L (Products (Covers self.now) (Only (B.value rhs)))) }
@@ -492,9 +496,9 @@ impl<B: Width> Mul<&B> for &IntervalSet<B> {
 
     /// Returns, for each run, the numbers from the least to the greatest product with the value.
     /// The caller must ensure that the products are in the range. Check with `fits_mul`. The value
-    /// itself may lie outside.
+    /// itself may be outside the range.
     ///
-    /// `O(n)` for `n` runs. Reserves as many once. Fails only if allocation fails.
+    /// `O(n)` for `n` runs. Reserves at most `n` runs once. Fails only if allocation fails.
     fn mul(self, rhs: &B) -> Result<IntervalSet<B>, AllocError>
         requires { IsSubset (ExactProducts (Covers self.now) (Only (B.value rhs.now))) (IsBetween B.whole) }
         ensures members { IfOk result (λ L. IsRunsOf L (Products (Covers self.now) (Only (B.value rhs.now)))) }

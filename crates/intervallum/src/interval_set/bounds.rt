@@ -1,4 +1,4 @@
-//! Sets of one run, and the least and the greatest member of a set.
+//! Sets of one run, and the least and the greatest member.
 ghost use Rattle.std.specs.Prelude.{◌≡◌, ℤ, ◌≤ℤ◌, [], ◌∷◌, IfOk};
 ghost use Rattle.ivl_laws.specs.Sets.{HasSome, IsBetween};
 ghost use Rattle.ivl_laws.specs.Runs.{Covers};
@@ -61,8 +61,8 @@ impl<B: Width> IntervalSet<B> {
 }
 
 impl<B: Width> Bounded for IntervalSet<B> {
-    /// Returns the least member: the start of the first run. The caller must ensure that there is a
-    /// member. Check with `is_empty`. `O(1)`. Does not allocate.
+    /// Returns the least member: the start of the first run. The caller must ensure that the set is
+    /// not empty. Check with `is_empty`. `O(1)`. Does not allocate.
     ///
     /// ```
     /// let a: IntervalSet<i32> = [(1, 2), (5, 6)].to_interval_set(alloc)?;
@@ -78,8 +78,8 @@ impl<B: Width> Bounded for IntervalSet<B> {
         first.lower()
     }
 
-    /// Returns the greatest member: the end of the last run. The caller must ensure that there is a
-    /// member. Check with `is_empty`. `O(1)`. Does not allocate.
+    /// Returns the greatest member: the end of the last run. The caller must ensure that the set is
+    /// not empty. Check with `is_empty`. `O(1)`. Does not allocate.
     ///
     /// ```
     /// let a: IntervalSet<i32> = [(1, 2), (5, 6)].to_interval_set(alloc)?;
@@ -99,7 +99,7 @@ impl<B: Width> Bounded for IntervalSet<B> {
 impl<B: Width> IsSingleton for IntervalSet<B> {
     ghost members = { Covers };
 
-    /// Returns true exactly when there is one member and no other. `O(1)`. Does not allocate.
+    /// Returns true exactly when the set has one member and no other. `O(1)`. Does not allocate.
     ///
     /// ```
     /// let a = IntervalSet::new(alloc, 1, 2)?;

@@ -1,4 +1,4 @@
-//! Sets taken apart into their runs, extended by intervals, and made of pairs.
+//! Sets into runs, sets extended by intervals, and sets from pairs.
 ghost use Rattle.std.specs.Prelude.{◌≡◌, ℤ, List, [], ◌∷◌, All, map, IfOk, OnOk, OnErr};
 ghost use Rattle.std.specs.Iterator.{Drains, IsFinite, YieldsFirst, YieldsLast, item_count};
 ghost use Rattle.ivl_laws.specs.Sets.{HasSome, IsBetween, IsInRange, Union};
@@ -13,8 +13,8 @@ use std::alloc::{AllocError, Global};
 use std::marker::Model;
 use std::vec;
 
-/// The runs of a set by value, ascending, from both ends, as `into_iter` gives them. A contract
-/// sees the runs that are left.
+/// A double-ended iterator over the runs of a set, by value and ascending, as `into_iter` returns
+/// it. A contract sees the runs that are left.
 ///
 /// ```
 /// let mut runs = IntervalSet::new(alloc, 1, 2)?.into_iter();
@@ -51,8 +51,7 @@ impl<B: Width> Iterator for IntoRuns<B> {
 
     ghost remaining = { item_count (λ rest. rest) };
 
-    /// Returns the first of the runs that are left; `None` if there is none. `O(1)`. Does not
-    /// allocate.
+    /// Returns the first run that is left, or `None` if there is none. `O(1)`. Does not allocate.
     ///
     /// ```
     /// let a: IntervalSet<i32> = [(1, 2), (5, 6)].to_interval_set(alloc)?;
@@ -67,8 +66,7 @@ impl<B: Width> Iterator for IntoRuns<B> {
 impl<B: Width> DoubleEndedIterator for IntoRuns<B> {
     ghost next_back_gives = { YieldsLast (λ rest. rest) };
 
-    /// Returns the last of the runs that are left; `None` if there is none. `O(1)`. Does not
-    /// allocate.
+    /// Returns the last run that is left, or `None` if there is none. `O(1)`. Does not allocate.
     ///
     /// ```
     /// let a: IntervalSet<i32> = [(1, 2), (5, 6)].to_interval_set(alloc)?;
@@ -87,8 +85,8 @@ impl<B: Width> IntoIterator for IntervalSet<B> {
 
     ghost into_iter_gives = { λ s it. it ≡ s };
 
-    /// Returns the runs, ascending, from both ends, and consumes the set. `O(1)`. Does not
-    /// allocate.
+    /// Consumes the set and returns a double-ended iterator over its runs, in ascending order.
+    /// `O(1)`. Does not allocate.
     ///
     /// ```
     /// for run in IntervalSet::new(alloc, 1, 2)? {
@@ -107,8 +105,8 @@ impl<'a, B: Width> IntoIterator for &'a IntervalSet<B> {
 
     ghost into_iter_gives = { λ s it. it.rest.now ≡ s.now };
 
-    /// Returns the runs, ascending, from both ends, as `iter` gives them. `O(1)`. Does not
-    /// allocate.
+    /// Returns a double-ended iterator over the runs, in ascending order, as `iter` does. `O(1)`.
+    /// Does not allocate.
     ///
     /// ```
     /// let a: IntervalSet<i32> = [(1, 2), (5, 6)].to_interval_set(alloc)?;
@@ -126,15 +124,14 @@ impl<'a, B: Width> IntoIterator for &'a IntervalSet<B> {
 }
 
 impl<B: Width> IntervalSet<B> {
-    /// Adds the members of every interval that an iterator gives, in any order; an interval with no
-    /// member adds nothing. The caller must ensure that the iterator ends.
+    /// Adds the members of every interval that an iterator yields, in any order; an empty interval
+    /// adds nothing. The caller must ensure that the iterator ends.
     ///
-    /// A single item is added in place, as by `insert_interval`. Several are gathered first, and the
-    /// set is changed last. If allocation fails, the set is unchanged.
+    /// A single interval is added in place, at the cost of `insert_interval`. Several are collected
+    /// first, and the set is changed last. If allocation fails, the set is unchanged.
     ///
-    /// For one item `O(log n + j)`, where it meets `j` of the `n` runs, and `O(n)` where the number of
-    /// runs changes; allocates only where a run is added and there is no room for it. For `k` items
-    /// `O(k log k + n)`; allocates `2 k + n` runs besides what gathering the items leaves over.
+    /// `O(k log k + n)` for `k > 1` intervals. Needs memory for at most `2 k + n` runs at a time,
+    /// plus the spare capacity of the vector that collects the intervals.
     ///
     /// ```
     /// let mut a = IntervalSet::new(alloc, 1, 2)?;
@@ -185,7 +182,8 @@ fn gathered<B: Width, I: Iterator<Item = Interval<B>> + Drop>(
     coalesce(alloc, list)
 }
 
-/// A value that is read as a set: a pair of bounds, or a slice, a vector or an array of pairs.
+/// A value that can be converted to a set: a pair of bounds, or a slice, a vector or an array of
+/// pairs.
 ///
 /// ```
 /// let a: IntervalSet<i32> = (2, 8).to_interval_set(alloc)?;
@@ -198,11 +196,11 @@ pub trait ToIntervalSet<B: Width> {
     /// The pairs of numbers that the value stands for.
     ghost pairs: { Self → List (ℤ × ℤ) };
 
-    /// Returns the set of the members of every pair. The caller must ensure that no bound is
-    /// outside the range. Check with `Interval::in_range`. Pairs may stand in any order and
-    /// overlap; a pair whose bounds cross adds nothing.
+    /// Returns the set of the members of every pair. The caller must ensure `Interval::in_range`
+    /// for the bounds of each pair. Pairs may be in any order and overlap; a pair whose bounds
+    /// cross adds nothing.
     ///
-    /// `O(n log n)` for `n` pairs. Reserves twice as many runs. Fails only if allocation fails.
+    /// `O(n log n)` for `n` pairs. Reserves at most `2 n` runs. Fails only if allocation fails.
     ///
     /// ```
     /// let a: IntervalSet<i32> = [(3, 8), (2, 5), (9, 4)].to_interval_set(alloc)?;
@@ -219,7 +217,7 @@ impl<B: Width> ToIntervalSet<B> for (B, B) {
     ghost pairs = { λ p. (B.value p.0, B.value p.1) ∷ [] };
 
     /// Returns the set of the numbers from the first to the second, which is empty if they cross.
-    /// `O(1)`. Reserves two runs. Fails only if allocation fails.
+    /// `O(1)`. Reserves at most two runs. Fails only if allocation fails.
     fn to_interval_set(self, alloc: Global) -> Result<IntervalSet<B>, AllocError> {
         let mut list = Vec::with_capacity(alloc, 1)?;
         list.push(Interval::new(self.0, self.1))?;
@@ -232,8 +230,8 @@ impl<B: Width> ToIntervalSet<B> for &[(B, B)] {
 
     ghost pairs = { λ s. map (λ p. (B.value p.0, B.value p.1)) s.now };
 
-    /// Returns the set of the members of every pair. Fails only if allocation fails. The pairs are
-    /// not changed.
+    /// Returns the set of the members of every pair. The pairs are unchanged. Fails only if
+    /// allocation fails.
     fn to_interval_set(self, alloc: Global) -> Result<IntervalSet<B>, AllocError> {
         of_pairs(alloc, self)
     }
@@ -244,8 +242,8 @@ impl<B: Width> ToIntervalSet<B> for Vec<(B, B)> {
 
     ghost pairs = { λ v. map (λ p. (B.value p.0, B.value p.1)) v.items };
 
-    /// Returns the set of the members of every pair. Fails only if allocation fails. The vector is
-    /// consumed.
+    /// Returns the set of the members of every pair. The vector is consumed. Fails only if
+    /// allocation fails.
     fn to_interval_set(self, alloc: Global) -> Result<IntervalSet<B>, AllocError> {
         of_pairs(alloc, self.as_slice())
     }

@@ -1,4 +1,4 @@
-//! A set that is made from a set.
+//! Copies of a set.
 ghost use Rattle.std.specs.Prelude.{◌≡◌, IfOk};
 ghost use Rattle.ivl_laws.specs.Runs.{IsRunListIn};
 
@@ -22,7 +22,7 @@ impl<B: Width> IntervalSet<B> {
             size: self.size,
         })
     }
-    /// The same set once more, with room for one run more.
+    /// A copy of the set with room for one more run.
     pub(super) fn copy_with_room(&self) -> Result<Self, AllocError>
         ensures same { IfOk result (λ L. L ≡ self.now) }
         ensures runs { IsRunListIn B.whole self.now }

@@ -11,7 +11,7 @@ use crate::ops::{Cardinality, StrictShrinkRight};
 use crate::width::{SizeNumber, Width};
 
 impl<B: Width> IntervalSet<B> {
-    /// Returns how many members are below `v`, which may be any value of its type. Scans the runs
+    /// Returns the number of members below `v`, which may be any value of its type. Scans the runs
     /// that start below `v`: `O(n)`. Does not allocate.
     ///
     /// ```

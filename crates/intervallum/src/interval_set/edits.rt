@@ -1,4 +1,4 @@
-//! Edits in place: members added to a set and taken from it.
+//! Edits in place: members are added to a set and removed from it.
 ghost use Rattle.std.specs.Prelude.{◌≡◌, ◌↔◌, ◌<◌, ◌≤◌, ℤ, ◌≤ℤ◌, [], None, Some, IfNone, IfOk, IfSome, IsOk, IsTrue, OnErr, OnOk, length};
 ghost use Rattle.ivl_laws.specs.Sets.{IsBetween, Only, Union, Without};
 ghost use Rattle.ivl_laws.specs.Runs.{Covers, IsRunListIn, IsRunsOf};
@@ -21,8 +21,8 @@ impl<B: Width> IntervalSet<B> {
     /// The caller must ensure that the value is in the range. Check with
     /// `Interval::in_range(value, value)`.
     ///
-    /// Binary search, then only the runs above the value move: `O(log n)`, and `O(n)` where the
-    /// number of runs changes. Allocates only where a run is added and there is no room for it.
+    /// Binary search: `O(log n)`, or `O(n)` if the number of runs changes, as the runs above the
+    /// value then move. Allocates only if a run is added and there is no capacity for it.
     ///
     /// # Errors
     ///
@@ -51,9 +51,8 @@ impl<B: Width> IntervalSet<B> {
     /// Removes a value, which may be any value of its type. Returns true exactly when it was a
     /// member.
     ///
-    /// Binary search, then only the runs above the value move: `O(log n)`, and `O(n)` where the
-    /// number of runs changes. Allocates only where a run is split and there is no room for one
-    /// more.
+    /// Binary search: `O(log n)`, or `O(n)` if the number of runs changes, as the runs above the
+    /// value then move. Allocates only if a run is split and there is no capacity for one more.
     ///
     /// # Errors
     ///
@@ -77,12 +76,12 @@ impl<B: Width> IntervalSet<B> {
         Ok(true)
     }
 
-    /// Adds the members of an interval; one with no member adds nothing.
+    /// Adds the members of an interval, which may be empty.
     ///
-    /// Binary search for the runs that the interval overlaps or touches; then only the runs above
-    /// it move: `O(log n + k)` for `k` such runs, and `O(n)` where the number of runs changes.
-    /// Allocates only where a run is added and there is no room for it. To add many intervals at
-    /// once, use `extend`.
+    /// Binary search for the `k` runs that the interval overlaps or touches: `O(log n + k)`, or
+    /// `O(n)` if the number of runs changes, as the runs above the interval then move. Allocates
+    /// only if a run is added and there is no capacity for it. To add many intervals at once, use
+    /// `extend`.
     ///
     /// # Errors
     ///
@@ -109,9 +108,9 @@ impl<B: Width> IntervalSet<B> {
 
     /// Removes the members of an interval.
     ///
-    /// Binary search for the runs that the interval overlaps; then only the runs above it move:
-    /// `O(log n + k)` for `k` such runs, and `O(n)` where the number of runs changes. Allocates only
-    /// where a run is split and there is no room for one more.
+    /// Binary search for the `k` runs that the interval overlaps: `O(log n + k)`, or `O(n)` if the
+    /// number of runs changes, as the runs above the interval then move. Allocates only if a run is
+    /// split and there is no capacity for one more.
     ///
     /// # Errors
     ///
@@ -138,7 +137,7 @@ impl<B: Width> IntervalSet<B> {
         self.replace(start, end, below, above)
     }
 
-    /// Removes all members. Keeps the room that the set has, and does not allocate.
+    /// Removes all members and keeps the capacity. Does not allocate.
     ///
     /// ```
     /// let mut a = IntervalSet::new(alloc, 1, 5)?;
@@ -152,8 +151,8 @@ impl<B: Width> IntervalSet<B> {
         self.size = <B::Output as SizeNumber>::zero();
     }
 
-    /// Removes and returns the least member; `None` if there is none. `O(1)`, and `O(n)` where it is
-    /// a run by itself, as the other runs then move. Does not allocate.
+    /// Removes and returns the least member, or returns `None` if the set is empty. `O(1)`, or
+    /// `O(n)` if the member is a run by itself, as the other runs then move. Does not allocate.
     ///
     /// ```
     /// let mut a: IntervalSet<i32> = [(1, 2), (5, 6)].to_interval_set(alloc)?;
@@ -177,7 +176,8 @@ impl<B: Width> IntervalSet<B> {
         Some(least)
     }
 
-    /// Removes and returns the greatest member; `None` if there is none. `O(1)`. Does not allocate.
+    /// Removes and returns the greatest member, or returns `None` if the set is empty. `O(1)`. Does
+    /// not allocate.
     ///
     /// ```
     /// let mut a: IntervalSet<i32> = [(1, 2), (5, 6)].to_interval_set(alloc)?;
@@ -203,8 +203,8 @@ impl<B: Width> IntervalSet<B> {
         Some(greatest)
     }
 
-    /// Puts at most two runs in the place of those from `start` to before `end`. It can only fail
-    /// where more runs are put than go.
+    /// Puts at most two runs in the place of those from `start` to before `end`. Fails only if it
+    /// puts more runs than it removes, and allocation fails.
     fn replace(
         &mut self,
         start: usize,

@@ -1,5 +1,5 @@
-//! Sets of few runs beside sets of many: each of the few runs is searched for among the many, from
-//! where the last one was found.
+//! Operations on a set of few runs and one of many: searches for each of the few among the many,
+//! from where the last search ended.
 ghost use Rattle.std.specs.Prelude.{◌≡◌, ℕ, ◌+◌, ◌*◌, ◌^◌, ◌<◌, ◌≤◌, pos, ◌≤ℤ◌, IfOk, OnOk, length, take};
 ghost use Rattle.ivl_laws.specs.Sets.{Intersection, IsBetween, Union, Without};
 ghost use Rattle.ivl_laws.specs.Runs.{Covers, IsRunsOf};
@@ -13,11 +13,11 @@ use crate::steps::{Probes, Walk, first_from, last_up_to, without};
 use crate::width::Width;
 use std::alloc::AllocError;
 
-/// How many times more runs the other set has to have, for a search to take fewer steps than a walk.
+/// How many times as many runs the other set must have for a search to take fewer steps.
 const FAR_MORE: usize = 16;
 
-/// The first set has so few runs beside the second that a search for each of them takes fewer steps
-/// than a walk over both.
+/// The first set has so few runs, compared with the second, that a search for each of them takes
+/// fewer steps than a walk over both.
 pub(super) fn is_far_shorter<B: Width>(few: &IntervalSet<B>, many: &IntervalSet<B>) -> bool {
     few.interval_count() < many.interval_count() / FAR_MORE
 }
@@ -50,7 +50,7 @@ pub(super) fn without_few<B: Width>(
 ) -> Result<IntervalSet<B>, AllocError>
     ensures members { IfOk result (λ L. IsRunsOf L (Without (Covers many.now) (Covers few.now))) }
 {
-    // the members of the many are in the range, and so in the complement of the few where not in them
+    // members of the many are in the range, so in the complement of the few unless in them
     many.in_whole();
     let free = few.complement()?;
     common_with_few(&free, &mut Probes::new(many))
@@ -68,8 +68,8 @@ pub(super) fn few_without<B: Width>(
     without(Walk::new(few), Walk::new(&shared))
 }
 
-/// Adds what a run has in common with runs of which the first `from` end below it. Returns how many
-/// of them do.
+/// Adds what a run has in common with runs whose first `from` end below it. Returns how many end
+/// below it.
 fn push_shared<B: Width>(
     set: &mut IntervalSet<B>,
     many: &mut Probes<'_, B>,

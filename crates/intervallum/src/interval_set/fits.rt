@@ -1,7 +1,7 @@
 //! Whether the results of arithmetic of sets are in the range.
 //!
-//! Each call looks at the ends of the sets alone: the least and the greatest result are results of
-//! ends. No call takes memory.
+//! Each call reads only the ends of the sets, since the least and the greatest result are results
+//! of ends. No call allocates.
 ghost use Rattle.ivl_laws.specs.Sets.{IsHullOf, Only};
 ghost use Rattle.ivl_laws.specs.Runs.{Covers};
 
@@ -17,8 +17,8 @@ impl<B: Width> Fits<IntervalSet<B>> for IntervalSet<B> {
 
     ghost other_members = { Covers };
 
-    /// Returns true exactly when `self + other` may be called, so always where a set is empty.
-    /// `O(1)`. Does not allocate.
+    /// Returns true exactly when `self + other` may be called, so always if a set is empty. `O(1)`.
+    /// Does not allocate.
     ///
     /// ```
     /// let a = IntervalSet::new(alloc, 100i8, 100)?;
@@ -29,8 +29,8 @@ impl<B: Width> Fits<IntervalSet<B>> for IntervalSet<B> {
         span(self).fits_add(&span(other))
     }
 
-    /// Returns true exactly when `self - other` may be called, so always where a set is empty.
-    /// `O(1)`. Does not allocate.
+    /// Returns true exactly when `self - other` may be called, so always if a set is empty. `O(1)`.
+    /// Does not allocate.
     ///
     /// ```
     /// let a = IntervalSet::new(alloc, 3u8, 5)?;
@@ -41,8 +41,8 @@ impl<B: Width> Fits<IntervalSet<B>> for IntervalSet<B> {
         span(self).fits_sub(&span(other))
     }
 
-    /// Returns true exactly when `self * other` may be called, so always where a set is empty.
-    /// `O(1)`. Does not allocate.
+    /// Returns true exactly when `self * other` may be called, so always if a set is empty. `O(1)`.
+    /// Does not allocate.
     ///
     /// ```
     /// let a = IntervalSet::new(alloc, 100i8, 100)?;
@@ -61,7 +61,7 @@ impl<B: Width> Fits<B> for IntervalSet<B> {
 
     ghost other_members = { λ x. Only (B.value x) };
 
-    /// Returns true exactly when `self + *other` may be called; `other` may lie outside the range.
+    /// Returns true exactly when `self + *other` may be called; `other` may be outside the range.
     /// `O(1)`. Does not allocate.
     ///
     /// ```
@@ -72,7 +72,7 @@ impl<B: Width> Fits<B> for IntervalSet<B> {
         span(self).fits_add(other)
     }
 
-    /// Returns true exactly when `self - *other` may be called; `other` may lie outside the range.
+    /// Returns true exactly when `self - *other` may be called; `other` may be outside the range.
     /// `O(1)`. Does not allocate.
     ///
     /// ```
@@ -83,7 +83,7 @@ impl<B: Width> Fits<B> for IntervalSet<B> {
         span(self).fits_sub(other)
     }
 
-    /// Returns true exactly when `self * *other` may be called; `other` may lie outside the range.
+    /// Returns true exactly when `self * *other` may be called; `other` may be outside the range.
     /// `O(1)`. Does not allocate.
     ///
     /// ```

@@ -14,10 +14,11 @@ use crate::width::Width;
 impl<B: Width> Subset for IntervalSet<B> {
     ghost members = { Covers };
 
-    /// Returns true exactly when each member is a member of `other`, so always where there is none.
-    /// Looks at no run where this set has more members, and else searches each of its `n` runs
-    /// among the `m` of `other`, each from where the last one was found: `O(n log (m / n + 2))`.
+    /// Returns true exactly when each member is a member of `other`, so always for an empty set.
     /// Does not allocate.
+    ///
+    /// `O(n log (m / n + 2))`: searches for each of the `n` runs among the `m` of `other`, from
+    /// where the last search ended. `O(1)` if this set has more members than `other`.
     ///
     /// ```
     /// let (a, b) = (IntervalSet::new(alloc, 1, 2)?, IntervalSet::new(alloc, 0, 10)?);
@@ -39,8 +40,8 @@ impl<B: Width> Subset for IntervalSet<B> {
     }
 }
 
-/// The place of the run that holds each number of another one, from a place on which only runs below
-/// it stand before; none where no run holds it.
+/// The place of the run that holds each number of another run, or `None` if no run does. The runs
+/// before place `from` lie below the other run.
 fn holder<B: Width>(runs: &mut Probes<'_, B>, run: &Interval<B>, from: usize) -> Option<usize>
     requires filled { run.now.0 ≤ℤ run.now.1 }
     requires at_most { from ≤ length runs.old.runs }
@@ -65,7 +66,7 @@ impl<B: Width> ProperSubset for IntervalSet<B> {
     ghost members = { Covers };
 
     /// Returns true exactly when each member is a member of `other`, and `other` has more.
-    /// `O(n log m)`, with no memory; no run is looked at where the sizes are equal.
+    /// `O(n log (m / n + 2))`, or `O(1)` if the sizes are equal. Does not allocate.
     ///
     /// ```
     /// let (a, b) = (IntervalSet::new(alloc, 1, 2)?, IntervalSet::new(alloc, 0, 10)?);
@@ -80,7 +81,7 @@ impl<B: Width> Entailment for IntervalSet<B> {
     ghost members = { Covers };
 
     /// Returns `True` if `other` includes this set, else `False` if this one includes `other`, else
-    /// `Unknown`. `O(n log m + m log n)`. Does not allocate.
+    /// `Unknown`. `O(n log (m / n + 2) + m log (n / m + 2))`. Does not allocate.
     ///
     /// ```
     /// let (a, b) = (IntervalSet::new(alloc, 1, 2)?, IntervalSet::new(alloc, 0, 10)?);

@@ -1,4 +1,4 @@
-//! Sets as pieces of information: what two of them say together, and what they agree on.
+//! The lattice of sets, ordered by information: join and meet.
 ghost use Rattle.std.specs.Prelude.{◌≤◌, ◌+◌, IfOk, length};
 ghost use Rattle.ivl_laws.specs.Sets.{Intersection, Union};
 ghost use Rattle.ivl_laws.specs.Runs.{Covers, IsRunsOf};
@@ -17,7 +17,7 @@ impl<B: Width> Join for IntervalSet<B> {
     ghost answers = { λ r S. IfOk r (λ L. IsRunsOf L S) };
 
     /// Returns the members of both sets: the intersection. `O(n + m)`. Reserves `n + m` runs once
-    /// and shrinks the result if less than half is used. Both sets are consumed. Fails only if
+    /// and shrinks the result if less than half is used. Consumes both sets. Fails only if
     /// allocation fails.
     ///
     /// ```
@@ -40,8 +40,8 @@ impl<B: Width> Meet for IntervalSet<B> {
     ghost answers = { λ r S. IfOk r (λ L. IsRunsOf L S) };
 
     /// Returns the members of either set: the union. `O(n + m)`. Reserves `n + m` runs once and
-    /// shrinks the result if less than half is used. Both sets are consumed. Fails only if
-    /// allocation fails.
+    /// shrinks the result if less than half is used. Consumes both sets. Fails only if allocation
+    /// fails.
     ///
     /// ```
     /// let (a, b) = (IntervalSet::new(alloc, 1, 5)?, IntervalSet::new(alloc, 4, 9)?);

@@ -1,4 +1,4 @@
-//! The runs of a set as a slice, and what is known of them.
+//! The runs of a set as a slice, and the facts about them.
 ghost use Rattle.std.specs.Prelude.{◌≡◌, All};
 ghost use Rattle.ivl_laws.specs.Sets.{HasSome, IsBetween};
 ghost use Rattle.ivl_laws.specs.Runs.{IsRunListIn};
@@ -8,8 +8,8 @@ use crate::interval::Interval;
 use crate::width::Width;
 
 impl<B: Width> IntervalSet<B> {
-    /// Returns the runs as a slice: non-empty intervals within the type's range, in ascending order,
-    /// with at least one number missing between neighbours. `O(1)`. Does not allocate.
+    /// Returns the runs as a slice: non-empty intervals within the type's range, in ascending
+    /// order, with a number missing between neighbours. `O(1)`. Does not allocate.
     ///
     /// ```
     /// let a: IntervalSet<i32> = [(5, 6), (1, 2)].to_interval_set(alloc)?;

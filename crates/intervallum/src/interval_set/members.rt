@@ -1,4 +1,4 @@
-//! The members of a set one by one, from both ends.
+//! Iteration over the members of a set, from both ends.
 ghost use Rattle.std.specs.Prelude.{◌≡◌, ⊤};
 ghost use Rattle.std.specs.Iterator.{YieldsFirstBy, YieldsLastBy, item_count};
 ghost use Rattle.ivl_laws.specs.Sets.{SameMembers};
@@ -15,8 +15,8 @@ use std::iter::FusedIterator;
 use std::marker::Model;
 use std::mem;
 
-/// The members of a set, ascending, from both ends, as `members` gives them. A contract sees the
-/// numbers that are left.
+/// A double-ended iterator over the members of a set, ascending, as `members` returns it. A
+/// contract sees the numbers that are left.
 ///
 /// No call allocates.
 ///
@@ -51,7 +51,7 @@ impl<'a, B: Width> Clone for Members<'a, B> {
 
     ghost is_infallible = { λ _. ⊤ };
 
-    /// Returns an iterator over the same members that are left. `O(1)`. Never fails.
+    /// Returns an iterator over the members that are left. `O(1)`. Never fails.
     ///
     /// ```
     /// let a = IntervalSet::new(alloc, 1, 3)?;
@@ -76,7 +76,7 @@ impl<'a, B: Width> Iterator for Members<'a, B> {
 
     ghost remaining = { item_count (λ left. left) };
 
-    /// Returns the least member that is left, or `None` if none is. `O(1)`.
+    /// Returns the least member that is left, or `None` if there is none. `O(1)`.
     ///
     /// ```
     /// let a: IntervalSet<i32> = [(1, 1), (5, 6)].to_interval_set(alloc)?;
@@ -101,7 +101,7 @@ impl<'a, B: Width> Iterator for Members<'a, B> {
 impl<'a, B: Width> DoubleEndedIterator for Members<'a, B> {
     ghost next_back_gives = { YieldsLastBy B.value (λ left. left) };
 
-    /// Returns the greatest member that is left, or `None` if none is. `O(1)`.
+    /// Returns the greatest member that is left, or `None` if there is none. `O(1)`.
     ///
     /// ```
     /// let a: IntervalSet<i32> = [(1, 2), (5, 5)].to_interval_set(alloc)?;
@@ -150,7 +150,8 @@ fn take_greatest<B: Width>(part: &mut Interval<B>) -> Option<B>
 }
 
 impl<B: Width> IntervalSet<B> {
-    /// Returns the members, each once and ascending, from both ends. `O(1)`. Does not allocate.
+    /// Returns a double-ended iterator over the members, each once, in ascending order. `O(1)`.
+    /// Does not allocate.
     ///
     /// ```
     /// let a: IntervalSet<i32> = [(5, 6), (1, 2)].to_interval_set(alloc)?;

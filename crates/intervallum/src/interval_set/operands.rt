@@ -1,4 +1,4 @@
-//! Values beside sets: a value on the left, a set on the right.
+//! Overlap of a value, on the left, with a set.
 ghost use Rattle.std.specs.Prelude.{pos};
 ghost use Rattle.ivl_laws.specs.Sets.{Only};
 ghost use Rattle.ivl_laws.specs.Runs.{Covers};

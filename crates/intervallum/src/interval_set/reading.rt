@@ -1,4 +1,4 @@
-//! Whether values are members of a set.
+//! Membership of values.
 ghost use Rattle.std.specs.Prelude.{option_map};
 ghost use Rattle.ivl_laws.specs.Sets.{Held, Only};
 ghost use Rattle.ivl_laws.specs.Runs.{Covers};
@@ -10,7 +10,7 @@ use crate::steps::{Place, Probes, find};
 use crate::width::Width;
 
 impl<B: Width> Contains for IntervalSet<B> {
-    /// Returns true exactly when `item` is a member; it may be any value of its type. Binary
+    /// Returns true exactly when `item`, which may be any value of its type, is a member. Binary
     /// search: `O(log n)`. Does not allocate.
     ///
     /// ```
@@ -31,8 +31,8 @@ impl<B: Width> Overlap<B> for IntervalSet<B> {
 
     ghost other_members = { λ x. Only (B.value x) };
 
-    /// Returns true exactly when the value is a member; any value of its type may be asked for.
-    /// `O(log n)`. Does not allocate.
+    /// Returns true exactly when the value, which may be any of its type, is a member. `O(log n)`.
+    /// Does not allocate.
     ///
     /// ```
     /// let a: IntervalSet<i32> = [(1, 2), (5, 6)].to_interval_set(alloc)?;

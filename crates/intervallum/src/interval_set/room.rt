@@ -15,7 +15,7 @@ use std::alloc::AllocError;
 
 impl<B: Width> IntervalSet<B> {
     /// Returns the lowest interval of exactly `count` consecutive members, or `None` if there is
-    /// none. The caller must ensure that `count` is above 0: check `count.number() > 0`.
+    /// none. The caller must ensure that `count` is above 0. Check with `count.number() > 0`.
     ///
     /// Scans the runs up to the first that is long enough: `O(n)`. Does not allocate.
     ///
@@ -35,7 +35,7 @@ impl<B: Width> IntervalSet<B> {
 
     /// Returns the lowest interval of exactly `count` consecutive members that are all at least
     /// `v`, or `None` if there is none. `v` may be any value of its type. The caller must ensure
-    /// that `count` is above 0: check `count.number() > 0`.
+    /// that `count` is above 0. Check with `count.number() > 0`.
     ///
     /// Finds `v` by binary search and scans the `k` runs from there up to the first that is long
     /// enough: `O(log n + k)`. Does not allocate.
@@ -61,8 +61,8 @@ impl<B: Width> IntervalSet<B> {
 
     /// Returns the numbers of the interval that are not members. Fails only if allocation fails.
     ///
-    /// `O(log n + k)`, where `k` runs meet the interval. Reserves `k + 1` runs for the answer, and
-    /// as many again while it works.
+    /// `O(log n + k)`, where `k` runs overlap the interval. Reserves `k + 1` runs for the result,
+    /// and at most about twice as many more until it returns.
     ///
     /// ```
     /// let a: IntervalSet<i32> = [(1, 2), (5, 6)].to_interval_set(alloc)?;
@@ -78,8 +78,8 @@ impl<B: Width> IntervalSet<B> {
     }
 }
 
-/// The lowest consecutive numbers, `count` of them, that are at least `v` and lie in one of the runs.
-/// Run number `i` holds `v`.
+/// The lowest `count` consecutive numbers that are at least `v` and lie in one of the runs. Run
+/// number `i` holds `v`.
 fn fit_from_run<B: Width>(
     runs: &[Interval<B>],
     i: usize,
@@ -103,7 +103,7 @@ fn fit_from_run<B: Width>(
     }
 }
 
-/// The lowest consecutive numbers, `count` of them, that lie in one of the runs.
+/// The lowest `count` consecutive numbers that lie in one of the runs.
 fn fit_in<B: Width>(runs: &[Interval<B>], count: B::Output) -> Option<Interval<B>>
     requires above_zero { 0 < B.Output.size count }
     requires runs { IsRunListIn B.whole runs.now }

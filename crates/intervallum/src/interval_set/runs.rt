@@ -58,8 +58,8 @@ impl<B: Width> IntervalSet<B> {
         IntervalSet { intervals, size }
     }
 
-    /// The same set, which gives memory back where it has room for more than twice as many runs. Where
-    /// that is refused, the set keeps its room.
+    /// The same set, shrunk if less than half of its capacity is used. If shrinking fails, it keeps
+    /// its capacity.
     pub(crate) fn fitted(mut self) -> Self
         ensures { result ≡ self }
     {
@@ -70,7 +70,7 @@ impl<B: Width> IntervalSet<B> {
     }
 
     /// Adds the members of a run that starts no lower than the last run does, joined with that one
-    /// where the two overlap or touch.
+    /// if the two overlap or touch.
     pub(crate) fn push_run(&mut self, run: Interval<B>) -> Result<(), AllocError>
         requires filled { run.0 ≤ℤ run.1 }
         requires within { IsSubset (IsBetween run) (IsBetween B.whole) }
@@ -184,7 +184,8 @@ pub(super) fn grown<B: Width>(size: B::Output, more: B::Output) -> B::Output
     size.add_in_range(more)
 }
 
-/// The intervals are a list of runs: none is empty, they ascend, and a number is free between neighbours.
+/// The intervals are a list of runs: none is empty, they ascend, and a number is missing between
+/// neighbours.
 pub(crate) fn are_runs<B: Width>(list: &[Interval<B>]) -> bool
     ensures { IsTrue result → IsRunListIn B.whole list.now }
 {

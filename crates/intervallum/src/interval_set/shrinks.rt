@@ -21,8 +21,8 @@ impl<B: Width> ShrinkLeft for IntervalSet<B> {
     ghost answers = { λ r S. IfOk r (λ L. IsRunsOf L S) };
 
     /// Returns the members that are at least `lower`, which may be any value of its type. Binary
-    /// search: `O(log n + k)` where `k` runs stay. Reserves `k` runs once. Fails only if allocation
-    /// fails.
+    /// search: `O(log n + k)` where `k` runs remain. Reserves `k` runs once. Fails only if
+    /// allocation fails.
     ///
     /// ```
     /// let a = IntervalSet::new(alloc, 1, 5)?;
@@ -42,8 +42,8 @@ impl<B: Width> ShrinkRight for IntervalSet<B> {
     ghost answers = { λ r S. IfOk r (λ L. IsRunsOf L S) };
 
     /// Returns the members that are at most `upper`, which may be any value of its type. Binary
-    /// search: `O(log n + k)` where `k` runs stay. Reserves `k` runs once. Fails only if allocation
-    /// fails.
+    /// search: `O(log n + k)` where `k` runs remain. Reserves `k` runs once. Fails only if
+    /// allocation fails.
     ///
     /// ```
     /// let a = IntervalSet::new(alloc, 1, 5)?;
@@ -63,7 +63,8 @@ impl<B: Width> StrictShrinkLeft for IntervalSet<B> {
     ghost answers = { λ r S. IfOk r (λ L. IsRunsOf L S) };
 
     /// Returns the members above `lower`, which may be any value of its type. Binary search:
-    /// `O(log n + k)` where `k` runs stay. Reserves `k` runs once. Fails only if allocation fails.
+    /// `O(log n + k)` where `k` runs remain. Reserves `k` runs once. Fails only if allocation
+    /// fails.
     ///
     /// ```
     /// let a = IntervalSet::new(alloc, 1, 5)?;
@@ -83,7 +84,8 @@ impl<B: Width> StrictShrinkRight for IntervalSet<B> {
     ghost answers = { λ r S. IfOk r (λ L. IsRunsOf L S) };
 
     /// Returns the members below `upper`, which may be any value of its type. Binary search:
-    /// `O(log n + k)` where `k` runs stay. Reserves `k` runs once. Fails only if allocation fails.
+    /// `O(log n + k)` where `k` runs remain. Reserves `k` runs once. Fails only if allocation
+    /// fails.
     ///
     /// ```
     /// let a = IntervalSet::new(alloc, 1, 5)?;
@@ -136,8 +138,8 @@ fn cut_runs<B: Width>(
 }
 
 impl<B: Width> IntervalSet<B> {
-    /// Adds what runs have in an interval, which lies above the members and not next to them. The
-    /// runs are copied whole, and the first and the last of them cut.
+    /// Adds the part of runs that lies in an interval, which is above the members and not adjacent
+    /// to them. Copies the runs and then cuts the first and the last.
     pub(crate) fn push_cut(
         &mut self,
         runs: &[Interval<B>],

@@ -11,9 +11,9 @@ impl<B: Width + fmt::Display> fmt::Display for IntervalSet<B> {
 
     ghost styled_output = { λ L _. styled_set_text L };
 
-    /// `{}` where there is no member, `[1..5]` for one run, and `{[1..2][5..5]}` for more. Width
-    /// and fill of the formatter have no effect. `O(n)`, with no memory of its own; an error is one
-    /// of the formatter.
+    /// Writes `{}` if the set is empty, `[1..5]` for one run, and `{[1..2][5..5]}` for more. Width
+    /// and fill of the formatter have no effect. `O(n)`. Allocates nothing itself. The only errors
+    /// are those of the formatter and of the texts of the bounds.
     ///
     /// ```
     /// let a: IntervalSet<i32> = [(1, 2), (5, 5)].to_interval_set(alloc)?;

@@ -1,4 +1,4 @@
-//! Sets beside a single value.
+//! Operations on a set and a single value.
 ghost use Rattle.std.specs.Prelude.{◌≤◌, ◌+◌, IfOk, length};
 ghost use Rattle.ivl_laws.specs.Sets.{Intersection, IsBetween, Only, SymmetricDifference, Union, Without};
 ghost use Rattle.ivl_laws.specs.Runs.{Covers, IsRunsOf};
@@ -19,8 +19,8 @@ impl<B: Width> Union<B> for IntervalSet<B> {
 
     ghost answers = { λ r S. IfOk r (λ L. IsRunsOf L S) };
 
-    /// Returns the members, and the value. `O(n)`: one copy and a binary search. Reserves `n + 1`
-    /// runs. Fails only if allocation fails.
+    /// Returns the members and the value. `O(n)`: one copy and a binary search. Reserves `n + 1`
+    /// runs once. Fails only if allocation fails.
     ///
     /// The caller must ensure that the value is in the range. Check with
     /// `Interval::in_range(value, value)`.
@@ -52,7 +52,8 @@ impl<B: Width> SymmetricDifference<B> for IntervalSet<B> {
     ghost answers = { λ r S. IfOk r (λ L. IsRunsOf L S) };
 
     /// Returns the members without the value if it is one of them, else with it. `O(n)`: one copy
-    /// and two binary searches. Reserves `n + 1` runs. Fails only if allocation fails.
+    /// and two binary searches. Reserves `n + 1` runs once and does not shrink the result. Fails
+    /// only if allocation fails.
     ///
     /// The caller must ensure that the value is in the range. Check with
     /// `Interval::in_range(value, value)`.
@@ -94,7 +95,7 @@ impl<B: Width> Intersection<B> for IntervalSet<B> {
         ensures members { IfOk result (λ L. IsRunsOf L (Intersection (Covers self.now) (Only (B.value other.now)))) }
         ensures runs_at_most { IfOk result (λ L. length L ≤ length self.now + 1) }
     {
-        // the members are in the range, and so is the value where it is one
+        // the members are in the range, and so is the value if it is one
         self.in_whole();
         if self.contains(other) {
             IntervalSet::new(self.allocator(), *other, *other)
@@ -114,7 +115,8 @@ impl<B: Width> Difference<B> for IntervalSet<B> {
     ghost answers = { λ r S. IfOk r (λ L. IsRunsOf L S) };
 
     /// Returns the members except the value, which may be any value of its type. `O(n)`: one copy
-    /// and a binary search. Reserves `n + 1` runs. Fails only if allocation fails.
+    /// and a binary search. Reserves `n + 1` runs once and does not shrink the result. Fails only
+    /// if allocation fails.
     ///
     /// ```
     /// let a = IntervalSet::new(alloc, 1, 5)?;

@@ -1,4 +1,4 @@
-//! Sets beside a single interval.
+//! Operations on a set and a single interval.
 ghost use Rattle.std.specs.Prelude.{◌≤◌, ◌+◌, ◌↔◌, IfOk, IsTrue, length, ⊤};
 ghost use Rattle.ivl_laws.specs.Sets.{HasSome, Intersection, IsBetween, IsSubset, Union, Without};
 ghost use Rattle.ivl_laws.specs.Runs.{Covers, IsRunsOf};
@@ -110,7 +110,7 @@ impl<B: Width> Intersection<Interval<B>> for IntervalSet<B> {
     ghost answers = { λ r S. IfOk r (λ L. IsRunsOf L S) };
 
     /// Returns the members that lie in the interval. Binary search: `O(log n + k)`, where `k` runs
-    /// meet the interval. Reserves `k` runs once. Fails only if allocation fails.
+    /// overlap the interval. Reserves `k` runs once. Fails only if allocation fails.
     ///
     /// ```
     /// let a: IntervalSet<i32> = [(1, 5), (8, 9)].to_interval_set(alloc)?;

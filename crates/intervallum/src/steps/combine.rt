@@ -1,4 +1,4 @@
-//! Two walks, and what they have in common; one walk, and what it leaves free.
+//! The common members of two walks, and the gaps of one.
 ghost use Rattle.std.specs.Prelude.{◌≡◌, ◌↔◌, ◌+◌, ◌≤◌, IfOk, IsTrue, MatchOption, OnOk, Some, length, pos, slice_get};
 ghost use Rattle.ivl_laws.specs.Sets.{Complement, HasNone, HasSome, Intersection, IsBetween, Union};
 ghost use Rattle.ivl_laws.specs.Runs.{Covers, IsRunListIn, IsRunsOf};
@@ -13,9 +13,9 @@ use crate::ops::{
 use crate::width::Width;
 use std::alloc::AllocError;
 
-/// Returns the members that the runs left in two walks have in common. Advances once for each of
-/// these runs at most, and reserves as many runs once. The set has the allocator of the first walk.
-/// Fails only if allocation fails; the sets that are walked over are unchanged.
+/// Returns the common members of the runs left in two walks. Advances at most once for each of
+/// these runs, and reserves as many runs once. The result has the allocator of the first walk.
+/// Fails only if allocation fails.
 ///
 /// ```
 /// let (a, b) = (IntervalSet::new(alloc, 1, 5)?, IntervalSet::new(alloc, 4, 9)?);
@@ -45,9 +45,9 @@ pub fn common<B: Width>(
     Ok(set.fitted())
 }
 
-/// The numbers of the range that no run covers of those that are left in a walk. Advances once for
-/// each of these runs, and reserves one run more than these once. The set has the allocator of the
-/// walk. Fails only if allocation fails; the set that is walked over is unchanged.
+/// The numbers of the range that no run left in a walk covers. Advances once for each of these
+/// runs, and reserves one run more once. The result has the allocator of the walk. Fails only if
+/// allocation fails.
 pub(crate) fn gaps<B: Width>(mut walk: Walk<'_, B>) -> Result<IntervalSet<B>, AllocError>
     ensures members { IfOk result (λ L. IsRunsOf L (Complement B.whole (Covers walk.entry.left))) }
     ensures runs_at_most { IfOk result (λ L. length L ≤ length walk.entry.left + 1) }
@@ -64,7 +64,7 @@ pub(crate) fn gaps<B: Width>(mut walk: Walk<'_, B>) -> Result<IntervalSet<B>, Al
     Ok(set.fitted())
 }
 
-/// The first runs of two walks, where both have one.
+/// The first runs of two walks, if both have one.
 fn heads<B: Width>(first: &Walk<'_, B>, second: &Walk<'_, B>) -> Option<(Interval<B>, Interval<B>)>
     ensures heads { MatchOption result
         (HasNone (Intersection (Covers first.now.left) (Covers second.now.left)))
@@ -93,8 +93,8 @@ pub(super) fn push_part<B: Width>(
     set.push_apart(part)
 }
 
-/// Whether the runs left in two walks have a member in common. Advances once for each of these runs
-/// at most: `O(n + m)`. Stops at the first common member, and does not allocate.
+/// Whether the runs left in two walks have a member in common. Advances at most once for each of
+/// these runs: `O(n + m)`. Stops at the first common member. Does not allocate.
 pub(crate) fn have_common<B: Width>(mut first: Walk<'_, B>, mut second: Walk<'_, B>) -> bool
     ensures { IsTrue result ↔ HasSome (Intersection (Covers first.entry.left) (Covers second.entry.left)) }
 {

@@ -1,4 +1,4 @@
-//! Two walks, and the members that one of them has and the other has not.
+//! The members that one of two walks has left and the other does not.
 ghost use Rattle.std.specs.Prelude.{◌≡◌, ◌+◌, ◌≤◌, ◌≤ℤ◌, [], IfOk, None, OnOk, length, pos};
 ghost use Rattle.ivl_laws.specs.Sets.{Below, IsBetween, SameMembers, SymmetricDifference, Union, Without};
 ghost use Rattle.ivl_laws.specs.Runs.{Covers, IsMaximal, IsRunsOf};
@@ -13,9 +13,9 @@ use crate::ops::{Bounded, IsEmpty, StrictShrinkLeft, StrictShrinkRight};
 use crate::width::Width;
 use std::alloc::AllocError;
 
-/// The members that the first walk has left and the second has not. Advances once for each of these
-/// runs at most, and reserves as many runs once. The set has the allocator of the first walk. Fails
-/// only if allocation fails; the sets that are walked over are unchanged.
+/// The members that the first walk has left and the second does not. Advances at most once for each
+/// run left in the two, and reserves as many runs once. The result has the allocator of the first
+/// walk. Fails only if allocation fails.
 pub(crate) fn without<B: Width>(
     mut first: Walk<'_, B>,
     mut second: Walk<'_, B>,
@@ -41,7 +41,7 @@ pub(crate) fn without<B: Width>(
     Ok(set.fitted())
 }
 
-/// The members that one walk has left and the other has not. Steps, memory and errors are those of
+/// The members that exactly one of two walks has left. Steps, memory and errors are those of
 /// `without`.
 pub(crate) fn one_alone<B: Width>(
     mut first: Walk<'_, B>,

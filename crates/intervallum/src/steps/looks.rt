@@ -4,7 +4,7 @@ ghost use Rattle.std.specs.Borrow.{ftrue};
 
 use std::marker::Model;
 
-/// How many looks were taken. It has no bytes, and its calls do nothing at run time.
+/// The number of looks taken. It is zero-sized, and its calls do nothing at run time.
 #[derive(Drop)]
 pub struct Looks {
     pub ghost count: { ℕ },
@@ -15,14 +15,14 @@ impl Model for Looks {
 }
 
 impl Looks {
-    /// Returns the count of no look.
+    /// Returns a count of 0.
     pub(super) fn none() -> Looks
         ensures { result.count ≡ 0 }
     {
         Looks {}
     }
 
-    /// Returns the count of one look more.
+    /// Returns the count plus 1.
     pub(super) fn and_one(&self) -> Looks
         ensures { result.count ≡ self.now.count + 1 }
     {

@@ -1,4 +1,4 @@
-//! Two walks merged into one set.
+//! Merges the runs of two walks.
 ghost use Rattle.std.specs.Prelude.{◌≡◌, ◌≤◌, ◌+◌, [], IfOk, MatchOption, length};
 ghost use Rattle.ivl_laws.specs.Sets.{Union};
 ghost use Rattle.ivl_laws.specs.Runs.{Covers, IsRunListIn, IsRunsOf};
@@ -11,9 +11,9 @@ use crate::ops::Bounded;
 use crate::width::Width;
 use std::alloc::AllocError;
 
-/// Returns the members of the runs that are left in either walk. Advances once for each of these
-/// runs, and reserves as many runs once. The set has the allocator of the first walk. Fails only if
-/// allocation fails; the sets that are walked over are unchanged.
+/// Returns the members of the runs left in either walk. Advances once for each of these runs, and
+/// reserves as many runs once. The result has the allocator of the first walk. Fails only if
+/// allocation fails.
 ///
 /// ```
 /// let (a, b) = (IntervalSet::new(alloc, 1, 5)?, IntervalSet::new(alloc, 4, 9)?);
@@ -35,7 +35,7 @@ pub fn unite<B: Width>(
     Ok(set.fitted())
 }
 
-/// Takes the run that starts first away from the two walks.
+/// Takes the run that starts first from the two walks.
 fn take_first<B: Width>(first: &mut Walk<'_, B>, second: &mut Walk<'_, B>) -> Option<Interval<B>>
     ensures taken { MatchOption result
         ((first.old.left ≡ []) × (second.old.left ≡ []))

@@ -1,4 +1,4 @@
-//! How many runs of a set lie below a value, searched for among all or from a place on.
+//! The number of runs below a value, by a search among all or from a place on.
 ghost use Rattle.std.specs.Prelude.{◌≡◌, ℕ, ◌+◌, ◌-◌, ◌*◌, ◌^◌, ◌<◌, ◌≤◌, drop, length, take};
 ghost use Rattle.ivl_laws.specs.Runs.{StartsBy};
 ghost use Rattle.intervallum.specs.Places.{EndBelow, EndsFrom, StartAbove};
@@ -53,7 +53,7 @@ pub(crate) fn first_from<B: Width>(probes: &mut Probes<'_, B>, value: B, from: u
     }
 }
 
-/// How many runs start at a value or below, of which the first `from` end below it. Looks as
+/// How many runs start at a value or below, as the first `from` do, which end below it. Looks as
 /// `find_from` does.
 pub(crate) fn last_up_to<B: Width>(probes: &mut Probes<'_, B>, value: B, from: usize) -> usize
     requires at_most { from ≤ length probes.old.runs }

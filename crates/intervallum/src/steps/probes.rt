@@ -1,4 +1,4 @@
-//! The runs of a set, seen one by one, each by a look that contracts count.
+//! The runs of a set, read one at a time by looks that contracts count.
 ghost use Rattle.std.specs.Prelude.{◌≡◌, ◌+◌, ◌-◌, ◌^◌, ◌<◌, ◌≤◌, ◌≤ℤ◌, Some, drop, length, slice_get, take};
 ghost use Rattle.ivl_laws.specs.Runs.{IsRunListIn};
 
@@ -8,8 +8,8 @@ use crate::interval_set::IntervalSet;
 use crate::width::Width;
 use std::marker::Model;
 
-/// The runs of a set. A contract sees them, and how often one was looked at; at run time nothing
-/// counts. Does not allocate.
+/// The runs of a set. A contract sees the runs and how many looks were taken; nothing is counted at
+/// run time. No call allocates.
 ///
 /// ```
 /// let a: IntervalSet<i32> = [(1, 2), (5, 6)].to_interval_set(alloc)?;
@@ -51,7 +51,7 @@ impl<'a, B: Width> Probes<'a, B> {
         }
     }
 
-    /// Returns how many runs there are. This is no look. `O(1)`. Does not allocate.
+    /// Returns the number of runs. This is not a look. `O(1)`. Does not allocate.
     ///
     /// ```
     /// let a: IntervalSet<i32> = [(1, 2), (5, 6)].to_interval_set(alloc)?;
@@ -65,8 +65,8 @@ impl<'a, B: Width> Probes<'a, B> {
         self.runs.len()
     }
 
-    /// Returns run number `i`, from 0, by one look. The caller must ensure that `i` is less than
-    /// `len()`. `O(1)`. Does not allocate.
+    /// Returns run number `i`, counted from 0. This is one look. The caller must ensure that `i` is
+    /// less than `len()`. `O(1)`. Does not allocate.
     ///
     /// ```
     /// let a: IntervalSet<i32> = [(1, 2), (5, 6)].to_interval_set(alloc)?;
@@ -87,8 +87,8 @@ impl<'a, B: Width> Probes<'a, B> {
         run
     }
 
-    /// The runs are those of a set, and no more than can be counted. This does nothing: its contract is
-    /// the fact.
+    /// The runs are those of a set, and their number fits a `usize`. This does nothing: its
+    /// contract is the fact.
     pub(crate) fn in_whole(&self)
         ensures runs { IsRunListIn B.whole self.now.runs }
         ensures counted { length self.now.runs < 2 ^ 64 }
@@ -96,7 +96,7 @@ impl<'a, B: Width> Probes<'a, B> {
         self.len();
     }
 
-    /// The runs from place `start` to before place `end`, to be copied. This is no look.
+    /// The runs from place `start` to before place `end`, to be copied. This is not a look.
     pub(crate) fn part(&self, start: usize, end: usize) -> &'a [Interval<B>]
         requires in_order { start ≤ end }
         requires at_most { end ≤ length self.now.runs }

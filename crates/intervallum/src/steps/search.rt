@@ -1,4 +1,4 @@
-//! Where a value stands among the runs of a set.
+//! Binary search for a value among the runs of a set.
 ghost use Rattle.std.specs.Prelude.{◌≡◌, ℕ, ◌+◌, ◌-◌, ◌*◌, ◌^◌, ◌<◌, ◌≤◌, drop, length, take};
 ghost use Rattle.intervallum.specs.Neighbours.{IsBeside};
 ghost use Rattle.intervallum.specs.Places.{EndBelow, IsPlaceOf, StartAbove, index_of};
@@ -7,7 +7,7 @@ use super::probes::Probes;
 use crate::ops::Bounded;
 use crate::width::Width;
 
-/// Where a value stands in a list of runs, which are numbered from 0, as `find` tells.
+/// The place of a value among runs numbered from 0, as `find` returns it.
 ///
 /// ```
 /// let a: IntervalSet<i32> = [(1, 2), (5, 6)].to_interval_set(alloc)?;
@@ -22,9 +22,11 @@ pub enum Place {
     Gap(usize),
 }
 
-/// Where `v` stands, which may be any value of its type. A contract also sees the run that holds
-/// `v`, or the next and the previous member. Looks at no run where there is none, and else at no
-/// more runs than their number has binary digits: `O(log n)`. Does not allocate.
+/// Returns the place of `v`, which may be any value of its type. Binary search: `O(log n)`. Does
+/// not allocate.
+///
+/// Looks at no more runs than their number has binary digits. The contract also gives the run that
+/// holds `v`, or the next and the previous member.
 ///
 /// ```
 /// let a: IntervalSet<i32> = [(1, 2), (5, 6)].to_interval_set(alloc)?;
@@ -43,11 +45,11 @@ pub fn find<B: Width>(probes: &mut Probes<'_, B>, v: B) -> Place
     find_between(probes, v, 0, count)
 }
 
-/// Where `v` stands, from a place on: `from` runs lie below it. Doubles its steps until it is past
-/// `v`, and then does a binary search: `O(log d)` where it goes on by `d` runs. Does not allocate.
+/// The place of `v`, searched for from place `from` on. Doubles its steps until it is past `v`, and
+/// then does a binary search: `O(log d)` if it advances by `d` runs. Does not allocate.
 ///
 /// The caller must ensure that `from` is at most `probes.len()`, and the runs before place `from`
-/// end below `v`, as they do where an earlier search for a lower value answered that place.
+/// end below `v`, as they do if an earlier search for a lower value returned that place.
 pub(crate) fn find_from<B: Width>(probes: &mut Probes<'_, B>, v: B, from: usize) -> Place
     requires at_most { from ≤ length probes.old.runs }
     requires below { EndBelow (B.value v) (take from probes.old.runs) }
@@ -73,7 +75,7 @@ pub(crate) fn find_from<B: Width>(probes: &mut Probes<'_, B>, v: B, from: usize)
     find_between(probes, v, low, count)
 }
 
-/// Where `v` stands, which lies above the first `low` runs, and below those from `high` on.
+/// The place of `v`, which lies above the first `low` runs and below those from `high` on.
 fn find_between<B: Width>(probes: &mut Probes<'_, B>, v: B, mut low: usize, high: usize) -> Place
     requires in_order { low ≤ high }
     requires at_most { high ≤ length probes.old.runs }

@@ -10,8 +10,8 @@ use crate::width::Width;
 use std::alloc::Global;
 use std::marker::Model;
 
-/// The runs that are left of a set. A contract sees them, how many were taken away, and how many
-/// the set has. Does not allocate.
+/// The runs of a set that are left in a walk. A contract sees these runs, how many were taken, and
+/// how many the set has. No call allocates.
 ///
 /// ```
 /// let a: IntervalSet<i32> = [(1, 2), (5, 6)].to_interval_set(alloc)?;
@@ -40,7 +40,7 @@ impl<'a, B: Width> Model for Walk<'a, B> {
 }
 
 impl<'a, B: Width> Walk<'a, B> {
-    /// Returns a walk that has all runs of the set before it. `O(1)`. Does not allocate.
+    /// Returns a walk over all runs of the set. `O(1)`. Does not allocate.
     ///
     /// ```
     /// let a: IntervalSet<i32> = [(1, 2), (5, 6)].to_interval_set(alloc)?;
@@ -58,8 +58,7 @@ impl<'a, B: Width> Walk<'a, B> {
         }
     }
 
-    /// Returns the first of the runs that are left; `None` if there is none. `O(1)`. Does not
-    /// allocate.
+    /// Returns the first run that is left, or `None` if there is none. `O(1)`. Does not allocate.
     ///
     /// ```
     /// let a: IntervalSet<i32> = [(1, 2), (5, 6)].to_interval_set(alloc)?;
@@ -74,7 +73,7 @@ impl<'a, B: Width> Walk<'a, B> {
         self.runs.get(self.taken).copied()
     }
 
-    /// Takes the first of the runs away. The caller must ensure that there is one. Check with
+    /// Takes the first run that is left. The caller must ensure that there is one. Check with
     /// `peek`. `O(1)`. Does not allocate.
     ///
     /// ```
@@ -93,7 +92,7 @@ impl<'a, B: Width> Walk<'a, B> {
         self.taken += 1;
     }
 
-    /// Takes the first of the runs away, if one is left.
+    /// Takes the first run that is left, if there is one.
     pub(crate) fn take(&mut self) -> Option<Interval<B>>
         ensures taken { self.old.left ≡ led_by result self.new.left }
         ensures none { (result ≡ None) → (self.new.left ≡ []) }
@@ -104,7 +103,7 @@ impl<'a, B: Width> Walk<'a, B> {
         Some(run)
     }
 
-    /// Returns how many runs are left: with the advances made, they are the runs of the set.
+    /// Returns the number of runs that are left: the runs of the set less the advances made.
     /// `O(1)`. Does not allocate.
     ///
     /// ```

@@ -9,7 +9,7 @@ use intervallum::ops::{Cardinality, Complement, Intersection, Union};
 use intervallum::width::Width;
 use std::alloc::{AllocError, Global};
 
-/// The complement of a union is what the complements have in common.
+/// The complement of a union is the intersection of the complements.
 pub fn complement_of_union<B: Width>(
     a: &IntervalSet<B>,
     b: &IntervalSet<B>,
@@ -23,7 +23,7 @@ pub fn complement_of_union<B: Width>(
     Ok(same_members_are_equal(&rest, &common))
 }
 
-/// The complement of what two sets have in common is the union of the complements.
+/// The complement of an intersection is the union of the complements.
 pub fn complement_of_common<B: Width>(
     a: &IntervalSet<B>,
     b: &IntervalSet<B>,
@@ -48,7 +48,7 @@ pub fn complement_twice<B: Width>(a: &IntervalSet<B>) -> Result<bool, AllocError
     Ok(same_members_are_equal(&again, a))
 }
 
-/// A set united with another is that other exactly where it is a subset of it.
+/// The union of two sets is equal to the second exactly when the first is a subset of it.
 pub fn union_tells_subset<B: Width>(
     a: &IntervalSet<B>,
     b: &IntervalSet<B>,
@@ -59,8 +59,7 @@ pub fn union_tells_subset<B: Width>(
     Ok(all == *b)
 }
 
-/// The sizes of the union, of what is in common, and of the two sets: the first two have the sum of
-/// the last two.
+/// The sizes of the union and the intersection add up to those of the two sets.
 pub fn sizes_add_up<B: Width>(
     a: &IntervalSet<B>,
     b: &IntervalSet<B>,

@@ -1,4 +1,4 @@
-//! Laws of hulls and of sums, from the answers of two calls.
+//! Laws of hulls and of sums, from the results of two calls.
 ghost use Rattle.std.specs.Prelude.{IfOk, IsTrue};
 ghost use Rattle.ivl_laws.specs.Sets.{IsBetween, IsSubset};
 ghost use Rattle.ivl_laws.specs.Runs.{Covers};
@@ -29,7 +29,7 @@ pub fn hull_lies_within<B: Width>(a: &Interval<B>, b: &Interval<B>, c: &Interval
     a.hull(b).is_subset(c)
 }
 
-/// The sums of a set and another lie among those of a larger set and that other, where both fit.
+/// The sums of a set and another are among those of a larger set and that other, if both fit.
 pub fn sums_grow<B: Width>(
     a: &IntervalSet<B>,
     larger: &IntervalSet<B>,

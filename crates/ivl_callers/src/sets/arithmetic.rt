@@ -8,7 +8,7 @@ use intervallum::width::Width;
 use ivl_interval_callers::callers::arithmetic as callers;
 use std::alloc::AllocError;
 
-/// The runs of the sums of a number of each.
+/// Returns the runs of the sums of a number of each.
 pub fn sum_of_sets<B: Width>(
     a: IntervalSet<B>,
     b: IntervalSet<B>,
@@ -19,7 +19,7 @@ pub fn sum_of_sets<B: Width>(
     callers::sum_by_bound(a, b)
 }
 
-/// The runs of the differences of a number of each.
+/// Returns the runs of the differences of a number of each.
 pub fn difference_of_sets<B: Width>(
     a: IntervalSet<B>,
     b: IntervalSet<B>,
@@ -30,7 +30,7 @@ pub fn difference_of_sets<B: Width>(
     callers::difference_by_bound(a, b)
 }
 
-/// The runs of all numbers between products whose factors stand in one run of each.
+/// Returns the runs of all numbers between products whose factors are in one run of each.
 pub fn product_of_sets<B: Width>(
     a: IntervalSet<B>,
     b: IntervalSet<B>,

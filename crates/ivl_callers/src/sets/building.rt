@@ -1,4 +1,4 @@
-//! Sets made of lists and pairs, taken apart into runs, and the results over each pair of runs.
+//! Sets from lists and pairs, sets into runs, and the results over each pair of runs.
 ghost use Rattle.std.specs.Prelude.{◌≡◌, ◌*◌, All, IfOk, OnErr, OnOk, length, map};
 ghost use Rattle.ivl_laws.specs.Sets.{Differences, ExactProducts, Intersection, IsBetween, IsInRange, IsSubset, Products, SameMembers, Sums, Union};
 ghost use Rattle.ivl_laws.specs.Runs.{Covers, IsRunsOf};
@@ -10,7 +10,7 @@ use intervallum::sweep::{Op, coalesce, images};
 use intervallum::width::Width;
 use std::alloc::{AllocError, Global};
 
-/// The set of the numbers of every pair, in any order.
+/// Returns the set of the numbers of every pair, in any order.
 pub fn set_of_pairs<B: Width>(alloc: Global, pairs: &[(B, B)]) -> Result<IntervalSet<B>, AllocError>
     requires { All (λ p. IsInRange B.whole (B.value p.0, B.value p.1)) pairs.now }
     ensures { IfOk result (λ L. IsRunsOf L (Covers (map (λ p. (B.value p.0, B.value p.1)) pairs.now))) }
@@ -18,7 +18,7 @@ pub fn set_of_pairs<B: Width>(alloc: Global, pairs: &[(B, B)]) -> Result<Interva
     pairs.to_interval_set(alloc)
 }
 
-/// The set of the members of every interval, in any order.
+/// Returns the set of the members of every interval, in any order.
 pub fn set_of_intervals<B: Width>(
     alloc: Global,
     list: Vec<Interval<B>>,
@@ -28,7 +28,7 @@ pub fn set_of_intervals<B: Width>(
     coalesce(alloc, list)
 }
 
-/// The set gets the members of every interval; after an error it is as it was.
+/// Adds the members of every interval to the set, which is unchanged after an error.
 pub fn set_extended<B: Width>(
     set: &mut IntervalSet<B>,
     list: Vec<Interval<B>>,
@@ -39,14 +39,14 @@ pub fn set_extended<B: Width>(
     set.extend(list.into_iter())
 }
 
-/// The runs that are left are those of the set.
+/// Returns the runs of the set by value.
 pub fn runs_by_value<B: Width>(set: IntervalSet<B>) -> IntoRuns<B>
     ensures { result ≡ set }
 {
     set.into_iter()
 }
 
-/// A walk over each of two sets finds what they have in common.
+/// Returns the common members of two sets, by a walk over each.
 pub fn common_by_walks<B: Width>(
     a: &IntervalSet<B>,
     b: &IntervalSet<B>,
@@ -56,7 +56,7 @@ pub fn common_by_walks<B: Width>(
     common(Walk::new(a), Walk::new(b))
 }
 
-/// One interval for each pair of runs, which cover the sums.
+/// Returns one interval for each pair of runs. Together they cover the sums.
 pub fn sums_by_runs<B: Width>(
     a: &IntervalSet<B>,
     b: &IntervalSet<B>,
@@ -68,7 +68,7 @@ pub fn sums_by_runs<B: Width>(
     images(a, b, Op::Sum)
 }
 
-/// One interval for each pair of runs, which cover the differences.
+/// Returns one interval for each pair of runs. Together they cover the differences.
 pub fn differences_by_runs<B: Width>(
     a: &IntervalSet<B>,
     b: &IntervalSet<B>,
@@ -80,7 +80,8 @@ pub fn differences_by_runs<B: Width>(
     images(a, b, Op::Difference)
 }
 
-/// One interval for each pair of runs, which cover all between products of those.
+/// Returns one interval for each pair of runs. Together they cover all numbers between products of
+/// each pair.
 pub fn products_by_runs<B: Width>(
     a: &IntervalSet<B>,
     b: &IntervalSet<B>,

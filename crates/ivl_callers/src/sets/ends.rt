@@ -8,7 +8,7 @@ use intervallum::ops::Bounded;
 use intervallum::width::Width;
 use ivl_interval_callers::callers::arithmetic as callers;
 
-/// The least number that the runs cover.
+/// Returns the least number that the runs cover.
 pub fn least_of_set<B: Width>(set: &IntervalSet<B>) -> B
     requires { HasSome (Covers set.now) }
     ensures member { Covers set.now (B.value result) }
@@ -17,7 +17,7 @@ pub fn least_of_set<B: Width>(set: &IntervalSet<B>) -> B
     set.lower()
 }
 
-/// The greatest number that the runs cover.
+/// Returns the greatest number that the runs cover.
 pub fn greatest_of_set<B: Width>(set: &IntervalSet<B>) -> B
     requires { HasSome (Covers set.now) }
     ensures member { Covers set.now (B.value result) }
@@ -26,42 +26,45 @@ pub fn greatest_of_set<B: Width>(set: &IntervalSet<B>) -> B
     set.upper()
 }
 
-/// Each sum is in the range.
+/// Returns true exactly when each sum is in the range.
 pub fn sums_fit<B: Width>(a: &IntervalSet<B>, b: &IntervalSet<B>) -> bool
     ensures { IsTrue result ↔ IsSubset (Sums (Covers a.now) (Covers b.now)) (IsBetween B.whole) }
 {
     callers::fits_add_by_bound(a, b)
 }
 
-/// Each difference is in the range.
+/// Returns true exactly when each difference is in the range.
 pub fn differences_fit<B: Width>(a: &IntervalSet<B>, b: &IntervalSet<B>) -> bool
     ensures { IsTrue result ↔ IsSubset (Differences (Covers a.now) (Covers b.now)) (IsBetween B.whole) }
 {
     callers::fits_sub_by_bound(a, b)
 }
 
-/// Each product is in the range.
+/// Returns true exactly when each product is in the range.
 pub fn products_fit<B: Width>(a: &IntervalSet<B>, b: &IntervalSet<B>) -> bool
     ensures { IsTrue result ↔ IsSubset (ExactProducts (Covers a.now) (Covers b.now)) (IsBetween B.whole) }
 {
     callers::fits_mul_by_bound(a, b)
 }
 
-/// Each product with a value is in the range; the value itself may lie outside.
+/// Returns true exactly when each product with a value is in the range; the value itself may be
+/// outside the range.
 pub fn products_with_value_fit<B: Width>(a: &IntervalSet<B>, x: &B) -> bool
     ensures { IsTrue result ↔ IsSubset (ExactProducts (Covers a.now) (Only (B.value x.now))) (IsBetween B.whole) }
 {
     callers::fits_mul_by_bound(a, x)
 }
 
-/// Each sum with a value is in the range; the value itself may lie outside.
+/// Returns true exactly when each sum with a value is in the range; the value itself may be outside
+/// the range.
 pub fn sums_with_value_fit<B: Width>(a: &IntervalSet<B>, x: &B) -> bool
     ensures { IsTrue result ↔ IsSubset (Sums (Covers a.now) (Only (B.value x.now))) (IsBetween B.whole) }
 {
     callers::fits_add_by_bound(a, x)
 }
 
-/// Each difference with a value is in the range; the value itself may lie outside.
+/// Returns true exactly when each difference with a value is in the range; the value itself may be
+/// outside the range.
 pub fn differences_with_value_fit<B: Width>(a: &IntervalSet<B>, x: &B) -> bool
     ensures { IsTrue result ↔ IsSubset (Differences (Covers a.now) (Only (B.value x.now))) (IsBetween B.whole) }
 {

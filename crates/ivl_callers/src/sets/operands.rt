@@ -7,7 +7,7 @@ use intervallum::interval_set::IntervalSet;
 use intervallum::width::Width;
 use std::alloc::AllocError;
 
-/// The sums of a member of each.
+/// Returns the sums of a member of each set.
 pub fn sum_of_owned_and_borrowed_set<B: Width>(
     a: IntervalSet<B>,
     b: &IntervalSet<B>,
@@ -18,7 +18,7 @@ pub fn sum_of_owned_and_borrowed_set<B: Width>(
     a + b
 }
 
-/// The sums of a member of each.
+/// Returns the sums of a member of each set.
 pub fn sum_of_borrowed_and_owned_set<B: Width>(
     a: &IntervalSet<B>,
     b: IntervalSet<B>,
@@ -29,7 +29,7 @@ pub fn sum_of_borrowed_and_owned_set<B: Width>(
     a + b
 }
 
-/// The sums of a member of each.
+/// Returns the sums of a member of each set.
 pub fn sum_of_borrowed_sets<B: Width>(
     a: &IntervalSet<B>,
     b: &IntervalSet<B>,
@@ -40,7 +40,7 @@ pub fn sum_of_borrowed_sets<B: Width>(
     a + b
 }
 
-/// The sums of a member and the value.
+/// Returns the sums of a member and the value.
 pub fn sum_of_owned_set_and_value<B: Width>(
     a: IntervalSet<B>,
     x: B,
@@ -51,7 +51,7 @@ pub fn sum_of_owned_set_and_value<B: Width>(
     a + x
 }
 
-/// The sums of a member and the value.
+/// Returns the sums of a member and the value.
 pub fn sum_of_owned_set_and_borrowed_value<B: Width>(
     a: IntervalSet<B>,
     x: &B,
@@ -62,7 +62,7 @@ pub fn sum_of_owned_set_and_borrowed_value<B: Width>(
     a + x
 }
 
-/// The sums of a member and the value.
+/// Returns the sums of a member and the value.
 pub fn sum_of_borrowed_set_and_value<B: Width>(
     a: &IntervalSet<B>,
     x: B,
@@ -73,7 +73,7 @@ pub fn sum_of_borrowed_set_and_value<B: Width>(
     a + x
 }
 
-/// The sums of a member and the value.
+/// Returns the sums of a member and the value.
 pub fn sum_of_borrowed_set_and_borrowed_value<B: Width>(
     a: &IntervalSet<B>,
     x: &B,
@@ -84,7 +84,7 @@ pub fn sum_of_borrowed_set_and_borrowed_value<B: Width>(
     a + x
 }
 
-/// The differences of a member of each.
+/// Returns the differences of a member of each set.
 pub fn difference_of_owned_and_borrowed_set<B: Width>(
     a: IntervalSet<B>,
     b: &IntervalSet<B>,
@@ -95,7 +95,7 @@ pub fn difference_of_owned_and_borrowed_set<B: Width>(
     a - b
 }
 
-/// The differences of a member of each.
+/// Returns the differences of a member of each set.
 pub fn difference_of_borrowed_and_owned_set<B: Width>(
     a: &IntervalSet<B>,
     b: IntervalSet<B>,
@@ -106,7 +106,7 @@ pub fn difference_of_borrowed_and_owned_set<B: Width>(
     a - b
 }
 
-/// The differences of a member of each.
+/// Returns the differences of a member of each set.
 pub fn difference_of_borrowed_sets<B: Width>(
     a: &IntervalSet<B>,
     b: &IntervalSet<B>,
@@ -117,7 +117,7 @@ pub fn difference_of_borrowed_sets<B: Width>(
     a - b
 }
 
-/// The differences of a member and the value.
+/// Returns the differences of a member and the value.
 pub fn difference_of_owned_set_and_value<B: Width>(
     a: IntervalSet<B>,
     x: B,
@@ -128,7 +128,7 @@ pub fn difference_of_owned_set_and_value<B: Width>(
     a - x
 }
 
-/// The differences of a member and the value.
+/// Returns the differences of a member and the value.
 pub fn difference_of_owned_set_and_borrowed_value<B: Width>(
     a: IntervalSet<B>,
     x: &B,
@@ -139,7 +139,7 @@ pub fn difference_of_owned_set_and_borrowed_value<B: Width>(
     a - x
 }
 
-/// The differences of a member and the value.
+/// Returns the differences of a member and the value.
 pub fn difference_of_borrowed_set_and_value<B: Width>(
     a: &IntervalSet<B>,
     x: B,
@@ -150,7 +150,7 @@ pub fn difference_of_borrowed_set_and_value<B: Width>(
     a - x
 }
 
-/// The differences of a member and the value.
+/// Returns the differences of a member and the value.
 pub fn difference_of_borrowed_set_and_borrowed_value<B: Width>(
     a: &IntervalSet<B>,
     x: &B,
@@ -161,7 +161,7 @@ pub fn difference_of_borrowed_set_and_borrowed_value<B: Width>(
     a - x
 }
 
-/// For each pair of runs all numbers between two products.
+/// Returns, for each pair of runs, all numbers between two products.
 pub fn product_of_owned_and_borrowed_set<B: Width>(
     a: IntervalSet<B>,
     b: &IntervalSet<B>,
@@ -172,7 +172,7 @@ pub fn product_of_owned_and_borrowed_set<B: Width>(
     a * b
 }
 
-/// For each pair of runs all numbers between two products.
+/// Returns, for each pair of runs, all numbers between two products.
 pub fn product_of_borrowed_and_owned_set<B: Width>(
     a: &IntervalSet<B>,
     b: IntervalSet<B>,
@@ -183,7 +183,7 @@ pub fn product_of_borrowed_and_owned_set<B: Width>(
     a * b
 }
 
-/// For each pair of runs all numbers between two products.
+/// Returns, for each pair of runs, all numbers between two products.
 pub fn product_of_borrowed_sets<B: Width>(
     a: &IntervalSet<B>,
     b: &IntervalSet<B>,
@@ -194,7 +194,7 @@ pub fn product_of_borrowed_sets<B: Width>(
     a * b
 }
 
-/// For each run all numbers between two products with the value.
+/// Returns, for each run, all numbers between two products with the value.
 pub fn product_of_owned_set_and_value<B: Width>(
     a: IntervalSet<B>,
     x: B,
@@ -205,7 +205,7 @@ pub fn product_of_owned_set_and_value<B: Width>(
     a * x
 }
 
-/// For each run all numbers between two products with the value.
+/// Returns, for each run, all numbers between two products with the value.
 pub fn product_of_owned_set_and_borrowed_value<B: Width>(
     a: IntervalSet<B>,
     x: &B,
@@ -216,7 +216,7 @@ pub fn product_of_owned_set_and_borrowed_value<B: Width>(
     a * x
 }
 
-/// For each run all numbers between two products with the value.
+/// Returns, for each run, all numbers between two products with the value.
 pub fn product_of_borrowed_set_and_value<B: Width>(
     a: &IntervalSet<B>,
     x: B,
@@ -227,7 +227,7 @@ pub fn product_of_borrowed_set_and_value<B: Width>(
     a * x
 }
 
-/// For each run all numbers between two products with the value.
+/// Returns, for each run, all numbers between two products with the value.
 pub fn product_of_borrowed_set_and_borrowed_value<B: Width>(
     a: &IntervalSet<B>,
     x: &B,

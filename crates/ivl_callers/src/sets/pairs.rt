@@ -1,4 +1,4 @@
-//! What two sets have to do with each other.
+//! Operations on two sets.
 ghost use Rattle.std.specs.Prelude.{◌↔◌, IfOk, IsTrue};
 ghost use Rattle.ivl_laws.specs.Sets.{Complement, HasNone, HasSome, Intersection, IsProperSubset, IsSubset, SymmetricDifference, Union, Without};
 ghost use Rattle.ivl_laws.specs.Runs.{Covers, IsRunsOf};
@@ -11,7 +11,7 @@ use intervallum::width::Width;
 use ivl_interval_callers::callers::pairs as callers;
 use std::alloc::AllocError;
 
-/// The runs of the numbers that both lists cover.
+/// Returns the runs of the numbers that both lists cover.
 pub fn sets_in_common<B: Width>(
     a: &IntervalSet<B>,
     b: &IntervalSet<B>,
@@ -21,7 +21,7 @@ pub fn sets_in_common<B: Width>(
     callers::intersection_by_bound(a, b)
 }
 
-/// The runs of the numbers that the one list covers and the other does not.
+/// Returns the runs of the numbers that the one list covers and the other does not.
 pub fn set_without<B: Width>(
     a: &IntervalSet<B>,
     b: &IntervalSet<B>,
@@ -31,7 +31,7 @@ pub fn set_without<B: Width>(
     callers::difference_by_bound(a, b)
 }
 
-/// The runs of the numbers that one list alone covers.
+/// Returns the runs of the numbers that one list alone covers.
 pub fn sets_apart<B: Width>(
     a: &IntervalSet<B>,
     b: &IntervalSet<B>,
@@ -41,42 +41,43 @@ pub fn sets_apart<B: Width>(
     a.symmetric_difference(b)
 }
 
-/// The runs of the numbers of the range that the list does not cover.
+/// Returns the runs of the numbers of the range that the list does not cover.
 pub fn rest_of_range<B: Width>(a: &IntervalSet<B>) -> Result<IntervalSet<B>, AllocError>
     ensures { IfOk result (λ L. IsRunsOf L (Complement B.whole (Covers a.now))) }
 {
     a.complement()
 }
 
-/// Each number that the one list covers is covered by the other.
+/// Returns true exactly when each number that the one list covers is covered by the other.
 pub fn set_is_subset<B: Width>(a: &IntervalSet<B>, b: &IntervalSet<B>) -> bool
     ensures { IsTrue result ↔ IsSubset (Covers a.now) (Covers b.now) }
 {
     callers::is_subset_by_bound(a, b)
 }
 
-/// Each number that the one list covers is covered by the other, which covers more.
+/// Returns true exactly when each number that the one list covers is covered by the other, which
+/// covers more.
 pub fn set_is_proper_subset<B: Width>(a: &IntervalSet<B>, b: &IntervalSet<B>) -> bool
     ensures { IsTrue result ↔ IsProperSubset (Covers a.now) (Covers b.now) }
 {
     callers::is_proper_subset_by_bound(a, b)
 }
 
-/// No number is covered by both lists.
+/// Returns true exactly when no number is covered by both lists.
 pub fn sets_are_disjoint<B: Width>(a: &IntervalSet<B>, b: &IntervalSet<B>) -> bool
     ensures { IsTrue result ↔ HasNone (Intersection (Covers a.now) (Covers b.now)) }
 {
     callers::is_disjoint_by_bound(a, b)
 }
 
-/// Some number is covered by both lists.
+/// Returns true exactly when some number is covered by both lists.
 pub fn sets_overlap<B: Width>(a: &IntervalSet<B>, b: &IntervalSet<B>) -> bool
     ensures { IsTrue result ↔ HasSome (Intersection (Covers a.now) (Covers b.now)) }
 {
     callers::overlap_by_bound(a, b)
 }
 
-/// The runs of the numbers that both lists cover.
+/// Returns the runs of the numbers that both lists cover.
 pub fn join_of_sets<B: Width>(
     a: IntervalSet<B>,
     b: IntervalSet<B>,
@@ -86,7 +87,7 @@ pub fn join_of_sets<B: Width>(
     callers::join_by_bound(a, b)
 }
 
-/// The runs of the numbers that either list covers.
+/// Returns the runs of the numbers that either list covers.
 pub fn meet_of_sets<B: Width>(
     a: IntervalSet<B>,
     b: IntervalSet<B>,
@@ -96,7 +97,7 @@ pub fn meet_of_sets<B: Width>(
     callers::meet_by_bound(a, b)
 }
 
-/// Inclusion one way, or else the other, or neither.
+/// Returns inclusion one way, or else the other, or neither.
 pub fn set_entails<B: Width>(a: &IntervalSet<B>, b: &IntervalSet<B>) -> SKleene
     ensures { IsEntailmentOf (Covers a.now) (Covers b.now) result }
 {

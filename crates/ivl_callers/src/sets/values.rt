@@ -1,4 +1,4 @@
-//! A value beside a set, and sets of lists that are given by value.
+//! Operations on a set and a value, and sets from lists by value.
 ghost use Rattle.std.specs.Prelude.{◌≡◌, ◌↔◌, [], ◌∷◌, ◌++◌, ◌≤ℤ◌, All, IfOk, IsTrue, MatchOption, Some, codes, map, option_map, string_bytes};
 ghost use Rattle.ivl_laws.specs.Sets.{HasSome, Held, Intersection, IsBetween, IsInRange, Only, Union, Without};
 ghost use Rattle.ivl_laws.specs.Runs.{Covers, IsRunListIn, IsRunsOf};
@@ -11,21 +11,21 @@ use ivl_interval_callers::callers;
 use std::alloc::{AllocError, Global};
 use std::fmt::Display;
 
-/// Whether the number of the value is a member.
+/// Returns true exactly when the number of the value is a member.
 pub fn set_overlaps_value<B: Width>(a: &IntervalSet<B>, x: &B) -> bool
     ensures { IsTrue result ↔ Covers a.now (B.value x.now) }
 {
     callers::pairs::overlap_by_bound(a, x)
 }
 
-/// Whether a value is held that is a member.
+/// Returns true exactly when there is a value and it is a member.
 pub fn set_overlaps_optional<B: Width>(a: &IntervalSet<B>, o: &Optional<B>) -> bool
     ensures { IsTrue result ↔ HasSome (Intersection (Covers a.now) (Held (option_map B.value o.now))) }
 {
     callers::pairs::overlap_by_bound(a, o)
 }
 
-/// The value alone, if it is a member, and else nothing.
+/// Returns the value alone if it is a member, else the empty set.
 pub fn set_common_with_value<B: Width>(
     a: &IntervalSet<B>,
     x: &B,
@@ -35,14 +35,14 @@ pub fn set_common_with_value<B: Width>(
     callers::pairs::intersection_by_bound(a, x)
 }
 
-/// The members but for the value.
+/// Returns the members except the value.
 pub fn set_without_value<B: Width>(a: &IntervalSet<B>, x: &B) -> Result<IntervalSet<B>, AllocError>
     ensures { IfOk result (λ L. IsRunsOf L (Without (Covers a.now) (Only (B.value x.now)))) }
 {
     callers::pairs::difference_by_bound(a, x)
 }
 
-/// The members and the value.
+/// Returns the members and the value.
 pub fn set_with_value<B: Width>(a: &IntervalSet<B>, x: &B) -> Result<IntervalSet<B>, AllocError>
     requires { IsBetween B.whole (B.value x.now) }
     ensures { IfOk result (λ L. IsRunsOf L (Union (Covers a.now) (Only (B.value x.now)))) }
@@ -50,7 +50,7 @@ pub fn set_with_value<B: Width>(a: &IntervalSet<B>, x: &B) -> Result<IntervalSet
     callers::pairs::union_by_bound(a, x)
 }
 
-/// The set of the numbers of every pair of a vector.
+/// Returns the set of the numbers of every pair of a vector.
 pub fn set_of_vector<B: Width>(
     alloc: Global,
     pairs: Vec<(B, B)>,
@@ -61,7 +61,7 @@ pub fn set_of_vector<B: Width>(
     pairs.to_interval_set(alloc)
 }
 
-/// The set of the numbers of every pair of an array.
+/// Returns the set of the numbers of every pair of an array.
 pub fn set_of_array<B: Width, const N: usize>(
     alloc: Global,
     pairs: [(B, B); N],
@@ -72,7 +72,7 @@ pub fn set_of_array<B: Width, const N: usize>(
     pairs.to_interval_set(alloc)
 }
 
-/// The runs of a borrowed set, in a loop: they are those of the set, maximal and in the range.
+/// Returns the runs of a borrowed set, by a loop over it. They are maximal and in the range.
 pub fn runs_by_reference<B: Width>(set: &IntervalSet<B>) -> std::slice::Iter<'_, Interval<B>>
     ensures rest { result.rest.now ≡ set.now }
     ensures runs { IsRunListIn B.whole set.now }
@@ -80,14 +80,14 @@ pub fn runs_by_reference<B: Width>(set: &IntervalSet<B>) -> std::slice::Iter<'_,
     set.into_iter()
 }
 
-/// The last of the runs that are left, which is taken away.
+/// Removes and returns the last of the runs that are left.
 pub fn last_run_by_value<B: Width>(runs: &mut IntoRuns<B>) -> Option<Interval<B>>
     ensures { MatchOption result ((runs.old ≡ []) × (runs.new ≡ [])) (λ run. runs.old ≡ runs.new ++ run ∷ []) }
 {
     runs.next_back()
 }
 
-/// The text of the empty set.
+/// Returns the text of the empty set.
 pub fn text_of_no_run<B: Width + Display>(
     alloc: Global,
     set: &IntervalSet<B>,
@@ -98,7 +98,7 @@ pub fn text_of_no_run<B: Width + Display>(
     format!(in alloc; "{set}")
 }
 
-/// The text of one run is that of the interval.
+/// Returns the text of one run, which is that of the interval.
 pub fn text_of_one_run<B: Width + Display>(
     alloc: Global,
     set: &IntervalSet<B>,

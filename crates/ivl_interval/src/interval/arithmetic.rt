@@ -1,9 +1,9 @@
 //! Sums, differences and products of intervals, and of an interval with a value.
 //!
-//! Each operand is owned or borrowed. The condition of each call is that its results are in the
-//! range: `fits_add`, `fits_sub` and `fits_mul` test it, and with an empty operand it always holds.
-//! The value itself may lie outside the range: `[1..5] + (-128i8)` is allowed. An empty operand
-//! gives an interval with no member.
+//! Each operand is owned or borrowed. The caller must ensure that the results of each call are in
+//! the range: check with `fits_add`, `fits_sub` and `fits_mul`. With an empty operand this always
+//! holds, and the result is empty. The value itself may be outside the range: `[1..5] + (-128i8)`
+//! is allowed.
 ghost use Rattle.std.specs.Prelude.{◌≡◌, ◌+ℤ◌, ◌-ℤ◌, ◌*ℤ◌};
 ghost use Rattle.ivl_laws.specs.Sets.{Differences, ExactProducts, IsBetween, IsHullOf, IsSubset, Only, SameMembers, Sums};
 
@@ -115,8 +115,8 @@ impl<B: Width> Add<Interval<B>> for Interval<B> {
 
     ghost add_gives = { λ a b r. SameMembers (IsBetween r) (Sums (IsBetween a) (IsBetween b)) };
 
-    /// Returns the sums of a member of each, and nothing else. The caller must ensure that the sums
-    /// are in the range. Check with `fits_add`.
+    /// Returns exactly the sums of a member of `self` and a member of `rhs`. The caller must ensure
+    /// that the sums are in the range. Check with `fits_add`.
     ///
     /// ```
     /// let (a, b) = (Interval::new(1i32, 2), Interval::new(10, 20));
@@ -135,8 +135,8 @@ impl<B: Width> Add<&Interval<B>> for Interval<B> {
 
     ghost add_gives = { λ a b r. SameMembers (IsBetween r) (Sums (IsBetween a) (IsBetween b.now)) };
 
-    /// Returns the sums of a member of each, and nothing else. The caller must ensure that the sums
-    /// are in the range. Check with `fits_add`.
+    /// Returns exactly the sums of a member of `self` and a member of `rhs`. The caller must ensure
+    /// that the sums are in the range. Check with `fits_add`.
     fn add(self, rhs: &Interval<B>) -> Interval<B> {
         sums(self, *rhs)
     }
@@ -149,8 +149,8 @@ impl<B: Width> Add<Interval<B>> for &Interval<B> {
 
     ghost add_gives = { λ a b r. SameMembers (IsBetween r) (Sums (IsBetween a.now) (IsBetween b)) };
 
-    /// Returns the sums of a member of each, and nothing else. The caller must ensure that the sums
-    /// are in the range. Check with `fits_add`.
+    /// Returns exactly the sums of a member of `self` and a member of `rhs`. The caller must ensure
+    /// that the sums are in the range. Check with `fits_add`.
     fn add(self, rhs: Interval<B>) -> Interval<B> {
         sums(*self, rhs)
     }
@@ -163,8 +163,8 @@ impl<B: Width> Add<&Interval<B>> for &Interval<B> {
 
     ghost add_gives = { λ a b r. SameMembers (IsBetween r) (Sums (IsBetween a.now) (IsBetween b.now)) };
 
-    /// Returns the sums of a member of each, and nothing else. The caller must ensure that the sums
-    /// are in the range. Check with `fits_add`.
+    /// Returns exactly the sums of a member of `self` and a member of `rhs`. The caller must ensure
+    /// that the sums are in the range. Check with `fits_add`.
     fn add(self, rhs: &Interval<B>) -> Interval<B> {
         sums(*self, *rhs)
     }
@@ -177,8 +177,8 @@ impl<B: Width> Add<B> for Interval<B> {
 
     ghost add_gives = { λ a x r. SameMembers (IsBetween r) (Sums (IsBetween a) (Only (B.value x))) };
 
-    /// Returns the sums of a member and the value. The caller must ensure that the sums are in the
-    /// range. Check with `fits_add`.
+    /// Returns exactly the sums of a member and the value. The caller must ensure that the sums are
+    /// in the range. Check with `fits_add`.
     ///
     /// ```
     /// let a = Interval::new(1i32, 2);
@@ -197,8 +197,8 @@ impl<B: Width> Add<&B> for Interval<B> {
 
     ghost add_gives = { λ a x r. SameMembers (IsBetween r) (Sums (IsBetween a) (Only (B.value x.now))) };
 
-    /// Returns the sums of a member and the value. The caller must ensure that the sums are in the
-    /// range. Check with `fits_add`.
+    /// Returns exactly the sums of a member and the value. The caller must ensure that the sums are
+    /// in the range. Check with `fits_add`.
     fn add(self, rhs: &B) -> Interval<B> {
         sums_with(self, *rhs)
     }
@@ -211,8 +211,8 @@ impl<B: Width> Add<B> for &Interval<B> {
 
     ghost add_gives = { λ a x r. SameMembers (IsBetween r) (Sums (IsBetween a.now) (Only (B.value x))) };
 
-    /// Returns the sums of a member and the value. The caller must ensure that the sums are in the
-    /// range. Check with `fits_add`.
+    /// Returns exactly the sums of a member and the value. The caller must ensure that the sums are
+    /// in the range. Check with `fits_add`.
     fn add(self, rhs: B) -> Interval<B> {
         sums_with(*self, rhs)
     }
@@ -225,8 +225,8 @@ impl<B: Width> Add<&B> for &Interval<B> {
 
     ghost add_gives = { λ a x r. SameMembers (IsBetween r) (Sums (IsBetween a.now) (Only (B.value x.now))) };
 
-    /// Returns the sums of a member and the value. The caller must ensure that the sums are in the
-    /// range. Check with `fits_add`.
+    /// Returns exactly the sums of a member and the value. The caller must ensure that the sums are
+    /// in the range. Check with `fits_add`.
     fn add(self, rhs: &B) -> Interval<B> {
         sums_with(*self, *rhs)
     }
@@ -239,8 +239,8 @@ impl<B: Width> Sub<Interval<B>> for Interval<B> {
 
     ghost sub_gives = { λ a b r. SameMembers (IsBetween r) (Differences (IsBetween a) (IsBetween b)) };
 
-    /// Returns the differences of a member of each, and nothing else. The caller must ensure that
-    /// the differences are in the range. Check with `fits_sub`.
+    /// Returns exactly the differences of a member of `self` and a member of `rhs`. The caller must
+    /// ensure that the differences are in the range. Check with `fits_sub`.
     ///
     /// ```
     /// let (a, b) = (Interval::new(1i32, 2), Interval::new(10, 20));
@@ -259,8 +259,8 @@ impl<B: Width> Sub<&Interval<B>> for Interval<B> {
 
     ghost sub_gives = { λ a b r. SameMembers (IsBetween r) (Differences (IsBetween a) (IsBetween b.now)) };
 
-    /// Returns the differences of a member of each, and nothing else. The caller must ensure that
-    /// the differences are in the range. Check with `fits_sub`.
+    /// Returns exactly the differences of a member of `self` and a member of `rhs`. The caller must
+    /// ensure that the differences are in the range. Check with `fits_sub`.
     fn sub(self, rhs: &Interval<B>) -> Interval<B> {
         differences(self, *rhs)
     }
@@ -273,8 +273,8 @@ impl<B: Width> Sub<Interval<B>> for &Interval<B> {
 
     ghost sub_gives = { λ a b r. SameMembers (IsBetween r) (Differences (IsBetween a.now) (IsBetween b)) };
 
-    /// Returns the differences of a member of each, and nothing else. The caller must ensure that
-    /// the differences are in the range. Check with `fits_sub`.
+    /// Returns exactly the differences of a member of `self` and a member of `rhs`. The caller must
+    /// ensure that the differences are in the range. Check with `fits_sub`.
     fn sub(self, rhs: Interval<B>) -> Interval<B> {
         differences(*self, rhs)
     }
@@ -287,8 +287,8 @@ impl<B: Width> Sub<&Interval<B>> for &Interval<B> {
 
     ghost sub_gives = { λ a b r. SameMembers (IsBetween r) (Differences (IsBetween a.now) (IsBetween b.now)) };
 
-    /// Returns the differences of a member of each, and nothing else. The caller must ensure that
-    /// the differences are in the range. Check with `fits_sub`.
+    /// Returns exactly the differences of a member of `self` and a member of `rhs`. The caller must
+    /// ensure that the differences are in the range. Check with `fits_sub`.
     fn sub(self, rhs: &Interval<B>) -> Interval<B> {
         differences(*self, *rhs)
     }
@@ -301,7 +301,7 @@ impl<B: Width> Sub<B> for Interval<B> {
 
     ghost sub_gives = { λ a x r. SameMembers (IsBetween r) (Differences (IsBetween a) (Only (B.value x))) };
 
-    /// Returns the differences of a member and the value. The caller must ensure that the
+    /// Returns exactly the differences of a member and the value. The caller must ensure that the
     /// differences are in the range. Check with `fits_sub`.
     ///
     /// ```
@@ -321,7 +321,7 @@ impl<B: Width> Sub<&B> for Interval<B> {
 
     ghost sub_gives = { λ a x r. SameMembers (IsBetween r) (Differences (IsBetween a) (Only (B.value x.now))) };
 
-    /// Returns the differences of a member and the value. The caller must ensure that the
+    /// Returns exactly the differences of a member and the value. The caller must ensure that the
     /// differences are in the range. Check with `fits_sub`.
     fn sub(self, rhs: &B) -> Interval<B> {
         differences_with(self, *rhs)
@@ -335,7 +335,7 @@ impl<B: Width> Sub<B> for &Interval<B> {
 
     ghost sub_gives = { λ a x r. SameMembers (IsBetween r) (Differences (IsBetween a.now) (Only (B.value x))) };
 
-    /// Returns the differences of a member and the value. The caller must ensure that the
+    /// Returns exactly the differences of a member and the value. The caller must ensure that the
     /// differences are in the range. Check with `fits_sub`.
     fn sub(self, rhs: B) -> Interval<B> {
         differences_with(*self, rhs)
@@ -349,7 +349,7 @@ impl<B: Width> Sub<&B> for &Interval<B> {
 
     ghost sub_gives = { λ a x r. SameMembers (IsBetween r) (Differences (IsBetween a.now) (Only (B.value x.now))) };
 
-    /// Returns the differences of a member and the value. The caller must ensure that the
+    /// Returns exactly the differences of a member and the value. The caller must ensure that the
     /// differences are in the range. Check with `fits_sub`.
     fn sub(self, rhs: &B) -> Interval<B> {
         differences_with(*self, *rhs)
@@ -428,7 +428,7 @@ impl<B: Width> Mul<B> for Interval<B> {
     /// Returns the least interval that holds the products of a member and the value. The caller
     /// must ensure that the products are in the range. Check with `fits_mul`.
     ///
-    /// In the original a negative value crosses the bounds of an interval of several members.
+    /// In the original, a negative value crosses the bounds of an interval of several members.
     ///
     /// ```
     /// let a = Interval::new(1i32, 2);

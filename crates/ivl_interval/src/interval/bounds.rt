@@ -1,5 +1,5 @@
-//! Intervals from bounds, and what their bounds tell: the least and the greatest member, how many
-//! there are, and whether a value is one.
+//! Intervals from bounds, and queries of their bounds: the least and the greatest member, the size,
+//! and membership.
 ghost use Rattle.std.specs.Prelude.{◌≡◌, ◌↔◌, ◌≤ℤ◌, ℤ, IsTrue};
 ghost use Rattle.ivl_laws.specs.Sets.{HasNone, HasSome, IsBetween, IsCrossed, IsInRange, IsSubset, Only, SameMembers};
 ghost use Rattle.ivl_laws.specs.Counts.{IsCountOf};
@@ -14,8 +14,7 @@ use crate::width::{SizeNumber, Width};
 
 impl<B: Width> Interval<B> {
     /// Returns true exactly when `new(lb, ub)` may be called: `lb` is not below the range and `ub`
-    /// is not above it. The two may cross, so `in_range(8, 3)` is true, and `new(8, 3)` has no
-    /// member.
+    /// is not above it. The two may cross, so `in_range(8, 3)` is true, and `new(8, 3)` is empty.
     ///
     /// ```
     /// assert!(rt; Interval::in_range(8u8, 3) && !Interval::in_range(0u8, 255));
@@ -26,8 +25,8 @@ impl<B: Width> Interval<B> {
         lb >= B::min_value() && ub <= B::max_value()
     }
 
-    /// Returns the lower bound as it is stored, also where there is no member. Intervals can be put
-    /// in order by it without a test of each; what is least in an interval is told by `lower`.
+    /// Returns the stored lower bound, even if the interval is empty. So intervals can be sorted by
+    /// it without a test for empty ones. For the least member, use `lower`.
     ///
     /// ```
     /// assert_eq!(rt; Interval::new(8i32, 3).lower_bound(), 8);
@@ -115,7 +114,8 @@ impl<B: Width> Whole for Interval<B> {
 
     ghost whole = { B.whole };
 
-    /// Returns the range of `B`. A value is in the range where `whole().contains(&value)` is true.
+    /// Returns the range of `B`. A value is in the range exactly when `whole().contains(&value)` is
+    /// true.
     ///
     /// ```
     /// let range = Interval::<i8>::whole();
@@ -166,7 +166,8 @@ impl<B: Width> Singleton for Interval<B> {
 }
 
 impl<B: Width> Bounded for Interval<B> {
-    /// Returns the least member. The caller must ensure that there is one. Check with `is_empty`.
+    /// Returns the least member. The caller must ensure that the interval is not empty. Check with
+    /// `is_empty`.
     ///
     /// ```
     /// assert_eq!(rt; Interval::new(3i32, 8).lower(), 3);
@@ -181,8 +182,8 @@ impl<B: Width> Bounded for Interval<B> {
         self.lb
     }
 
-    /// Returns the greatest member. The caller must ensure that there is one. Check with
-    /// `is_empty`.
+    /// Returns the greatest member. The caller must ensure that the interval is not empty. Check
+    /// with `is_empty`.
     ///
     /// ```
     /// assert_eq!(rt; Interval::new(3i32, 8).upper(), 8);
@@ -225,7 +226,7 @@ impl<B: Width> Cardinality for Interval<B> {
 impl<B: Width> IsEmpty for Interval<B> {
     ghost members = { IsBetween };
 
-    /// Returns true exactly when there is no member: the lower bound is above the upper.
+    /// Returns true exactly when the interval has no members: the lower bound is above the upper.
     ///
     /// ```
     /// assert!(rt; Interval::new(8i32, 3).is_empty() && !Interval::new(3i32, 3).is_empty());
@@ -242,7 +243,7 @@ impl<B: Width> IsEmpty for Interval<B> {
 impl<B: Width> IsSingleton for Interval<B> {
     ghost members = { IsBetween };
 
-    /// Returns true exactly when there is one member: the bounds are equal.
+    /// Returns true exactly when the interval has one member: the bounds are equal.
     ///
     /// ```
     /// assert!(rt; Interval::new(5i32, 5).is_singleton());
@@ -257,7 +258,7 @@ impl<B: Width> IsSingleton for Interval<B> {
 }
 
 impl<B: Width> Contains for Interval<B> {
-    /// Returns true exactly when `item` is a member; it may be any value of its type, also one
+    /// Returns true exactly when `item` is a member. It may be any value of its type, even one
     /// outside the range.
     ///
     /// ```

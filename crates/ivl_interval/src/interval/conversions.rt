@@ -1,4 +1,4 @@
-//! Values that are read as an interval.
+//! Conversions to an interval.
 ghost use Rattle.std.specs.Prelude.{◌≡◌, ◌≤ℤ◌, pos, ⊤};
 ghost use Rattle.std.specs.Range.{range_inclusive_end, range_inclusive_start};
 ghost use Rattle.ivl_laws.specs.Sets.{IsBetween, IsCrossed, IsInRange, SameMembers};
@@ -35,7 +35,7 @@ impl<B: Width> ToInterval<B> for (B, B) {
     ghost interval = { λ bounds. (B.value bounds.0, B.value bounds.1) };
 
     /// Returns the interval from the first bound to the second, which is empty if they cross. The
-    /// caller must ensure that no bound is outside the range. Check with `Interval::in_range`.
+    /// caller must ensure `Interval::in_range(first, second)`.
     ///
     /// ```
     /// let pair: Interval<i32> = (1, 5).to_interval();
@@ -76,8 +76,8 @@ impl<B: Width> ToInterval<B> for B {
 
     ghost interval = { λ x. (B.value x, B.value x) };
 
-    /// Returns the value alone. The caller must ensure that it is in the range. Check with
-    /// `Interval::whole().contains(&value)`.
+    /// Returns the interval of the value alone. The caller must ensure that it is in the range.
+    /// Check with `Interval::whole().contains(&value)`.
     ///
     /// ```
     /// let five: Interval<i32> = 5.to_interval();
@@ -99,7 +99,7 @@ impl<B: Width> ToInterval<B> for RangeInclusive<B> {
     ghost interval = { λ range. (B.value (range_inclusive_start range), B.value (range_inclusive_end range)) };
 
     /// Returns the interval from the start to the end of `a..=b`, which is empty if they cross. The
-    /// caller must ensure that no bound is outside the range. Check with `Interval::in_range`.
+    /// caller must ensure `Interval::in_range(a, b)`.
     ///
     /// ```
     /// let crossed: Interval<i32> = (8..=3).to_interval();
@@ -121,8 +121,8 @@ impl<B: Width> ToInterval<B> for RangeFrom<B> {
 
     ghost interval = { λ range. (B.value range.start, B.whole.1) };
 
-    /// Returns the numbers of the range from the start of `a..` on. The caller must ensure that the
-    /// start is in the range. Check with `Interval::whole().contains(&start)`.
+    /// Returns the interval from the start of `a..` to the greatest value of the range. The caller
+    /// must ensure that the start is in the range. Check with `Interval::whole().contains(&start)`.
     ///
     /// ```
     /// let high: Interval<u8> = (250..).to_interval();
@@ -143,8 +143,8 @@ impl<B: Width> ToInterval<B> for RangeToInclusive<B> {
 
     ghost interval = { λ range. (B.whole.0, B.value range.end) };
 
-    /// Returns the numbers of the range up to the end of `..=b`. The caller must ensure that the
-    /// end is in the range. Check with `Interval::whole().contains(&end)`.
+    /// Returns the interval from the least value of the range to the end of `..=b`. The caller must
+    /// ensure that the end is in the range. Check with `Interval::whole().contains(&end)`.
     ///
     /// ```
     /// let low: Interval<u8> = (..=5).to_interval();

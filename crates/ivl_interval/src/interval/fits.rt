@@ -1,8 +1,7 @@
 //! Whether the results of arithmetic are in the range.
 //!
-//! Each call is a few tests of the bounds: the least and the greatest result are results of bounds.
-//! With an interval that has no member every call is true, since there is no result. The original
-//! has no such calls.
+//! Each call makes a few tests of the bounds, since the least and the greatest result are results
+//! of bounds. With an empty interval each call returns true. The original has no such calls.
 ghost use Rattle.std.specs.Prelude.{◌↔◌, ◌+ℤ◌, ◌-ℤ◌, ◌*ℤ◌, IsTrue};
 ghost use Rattle.ivl_laws.specs.Sets.{IsBetween, Only};
 
@@ -64,7 +63,7 @@ impl<B: Width> Fits<B> for Interval<B> {
 
     ghost other_members = { λ x. Only (B.value x) };
 
-    /// Returns true exactly when `self + *other` may be called; `other` may lie outside the range.
+    /// Returns true exactly when `self + *other` may be called; `other` may be outside the range.
     ///
     /// ```
     /// let a = Interval::new(1i8, 5);
@@ -77,7 +76,7 @@ impl<B: Width> Fits<B> for Interval<B> {
         has_sum(self.lb, *other) && has_sum(self.ub, *other)
     }
 
-    /// Returns true exactly when `self - *other` may be called; `other` may lie outside the range.
+    /// Returns true exactly when `self - *other` may be called; `other` may be outside the range.
     ///
     /// ```
     /// let a = Interval::new(3u8, 5);
@@ -90,7 +89,7 @@ impl<B: Width> Fits<B> for Interval<B> {
         has_difference(self.lb, *other) && has_difference(self.ub, *other)
     }
 
-    /// Returns true exactly when `self * *other` may be called; `other` may lie outside the range.
+    /// Returns true exactly when `self * *other` may be called; `other` may be outside the range.
     ///
     /// ```
     /// let a = Interval::new(1i8, 64);

@@ -1,5 +1,4 @@
-//! Intervals as sets: what two of them have in common, what one leaves of the other, what holds
-//! them both, and which includes which.
+//! Intervals as sets: intersection, difference, hull and inclusion.
 ghost use Rattle.std.specs.Prelude.{◌≡◌, ◌≤ℤ◌, ◌<ℤ◌, ◌+ℤ◌, ◌-ℤ◌, pos, ⊤};
 ghost use Rattle.ivl_laws.specs.Sets.{IsBetween, IsHullOf, SameMembers, Without};
 
@@ -74,7 +73,7 @@ impl<B: Width> Difference<Interval<B>> for Interval<B> {
     ghost answers = { IsHullOf };
 
     /// Returns the least interval that holds the members that are not in `other`. So a hole in the
-    /// middle is not cut: `[0..9]` without `[4..5]` is `[0..9]`.
+    /// middle is not cut out: `[0..9]` without `[4..5]` is `[0..9]`.
     ///
     /// ```
     /// let a = Interval::new(0u8, 9);
@@ -136,7 +135,7 @@ impl<B: Width> Hull<Interval<B>> for Interval<B> {
 
     ghost answers = { IsHullOf };
 
-    /// Returns the least interval that holds both.
+    /// Returns the least interval that holds the members of both.
     ///
     /// ```
     /// let a = Interval::new(1i32, 2);
@@ -157,7 +156,8 @@ impl<B: Width> Hull<Interval<B>> for Interval<B> {
 impl<B: Width> Subset for Interval<B> {
     ghost members = { IsBetween };
 
-    /// Returns true exactly when each member is a member of `other`, so always where there is none.
+    /// Returns true exactly when each member is a member of `other`, so always for an empty
+    /// interval.
     ///
     /// ```
     /// assert!(rt; Interval::empty().is_subset(&Interval::new(1i32, 2)));

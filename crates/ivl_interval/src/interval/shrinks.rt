@@ -1,4 +1,4 @@
-//! Intervals cut at a value, from either side, with or without the value.
+//! Intervals cut at a value, from either side, with or without the value itself.
 ghost use Rattle.ivl_laws.specs.Sets.{IsBetween, SameMembers};
 
 use crate::interval::Interval;

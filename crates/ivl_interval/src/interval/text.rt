@@ -11,8 +11,8 @@ impl<B: Width + fmt::Display> fmt::Display for Interval<B> {
 
     ghost styled_output = { λ p _. styled_interval_text p };
 
-    /// Writes `{}` if there is no member, else `[1..5]` with the two bounds. Width and fill of the
-    /// formatter have no effect.
+    /// Writes `{}` if the interval is empty, else the two bounds as in `[1..5]`. Width and fill of
+    /// the formatter have no effect.
     ///
     /// The only errors are those of the formatter and of the texts of the bounds.
     ///

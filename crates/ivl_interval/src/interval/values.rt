@@ -1,4 +1,4 @@
-//! Intervals beside a single value, or a value that may be absent, on either side.
+//! Operations on an interval and a value, which may be absent, in either order.
 ghost use Rattle.std.specs.Prelude.{◌≡◌, ◌⊎◌, None, option_map, ⊤};
 ghost use Rattle.ivl_laws.specs.Sets.{Held, Intersection, IsBetween, IsHullOf, Only, SameMembers, Without};
 
@@ -15,7 +15,7 @@ impl<B: Width> Disjoint<B> for Interval<B> {
 
     ghost other_members = { λ x. Only (B.value x) };
 
-    /// Returns true exactly when the value is no member.
+    /// Returns true exactly when the value is not a member.
     ///
     /// ```
     /// let a = Interval::new(3i32, 8);
@@ -75,9 +75,9 @@ impl<B: Width> Difference<B> for Interval<B> {
     /// Returns the least interval that holds the members except the value, which may be any value
     /// of its type.
     ///
-    /// The original adds to a stored lower bound or takes from a stored upper one that equals the
-    /// value, and so overflows at `empty().difference(&0)` of `u32` and at
-    /// `singleton(127).difference(&127)` of `i8`; both are empty here.
+    /// The original adds to a stored lower bound, or subtracts from a stored upper bound, that
+    /// equals the value. So it overflows at `empty().difference(&0)` of `u32` and at
+    /// `singleton(127).difference(&127)` of `i8`; here both are empty.
     ///
     /// ```
     /// let a = Interval::new(3i32, 8);
@@ -123,7 +123,7 @@ impl<B: Width> Disjoint<Optional<B>> for Interval<B> {
 
     ghost other_members = { λ o. Held (option_map B.value o) };
 
-    /// Returns true exactly when the value is absent or no member.
+    /// Returns true exactly when the value is absent or not a member.
     ///
     /// ```
     /// let a = Interval::new(3i32, 8);
@@ -185,7 +185,7 @@ impl<B: Width> Difference<Optional<B>> for Interval<B> {
 
     ghost answers = { IsHullOf };
 
-    /// Returns the least interval that holds the members except the value; without a value, the
+    /// Returns the least interval that holds the members except the value; if it is absent, the
     /// interval itself.
     ///
     /// ```
@@ -205,7 +205,7 @@ impl<B: Width> Disjoint<Interval<B>> for B {
 
     ghost other_members = { IsBetween };
 
-    /// Returns true exactly when the value is no member of `other`.
+    /// Returns true exactly when the value is not a member of `other`.
     ///
     /// ```
     /// let a = Interval::new(3i32, 8);
@@ -260,7 +260,7 @@ impl<B: Width> Disjoint<Interval<B>> for Optional<B> {
 
     ghost other_members = { IsBetween };
 
-    /// Returns true exactly when the value is absent or no member of `other`.
+    /// Returns true exactly when the value is absent or not a member of `other`.
     ///
     /// ```
     /// let a = Interval::new(3i32, 8);

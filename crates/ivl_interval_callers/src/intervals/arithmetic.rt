@@ -6,49 +6,49 @@ use crate::callers::arithmetic as callers;
 use ivl_interval::interval::Interval;
 use ivl_interval::width::Width;
 
-/// Each sum is in the range.
+/// Returns true exactly when each sum is in the range.
 pub fn sums_fit<B: Width>(a: &Interval<B>, b: &Interval<B>) -> bool
     ensures { IsTrue result ↔ IsSubset (Sums (IsBetween a.now) (IsBetween b.now)) (IsBetween B.whole) }
 {
     callers::fits_add_by_bound(a, b)
 }
 
-/// Each difference is in the range.
+/// Returns true exactly when each difference is in the range.
 pub fn differences_fit<B: Width>(a: &Interval<B>, b: &Interval<B>) -> bool
     ensures { IsTrue result ↔ IsSubset (Differences (IsBetween a.now) (IsBetween b.now)) (IsBetween B.whole) }
 {
     callers::fits_sub_by_bound(a, b)
 }
 
-/// Each product is in the range.
+/// Returns true exactly when each product is in the range.
 pub fn products_fit<B: Width>(a: &Interval<B>, b: &Interval<B>) -> bool
     ensures { IsTrue result ↔ IsSubset (ExactProducts (IsBetween a.now) (IsBetween b.now)) (IsBetween B.whole) }
 {
     callers::fits_mul_by_bound(a, b)
 }
 
-/// Each sum with the value is in the range.
+/// Returns true exactly when each sum with the value is in the range.
 pub fn sums_with_value_fit<B: Width>(a: &Interval<B>, x: &B) -> bool
     ensures { IsTrue result ↔ IsSubset (Sums (IsBetween a.now) (Only (B.value x.now))) (IsBetween B.whole) }
 {
     callers::fits_add_by_bound(a, x)
 }
 
-/// Each difference from the value is in the range.
+/// Returns true exactly when each difference from the value is in the range.
 pub fn differences_with_value_fit<B: Width>(a: &Interval<B>, x: &B) -> bool
     ensures { IsTrue result ↔ IsSubset (Differences (IsBetween a.now) (Only (B.value x.now))) (IsBetween B.whole) }
 {
     callers::fits_sub_by_bound(a, x)
 }
 
-/// Each product with the value is in the range.
+/// Returns true exactly when each product with the value is in the range.
 pub fn products_with_value_fit<B: Width>(a: &Interval<B>, x: &B) -> bool
     ensures { IsTrue result ↔ IsSubset (ExactProducts (IsBetween a.now) (Only (B.value x.now))) (IsBetween B.whole) }
 {
     callers::fits_mul_by_bound(a, x)
 }
 
-/// The sums of a number of each.
+/// Returns the sums of a number of each.
 pub fn sum_of_intervals<B: Width>(a: Interval<B>, b: Interval<B>) -> Interval<B>
     requires { IsSubset (Sums (IsBetween a) (IsBetween b)) (IsBetween B.whole) }
     ensures { SameMembers (IsBetween result) (Sums (IsBetween a) (IsBetween b)) }
@@ -56,7 +56,7 @@ pub fn sum_of_intervals<B: Width>(a: Interval<B>, b: Interval<B>) -> Interval<B>
     callers::sum_by_bound(a, b)
 }
 
-/// The sums of a number and the value.
+/// Returns the sums of a number and the value.
 pub fn sum_with_value<B: Width>(a: Interval<B>, x: B) -> Interval<B>
     requires { IsSubset (Sums (IsBetween a) (Only (B.value x))) (IsBetween B.whole) }
     ensures { SameMembers (IsBetween result) (Sums (IsBetween a) (Only (B.value x))) }
@@ -64,7 +64,7 @@ pub fn sum_with_value<B: Width>(a: Interval<B>, x: B) -> Interval<B>
     callers::sum_by_bound(a, x)
 }
 
-/// The differences of a number of each.
+/// Returns the differences of a number of each.
 pub fn difference_of_intervals<B: Width>(a: Interval<B>, b: Interval<B>) -> Interval<B>
     requires { IsSubset (Differences (IsBetween a) (IsBetween b)) (IsBetween B.whole) }
     ensures { SameMembers (IsBetween result) (Differences (IsBetween a) (IsBetween b)) }
@@ -72,7 +72,7 @@ pub fn difference_of_intervals<B: Width>(a: Interval<B>, b: Interval<B>) -> Inte
     callers::difference_by_bound(a, b)
 }
 
-/// The differences of a number and the value.
+/// Returns the differences of a number and the value.
 pub fn difference_with_value<B: Width>(a: Interval<B>, x: B) -> Interval<B>
     requires { IsSubset (Differences (IsBetween a) (Only (B.value x))) (IsBetween B.whole) }
     ensures { SameMembers (IsBetween result) (Differences (IsBetween a) (Only (B.value x))) }
@@ -80,7 +80,7 @@ pub fn difference_with_value<B: Width>(a: Interval<B>, x: B) -> Interval<B>
     callers::difference_by_bound(a, x)
 }
 
-/// The least interval that holds the products of a number of each.
+/// Returns the least interval that holds the products of a number of each.
 pub fn product_of_intervals<B: Width>(a: Interval<B>, b: Interval<B>) -> Interval<B>
     requires { IsSubset (ExactProducts (IsBetween a) (IsBetween b)) (IsBetween B.whole) }
     ensures { IsHullOf result (ExactProducts (IsBetween a) (IsBetween b)) }
@@ -88,7 +88,7 @@ pub fn product_of_intervals<B: Width>(a: Interval<B>, b: Interval<B>) -> Interva
     callers::product_by_bound(a, b)
 }
 
-/// The least interval that holds the products of a number and the value.
+/// Returns the least interval that holds the products of a number and the value.
 pub fn product_with_value<B: Width>(a: Interval<B>, x: B) -> Interval<B>
     requires { IsSubset (ExactProducts (IsBetween a) (Only (B.value x))) (IsBetween B.whole) }
     ensures { IsHullOf result (ExactProducts (IsBetween a) (Only (B.value x))) }

@@ -5,28 +5,28 @@ use crate::callers::cuts as callers;
 use ivl_interval::interval::Interval;
 use ivl_interval::width::Width;
 
-/// The numbers from the value on.
+/// Returns the numbers from the value on.
 pub fn interval_from<B: Width>(a: &Interval<B>, x: B) -> Interval<B>
     ensures { SameMembers (IsBetween result) (AtLeast (B.value x) (IsBetween a.now)) }
 {
     callers::shrink_left_by_bound(a, x)
 }
 
-/// The numbers up to the value.
+/// Returns the numbers up to the value.
 pub fn interval_up_to<B: Width>(a: &Interval<B>, x: B) -> Interval<B>
     ensures { SameMembers (IsBetween result) (AtMost (B.value x) (IsBetween a.now)) }
 {
     callers::shrink_right_by_bound(a, x)
 }
 
-/// The numbers above the value.
+/// Returns the numbers above the value.
 pub fn interval_above<B: Width>(a: &Interval<B>, x: B) -> Interval<B>
     ensures { SameMembers (IsBetween result) (Above (B.value x) (IsBetween a.now)) }
 {
     callers::strict_shrink_left_by_bound(a, x)
 }
 
-/// The numbers below the value.
+/// Returns the numbers below the value.
 pub fn interval_below<B: Width>(a: &Interval<B>, x: B) -> Interval<B>
     ensures { SameMembers (IsBetween result) (Below (B.value x) (IsBetween a.now)) }
 {

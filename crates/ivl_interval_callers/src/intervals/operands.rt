@@ -1,4 +1,4 @@
-//! Operands of arithmetic may be owned or borrowed: the answers are equal intervals.
+//! Operands of arithmetic may be owned or borrowed: the results are equal intervals.
 ghost use Rattle.std.specs.Prelude.{IsTrue};
 ghost use Rattle.ivl_laws.specs.Sets.{Differences, ExactProducts, IsBetween, IsSubset, Only, SameMembers, Sums};
 
@@ -14,7 +14,7 @@ fn equal<B: Width>(a: Interval<B>, b: Interval<B>) -> bool
     a == b
 }
 
-/// The sums of two intervals.
+/// Returns true: the forms of the sums of two intervals are equal.
 pub fn sums_agree<B: Width>(a: Interval<B>, b: Interval<B>) -> bool
     requires { IsSubset (Sums (IsBetween a) (IsBetween b)) (IsBetween B.whole) }
     ensures { IsTrue result }
@@ -25,7 +25,7 @@ pub fn sums_agree<B: Width>(a: Interval<B>, b: Interval<B>) -> bool
         && equal(owned, callers::sum_by_bound(&a, &b))
 }
 
-/// The sums of an interval and a value.
+/// Returns true: the forms of the sums of an interval and a value are equal.
 pub fn sums_with_value_agree<B: Width>(a: Interval<B>, x: B) -> bool
     requires { IsSubset (Sums (IsBetween a) (Only (B.value x))) (IsBetween B.whole) }
     ensures { IsTrue result }
@@ -36,7 +36,7 @@ pub fn sums_with_value_agree<B: Width>(a: Interval<B>, x: B) -> bool
         && equal(owned, callers::sum_by_bound(&a, &x))
 }
 
-/// The differences of two intervals.
+/// Returns true: the forms of the differences of two intervals are equal.
 pub fn differences_agree<B: Width>(a: Interval<B>, b: Interval<B>) -> bool
     requires { IsSubset (Differences (IsBetween a) (IsBetween b)) (IsBetween B.whole) }
     ensures { IsTrue result }
@@ -47,7 +47,7 @@ pub fn differences_agree<B: Width>(a: Interval<B>, b: Interval<B>) -> bool
         && equal(owned, callers::difference_by_bound(&a, &b))
 }
 
-/// The differences of an interval and a value.
+/// Returns true: the forms of the differences of an interval and a value are equal.
 pub fn differences_with_value_agree<B: Width>(a: Interval<B>, x: B) -> bool
     requires { IsSubset (Differences (IsBetween a) (Only (B.value x))) (IsBetween B.whole) }
     ensures { IsTrue result }
@@ -58,7 +58,7 @@ pub fn differences_with_value_agree<B: Width>(a: Interval<B>, x: B) -> bool
         && equal(owned, callers::difference_by_bound(&a, &x))
 }
 
-/// The products of two intervals.
+/// Returns true: the forms of the products of two intervals are equal.
 pub fn products_agree<B: Width>(a: Interval<B>, b: Interval<B>) -> bool
     requires { IsSubset (ExactProducts (IsBetween a) (IsBetween b)) (IsBetween B.whole) }
     ensures { IsTrue result }
@@ -69,7 +69,7 @@ pub fn products_agree<B: Width>(a: Interval<B>, b: Interval<B>) -> bool
         && equal(owned, callers::product_by_bound(&a, &b))
 }
 
-/// The products of an interval and a value.
+/// Returns true: the forms of the products of an interval and a value are equal.
 pub fn products_with_value_agree<B: Width>(a: Interval<B>, x: B) -> bool
     requires { IsSubset (ExactProducts (IsBetween a) (Only (B.value x))) (IsBetween B.whole) }
     ensures { IsTrue result }

@@ -7,7 +7,7 @@ use ivl_interval::width::Width;
 use std::alloc::{AllocError, Global};
 use std::fmt::Display;
 
-/// The texts of the two bounds in brackets, with two dots between them.
+/// Returns the texts of the two bounds in brackets, with two dots between them.
 pub fn text_of_filled<B: Width + Display>(
     alloc: Global,
     a: &Interval<B>,
@@ -19,7 +19,7 @@ pub fn text_of_filled<B: Width + Display>(
     format!(in alloc; "{a}")
 }
 
-/// Two braces.
+/// Returns the text `{}`.
 pub fn text_of_crossed<B: Width + Display>(
     alloc: Global,
     a: &Interval<B>,
@@ -30,7 +30,7 @@ pub fn text_of_crossed<B: Width + Display>(
     format!(in alloc; "{a}")
 }
 
-/// The range of `i8`, as text.
+/// Returns the range of `i8`, as text.
 pub fn text_of_whole_of_i8(alloc: Global) -> Result<String, AllocError>
     ensures { IfOk result (λ text. string_bytes text ≡ codes "[-127..127]") }
 {

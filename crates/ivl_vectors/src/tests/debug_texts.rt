@@ -1,4 +1,4 @@
-//! The texts that derives of `Debug` print.
+//! The texts that derived `Debug` prints.
 
 use super::fixtures::set_of;
 use intervallum::kleene::SKleene;
@@ -10,7 +10,7 @@ use std::fmt::Debug;
 use std::process::Abort;
 use std::test::Fail;
 
-/// The value is printed as a text for those who look for faults.
+/// Checks the `Debug` text of a value.
 fn check_debug(
     rt: &(impl Alloc<A = Global> + Abort),
     value: &impl Debug,

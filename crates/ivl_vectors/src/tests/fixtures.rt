@@ -11,7 +11,7 @@ use std::fmt::Display;
 use std::process::Abort;
 use std::test::Fail;
 
-/// The numbers of the bounds of an interval; none where it has no member.
+/// The numbers of the bounds of an interval, or `None` if it is empty.
 pub type Pair = Option<(i128, i128)>;
 
 /// Returns the value of a number of the range.
@@ -22,12 +22,12 @@ pub fn value_of<B: Width>(rt: &impl Abort, number: i128) -> B
     B::from_number(number).expect(rt, "a number of the range")
 }
 
-/// Returns the numbers from one to another, both of which are in the range.
+/// Returns the interval from one number to another, both in the range.
 pub fn interval_of<B: Width>(rt: &impl Abort, (lower, upper): (i128, i128)) -> Interval<B> {
     Interval::new(value_of(rt, lower), value_of(rt, upper))
 }
 
-/// Returns the union of some pairs, each of which is in the range.
+/// Returns the union of some pairs, each in the range.
 pub fn set_of<B: Width>(
     rt: &(impl Alloc<A = Global> + Abort),
     pairs: &[(i128, i128)],
@@ -40,7 +40,7 @@ pub fn set_of<B: Width>(
     Ok(set)
 }
 
-/// Returns the numbers of the bounds; none where there is no member.
+/// Returns the numbers of the bounds, or `None` if the interval is empty.
 pub fn pair_of<B: Width>(run: &Interval<B>) -> Pair {
     if run.is_empty() {
         return None;
@@ -48,7 +48,7 @@ pub fn pair_of<B: Width>(run: &Interval<B>) -> Pair {
     Some((run.lower().number(), run.upper().number()))
 }
 
-/// Whether these pairs are the runs of a set, in this order.
+/// Returns whether these pairs are the runs of a set, in this order.
 pub fn has_runs<B: Width>(set: &IntervalSet<B>, pairs: &[(i128, i128)]) -> bool {
     let mut rest = pairs.iter();
     for run in set.iter() {
@@ -59,7 +59,7 @@ pub fn has_runs<B: Width>(set: &IntervalSet<B>, pairs: &[(i128, i128)]) -> bool 
     rest.next().is_none()
 }
 
-/// Each value is printed as the text beside it.
+/// Checks that each value is printed as the text beside it.
 pub fn check_texts<T: Display>(
     rt: &(impl Alloc<A = Global> + Abort),
     rows: &[(T, &str)],

@@ -1,4 +1,4 @@
-//! Each form of the operands of arithmetic, and the laws of unions, at one type.
+//! Each form of the operands of arithmetic, and the laws of unions, for one type.
 
 use super::fixtures::{has_runs, set_of};
 use intervallum::interval::Interval;

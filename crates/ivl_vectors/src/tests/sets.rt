@@ -1,4 +1,4 @@
-//! Sets from arrays and iterators, runs from both ends, a walk over no run, and a value before a set.
+//! Sets from arrays and iterators, runs from both ends, a walk over no run, and a value on the left of a set.
 
 use super::fixtures::{check_texts, set_of};
 use intervallum::interval::Interval;

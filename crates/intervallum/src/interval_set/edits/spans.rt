@@ -13,7 +13,7 @@ use crate::steps::{Probes, last_up_to, runs_before};
 use crate::width::Width;
 
 /// The places of the runs that end at `lower` or above and start at `upper` or below: the first,
-/// and the one after the last. `O(log n)`, and nearer by the start of the search where few runs do.
+/// and the one after the last. `O(log n)`; the search for the second starts at the first.
 pub(super) fn span<B: Width>(set: &IntervalSet<B>, lower: B, upper: B) -> (usize, usize)
     requires { B.value lower ≤ℤ B.value upper }
     ensures { IsSpan set.now (B.value lower) (B.value upper) result.0 result.1 }
@@ -35,7 +35,7 @@ pub(super) fn touched<B: Width>(set: &IntervalSet<B>, interval: &Interval<B>) ->
     span(set, below, above)
 }
 
-/// The number before, or the number itself where it is the least of the range.
+/// The number before, or the number itself if it is the least of the range.
 fn one_below<B: Width>(value: B) -> B
     requires { IsBetween B.whole (B.value value) }
     ensures { (B.value result ≡ B.value value -ℤ pos 1) ⊎ ((B.value result ≡ B.value value) × (B.value value ≡ B.whole.0)) }
@@ -46,7 +46,7 @@ fn one_below<B: Width>(value: B) -> B
     }
 }
 
-/// The number after, or the number itself where it is the greatest of the range.
+/// The number after, or the number itself if it is the greatest of the range.
 fn one_above<B: Width>(value: B) -> B
     requires { IsBetween B.whole (B.value value) }
     ensures { (B.value result ≡ B.value value +ℤ pos 1) ⊎ ((B.value result ≡ B.value value) × (B.value value ≡ B.whole.1)) }

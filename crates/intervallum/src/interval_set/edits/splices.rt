@@ -21,8 +21,8 @@ pub(super) fn total_size<B: Width>(runs: &[Interval<B>]) -> B::Output
     total
 }
 
-/// Puts at most two runs in the place of those from `start` to before `end`. After an error the
-/// runs are as they were; there is none unless more runs are put than go.
+/// Puts at most two runs in the place of those from `start` to before `end`. Fails only if it puts
+/// more runs than it removes, and allocation fails; the runs are then unchanged.
 pub(super) fn replace_runs<B: Width>(
     runs: &mut Vec<Interval<B>>,
     start: usize,
@@ -87,7 +87,7 @@ fn take_out<B: Width>(runs: &mut Vec<Interval<B>>, start: usize, end: usize)
     }
 }
 
-/// How many numbers a run has; none where there is no run.
+/// How many numbers a run has; 0 if there is no run.
 pub(super) fn size_of<B: Width>(run: Option<Interval<B>>) -> B::Output
     ensures { B.Output.size result ≡ sum_by width_of (led_by run []) }
 {
