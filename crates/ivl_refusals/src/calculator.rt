@@ -127,7 +127,7 @@ fn is_as_replied(calc: &Calc<i32>, replies: &[Reply<i32>]) -> Result<bool, Alloc
     }
 }
 
-/// Whether a command was done, and not refused for want of memory; none where its reply is another.
+/// Whether a command was done, and not refused as out of memory; none where its reply is another.
 fn is_done(reply: &Reply<i32>, done: &Reply<i32>) -> Option<bool> {
     if *reply == *done {
         Some(true)

@@ -36,7 +36,7 @@ fn is_set_written(alloc: Global, a: &IntervalSet<i32>) -> Result<bool, AllocErro
     Ok(has_pairs(&value, &FIRST))
 }
 
-/// An interval is read of its bounds. Its reading takes no memory, so that want of it is a wrong answer.
+/// An interval is read of its bounds. Its reading does not allocate, so running out of memory is a wrong answer.
 fn is_interval_read(alloc: Global) -> Result<bool, AllocError> {
     let value = json!(in alloc; [3, 8])?;
     let read = Interval::<i32>::from_value(alloc, &value);

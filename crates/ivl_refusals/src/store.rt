@@ -88,7 +88,7 @@ fn posted(alloc: Global) -> Result<&'static str, AllocError> {
     Ok(judged(&store, is_right, is_refusal(&answer), &FIXED, &between))
 }
 
-/// The call was refused for want of memory.
+/// The call was refused because an allocation failed.
 fn is_refusal<T>(answer: &Result<T, StoreFault>) -> bool {
     match answer {
         Err(StoreFault::Memory) => true,
