@@ -1,6 +1,7 @@
 -- The results over each pair of runs, for each operation.
-use Rattle.std.proofs.Common.{◌≡◌, ℕ, ◌+◌, ◌<◌, ◌≤◌, ℤ, pos, ◌≤ℤ◌, List, [], ◌∷◌, ◌++◌, append_assoc, map, take, length, get_or, take_all, sym, ap, ◌∙◌, subst}
+use Rattle.std.proofs.Common.{◌≡◌, ℕ, suc, ◌+◌, ◌*◌, ◌<◌, ◌≤◌, ℤ, pos, ◌≤ℤ◌, List, [], ◌∷◌, ◌++◌, append_assoc, map, take, length, get_or, take_all, sym, ap, ◌∙◌, subst, add-one, arith}
 use Rattle.std.proofs.lemmas.List.{map_more}
+use Rattle.std.proofs.lemmas.Nat.{mul-le}
 use Rattle.ivl_laws.specs.Sets.{IsBetween, IsSubset, SameMembers, Sums, Differences, ExactProducts, IsHullOf, Only}
 use Rattle.ivl_laws.specs.Runs.{Covers, IsMaximal}
 use Rattle.ivl_laws.specs.Arithmetic.{pairwise}
@@ -9,6 +10,7 @@ use Rattle.ivl_laws.proofs.Places.{get_or-pairwise, open_at, covers_at}
 use Rattle.ivl_laws.proofs.Products.{sums_of_runs, differences_of_runs, products_of_runs, sums_of_intervals, differences_of_intervals, hull_of_products}
 use Rattle.ivl_laws.proofs.Results.{sum_is_interval_sum, difference_is_interval_difference, product_is_corner_hull}
 use lib.Signed.{≤ℤ_refl}
+use native.Mathlib.Nat.{suc-mul}
 use Rattle.ivl_laws.proofs.Runs.{≤ℤ_antisymm}
 use Rattle.ivl_laws.proofs.Spans.{IsHullOf-same}
 use Rattle.ivl_laws.proofs.SetLaws.{sums_are_monotone, differences_are_monotone, exact_products_are_monotone, sums-only, differences-only, products-only}
@@ -129,3 +131,11 @@ next_result f xs i d old L M y h e p q s =
     let more = map_more f xs i d h in
     let joined = append_assoc old (map f (take i xs)) (y ∷ []) in
     cc
+
+-- ---- room for the rows
+
+pub row_has_room : (i m n len capacity : ℕ) → i < n → len ≡ i * m → n * m ≤ capacity → len + m ≤ capacity
+row_has_room i m n len capacity h e r = let row : suc i * m ≤ n * m = mul-le (suc i) m n m (omega arith) (omega arith) in omega (arith, suc-mul i m)
+
+pub row_is_added : (i m len len' : ℕ) → len ≡ i * m → len' ≡ len + m → len' ≡ (i + 1) * m
+row_is_added i m len len' e f = rw (add-one i) (omega (arith, suc-mul i m))

@@ -99,7 +99,7 @@ impl<B: Width> IntervalSet<B> {
     {
         let run = Interval::new(lb, ub);
         let mut intervals = Vec::with_capacity(alloc, 1)?;
-        intervals.push(run)?;
+        intervals.push_reserved(run);
         Ok(IntervalSet {
             intervals,
             size: run.size(),

@@ -174,11 +174,9 @@ fn gathered<B: Width, I: Iterator<Item = Interval<B>> + Drop>(
 {
     let (at_least, _) = others.size_hint();
     let mut list = Vec::with_capacity(alloc, at_least.saturating_add(2))?;
-    list.push(first)?;
-    list.push(second)?;
-    for run in others {
-        list.push(run)?;
-    }
+    list.push_reserved(first);
+    list.push_reserved(second);
+    list.extend(others)?;
     coalesce(alloc, list)
 }
 
@@ -220,7 +218,7 @@ impl<B: Width> ToIntervalSet<B> for (B, B) {
     /// `O(1)`. Reserves at most two runs. Fails only if allocation fails.
     fn to_interval_set(self, alloc: Global) -> Result<IntervalSet<B>, AllocError> {
         let mut list = Vec::with_capacity(alloc, 1)?;
-        list.push(Interval::new(self.0, self.1))?;
+        list.push_reserved(Interval::new(self.0, self.1));
         coalesce(alloc, list)
     }
 }
@@ -266,7 +264,7 @@ fn of_pairs<B: Width>(alloc: Global, pairs: &[(B, B)]) -> Result<IntervalSet<B>,
 {
     let mut list = Vec::with_capacity(alloc, pairs.len())?;
     for (lower, upper) in pairs {
-        list.push(Interval::new(*lower, *upper))?;
+        list.push_reserved(Interval::new(*lower, *upper));
     }
     coalesce(alloc, list)
 }

@@ -4,6 +4,7 @@ ghost use Rattle.ivl_laws.specs.Sets.{Union};
 ghost use Rattle.ivl_laws.specs.Runs.{Covers, IsRunListIn, IsRunsOf};
 ghost use Rattle.ivl_laws.specs.Walks.{TakesFirst};
 
+use super::combine::room_for;
 use super::walk::Walk;
 use crate::interval::Interval;
 use crate::interval_set::IntervalSet;
@@ -27,8 +28,7 @@ pub fn unite<B: Width>(
     ensures members { IfOk result (λ L. IsRunsOf L (Union (Covers first.entry.left) (Covers second.entry.left))) }
     ensures runs_at_most { IfOk result (λ L. length L ≤ length first.entry.left + length second.entry.left) }
 {
-    let room = first.left().saturating_add(second.left());
-    let mut set = IntervalSet::with_room(first.alloc(), room)?;
+    let mut set = room_for(&first, &second)?;
     'walk: while let Some(run) = take_first(&mut first, &mut second) {
         set.push_run(run)?;
     }

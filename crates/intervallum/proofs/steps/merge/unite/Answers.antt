@@ -8,7 +8,8 @@ use Rattle.intervallum.proofs.steps.merge.unite.Goals as goal
 pub walk-init : goal.walk-init
 walk-init g c =
     let P : List (ℤ × ℤ) → Type 0 = λ L. IsUniting L c.args.first.left c.args.second.left (Union (Covers c.args.first.left) (Covers c.args.second.left)) in
-    subst P (sym c.in_ok-set.ensures) (uniting_begins c.args.first.left c.args.second.left c.left.ensures.runs.maximal c.left-2.ensures.runs.maximal)
+    subst P (sym c.in_ok-set.ensures.empty)
+    (uniting_begins c.args.first.left c.args.second.left c.in_ok-set.ensures.within.0.maximal c.in_ok-set.ensures.within.1.maximal)
 
 pub walk-preserved : goal.walk-preserved
 walk-preserved g c =
