@@ -1,5 +1,5 @@
 -- The results over each pair of runs, for each operation.
-use Rattle.std.proofs.Common.{◌≡◌, ℕ, suc, ◌+◌, ◌*◌, ◌<◌, ◌≤◌, ℤ, pos, ◌≤ℤ◌, List, [], ◌∷◌, ◌++◌, append_assoc, map, take, length, get_or, take_all, sym, ap, ◌∙◌, subst, add-one, arith}
+use Rattle.std.proofs.Common.{◌≡◌, ℕ, suc, ◌+◌, ◌*◌, ◌<◌, ◌≤◌, ℤ, pos, ◌≤ℤ◌, List, [], ◌∷◌, ◌++◌, append_assoc, map, take, length, get_or, take_all, sym, ap, ◌∙◌, subst, arith}
 use Rattle.std.proofs.lemmas.List.{map_more}
 use Rattle.std.proofs.lemmas.Nat.{mul-le}
 use Rattle.ivl_laws.specs.Sets.{IsBetween, IsSubset, SameMembers, Sums, Differences, ExactProducts, IsHullOf, Only}
@@ -136,6 +136,3 @@ next_result f xs i d old L M y h e p q s =
 
 pub row_has_room : (i m n len capacity : ℕ) → i < n → len ≡ i * m → n * m ≤ capacity → len + m ≤ capacity
 row_has_room i m n len capacity h e r = let row : suc i * m ≤ n * m = mul-le (suc i) m n m (omega arith) (omega arith) in omega (arith, suc-mul i m)
-
-pub row_is_added : (i m len len' : ℕ) → len ≡ i * m → len' ≡ len + m → len' ≡ (i + 1) * m
-row_is_added i m len len' e f = rw (add-one i) (omega (arith, suc-mul i m))
