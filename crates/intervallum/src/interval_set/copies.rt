@@ -29,7 +29,7 @@ impl<B: Width> IntervalSet<B> {
     {
         let room = self.intervals.len().saturating_add(1);
         let mut intervals = Vec::with_capacity(self.allocator(), room)?;
-        intervals.extend_from_slice(&self.intervals)?;
+        intervals.extend_from_slice(&self.intervals).unwrap();
         Ok(IntervalSet {
             intervals,
             size: self.size,

@@ -8,11 +8,12 @@ mod spans;
 mod splices;
 
 use super::IntervalSet;
+use super::runs::grown;
 use crate::interval::Interval;
 use crate::ops::{Bounded, Contains, IsEmpty, Singleton, StrictShrinkLeft, StrictShrinkRight};
 use crate::width::{SizeNumber, Width};
 use spans::{if_filled, joined, rests, span, touched};
-use splices::{grown, replace_runs, shrunk, size_of, total_size};
+use splices::{replace_runs, shrunk, size_of, total_size};
 use std::alloc::AllocError;
 
 impl<B: Width> IntervalSet<B> {

@@ -23,14 +23,24 @@ use std::alloc::AllocError;
 /// assert!(rt; both == IntervalSet::new(alloc, 4, 5)?);
 /// ```
 pub fn common<B: Width>(
-    first: Walk<'_, B>,
-    second: Walk<'_, B>,
+    mut first: Walk<'_, B>,
+    mut second: Walk<'_, B>,
 ) -> Result<IntervalSet<B>, AllocError>
     ensures members { IfOk result (λ L. IsRunsOf L (Intersection (Covers first.entry.left) (Covers second.entry.left))) }
     ensures runs_at_most { IfOk result (λ L. length L ≤ length first.entry.left + length second.entry.left) }
 {
     let mut set = room_for(&first, &second)?;
-    push_common(&mut set, first, second)?;
+    let mut a = first.take();
+    let mut b = second.take();
+    'walk: while let Some(runs) = a.zip(b) {
+        let (run, other) = runs;
+        push_part(&mut set, run.intersection(&other))?;
+        if run.upper() <= other.upper() {
+            a = first.take();
+        } else {
+            b = second.take();
+        }
+    }
     Ok(set.fitted())
 }
 
@@ -44,29 +54,6 @@ pub(super) fn room_for<B: Width>(
 {
     let room = first.left().saturating_add(second.left());
     IntervalSet::with_room(first.alloc(), room)
-}
-
-/// Adds to an empty set the common members of the runs left in two walks.
-fn push_common<B: Width>(
-    set: &mut IntervalSet<B>,
-    mut first: Walk<'_, B>,
-    mut second: Walk<'_, B>,
-) -> Result<(), AllocError>
-    requires empty { set.old ≡ [] }
-    ensures { OnOk result (IsRunsOf set.new (Intersection (Covers first.entry.left) (Covers second.entry.left))) }
-{
-    let mut a = first.take();
-    let mut b = second.take();
-    'walk: while let Some(runs) = a.zip(b) {
-        let (run, other) = runs;
-        push_part(set, run.intersection(&other))?;
-        if run.upper() <= other.upper() {
-            a = first.take();
-        } else {
-            b = second.take();
-        }
-    }
-    Ok(())
 }
 
 /// The numbers of the range that no run left in a walk covers. Advances once for each of these

@@ -17,31 +17,18 @@ use std::alloc::AllocError;
 /// run left in the two, and reserves as many runs once. The result has the allocator of the first
 /// walk. Fails only if allocation fails.
 pub(crate) fn without<B: Width>(
-    first: Walk<'_, B>,
-    second: Walk<'_, B>,
+    mut first: Walk<'_, B>,
+    mut second: Walk<'_, B>,
 ) -> Result<IntervalSet<B>, AllocError>
     ensures members { IfOk result (λ L. IsRunsOf L (Without (Covers first.entry.left) (Covers second.entry.left))) }
     ensures runs_at_most { IfOk result (λ L. length L ≤ length first.entry.left + length second.entry.left) }
 {
     let mut set = room_for(&first, &second)?;
-    push_without(&mut set, first, second)?;
-    Ok(set.fitted())
-}
-
-/// Adds to an empty set the members that the first walk has left and the second does not.
-fn push_without<B: Width>(
-    set: &mut IntervalSet<B>,
-    mut first: Walk<'_, B>,
-    mut second: Walk<'_, B>,
-) -> Result<(), AllocError>
-    requires empty { set.old ≡ [] }
-    ensures { OnOk result (IsRunsOf set.new (Without (Covers first.entry.left) (Covers second.entry.left))) }
-{
     let mut a = first.take();
     let mut b = second.take();
     'walk: while let Some(runs) = a.zip(b) {
         let (run, other) = runs;
-        push_part(set, run.strict_shrink_right(other.lower()))?;
+        push_part(&mut set, run.strict_shrink_right(other.lower()))?;
         if other.upper() < run.upper() {
             a = Some(run.strict_shrink_left(other.upper()));
             b = second.take();
@@ -49,37 +36,25 @@ fn push_without<B: Width>(
             a = first.take();
         }
     }
-    push_rest(set, a, first)
+    push_rest(&mut set, a, first)?;
+    Ok(set.fitted())
 }
 
 /// The members that exactly one of two walks has left. Steps, memory and errors are those of
 /// `without`.
 pub(crate) fn one_alone<B: Width>(
-    first: Walk<'_, B>,
-    second: Walk<'_, B>,
+    mut first: Walk<'_, B>,
+    mut second: Walk<'_, B>,
 ) -> Result<IntervalSet<B>, AllocError>
     ensures members { IfOk result (λ L. IsRunsOf L (SymmetricDifference (Covers first.entry.left) (Covers second.entry.left))) }
     ensures runs_at_most { IfOk result (λ L. length L ≤ length first.entry.left + length second.entry.left) }
 {
     let mut set = room_for(&first, &second)?;
-    push_alone(&mut set, first, second)?;
-    Ok(set.fitted())
-}
-
-/// Adds to an empty set the members that exactly one of two walks has left.
-fn push_alone<B: Width>(
-    set: &mut IntervalSet<B>,
-    mut first: Walk<'_, B>,
-    mut second: Walk<'_, B>,
-) -> Result<(), AllocError>
-    requires empty { set.old ≡ [] }
-    ensures { OnOk result (IsRunsOf set.new (SymmetricDifference (Covers first.entry.left) (Covers second.entry.left))) }
-{
     let mut a = first.take();
     let mut b = second.take();
     'walk: while let Some(runs) = a.zip(b) {
         let (run, other) = runs;
-        push_above(set, lower_part(run, other))?;
+        push_above(&mut set, lower_part(run, other))?;
         if run.upper() < other.upper() {
             a = first.take();
             b = Some(other.strict_shrink_left(run.upper()));
@@ -91,8 +66,9 @@ fn push_alone<B: Width>(
             b = second.take();
         }
     }
-    push_rest(set, a, first)?;
-    push_rest(set, b, second)
+    push_rest(&mut set, a, first)?;
+    push_rest(&mut set, b, second)?;
+    Ok(set.fitted())
 }
 
 /// What one of two runs has below the start of the other.

@@ -97,14 +97,6 @@ pub(super) fn size_of<B: Width>(run: Option<Interval<B>>) -> B::Output
     }
 }
 
-/// A size and some more. The sum is a size again.
-pub(super) fn grown<B: Width>(size: B::Output, more: B::Output) -> B::Output
-    requires { B.Output.size size + B.Output.size more ≤ B.Output.greatest }
-    ensures { B.Output.size result ≡ B.Output.size size + B.Output.size more }
-{
-    size.checked_add(more).unwrap()
-}
-
 /// A size less some. The difference is a size again.
 pub(super) fn shrunk<B: Width>(size: B::Output, less: B::Output) -> B::Output
     requires { B.Output.size less ≤ B.Output.size size }

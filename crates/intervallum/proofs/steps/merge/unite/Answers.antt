@@ -8,7 +8,7 @@ use Rattle.intervallum.proofs.steps.merge.unite.Goals as goal
 pub walk-init : goal.walk-init
 walk-init g c =
     let P : List (ℤ × ℤ) → Type 0 = λ L. IsUniting L c.args.first.left c.args.second.left (Union (Covers c.args.first.left) (Covers c.args.second.left)) in
-    subst P (sym c.in_ok-set.ensures.empty)
+    subst P (sym {A = List (ℤ × ℤ)} c.in_ok-set.ensures.empty)
     (uniting_begins c.args.first.left c.args.second.left c.in_ok-set.ensures.within.0.maximal c.in_ok-set.ensures.within.1.maximal)
 
 pub walk-preserved : goal.walk-preserved

@@ -5,7 +5,7 @@ use Rattle.intervallum.specs.Led.{led_by}
 use Rattle.intervallum.proofs.Building.{IsBuilding}
 use Rattle.intervallum.proofs.Leading.{IsLed}
 use Rattle.intervallum.proofs.Alternating.{rest_alone}
-use Rattle.intervallum.proofs.steps.differences.push_alone.Given as goal
+use Rattle.intervallum.proofs.steps.differences.one_alone.Given as goal
 
 -- what is written, and what one of the two lists has alone from the held runs on, make up the answer
 abbrev pub invariant-walk : goal.invariant-walk
