@@ -1,6 +1,6 @@
-use Rattle.std.proofs.Common.{◌≡◌, ℤ, List, [], ◌∷◌, ◌++◌, sym, subst}
+use Rattle.std.proofs.Common.{◌≡◌, ℤ, List, ◌∷◌, subst}
 use Rattle.std.proofs.lemmas.Result.{IfOk-weaker}
-use Rattle.std.specs.Iterator.{Drains, IsFinite}
+use Rattle.std.specs.Iterator.{Drains}
 use Rattle.ivl_laws.specs.Runs.{Covers, IsRunsOf}
 use Rattle.intervallum.proofs.interval_set.conversions.gathered.Goals as goal
 
