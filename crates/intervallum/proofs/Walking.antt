@@ -43,3 +43,10 @@ takes_first A B A' a b e f h (x, g) = inl (is_first A A' a x e g, refl, starts_w
 
 pub takes_second : (A B B' : List (ℤ × ℤ)) (a b : ℤ × ℤ) → Some a ≡ slice_get A 0 → Some b ≡ slice_get B 0 → b.0 ≤ℤ a.0 → (x : ℤ × ℤ) × (B ≡ x ∷ B') → TakesFirst A B A B' b
 takes_second A B B' a b e f h (x, g) = inr (is_first B B' b x f g, refl, starts_with A a b.0 e h)
+
+-- the other list has nothing left
+pub takes_only_first : (A B A' : List (ℤ × ℤ)) (a : ℤ × ℤ) → Some a ≡ slice_get A 0 → B ≡ [] → (x : ℤ × ℤ) × (A ≡ x ∷ A') → TakesFirst A B A' B a
+takes_only_first A B A' a e none (x, g) = inl (is_first A A' a x e g, refl, subst (λ (L : List (ℤ × ℤ)). StartsFrom a.0 L) (sym none) tt)
+
+pub takes_only_second : (A B B' : List (ℤ × ℤ)) (b : ℤ × ℤ) → Some b ≡ slice_get B 0 → A ≡ [] → (x : ℤ × ℤ) × (B ≡ x ∷ B') → TakesFirst A B A B' b
+takes_only_second A B B' b e none (x, g) = inr (is_first B B' b x e g, refl, subst (λ (L : List (ℤ × ℤ)). StartsFrom b.0 L) (sym none) tt)

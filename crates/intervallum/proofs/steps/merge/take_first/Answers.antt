@@ -2,7 +2,7 @@ use Rattle.std.proofs.Common.{◌∙◌, sym, arith}
 use Rattle.std.proofs.lemmas.Int.{ints}
 use Rattle.ivl_laws.proofs.Intervals.{some_is_not_crossed}
 use Rattle.ivl_laws.proofs.Orders.{le_number, not_le_number}
-use Rattle.intervallum.proofs.Walking.{first_is_open, nothing_left, takes_first, takes_second}
+use Rattle.intervallum.proofs.Walking.{first_is_open, nothing_left, takes_first, takes_only_first, takes_only_second, takes_second}
 use Rattle.intervallum.proofs.steps.merge.take_first.Goals as goal
 
 pub lower-requires : goal.lower-requires
@@ -28,3 +28,13 @@ returns-in-None-None-clause-taken g c = (
   nothing_left c.args.first.now.left (sym c.in-None-None.is-0 ∙ c.peek.ensures.first),
   nothing_left c.args.second.now.left (sym c.in-None-None.is-1 ∙ c.peek-2.ensures.first),
 )
+
+pub returns-in-Some-None-clause-taken : goal.returns-in-Some-None-clause-taken
+returns-in-Some-None-clause-taken g c =
+    takes_only_first _ _ _ c.in-Some-None.a c.in-Some-None.ensures.first (nothing_left c.args.second.now.left (sym c.in-Some-None.is-1 ∙ c.peek-2.ensures.first))
+    c.advance-in-Some-None.ensures.left
+
+pub returns-in-None-Some-clause-taken : goal.returns-in-None-Some-clause-taken
+returns-in-None-Some-clause-taken g c =
+    takes_only_second _ _ _ c.in-None-Some.b c.in-None-Some.ensures.first (nothing_left c.args.first.now.left (sym c.in-None-Some.is-0 ∙ c.peek.ensures.first))
+    c.advance-in-None-Some.ensures.left
