@@ -17,6 +17,7 @@ pub mod Meeting
 pub mod Leading
 pub mod Listing
 pub mod Parting
+pub mod Around
 pub mod Alternating
 pub mod Windows
 pub mod Scaling

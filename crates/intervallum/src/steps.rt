@@ -3,15 +3,17 @@
 mod combine;
 mod differences;
 mod merge;
+mod outside;
 mod places;
 mod probes;
 mod search;
 mod walk;
 
 pub use combine::common;
-pub(crate) use combine::{gaps, have_common};
+pub(crate) use combine::have_common;
 pub(crate) use differences::{one_alone, without};
 pub use merge::unite;
+pub(crate) use outside::gaps;
 pub(crate) use places::{first_from, last_up_to, runs_before, runs_up_to};
 pub use probes::Probes;
 pub(crate) use search::find_from;

@@ -155,7 +155,7 @@ impl<B: Width> Complement for IntervalSet<B> {
         ensures members { IfOk result (λ L. IsRunsOf L (Complement B.whole (Covers self.now))) }
         ensures runs_at_most { IfOk result (λ L. length L ≤ length self.now + 1) }
     {
-        gaps(Walk::new(self))
+        gaps(self)
     }
 }
 

@@ -1,4 +1,4 @@
-//! The common members of two walks, and the gaps of one.
+//! The common members of two walks.
 ghost use Rattle.std.specs.Prelude.{◌≡◌, ◌↔◌, ◌+◌, ◌≤◌, [], IfOk, IsTrue, MatchOption, OnOk, Some, length, pos, slice_get};
 ghost use Rattle.ivl_laws.specs.Sets.{Complement, HasNone, HasSome, Intersection, IsBetween, Union};
 ghost use Rattle.ivl_laws.specs.Runs.{Covers, IsRunListIn, IsRunsOf};
@@ -54,25 +54,6 @@ pub(super) fn room_for<B: Width>(
 {
     let room = first.left().saturating_add(second.left());
     IntervalSet::with_room(first.alloc(), room)
-}
-
-/// The numbers of the range that no run left in a walk covers. Advances once for each of these
-/// runs, and reserves one run more once. The result has the allocator of the walk. Fails only if
-/// allocation fails.
-pub(crate) fn gaps<B: Width>(mut walk: Walk<'_, B>) -> Result<IntervalSet<B>, AllocError>
-    ensures members { IfOk result (λ L. IsRunsOf L (Complement B.whole (Covers walk.entry.left))) }
-    ensures runs_at_most { IfOk result (λ L. length L ≤ length walk.entry.left + 1) }
-{
-    let room = walk.left().saturating_add(1);
-    let mut set = IntervalSet::with_room(walk.alloc(), room)?;
-    let mut rest = Interval::whole();
-    'walk: while let Some(run) = walk.peek() {
-        push_part(&mut set, rest.strict_shrink_right(run.lower()))?;
-        rest = rest.strict_shrink_left(run.upper());
-        walk.advance();
-    }
-    push_part(&mut set, rest)?;
-    Ok(set.fitted())
 }
 
 /// The first runs of two walks, if both have one.
