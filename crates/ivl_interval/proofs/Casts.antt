@@ -1,8 +1,22 @@
--- A product that is taken in more bits and cast back.
-use Rattle.std.proofs.Common.{◌≡◌, ℤ, pos, negsuc, ◌*ℤ◌, ◌*◌, ◌^◌, ◌<◌, ◌≤◌, unsigned_abs, arith}
-use Rattle.std.proofs.lemmas.Int.{fits_signed_mul, to_z-of_z}
+-- Products within a range, and a product that is taken in more bits and cast back.
+use Rattle.std.proofs.Common.{◌≡◌, ℕ, ℤ, pos, negsuc, ◌*ℤ◌, ◌*◌, ◌^◌, ◌<◌, ◌≤◌, unsigned_abs, arith}
+use Rattle.std.proofs.lemmas.Int.{fits_signed_mul, ints, to_z-of_z}
 use mir.Syntax.{Width}
 use mir.Val.{SFits, hbits, of_z, to_z}
+use Rattle.ivl_laws.specs.Sets.{IsBetween}
+
+SFits-between : (w : Width) (low high : ℕ) (z : ℤ) → low < 2 ^ hbits w → high < 2 ^ hbits w → IsBetween (negsuc low, pos high) z → SFits w z
+SFits-between w low high (pos n) h k b = let below = b.1 in record { sfits = omega (arith, ints) }
+SFits-between w low high (negsuc n) h k b = let above = b.0 in record { sfits = omega (arith, ints) }
+
+-- a product of two passed numbers, where it is within a range of the type
+module _ (w : Width) (low high : ℕ) (a b : ℤ) (low_fits : low < 2 ^ hbits w) (high_fits : high < 2 ^ hbits w) (a_fits : SFits w a) (b_fits : SFits w b)
+    (within : IsBetween (negsuc low, pos high) (a *ℤ b)) where
+  pub SFits-product : SFits w (to_z w (of_z w a) *ℤ to_z w (of_z w b))
+  SFits-product = rw (to_z-of_z w a a_fits, to_z-of_z w b b_fits) (SFits-between w low high (a *ℤ b) low_fits high_fits within)
+
+  pub to_z-product : to_z w (of_z w (to_z w (of_z w a) *ℤ to_z w (of_z w b))) ≡ a *ℤ b
+  to_z-product = rw (to_z-of_z w a a_fits, to_z-of_z w b b_fits) (to_z-of_z w (a *ℤ b) (SFits-between w low high (a *ℤ b) low_fits high_fits within))
 
 pub product_cast_back : (wide narrow : Width) (x y a b : ℤ) → x ≡ a → y ≡ b → SFits wide (a *ℤ b) → SFits narrow (a *ℤ b)
     → to_z narrow (of_z narrow (to_z wide (of_z wide (x *ℤ y)))) ≡ a *ℤ b

@@ -2,12 +2,12 @@
 use Rattle.std.proofs.Common.{◌≡◌, ℤ, pos, ◌+ℤ◌, ◌-ℤ◌, ◌≤ℤ◌, ◌<ℤ◌, ◌↔◌, IsTrue, Bool, true, false, arith, refl, sym, ◌∙◌}
 use Rattle.std.proofs.Math.Bool.{true≢false}
 use Rattle.std.specs.Int.{int_max, int_min}
-use Rattle.std.proofs.lemmas.Int.{ints, clamps}
+use Rattle.std.proofs.lemmas.Int.{ints, clamps, by_lt_z}
 use Rattle.ivl_laws.specs.Sets.{Above, AtLeast, AtMost, Below, HasNone, HasSome, IsBetween, IsCrossed, IsHullOf, IsInRange, IsSubset, Only, SameMembers, Without}
 use Rattle.ivl_laws.proofs.Intervals.{none_is_crossed, not_crossed, some_is_not_crossed}
 use Rattle.ivl_laws.proofs.Spans.{hull_of_none}
 use Rattle.ivl_interval.proofs.Arithmetic.{ordered}
-use Rattle.ivl_interval.proofs.Pairs.{above_rest, below_rest, only_by_bounds, subset_by_lower, subset_by_upper}
+use Rattle.ivl_interval.proofs.Pairs.{above_rest, below_rest, nothing_is_left, only_by_bounds, subset_by_lower, subset_by_upper}
 
 -- ---- the ends of results
 
@@ -66,6 +66,53 @@ previous_in_range whole l u v r h k = (omega (arith, ints, r.0), omega (arith, i
 pub crossed_stays : (p : ℤ × ℤ) (T : ℤ → Type 0) → IsCrossed p → IsHullOf p (Without (IsBetween p) T)
 crossed_stays p T c = (hull_of_none (Without (IsBetween p) T) p (λ z m. (none_is_crossed p).1 c z m.0)).1 c
 
+-- ---- what another interval leaves, by which ends of the first it holds
+
+pub lower_inside : (p q : ℤ × ℤ) (pl pu ql qu : ℤ) → (pl, pu) ≡ p → (ql, qu) ≡ q → p.0 ≤ℤ p.1 → IsBetween q pl → ¬ (IsBetween q pu)
+    → (ql ≤ℤ pl) × (pl ≤ℤ qu) × (qu <ℤ pu)
+lower_inside p q pl pu ql qu ep eq o m n =
+    let in_order = rw (← ep) at o in
+    let low = rw (← eq) at m in
+    let high = rw (← eq) at n in
+    (low.0, low.1, by_lt_z qu pu (λ k. k) (λ k. absurd (high (omega (arith, ints, low.0, in_order), k))))
+
+pub upper_inside : (p q : ℤ × ℤ) (pl pu ql qu : ℤ) → (pl, pu) ≡ p → (ql, qu) ≡ q → p.0 ≤ℤ p.1 → ¬ (IsBetween q pl) → IsBetween q pu
+    → (pl <ℤ ql) × (ql ≤ℤ pu) × (pu ≤ℤ qu)
+upper_inside p q pl pu ql qu ep eq o m n =
+    let in_order = rw (← ep) at o in
+    let low = rw (← eq) at m in
+    let high = rw (← eq) at n in
+    (by_lt_z pl ql (λ k. k) (λ k. absurd (low (k, omega (arith, ints, high.1, in_order)))), high.0, high.1)
+
+upper_part : (pl pu ql qu : ℤ) → ql ≤ℤ pl → pl ≤ℤ qu → qu <ℤ pu → IsHullOf (qu +ℤ pos 1, pu) (Without (IsBetween (pl, pu)) (IsBetween (ql, qu)))
+upper_part pl pu ql qu l m u = record {
+  holds = λ z w. (by_lt_z qu z (λ k. omega (arith, ints, k)) (λ k. absurd (w.1 (omega (arith, ints, l, w.0.0), k))), w.0.1);
+  ends = λ o. (((omega (arith, ints, m), o), λ b. omega (arith, ints, b.1)), ((omega (arith, ints, m, u), omega (arith, ints)), λ b. omega (arith, ints, b.1, u)));
+}
+
+lower_part : (pl pu ql qu : ℤ) → pl <ℤ ql → ql ≤ℤ pu → pu ≤ℤ qu → IsHullOf (pl, ql -ℤ pos 1) (Without (IsBetween (pl, pu)) (IsBetween (ql, qu)))
+lower_part pl pu ql qu l m u = record {
+  holds = λ z w. (w.0.0, by_lt_z z ql (λ k. omega (arith, ints, k)) (λ k. absurd (w.1 (k, omega (arith, ints, u, w.0.1)))));
+  ends = λ o. (((omega (arith, ints), omega (arith, ints, l, m)), λ b. omega (arith, ints, b.0, l)), ((o, omega (arith, ints, m)), λ b. omega (arith, ints, b.0)));
+}
+
+pub upper_is_left : (p q r : ℤ × ℤ) (pl pu ql qu s : ℤ) → (pl, pu) ≡ p → (ql, qu) ≡ q → r ≡ (s, pu) → s ≡ (qu +ℤ pos 1)
+    → (ql ≤ℤ pl) × (pl ≤ℤ qu) × (qu <ℤ pu) → IsHullOf r (Without (IsBetween p) (IsBetween q))
+upper_is_left p q r pl pu ql qu s ep eq er es h = rw (← ep, ← eq, er, es) (upper_part pl pu ql qu h.0 h.1 h.2)
+
+pub lower_is_left : (p q r : ℤ × ℤ) (pl pu ql qu s : ℤ) → (pl, pu) ≡ p → (ql, qu) ≡ q → r ≡ (pl, s) → s ≡ (ql -ℤ pos 1)
+    → (pl <ℤ ql) × (ql ≤ℤ pu) × (pu ≤ℤ qu) → IsHullOf r (Without (IsBetween p) (IsBetween q))
+lower_is_left p q r pl pu ql qu s ep eq er es h = rw (← ep, ← eq, er, es) (lower_part pl pu ql qu h.0 h.1 h.2)
+
+pub both_inside : (p q r : ℤ × ℤ) (pl pu : ℤ) → (pl, pu) ≡ p → IsBetween q pl → IsBetween q pu → IsCrossed r → IsHullOf r (Without (IsBetween p) (IsBetween q))
+both_inside p q r pl pu ep m n c = rw (← ep) (nothing_is_left (pl, pu) q r m n c)
+
+pub both_outside : (p q : ℤ × ℤ) (pl pu : ℤ) → (pl, pu) ≡ p → ¬ (IsBetween q pl) → ¬ (IsBetween q pu) → IsHullOf (pl, pu) (Without (IsBetween p) (IsBetween q))
+both_outside p q pl pu ep m n = rw (← ep) record {
+  holds = λ z w. w.0;
+  ends = λ o. (((omega (arith, ints), o), m), ((o, omega (arith, ints)), n));
+}
+
 -- ---- one test
 
 pub crossed_by_test : (p : ℤ × ℤ) (l u : ℤ) (r : Bool) → (l, u) ≡ p → (IsTrue r ↔ (u <ℤ l)) → IsTrue r ↔ IsCrossed p
@@ -96,6 +143,12 @@ between_by_upper p l u v t r e is lower upper = rw (← e) (both t r is lower up
 
 pub between_by_lower : (p : ℤ × ℤ) (l u v : ℤ) (t : Bool) → (l, u) ≡ p → t ≡ false → (IsTrue t ↔ (l ≤ℤ v)) → IsTrue t ↔ IsBetween p v
 between_by_lower p l u v t e is lower = rw (← e) (not_first t is lower)
+
+pub ends_by_second : (P : ℤ → Type 0) (p : ℤ × ℤ) (l u : ℤ) (t r : Bool) → (l, u) ≡ p → t ≡ true → (IsTrue t ↔ P l) → (IsTrue r ↔ P u) → IsTrue r ↔ (P p.0 × P p.1)
+ends_by_second P p l u t r e is lower upper = rw (← e) (both t r is lower upper)
+
+pub ends_by_first : (P : ℤ → Type 0) (p : ℤ × ℤ) (l u : ℤ) (t : Bool) → (l, u) ≡ p → t ≡ false → (IsTrue t ↔ P l) → IsTrue t ↔ (P p.0 × P p.1)
+ends_by_first P p l u t e is lower = rw (← e) (not_first t is lower)
 
 pub in_range_by_upper : (whole : ℤ × ℤ) (low high l u : ℤ) (t r : Bool) → low ≡ whole.0 → high ≡ whole.1 → t ≡ true
     → (IsTrue t ↔ (low ≤ℤ l)) → (IsTrue r ↔ (u ≤ℤ high)) → IsTrue r ↔ IsInRange whole (l, u)

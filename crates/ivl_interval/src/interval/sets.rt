@@ -95,10 +95,10 @@ fn cut_away<B: Width>(first: &Interval<B>, other: &Interval<B>) -> Interval<B>
 {
     let at_lower = other.contains(&first.lb);
     let at_upper = other.contains(&first.ub);
-    if at_lower && at_upper {
-        return Interval::empty();
-    }
     if at_lower {
+        if at_upper {
+            return Interval::empty();
+        }
         // `other` ends below the upper bound, so the next number is in the range
         return Interval::new(successor(other.ub), first.ub);
     }

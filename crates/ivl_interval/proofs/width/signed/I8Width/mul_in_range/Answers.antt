@@ -1,0 +1,10 @@
+use Rattle.std.proofs.Common.{lit<}
+use mir.Syntax.{w8}
+use Rattle.ivl_interval.proofs.Casts.{SFits-product, to_z-product}
+use Rattle.ivl_interval.proofs.width.signed.I8Width.mul_in_range.Goals as goal
+
+pub overflow_mul-result : goal.overflow_mul-result
+overflow_mul-result c = SFits-product w8 _ _ c.args.self c.args.other (lit< tt) (lit< tt) c.ranges.self c.ranges.other c.requires
+
+pub returns : goal.returns
+returns c = to_z-product w8 _ _ c.args.self c.args.other (lit< tt) (lit< tt) c.ranges.self c.ranges.other c.requires
