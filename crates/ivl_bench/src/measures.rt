@@ -113,7 +113,7 @@ impl Answer for u64 {
     }
 
     fn of_json(value: Value) -> u64 {
-        value.as_array().map_or(0, |items| items.len()) as u64
+        count_of(&value) as u64
     }
 
     fn of_text(text: String) -> u64 {
@@ -125,6 +125,14 @@ impl Answer for u64 {
     }
 }
 
+/// How long an array is.
+fn count_of(value: &Value) -> usize {
+    match value.as_array() {
+        Some(items) => items.len(),
+        None => 0,
+    }
+}
+
 impl Outcome {
     /// The number of runs and the size of a set, the one number, or how long an array or a text is.
     pub fn to_text(&self, alloc: Global) -> Result<String, AllocError> {
@@ -133,10 +141,7 @@ impl Outcome {
                 format!(in alloc; "{} {}", set.interval_count(), set.size().number())
             }
             Outcome::Number(number) => format!(in alloc; "{number}"),
-            Outcome::Json(value) => {
-                let count = value.as_array().map_or(0, |items| items.len());
-                format!(in alloc; "{count}")
-            }
+            Outcome::Json(value) => format!(in alloc; "{}", count_of(value)),
             Outcome::Text(text) => format!(in alloc; "{}", text.len()),
             Outcome::DoesNotFit => String::from_str(alloc, "does not fit"),
         }

@@ -4,7 +4,7 @@
 //! constraint; the file of the same name that ends in `.fixed` has the greatest supported domains.
 
 use crate::inputs::set_of;
-use anyhow::{Context, Result, bail, ensure};
+use anyhow::{Context, Result, bail};
 use intervallum::interval_set::IntervalSet;
 use ivl_store::store::callers::post_if_distinct;
 use ivl_store::store::{Constraint, Post, Store, StoreFault};
@@ -12,6 +12,7 @@ use std::alloc::{AllocError, Global};
 use std::fs::File;
 use std::io::{BufRead, BufReader, Lines};
 use std::rt::{Clock, Files};
+use std::str::FromStr;
 use std::time::{Duration, Instant};
 
 /// How the fixed point is reached.
@@ -29,26 +30,6 @@ impl Way {
             Way::PostAll => "post_all",
             Way::Propagate => "propagate",
         }
-    }
-}
-
-/// A line of a file.
-#[derive(Drop)]
-enum Line {
-    Domain(IntervalSet<i64>),
-    Sum(Constraint),
-}
-
-impl Line {
-    fn parse(alloc: Global, text: &str) -> Result<Line> {
-        let (head, rest) = text.split_once(' ').unwrap_or((text, ""));
-        let numbers = numbers(alloc, rest)?;
-        if head == "domain" {
-            return Ok(Line::Domain(domain(alloc, &numbers)?));
-        }
-        ensure!(head == "sum", "no such line is known");
-        let constraint = constraint(&numbers).context("a sum is of three variables")?;
-        Ok(Line::Sum(constraint))
     }
 }
 
@@ -71,8 +52,18 @@ impl Instance {
 
     /// Adds what a line of a file has.
     fn add_line(&mut self, alloc: Global, text: &str) -> Result<()> {
-        let line = Line::parse(alloc, text)?;
-        Ok(self.add(line)?)
+        match text.split_once(' ').unwrap_or((text, "")) {
+            ("domain", runs) => self.domains.push(domain(alloc, runs)?)?,
+            ("sum", variables) => self.add_sum(constraint(alloc, variables)?)?,
+            _ => bail!("no such line is known"),
+        }
+        Ok(())
+    }
+
+    fn add_sum(&mut self, constraint: Constraint) -> Result<(), AllocError> {
+        self.constraints.push(constraint)?;
+        self.posts.push(Post::Require(constraint))?;
+        Ok(())
     }
 
     fn empty(alloc: Global) -> Instance {
@@ -81,17 +72,6 @@ impl Instance {
             constraints: Vec::new(alloc),
             posts: Vec::new(alloc),
         }
-    }
-
-    fn add(&mut self, line: Line) -> Result<(), AllocError> {
-        match line {
-            Line::Domain(domain) => self.domains.push(domain)?,
-            Line::Sum(constraint) => {
-                self.constraints.push(constraint)?;
-                self.posts.push(Post::Require(constraint))?;
-            }
-        }
-        Ok(())
     }
 
     /// A store with the domains as they were read.
@@ -119,22 +99,24 @@ fn lines<R: AllocGlobal + Files>(rt: &R, path: &str) -> Result<Lines<BufReader<R
 }
 
 /// The numbers of a text, blanks between them.
-fn numbers(alloc: Global, text: &str) -> Result<Vec<i64>> {
+fn numbers<N: FromStr + Copy>(alloc: Global, text: &str) -> Result<Vec<N>>
+where
+    N::Err: Drop,
+{
     let mut numbers = Vec::new(alloc);
     if text.is_empty() {
         return Ok(numbers);
     }
     for word in text.split(' ') {
-        let number = word.parse().ok().context("a word is no number")?;
-        numbers.push(number)?;
+        numbers.push(word.parse().ok().context("a word is no number")?)?;
     }
     Ok(numbers)
 }
 
 /// The set of runs `l u l u ..`.
-fn domain(alloc: Global, numbers: &[i64]) -> Result<IntervalSet<i64>> {
-    let mut pairs = Vec::with_capacity(alloc, numbers.len() / 2)?;
-    for run in numbers.chunks(2) {
+fn domain(alloc: Global, runs: &str) -> Result<IntervalSet<i64>> {
+    let mut pairs = Vec::new(alloc);
+    for run in numbers(alloc, runs)?.chunks(2) {
         match run {
             [lower, upper] => pairs.push((*lower, *upper))?,
             _ => bail!("a run has one bound"),
@@ -144,47 +126,25 @@ fn domain(alloc: Global, numbers: &[i64]) -> Result<IntervalSet<i64>> {
 }
 
 /// The constraint of variables `x y z`.
-fn constraint(numbers: &[i64]) -> Option<Constraint> {
-    let index = |place: usize| usize::try_from(*numbers.get(place)?).ok();
-    Some(Constraint {
-        x: index(0)?,
-        y: index(1)?,
-        z: index(2)?,
-    })
+fn constraint(alloc: Global, variables: &str) -> Result<Constraint> {
+    match numbers(alloc, variables)?.as_slice() {
+        [x, y, z] => Ok(Constraint {
+            x: *x,
+            y: *y,
+            z: *z,
+        }),
+        _ => bail!("a sum is of three variables"),
+    }
 }
 
 /// Prints for each instance and each way how many domains are those of its `.fixed` file.
 pub fn print_answers(rt: &(impl Print + AllocGlobal + Files)) -> Result<()> {
     for name in ["chain", "random", "planted", "loop"] {
-        print_answers_of(rt, name)?;
+        for way in Way::BOTH {
+            let (is_fixed, same, count) = solved(rt, name, way)?;
+            println!(rt; "store {name} {} {is_fixed} {same} of {count}", way.name())?;
+        }
     }
-    Ok(())
-}
-
-/// Prints the same for one instance.
-fn print_answers_of(rt: &(impl Print + AllocGlobal + Files), name: &str) -> Result<()> {
-    let instance = read_named(rt, name, "txt")?;
-    let fixed = read_named(rt, name, "fixed")?;
-    for way in Way::BOTH {
-        print_answer(rt, name, &instance, &fixed, way)?;
-    }
-    Ok(())
-}
-
-/// Prints how many domains of an instance are those of another instance, once the one way has narrowed them.
-fn print_answer(
-    rt: &(impl Print + AllocGlobal),
-    name: &str,
-    instance: &Instance,
-    fixed: &Instance,
-    way: Way,
-) -> Result<()> {
-    let (is_fixed, same) = solved(rt.alloc(), instance, fixed, way)?;
-    println!(rt;
-        "store {name} {} {is_fixed} {same} of {}",
-        way.name(),
-        fixed.domains.len()
-    )?;
     Ok(())
 }
 
@@ -193,21 +153,25 @@ fn read_named(rt: &(impl AllocGlobal + Files), name: &str, extension: &str) -> R
     Instance::read(rt, path.as_str())
 }
 
-/// Whether an instance reaches its fixed point, and how many domains are then those of another instance.
-fn solved(alloc: Global, instance: &Instance, fixed: &Instance, way: Way) -> Result<(bool, usize)> {
-    let mut store = instance.fresh(alloc)?;
+/// Whether an instance reaches its fixed point, how many domains are then those of its `.fixed` file, and how many that
+/// file has.
+fn solved(rt: &(impl AllocGlobal + Files), name: &str, way: Way) -> Result<(bool, usize, usize)> {
+    let instance = read_named(rt, name, "txt")?;
+    let mut store = instance.fresh(rt.alloc())?;
     let is_fixed = instance.solve(&mut store, way)?;
-    Ok((is_fixed, same_domains(&store, fixed)))
+    let fixed = read_named(rt, name, "fixed")?;
+    Ok((is_fixed, same_domains(&store, &fixed), fixed.domains.len()))
 }
 
 /// How many domains of a store are those of an instance.
 fn same_domains(store: &Store<i64>, fixed: &Instance) -> usize {
-    store
-        .domains()
-        .iter()
-        .zip(&fixed.domains)
-        .filter(|(ours, theirs)| ours == theirs)
-        .count()
+    let mut count: usize = 0;
+    for (ours, theirs) in store.domains().iter().zip(&fixed.domains) {
+        if ours == theirs {
+            count = count.saturating_add(1);
+        }
+    }
+    count
 }
 
 /// Prints for each way the least nanoseconds from fresh domains to the fixed point.

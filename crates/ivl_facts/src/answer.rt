@@ -23,8 +23,6 @@ pub enum Answer<B: Width> {
     Place(Place),
     /// Intervals, any of which may be empty, in the order of a list.
     List(Vec<Interval<B>>),
-    /// What is printed.
-    Text(String),
 }
 
 impl<B: Width + Display> Answer<B> {
@@ -43,14 +41,13 @@ impl<B: Width + Display> Answer<B> {
             Answer::Count(count) => format!(in alloc; "{count}"),
             Answer::Place(Place::In(run)) => format!(in alloc; "in {run}"),
             Answer::Place(Place::Gap(runs)) => format!(in alloc; "gap {runs}"),
-            Answer::List(list) => list_text(alloc, list),
-            Answer::Text(text) => text.clone(),
+            Answer::List(list) => list_text(alloc, list, ','),
         }
     }
 }
 
 /// `-` for no member, else the two bounds.
-fn interval_text<B: Width + Display>(
+pub fn interval_text<B: Width + Display>(
     alloc: Global,
     interval: &Interval<B>,
 ) -> Result<String, AllocError> {
@@ -60,30 +57,35 @@ fn interval_text<B: Width + Display>(
     format!(in alloc; "{} {}", interval.lower(), interval.upper())
 }
 
-/// `-` for no member, else the bounds of each run; and then the size.
+/// The runs and then the size.
 fn set_text<B: Width + Display>(alloc: Global, set: &IntervalSet<B>) -> Result<String, AllocError> {
-    if set.is_empty() {
-        return String::from_str(alloc, "- # 0");
-    }
-    let mut text = String::new(alloc);
-    for run in set {
-        let bounds = interval_text(alloc, run)?;
-        text.push_str(bounds.as_str())?;
-        text.push(' ')?;
-    }
-    format!(in alloc; "{text}# {}", set.size().number())
+    let runs = runs_text(alloc, set)?;
+    format!(in alloc; "{runs} # {}", set.size().number())
 }
 
-/// The bounds of each interval, and `,` behind each.
+/// `-` for no member, else the bounds of each run.
+pub fn runs_text<B: Width + Display>(
+    alloc: Global,
+    set: &IntervalSet<B>,
+) -> Result<String, AllocError> {
+    if set.is_empty() {
+        return String::from_str(alloc, "-");
+    }
+    let mut text = list_text(alloc, set.iter().as_slice(), ' ')?;
+    let _ = text.pop();
+    Ok(text)
+}
+
+/// The bounds of each interval, and a mark behind each.
 fn list_text<B: Width + Display>(
     alloc: Global,
     list: &[Interval<B>],
+    mark: char,
 ) -> Result<String, AllocError> {
     let mut text = String::new(alloc);
     for interval in list {
-        let bounds = interval_text(alloc, interval)?;
-        text.push_str(bounds.as_str())?;
-        text.push(',')?;
+        text.push_str(interval_text(alloc, interval)?.as_str())?;
+        text.push(mark)?;
     }
     Ok(text)
 }

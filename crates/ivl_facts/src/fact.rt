@@ -1,13 +1,15 @@
 //! One line of a file.
 
-/// A call at one type, its one or two operands, and the answer, as text.
+/// A call at one type, its operands, and the answer, as text.
 #[derive(Clone, Copy)]
 pub struct Fact<'a> {
     pub type_name: &'a str,
     pub call: &'a str,
     pub first: &'a str,
+    /// The other operands, with " ; " between them; behind those of a call of the store stands its reply.
     pub second: Option<&'a str>,
-    pub answer: &'a str,
+    /// The answer, or the domains that a call of the store leaves.
+    answer: &'a str,
 }
 
 impl<'a> Fact<'a> {
@@ -15,11 +17,8 @@ impl<'a> Fact<'a> {
     pub fn parse(line: &'a str) -> Option<Fact<'a>> {
         let (head, rest) = line.split_once(" ; ")?;
         let (type_name, call) = head.split_once(' ')?;
-        let (first, rest) = rest.split_once(" ; ")?;
-        let (second, answer) = match rest.split_once(" ; ") {
-            Some((second, answer)) => (Some(second), answer),
-            None => (None, rest),
-        };
+        let (operands, answer) = rest.rsplit_once(" ; ")?;
+        let (first, second) = first_and_second(operands);
         Some(Fact {
             type_name,
             call,
@@ -29,23 +28,23 @@ impl<'a> Fact<'a> {
         })
     }
 
-    /// Whether the call is one of sets.
-    pub fn is_of_sets(&self) -> bool {
-        self.call.starts_with("s.")
+    /// Whether this is the answer: of a call of the store its reply, " ; " and the domains.
+    pub fn is_answered_by(&self, here: &str) -> bool {
+        match here.split_once(" ; ") {
+            Some((reply, domains)) => domains == self.answer && self.reply() == Some(reply),
+            None => here == self.answer,
+        }
     }
 
-    /// Whether the call is one of lists of intervals.
-    pub fn is_of_lists(&self) -> bool {
-        self.call.starts_with("l.")
+    fn reply(&self) -> Option<&'a str> {
+        Some(self.second?.rsplit_once(" ; ")?.1)
     }
+}
 
-    /// Whether the call is one of a value, or of a value that may be absent.
-    pub fn is_of_values(&self) -> bool {
-        self.call.starts_with("v.") || self.call.starts_with("opt.")
-    }
-
-    /// Whether the call prints an interval or a set.
-    pub fn is_of_texts(&self) -> bool {
-        self.call.contains(".display")
+/// The first operand, and the others.
+fn first_and_second(operands: &str) -> (&str, Option<&str>) {
+    match operands.split_once(" ; ") {
+        Some((first, second)) => (first, Some(second)),
+        None => (operands, None),
     }
 }

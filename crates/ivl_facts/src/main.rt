@@ -1,5 +1,6 @@
 //! Replays answers that were not taken from this library: each line of a file is a call, its operands, and the answer
-//! that is right. Prints each line that has another answer here, and how many lines of each file agree.
+//! that is right. Prints each line that has another answer here, and how many lines of each file agree. Then makes the
+//! calls that no line can name.
 #![tactic(auto)]
 
 mod answer;
@@ -10,12 +11,16 @@ mod read;
 mod sets;
 mod texts;
 mod unanswered;
+mod unnamed;
+mod upper;
 mod values;
 
 use answer::Answer;
 use anyhow::{Context, Result, ensure};
 use fact::Fact;
 use intervallum::width::Width;
+use ivl_vectors::bit::Bit;
+use ivl_vectors::narrow::Narrow;
 use std::alloc::{AllocError, Global};
 use std::env;
 use std::fmt::Display;
@@ -29,8 +34,7 @@ use unanswered::Unanswered;
 #[derive(Default, Drop)]
 struct Tally {
     agreeing: u64,
-    differing: u64,
-    unanswered: u64,
+    failing: u64,
 }
 
 /// What a call answers here, as the file writes it.
@@ -39,25 +43,24 @@ where
     B: Width + FromStr + Display,
     B::Err: Drop,
 {
-    Ok(answered::<B>(alloc, fact)?.to_text(alloc)?)
+    match fact.call.split_once('.') {
+        Some((_, name)) if name.starts_with("display") => texts::answer::<B>(alloc, fact),
+        Some((kind, _)) => Ok(answered::<B>(alloc, kind, fact)?.to_text(alloc)?),
+        None => upper::answer::<B>(alloc, fact),
+    }
 }
 
-/// What a call answers here.
-fn answered<B>(alloc: Global, fact: &Fact<'_>) -> Result<Answer<B>, Unanswered>
+/// What a call of intervals, sets, lists or values answers here.
+fn answered<B>(alloc: Global, kind: &str, fact: &Fact<'_>) -> Result<Answer<B>, Unanswered>
 where
-    B: Width + FromStr + Display,
+    B: Width + FromStr,
     B::Err: Drop,
 {
-    if fact.is_of_texts() {
-        texts::answer(alloc, fact)
-    } else if fact.is_of_sets() {
-        sets::answer(alloc, fact)
-    } else if fact.is_of_lists() {
-        lists::answer(alloc, fact)
-    } else if fact.is_of_values() {
-        values::answer(fact).ok_or(Unanswered::Unknown)
-    } else {
-        calls::answer(fact).ok_or(Unanswered::Unknown)
+    match kind {
+        "s" => sets::answer(alloc, fact),
+        "l" => lists::answer(alloc, fact),
+        "i" => calls::answer(fact).ok_or(Unanswered::Unknown),
+        _ => values::answer(fact).ok_or(Unanswered::Unknown),
     }
 }
 
@@ -74,7 +77,22 @@ fn replay(alloc: Global, fact: &Fact<'_>) -> Result<String, Unanswered> {
         "u32" => text_of_answer::<u32>(alloc, fact),
         "u64" => text_of_answer::<u64>(alloc, fact),
         "usize" => text_of_answer::<usize>(alloc, fact),
+        "bit" => text_of_answer::<Bit>(alloc, fact),
+        "narrow" => text_of_answer::<Narrow>(alloc, fact),
         _ => Err(Unanswered::Unknown),
+    }
+}
+
+/// What a line has in place of its answer; none where the answer here is that of the line.
+fn fault(alloc: Global, line: &str) -> Result<Option<String>, AllocError> {
+    let Some(fact) = Fact::parse(line) else {
+        return Ok(Some(String::from_str(alloc, "the line is not read")?));
+    };
+    match replay(alloc, &fact) {
+        Ok(here) if fact.is_answered_by(here.as_str()) => Ok(None),
+        Ok(here) => Ok(Some(here)),
+        Err(Unanswered::Unknown) => Ok(Some(String::from_str(alloc, "there is no answer")?)),
+        Err(Unanswered::Memory) => Err(AllocError),
     }
 }
 
@@ -83,21 +101,11 @@ fn take(rt: &(impl Print + AllocGlobal), line: &str, tally: &mut Tally) -> Resul
     if line.starts_with('#') {
         return Ok(());
     }
-    let fact = Fact::parse(line).context(format_args!("reading {line:?}"))?;
-    match replay(rt.alloc(), &fact) {
-        Ok(here) => {
-            if here.as_str() == fact.answer {
-                tally.agreeing = tally.agreeing.saturating_add(1);
-            } else {
-                tally.differing = tally.differing.saturating_add(1);
-                println!(rt; "{line}, but here {here}")?;
-            }
-        }
-        Err(Unanswered::Unknown) => {
-            tally.unanswered = tally.unanswered.saturating_add(1);
-            println!(rt; "{line}, but there is no answer here")?;
-        }
-        Err(Unanswered::Memory) => return Err(AllocError.into()),
+    if let Some(fault) = fault(rt.alloc(), line)? {
+        tally.failing = tally.failing.saturating_add(1);
+        println!(rt; "{line}, but here {fault}")?;
+    } else {
+        tally.agreeing = tally.agreeing.saturating_add(1);
     }
     Ok(())
 }
@@ -118,15 +126,19 @@ fn replay_file(rt: &(impl Print + AllocGlobal + Files), path: &str) -> Result<Ta
 }
 
 fn main(rt: HostRuntime) -> Result<()> {
-    let mut differing: u64 = 0;
-    let mut unanswered: u64 = 0;
+    let mut failing: u64 = 0;
     for path in env::args(&rt)?.skip(1) {
         let tally = replay_file(&rt, path.as_str())?;
         println!(rt; "{path}: {} lines agree", tally.agreeing)?;
-        differing = differing.saturating_add(tally.differing);
-        unanswered = unanswered.saturating_add(tally.unanswered);
+        failing = failing.saturating_add(tally.failing);
     }
-    ensure!(differing == 0, "{differing} lines differ");
-    ensure!(unanswered == 0, "{unanswered} lines have no answer here");
+    ensure!(
+        failing == 0,
+        "{failing} lines differ or have no answer here"
+    );
+    ensure!(
+        unnamed::agree(rt.alloc())?,
+        "a call that no line names answers otherwise"
+    );
     Ok(())
 }

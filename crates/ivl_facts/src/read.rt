@@ -133,7 +133,7 @@ where
     Ok(pairs.to_interval_set(alloc)?)
 }
 
-/// The numbers of a text, two by two.
+/// The numbers of a text, two by two; `-` for none.
 fn pairs<B: Width + FromStr>(alloc: Global, text: &str) -> Result<Vec<(B, B)>, Unanswered>
 where
     B::Err: Drop,
@@ -142,22 +142,43 @@ where
     if text == "-" {
         return Ok(pairs);
     }
-    let mut lower = None;
+    for run in numbers(alloc, text)?.chunks(2) {
+        match run {
+            [lower, upper] => pairs.push((*lower, *upper))?,
+            _ => return Err(Unanswered::Unknown),
+        }
+    }
+    Ok(pairs)
+}
+
+/// The numbers of a text, blanks between them.
+pub fn numbers<N: FromStr + Copy>(alloc: Global, text: &str) -> Result<Vec<N>, Unanswered>
+where
+    N::Err: Drop,
+{
+    let mut numbers = Vec::new(alloc);
     for word in text.split(' ') {
-        let number = number(word).ok_or(Unanswered::Unknown)?;
-        lower = match lower {
-            Some(first) => {
-                pairs.push((first, number))?;
-                None
-            }
-            None => Some(number),
-        };
+        numbers.push(number(word).ok_or(Unanswered::Unknown)?)?;
     }
-    if lower.is_none() {
-        Ok(pairs)
-    } else {
-        Err(Unanswered::Unknown)
+    Ok(numbers)
+}
+
+/// The sets of a text, " | " between them, or `none`.
+pub fn sets<B: Width + FromStr>(
+    alloc: Global,
+    text: &str,
+) -> Result<Vec<IntervalSet<B>>, Unanswered>
+where
+    B::Err: Drop,
+{
+    let mut sets = Vec::new(alloc);
+    if text == "none" {
+        return Ok(sets);
     }
+    for part in text.split(" | ") {
+        sets.push(set(alloc, part)?)?;
+    }
+    Ok(sets)
 }
 
 /// The intervals `l u l u ..`, any of which may cross, in the order of the text.

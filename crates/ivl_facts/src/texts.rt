@@ -1,6 +1,5 @@
 //! What is printed of an interval and of a set: width, fill and sign have no effect.
 
-use crate::answer::Answer;
 use crate::fact::Fact;
 use crate::read::{interval, set};
 use crate::unanswered::Unanswered;
@@ -10,20 +9,20 @@ use std::fmt::Display;
 use std::str::FromStr;
 
 /// The printed text.
-pub fn answer<B>(alloc: Global, fact: &Fact<'_>) -> Result<Answer<B>, Unanswered>
+pub fn answer<B>(alloc: Global, fact: &Fact<'_>) -> Result<String, Unanswered>
 where
     B: Width + FromStr + Display,
     B::Err: Drop,
 {
-    let text = if let Some(form) = fact.call.strip_prefix("i.display") {
+    if let Some(form) = fact.call.strip_prefix("i.display") {
         let interval = interval::<B>(fact.first).ok_or(Unanswered::Unknown)?;
-        text(alloc, form, &interval)
-    } else if let Some(form) = fact.call.strip_prefix("s.display") {
-        text(alloc, form, &set::<B>(alloc, fact.first)?)
-    } else {
-        Err(Unanswered::Unknown)
-    };
-    Ok(Answer::Text(text?))
+        return text(alloc, form, &interval);
+    }
+    let form = fact
+        .call
+        .strip_prefix("s.display")
+        .ok_or(Unanswered::Unknown)?;
+    text(alloc, form, &set::<B>(alloc, fact.first)?)
 }
 
 /// The text in a form.

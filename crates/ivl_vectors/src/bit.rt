@@ -4,6 +4,7 @@ ghost use Rattle.std.proofs.Common.{rules};
 
 use intervallum::width::Width;
 use std::fmt;
+use std::str::FromStr;
 
 /// A bit. Its range is 0 to 1, and every value is in it.
 #[derive(Clone, Copy, PartialEq, Eq, PartialOrd, Ord, Debug)]
@@ -64,6 +65,22 @@ impl fmt::Display for Bit {
         match self {
             Bit::Zero => f.write_str("0"),
             Bit::One => f.write_str("1"),
+        }
+    }
+}
+
+/// The error of a text that is neither `0` nor `1`.
+#[derive(Clone, Copy)]
+pub struct NotABit;
+
+impl FromStr for Bit {
+    type Err = NotABit;
+
+    fn from_str(text: &str) -> Result<Bit, NotABit> {
+        match text {
+            "0" => Ok(Bit::Zero),
+            "1" => Ok(Bit::One),
+            _ => Err(NotABit),
         }
     }
 }

@@ -4,6 +4,8 @@ ghost use Rattle.std.proofs.Common.{rules};
 
 use intervallum::width::Width;
 use std::fmt;
+use std::num::ParseIntError;
+use std::str::FromStr;
 
 /// A number whose range is -100 to 100. Every other `i16` is a value outside the range.
 #[derive(Clone, Copy, PartialEq, Eq, PartialOrd, Ord, Debug)]
@@ -58,5 +60,15 @@ impl fmt::Display for Narrow {
 
     fn fmt<W: fmt::Write>(&self, f: &mut fmt::Formatter<W>) -> fmt::Result {
         write!(f, "{}", self.value)
+    }
+}
+
+impl FromStr for Narrow {
+    type Err = ParseIntError;
+
+    fn from_str(text: &str) -> Result<Narrow, ParseIntError> {
+        Ok(Narrow {
+            value: text.parse()?,
+        })
     }
 }

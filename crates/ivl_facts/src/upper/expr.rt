@@ -1,37 +1,28 @@
 //! Expressions.
 
-use crate::sets::{number, set_text, sets, two};
+use crate::answer::runs_text;
+use crate::read::{number, sets};
 use crate::unanswered::Unanswered;
-use intervallum::interval_set::IntervalSet;
 use intervallum::width::Width;
 use ivl_expr::{EvalFault, Expr, eval};
-use std::alloc::{AllocError, Global};
+use std::alloc::Global;
 use std::fmt::Display;
 use std::str::FromStr;
 
-/// What `eval` answers over the operands.
-pub fn answer<B>(alloc: Global, operands: &str) -> Result<String, Unanswered>
+/// What `eval` answers for an expression over some sets.
+pub fn answer<B>(alloc: Global, words: &str, list: &str) -> Result<String, Unanswered>
 where
     B: Width + FromStr + Display,
     B::Err: Drop,
 {
-    let (words, rest) = two(operands, " ; ")?;
     let expr = expression::<B>(alloc, words)?;
-    let sets = sets::<B>(alloc, rest)?;
-    Ok(evaluated(alloc, eval(alloc, &expr, &sets))?)
-}
-
-/// What `eval` answered, as the file writes it.
-fn evaluated<B: Width + Display>(
-    alloc: Global,
-    answer: Result<IntervalSet<B>, EvalFault>,
-) -> Result<String, AllocError> {
-    match answer {
-        Ok(set) => set_text(alloc, &set),
+    let text = match eval(alloc, &expr, &sets::<B>(alloc, list)?) {
+        Ok(set) => runs_text(alloc, &set),
         Err(EvalFault::Missing(i)) => format!(in alloc; "missing {i}"),
         Err(EvalFault::Range) => String::from_str(alloc, "range"),
-        Err(EvalFault::Memory) => Err(AllocError),
-    }
+        Err(EvalFault::Memory) => return Err(Unanswered::Memory),
+    };
+    Ok(text?)
 }
 
 /// An expression in prefix order, read from its last word on.
@@ -43,15 +34,13 @@ where
     for word in text.rsplit(' ') {
         let node = match word {
             "+" | "-" | "*" => operation(alloc, word, &mut read),
-            _ => leaf(word),
+            _ => leaf(word).ok_or(Unanswered::Unknown),
         };
         read.push(node?)?;
     }
-    let expr = read.pop().ok_or(Unanswered::Unknown)?;
-    if read.is_empty() {
-        Ok(expr)
-    } else {
-        Err(Unanswered::Unknown)
+    match read.pop() {
+        Some(expr) if read.is_empty() => Ok(expr),
+        _ => Err(Unanswered::Unknown),
     }
 }
 
@@ -72,13 +61,12 @@ fn operation<B: Width>(
 }
 
 /// `vI` or `cN`.
-fn leaf<B: Width + FromStr>(word: &str) -> Result<Expr<B>, Unanswered>
+fn leaf<B: Width + FromStr>(word: &str) -> Option<Expr<B>>
 where
     B::Err: Drop,
 {
-    if let Some(index) = word.strip_prefix('v') {
-        return Ok(Expr::Var(number(index)?));
+    match word.strip_prefix('v') {
+        Some(index) => Some(Expr::Var(number(index)?)),
+        None => Some(Expr::Const(number(word.strip_prefix('c')?)?)),
     }
-    let constant = word.strip_prefix('c').ok_or(Unanswered::Unknown)?;
-    Ok(Expr::Const(number(constant)?))
 }

@@ -1,5 +1,0 @@
-//! One module for each crate.
-
-mod expr;
-mod json;
-mod store;
