@@ -2,15 +2,10 @@
 //! line for each.
 #![tactic(auto)]
 
-mod commands;
-mod engine;
-mod laws;
-mod lines;
-mod replies;
 #[cfg(test)]
 mod tests;
 
-use engine::{SessionFault, outcome, session};
+use ivl_session::{SessionFault, outcome, session};
 use std::io;
 use std::io::BufWriter;
 use std::process::ExitCode;

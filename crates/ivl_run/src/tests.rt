@@ -1,10 +1,12 @@
 //! Sessions over memory. Readers and writers that fail or wait are in `ends`.
+//!
+//! The proof of a test pays for each assertion and for each `?`, so that the tests share a few functions that have them.
 mod callers;
 mod ends;
 mod memory;
 mod tables;
 
-use crate::engine::{SessionFault, outcome, session};
+use ivl_session::{SessionFault, outcome, session};
 use std::alloc::{AllocError, Global};
 use std::process::Abort;
 use std::test::Fail;
@@ -26,17 +28,16 @@ fn assert_written(rt: &impl Abort, written: &[u8], table: &[(&str, &str)]) {
     assert!(rt; answers.next().is_none());
 }
 
-// Asserts that one session over the lines of the table gives each the answer there.
-fn assert_answers(rt: &impl Abort, alloc: Global, table: &[(&str, &str)]) -> Result<(), Fail> {
-    let mut input = Vec::new(alloc);
-    for (line, _) in table {
-        write_line(&mut input, line)?;
-    }
-    let mut written = Vec::new(alloc);
-    let ended = session(alloc, &mut input.as_slice(), &mut written);
-    assert_eq!(rt; ended, Ok(()));
-    assert_written(rt, &written, table);
-    Ok(())
+// Asserts that a session over these lines ends with its input, and writes these answers.
+fn check_session(rt: &(impl Alloc<A = Global> + Abort), lines: &[u8], answers: &[u8]) {
+    let mut input = lines;
+    let mut written = Vec::new(rt.alloc());
+    let ended = session(rt.alloc(), &mut input, &mut written);
+    assert_eq!(rt;
+        (ended, written.as_slice()),
+        (Ok(()), answers),
+        "after {lines:?}"
+    );
 }
 
 // What ends a line, and lines without words: bytes, and what is written for them.
@@ -53,14 +54,10 @@ const ENDS_OF_LINES: [(&[u8], &[u8]); 7] = [
 ];
 
 #[test]
-fn ends_of_lines(rt: HostRuntime) -> Result<(), Fail> {
+fn ends_of_lines(rt: HostRuntime) {
     for (lines, answers) in ENDS_OF_LINES {
-        let mut input = lines;
-        let mut written = Vec::new(rt.alloc());
-        assert_eq!(rt; session(rt.alloc(), &mut input, &mut written), Ok(()));
-        assert_eq!(rt; written.as_slice(), answers);
+        check_session(&rt, lines, answers);
     }
-    Ok(())
 }
 
 const BAD_LINES: [&[u8]; 53] = [
@@ -124,14 +121,7 @@ fn bad_lines(rt: HostRuntime) -> Result<(), Fail> {
     for line in BAD_LINES {
         let mut input = Vec::from_slice(rt.alloc(), line)?;
         input.extend_from_slice(b"\nsize a\n")?;
-        let mut written = Vec::new(rt.alloc());
-        let ended = session(rt.alloc(), &mut input.as_slice(), &mut written);
-        assert_eq!(rt; ended, Ok(()));
-        assert_eq!(rt;
-            written.as_slice(),
-            b"bad line\n0\n".as_slice(),
-            "after {line:?}"
-        );
+        check_session(&rt, &input, b"bad line\n0\n");
     }
     Ok(())
 }
@@ -144,21 +134,18 @@ fn a_long_line(rt: HostRuntime) -> Result<(), Fail> {
         input.extend_from_slice(&[b' '; 1000])?;
     }
     input.extend_from_slice(b"a 4\nsize a\n")?;
-    let mut written = Vec::new(rt.alloc());
-    let ended = session(rt.alloc(), &mut input.as_slice(), &mut written);
-    assert_eq!(rt; ended, Ok(()));
-    assert_eq!(rt; written.as_slice(), b"ok\nyes\n4\n".as_slice());
+    check_session(&rt, &input, b"ok\nyes\n4\n");
     Ok(())
 }
 
 #[test]
 fn outcomes(rt: HostRuntime) {
-    assert_eq!(rt; outcome(&Ok(())), (0, ""));
-    for (fault, line) in [
-        (SessionFault::Read, "ivl_run: read failed"),
-        (SessionFault::Write, "ivl_run: write failed"),
-        (SessionFault::Memory, "ivl_run: out of memory"),
+    for (ended, status) in [
+        (Ok(()), (0, "")),
+        (Err(SessionFault::Read), (1, "ivl_run: read failed")),
+        (Err(SessionFault::Write), (1, "ivl_run: write failed")),
+        (Err(SessionFault::Memory), (1, "ivl_run: out of memory")),
     ] {
-        assert_eq!(rt; outcome(&Err(fault)), (1, line));
+        assert_eq!(rt; outcome(&ended), status);
     }
 }

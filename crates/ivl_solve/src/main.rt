@@ -2,15 +2,10 @@
 //! each on standard output.
 #![tactic(auto)]
 
-mod engine;
-mod fault;
-mod replies;
-mod request;
-mod solver;
 #[cfg(test)]
 mod tests;
 
-use engine::{SessionFault, outcome, session};
+use ivl_solver::{SessionFault, outcome, session};
 use std::io;
 use std::io::BufWriter;
 use std::process::ExitCode;

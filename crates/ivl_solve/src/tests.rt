@@ -1,52 +1,60 @@
 //! Sessions over memory. Readers and writers that fail are in `ends`.
+//!
+//! The proof of a test pays for each assertion and for each `?`, so that the tests share a few functions that have them.
 mod ends;
 
-use crate::engine::{SessionFault, outcome, session};
+use ivl_solver::{SessionFault, outcome, session};
 use std::alloc::Global;
 use std::process::Abort;
 use std::test::Fail;
 
-// A session over these lines writes these answers.
-fn check_session(
-    rt: &(impl Alloc<A = Global> + Abort),
-    lines: &str,
-    answers: &str,
-) -> Result<(), Fail> {
+// A session over these bytes ends with its input, and writes these answers.
+fn check_bytes(rt: &(impl Alloc<A = Global> + Abort), lines: &[u8], answers: &str) {
+    let mut input = lines;
     let mut written = Vec::new(rt.alloc());
-    let ended = session(rt.alloc(), &mut lines.as_bytes(), &mut written);
-    assert_eq!(rt; ended, Ok(()));
-    assert_eq!(rt; str::from_utf8(&written), Ok(answers), "after {lines}");
-    Ok(())
+    let ended = session(rt.alloc(), &mut input, &mut written);
+    let text = str::from_utf8(&written);
+    assert_eq!(rt;
+        (ended, text),
+        (Ok(()), Ok(answers)),
+        "after {:?}",
+        str::from_utf8(lines)
+    );
+}
+
+// A session over these lines ends with its input, and writes these answers.
+fn check_session(rt: &(impl Alloc<A = Global> + Abort), lines: &str, answers: &str) {
+    check_bytes(rt, lines.as_bytes(), answers);
 }
 
 // Two dice that show 11, one of them even. The other shows 5 then.
 #[test]
-fn two_dice(rt: HostRuntime) -> Result<(), Fail> {
+fn two_dice(rt: HostRuntime) {
     let lines = "var one 1 6\nvar other 1 6\nvar both 11 11\nsum one other both\nshow\n\
         cut one 2 2 4 4 6 6\nshow\n";
     let answers = "ok\nok\nok\nok\none [5..6]\nother [5..6]\nboth [11..11]\nok\n\
         ok\none [6..6]\nother [5..5]\nboth [11..11]\nok\n";
-    check_session(&rt, lines, answers)
+    check_session(&rt, lines, answers);
 }
 
 // a and b between 0 and 9, a + one = b and b + one = a: narrowing empties all three.
 #[test]
-fn a_loop_has_no_solution(rt: HostRuntime) -> Result<(), Fail> {
+fn a_loop_has_no_solution(rt: HostRuntime) {
     let lines = "var a 0 9\nvar b 0 9\nvar one 1 1\nsum a one b\nshow\nsum b one a\nshow\n";
     let answers = "ok\nok\nok\nok\na [0..8]\nb [1..9]\none [1..1]\nok\n\
         no solution\na {}\nb {}\none {}\nno solution\n";
-    check_session(&rt, lines, answers)
+    check_session(&rt, lines, answers);
 }
 
 // A variable may come after the sums, and its domain may be empty or at the ends of the range.
 #[test]
-fn domains_as_they_are_given(rt: HostRuntime) -> Result<(), Fail> {
+fn domains_as_they_are_given(rt: HostRuntime) {
     let lines = "show\nvar x 20 30 1 9 5 12\nvar y 9 1\nshow\n";
     let answers = "ok\nok\nno solution\nx {[1..12][20..30]}\ny {}\nno solution\n";
-    check_session(&rt, lines, answers)?;
+    check_session(&rt, lines, answers);
     let lines = "var x -9223372036854775807 9223372036854775807\nshow\n";
     let answers = "ok\nx [-9223372036854775807..9223372036854775807]\nok\n";
-    check_session(&rt, lines, answers)
+    check_session(&rt, lines, answers);
 }
 
 // A line that cannot be carried out, and its answer. `x` and `y` are [1..9] before it and after it.
@@ -81,32 +89,34 @@ fn bad_lines(rt: HostRuntime) -> Result<(), Fail> {
     for (line, answer) in &BAD_LINES {
         let lines = format!(in rt.alloc(); "var x 1 9\nvar y 1 9\n{line}\nshow")?;
         let answers = format!(in rt.alloc(); "ok\nok\nerror: {answer}\nx [1..9]\ny [1..9]\nok\n")?;
-        check_session(&rt, lines.as_str(), answers.as_str())?;
+        check_session(&rt, lines.as_str(), answers.as_str());
     }
     Ok(())
 }
 
-// Spaces, carriage returns and empty lines, and bytes that are no text.
+// Spaces, carriage returns and empty lines, and bytes that are no text: bytes, and what is written for them.
+const ENDS_OF_LINES: [(&[u8], &str); 4] = [
+    (b"", ""),
+    (b"\n  \r\n\n", ""),
+    (b"  var  x 1 2  \r\nshow\r", "ok\nx [1..2]\nok\n"),
+    (b"show \xff\nshow", "error: not UTF-8\nok\n"),
+];
+
 #[test]
-fn ends_of_lines(rt: HostRuntime) -> Result<(), Fail> {
-    check_session(&rt, "", "")?;
-    check_session(&rt, "\n  \r\n\n", "")?;
-    check_session(&rt, "  var  x 1 2  \r\nshow\r", "ok\nx [1..2]\nok\n")?;
-    let mut written = Vec::new(rt.alloc());
-    let mut input: &[u8] = b"show \xff\nshow";
-    assert_eq!(rt; session(rt.alloc(), &mut input, &mut written), Ok(()));
-    assert_eq!(rt; written.as_slice(), b"error: not UTF-8\nok\n".as_slice());
-    Ok(())
+fn ends_of_lines(rt: HostRuntime) {
+    for (lines, answers) in ENDS_OF_LINES {
+        check_bytes(&rt, lines, answers);
+    }
 }
 
 #[test]
 fn outcomes(rt: HostRuntime) {
-    assert_eq!(rt; outcome(&Ok(())), (0, ""));
-    for (fault, line) in [
-        (SessionFault::Read, "ivl_solve: read failed"),
-        (SessionFault::Write, "ivl_solve: write failed"),
-        (SessionFault::Memory, "ivl_solve: out of memory"),
+    for (ended, status) in [
+        (Ok(()), (0, "")),
+        (Err(SessionFault::Read), (1, "ivl_solve: read failed")),
+        (Err(SessionFault::Write), (1, "ivl_solve: write failed")),
+        (Err(SessionFault::Memory), (1, "ivl_solve: out of memory")),
     ] {
-        assert_eq!(rt; outcome(&Err(fault)), (1, line));
+        assert_eq!(rt; outcome(&ended), status);
     }
 }

@@ -1,9 +1,9 @@
 //! A caller of a session, with a reader and a writer whose contracts name their bytes.
 ghost use Rattle.std.specs.Prelude.{IfOk};
-ghost use Rattle.ivl_run.specs.Lines.{lines_of};
-ghost use Rattle.ivl_run.specs.Session.{IsSessionText};
+ghost use Rattle.ivl_session.specs.Lines.{lines_of};
+ghost use Rattle.ivl_session.specs.Session.{IsSessionText};
 
-use crate::engine::{SessionFault, session};
+use ivl_session::{SessionFault, session};
 use std::alloc::Global;
 use std::test::Fail;
 

@@ -1,7 +1,7 @@
 //! Sessions over readers and writers that fail, wait or take little.
 ghost use Rattle.std.specs.Prelude.{Some};
 
-use crate::engine::{SessionFault, outcome, session};
+use ivl_session::{SessionFault, outcome, session};
 use std::alloc::Global;
 use std::cell::Cell;
 use std::io;
@@ -9,25 +9,62 @@ use std::io::{BufWriter, ErrorKind, Read, Write};
 use std::process::Abort;
 use std::test::Fail;
 
-// Gives its text one byte per read. With a `failure`, the read after the text fails with it.
+// Gives so many bytes of its text per read, and at least one, after as many interrupted reads as `times` says. With a
+// `failure`, the read after the text fails with it.
 #[derive(Drop)]
 struct Slow<'a> {
     text: &'a [u8],
+    count: usize,
+    times: usize,
+    met: usize,
     failure: Option<ErrorKind>,
+}
+
+impl<'a> Slow<'a> {
+    fn new(text: &'a [u8], count: usize) -> Slow<'a> {
+        Slow {
+            text,
+            count,
+            times: 0,
+            met: 0,
+            failure: None,
+        }
+    }
 }
 
 impl<'a> Read for Slow<'a> {
     ghost remaining = { λ r. Some r.text.now };
 
     fn read(&mut self, buf: &mut [u8]) -> io::Result<usize> {
+        if self.met < self.times {
+            self.met += 1;
+            return Err(io::Error::from(ErrorKind::Interrupted));
+        }
+        self.met = 0;
         if self.text.is_empty()
             && let Some(kind) = self.failure
         {
             return Err(io::Error::from(kind));
         }
-        let count = buf.len().min(1);
+        let count = buf.len().min(self.count.max(1));
         self.text.read(&mut buf[..count])
     }
+}
+
+// A session over this reader ends so, for this status of the program, and has then written these answers.
+fn check_reads(
+    rt: &(impl Alloc<A = Global> + Abort),
+    mut reader: Slow<'_>,
+    ended: Result<(), SessionFault>,
+    status: (u8, &str),
+    answers: &[u8],
+) {
+    let mut written = Vec::new(rt.alloc());
+    let end = session(rt.alloc(), &mut reader, &mut written);
+    assert_eq!(rt;
+        (end, outcome(&end), written.as_slice()),
+        (ended, status, answers)
+    );
 }
 
 #[test]
@@ -40,65 +77,29 @@ fn a_byte_a_read(rt: HostRuntime) -> Result<(), Fail> {
     }
     text.extend_from_slice(b"show a")?;
     wanted.extend_from_slice(b"[1..2]\n")?;
-    let mut reader = Slow {
-        text: text.as_slice(),
-        failure: None,
-    };
-    let mut written = Vec::new(rt.alloc());
-    assert_eq!(rt; session(rt.alloc(), &mut reader, &mut written), Ok(()));
-    assert!(rt; written == wanted);
+    check_reads(&rt, Slow::new(&text, 1), Ok(()), (0, ""), &wanted);
     Ok(())
 }
 
 #[test]
-fn a_failed_read(rt: HostRuntime) -> Result<(), Fail> {
-    let mut reader = Slow {
-        text: b"set a 1 2\nshow a",
+fn a_failed_read(rt: HostRuntime) {
+    let reader = Slow {
         failure: Some(ErrorKind::BrokenPipe),
+        ..Slow::new(b"set a 1 2\nshow a", 1)
     };
-    let mut written = Vec::new(rt.alloc());
-    let ended = session(rt.alloc(), &mut reader, &mut written);
-    assert_eq!(rt; ended, Err(SessionFault::Read));
-    assert_eq!(rt; written.as_slice(), b"ok\n".as_slice());
-    assert_eq!(rt; outcome(&ended), (1, "ivl_run: read failed"));
-    Ok(())
-}
-
-// Each read is interrupted as often as `times` says before it gives three bytes.
-#[derive(Drop)]
-struct Interrupted<'a> {
-    text: &'a [u8],
-    times: usize,
-    met: usize,
-}
-
-impl<'a> Read for Interrupted<'a> {
-    ghost remaining = { λ r. Some r.text.now };
-
-    fn read(&mut self, buf: &mut [u8]) -> io::Result<usize> {
-        if self.met < self.times {
-            self.met += 1;
-            return Err(io::Error::from(ErrorKind::Interrupted));
-        }
-        self.met = 0;
-        let count = buf.len().min(3);
-        self.text.read(&mut buf[..count])
-    }
+    let ended = Err(SessionFault::Read);
+    check_reads(&rt, reader, ended, (1, "ivl_run: read failed"), b"ok\n");
 }
 
 #[test]
-fn an_interrupted_read_is_read_again(rt: HostRuntime) -> Result<(), Fail> {
+fn an_interrupted_read_is_read_again(rt: HostRuntime) {
     for times in [1, 101, 1000] {
-        let mut reader = Interrupted {
-            text: b"set a 1 2\nshow a\nsize a\n",
+        let reader = Slow {
             times,
-            met: 0,
+            ..Slow::new(b"set a 1 2\nshow a\nsize a\n", 3)
         };
-        let mut written = Vec::new(rt.alloc());
-        assert_eq!(rt; session(rt.alloc(), &mut reader, &mut written), Ok(()));
-        assert_eq!(rt; written.as_slice(), b"ok\n[1..2]\n2\n".as_slice());
+        check_reads(&rt, reader, Ok(()), (0, ""), b"ok\n[1..2]\n2\n");
     }
-    Ok(())
 }
 
 // Takes some bytes, and then fails.
@@ -125,17 +126,19 @@ impl Write for Full {
 }
 
 #[test]
-fn a_failed_write(rt: HostRuntime) -> Result<(), Fail> {
+fn a_failed_write(rt: HostRuntime) {
     let mut input: &[u8] = b"set a 1 2\nshow a\n";
     let mut writer = Full {
         taken: Vec::new(rt.alloc()),
         room: 5,
     };
     let ended = session(rt.alloc(), &mut input, &mut writer);
-    assert_eq!(rt; ended, Err(SessionFault::Write));
+    let status = (1, "ivl_run: write failed");
+    assert_eq!(rt;
+        (ended, outcome(&ended)),
+        (Err(SessionFault::Write), status)
+    );
     assert_eq!(rt; writer.taken.as_slice(), b"ok\n[1".as_slice());
-    assert_eq!(rt; outcome(&ended), (1, "ivl_run: write failed"));
-    Ok(())
 }
 
 // What a buffer holds is written before the session ends, so that its failure is returned.
@@ -215,8 +218,8 @@ fn check_flushes(
         written: 0,
         flushed: &flushed,
     };
-    assert_eq!(rt; session(rt.alloc(), &mut reader, &mut writer), Ok(()));
-    assert_eq!(rt; flushed.get(), all);
+    let ended = session(rt.alloc(), &mut reader, &mut writer);
+    assert_eq!(rt; (ended, flushed.get()), (Ok(()), all));
 }
 
 // Also before a read while a part of a line is kept, and after the last line, which no newline ends.
@@ -232,39 +235,13 @@ fn answers_are_flushed_before_each_read_and_at_the_end(rt: HostRuntime) {
     );
 }
 
-// Gives one line per read, and fails if the answers to the lines before it are not yet flushed.
-#[derive(Drop)]
-struct Waiting<'a> {
-    given: usize,
-    flushed: &'a Cell<usize>,
-}
-
-impl<'a> Read for Waiting<'a> {
-    fn read(&mut self, buf: &mut [u8]) -> io::Result<usize> {
-        let line = b"size a\n".as_slice();
-        if self.flushed.get() != self.given.saturating_mul(2) || buf.len() < line.len() {
-            return Err(io::Error::from(ErrorKind::WouldBlock));
-        }
-        if self.given == 3 {
-            return Ok(0);
-        }
-        self.given = self.given.saturating_add(1);
-        buf[..line.len()].copy_from_slice(line);
-        Ok(line.len())
-    }
-}
-
+// The last read gives nothing, which ends the input.
 #[test]
 fn each_line_is_answered_before_the_next_read(rt: HostRuntime) {
-    let flushed = Cell::new(0);
-    let mut reader = Waiting {
-        given: 0,
-        flushed: &flushed,
-    };
-    let mut writer = Flushed {
-        written: 0,
-        flushed: &flushed,
-    };
-    assert_eq!(rt; session(rt.alloc(), &mut reader, &mut writer), Ok(()));
-    assert_eq!(rt; flushed.get(), 6);
+    check_flushes(
+        &rt,
+        &[b"size a\n", b"size a\n", b"size a\n", b""],
+        &[0, 2, 4, 6],
+        6,
+    );
 }

@@ -1,7 +1,7 @@
 //! Sessions in which one request for memory is refused, as `rt try --test --fail-alloc N` does.
-use crate::engine::{SessionFault, session};
 use crate::tests::tables::EVERY_COMMAND;
 use crate::tests::{assert_written, write_line};
+use ivl_session::{SessionFault, session};
 use std::alloc::Global;
 use std::test::Fail;
 
@@ -20,9 +20,13 @@ fn answers_without(alloc: Global, left_out: Option<usize>) -> Result<Vec<u8>, Se
 
 // The place of the answer that reports that an allocation failed.
 fn refused_line(written: &[u8]) -> Option<usize> {
-    written
-        .split(|b| *b == b'\n')
-        .position(|line| line == b"refused 4 memory".as_slice())
+    let text = str::from_utf8(written).unwrap_or("no UTF-8");
+    for (place, line) in text.lines().enumerate() {
+        if line == "refused 4 memory" {
+            return Some(place);
+        }
+    }
+    None
 }
 
 // A session runs out of memory, or one command is refused and the others answer as if it had not been there, or all are

@@ -1,5 +1,8 @@
 //! Sessions as tables: each line, and the answer to it.
-use crate::tests::assert_answers;
+use crate::tests::{assert_written, write_line};
+use ivl_session::session;
+use std::alloc::Global;
+use std::process::Abort;
 use std::test::Fail;
 
 // Every command, each line with one answer. No line depends on what the registers held before the first.
@@ -214,19 +217,37 @@ const REGISTERS: &[(&str, &str)] = &[
     ("show d", "[0..0]"),
 ];
 
+// Asserts that one session over the lines of the table gives each the answer there.
+fn assert_answers(
+    rt: &(impl Alloc<A = Global> + Abort),
+    table: &[(&str, &str)],
+) -> Result<(), Fail> {
+    let mut input = Vec::new(rt.alloc());
+    for (line, _) in table {
+        write_line(&mut input, line)?;
+    }
+    let mut written = Vec::new(rt.alloc());
+    let ended = session(rt.alloc(), &mut input.as_slice(), &mut written);
+    assert_eq!(rt; ended, Ok(()));
+    assert_written(rt, &written, table);
+    Ok(())
+}
+
+const TABLES: [&[(&str, &str)]; 8] = [
+    EVERY_COMMAND,
+    TOUR,
+    OVERWRITTEN,
+    CLIPPED,
+    CUT_OR_NOT,
+    WITHOUT_MEMBERS,
+    ENDS_OF_THE_TYPE,
+    REGISTERS,
+];
+
 #[test]
 fn tables(rt: HostRuntime) -> Result<(), Fail> {
-    for table in [
-        EVERY_COMMAND,
-        TOUR,
-        OVERWRITTEN,
-        CLIPPED,
-        CUT_OR_NOT,
-        WITHOUT_MEMBERS,
-        ENDS_OF_THE_TYPE,
-        REGISTERS,
-    ] {
-        assert_answers(&rt, rt.alloc(), table)?;
+    for table in TABLES {
+        assert_answers(&rt, table)?;
     }
     Ok(())
 }
@@ -238,5 +259,5 @@ fn thousands_of_lines(rt: HostRuntime) -> Result<(), Fail> {
     for _ in 0..100 {
         table.extend_from_slice(EVERY_COMMAND)?;
     }
-    assert_answers(&rt, rt.alloc(), &table)
+    assert_answers(&rt, &table)
 }

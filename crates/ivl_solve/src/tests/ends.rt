@@ -1,7 +1,9 @@
 //! Sessions over readers and writers that fail or give little, and sessions that run out of memory.
-use crate::engine::{SessionFault, session};
+use ivl_solver::{SessionFault, session};
+use std::alloc::Global;
 use std::io;
 use std::io::{ErrorKind, Read, Write};
+use std::process::Abort;
 use std::test::Fail;
 
 // Gives its text one byte a read. With a `failure`, the read after the text fails with it.
@@ -23,29 +25,34 @@ impl<'a> Read for Slow<'a> {
     }
 }
 
-#[test]
-fn a_byte_a_read(rt: HostRuntime) -> Result<(), Fail> {
-    let mut reader = Slow {
-        text: b"var x 1 9\ncut x 2 5\nshow",
-        failure: None,
-    };
+// A session over this reader ends so, and has then written these answers.
+fn check_reads(
+    rt: &(impl Alloc<A = Global> + Abort),
+    mut reader: Slow<'_>,
+    ended: Result<(), SessionFault>,
+    answers: &[u8],
+) {
     let mut written = Vec::new(rt.alloc());
-    assert_eq!(rt; session(rt.alloc(), &mut reader, &mut written), Ok(()));
-    assert_eq!(rt; written.as_slice(), b"ok\nok\nx [2..5]\nok\n".as_slice());
-    Ok(())
+    let end = session(rt.alloc(), &mut reader, &mut written);
+    assert_eq!(rt; (end, written.as_slice()), (ended, answers));
 }
 
 #[test]
-fn a_failed_read(rt: HostRuntime) -> Result<(), Fail> {
-    let mut reader = Slow {
+fn a_byte_a_read(rt: HostRuntime) {
+    let reader = Slow {
+        text: b"var x 1 9\ncut x 2 5\nshow",
+        failure: None,
+    };
+    check_reads(&rt, reader, Ok(()), b"ok\nok\nx [2..5]\nok\n");
+}
+
+#[test]
+fn a_failed_read(rt: HostRuntime) {
+    let reader = Slow {
         text: b"var x 1 9\nshow",
         failure: Some(ErrorKind::BrokenPipe),
     };
-    let mut written = Vec::new(rt.alloc());
-    let ended = session(rt.alloc(), &mut reader, &mut written);
-    assert_eq!(rt; ended, Err(SessionFault::Read));
-    assert_eq!(rt; written.as_slice(), b"ok\n".as_slice());
-    Ok(())
+    check_reads(&rt, reader, Err(SessionFault::Read), b"ok\n");
 }
 
 // Takes some bytes, and then fails. If it has no room left, a flush fails too.
@@ -73,13 +80,12 @@ impl Write for Full {
 }
 
 #[test]
-fn a_failed_write(rt: HostRuntime) -> Result<(), Fail> {
+fn a_failed_write(rt: HostRuntime) {
     for room in 0..8 {
         let mut input: &[u8] = b"var x 1 9\nshow\nfrob\n";
         let ended = session(rt.alloc(), &mut input, &mut Full { room });
         assert_eq!(rt; ended, Err(SessionFault::Write));
     }
-    Ok(())
 }
 
 // If one allocation fails, as under `rt try --test --fail-alloc N`, either the session ends with `Memory`,

@@ -1,0 +1,10 @@
+//! Narrows the domains of variables by sums `x + y = z`: reads lines and writes the answer to each.
+#![tactic(auto)]
+
+mod engine;
+mod fault;
+mod replies;
+mod request;
+mod solver;
+
+pub use engine::{SessionFault, outcome, session};
