@@ -425,7 +425,8 @@ fn extended<A: Answer>(set: &IntervalSet<i64>) -> Result<A, AllocError> {
     Ok(A::of_set(copy))
 }
 
-/// How many of the numbers are members.
+/// How many of the numbers are members. Compiled by itself, so that no other measure moves its loop.
+#[inline(never)]
 fn hits(set: &IntervalSet<i64>, probes: &[i64]) -> u64 {
     let mut hits: u64 = 0;
     for probe in probes {
