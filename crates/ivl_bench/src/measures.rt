@@ -290,8 +290,8 @@ impl Measure {
             Measure::PlusValue => plus_value(a),
             Measure::TimesValue => times_value(a),
             Measure::Contains => number(hits(a, &inputs.probes)),
-            Measure::EqualYes => truth(*a == inputs.clone_of_a),
-            Measure::EqualNo => truth(a == b),
+            Measure::EqualYes => truth(is_equal(a, &inputs.clone_of_a)),
+            Measure::EqualNo => truth(is_equal(a, b)),
             Measure::Subset => truth(inputs.in_both.is_subset(a)),
             Measure::PlusDense => sum(a, b),
             Measure::MinusDense => difference(a, b),
@@ -423,6 +423,12 @@ fn extended<A: Answer>(set: &IntervalSet<i64>) -> Result<A, AllocError> {
     let added = [Interval::new(0, 1)];
     copy.extend(added.iter().copied())?;
     Ok(A::of_set(copy))
+}
+
+/// Whether two sets are equal. Compiled by itself, as `hits` is.
+#[inline(never)]
+fn is_equal(a: &IntervalSet<i64>, b: &IntervalSet<i64>) -> bool {
+    a == b
 }
 
 /// How many of the numbers are members. Compiled by itself, so that no other measure moves its loop.
