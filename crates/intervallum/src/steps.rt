@@ -2,6 +2,7 @@
 //! often a walk has advanced and how often a search has looked at a run.
 mod combine;
 mod differences;
+mod looks;
 mod merge;
 mod outside;
 mod places;

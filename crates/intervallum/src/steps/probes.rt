@@ -4,8 +4,8 @@ ghost use Rattle.ivl_laws.specs.Runs.{IsRunListIn};
 
 use crate::interval::Interval;
 use crate::interval_set::IntervalSet;
+use crate::steps::looks::Looks;
 use crate::width::Width;
-use http_server::Log;
 use std::marker::Model;
 
 /// The runs of a set. A contract sees the runs and how many looks were taken; nothing is counted at
@@ -19,7 +19,7 @@ use std::marker::Model;
 #[derive(Drop)]
 pub struct Probes<'a, B: Width> {
     runs: &'a [Interval<B>],
-    looks: Log<(), ()>,
+    looks: Looks,
 }
 
 impl<'a, B: Width> Model for Probes<'a, B> {
@@ -29,7 +29,7 @@ impl<'a, B: Width> Model for Probes<'a, B> {
 
     ghost Value = { Search };
 
-    ghost view = { λ p. record { runs = p.runs.now; looks = length p.looks.items } };
+    ghost view = { λ p. record { runs = p.runs.now; looks = p.looks.count } };
 
     ghost invariant = { λ p. IsRunListIn B.whole p.runs.now };
 }
@@ -47,7 +47,7 @@ impl<'a, B: Width> Probes<'a, B> {
     {
         Probes {
             runs: set.as_runs(),
-            looks: Log::new(),
+            looks: Looks::none(),
         }
     }
 
@@ -83,7 +83,7 @@ impl<'a, B: Width> Probes<'a, B> {
     {
         let runs = self.runs;
         let run = runs[i];
-        self.looks = self.looks.and(&(), &());
+        self.looks = self.looks.one_more();
         run
     }
 
