@@ -6,7 +6,7 @@
 //! and does not wait for the proof of the store.
 //!
 //! ```
-//! let mut calc = Calc::new(alloc, 2)?;
+//! let mut calc: Calc<i64> = Calc::new(alloc, 2)?;
 //! calc.apply(&Command::Set(0, vec![in alloc; (1, 2), (3, 5)]?));
 //! calc.apply(&Command::Union(1, 0, 1));
 //! let reply = calc.apply(&Command::Size(1));    // Reply::Size(5)

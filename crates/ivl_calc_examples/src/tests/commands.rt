@@ -62,6 +62,14 @@ fn sets_are_made(rt: HostRuntime) {
 }
 
 #[test]
+fn members_of_a_union_are_counted(rt: HostRuntime) {
+    let mut calc: Calc<i64> = made(&rt, Calc::new(rt.alloc(), 2));
+    set(&rt, &mut calc, 0, &[(1, 2), (3, 5)]);
+    check_reply(&rt, &mut calc, Command::Union(1, 0, 1), Reply::Done);
+    check_reply(&rt, &mut calc, Command::Size(1), Reply::Size(5));
+}
+
+#[test]
 fn sets_are_cut_and_moved(rt: HostRuntime) {
     let mut calc: Calc<i64> = made(&rt, Calc::new(rt.alloc(), 2));
     set(&rt, &mut calc, 0, &[(-4, 5), (8, 8)]);

@@ -38,6 +38,16 @@ fn each_round_takes_a_member(rt: HostRuntime) {
 }
 
 #[test]
+fn a_second_call_goes_on_from_the_first(rt: HostRuntime) {
+    // a + 1 = b and b + 1 = a
+    let constraints = [sum(0, 2, 1), sum(1, 2, 0)];
+    let mut store = store_of(&rt, &[&[(0, 9)], &[(0, 9)], &[(1, 1)]]);
+    let texts = ["{}", "{}", "{}"];
+    check_rounds(&rt, &mut store, (&constraints, 3), Ok(false), &texts);
+    check_rounds(&rt, &mut store, (&constraints, 1), Ok(true), &texts);
+}
+
+#[test]
 fn fixed_though_no_common_solution_exists(rt: HostRuntime) {
     // x + y = 1 and x + 0 = y, for x and y from 0 to 1
     let (first, second) = (sum(0, 1, 2), sum(0, 3, 1));
