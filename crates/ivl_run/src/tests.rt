@@ -5,6 +5,7 @@ mod callers;
 mod ends;
 mod memory;
 mod tables;
+mod words;
 
 use ivl_session::{SessionFault, outcome, session};
 use std::alloc::{AllocError, Global};

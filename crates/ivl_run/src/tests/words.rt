@@ -1,0 +1,30 @@
+//! Words and numbers by example.
+use ivl_words::{next_word, number_from, one_word, pairs_from, three_words, two_words};
+use std::test::Fail;
+
+#[test]
+fn words_of_a_text(rt: HostRuntime) {
+    assert_eq!(rt;
+        [next_word("  sum x  y"), next_word("   ")],
+        [Some(("sum", "x  y")), None]
+    );
+    assert_eq!(rt; [one_word(" x "), one_word("x y")], [Some("x"), None]);
+    assert_eq!(rt;
+        [two_words("x y "), two_words("x")],
+        [Some(("x", "y")), None]
+    );
+    assert_eq!(rt;
+        [three_words("x y z"), three_words("x y z w")],
+        [Some(("x", "y", "z")), None]
+    );
+}
+
+#[test]
+fn numbers_of_a_text(rt: HostRuntime) -> Result<(), Fail> {
+    assert_eq!(rt; [number_from("-12"), number_from("+12")], [Some(-12), None]);
+    let alloc = rt.alloc();
+    let pairs = vec![in alloc; (1, 9), (20, 30)]?;
+    assert_eq!(rt; pairs_from(alloc, "1 9 20 30")?, Some(pairs));
+    assert_eq!(rt; pairs_from(alloc, "1 9 20")?, None);
+    Ok(())
+}
