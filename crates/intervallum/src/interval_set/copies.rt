@@ -22,6 +22,7 @@ impl<B: Width> IntervalSet<B> {
             size: self.size,
         })
     }
+
     /// A copy of the set with room for one more run.
     pub(super) fn copy_with_room(&self) -> Result<Self, AllocError>
         ensures same { IfOk result (λ L. L ≡ self.now) }

@@ -1,15 +1,14 @@
 //! The common members of two walks.
-ghost use Rattle.std.specs.Prelude.{◌≡◌, ◌↔◌, ◌+◌, ◌≤◌, [], IfOk, IsTrue, MatchOption, OnOk, Some, length, pos, slice_get};
-ghost use Rattle.ivl_laws.specs.Sets.{Complement, HasNone, HasSome, Intersection, IsBetween, Union};
-ghost use Rattle.ivl_laws.specs.Runs.{Covers, IsRunListIn, IsRunsOf};
+ghost use Rattle.std.specs.Prelude.{◌≡◌, ◌↔◌, ◌+◌, ◌<◌, ◌≤◌, IfOk, IsTrue, MatchOption, Some, length, pos, slice_get, vec_capacity, vec_len};
+ghost use Rattle.ivl_laws.specs.Sets.{HasNone, HasSome, Intersection, IsBetween, Union};
+ghost use Rattle.ivl_laws.specs.Runs.{Covers, IsMaximal, IsRunListIn, IsRunsOf};
 ghost use Rattle.intervallum.specs.Sides.{IsBelow};
 
 use super::walk::Walk;
 use crate::interval::Interval;
 use crate::interval_set::IntervalSet;
-use crate::ops::{
-    Bounded, Intersection, IsEmpty, Range, StrictShrinkLeft, StrictShrinkRight, Whole,
-};
+use crate::interval_set::runs::size_of_runs;
+use crate::ops::{Bounded, Intersection, IsEmpty};
 use crate::width::Width;
 use std::alloc::AllocError;
 
@@ -23,37 +22,40 @@ use std::alloc::AllocError;
 /// assert!(rt; both == IntervalSet::new(alloc, 4, 5)?);
 /// ```
 pub fn common<B: Width>(
-    mut first: Walk<'_, B>,
-    mut second: Walk<'_, B>,
+    first: Walk<'_, B>,
+    second: Walk<'_, B>,
 ) -> Result<IntervalSet<B>, AllocError>
     ensures members { IfOk result (λ L. IsRunsOf L (Intersection (Covers first.entry.left) (Covers second.entry.left))) }
     ensures runs_at_most { IfOk result (λ L. length L ≤ length first.entry.left + length second.entry.left) }
 {
-    let mut set = room_for(&first, &second)?;
+    let runs = common_runs(first, second)?;
+    let size = size_of_runs(&runs);
+    Ok(IntervalSet::of_runs(runs, size).fitted())
+}
+
+/// The runs of the common members of the runs left in two walks.
+fn common_runs<B: Width>(
+    mut first: Walk<'_, B>,
+    mut second: Walk<'_, B>,
+) -> Result<Vec<Interval<B>>, AllocError>
+    ensures runs { IfOk result (λ v. IsRunListIn B.whole v.items) }
+    ensures members { IfOk result (λ v. IsRunsOf v.items (Intersection (Covers first.entry.left) (Covers second.entry.left))) }
+{
+    // no memory holds more runs than a `usize` counts
+    let room = first.left().checked_add(second.left()).ok_or(AllocError)?;
+    let mut runs = Vec::with_capacity(first.alloc(), room)?;
     let mut a = first.take();
     let mut b = second.take();
-    'walk: while let Some(runs) = a.zip(b) {
-        let (run, other) = runs;
-        push_part(&mut set, run.intersection(&other))?;
+    'walk: while let Some(heads) = a.zip(b) {
+        let (run, other) = heads;
+        push_reserved_part(&mut runs, run.intersection(&other));
         if run.upper() <= other.upper() {
             a = first.take();
         } else {
             b = second.take();
         }
     }
-    Ok(set.fitted())
-}
-
-/// An empty set with room for as many runs as two walks have left, by the allocator of the first.
-pub(super) fn room_for<B: Width>(
-    first: &Walk<'_, B>,
-    second: &Walk<'_, B>,
-) -> Result<IntervalSet<B>, AllocError>
-    ensures empty { IfOk result (λ L. L ≡ []) }
-    ensures within { IsRunListIn B.whole first.now.left × IsRunListIn B.whole second.now.left }
-{
-    let room = first.left().saturating_add(second.left());
-    IntervalSet::with_room(first.alloc(), room)
+    Ok(runs)
 }
 
 /// The first runs of two walks, if both have one.
@@ -69,20 +71,19 @@ fn heads<B: Width>(first: &Walk<'_, B>, second: &Walk<'_, B>) -> Option<(Interva
     Some((a, b))
 }
 
-/// Adds the members of an interval, if it has any, at least two above those that are there.
-pub(super) fn push_part<B: Width>(
-    set: &mut IntervalSet<B>,
-    part: Interval<B>,
-) -> Result<(), AllocError>
-    requires apart { IsBelow (pos 2) (Covers set.old) (IsBetween part) }
-    ensures { OnOk result (IsRunsOf set.new (Union (Covers set.old) (IsBetween part))) }
+/// Adds the members of an interval, if it has any, at least two above those that are there, in room
+/// that is reserved.
+pub(super) fn push_reserved_part<B: Width>(runs: &mut Vec<Interval<B>>, part: Interval<B>)
+    requires room { vec_len runs.old < vec_capacity runs.old }
+    requires maximal { IsMaximal runs.old.items }
+    requires apart { IsBelow (pos 2) (Covers runs.old.items) (IsBetween part) }
+    ensures members { IsRunsOf runs.new.items (Union (Covers runs.old.items) (IsBetween part)) }
+    ensures count { vec_len runs.new ≤ vec_len runs.old + 1 }
+    ensures capacity { vec_capacity runs.new ≡ vec_capacity runs.old }
 {
-    set.in_whole();
-    if part.is_empty() {
-        return Ok(());
+    if !part.is_empty() {
+        runs.push_reserved(part);
     }
-    part.in_whole();
-    set.push_apart(part)
 }
 
 /// Whether the runs left in two walks have a member in common. Advances at most once for each of

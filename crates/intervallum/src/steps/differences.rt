@@ -5,7 +5,7 @@ ghost use Rattle.ivl_laws.specs.Runs.{Covers, IsMaximal, IsRunsOf};
 ghost use Rattle.intervallum.specs.Led.{led_by};
 ghost use Rattle.intervallum.specs.Sides.{IsBelow};
 
-use super::combine::{push_part, room_for};
+use super::merge::room_for;
 use super::walk::Walk;
 use crate::interval::Interval;
 use crate::interval_set::IntervalSet;
@@ -102,6 +102,19 @@ fn push_rest<B: Width>(
         held = walk.take();
     }
     Ok(())
+}
+
+/// Adds the members of an interval, if it has any, at least two above those that are there.
+fn push_part<B: Width>(set: &mut IntervalSet<B>, part: Interval<B>) -> Result<(), AllocError>
+    requires apart { IsBelow (pos 2) (Covers set.old) (IsBetween part) }
+    ensures { OnOk result (IsRunsOf set.new (Union (Covers set.old) (IsBetween part))) }
+{
+    set.in_whole();
+    if part.is_empty() {
+        return Ok(());
+    }
+    part.in_whole();
+    set.push_apart(part)
 }
 
 /// Adds the members of an interval, if it has any, above those that are there.

@@ -4,7 +4,6 @@ ghost use Rattle.ivl_laws.specs.Sets.{Union};
 ghost use Rattle.ivl_laws.specs.Runs.{Covers, IsRunListIn, IsRunsOf};
 ghost use Rattle.ivl_laws.specs.Walks.{TakesFirst};
 
-use super::combine::room_for;
 use super::walk::Walk;
 use crate::interval::Interval;
 use crate::interval_set::IntervalSet;
@@ -33,6 +32,18 @@ pub fn unite<B: Width>(
         set.push_run(run)?;
     }
     Ok(set.fitted())
+}
+
+/// An empty set with room for as many runs as two walks have left, by the allocator of the first.
+pub(super) fn room_for<B: Width>(
+    first: &Walk<'_, B>,
+    second: &Walk<'_, B>,
+) -> Result<IntervalSet<B>, AllocError>
+    ensures empty { IfOk result (λ L. L ≡ []) }
+    ensures within { IsRunListIn B.whole first.now.left × IsRunListIn B.whole second.now.left }
+{
+    let room = first.left().saturating_add(second.left());
+    IntervalSet::with_room(first.alloc(), room)
 }
 
 /// Takes the run that starts first from the two walks.

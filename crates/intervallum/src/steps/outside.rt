@@ -1,15 +1,13 @@
 //! The numbers of the range that are no members of a set.
-ghost use Rattle.std.specs.Prelude.{◌≡◌, ◌+◌, ◌<◌, ◌≤◌, ◌+ℤ◌, ◌-ℤ◌, ◌∷◌, IfOk, length, pos, vec_capacity, vec_len};
-ghost use Rattle.ivl_laws.specs.Sets.{Complement, IsBetween, Union};
-ghost use Rattle.ivl_laws.specs.Runs.{Covers, IsMaximal, IsRunListIn, IsRunsOf};
-ghost use Rattle.intervallum.specs.Sides.{IsBelow};
+ghost use Rattle.std.specs.Prelude.{◌≡◌, ◌+◌, ◌≤◌, ◌+ℤ◌, ◌-ℤ◌, ◌∷◌, IfOk, length, pos};
+ghost use Rattle.ivl_laws.specs.Sets.{Complement, IsBetween};
+ghost use Rattle.ivl_laws.specs.Runs.{Covers, IsRunListIn, IsRunsOf};
 
+use super::combine::push_reserved_part;
 use super::walk::Walk;
 use crate::interval::Interval;
 use crate::interval_set::IntervalSet;
-use crate::ops::{
-    Bounded, Cardinality, IsEmpty, Range, StrictShrinkLeft, StrictShrinkRight, Whole,
-};
+use crate::ops::{Bounded, Cardinality, Range, StrictShrinkLeft, StrictShrinkRight, Whole};
 use crate::width::{SizeNumber, Width};
 use std::alloc::AllocError;
 
@@ -42,7 +40,7 @@ fn gaps_around<B: Width>(
     // no memory holds more runs than a `usize` counts
     let room = walk.left().checked_add(2).ok_or(AllocError)?;
     let mut gaps = Vec::with_capacity(walk.alloc(), room)?;
-    push_gap(
+    push_reserved_part(
         &mut gaps,
         Interval::whole().strict_shrink_right(first.lower()),
     );
@@ -53,7 +51,7 @@ fn gaps_around<B: Width>(
         end = run.upper();
         walk.advance();
     }
-    push_gap(&mut gaps, Interval::whole().strict_shrink_left(end));
+    push_reserved_part(&mut gaps, Interval::whole().strict_shrink_left(end));
     Ok(gaps)
 }
 
@@ -64,19 +62,4 @@ fn between<B: Width>(end: B, start: B) -> Interval<B>
     ensures { result ≡ (B.value end +ℤ pos 1, B.value start -ℤ pos 1) }
 {
     Interval::new(end.add_in_range(B::one()), start.sub_in_range(B::one()))
-}
-
-/// Adds the members of an interval, if it has any, at least two above those that are there, in room
-/// that is reserved.
-fn push_gap<B: Width>(gaps: &mut Vec<Interval<B>>, gap: Interval<B>)
-    requires room { vec_len gaps.old < vec_capacity gaps.old }
-    requires maximal { IsMaximal gaps.old.items }
-    requires apart { IsBelow (pos 2) (Covers gaps.old.items) (IsBetween gap) }
-    ensures members { IsRunsOf gaps.new.items (Union (Covers gaps.old.items) (IsBetween gap)) }
-    ensures count { vec_len gaps.new ≤ vec_len gaps.old + 1 }
-    ensures capacity { vec_capacity gaps.new ≡ vec_capacity gaps.old }
-{
-    if !gap.is_empty() {
-        gaps.push_reserved(gap);
-    }
 }

@@ -23,7 +23,6 @@ pub struct Probes<'a, B: Width> {
 }
 
 impl<'a, B: Width> Model for Probes<'a, B> {
-    ghost use Rattle.std.specs.Prelude.{length};
     ghost use Rattle.ivl_laws.specs.Runs.{IsRunListIn};
     ghost use Rattle.intervallum.specs.Counted.{Search};
 

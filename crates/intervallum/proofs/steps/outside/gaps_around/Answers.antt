@@ -1,4 +1,4 @@
-use Rattle.std.proofs.Common.{rules, refl, ◌≡◌, ◌-ℤ◌, suc, ℤ, List, [], ◌∷◌, length, pos, ap, arith, subst, sym}
+use Rattle.std.proofs.Common.{rules, refl, ◌≡◌, ◌-ℤ◌, suc, ℤ, [], ◌∷◌, length, pos, ap, arith, subst, sym}
 use Rattle.ivl_laws.specs.Sets.{Below, Complement, IsBetween, SameMembers}
 use Rattle.ivl_laws.specs.Runs.{Covers}
 use Rattle.intervallum.proofs.Around.{IsAround, after_end, around_ends, around_next, around_starts, before_start}
@@ -12,10 +12,10 @@ walk-init g c =
     let r = c.strict_shrink_right.result in
     let P : ℤ × ℤ → Type 0 = λ p. SameMembers (IsBetween r) (Below c.args.first.0 (IsBetween p)) in
     let d = subst P c.whole.ensures.value (cut_below r c.whole.result _ c.args.first.0 c.lower.ensures.value c.strict_shrink_right.ensures) in
-    let Q : ℤ → Type 0 = λ e. IsAround whole c.push_gap.new.gaps.items e c.args.walk.left (Complement whole (Covers (c.args.first ∷ c.args.walk.left))) in
+    let Q : ℤ → Type 0 = λ e. IsAround whole c.push_reserved_part.new.runs.items e c.args.walk.left (Complement whole (Covers (c.args.first ∷ c.args.walk.left))) in
     record {
       around = subst Q (sym c.upper-end.ensures.value)
-          (around_starts whole c.args.first c.args.walk.left c.in_ok-gaps.gaps.items c.push_gap.new.gaps.items r c.requires c.in_ok-gaps.ensures.items d c.push_gap.ensures.members);
+          (around_starts whole c.args.first c.args.walk.left c.in_ok-gaps.gaps.items c.push_reserved_part.new.runs.items r c.requires c.in_ok-gaps.ensures.items d c.push_reserved_part.ensures.members);
       room = search rules;
     }
 
@@ -39,14 +39,14 @@ walk-preserved g c =
           omega (arith, one, c.walk.invariant.room, c.push_reserved.ensures.len, c.push_reserved.ensures.capacity));
     }
 
-pub push_gap-requires-2-clause-apart : goal.push_gap-requires-2-clause-apart
-push_gap-requires-2-clause-apart g c =
+pub push_reserved_part-requires-2-clause-apart : goal.push_reserved_part-requires-2-clause-apart
+push_reserved_part-requires-2-clause-apart g c =
     (around_ends g.B.Width.whole c.whole-2.result c.strict_shrink_left.result c.walk.gaps.items c.walk.walk.left _ _ c.walk.invariant.around c.in_default.ensures.first c.whole-2.ensures.value
     c.strict_shrink_left.ensures).below
 
 pub returns : goal.returns
 returns g c = record {
-  members = building_done (pos 2) c.walk.gaps.items c.push_gap-2.new.gaps.items (IsBetween c.strict_shrink_left.result) (Complement g.B.Width.whole (Covers (c.args.first ∷ c.args.walk.left)))
+  members = building_done (pos 2) c.walk.gaps.items c.push_reserved_part-2.new.runs.items (IsBetween c.strict_shrink_left.result) (Complement g.B.Width.whole (Covers (c.args.first ∷ c.args.walk.left)))
       (around_ends g.B.Width.whole c.whole-2.result c.strict_shrink_left.result c.walk.gaps.items c.walk.walk.left _ _ c.walk.invariant.around c.in_default.ensures.first c.whole-2.ensures.value
-      c.strict_shrink_left.ensures) c.push_gap-2.ensures.members;
+      c.strict_shrink_left.ensures) c.push_reserved_part-2.ensures.members;
 }

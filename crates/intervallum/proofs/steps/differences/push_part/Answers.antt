@@ -1,7 +1,7 @@
 use Rattle.ivl_laws.proofs.Adding.{untrue}
 use Rattle.ivl_laws.proofs.Intervals.{not_crossed}
 use Rattle.intervallum.proofs.Building.{adds_above, adds_none}
-use Rattle.intervallum.proofs.steps.combine.push_part.Goals as goal
+use Rattle.intervallum.proofs.steps.differences.push_part.Goals as goal
 
 pub returns-then-is_empty : goal.returns-then-is_empty
 returns-then-is_empty g c = adds_none c.args.set.now _ c.in_whole.ensures.maximal (c.is_empty.ensures.members.0 c.if-is_empty.true)
