@@ -39,20 +39,28 @@ fn array(alloc: Global, pairs: &[(i64, i64)]) -> Result<Value, AllocError> {
 }
 
 /// The set that the array of the pairs reads as.
-pub fn read<A: Answer>(inputs: &Inputs) -> Result<A, AllocError> {
+pub fn read(inputs: &Inputs) -> Result<Answer, AllocError> {
     match IntervalSet::from_value(inputs.alloc, &inputs.json.pairs) {
-        Ok(set) => Ok(A::of_set(set)),
+        Ok(set) => Ok(Answer::of_set(&set)),
         Err(JsonFault::Memory) => Err(AllocError),
-        Err(_) => Ok(A::does_not_fit()),
+        Err(_) => Ok(Answer::DoesNotFit),
     }
 }
 
 /// The array of the runs of a set.
-pub fn write<A: Answer>(inputs: &Inputs) -> Result<A, AllocError> {
-    Ok(A::of_json(inputs.a.to_value(inputs.alloc)?))
+pub fn written(inputs: &Inputs) -> Result<Value, AllocError> {
+    inputs.a.to_value(inputs.alloc)
 }
 
 /// The text of that array.
-pub fn text<A: Answer>(inputs: &Inputs) -> Result<A, AllocError> {
-    Ok(A::of_text(inputs.json.written.to_string(inputs.alloc)?))
+pub fn text(inputs: &Inputs) -> Result<String, AllocError> {
+    inputs.json.written.to_string(inputs.alloc)
+}
+
+/// How long an array is.
+pub fn count_of(value: &Value) -> usize {
+    match value.as_array() {
+        Some(items) => items.len(),
+        None => 0,
+    }
 }

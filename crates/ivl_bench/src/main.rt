@@ -5,6 +5,7 @@
 //! With the arguments `store FILE`, prints how long an instance of the domain store takes.
 #![tactic(auto)]
 
+mod calls;
 mod edits;
 mod expressions;
 mod inputs;
