@@ -1,2 +1,3 @@
 pub mod Windows
 pub mod Sums
+pub mod Parts

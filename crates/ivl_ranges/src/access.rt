@@ -3,7 +3,7 @@ ghost use Rattle.std.specs.Prelude.{◌≡◌, ◌↔◌, ◌^◌, ℤ, pos, ◌
 ghost use Rattle.ivl_laws.specs.Families.{set_at};
 ghost use Rattle.ivl_laws.specs.Runs.{Covers, IsRunsOf};
 ghost use Rattle.ivl_laws.specs.Sets.{HasSome, IsBetween, IsSubset, SameMembers, Sums};
-ghost use Rattle.ivl_ranges.specs.Indexes.{IsIndexOf, SafeIn};
+ghost use Rattle.ivl_ranges.specs.Indexes.{IsIndexOf, SafeIn, SomeSumLeaves, range_i64};
 
 use intervallum::interval::Interval;
 use intervallum::interval_set::IntervalSet;
@@ -30,6 +30,7 @@ pub fn is_safe(alloc: Global, sets: &[IntervalSet<i64>], length: u32) -> Result<
     ensures safe { IfOk result (λ r. IsTrue r ↔ IsSubset (Sums (set_at sets.now 0) (set_at sets.now 1)) (IsIndexOf length)) }
     // the error names the first set that is missing
     ensures missing { (i : ℕ) → (result ≡ Err (EvalFault.Missing i)) → (i ≡ count sets.now) × (i < 2) }
+    ensures range { (result ≡ Err EvalFault.Range) → SomeSumLeaves (set_at sets.now 0) (set_at sets.now 1) }
 {
     let sums = sums(alloc, sets)?;
     Ok(are_indexes(alloc, &sums, length)?)
@@ -64,9 +65,21 @@ fn sums(alloc: Global, sets: &[IntervalSet<i64>]) -> Result<IntervalSet<i64>, Ev
     ensures members { IfOk result (λ L. IsRunsOf L (Sums (set_at sets.now 0) (set_at sets.now 1))) }
     // the error names the first set that is missing
     ensures missing { (i : ℕ) → (result ≡ Err (EvalFault.Missing i)) → (i ≡ count sets.now) × (i < 2) }
+    ensures range { (result ≡ Err EvalFault.Range) → SomeSumLeaves (set_at sets.now 0) (set_at sets.now 1) }
 {
+    in_whole(sets, 0);
+    in_whole(sets, 1);
     let sum = Expr::Add(variable(alloc, 0)?, variable(alloc, 1)?);
     eval(alloc, &sum, sets)
+}
+
+/// The members of a set lie in the range of its type. This does nothing: its contract is the fact.
+fn in_whole(sets: &[IntervalSet<i64>], i: usize)
+    ensures { IsSubset (set_at sets.now i) (IsBetween range_i64) }
+{
+    if let Some(set) = sets.get(i) {
+        set.in_whole();
+    }
 }
 
 /// A variable as an operand.

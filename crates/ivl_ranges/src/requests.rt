@@ -1,5 +1,6 @@
 //! The requests about an access and their answers, one line each.
-ghost use Rattle.std.specs.Prelude.{◌<◌};
+ghost use Rattle.std.specs.Prelude.{◌≡◌, ◌<◌, IfSome, OnErr};
+ghost use Rattle.ivl_ranges.specs.Lines.{IsRangeText, length_of};
 
 use crate::access::{is_safe, safe_indexes};
 use intervallum::interval::Interval;
@@ -27,7 +28,13 @@ impl Access {
 
     /// Returns the answer to a line: `ok`, the result of the check, or an error message. A line
     /// with an error changes nothing.
-    pub fn answer(&mut self, alloc: Global, line: &str) -> Result<String, EvalFault> {
+    ///
+    /// # Errors
+    ///
+    /// Fails only if allocation fails. The access is unchanged then.
+    pub fn answer(&mut self, alloc: Global, line: &str) -> Result<String, EvalFault>
+        ensures { OnErr result (self.new ≡ self.old) }
+    {
         let (name, words) = next_word(line).unwrap_or(("", ""));
         match name {
             "i" => self.set(alloc, 0, words),
@@ -40,11 +47,13 @@ impl Access {
 
     fn set(&mut self, alloc: Global, place: usize, words: &str) -> Result<String, EvalFault>
         requires { place < 2 }
+        ensures { OnErr result (self.new ≡ self.old) }
     {
         match set_from(alloc, words)? {
             Some(set) => {
+                let answer = text(alloc, "ok")?;
                 self.sets[place] = set;
-                text(alloc, "ok")
+                Ok(answer)
             }
             None => text(
                 alloc,
@@ -53,11 +62,14 @@ impl Access {
         }
     }
 
-    fn set_length(&mut self, alloc: Global, words: &str) -> Result<String, EvalFault> {
+    fn set_length(&mut self, alloc: Global, words: &str) -> Result<String, EvalFault>
+        ensures { OnErr result (self.new ≡ self.old) }
+    {
         match one_word(words).and_then(length_from) {
             Some(length) => {
+                let answer = text(alloc, "ok")?;
                 self.length = length;
-                text(alloc, "ok")
+                Ok(answer)
             }
             None => text(alloc, "write length NUMBER, from 0 to 4294967295"),
         }
@@ -90,7 +102,9 @@ fn set_from(alloc: Global, words: &str) -> Result<Option<IntervalSet<i64>>, Allo
 }
 
 /// Reads a range: its two ends, with two dots between them.
-fn range_from(word: &str) -> Option<Interval<i64>> {
+fn range_from(word: &str) -> Option<Interval<i64>>
+    ensures { IfSome result (λ range. IsRangeText word.now range) }
+{
     let (lower, upper) = word.split_once("..")?;
     let (lower, upper) = (number_from(lower)?, number_from(upper)?);
     if lower <= upper && Interval::in_range(lower, upper) {
@@ -100,7 +114,10 @@ fn range_from(word: &str) -> Option<Interval<i64>> {
     }
 }
 
-fn length_from(word: &str) -> Option<u32> {
+/// The length that a word is, or `None` if it is not a number from 0 to 4294967295.
+fn length_from(word: &str) -> Option<u32>
+    ensures { result ≡ length_of word.now }
+{
     u32::try_from(number_from(word)?).ok()
 }
 
