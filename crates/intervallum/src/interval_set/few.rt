@@ -30,7 +30,7 @@ pub(super) fn common_with_few<B: Width>(
 ) -> Result<IntervalSet<B>, AllocError>
     ensures members { IfOk result (λ L. IsRunsOf L (Intersection (Covers few.now) (Covers many.old.runs))) }
     ensures runs_at_most { IfOk result (λ L. length L ≤ length few.now + length many.old.runs) }
-    // for each of the few no more looks than four times the binary digits of the number of the many
+    // for each of the few no more looks than four times the binary digits of one more than the number of the many
     ensures looks { (digits : ℕ) → length many.old.runs + 1 < 2 ^ digits → many.new.looks ≤ many.old.looks + length few.now * (4 * digits) }
 {
     many.in_whole();

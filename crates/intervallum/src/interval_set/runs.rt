@@ -1,4 +1,4 @@
-//! How a run list is read and made: every set is built by pushing runs at its end.
+//! How a run list is read and made: a set is built by pushing runs at its end, or from a list of runs and its size.
 ghost use Rattle.std.specs.Prelude.{◌≡◌, ◌↔◌, ◌+◌, ◌<◌, ◌≤◌, ℕ, pos, ◌+ℤ◌, ◌-ℤ◌, ◌≤ℤ◌, [], ◌∷◌, ◌++◌, IsTrue, IfOk, OnOk, OnErr, length};
 ghost use Rattle.ivl_laws.specs.Sets.{IsBetween, IsSubset};
 ghost use Rattle.ivl_laws.specs.Runs.{AddsRun, Covers, IsMaximal, IsRunListIn, StartsBy};
@@ -58,8 +58,8 @@ impl<B: Width> IntervalSet<B> {
         IntervalSet { intervals, size }
     }
 
-    /// The same set, shrunk if less than half of its capacity is used. If shrinking fails, it keeps
-    /// its capacity.
+    /// The same set, shrunk if less than half of its capacity, rounded down, is used. If shrinking
+    /// fails, it keeps its capacity.
     pub(crate) fn fitted(mut self) -> Self
         ensures { result ≡ self }
     {

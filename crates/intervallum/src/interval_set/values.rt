@@ -19,8 +19,8 @@ impl<B: Width> Union<B> for IntervalSet<B> {
 
     ghost answers = { λ r S. IfOk r (λ L. IsRunsOf L S) };
 
-    /// Returns the members and the value. `O(n)`: one copy and a binary search. Reserves `n + 1`
-    /// runs once. Fails only if allocation fails.
+    /// Returns the members and the value. `O(n)`: one copy and at most two binary searches.
+    /// Reserves `n + 1` runs once. Fails only if allocation fails.
     ///
     /// The caller must ensure that the value is in the range. Check with
     /// `Interval::in_range(value, value)`.
@@ -52,8 +52,8 @@ impl<B: Width> SymmetricDifference<B> for IntervalSet<B> {
     ghost answers = { λ r S. IfOk r (λ L. IsRunsOf L S) };
 
     /// Returns the members without the value if it is one of them, else with it. `O(n)`: one copy
-    /// and two binary searches. Reserves `n + 1` runs once and does not shrink the result. Fails
-    /// only if allocation fails.
+    /// and at most three binary searches. Reserves `n + 1` runs once and does not shrink the result.
+    /// Fails only if allocation fails.
     ///
     /// The caller must ensure that the value is in the range. Check with
     /// `Interval::in_range(value, value)`.
@@ -115,8 +115,8 @@ impl<B: Width> Difference<B> for IntervalSet<B> {
     ghost answers = { λ r S. IfOk r (λ L. IsRunsOf L S) };
 
     /// Returns the members except the value, which may be any value of its type. `O(n)`: one copy
-    /// and a binary search. Reserves `n + 1` runs once and does not shrink the result. Fails only
-    /// if allocation fails.
+    /// and at most two binary searches. Reserves `n + 1` runs once and does not shrink the result.
+    /// Fails only if allocation fails.
     ///
     /// ```
     /// let a = IntervalSet::new(alloc, 1, 5)?;

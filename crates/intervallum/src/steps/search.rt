@@ -56,7 +56,7 @@ pub(crate) fn find_from<B: Width>(probes: &mut Probes<'_, B>, v: B, from: usize)
     ensures place { IsPlaceOf probes.old.runs (B.value v) result }
     ensures same { probes.new.runs ≡ probes.old.runs }
     ensures onwards { from ≤ index_of result }
-    // fewer looks than twice the binary digits of how far it goes on
+    // fewer looks than twice the binary digits of one more than how far it goes on
     ensures looks { (digits : ℕ) → index_of result - from + 1 < 2 ^ digits → probes.new.looks < probes.old.looks + 2 * digits }
 {
     let count = probes.len();

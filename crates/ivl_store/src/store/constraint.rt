@@ -76,7 +76,8 @@ pub(super) fn first_unknown_of(constraints: &[Constraint], count: usize) -> Opti
 #[derive(Clone, Copy, Debug, PartialEq, Eq, Error)]
 pub enum StoreFault {
     /// The store has no variable with this index. It is the first such index, constraint by
-    /// constraint, and within a constraint in the order `x`, `y`, `z`. The store is unchanged.
+    /// constraint or post by post, and within a constraint in the order `x`, `y`, `z`. The store is
+    /// unchanged.
     #[error("no variable {0}")]
     Variable(usize),
     /// An allocation failed. Each call says what the store is then.

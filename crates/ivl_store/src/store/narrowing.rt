@@ -24,8 +24,8 @@ impl<B: Width> Store<B> {
     /// member.
     ///
     /// A variable that stands in two places takes the rule of its last. Each domain costs a sum or
-    /// difference of two domains, cut to its own hull, and `O(1)` if all three are single runs. A
-    /// domain that keeps its members is not written.
+    /// difference of two domains, cut to its own hull, and an intersection unless it is one run;
+    /// `O(1)` if all three are single runs. A domain that keeps its members is not written.
     ///
     /// # Errors
     ///
