@@ -1,42 +1,117 @@
 //! Expressions by example, with values that were worked out by hand.
+//!
+//! The proof of a test pays for each assertion, and for each `?` with what is live there, so that
+//! the tests share a few functions that have them, and name sets by their runs.
 
 mod answers;
 mod docs;
 mod faults;
 mod shapes;
 
+use intervallum::interval::Interval;
 use intervallum::interval_set::IntervalSet;
+use intervallum::ops::Range;
+use intervallum::sweep::coalesce;
 use intervallum::width::Width;
-use ivl_expr::{Expr, eval};
+use ivl_expr::{EvalFault, Expr, eval};
 use std::alloc::{AllocError, Global};
 use std::fmt::Display;
 use std::process::Abort;
-use std::test::Fail;
 
-fn add<B: Width>(alloc: Global, a: Expr<B>, b: Expr<B>) -> Result<Expr<B>, AllocError> {
-    Ok(Expr::Add(Box::new(alloc, a)?, Box::new(alloc, b)?))
+/// What memory was left for.
+fn made<T: Drop>(rt: &impl Abort, made: Result<T, AllocError>) -> T {
+    made.expect(rt, "memory is left")
 }
 
-fn sub<B: Width>(alloc: Global, a: Expr<B>, b: Expr<B>) -> Result<Expr<B>, AllocError> {
-    Ok(Expr::Sub(Box::new(alloc, a)?, Box::new(alloc, b)?))
+fn boxed<B: Width>(rt: &(impl Alloc<A = Global> + Abort), expr: Expr<B>) -> Box<Expr<B>> {
+    let boxed = Box::new(rt.alloc(), expr).ok();
+    boxed.expect(rt, "memory is left")
 }
 
-fn mul<B: Width>(alloc: Global, a: Expr<B>, b: Expr<B>) -> Result<Expr<B>, AllocError> {
-    Ok(Expr::Mul(Box::new(alloc, a)?, Box::new(alloc, b)?))
+fn add<B: Width>(rt: &(impl Alloc<A = Global> + Abort), a: Expr<B>, b: Expr<B>) -> Expr<B> {
+    Expr::Add(boxed(rt, a), boxed(rt, b))
+}
+
+fn sub<B: Width>(rt: &(impl Alloc<A = Global> + Abort), a: Expr<B>, b: Expr<B>) -> Expr<B> {
+    Expr::Sub(boxed(rt, a), boxed(rt, b))
+}
+
+fn mul<B: Width>(rt: &(impl Alloc<A = Global> + Abort), a: Expr<B>, b: Expr<B>) -> Expr<B> {
+    Expr::Mul(boxed(rt, a), boxed(rt, b))
+}
+
+/// The set of these pairs, each of which is in the range.
+fn set_of<B: Width>(rt: &(impl Alloc<A = Global> + Abort), pairs: &[(B, B)]) -> IntervalSet<B> {
+    let mut runs = made(rt, Vec::with_capacity(rt.alloc(), pairs.len()));
+    for &(lower, upper) in pairs {
+        assert!(rt;
+            Interval::in_range(lower, upper),
+            "a pair is outside the range"
+        );
+        let is_pushed = runs.push(Interval::new(lower, upper)).is_ok();
+        assert!(rt; is_pushed, "memory is left");
+    }
+    made(rt, coalesce(rt.alloc(), runs))
+}
+
+/// The answer of `eval` where the sets of the variables have these runs.
+fn answer_of<B: Width>(
+    rt: &(impl Alloc<A = Global> + Abort),
+    expr: &Expr<B>,
+    runs: &[&[(B, B)]],
+) -> Result<IntervalSet<B>, EvalFault> {
+    let mut sets = made(rt, Vec::with_capacity(rt.alloc(), runs.len()));
+    for pairs in runs {
+        let is_pushed = sets.push(set_of(rt, pairs)).is_ok();
+        assert!(rt; is_pushed, "memory is left");
+    }
+    eval(rt.alloc(), expr, &sets)
+}
+
+/// The set that `eval` answered.
+fn answered<B: Width>(
+    rt: &impl Abort,
+    answer: Result<IntervalSet<B>, EvalFault>,
+) -> IntervalSet<B> {
+    answer.expect(rt, "the answer is a set")
+}
+
+fn check_printed(rt: &(impl Alloc<A = Global> + Abort), value: &impl Display, text: &str) {
+    let printed = made(rt, format!(in rt.alloc(); "{value}"));
+    assert_eq!(rt; printed.as_str(), text);
 }
 
 /// The answer is printed as a text: that of the set, or that of the fault.
-fn check_answer<B: Width + Display>(
+fn check_text<B: Width + Display>(
     rt: &(impl Alloc<A = Global> + Abort),
     expr: &Expr<B>,
-    sets: &[IntervalSet<B>],
+    runs: &[&[(B, B)]],
     text: &str,
-) -> Result<(), Fail> {
-    let alloc = rt.alloc();
-    let answer = match eval(alloc, expr, sets) {
-        Ok(set) => format!(in alloc; "{set}")?,
-        Err(fault) => format!(in alloc; "{fault}")?,
-    };
-    assert_eq!(rt; answer.as_str(), text);
-    Ok(())
+) {
+    match answer_of(rt, expr, runs) {
+        Ok(set) => check_printed(rt, &set, text),
+        Err(fault) => check_printed(rt, &fault, text),
+    }
+}
+
+/// The answer is the set of the last pairs.
+fn check_set<B: Width>(
+    rt: &(impl Alloc<A = Global> + Abort),
+    expr: &Expr<B>,
+    runs: &[&[(B, B)]],
+    pairs: &[(B, B)],
+) {
+    let set = answered(rt, answer_of(rt, expr, runs));
+    assert!(rt; set == set_of(rt, pairs));
+}
+
+/// The answer is this fault.
+fn check_fault<B: Width>(
+    rt: &(impl Alloc<A = Global> + Abort),
+    expr: &Expr<B>,
+    runs: &[&[(B, B)]],
+    fault: EvalFault,
+) {
+    let answer = answer_of(rt, expr, runs);
+    assert_eq!(rt; answer.err(), Some(fault));
 }

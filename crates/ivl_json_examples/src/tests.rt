@@ -1,4 +1,7 @@
 //! Reading and writing by example, with answers that were worked out by hand.
+//!
+//! The proof of a test pays for each assertion, and for each `?` with what is live there, so that
+//! the tests are rows of texts, and share a few functions that have both.
 
 mod docs;
 mod memory;
@@ -11,7 +14,29 @@ use serde_json::Value;
 use std::alloc::{AllocError, Global};
 use std::fmt::Display;
 use std::process::Abort;
-use std::test::Fail;
+
+/// What memory was left for.
+fn made<T: Drop>(rt: &impl Abort, made: Result<T, AllocError>) -> T {
+    made.expect(rt, "memory is left")
+}
+
+/// The value of a JSON text.
+fn value_of(rt: &(impl Alloc<A = Global> + Abort), text: &str) -> Value {
+    Value::from_str(rt.alloc(), text).expect(rt, "the text is JSON")
+}
+
+/// A value is printed as this text.
+fn check_printed(rt: &(impl Alloc<A = Global> + Abort), value: &(impl Display), text: &str) {
+    let printed = made(rt, format!(in rt.alloc(); "{value}"));
+    assert_eq!(rt; printed.as_str(), text);
+}
+
+/// The JSON text that is written is this one.
+fn check_written<T: JsonForm>(rt: &(impl Alloc<A = Global> + Abort), x: &T, text: &str) {
+    let value = made(rt, x.to_value(rt.alloc()));
+    let written = made(rt, value.to_string(rt.alloc()));
+    assert_eq!(rt; written.as_str(), text);
+}
 
 /// What a value reads as, as it is printed; of a fault its text.
 fn printed<T: JsonForm + Display + Drop>(
@@ -24,26 +49,25 @@ fn printed<T: JsonForm + Display + Drop>(
     }
 }
 
-/// A JSON text reads as what is printed as `answer`, or is refused with that text.
+/// Each JSON text reads as what is printed as the second text of its row, or is refused with that
+/// text.
 fn check_read<T: JsonForm + Display + Drop>(
     rt: &(impl Alloc<A = Global> + Abort),
-    text: &str,
-    answer: &str,
-) -> Result<(), Fail> {
-    let alloc = rt.alloc();
-    let value = Value::from_str(alloc, text)?;
-    assert_eq!(rt; printed::<T>(alloc, &value)?.as_str(), answer, "{text}");
-    Ok(())
+    rows: &[(&str, &str)],
+) {
+    for &(text, answer) in rows {
+        let found = made(rt, printed::<T>(rt.alloc(), &value_of(rt, text)));
+        assert_eq!(rt; found.as_str(), answer, "{text}");
+    }
 }
 
-/// A JSON text is refused for a fault.
+/// Each JSON text is refused for the fault of its row.
 fn check_fault<T: JsonForm + Drop>(
     rt: &(impl Alloc<A = Global> + Abort),
-    text: &str,
-    fault: JsonFault,
-) -> Result<(), Fail> {
-    let alloc = rt.alloc();
-    let value = Value::from_str(alloc, text)?;
-    assert_eq!(rt; T::from_value(alloc, &value).err(), Some(fault), "{text}");
-    Ok(())
+    rows: &[(&str, JsonFault)],
+) {
+    for &(text, fault) in rows {
+        let read = T::from_value(rt.alloc(), &value_of(rt, text));
+        assert_eq!(rt; read.err(), Some(fault), "{text}");
+    }
 }

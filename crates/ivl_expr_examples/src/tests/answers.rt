@@ -1,75 +1,65 @@
 //! The set of an expression.
-use super::{add, check_answer, mul, sub};
+use super::{add, answer_of, answered, check_set, check_text, made, mul, sub};
 use intervallum::interval::Interval;
-use intervallum::interval_set::{IntervalSet, ToIntervalSet};
+use intervallum::interval_set::IntervalSet;
 use intervallum::ops::{Cardinality, Range};
 use intervallum::sweep::coalesce;
 use ivl_expr::{Expr, eval};
 use std::alloc::{AllocError, Global};
-use std::test::Fail;
+use std::process::Abort;
 
 #[test]
-fn differences_are_exact(rt: HostRuntime) -> Result<(), Fail> {
-    let alloc = rt.alloc();
-    let sets: [IntervalSet<i32>; 2] = [
-        [(1, 2), (9, 9)].to_interval_set(alloc)?,
-        IntervalSet::new(alloc, 0, 3)?,
-    ];
-    let expr = sub(alloc, Expr::Var(0), Expr::Var(1))?;
-    check_answer(&rt, &expr, &sets, "{[-2..2][6..9]}")
+fn differences_are_exact(rt: HostRuntime) {
+    let difference = sub(&rt, Expr::Var(0), Expr::Var(1));
+    let runs: [&[(i32, i32)]; 2] = [&[(1, 2), (9, 9)], &[(0, 3)]];
+    check_text(&rt, &difference, &runs, "{[-2..2][6..9]}");
+}
+
+/// The answer has this number of runs.
+fn check_count(
+    rt: &(impl Alloc<A = Global> + Abort),
+    expr: &Expr<i32>,
+    runs: &[&[(i32, i32)]],
+    count: usize,
+) {
+    let set = answered(rt, answer_of(rt, expr, runs));
+    assert_eq!(rt; set.interval_count(), count);
 }
 
 #[test]
-fn products_join_the_products_of_two_runs(rt: HostRuntime) -> Result<(), Fail> {
-    let alloc = rt.alloc();
-    let sets: [IntervalSet<i32>; 2] = [
-        [(1, 2), (5, 6)].to_interval_set(alloc)?,
-        [(0, 0), (3, 4)].to_interval_set(alloc)?,
-    ];
-    let expr = mul(alloc, Expr::Var(0), Expr::Var(1))?;
-    check_answer(&rt, &expr, &sets, "{[0..0][3..8][15..24]}")?;
-    assert_eq!(rt; eval(alloc, &expr, &sets)?.interval_count(), 3);
+fn products_join_the_products_of_two_runs(rt: HostRuntime) {
+    let product = mul(&rt, Expr::Var(0), Expr::Var(1));
+    let runs: [&[(i32, i32)]; 2] = [&[(1, 2), (5, 6)], &[(0, 0), (3, 4)]];
+    check_text(&rt, &product, &runs, "{[0..0][3..8][15..24]}");
+    check_count(&rt, &product, &runs, 3);
     // 1 and 2 lie between 0 * 3 and 1 * 3, and are no products.
-    let small: [IntervalSet<i32>; 2] = [
-        IntervalSet::new(alloc, 0, 1)?,
-        IntervalSet::new(alloc, 3, 5)?,
-    ];
-    check_answer(&rt, &expr, &small, "[0..5]")
+    check_text(&rt, &product, &[&[(0, 1)], &[(3, 5)]], "[0..5]");
 }
 
 #[test]
-fn a_variable_that_repeats_is_taken_as_two(rt: HostRuntime) -> Result<(), Fail> {
-    let alloc = rt.alloc();
-    let square = mul(alloc, Expr::Var(0), Expr::Var(0))?;
-    let around_zero: [IntervalSet<i32>; 1] = [IntervalSet::new(alloc, -2, 3)?];
-    check_answer(&rt, &square, &around_zero, "[-6..9]")?;
-    let sum = add(alloc, Expr::Var(0), Expr::Var(1))?;
-    let second = sub(alloc, sum, Expr::Var(0))?;
-    let sets: [IntervalSet<i32>; 2] = [
-        IntervalSet::new(alloc, 1, 2)?,
-        IntervalSet::new(alloc, 5, 5)?,
-    ];
-    check_answer(&rt, &second, &sets, "[4..6]")
+fn a_variable_that_repeats_is_taken_as_two(rt: HostRuntime) {
+    let square = mul(&rt, Expr::Var(0), Expr::Var(0));
+    check_text(&rt, &square, &[&[(-2i32, 3)]], "[-6..9]");
+    let sum = add(&rt, Expr::Var(0), Expr::Var(1));
+    let second = sub(&rt, sum, Expr::Var(0));
+    check_text(&rt, &second, &[&[(1i32, 2)], &[(5, 5)]], "[4..6]");
 }
 
 #[test]
-fn an_empty_set_where_it_stands_and_elsewhere(rt: HostRuntime) -> Result<(), Fail> {
-    let alloc = rt.alloc();
-    let sets: [IntervalSet<i32>; 2] = [IntervalSet::new(alloc, 3, 3)?, IntervalSet::empty(alloc)];
-    let more = add(alloc, Expr::Var(0), Expr::Const(1))?;
-    check_answer(&rt, &more, &sets, "[4..4]")?;
-    let product = mul(alloc, Expr::Var(0), Expr::Var(1))?;
-    check_answer(&rt, &product, &sets, "{}")
+fn an_empty_set_where_it_stands_and_elsewhere(rt: HostRuntime) {
+    let runs: [&[(i32, i32)]; 2] = [&[(3, 3)], &[]];
+    let more = add(&rt, Expr::Var(0), Expr::Const(1));
+    check_text(&rt, &more, &runs, "[4..4]");
+    let product = mul(&rt, Expr::Var(0), Expr::Var(1));
+    check_text(&rt, &product, &runs, "{}");
 }
 
 #[test]
-fn a_variable_and_a_constant_alone(rt: HostRuntime) -> Result<(), Fail> {
-    let alloc = rt.alloc();
-    let sets: [IntervalSet<i32>; 1] = [[(1, 2), (5, 6)].to_interval_set(alloc)?];
-    check_answer(&rt, &Expr::Var(0), &sets, "{[1..2][5..6]}")?;
-    check_answer(&rt, &Expr::Const(7), &sets, "[7..7]")?;
-    assert!(rt; eval(alloc, &Expr::Var(0), &sets)? == sets[0]);
-    Ok(())
+fn a_variable_and_a_constant_alone(rt: HostRuntime) {
+    let runs: [&[(i32, i32)]; 1] = [&[(1, 2), (5, 6)]];
+    check_text(&rt, &Expr::Var(0), &runs, "{[1..2][5..6]}");
+    check_text(&rt, &Expr::Const(7), &runs, "[7..7]");
+    check_set(&rt, &Expr::Var(0), &runs, runs[0]);
 }
 
 /// A hundred single numbers, 1000 apart.
@@ -93,12 +83,11 @@ fn close_by(alloc: Global) -> Result<IntervalSet<i64>, AllocError> {
 }
 
 #[test]
-fn a_sum_of_two_sets_of_a_hundred_runs(rt: HostRuntime) -> Result<(), Fail> {
+fn a_sum_of_two_sets_of_a_hundred_runs(rt: HostRuntime) {
     let alloc = rt.alloc();
-    let sets = [far_apart(alloc)?, close_by(alloc)?];
-    let expr = add(alloc, Expr::Var(0), Expr::Var(1))?;
-    let sums = eval(alloc, &expr, &sets)?;
+    let sets = [made(&rt, far_apart(alloc)), made(&rt, close_by(alloc))];
+    let sum = add(&rt, Expr::Var(0), Expr::Var(1));
+    let sums = answered(&rt, eval(alloc, &sum, &sets));
     assert_eq!(rt; sums.interval_count(), 10_000);
     assert_eq!(rt; sums.size(), 20_000u64);
-    Ok(())
 }

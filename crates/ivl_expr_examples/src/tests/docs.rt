@@ -1,56 +1,39 @@
-//! The examples of the docs, word for word.
-use intervallum::interval_set::IntervalSet;
-use ivl_expr::{EvalFault, Expr, eval};
-use std::test::Fail;
+//! The examples of the docs: the same calls, and the same values.
+use super::{add, check_fault, check_set, mul, sub};
+use ivl_expr::{EvalFault, Expr};
 
 #[test]
-fn of_the_type(rt: HostRuntime) -> Result<(), Fail> {
-    let alloc = rt.alloc();
-    let sum = Expr::Add(
-        Box::new(alloc, Expr::Var(0))?,
-        Box::new(alloc, Expr::Var(1))?,
-    );
-    let less = Expr::Sub(Box::new(alloc, sum)?, Box::new(alloc, Expr::Const(3i32))?);
+fn of_the_type(rt: HostRuntime) {
+    let sum = add(&rt, Expr::Var(0), Expr::Var(1));
+    let less = sub(&rt, sum, Expr::Const(3i32));
     assert!(rt; less.occurs(1) && less.read_once() && !less.has_product());
-    Ok(())
 }
 
 #[test]
-fn of_the_questions(rt: HostRuntime) -> Result<(), Fail> {
-    let alloc = rt.alloc();
-    let sum = Expr::Add(
-        Box::new(alloc, Expr::Var(3))?,
-        Box::new(alloc, Expr::Const(5i32))?,
-    );
+fn of_occurs(rt: HostRuntime) {
+    let sum = add(&rt, Expr::Var(3), Expr::Const(5i32));
     assert!(rt; sum.occurs(3) && !sum.occurs(5));
-    let sum = Expr::Add(
-        Box::new(alloc, Expr::Var(0))?,
-        Box::new(alloc, Expr::Var(1))?,
-    );
-    assert!(rt; sum.read_once());
-    let less_first = Expr::Sub(Box::new(alloc, sum)?, Box::new(alloc, Expr::<i32>::Var(0))?);
-    assert!(rt; !less_first.read_once());
-    let product = Expr::Mul(
-        Box::new(alloc, Expr::Var(0))?,
-        Box::new(alloc, Expr::Const(2i32))?,
-    );
-    let sum = Expr::Add(Box::new(alloc, product)?, Box::new(alloc, Expr::Var(1))?);
-    assert!(rt; sum.has_product());
-    Ok(())
 }
 
 #[test]
-fn of_eval(rt: HostRuntime) -> Result<(), Fail> {
-    let alloc = rt.alloc();
-    let sum = Expr::Add(
-        Box::new(alloc, Expr::Var(0))?,
-        Box::new(alloc, Expr::Var(1))?,
-    );
-    let sets: [IntervalSet<i32>; 2] = [
-        IntervalSet::new(alloc, 1, 2)?,
-        IntervalSet::new(alloc, 10, 20)?,
-    ];
-    assert!(rt; eval(alloc, &sum, &sets)? == IntervalSet::new(alloc, 11, 22)?);
-    assert!(rt; eval(alloc, &sum, &sets[..1]).is_err_and(|f| f == EvalFault::Missing(1)));
-    Ok(())
+fn of_read_once(rt: HostRuntime) {
+    let sum = add(&rt, Expr::Var(0), Expr::Var(1));
+    assert!(rt; sum.read_once());
+    let less_first = sub(&rt, sum, Expr::<i32>::Var(0));
+    assert!(rt; !less_first.read_once());
+}
+
+#[test]
+fn of_has_product(rt: HostRuntime) {
+    let product = mul(&rt, Expr::Var(0), Expr::Const(2i32));
+    let sum = add(&rt, product, Expr::Var(1));
+    assert!(rt; sum.has_product());
+}
+
+#[test]
+fn of_eval(rt: HostRuntime) {
+    let sum = add(&rt, Expr::Var(0), Expr::Var(1));
+    let runs: [&[(i32, i32)]; 2] = [&[(1, 2)], &[(10, 20)]];
+    check_set(&rt, &sum, &runs, &[(11, 22)]);
+    check_fault(&rt, &sum, &runs[..1], EvalFault::Missing(1));
 }

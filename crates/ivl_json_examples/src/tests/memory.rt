@@ -1,10 +1,10 @@
 //! A long array whose last item is no interval.
 
+use super::made;
 use intervallum::IntervalSet;
 use ivl_json::{ItemFault, JsonFault, JsonForm};
 use serde_json::{Value, json};
 use std::alloc::{AllocError, Global};
-use std::test::Fail;
 
 /// An array of 999 pairs, and one of a single number.
 fn thousand(alloc: Global) -> Result<Value, AllocError> {
@@ -17,10 +17,8 @@ fn thousand(alloc: Global) -> Result<Value, AllocError> {
 }
 
 #[test]
-fn the_last_of_a_thousand(rt: HostRuntime) -> Result<(), Fail> {
-    let alloc = rt.alloc();
-    let value = thousand(alloc)?;
-    let read = IntervalSet::<i32>::from_value(alloc, &value);
+fn the_last_of_a_thousand(rt: HostRuntime) {
+    let value = made(&rt, thousand(rt.alloc()));
+    let read = IntervalSet::<i32>::from_value(rt.alloc(), &value);
     assert_eq!(rt; read.err(), Some(JsonFault::At(999, ItemFault::Length(1))));
-    Ok(())
 }

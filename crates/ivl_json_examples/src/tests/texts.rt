@@ -1,44 +1,38 @@
 //! The texts of the faults.
 
+use super::check_printed;
 use ivl_json::{ItemFault, JsonFault};
-use std::alloc::{AllocError, Global};
-use std::test::Fail;
 
-fn item_text(alloc: Global, fault: ItemFault) -> Result<String, AllocError> {
-    format!(in alloc; "{fault}")
-}
-
-fn text(alloc: Global, fault: JsonFault) -> Result<String, AllocError> {
-    format!(in alloc; "{fault}")
-}
+const OF_ITEMS: [(ItemFault, &str); 4] = [
+    (ItemFault::Shape, "shape"),
+    (ItemFault::Length(3), "length 3"),
+    (ItemFault::Number, "number"),
+    (ItemFault::Range, "range"),
+];
 
 #[test]
-fn of_items(rt: HostRuntime) -> Result<(), Fail> {
-    let alloc = rt.alloc();
-    assert_eq!(rt; item_text(alloc, ItemFault::Shape)?.as_str(), "shape");
-    assert_eq!(rt;
-        item_text(alloc, ItemFault::Length(3))?.as_str(),
-        "length 3"
-    );
-    assert_eq!(rt; item_text(alloc, ItemFault::Number)?.as_str(), "number");
-    assert_eq!(rt; item_text(alloc, ItemFault::Range)?.as_str(), "range");
-    Ok(())
+fn of_items(rt: HostRuntime) {
+    for (fault, text) in OF_ITEMS {
+        check_printed(&rt, &fault, text);
+    }
 }
 
+const OF_VALUES: [(JsonFault, &str); 7] = [
+    (JsonFault::Shape, "shape"),
+    (JsonFault::Length(0), "length 0"),
+    (JsonFault::Number, "number"),
+    (JsonFault::Range, "range"),
+    (JsonFault::Memory, "memory"),
+    (JsonFault::At(2, ItemFault::Range), "item 2: range"),
+    (
+        JsonFault::At(0, ItemFault::Length(18446744073709551615)),
+        "item 0: length 18446744073709551615",
+    ),
+];
+
 #[test]
-fn of_values(rt: HostRuntime) -> Result<(), Fail> {
-    let alloc = rt.alloc();
-    assert_eq!(rt; text(alloc, JsonFault::Shape)?.as_str(), "shape");
-    assert_eq!(rt; text(alloc, JsonFault::Length(0))?.as_str(), "length 0");
-    assert_eq!(rt; text(alloc, JsonFault::Number)?.as_str(), "number");
-    assert_eq!(rt; text(alloc, JsonFault::Range)?.as_str(), "range");
-    assert_eq!(rt; text(alloc, JsonFault::Memory)?.as_str(), "memory");
-    let third = JsonFault::At(2, ItemFault::Range);
-    assert_eq!(rt; text(alloc, third)?.as_str(), "item 2: range");
-    let first = JsonFault::At(0, ItemFault::Length(18446744073709551615));
-    assert_eq!(rt;
-        text(alloc, first)?.as_str(),
-        "item 0: length 18446744073709551615"
-    );
-    Ok(())
+fn of_values(rt: HostRuntime) {
+    for (fault, text) in OF_VALUES {
+        check_printed(&rt, &fault, text);
+    }
 }

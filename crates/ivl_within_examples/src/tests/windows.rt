@@ -1,18 +1,23 @@
 //! Sums and differences in windows.
+use super::{check_same, in_window, interval_of, made, set_of};
 use intervallum::interval::Interval;
-use intervallum::interval_set::{IntervalSet, ToIntervalSet};
-use intervallum::ops::{Intersection, IsEmpty, Range, Whole};
-use ivl_within::within::{
-    Combined, add_within, differences_in_window, image, kept, sub_within, sums_in_window,
-};
-use std::alloc::Global;
+use intervallum::interval_set::IntervalSet;
+use intervallum::ops::{Intersection, IsEmpty, Whole};
+use intervallum::width::Width;
+use ivl_within::within::{Combined, add_within, image, kept, sub_within};
+use std::alloc::{AllocError, Global};
 use std::process::Abort;
-use std::test::Fail;
 
-// Windows of i16, each with the text of the sums, or the differences, that are in it.
+// Two sets, by their runs.
+type Sets = [&'static [(i16, i16)]; 2];
+
+// A window, and the text of the sums, or the differences, that are in it.
 type Row = ((i16, i16), &'static str);
 
-// The sums are {[1..2][11..14][50..72][91..97][140..155]}.
+// The sums are {[1..2][11..14][50..72][91..97][140..155]}, and the differences
+// {[-60..-38][-2..-1][8..11][30..45][88..94]}.
+const SEVERAL_RUNS: Sets = [&[(0, 0), (10, 12), (90, 95)], &[(1, 2), (50, 60)]];
+
 const SUMS: [Row; 10] = [
     ((-100, 200), "{[1..2][11..14][50..72][91..97][140..155]}"),
     ((1, 155), "{[1..2][11..14][50..72][91..97][140..155]}"),
@@ -26,7 +31,6 @@ const SUMS: [Row; 10] = [
     ((62, 12), "{}"),
 ];
 
-// The differences are {[-60..-38][-2..-1][8..11][30..45][88..94]}.
 const DIFFERENCES: [Row; 10] = [
     ((-100, 100), "{[-60..-38][-2..-1][8..11][30..45][88..94]}"),
     ((-60, 94), "{[-60..-38][-2..-1][8..11][30..45][88..94]}"),
@@ -40,155 +44,173 @@ const DIFFERENCES: [Row; 10] = [
     ((39, 0), "{}"),
 ];
 
-fn text_is(
+// The sums are [13..25], and the differences [-17..-5].
+const ONE_RUN_EACH: Sets = [&[(3, 5)], &[(10, 20)]];
+
+const SUMS_OF_ONE_RUN_EACH: [Row; 5] = [
+    ((0, 12), "{}"),
+    ((0, 13), "[13..13]"),
+    ((14, 18), "[14..18]"),
+    ((20, 40), "[20..25]"),
+    ((26, 40), "{}"),
+];
+
+const DIFFERENCES_OF_ONE_RUN_EACH: [Row; 3] = [
+    ((-5, 9), "[-5..-5]"),
+    ((-17, -17), "[-17..-17]"),
+    ((-4, 9), "{}"),
+];
+
+/// The set is printed as this text.
+fn check_text(rt: &(impl Alloc<A = Global> + Abort), set: &IntervalSet<i16>, text: &str) {
+    let printed = made(rt, format!(in rt.alloc(); "{set}"));
+    assert_eq!(rt; printed.as_str(), text);
+}
+
+/// What is in each window is printed as the text of its row.
+fn check_rows(rt: &(impl Alloc<A = Global> + Abort), op: Combined, [a, b]: Sets, rows: &[Row]) {
+    let (a, b) = (set_of(rt, a), set_of(rt, b));
+    for &(bounds, text) in rows {
+        check_text(
+            rt,
+            &in_window(rt, op, &a, &b, interval_of(rt, bounds)),
+            text,
+        );
+    }
+}
+
+#[test]
+fn several_runs(rt: HostRuntime) {
+    let [a, b] = SEVERAL_RUNS;
+    check_rows(&rt, Combined::Sum, [a, b], &SUMS);
+    check_rows(&rt, Combined::Sum, [b, a], &SUMS);
+    check_rows(&rt, Combined::Difference, [a, b], &DIFFERENCES);
+}
+
+#[test]
+fn one_run_each(rt: HostRuntime) {
+    check_rows(&rt, Combined::Sum, ONE_RUN_EACH, &SUMS_OF_ONE_RUN_EACH);
+    check_rows(
+        &rt,
+        Combined::Difference,
+        ONE_RUN_EACH,
+        &DIFFERENCES_OF_ONE_RUN_EACH,
+    );
+}
+
+/// What is in a window is the set of the last pairs.
+fn check_set<B: Width>(
     rt: &(impl Alloc<A = Global> + Abort),
-    set: &IntervalSet<i16>,
-    text: &str,
-) -> Result<(), Fail> {
-    assert_eq!(rt; format!(in rt.alloc(); "{set}")?.as_str(), text);
-    Ok(())
-}
-
-#[test]
-fn several_runs(rt: HostRuntime) -> Result<(), Fail> {
-    let a: IntervalSet<i16> = [(0, 0), (10, 12), (90, 95)].to_interval_set(rt.alloc())?;
-    let b: IntervalSet<i16> = [(1, 2), (50, 60)].to_interval_set(rt.alloc())?;
-    for ((lower, upper), text) in SUMS {
-        if Interval::in_range(lower, upper) {
-            let window = Interval::new(lower, upper);
-            text_is(&rt, &sums_in_window(&a, &b, &window)?, text)?;
-            text_is(&rt, &sums_in_window(&b, &a, &window)?, text)?;
-        }
-    }
-    for ((lower, upper), text) in DIFFERENCES {
-        if Interval::in_range(lower, upper) {
-            let window = Interval::new(lower, upper);
-            text_is(&rt, &differences_in_window(&a, &b, &window)?, text)?;
-        }
-    }
-    Ok(())
-}
-
-// Windows of one run each: the sums are [13..25], and the differences [-17..-5].
-#[test]
-fn one_run_each(rt: HostRuntime) -> Result<(), Fail> {
-    let a: IntervalSet<i16> = IntervalSet::new(rt.alloc(), 3, 5)?;
-    let b: IntervalSet<i16> = IntervalSet::new(rt.alloc(), 10, 20)?;
-    text_is(&rt, &sums_in_window(&a, &b, &Interval::new(0, 12))?, "{}")?;
-    text_is(
-        &rt,
-        &sums_in_window(&a, &b, &Interval::new(0, 13))?,
-        "[13..13]",
-    )?;
-    text_is(
-        &rt,
-        &sums_in_window(&a, &b, &Interval::new(14, 18))?,
-        "[14..18]",
-    )?;
-    text_is(
-        &rt,
-        &sums_in_window(&a, &b, &Interval::new(20, 40))?,
-        "[20..25]",
-    )?;
-    text_is(&rt, &sums_in_window(&a, &b, &Interval::new(26, 40))?, "{}")?;
-    text_is(
-        &rt,
-        &differences_in_window(&a, &b, &Interval::new(-5, 9))?,
-        "[-5..-5]",
-    )?;
-    text_is(
-        &rt,
-        &differences_in_window(&a, &b, &Interval::new(-17, -17))?,
-        "[-17..-17]",
-    )?;
-    text_is(
-        &rt,
-        &differences_in_window(&a, &b, &Interval::new(-4, 9))?,
-        "{}",
-    )?;
-    Ok(())
+    op: Combined,
+    [a, b]: [&[(B, B)]; 2],
+    window: Interval<B>,
+    wanted: &[(B, B)],
+) {
+    let found = in_window(rt, op, &set_of(rt, a), &set_of(rt, b), window);
+    check_same(rt, &found, &set_of(rt, wanted));
 }
 
 // At the ends of the range, where the sums and differences leave it.
 #[test]
-fn ends_of_the_range(rt: HostRuntime) -> Result<(), Fail> {
-    let alloc = rt.alloc();
-    let a: IntervalSet<u8> = IntervalSet::new(alloc, 250, 254)?;
-    let b: IntervalSet<u8> = [(0, 1), (10, 10)].to_interval_set(alloc)?;
-    let sums = sums_in_window(&a, &b, &Interval::new(252, 254))?;
-    assert!(rt; sums == IntervalSet::new(alloc, 252, 254)?);
-    let sums = sums_in_window(&a, &b, &Interval::whole())?;
-    assert!(rt; sums == a);
-    let differences = differences_in_window(&b, &a, &Interval::whole())?;
-    assert!(rt; differences == IntervalSet::empty(alloc));
+fn ends_of_unsigned_bounds(rt: HostRuntime) {
+    let (a, b): (&[(u8, u8)], &[(u8, u8)]) = (&[(250, 254)], &[(0, 1), (10, 10)]);
+    let window = interval_of(&rt, (252, 254));
+    check_set(&rt, Combined::Sum, [a, b], window, &[(252, 254)]);
+    check_set(&rt, Combined::Sum, [a, b], Interval::whole(), a);
+    check_set(&rt, Combined::Difference, [b, a], Interval::whole(), &[]);
     // A crossed window may have bounds that are outside the range.
-    let sums = sums_in_window(&a, &b, &Interval::new(255, 0))?;
-    assert!(rt; sums == IntervalSet::empty(alloc));
-
-    let a: IntervalSet<i8> = [(-127, -127), (0, 0)].to_interval_set(alloc)?;
-    let b: IntervalSet<i8> = IntervalSet::new(alloc, -1, 0)?;
-    let sums = sums_in_window(&a, &b, &Interval::new(-127, -2))?;
-    assert!(rt; sums == IntervalSet::new(alloc, -127, -127)?);
-    let none = IntervalSet::empty(alloc);
-    assert!(rt; sums_in_window(&none, &a, &Interval::whole())? == none);
-    assert!(rt; differences_in_window(&a, &none, &Interval::whole())? == none);
-    Ok(())
+    let crossed = interval_of(&rt, (255, 0));
+    check_set(&rt, Combined::Sum, [a, b], crossed, &[]);
 }
 
-// The members of a set among the sums of `several_runs`, and among the differences.
 #[test]
-fn members_that_are_kept(rt: HostRuntime) -> Result<(), Fail> {
-    let alloc = rt.alloc();
-    let a: IntervalSet<i16> = [(0, 0), (10, 12), (90, 95)].to_interval_set(alloc)?;
-    let b: IntervalSet<i16> = [(1, 2), (50, 60)].to_interval_set(alloc)?;
-    let x: IntervalSet<i16> = [(0, 3), (11, 20), (70, 71), (100, 200)].to_interval_set(alloc)?;
-    text_is(
-        &rt,
-        &kept(&x, &a, &b, Combined::Sum)?,
+fn ends_of_signed_bounds(rt: HostRuntime) {
+    let (a, b): (&[(i8, i8)], &[(i8, i8)]) = (&[(-127, -127), (0, 0)], &[(-1, 0)]);
+    let window = interval_of(&rt, (-127, -2));
+    check_set(&rt, Combined::Sum, [a, b], window, &[(-127, -127)]);
+    check_set(&rt, Combined::Sum, [&[], a], Interval::whole(), &[]);
+    check_set(&rt, Combined::Difference, [a, &[]], Interval::whole(), &[]);
+}
+
+// The runs of a set, and the text of its members among the sums of `SEVERAL_RUNS`, or among the
+// differences.
+const KEPT: [(&[(i16, i16)], Combined, &str); 5] = [
+    (
+        &[(0, 3), (11, 20), (70, 71), (100, 200)],
+        Combined::Sum,
         "{[1..2][11..14][70..71][140..155]}",
-    )?;
-    text_is(&rt, &kept(&x, &a, &b, Combined::Difference)?, "[11..11]")?;
-    let x = IntervalSet::new(alloc, 60, 93)?;
-    text_is(&rt, &kept(&x, &a, &b, Combined::Sum)?, "{[60..72][91..93]}")?;
-    text_is(&rt, &kept(&x, &a, &b, Combined::Difference)?, "[88..93]")?;
-    let x = IntervalSet::empty(alloc);
-    text_is(&rt, &kept(&x, &a, &b, Combined::Sum)?, "{}")?;
-    Ok(())
+    ),
+    (
+        &[(0, 3), (11, 20), (70, 71), (100, 200)],
+        Combined::Difference,
+        "[11..11]",
+    ),
+    (&[(60, 93)], Combined::Sum, "{[60..72][91..93]}"),
+    (&[(60, 93)], Combined::Difference, "[88..93]"),
+    (&[], Combined::Sum, "{}"),
+];
+
+#[test]
+fn members_that_are_kept(rt: HostRuntime) {
+    let [a, b] = SEVERAL_RUNS;
+    let (a, b) = (set_of(&rt, a), set_of(&rt, b));
+    for (x, op, text) in KEPT {
+        let members = kept(&set_of(&rt, x), &a, &b, op);
+        check_text(&rt, &made(&rt, members), text);
+    }
+}
+
+/// What lies in a window is the members of `all`, clipped.
+fn check_clipped(
+    rt: &(impl Alloc<A = Global> + Abort),
+    op: Combined,
+    [a, b, all]: [&IntervalSet<i8>; 3],
+    bounds: (i8, i8),
+) {
+    let clipped = made(rt, all.intersection(&set_of(rt, &[bounds])));
+    let found = in_window(rt, op, a, b, interval_of(rt, bounds));
+    check_same(rt, &found, &clipped);
 }
 
 // What lies in a window is what `add_within` and `sub_within` answer, clipped.
 #[test]
-fn every_window(rt: HostRuntime) -> Result<(), Fail> {
-    let a: IntervalSet<i8> = [(-9, -7), (-2, -2), (0, 1), (6, 9)].to_interval_set(rt.alloc())?;
-    let b: IntervalSet<i8> = [(-8, -8), (-5, -3), (4, 4), (7, 8)].to_interval_set(rt.alloc())?;
-    let (sums, _) = add_within(&a, &b)?;
-    let (differences, _) = sub_within(&a, &b)?;
+fn every_window(rt: HostRuntime) {
+    let a = &set_of(&rt, &[(-9, -7), (-2, -2), (0, 1), (6, 9)]);
+    let b = &set_of(&rt, &[(-8, -8), (-5, -3), (4, 4), (7, 8)]);
+    let (sums, _) = &made(&rt, add_within(a, b));
+    let (differences, _) = &made(&rt, sub_within(a, b));
     for lower in -20i8..20 {
         for upper in -20i8..20 {
-            if Interval::in_range(lower, upper) {
-                let window = Interval::new(lower, upper);
-                let all: IntervalSet<i8> = (lower, upper).to_interval_set(rt.alloc())?;
-                assert!(rt; sums_in_window(&a, &b, &window)? == sums.intersection(&all)?);
-                let made = differences_in_window(&a, &b, &window)?;
-                assert!(rt; made == differences.intersection(&all)?);
-            }
+            check_clipped(&rt, Combined::Sum, [a, b, sums], (lower, upper));
+            check_clipped(
+                &rt,
+                Combined::Difference,
+                [a, b, differences],
+                (lower, upper),
+            );
         }
     }
-    Ok(())
+}
+
+/// The answer is this set, and tells whether it is cut.
+fn check_cut(
+    rt: &impl Abort,
+    answer: Result<(IntervalSet<i8>, bool), AllocError>,
+    wanted: &IntervalSet<i8>,
+    is_wanted_cut: bool,
+) {
+    let (found, is_cut) = made(rt, answer);
+    assert!(rt; found == *wanted && is_cut == is_wanted_cut);
 }
 
 // The empty set, and the whole range.
 #[test]
-fn sets_with_no_run(rt: HostRuntime) -> Result<(), Fail> {
-    let none: &IntervalSet<i8> = &IntervalSet::empty(rt.alloc());
-    let whole: &IntervalSet<i8> = &IntervalSet::new(rt.alloc(), -127, 127)?;
-    let (sums, is_cut) = add_within(none, whole)?;
-    assert!(rt; sums == *none && !is_cut);
-    let (differences, is_cut) = sub_within(whole, none)?;
-    assert!(rt; differences == *none && !is_cut);
-    let (sums, is_cut) = add_within(whole, whole)?;
-    assert!(rt; sums == *whole && is_cut);
-    Ok(())
+fn sets_with_no_run(rt: HostRuntime) {
+    let none = &IntervalSet::empty(rt.alloc());
+    let whole = &set_of(&rt, &[(-127, 127)]);
+    check_cut(&rt, add_within(none, whole), none, false);
+    check_cut(&rt, sub_within(whole, none), none, false);
+    check_cut(&rt, add_within(whole, whole), whole, true);
 }
 
 /// `image`, unless an interval is empty.
@@ -204,15 +226,17 @@ fn image_if_filled(
     Some(image(a, b, op, window))
 }
 
+/// The sums, or the differences, of [3..5] and [10..20] that are in a window.
+fn check_image(rt: &impl Abort, op: Combined, bounds: (i16, i16), wanted: Option<Interval<i16>>) {
+    let (a, b) = (interval_of(rt, (3, 5)), interval_of(rt, (10, 20)));
+    assert!(rt; image_if_filled(a, b, op, interval_of(rt, bounds)) == wanted);
+}
+
 // The sums are [13..25], and the differences [-17..-5].
 #[test]
-fn two_intervals(rt: HostRuntime) -> Result<(), Fail> {
-    let (a, b): (Interval<i16>, Interval<i16>) = (Interval::new(3, 5), Interval::new(10, 20));
-    let window = Interval::new(14, 18);
-    assert!(rt; image_if_filled(a, b, Combined::Sum, window) == Some(window));
-    let differences = image_if_filled(a, b, Combined::Difference, Interval::new(-9, 40));
-    assert!(rt; differences == Some(Interval::new(-9, -5)));
-    let crossed = Interval::new(18, 14);
-    assert!(rt; image_if_filled(a, b, Combined::Sum, crossed).is_none());
-    Ok(())
+fn two_intervals(rt: HostRuntime) {
+    let (below, within) = (interval_of(&rt, (-9, -5)), interval_of(&rt, (14, 18)));
+    check_image(&rt, Combined::Sum, (14, 18), Some(within));
+    check_image(&rt, Combined::Difference, (-9, 40), Some(below));
+    check_image(&rt, Combined::Sum, (18, 14), None);
 }
