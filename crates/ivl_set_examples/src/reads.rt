@@ -4,6 +4,9 @@ use crate::compare::{check, check_all, check_set, made, set};
 use intervallum::interval::Interval;
 use intervallum::interval_set::IntervalSet;
 use intervallum::ops::{Contains, Difference, Empty, Intersection, IsEmpty, Overlap, Range, Union};
+use intervallum::width::Width;
+use std::fmt::Debug;
+use std::process::Abort;
 
 #[test]
 fn neighbours(rt: HostRuntime) {
@@ -196,32 +199,52 @@ fn members_by_number(rt: HostRuntime) {
     check(&rt, all.rank(0), 9_223_372_036_854_775_807);
 }
 
+/// The end from which a member is taken.
+enum End {
+    First,
+    Last,
+}
+
+/// Members of a set are taken, each from its end, and are those that are wanted.
+fn check_taken<B: Width + Debug>(rt: &impl Abort, a: IntervalSet<B>, taken: &[(End, Option<B>)]) {
+    let mut left = a.members();
+    for (end, wanted) in taken {
+        let member = match end {
+            End::First => left.next(),
+            End::Last => left.next_back(),
+        };
+        check(rt, member, *wanted);
+    }
+}
+
 #[test]
 fn members_one_by_one(rt: HostRuntime) {
-    let a = set(&rt, &[(1, 2), (5, 6)]);
-    let mut left = a.members();
-    check_all(
+    check_taken(
         &rt,
+        set(&rt, &[(1, 2), (5, 6)]),
         &[
-            left.next(),
-            left.next_back(),
-            left.next(),
-            left.next_back(),
-            left.next_back(),
-            left.next(),
+            (End::First, Some(1)),
+            (End::Last, Some(6)),
+            (End::First, Some(2)),
+            (End::Last, Some(5)),
+            (End::Last, None),
+            (End::First, None),
         ],
-        &[Some(1), Some(6), Some(2), Some(5), None, None],
     );
-    let a = set(&rt, &[(1, 1), (5, 6)]);
-    let mut left = a.members();
-    check_all(&rt, &[left.next(), left.next()], &[Some(1), Some(5)]);
-    let a = set(&rt, &[(1, 2), (5, 5)]);
-    let mut left = a.members();
-    check_all(
+    check_taken(
         &rt,
-        &[left.next_back(), left.next_back()],
-        &[Some(5), Some(2)],
+        set(&rt, &[(1, 1), (5, 6)]),
+        &[(End::First, Some(1)), (End::First, Some(5))],
     );
+    check_taken(
+        &rt,
+        set(&rt, &[(1, 2), (5, 5)]),
+        &[(End::Last, Some(5)), (End::Last, Some(2))],
+    );
+    let none = IntervalSet::<i32>::empty(rt.alloc());
+    check_taken(&rt, none, &[(End::First, None)]);
+    let none = IntervalSet::<i32>::empty(rt.alloc());
+    check_taken(&rt, none, &[(End::Last, None)]);
 }
 
 #[test]
@@ -232,12 +255,6 @@ fn lists_of_members(rt: HostRuntime) {
     check_all(&rt, &all, &[1, 2, 5, 6]);
     let descending: Vec<i32> = made(&rt, a.members().rev().collect(alloc));
     check_all(&rt, &descending, &[6, 5, 2, 1]);
-    let none = IntervalSet::<i32>::empty(alloc);
-    check_all(
-        &rt,
-        &[none.members().next(), none.members().next_back()],
-        &[None, None],
-    );
 }
 
 #[test]
@@ -258,39 +275,41 @@ fn clones_of_members_that_are_left(rt: HostRuntime) {
 
 #[test]
 fn members_at_the_ends_of_bytes(rt: HostRuntime) {
-    let bytes = made(&rt, IntervalSet::<u8>::whole(rt.alloc()));
-    let mut left = bytes.members();
-    check_all(&rt, &[left.next(), left.next_back()], &[Some(0), Some(254)]);
-    let top = set::<u8>(&rt, &[(253, 254)]);
-    let mut left = top.members();
-    check_all(
+    check_taken(
         &rt,
-        &[left.next(), left.next(), left.next()],
-        &[Some(253), Some(254), None],
+        made(&rt, IntervalSet::<u8>::whole(rt.alloc())),
+        &[(End::First, Some(0)), (End::Last, Some(254))],
+    );
+    check_taken(
+        &rt,
+        set::<u8>(&rt, &[(253, 254)]),
+        &[
+            (End::First, Some(253)),
+            (End::First, Some(254)),
+            (End::First, None),
+        ],
     );
 }
 
 #[test]
 fn members_at_the_ends_of_types(rt: HostRuntime) {
-    let seven = made(&rt, IntervalSet::singleton(rt.alloc(), 7));
-    let mut one = seven.members();
-    check_all(
+    check_taken(
         &rt,
-        &[one.next_back(), one.next(), one.next_back()],
-        &[Some(7), None, None],
+        made(&rt, IntervalSet::singleton(rt.alloc(), 7)),
+        &[(End::Last, Some(7)), (End::First, None), (End::Last, None)],
     );
-    let signed = made(&rt, IntervalSet::<i8>::whole(rt.alloc()));
-    let mut left = signed.members();
-    check_all(
+    check_taken(
         &rt,
-        &[left.next(), left.next_back()],
-        &[Some(-127), Some(127)],
+        made(&rt, IntervalSet::<i8>::whole(rt.alloc())),
+        &[(End::First, Some(-127)), (End::Last, Some(127))],
     );
-    let top = set(&rt, &[(u64::MAX - 2, u64::MAX - 1)]);
-    let mut left = top.members();
-    check_all(
+    check_taken(
         &rt,
-        &[left.next(), left.next(), left.next()],
-        &[Some(u64::MAX - 2), Some(u64::MAX - 1), None],
+        set(&rt, &[(u64::MAX - 2, u64::MAX - 1)]),
+        &[
+            (End::First, Some(u64::MAX - 2)),
+            (End::First, Some(u64::MAX - 1)),
+            (End::First, None),
+        ],
     );
 }
