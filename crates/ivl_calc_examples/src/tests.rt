@@ -6,7 +6,6 @@ mod commands;
 mod ends;
 mod refusals;
 
-use intervallum::interval_set::IntervalSet;
 use intervallum::width::Width;
 use ivl_calc::{Calc, Command, Reply};
 use std::alloc::{AllocError, Global};
@@ -18,25 +17,20 @@ fn made<T: Drop>(rt: &impl Abort, made: Result<T, AllocError>) -> T {
     made.expect(rt, "memory is left")
 }
 
-/// The set in a register, which is there.
-fn register<'a, B: Width>(
-    rt: &impl Abort,
-    calc: &'a Calc<B>,
-    register: usize,
-) -> &'a IntervalSet<B> {
-    calc.get(register).expect(rt, "the register is there")
-}
-
 /// The set in a register is printed as a text.
 fn check_register<B: Width + Display>(
     rt: &(impl Alloc<A = Global> + Abort),
     calc: &Calc<B>,
-    number: usize,
+    register: usize,
     text: &str,
 ) {
-    let set = register(rt, calc, number);
-    let printed = made(rt, format!(in rt.alloc(); "{set}"));
-    assert_eq!(rt; printed.as_str(), text);
+    match calc.get(register) {
+        Some(set) => {
+            let printed = made(rt, format!(in rt.alloc(); "{set}"));
+            assert_eq!(rt; printed.as_str(), text);
+        }
+        None => assert!(rt; false, "there is no register {register}"),
+    }
 }
 
 /// A command is answered by a reply.
@@ -50,20 +44,6 @@ where
     B::Output: Debug,
 {
     assert_eq!(rt; calc.apply(&command), reply);
-}
-
-/// Commands that are run together are answered by these replies.
-fn check_replies<B: Width + Debug>(
-    rt: &impl Abort,
-    calc: &mut Calc<B>,
-    commands: &[Command<B>],
-    wanted: &[Reply<B>],
-)
-where
-    B::Output: Debug,
-{
-    let replies = made(rt, calc.run(commands));
-    assert_eq!(rt; replies.as_slice(), wanted);
 }
 
 /// Pairs are put into a register.

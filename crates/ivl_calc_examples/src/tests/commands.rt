@@ -1,5 +1,5 @@
 //! Each command where nothing is refused.
-use super::{check_done, check_register, check_replies, check_reply, made, set};
+use super::{check_done, check_register, check_reply, made, set};
 use intervallum::interval::Interval;
 use intervallum::ops::Range;
 use ivl_calc::{Calc, Command, Reply};
@@ -131,6 +131,7 @@ fn questions_are_answered(rt: HostRuntime) {
         Command::Meets(1, 0),
         Command::Show(0),
     ];
+    let replies = made(&rt, calc.run(&commands));
     let runs = [Interval::new(1, 2), Interval::new(5, 6)];
     let wanted = [
         Reply::Done,
@@ -146,7 +147,7 @@ fn questions_are_answered(rt: HostRuntime) {
         Reply::Flag(false),
         Reply::Runs(made(&rt, Vec::from_slice(alloc, &runs))),
     ];
-    check_replies(&rt, &mut calc, &commands, &wanted);
+    assert_eq!(rt; replies.as_slice(), wanted.as_slice());
 }
 
 #[test]

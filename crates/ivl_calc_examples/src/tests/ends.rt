@@ -1,13 +1,14 @@
 //! Sums and differences at both ends of small types.
-use super::{check_register, check_reply, made, register, set};
+use super::{check_register, check_reply, made, set};
 use intervallum::interval_set::IntervalSet;
 use intervallum::width::Width;
 use ivl_calc::store::{Constraint, Store};
 use ivl_calc::within::{add_within, sub_within};
 use ivl_calc::{Calc, Command, Reply};
-use std::alloc::{AllocError, Global};
+use std::alloc::Global;
 use std::fmt::Debug;
 use std::process::Abort;
+use std::test::Fail;
 
 /// The least and the greatest of some numbers.
 type Ends = (i128, i128);
@@ -167,38 +168,33 @@ fn check_sums(rt: &impl Abort, a: &IntervalSet<u8>, b: &IntervalSet<u8>, sums: &
     assert!(rt; made(rt, sub_within(sums, b)).0 == *a);
 }
 
-/// All values, and then copies of two sets.
-fn domains(
-    rt: &(impl Alloc<A = Global> + Abort),
-    b: &IntervalSet<u8>,
-    sums: &IntervalSet<u8>,
-) -> Result<Vec<IntervalSet<u8>>, AllocError> {
-    let all = made(rt, IntervalSet::new(rt.alloc(), 0, 254));
-    let (b, sums) = (made(rt, b.try_clone()), made(rt, sums.try_clone()));
-    Ok(vec![in rt.alloc(); all, b, sums]?)
-}
-
 /// Of all values, those are left that the second set takes to the third: the first set.
 fn check_kept(
     rt: &(impl Alloc<A = Global> + Abort),
     a: &IntervalSet<u8>,
     b: &IntervalSet<u8>,
     sums: &IntervalSet<u8>,
-) {
-    let mut store = Store::new(rt.alloc(), made(rt, domains(rt, b, sums)));
+) -> Result<(), Fail> {
+    let all = made(rt, IntervalSet::new(rt.alloc(), 0, 254));
+    let copies = (made(rt, b.try_clone()), made(rt, sums.try_clone()));
+    let domains = vec![in rt.alloc(); all, copies.0, copies.1]?;
+    let mut store = Store::new(rt.alloc(), domains);
     assert_eq!(rt; store.narrow(&Constraint { x: 0, y: 1, z: 2 }), Ok(true));
     assert!(rt; store.domains()[0] == *a);
+    Ok(())
 }
 
 // The sums in a register are those of `within`, and what a store keeps of them is the register that was added to.
 #[test]
-fn sets_of_registers(rt: HostRuntime) {
+fn sets_of_registers(rt: HostRuntime) -> Result<(), Fail> {
     let mut calc: Calc<u8> = made(&rt, Calc::new(rt.alloc(), 3));
     set(&rt, &mut calc, 0, &[(240, 250)]);
     set(&rt, &mut calc, 1, &[(4, 4)]);
     check_reply(&rt, &mut calc, Command::Plus(2, 0, 1), Reply::Cut(false));
-    let (a, b) = (register(&rt, &calc, 0), register(&rt, &calc, 1));
-    let sums = register(&rt, &calc, 2);
+    let (Some(a), Some(b), Some(sums)) = (calc.get(0), calc.get(1), calc.get(2)) else {
+        assert!(rt; false, "all registers are there");
+        return Ok(());
+    };
     check_sums(&rt, a, b, sums);
-    check_kept(&rt, a, b, sums);
+    check_kept(&rt, a, b, sums)
 }
