@@ -2,7 +2,7 @@
 ghost use Rattle.std.specs.Prelude.{negsuc, pos, refl};
 ghost use Rattle.std.proofs.Common.{rules};
 
-use intervallum::width::Width;
+use ivl_interval::width::Width;
 use std::fmt;
 use std::num::ParseIntError;
 use std::str::FromStr;

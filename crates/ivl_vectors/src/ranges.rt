@@ -3,8 +3,8 @@ ghost use Rattle.std.specs.Prelude.{◌≡◌, negsuc, pos, codes, IfOk, string_
 
 use crate::bit::Bit;
 use crate::narrow::Narrow;
-use intervallum::interval::Interval;
-use intervallum::ops::{Cardinality, Whole};
+use ivl_interval::interval::Interval;
+use ivl_interval::ops::{Cardinality, Whole};
 use std::alloc::{AllocError, Global};
 
 /// Returns the range of [`Bit`].

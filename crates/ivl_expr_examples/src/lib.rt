@@ -1,5 +1,0 @@
-//! Expressions by example. These tests stand in a crate of their own, so that they do not prove `eval` once more.
-#![tactic(auto)]
-
-#[cfg(test)]
-mod tests;
