@@ -1,17 +1,17 @@
 //! The calls over u64, whose sets range from 0 to `UINT64_MAX - 1`.
 ghost use Rattle.std.specs.Prelude.{◌≡◌, ◌↔◌, false, IsTrue, pos};
 ghost use Rattle.ivl_laws.specs.Sets.{AtLeast, Complement, Differences, HasSome, Intersection, IsBetween, IsSubset, SameMembers, Sums, SymmetricDifference, Union, Without};
-ghost use Rattle.ivl_c.specs.Answers.{AnswersProducts, AnswersQuestion, AnswersSet, AnswersSize};
-ghost use Rattle.ivl_c.specs.Finding.{AnswersFit, AnswersNext};
-ghost use Rattle.ivl_c.specs.Lists.{IsInOrder, members_u64, pair_u64, pairs_u64, range_u64};
+ghost use Rattle.ivl_lists.specs.Answers.{AnswersProducts, AnswersQuestion, AnswersSet, AnswersSize};
+ghost use Rattle.ivl_lists.specs.Finding.{AnswersFit, AnswersNext};
+ghost use Rattle.ivl_lists.specs.Lists.{IsInOrder, members_u64, pair_u64, pairs_u64, range_u64};
 
-use crate::adding::{Adding, of_members};
-use crate::asking::{Asking, ask, count};
-use crate::finding::{first_fit, next_from};
-use crate::making::{OfOne, OfTwo, of_one, of_two};
-use crate::multiplying::products;
-use crate::run::RunU64;
-use crate::{reading, searching};
+use ivl_lists::adding::{Adding, of_members};
+use ivl_lists::asking::{Asking, ask, count};
+use ivl_lists::finding::{first_fit, next_from};
+use ivl_lists::making::{OfOne, OfTwo, of_one, of_two};
+use ivl_lists::multiplying::products;
+use ivl_lists::run::RunU64;
+use ivl_lists::{reading, searching};
 use std::alloc::Global;
 
 /// Writes the members of a list as a list of runs. `O(n log n)`.
