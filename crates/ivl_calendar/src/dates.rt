@@ -10,10 +10,6 @@ use jiff::civil::Date;
 use std::alloc::{AllocError, Global};
 
 /// Returns the number of a day.
-///
-/// ```
-/// assert_eq!(rt; day_of(date(2000, 3, 1)), 11017);
-/// ```
 pub fn day_of(date: Date) -> i32
     ensures value { result ≡ epoch_day date }
     ensures bound { IsEpochDay result }
@@ -23,11 +19,6 @@ pub fn day_of(date: Date) -> i32
 
 /// Returns the date with this number, or `None` if it is outside the calendar of `jiff`, which spans the years -9999 to
 /// 9999.
-///
-/// ```
-/// assert!(rt; date_of(11017) == Some(date(2000, 3, 1)));
-/// assert!(rt; date_of(2932896).is_some() && date_of(2932897).is_none());
-/// ```
 pub fn date_of(day: i32) -> Option<Date>
     ensures value { IfSome result (λ date. epoch_day date ≡ day) }
     ensures within { IsSome result ↔ IsEpochDay day }
@@ -37,11 +28,6 @@ pub fn date_of(day: i32) -> Option<Date>
 }
 
 /// Returns the number of the day whose date a word is, or `None` if it is not a date.
-///
-/// ```
-/// assert!(rt; day_from("2000-03-01") == Some(11017));
-/// assert!(rt; day_from("2023-02-29").is_none(), "there is no such day");
-/// ```
 pub fn day_from(word: &str) -> Option<i32>
     ensures value { result ≡ day_number_of word.now }
     ensures bound { IfSome result IsEpochDay }
@@ -51,11 +37,6 @@ pub fn day_from(word: &str) -> Option<i32>
 }
 
 /// Returns the days from one date to another, or `None` if a word is not a date or they are not in order.
-///
-/// ```
-/// assert!(rt; days_from("1970-01-01", "2000-03-01") == Some(Interval::new(0, 11017)));
-/// assert!(rt; days_from("2023-03-01", "2023-02-28").is_none());
-/// ```
 pub fn days_from(first: &str, last: &str) -> Option<Interval<i32>>
     ensures { result ≡ days_between first.now last.now }
 {
@@ -69,11 +50,6 @@ pub fn days_from(first: &str, last: &str) -> Option<Interval<i32>>
 
 /// Returns the text of the days of an interval: `none` if it is empty, or if one of its ends is outside the calendar of
 /// `jiff`. Fails only if allocation fails.
-///
-/// ```
-/// let text = interval_text(alloc, &Interval::new(-1, 59))?;
-/// assert_eq!(rt; text.as_str(), "1969-12-31 to 1970-03-01");
-/// ```
 pub fn interval_text(alloc: Global, days: &Interval<i32>) -> Result<String, AllocError> {
     if days.is_empty() {
         return String::from_str(alloc, "none");
@@ -86,10 +62,6 @@ pub fn interval_text(alloc: Global, days: &Interval<i32>) -> Result<String, Allo
 
 /// Returns the text of the runs of a set, separated by commas, or `none` if the set is empty. Fails only if allocation
 /// fails.
-///
-/// ```
-/// assert_eq!(rt; set_text(alloc, &IntervalSet::empty(alloc))?.as_str(), "none");
-/// ```
 pub fn set_text(alloc: Global, days: &IntervalSet<i32>) -> Result<String, AllocError> {
     let mut text = String::new(alloc);
     for run in days.iter() {

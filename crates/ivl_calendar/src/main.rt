@@ -6,8 +6,6 @@
 mod dates;
 mod requests;
 mod rooms;
-#[cfg(test)]
-mod tests;
 
 use anyhow::Result;
 use requests::Calendar;

@@ -12,13 +12,6 @@ use std::alloc::{AllocError, Global};
 use std::marker::Model;
 
 /// The days on which a room is busy, as numbers of days. A contract sees the list of their runs.
-///
-/// ```
-/// let mut room = Room::new(alloc);
-/// assert!(rt; room.book(Interval::new(1, 10))? && room.book(Interval::new(14, 20))?);
-/// assert!(rt; !room.book(Interval::new(20, 22))?, "day 20 is taken");
-/// assert!(rt; room.first_gap(Interval::new(1, 365), 3)? == Some(Interval::new(11, 13)));
-/// ```
 #[derive(Drop)]
 pub struct Room {
     busy: IntervalSet<i32>,
@@ -38,13 +31,6 @@ impl Room {
         Room {
             busy: IntervalSet::empty(alloc),
         }
-    }
-
-    /// Returns the days on which the room is busy.
-    pub fn busy(&self) -> &IntervalSet<i32>
-        ensures { result.now ≡ self.now }
-    {
-        &self.busy
     }
 
     /// Returns the days of a window on which the room is free. `O(log n + k)`, where `k` of the `n` runs of busy days
@@ -93,13 +79,6 @@ impl Room {
 }
 
 /// Returns the days of a window on which all rooms are free. Fails only if allocation fails.
-///
-/// ```
-/// let (mut blue, mut red) = (Room::new(alloc), Room::new(alloc));
-/// assert!(rt; blue.book(Interval::new(1, 10))? && red.book(Interval::new(5, 30))?);
-/// let free = free_in_all(alloc, &[blue, red], Interval::new(1, 365))?;
-/// assert!(rt; free == IntervalSet::new(alloc, 31, 365)?);
-/// ```
 pub fn free_in_all(
     alloc: Global,
     rooms: &[Room],

@@ -1,11 +1,16 @@
 //! Hands out TCP ports from 1024 to 65535, one request per line: `take 8` takes the eight lowest consecutive free
 //! ports, `give 1024 1031` gives ports back, `free` prints the free ports.
+//!
+//! ```text
+//! take 8              [1024..1031]
+//! take 2              [1032..1033]
+//! give 1024 1031      ok
+//! free                64510 free: {[1024..1031][1034..65535]}
+//! ```
 #![tactic(auto)]
 
 mod ports;
 mod requests;
-#[cfg(test)]
-mod tests;
 
 use anyhow::Result;
 use ports::Ports;

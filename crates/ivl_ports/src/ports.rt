@@ -12,14 +12,6 @@ use std::alloc::{AllocError, Global};
 use std::marker::Model;
 
 /// The free ports. A contract sees the list of their runs.
-///
-/// ```
-/// let mut ports = Ports::new(alloc, 1024, 2047)?;
-/// assert!(rt; ports.take(8)? == Some(Interval::new(1024, 1031)));
-/// assert!(rt; ports.take(2)? == Some(Interval::new(1032, 1033)));
-/// ports.give_back(Interval::new(1024, 1031))?;
-/// assert_eq!(rt; ports.free_count(), 1022);
-/// ```
 #[derive(Drop)]
 pub struct Ports {
     free: IntervalSet<u32>,

@@ -17,12 +17,6 @@ use std::alloc::{AllocError, Global};
 /// # Errors
 ///
 /// Fails only if allocation fails. A `take` or `give` may then have taken effect.
-///
-/// ```
-/// let mut ports = Ports::new(alloc, 1024, 65535)?;
-/// assert_eq!(rt; answer(alloc, &mut ports, "take 8")?.as_str(), "[1024..1031]");
-/// assert_eq!(rt; answer(alloc, &mut ports, "give 1024 1031")?.as_str(), "ok");
-/// ```
 pub fn answer(alloc: Global, ports: &mut Ports, line: &str) -> Result<String, AllocError>
     ensures changes { OnOk result (Changes (words_between line.now) ports.old ports.new) }
     ensures within { IsPortSet ports.old → IsPortSet ports.new }

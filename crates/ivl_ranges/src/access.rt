@@ -21,11 +21,6 @@ use std::alloc::{AllocError, Global};
 /// - [`EvalFault::Missing`] if there are fewer than two sets.
 /// - [`EvalFault::Range`] if some sum is outside the range of `i64`, and so no index.
 /// - [`EvalFault::Memory`] if an allocation fails.
-///
-/// ```
-/// let sets = [IntervalSet::new(alloc, 0, 7)?, IntervalSet::new(alloc, 0, 2)?];
-/// assert!(rt; is_safe(alloc, &sets, 10)? && !is_safe(alloc, &sets, 9)?);
-/// ```
 pub fn is_safe(alloc: Global, sets: &[IntervalSet<i64>], length: u32) -> Result<bool, EvalFault>
     ensures safe { IfOk result (λ r. IsTrue r ↔ IsSubset (Sums (set_at sets.now 0) (set_at sets.now 1)) (IsIndexOf length)) }
     // the error names the first set that is missing
@@ -40,11 +35,6 @@ pub fn is_safe(alloc: Global, sets: &[IntervalSet<i64>], length: u32) -> Result<
 /// `offset`, so all of `index` if `offset` is empty.
 ///
 /// `O(n)` for the `n` runs of `index`. Fails only if allocation fails.
-///
-/// ```
-/// let (index, offset) = (IntervalSet::new(alloc, 0, 7)?, IntervalSet::new(alloc, -1, 1)?);
-/// assert!(rt; safe_indexes(&index, &offset, 10)? == IntervalSet::new(alloc, 1, 7)?);
-/// ```
 pub fn safe_indexes(
     index: &IntervalSet<i64>,
     offset: &IntervalSet<i64>,

@@ -1,11 +1,16 @@
 //! Checks which accesses `a[i + k]` are within bounds, one request per line: `i 0..7` and `k -1..1 5..5` give the
 //! values that `i` and `k` may have, `length 10` gives the length of the array, and `check` prints the result.
+//!
+//! ```text
+//! i 0..7              ok
+//! k -1..1             ok
+//! length 10           ok
+//! check               safe for i in [1..7] alone
+//! ```
 #![tactic(auto)]
 
 mod access;
 mod requests;
-#[cfg(test)]
-mod tests;
 
 use anyhow::Result;
 use requests::Access;
