@@ -5,7 +5,7 @@ ghost use Rattle.ivl_laws.specs.Runs.{Covers, IsRunsOf};
 ghost use Rattle.ivl_expr.specs.Values.{Values};
 ghost use Rattle.ivl_laws.specs.Sets.{Differences, IsBetween, IsSubset, Only, Products, Sums};
 
-use crate::operand;
+use super::operand;
 use intervallum::interval_set::IntervalSet;
 use intervallum::width::Width;
 use ivl_expr::{EvalFault, Expr, eval};

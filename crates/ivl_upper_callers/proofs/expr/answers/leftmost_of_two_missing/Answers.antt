@@ -1,6 +1,6 @@
 use Rattle.std.proofs.Common.{inl, length}
-use Rattle.ivl_expr_callers.proofs.Small.{missing_left}
-use Rattle.ivl_expr_callers.proofs.answers.leftmost_of_two_missing.Goals as goal
+use Rattle.ivl_upper_callers.proofs.Small.{missing_left}
+use Rattle.ivl_upper_callers.proofs.expr.answers.leftmost_of_two_missing.Goals as goal
 
 pub returns : goal.returns
 returns g c = λ h. inl ((c.eval.ensures.missing c.args.i).1

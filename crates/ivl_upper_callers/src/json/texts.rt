@@ -5,7 +5,7 @@ ghost use Rattle.serde_json.specs.Read.{max_depth, read};
 ghost use Rattle.serde_json.specs.View.{view};
 ghost use Rattle.ivl_laws.specs.Sets.{IsBetween, SameMembers};
 
-use crate::callers::{read_by_bound, written_by_bound};
+use super::callers::{read_by_bound, written_by_bound};
 use intervallum::width::Width;
 use intervallum::{Interval, IntervalSet};
 use ivl_json::{JsonFault, JsonForm};

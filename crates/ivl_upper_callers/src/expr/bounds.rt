@@ -4,7 +4,7 @@ ghost use Rattle.ivl_laws.specs.Families.{set_at};
 ghost use Rattle.ivl_laws.specs.Runs.{Covers};
 ghost use Rattle.ivl_laws.specs.Sets.{IsSubset};
 
-use crate::answers::answer_of_a_sum;
+use super::answers::answer_of_a_sum;
 use intervallum::interval_set::IntervalSet;
 use intervallum::ops::{Contains, Subset};
 use ivl_expr::EvalFault;

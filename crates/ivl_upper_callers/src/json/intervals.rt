@@ -10,7 +10,7 @@ ghost use Rattle.ivl_json.specs.Faults.{fault_of};
 ghost use Rattle.ivl_json.specs.declared.faults.ItemFault.{ItemFault};
 ghost use Rattle.ivl_json.specs.declared.faults.JsonFault.{JsonFault};
 
-use crate::callers;
+use super::callers;
 use intervallum::Interval;
 use intervallum::width::Width;
 use ivl_json::JsonFault;

@@ -1,7 +1,7 @@
 //! Which variables and products occur in small expressions.
 ghost use Rattle.std.specs.Prelude.{◌≡◌, ◌≢◌, ◌↔◌, ◌⊎◌, IfOk, IsTrue};
 
-use crate::operand;
+use super::operand;
 use intervallum::width::Width;
 use ivl_expr::Expr;
 use std::alloc::{AllocError, Global};

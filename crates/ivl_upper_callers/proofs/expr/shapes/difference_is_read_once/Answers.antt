@@ -1,5 +1,5 @@
-use Rattle.ivl_expr_callers.proofs.Small.{read_once_of_two}
-use Rattle.ivl_expr_callers.proofs.shapes.difference_is_read_once.Goals as goal
+use Rattle.ivl_upper_callers.proofs.Small.{read_once_of_two}
+use Rattle.ivl_upper_callers.proofs.expr.shapes.difference_is_read_once.Goals as goal
 
 pub returns : goal.returns
 returns g c =

@@ -10,7 +10,7 @@ ghost use Rattle.ivl_json.specs.Writing.{interval_json};
 ghost use Rattle.ivl_json.specs.declared.faults.ItemFault.{ItemFault};
 ghost use Rattle.ivl_json.specs.declared.faults.JsonFault.{JsonFault};
 
-use crate::callers;
+use super::callers;
 use intervallum::IntervalSet;
 use intervallum::width::Width;
 use ivl_json::JsonFault;

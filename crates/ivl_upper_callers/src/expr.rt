@@ -1,9 +1,7 @@
-//! What callers of expressions can rely on, each as a function that learns it from the public contracts alone.
+//! What callers of expressions can rely on.
 //!
 //! [`bounds`] is a range analysis: it shows that no index is out of bounds. [`answers`] says in plain words what `eval`
 //! returns, and [`shapes`] what the queries of an expression return.
-#![tactic(auto)]
-
 ghost use Rattle.std.specs.Prelude.{◌≡◌, IfOk};
 
 pub mod answers;

@@ -1,6 +1,6 @@
 use Rattle.std.proofs.Common.{◌+◌, ◌<◌, length, arith}
-use Rattle.ivl_expr_callers.proofs.Small.{sum_is_below}
-use Rattle.ivl_expr_callers.proofs.bounds.item_at.Goals as goal
+use Rattle.ivl_upper_callers.proofs.Small.{sum_is_below}
+use Rattle.ivl_upper_callers.proofs.expr.bounds.item_at.Goals as goal
 
 pub bounds-items-i : goal.bounds-items-i
 bounds-items-i c = sum_is_below c.args.ranges.now c.first-item.result c.second-item.result c.args.i c.args.offset _
