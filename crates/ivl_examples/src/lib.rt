@@ -1,0 +1,18 @@
+//! The examples in the docs of sets and of the crates above them as tests, with worked examples of the latter. These tests
+//! stand in a crate of their own, so that they do not prove the calls once more.
+#![tactic(auto)]
+
+#[cfg(test)]
+mod calc;
+#[cfg(test)]
+mod compare;
+#[cfg(test)]
+mod expr;
+#[cfg(test)]
+mod json;
+#[cfg(test)]
+mod sets;
+#[cfg(test)]
+mod store;
+#[cfg(test)]
+mod within;

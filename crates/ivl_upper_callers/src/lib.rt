@@ -1,0 +1,6 @@
+//! What callers of the crates above sets can rely on, each as a function that learns it from the public contracts alone:
+//! [`json`] those of `ivl_json`, [`expr`] those of `ivl_expr`.
+#![tactic(auto)]
+
+pub mod expr;
+pub mod json;
