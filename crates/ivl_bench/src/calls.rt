@@ -32,61 +32,61 @@ fn fitting(answer: Result<Option<IntervalSet<i64>>, AllocError>) -> Result<Answe
 /// An empty set, extended by all runs.
 pub fn built(inputs: &Inputs) -> Result<Answer, AllocError> {
     let mut set = IntervalSet::empty(inputs.alloc);
-    set.extend(inputs.runs.iter().copied())?;
+    set.extend(inputs.lists.runs.iter().copied())?;
     Ok(Answer::of_set(&set))
 }
 
 pub fn paired(inputs: &Inputs) -> Result<Answer, AllocError> {
-    fitting(of_pairs(inputs.alloc, &inputs.pairs))
+    fitting(of_pairs(inputs.alloc, &inputs.lists.pairs))
 }
 
 /// A copy, extended by one run.
 pub fn extended(inputs: &Inputs) -> Result<Answer, AllocError> {
-    let mut copy = inputs.a.try_clone()?;
+    let mut copy = inputs.dense.a.try_clone()?;
     let added = [Interval::new(0, 1)];
     copy.extend(added.iter().copied())?;
     Ok(Answer::of_set(&copy))
 }
 
 pub fn cloned(inputs: &Inputs) -> Result<Answer, AllocError> {
-    set(inputs.a.try_clone())
+    set(inputs.dense.a.try_clone())
 }
 
 pub fn united(inputs: &Inputs) -> Result<Answer, AllocError> {
-    set(inputs.a.union(&inputs.b))
+    set(inputs.dense.a.union(&inputs.dense.b))
 }
 
 pub fn common(inputs: &Inputs) -> Result<Answer, AllocError> {
-    set(inputs.a.intersection(&inputs.b))
+    set(inputs.dense.a.intersection(&inputs.dense.b))
 }
 
 pub fn without(inputs: &Inputs) -> Result<Answer, AllocError> {
-    set(inputs.a.difference(&inputs.b))
+    set(inputs.dense.a.difference(&inputs.dense.b))
 }
 
 pub fn alone(inputs: &Inputs) -> Result<Answer, AllocError> {
-    set(inputs.a.symmetric_difference(&inputs.b))
+    set(inputs.dense.a.symmetric_difference(&inputs.dense.b))
 }
 
 pub fn complement(inputs: &Inputs) -> Result<Answer, AllocError> {
-    set(inputs.a.complement())
+    set(inputs.dense.a.complement())
 }
 
 pub fn shrunk(inputs: &Inputs) -> Result<Answer, AllocError> {
-    set(inputs.a.shrink_left(inputs.middle))
+    set(inputs.dense.a.shrink_left(inputs.middle))
 }
 
 pub fn plus_value(inputs: &Inputs) -> Result<Answer, AllocError> {
-    if inputs.a.fits_add(&7) {
-        set(&inputs.a + 7)
+    if inputs.dense.a.fits_add(&7) {
+        set(&inputs.dense.a + 7)
     } else {
         Ok(Answer::DoesNotFit)
     }
 }
 
 pub fn times_value(inputs: &Inputs) -> Result<Answer, AllocError> {
-    if inputs.a.fits_mul(&3) {
-        set(&inputs.a * 3)
+    if inputs.dense.a.fits_mul(&3) {
+        set(&inputs.dense.a * 3)
     } else {
         Ok(Answer::DoesNotFit)
     }
@@ -95,24 +95,24 @@ pub fn times_value(inputs: &Inputs) -> Result<Answer, AllocError> {
 /// How many of the numbers are members.
 pub fn hits(inputs: &Inputs) -> Result<Answer, AllocError> {
     let mut hits: u64 = 0;
-    for probe in &inputs.probes {
+    for probe in &inputs.lists.probes {
         // counted with no branch: one that is not foreseen costs more than a search among a few runs
-        hits = hits.saturating_add(u64::from(inputs.a.contains(probe)));
+        hits = hits.saturating_add(u64::from(inputs.dense.a.contains(probe)));
     }
     Ok(Answer::Number(hits))
 }
 
 pub fn is_equal(inputs: &Inputs) -> Result<Answer, AllocError> {
-    truth(inputs.a == inputs.clone_of_a)
+    truth(inputs.dense.a == inputs.related.clone_of_a)
 }
 
 /// Whether two sets are equal that are not.
 pub fn is_other(inputs: &Inputs) -> Result<Answer, AllocError> {
-    truth(inputs.a == inputs.b)
+    truth(inputs.dense.a == inputs.dense.b)
 }
 
 pub fn is_subset(inputs: &Inputs) -> Result<Answer, AllocError> {
-    truth(inputs.in_both.is_subset(&inputs.a))
+    truth(inputs.related.in_both.is_subset(&inputs.dense.a))
 }
 
 fn sum_of(a: &IntervalSet<i64>, b: &IntervalSet<i64>) -> Result<Answer, AllocError> {
@@ -124,12 +124,12 @@ fn sum_of(a: &IntervalSet<i64>, b: &IntervalSet<i64>) -> Result<Answer, AllocErr
 }
 
 pub fn sum(inputs: &Inputs) -> Result<Answer, AllocError> {
-    sum_of(&inputs.a, &inputs.b)
+    sum_of(&inputs.dense.a, &inputs.dense.b)
 }
 
 pub fn difference(inputs: &Inputs) -> Result<Answer, AllocError> {
-    if inputs.a.fits_sub(&inputs.b) {
-        set(&inputs.a - &inputs.b)
+    if inputs.dense.a.fits_sub(&inputs.dense.b) {
+        set(&inputs.dense.a - &inputs.dense.b)
     } else {
         Ok(Answer::DoesNotFit)
     }
@@ -144,15 +144,15 @@ fn product_of(a: &IntervalSet<i64>, b: &IntervalSet<i64>) -> Result<Answer, Allo
 }
 
 pub fn product(inputs: &Inputs) -> Result<Answer, AllocError> {
-    product_of(&inputs.a, &inputs.b)
+    product_of(&inputs.dense.a, &inputs.dense.b)
 }
 
 pub fn sparse_sum(inputs: &Inputs) -> Result<Answer, AllocError> {
-    sum_of(&inputs.sparse.left, &inputs.sparse.right)
+    sum_of(&inputs.wide.sparse.a, &inputs.wide.sparse.b)
 }
 
 pub fn sparse_product(inputs: &Inputs) -> Result<Answer, AllocError> {
-    product_of(&inputs.sparse.left, &inputs.sparse.right)
+    product_of(&inputs.wide.sparse.a, &inputs.wide.sparse.b)
 }
 
 /// How long the array is that a set is written as.
@@ -168,38 +168,38 @@ pub fn json_text(inputs: &Inputs) -> Result<Answer, AllocError> {
 }
 
 pub fn eval_sum(inputs: &Inputs) -> Result<Answer, AllocError> {
-    fitting(inputs.expressions.eval_sum(inputs.alloc))
+    fitting(inputs.forms.expressions.sum.eval(inputs.alloc))
 }
 
 pub fn eval_chain(inputs: &Inputs) -> Result<Answer, AllocError> {
-    fitting(inputs.expressions.eval_chain(inputs.alloc))
+    fitting(inputs.forms.expressions.chain.eval(inputs.alloc))
 }
 
 pub fn united_few(inputs: &Inputs) -> Result<Answer, AllocError> {
-    set(inputs.uneven.few.union(&inputs.uneven.many))
+    set(inputs.wide.uneven.a.union(&inputs.wide.uneven.b))
 }
 
 pub fn common_few(inputs: &Inputs) -> Result<Answer, AllocError> {
-    set(inputs.uneven.few.intersection(&inputs.uneven.many))
+    set(inputs.wide.uneven.a.intersection(&inputs.wide.uneven.b))
 }
 
 pub fn without_few(inputs: &Inputs) -> Result<Answer, AllocError> {
-    set(inputs.uneven.few.difference(&inputs.uneven.many))
+    set(inputs.wide.uneven.a.difference(&inputs.wide.uneven.b))
 }
 
 pub fn is_subset_few(inputs: &Inputs) -> Result<Answer, AllocError> {
-    truth(inputs.uneven.few.is_subset(&inputs.uneven.many))
+    truth(inputs.wide.uneven.a.is_subset(&inputs.wide.uneven.b))
 }
 
 pub fn common_value(inputs: &Inputs) -> Result<Answer, AllocError> {
-    set(inputs.a.intersection(&inputs.middle))
+    set(inputs.dense.a.intersection(&inputs.middle))
 }
 
 /// How many of the numbers have a member at them or above.
 pub fn nexts(inputs: &Inputs) -> Result<Answer, AllocError> {
     let mut nexts: u64 = 0;
-    for probe in &inputs.probes {
-        if inputs.a.next_from(*probe).is_some() {
+    for probe in &inputs.lists.probes {
+        if inputs.dense.a.next_from(*probe).is_some() {
             nexts = nexts.saturating_add(1);
         }
     }
@@ -208,17 +208,17 @@ pub fn nexts(inputs: &Inputs) -> Result<Answer, AllocError> {
 
 /// Whether so many members are consecutive somewhere.
 pub fn has_room(inputs: &Inputs) -> Result<Answer, AllocError> {
-    truth(inputs.a.first_fit(LONGER).is_some())
+    truth(inputs.dense.a.first_fit(LONGER).is_some())
 }
 
 pub fn inserted(inputs: &Inputs) -> Result<Answer, AllocError> {
-    set(edits::inserted(&inputs.a, &inputs.edits))
+    set(edits::inserted(&inputs.dense.a, &inputs.lists.edits))
 }
 
 pub fn removed(inputs: &Inputs) -> Result<Answer, AllocError> {
-    set(edits::removed(&inputs.a, &inputs.edits))
+    set(edits::removed(&inputs.dense.a, &inputs.lists.edits))
 }
 
 pub fn popped(inputs: &Inputs) -> Result<Answer, AllocError> {
-    Ok(Answer::Number(edits::popped(&inputs.a)?))
+    Ok(Answer::Number(edits::popped(&inputs.dense.a)?))
 }

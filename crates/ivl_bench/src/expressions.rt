@@ -1,5 +1,6 @@
 //! Expressions that are measured, and the sets of their variables.
 
+use crate::inputs::Pair;
 use intervallum::interval_set::IntervalSet;
 use ivl_expr::{EvalFault, Expr, eval};
 use std::alloc::{AllocError, Global};
@@ -10,44 +11,47 @@ const LINKS: u32 = 50;
 /// The sum of two sets, and the sum of many single runs.
 #[derive(Drop)]
 pub struct Expressions {
-    sum: Expr<i64>,
-    operands: Vec<IntervalSet<i64>>,
-    chain: Expr<i64>,
-    links: Vec<IntervalSet<i64>>,
+    pub sum: Evaluation,
+    pub chain: Evaluation,
 }
 
 impl Expressions {
-    pub fn new(
-        alloc: Global,
-        a: &IntervalSet<i64>,
-        b: &IntervalSet<i64>,
-    ) -> Result<Expressions, AllocError> {
+    pub fn new(alloc: Global, pair: &Pair) -> Result<Expressions, AllocError> {
         Ok(Expressions {
-            sum: sum(alloc, Expr::Var(0), Expr::Var(1))?,
-            operands: operands(alloc, a, b)?,
-            chain: chain(alloc)?,
-            links: links(alloc)?,
+            sum: Evaluation::new(
+                sum(alloc, Expr::Var(0), Expr::Var(1)),
+                operands(alloc, pair),
+            )?,
+            chain: Evaluation::new(chain(alloc), links(alloc))?,
         })
-    }
-
-    /// The sum of both sets; none where it does not fit.
-    pub fn eval_sum(&self, alloc: Global) -> Result<Option<IntervalSet<i64>>, AllocError> {
-        answer(eval(alloc, &self.sum, &self.operands))
-    }
-
-    /// The sum of the single runs; none where it does not fit.
-    pub fn eval_chain(&self, alloc: Global) -> Result<Option<IntervalSet<i64>>, AllocError> {
-        answer(eval(alloc, &self.chain, &self.links))
     }
 }
 
-fn answer(
-    set: Result<IntervalSet<i64>, EvalFault>,
-) -> Result<Option<IntervalSet<i64>>, AllocError> {
-    match set {
-        Ok(set) => Ok(Some(set)),
-        Err(EvalFault::Memory) => Err(AllocError),
-        Err(_) => Ok(None),
+/// An expression, and the sets of its variables.
+#[derive(Drop)]
+pub struct Evaluation {
+    expr: Expr<i64>,
+    sets: Vec<IntervalSet<i64>>,
+}
+
+impl Evaluation {
+    fn new(
+        expr: Result<Expr<i64>, AllocError>,
+        sets: Result<Vec<IntervalSet<i64>>, AllocError>,
+    ) -> Result<Evaluation, AllocError> {
+        Ok(Evaluation {
+            expr: expr?,
+            sets: sets?,
+        })
+    }
+
+    /// The set of the expression; none where it does not fit.
+    pub fn eval(&self, alloc: Global) -> Result<Option<IntervalSet<i64>>, AllocError> {
+        match eval(alloc, &self.expr, &self.sets) {
+            Ok(set) => Ok(Some(set)),
+            Err(EvalFault::Memory) => Err(AllocError),
+            Err(_) => Ok(None),
+        }
     }
 }
 
@@ -56,12 +60,8 @@ fn sum(alloc: Global, a: Expr<i64>, b: Expr<i64>) -> Result<Expr<i64>, AllocErro
 }
 
 /// Copies of both sets.
-fn operands(
-    alloc: Global,
-    a: &IntervalSet<i64>,
-    b: &IntervalSet<i64>,
-) -> Result<Vec<IntervalSet<i64>>, AllocError> {
-    Ok(vec![in alloc; a.try_clone()?, b.try_clone()?]?)
+fn operands(alloc: Global, pair: &Pair) -> Result<Vec<IntervalSet<i64>>, AllocError> {
+    Ok(vec![in alloc; pair.a.try_clone()?, pair.b.try_clone()?]?)
 }
 
 /// The sum of the variables, from the left.

@@ -5,145 +5,163 @@ use crate::json::JsonInputs;
 use anyhow::{Context, Result, ensure};
 use intervallum::interval::Interval;
 use intervallum::interval_set::{IntervalSet, ToIntervalSet};
-use intervallum::ops::{Intersection, Range};
+use intervallum::ops::{Bounded, Intersection, IsEmpty, Range};
 use std::alloc::{AllocError, Global};
 
-/// The sets and numbers that the calls are given.
+/// The sets and numbers that the calls are given. What only long calls are given is in boxes, so that little is moved.
 #[derive(Drop)]
 pub struct Inputs {
     pub alloc: Global,
-    pub a: IntervalSet<i64>,
-    pub b: IntervalSet<i64>,
-    pub clone_of_a: IntervalSet<i64>,
-    pub in_both: IntervalSet<i64>,
-    /// The bounds of the runs of `a`, shuffled.
-    pub pairs: Vec<(i64, i64)>,
-    /// The runs of `a`, shuffled the same.
-    pub runs: Vec<Interval<i64>>,
-    pub probes: Vec<i64>,
-    /// The values of single edits, as many as `a` has runs.
-    pub edits: Vec<i64>,
+    pub dense: Pair,
+    pub related: Related,
+    pub lists: Box<Lists>,
     pub middle: i64,
-    pub sparse: Sparse,
-    pub uneven: Uneven,
-    pub json: JsonInputs,
-    pub expressions: Expressions,
+    pub wide: Box<Wide>,
+    pub forms: Box<Forms>,
 }
 
 impl Inputs {
     /// The operands for sets of `n` runs.
-    pub fn new(alloc: Global, n: u32) -> Result<Inputs> {
-        let (pairs, (lower, upper), a) = first(alloc, n)?;
-        let (b, clone_of_a, in_both) = second(alloc, n, &a)?;
-        let (runs, json) = written(alloc, &pairs, &a)?;
-        let (probes, edits) = values(alloc, n, lower.saturating_sub(5), upper.saturating_add(5))?;
-        let (sparse, uneven, expressions) = others(alloc, n, &a, &b)?;
-        Ok(Inputs {
+    pub fn new(alloc: Global, n: u32) -> Result<Box<Inputs>> {
+        let dense = Pair::new(dense_set(alloc, n, 1), dense_set(alloc, n, 2))?;
+        let span = Span::of(&dense.a)?;
+        let lists = Lists::new(alloc, n, span)?;
+        let inputs = Inputs {
             alloc,
-            a,
-            b,
-            clone_of_a,
-            in_both,
+            middle: span.lower.saturating_add(span.upper) / 2,
+            wide: Wide::new(alloc, n)?,
+            forms: Forms::new(alloc, &lists.runs, &dense)?,
+            related: Related::new(&dense)?,
+            dense,
+            lists,
+        };
+        Ok(Box::new(alloc, inputs)?)
+    }
+}
+
+/// Two sets that calls are given together.
+#[derive(Drop)]
+pub struct Pair {
+    pub a: IntervalSet<i64>,
+    pub b: IntervalSet<i64>,
+}
+
+impl Pair {
+    fn new(a: Result<IntervalSet<i64>>, b: Result<IntervalSet<i64>>) -> Result<Pair> {
+        Ok(Pair { a: a?, b: b? })
+    }
+}
+
+/// A copy of the first of two sets, and what both have.
+#[derive(Drop)]
+pub struct Related {
+    pub clone_of_a: IntervalSet<i64>,
+    pub in_both: IntervalSet<i64>,
+}
+
+impl Related {
+    fn new(pair: &Pair) -> Result<Related, AllocError> {
+        Ok(Related {
+            clone_of_a: pair.a.try_clone()?,
+            in_both: pair.a.intersection(&pair.b)?,
+        })
+    }
+}
+
+/// The least and the greatest number of a set.
+#[derive(Clone, Copy)]
+struct Span {
+    lower: i64,
+    upper: i64,
+}
+
+impl Span {
+    fn of(set: &IntervalSet<i64>) -> Result<Span> {
+        ensure!(!set.is_empty(), "there are no runs");
+        Ok(Span {
+            lower: set.lower(),
+            upper: set.upper(),
+        })
+    }
+
+    /// How many numbers there are from one to five above the greatest.
+    fn count_from(self, lower: i64) -> Result<u32> {
+        let upper = self.upper.saturating_add(5);
+        let count = upper.saturating_sub(lower).saturating_add(1);
+        u32::try_from(count)
+            .ok()
+            .context("the probes are too far apart")
+    }
+}
+
+/// What is made of the numbers of the first set.
+#[derive(Drop)]
+pub struct Lists {
+    /// The bounds of its runs, shuffled.
+    pub pairs: Vec<(i64, i64)>,
+    /// Its runs, shuffled the same.
+    pub runs: Vec<Interval<i64>>,
+    pub probes: Vec<i64>,
+    /// The values of single edits, as many as it has runs.
+    pub edits: Vec<i64>,
+}
+
+impl Lists {
+    fn new(alloc: Global, n: u32, span: Span) -> Result<Box<Lists>> {
+        let mut pairs = dense(alloc, n, 1)?;
+        shuffle(&mut pairs, 3);
+        let lists = Lists {
+            runs: runs_of(alloc, &pairs)?,
             pairs,
-            runs,
-            probes,
-            edits,
-            middle: lower.saturating_add(upper) / 2,
-            sparse,
-            uneven,
-            json,
-            expressions,
-        })
+            probes: probes(alloc, 1000, 5, span)?,
+            edits: probes(alloc, n, 6, span)?,
+        };
+        Ok(Box::new(alloc, lists)?)
     }
 }
 
-/// The first set of `n` runs: its pairs, shuffled, its ends, and itself.
-fn first(alloc: Global, n: u32) -> Result<(Vec<(i64, i64)>, (i64, i64), IntervalSet<i64>)> {
-    let mut pairs = dense(alloc, n, 1)?;
-    let set = set_of(alloc, &pairs)?;
-    let ends = ends(&pairs).context("there are no runs")?;
-    shuffle(&mut pairs, 3);
-    Ok((pairs, ends, set))
-}
-
-/// The lower bound of the first pair, and the upper bound of the last.
-fn ends(pairs: &[(i64, i64)]) -> Option<(i64, i64)> {
-    Some((pairs.first()?.0, pairs.last()?.1))
-}
-
-/// The second set of `n` runs, a copy of the first, and what both have.
-fn second(
-    alloc: Global,
-    n: u32,
-    first: &IntervalSet<i64>,
-) -> Result<(IntervalSet<i64>, IntervalSet<i64>, IntervalSet<i64>)> {
-    let set = set_of(alloc, &dense(alloc, n, 2)?)?;
-    let copy = first.try_clone()?;
-    let in_both = first.intersection(&set)?;
-    Ok((set, copy, in_both))
-}
-
-/// The runs of the pairs, and the JSON values of the pairs and of the set.
-fn written(
-    alloc: Global,
-    pairs: &[(i64, i64)],
-    set: &IntervalSet<i64>,
-) -> Result<(Vec<Interval<i64>>, JsonInputs)> {
-    Ok((runs_of(alloc, pairs)?, JsonInputs::new(alloc, pairs, set)?))
-}
-
-/// The probes, and the values of `n` edits.
-fn values(alloc: Global, n: u32, lower: i64, upper: i64) -> Result<(Vec<i64>, Vec<i64>)> {
-    Ok((
-        probes(alloc, 1000, 5, lower, upper)?,
-        probes(alloc, n, 6, lower, upper)?,
-    ))
-}
-
-/// What is not made of the pairs.
-fn others(
-    alloc: Global,
-    n: u32,
-    a: &IntervalSet<i64>,
-    b: &IntervalSet<i64>,
-) -> Result<(Sparse, Uneven, Expressions)> {
-    Ok((
-        Sparse::new(alloc, n)?,
-        Uneven::new(alloc)?,
-        Expressions::new(alloc, a, b)?,
-    ))
-}
-
-/// Two sets of `n` runs whose sums and products have many runs.
+/// Sets whose calls take long.
 #[derive(Drop)]
-pub struct Sparse {
-    pub left: IntervalSet<i64>,
-    pub right: IntervalSet<i64>,
+pub struct Wide {
+    /// Two sets of `n` runs whose sums and products have many runs.
+    pub sparse: Pair,
+    /// A set of 10 runs and one of 100,000.
+    pub uneven: Pair,
 }
 
-impl Sparse {
-    fn new(alloc: Global, n: u32) -> Result<Sparse> {
-        Ok(Sparse {
-            left: set_of(alloc, &apart(alloc, n, 1, n)?)?,
-            right: set_of(alloc, &apart(alloc, n, 2, 1)?)?,
-        })
+impl Wide {
+    fn new(alloc: Global, n: u32) -> Result<Box<Wide>> {
+        let wide = Wide {
+            sparse: Pair::new(apart_set(alloc, n, 1, n), apart_set(alloc, n, 2, 1))?,
+            uneven: Pair::new(dense_set(alloc, 10, 2), dense_set(alloc, 100_000, 1))?,
+        };
+        Ok(Box::new(alloc, wide)?)
     }
 }
 
-/// A set of 10 runs and one of 100,000.
+/// Other forms of the sets.
 #[derive(Drop)]
-pub struct Uneven {
-    pub few: IntervalSet<i64>,
-    pub many: IntervalSet<i64>,
+pub struct Forms {
+    pub json: JsonInputs,
+    pub expressions: Expressions,
 }
 
-impl Uneven {
-    fn new(alloc: Global) -> Result<Uneven> {
-        Ok(Uneven {
-            few: set_of(alloc, &dense(alloc, 10, 2)?)?,
-            many: set_of(alloc, &dense(alloc, 100_000, 1)?)?,
-        })
+impl Forms {
+    fn new(alloc: Global, runs: &[Interval<i64>], dense: &Pair) -> Result<Box<Forms>> {
+        let forms = Forms {
+            json: JsonInputs::new(alloc, runs, &dense.a)?,
+            expressions: Expressions::new(alloc, dense)?,
+        };
+        Ok(Box::new(alloc, forms)?)
     }
+}
+
+fn dense_set(alloc: Global, n: u32, seed: u64) -> Result<IntervalSet<i64>> {
+    set_of(alloc, &dense(alloc, n, seed)?)
+}
+
+fn apart_set(alloc: Global, n: u32, seed: u64, step: u32) -> Result<IntervalSet<i64>> {
+    set_of(alloc, &apart(alloc, n, seed, step)?)
 }
 
 /// A linear congruential generator.
@@ -205,12 +223,10 @@ fn shuffle(pairs: &mut [(i64, i64)], seed: u64) {
     }
 }
 
-/// Numbers from `lower` to `upper`.
-fn probes(alloc: Global, times: u32, seed: u64, lower: i64, upper: i64) -> Result<Vec<i64>> {
-    let count = u32::try_from(upper.saturating_sub(lower).saturating_add(1))
-        .ok()
-        .context("the probes are too far apart")?
-        .max(1);
+/// Numbers from five below the least number to five above the greatest.
+fn probes(alloc: Global, times: u32, seed: u64, span: Span) -> Result<Vec<i64>> {
+    let lower = span.lower.saturating_sub(5);
+    let count = span.count_from(lower)?.max(1);
     let mut generator = Generator::new(seed);
     let mut probes = Vec::new(alloc);
     for _ in 0..times {

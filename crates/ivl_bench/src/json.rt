@@ -2,9 +2,10 @@
 
 use crate::inputs::Inputs;
 use crate::measures::Answer;
+use intervallum::interval::Interval;
 use intervallum::interval_set::IntervalSet;
 use ivl_json::{JsonFault, JsonForm};
-use serde_json::{Value, json};
+use serde_json::Value;
 use std::alloc::{AllocError, Global};
 
 /// The values that are read and written as text.
@@ -19,28 +20,28 @@ pub struct JsonInputs {
 impl JsonInputs {
     pub fn new(
         alloc: Global,
-        pairs: &[(i64, i64)],
+        runs: &[Interval<i64>],
         set: &IntervalSet<i64>,
     ) -> Result<JsonInputs, AllocError> {
         Ok(JsonInputs {
-            pairs: array(alloc, pairs)?,
+            pairs: array(alloc, runs)?,
             written: set.to_value(alloc)?,
         })
     }
 }
 
-/// The array of the pairs.
-fn array(alloc: Global, pairs: &[(i64, i64)]) -> Result<Value, AllocError> {
-    let mut items = Vec::with_capacity(alloc, pairs.len())?;
-    for &(lower, upper) in pairs {
-        items.push(json!(in alloc; [lower, upper])?)?;
+/// The array of the pairs of bounds.
+fn array(alloc: Global, runs: &[Interval<i64>]) -> Result<Value, AllocError> {
+    let mut items = Vec::with_capacity(alloc, runs.len())?;
+    for run in runs {
+        items.push(run.to_value(alloc)?)?;
     }
     Ok(Value::from(items))
 }
 
 /// The set that the array of the pairs reads as.
 pub fn read(inputs: &Inputs) -> Result<Answer, AllocError> {
-    match IntervalSet::from_value(inputs.alloc, &inputs.json.pairs) {
+    match IntervalSet::from_value(inputs.alloc, &inputs.forms.json.pairs) {
         Ok(set) => Ok(Answer::of_set(&set)),
         Err(JsonFault::Memory) => Err(AllocError),
         Err(_) => Ok(Answer::DoesNotFit),
@@ -49,12 +50,12 @@ pub fn read(inputs: &Inputs) -> Result<Answer, AllocError> {
 
 /// The array of the runs of a set.
 pub fn written(inputs: &Inputs) -> Result<Value, AllocError> {
-    inputs.a.to_value(inputs.alloc)
+    inputs.dense.a.to_value(inputs.alloc)
 }
 
 /// The text of that array.
 pub fn text(inputs: &Inputs) -> Result<String, AllocError> {
-    inputs.json.written.to_string(inputs.alloc)
+    inputs.forms.json.written.to_string(inputs.alloc)
 }
 
 /// How long an array is.

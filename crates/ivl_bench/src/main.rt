@@ -16,11 +16,14 @@ mod timing;
 
 use anyhow::{Context, Result, bail};
 use inputs::Inputs;
-use measures::Measure;
+use measures::{Answer, Measure};
 use std::env;
-use std::rt::Clock;
+use std::rt::{Clock, Files};
 use std::time::Duration;
 use timing::Limits;
+
+/// How many runs the sets have whose calls are timed.
+const SIZES: [u32; 5] = [10, 100, 300, 1_000, 10_000];
 
 /// Prints what each call answers: its runs and its size, or its one number.
 fn print_answers(rt: &(impl Print + AllocGlobal), n: u32) -> Result<()> {
@@ -29,17 +32,21 @@ fn print_answers(rt: &(impl Print + AllocGlobal), n: u32) -> Result<()> {
 }
 
 fn print_answers_to(rt: &impl Print, n: u32, inputs: &Inputs) -> Result<()> {
-    for &measure in &Measure::ALL {
+    for &(measure, name) in &Measure::ALL {
         if measure.is_for(n) {
-            let text = measure.answer(inputs)?;
-            println!(rt; "{} {n} {text}", measure.name())?;
+            print_answer(rt, name, n, measure.run(inputs, 1)?)?;
         }
     }
     Ok(())
 }
 
+fn print_answer(rt: &impl Print, name: &str, n: u32, answer: Answer) -> Result<()> {
+    Ok(println!(rt; "{name} {n} {answer}")?)
+}
+
 /// How long calls are timed, at least so many seconds each.
-fn read_limits(seconds: &str) -> Result<Limits> {
+fn read_limits(seconds: Option<&str>) -> Result<Limits> {
+    let seconds = seconds.context("give the seconds")?;
     let seconds = seconds.parse().ok().context("reading the seconds")?;
     let least = Duration::try_from_secs_f64(seconds)
         .ok()
@@ -47,15 +54,20 @@ fn read_limits(seconds: &str) -> Result<Limits> {
     Ok(Limits::new(least))
 }
 
+fn read_greatest(greatest: Option<&str>) -> Result<u32> {
+    let greatest = greatest.context("give the greatest n")?;
+    greatest.parse().ok().context("reading the greatest n")
+}
+
 /// Prints how long each call takes, at sets of up to so many runs.
 fn print_times(
     rt: &(impl Print + AllocGlobal + Clock),
-    seconds: &str,
-    greatest: &str,
+    seconds: Option<&str>,
+    greatest: Option<&str>,
 ) -> Result<()> {
     let limits = read_limits(seconds)?;
-    let greatest: u32 = greatest.parse().ok().context("reading the greatest n")?;
-    for n in [10, 100, 300, 1_000, 10_000] {
+    let greatest = read_greatest(greatest)?;
+    for &n in &SIZES {
         if n <= greatest {
             timing::print_times(rt, n, &limits)?;
         }
@@ -65,19 +77,34 @@ fn print_times(
 
 fn main(rt: HostRuntime) -> Result<()> {
     let mut arguments = env::args(&rt)?.skip(1);
-    let Some(word) = arguments.next() else {
-        print_answers(&rt, 10)?;
-        print_answers(&rt, 100)?;
-        return stores::print_answers(&rt);
-    };
-    if word.as_str() == "store" {
-        let path = arguments.next().context("give the file of an instance")?;
-        return stores::print_times(&rt, path.as_str());
+    let (word, first, second) = (arguments.next(), arguments.next(), arguments.next());
+    obey(&rt, word.as_deref(), first.as_deref(), second.as_deref())
+}
+
+/// Does what the arguments ask for.
+fn obey(
+    rt: &(impl Print + AllocGlobal + Clock + Files),
+    word: Option<&str>,
+    first: Option<&str>,
+    second: Option<&str>,
+) -> Result<()> {
+    match word {
+        None => print_all_answers(rt),
+        Some("store") => print_store_times(rt, first),
+        Some("time") => print_times(rt, first, second),
+        Some(_) => bail!("the arguments are: time SECONDS GREATEST_N, or store FILE"),
     }
-    if word.as_str() != "time" {
-        bail!("the arguments are: time SECONDS GREATEST_N, or store FILE");
-    }
-    let seconds = arguments.next().context("give the seconds")?;
-    let greatest = arguments.next().context("give the greatest n")?;
-    print_times(&rt, seconds.as_str(), greatest.as_str())
+}
+
+fn print_store_times(
+    rt: &(impl Print + AllocGlobal + Clock + Files),
+    path: Option<&str>,
+) -> Result<()> {
+    stores::print_times(rt, path.context("give the file of an instance")?)
+}
+
+fn print_all_answers(rt: &(impl Print + AllocGlobal + Files)) -> Result<()> {
+    print_answers(rt, 10)?;
+    print_answers(rt, 100)?;
+    stores::print_answers(rt)
 }

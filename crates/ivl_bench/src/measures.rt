@@ -6,7 +6,8 @@ use anyhow::{Result, ensure};
 use intervallum::interval_set::IntervalSet;
 use intervallum::ops::Cardinality;
 use serde_json::Value;
-use std::alloc::{AllocError, Global};
+use std::alloc::AllocError;
+use std::fmt;
 
 /// A call on sets.
 #[derive(Clone, Copy)]
@@ -64,12 +65,14 @@ impl Answer {
     pub fn of_set(set: &IntervalSet<i64>) -> Answer {
         Answer::Set(set.interval_count(), set.size())
     }
+}
 
-    pub fn to_text(self, alloc: Global) -> Result<String, AllocError> {
+impl fmt::Display for Answer {
+    fn fmt<W: fmt::Write>(&self, f: &mut fmt::Formatter<W>) -> fmt::Result {
         match self {
-            Answer::Set(runs, size) => format!(in alloc; "{runs} {size}"),
-            Answer::Number(number) => format!(in alloc; "{number}"),
-            Answer::DoesNotFit => String::from_str(alloc, "does not fit"),
+            Answer::Set(runs, size) => write!(f, "{runs} {size}"),
+            Answer::Number(number) => write!(f, "{number}"),
+            Answer::DoesNotFit => write!(f, "does not fit"),
         }
     }
 }
@@ -82,86 +85,45 @@ pub enum Made {
 }
 
 impl Measure {
-    /// Every call, in the order in which they are made.
-    pub const ALL: [Measure; 36] = [
-        Measure::BuildExtend,
-        Measure::BuildPairs,
-        Measure::ExtendOne,
-        Measure::Clone,
-        Measure::Union,
-        Measure::Intersection,
-        Measure::Difference,
-        Measure::Symmetric,
-        Measure::Complement,
-        Measure::ShrinkLeft,
-        Measure::PlusValue,
-        Measure::TimesValue,
-        Measure::Contains,
-        Measure::EqualYes,
-        Measure::EqualNo,
-        Measure::Subset,
-        Measure::PlusDense,
-        Measure::MinusDense,
-        Measure::TimesDense,
-        Measure::PlusSparse,
-        Measure::TimesSparse,
-        Measure::JsonRead,
-        Measure::JsonWrite,
-        Measure::JsonText,
-        Measure::EvalSum,
-        Measure::EvalChain,
-        Measure::UnionFew,
-        Measure::IntersectionFew,
-        Measure::DifferenceFew,
-        Measure::SubsetFew,
-        Measure::IntersectionValue,
-        Measure::NextFrom,
-        Measure::FirstFit,
-        Measure::InsertRandom,
-        Measure::RemoveRandom,
-        Measure::PopFirst,
+    /// Every call and its name, in the order in which they are made.
+    pub const ALL: [(Measure, &'static str); 36] = [
+        (Measure::BuildExtend, "build_extend"),
+        (Measure::BuildPairs, "build_pairs"),
+        (Measure::ExtendOne, "extend_one"),
+        (Measure::Clone, "clone"),
+        (Measure::Union, "union"),
+        (Measure::Intersection, "intersection"),
+        (Measure::Difference, "difference"),
+        (Measure::Symmetric, "symmetric"),
+        (Measure::Complement, "complement"),
+        (Measure::ShrinkLeft, "shrink_left"),
+        (Measure::PlusValue, "plus_value"),
+        (Measure::TimesValue, "times_value"),
+        (Measure::Contains, "contains"),
+        (Measure::EqualYes, "equal_yes"),
+        (Measure::EqualNo, "equal_no"),
+        (Measure::Subset, "subset"),
+        (Measure::PlusDense, "plus_dense"),
+        (Measure::MinusDense, "minus_dense"),
+        (Measure::TimesDense, "times_dense"),
+        (Measure::PlusSparse, "plus_sparse"),
+        (Measure::TimesSparse, "times_sparse"),
+        (Measure::JsonRead, "json_read"),
+        (Measure::JsonWrite, "json_write"),
+        (Measure::JsonText, "json_text"),
+        (Measure::EvalSum, "eval_sum"),
+        (Measure::EvalChain, "eval_chain"),
+        (Measure::UnionFew, "union_few"),
+        (Measure::IntersectionFew, "intersection_few"),
+        (Measure::DifferenceFew, "difference_few"),
+        (Measure::SubsetFew, "subset_few"),
+        (Measure::IntersectionValue, "intersection_value"),
+        (Measure::NextFrom, "next_from"),
+        (Measure::FirstFit, "first_fit"),
+        (Measure::InsertRandom, "insert_random"),
+        (Measure::RemoveRandom, "remove_random"),
+        (Measure::PopFirst, "pop_first"),
     ];
-
-    pub fn name(self) -> &'static str {
-        match self {
-            Measure::BuildExtend => "build_extend",
-            Measure::BuildPairs => "build_pairs",
-            Measure::ExtendOne => "extend_one",
-            Measure::Clone => "clone",
-            Measure::Union => "union",
-            Measure::Intersection => "intersection",
-            Measure::Difference => "difference",
-            Measure::Symmetric => "symmetric",
-            Measure::Complement => "complement",
-            Measure::ShrinkLeft => "shrink_left",
-            Measure::PlusValue => "plus_value",
-            Measure::TimesValue => "times_value",
-            Measure::Contains => "contains",
-            Measure::EqualYes => "equal_yes",
-            Measure::EqualNo => "equal_no",
-            Measure::Subset => "subset",
-            Measure::PlusDense => "plus_dense",
-            Measure::MinusDense => "minus_dense",
-            Measure::TimesDense => "times_dense",
-            Measure::PlusSparse => "plus_sparse",
-            Measure::TimesSparse => "times_sparse",
-            Measure::JsonRead => "json_read",
-            Measure::JsonWrite => "json_write",
-            Measure::JsonText => "json_text",
-            Measure::EvalSum => "eval_sum",
-            Measure::EvalChain => "eval_chain",
-            Measure::UnionFew => "union_few",
-            Measure::IntersectionFew => "intersection_few",
-            Measure::DifferenceFew => "difference_few",
-            Measure::SubsetFew => "subset_few",
-            Measure::IntersectionValue => "intersection_value",
-            Measure::NextFrom => "next_from",
-            Measure::FirstFit => "first_fit",
-            Measure::InsertRandom => "insert_random",
-            Measure::RemoveRandom => "remove_random",
-            Measure::PopFirst => "pop_first",
-        }
-    }
 
     /// Whether the call is measured for sets of `n` runs: the others only where they end soon, 300
     /// runs for one call alone, and once what does not depend on `n`.
@@ -184,17 +146,11 @@ impl Measure {
     /// How many operations one run of the call stands for.
     pub fn operations(self, inputs: &Inputs) -> u64 {
         match self {
-            Measure::Contains | Measure::NextFrom => inputs.probes.len() as u64,
-            Measure::InsertRandom | Measure::RemoveRandom => inputs.edits.len() as u64,
-            Measure::PopFirst => inputs.a.size(),
+            Measure::Contains | Measure::NextFrom => inputs.lists.probes.len() as u64,
+            Measure::InsertRandom | Measure::RemoveRandom => inputs.lists.edits.len() as u64,
+            Measure::PopFirst => inputs.dense.a.size(),
             _ => 1,
         }
-    }
-
-    /// What the call answers, as text.
-    pub fn answer(self, inputs: &Inputs) -> Result<String> {
-        let answer = self.run(inputs, 1)?;
-        Ok(answer.to_text(inputs.alloc)?)
     }
 
     /// Makes what the call answers, where the time is that of making it, without dropping it.

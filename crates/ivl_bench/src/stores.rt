@@ -9,11 +9,13 @@ use intervallum::interval_set::IntervalSet;
 use ivl_store::store::callers::post_if_distinct;
 use ivl_store::store::{Constraint, Post, Store, StoreFault};
 use std::alloc::{AllocError, Global};
-use std::fs::File;
-use std::io::{BufRead, BufReader, Lines};
+use std::fs;
 use std::rt::{Clock, Files};
 use std::str::FromStr;
 use std::time::{Duration, Instant};
+
+/// The instances that are solved without arguments.
+const INSTANCES: [&str; 4] = ["chain", "random", "planted", "loop"];
 
 /// How the fixed point is reached.
 #[derive(Clone, Copy)]
@@ -43,9 +45,15 @@ struct Instance {
 
 impl Instance {
     fn read(rt: &(impl AllocGlobal + Files), path: &str) -> Result<Instance> {
-        let mut instance = Instance::empty(rt.alloc());
-        for line in lines(rt, path)? {
-            instance.add_line(rt.alloc(), line?.as_str())?;
+        let text = fs::read_to_string(rt, path)?;
+        Instance::of(rt.alloc(), text.as_str())
+    }
+
+    /// The instance that a file has written.
+    fn of(alloc: Global, text: &str) -> Result<Instance> {
+        let mut instance = Instance::empty(alloc);
+        for line in text.lines() {
+            instance.add_line(alloc, line)?;
         }
         Ok(instance)
     }
@@ -53,11 +61,15 @@ impl Instance {
     /// Adds what a line of a file has.
     fn add_line(&mut self, alloc: Global, text: &str) -> Result<()> {
         match text.split_once(' ').unwrap_or((text, "")) {
-            ("domain", runs) => self.domains.push(domain(alloc, runs)?)?,
+            ("domain", runs) => self.add_domain(domain(alloc, runs)?)?,
             ("sum", variables) => self.add_sum(constraint(alloc, variables)?)?,
             _ => bail!("no such line is known"),
         }
         Ok(())
+    }
+
+    fn add_domain(&mut self, domain: IntervalSet<i64>) -> Result<(), AllocError> {
+        Ok(self.domains.push(domain)?)
     }
 
     fn add_sum(&mut self, constraint: Constraint) -> Result<(), AllocError> {
@@ -92,10 +104,12 @@ impl Instance {
     }
 }
 
-/// The lines of a file.
-fn lines<R: AllocGlobal + Files>(rt: &R, path: &str) -> Result<Lines<BufReader<R::File>>> {
-    let file = File::open(rt, path)?;
-    Ok(BufReader::new(rt.alloc(), file)?.lines(rt.alloc()))
+/// The set of runs `l u l u ..`.
+fn domain(alloc: Global, runs: &str) -> Result<IntervalSet<i64>> {
+    if runs.is_empty() {
+        return Ok(IntervalSet::empty(alloc));
+    }
+    set_of(alloc, &pairs(alloc, &numbers(alloc, runs)?)?)
 }
 
 /// The numbers of a text, blanks between them.
@@ -104,25 +118,22 @@ where
     N::Err: Drop,
 {
     let mut numbers = Vec::new(alloc);
-    if text.is_empty() {
-        return Ok(numbers);
-    }
     for word in text.split(' ') {
         numbers.push(word.parse().ok().context("a word is no number")?)?;
     }
     Ok(numbers)
 }
 
-/// The set of runs `l u l u ..`.
-fn domain(alloc: Global, runs: &str) -> Result<IntervalSet<i64>> {
+/// The numbers two by two.
+fn pairs(alloc: Global, numbers: &[i64]) -> Result<Vec<(i64, i64)>> {
     let mut pairs = Vec::new(alloc);
-    for run in numbers(alloc, runs)?.chunks(2) {
+    for run in numbers.chunks(2) {
         match run {
             [lower, upper] => pairs.push((*lower, *upper))?,
             _ => bail!("a run has one bound"),
         }
     }
-    set_of(alloc, &pairs)
+    Ok(pairs)
 }
 
 /// The constraint of variables `x y z`.
@@ -139,13 +150,16 @@ fn constraint(alloc: Global, variables: &str) -> Result<Constraint> {
 
 /// Prints for each instance and each way how many domains are those of its `.fixed` file.
 pub fn print_answers(rt: &(impl Print + AllocGlobal + Files)) -> Result<()> {
-    for name in ["chain", "random", "planted", "loop"] {
-        for way in Way::BOTH {
-            let (is_fixed, same, count) = solved(rt, name, way)?;
-            println!(rt; "store {name} {} {is_fixed} {same} of {count}", way.name())?;
-        }
+    for name in &INSTANCES {
+        print_answers_named(rt, name)?;
     }
     Ok(())
+}
+
+fn print_answers_named(rt: &(impl Print + AllocGlobal + Files), name: &str) -> Result<()> {
+    let instance = read_named(rt, name, "txt")?;
+    let fixed = read_named(rt, name, "fixed")?;
+    print_answers_of(rt, name, &instance, &fixed)
 }
 
 fn read_named(rt: &(impl AllocGlobal + Files), name: &str, extension: &str) -> Result<Instance> {
@@ -153,14 +167,34 @@ fn read_named(rt: &(impl AllocGlobal + Files), name: &str, extension: &str) -> R
     Instance::read(rt, path.as_str())
 }
 
-/// Whether an instance reaches its fixed point, how many domains are then those of its `.fixed` file, and how many that
-/// file has.
-fn solved(rt: &(impl AllocGlobal + Files), name: &str, way: Way) -> Result<(bool, usize, usize)> {
-    let instance = read_named(rt, name, "txt")?;
-    let mut store = instance.fresh(rt.alloc())?;
+fn print_answers_of(
+    rt: &(impl Print + AllocGlobal),
+    name: &str,
+    instance: &Instance,
+    fixed: &Instance,
+) -> Result<()> {
+    for &way in &Way::BOTH {
+        let reached = solved(rt.alloc(), instance, fixed, way)?;
+        print_reached(rt, name, way, reached, fixed.domains.len())?;
+    }
+    Ok(())
+}
+
+fn print_reached(
+    rt: &impl Print,
+    name: &str,
+    way: Way,
+    (is_fixed, same): (bool, usize),
+    count: usize,
+) -> Result<()> {
+    Ok(println!(rt; "store {name} {} {is_fixed} {same} of {count}", way.name())?)
+}
+
+/// Whether an instance reaches its fixed point, and how many domains are then those of another.
+fn solved(alloc: Global, instance: &Instance, fixed: &Instance, way: Way) -> Result<(bool, usize)> {
+    let mut store = instance.fresh(alloc)?;
     let is_fixed = instance.solve(&mut store, way)?;
-    let fixed = read_named(rt, name, "fixed")?;
-    Ok((is_fixed, same_domains(&store, &fixed), fixed.domains.len()))
+    Ok((is_fixed, same_domains(&store, fixed)))
 }
 
 /// How many domains of a store are those of an instance.
@@ -176,12 +210,22 @@ fn same_domains(store: &Store<i64>, fixed: &Instance) -> usize {
 
 /// Prints for each way the least nanoseconds from fresh domains to the fixed point.
 pub fn print_times(rt: &(impl Print + AllocGlobal + Files + Clock), path: &str) -> Result<()> {
-    let instance = Instance::read(rt, path)?;
-    for way in Way::BOTH {
-        let least = least_duration(rt, &instance, way)?;
-        println!(rt; "store {path} {} {}", way.name(), least.as_nanos())?;
+    print_times_of(rt, path, &Instance::read(rt, path)?)
+}
+
+fn print_times_of(
+    rt: &(impl Print + AllocGlobal + Clock),
+    path: &str,
+    instance: &Instance,
+) -> Result<()> {
+    for &way in &Way::BOTH {
+        print_time(rt, path, way, least_duration(rt, instance, way)?)?;
     }
     Ok(())
+}
+
+fn print_time(rt: &impl Print, path: &str, way: Way, least: Duration) -> Result<()> {
+    Ok(println!(rt; "store {path} {} {}", way.name(), least.as_nanos())?)
 }
 
 /// The least of the times that it takes within a second.

@@ -1,7 +1,7 @@
 //! How long calls take.
 
 use crate::inputs::Inputs;
-use crate::measures::Measure;
+use crate::measures::{Answer, Measure};
 use anyhow::Result;
 use std::rt::Clock;
 use std::time::{Duration, Instant};
@@ -36,14 +36,17 @@ fn print_times_of(
     inputs: &Inputs,
     limits: &Limits,
 ) -> Result<()> {
-    for &measure in &Measure::ALL {
+    for &(measure, name) in &Measure::ALL {
         if measure.is_for(n) {
             let time = least_time(rt, measure, inputs, limits)?;
-            let text = measure.answer(inputs)?;
-            println!(rt; "{} {n} {time} {text}", measure.name())?;
+            print_time(rt, name, n, time, measure.run(inputs, 1)?)?;
         }
     }
     Ok(())
+}
+
+fn print_time(rt: &impl Print, name: &str, n: u32, time: u128, answer: Answer) -> Result<()> {
+    Ok(println!(rt; "{name} {n} {time} {answer}")?)
 }
 
 /// The least nanoseconds that an operation takes, of three repetitions.
@@ -103,11 +106,20 @@ fn duration_of_making(
 ) -> Result<Duration> {
     let mut time = Duration::ZERO;
     for _ in 0..count {
-        let start = Instant::now(clock)?;
-        let made = measure.make(inputs)?;
-        time = time.saturating_add(start.elapsed(clock)?);
-        drop(made);
+        time = time.saturating_add(duration_of_making_once(clock, measure, inputs)?);
     }
+    Ok(time)
+}
+
+fn duration_of_making_once(
+    clock: &impl Clock,
+    measure: Measure,
+    inputs: &Inputs,
+) -> Result<Duration> {
+    let start = Instant::now(clock)?;
+    let made = measure.make(inputs)?;
+    let time = start.elapsed(clock)?;
+    drop(made);
     Ok(time)
 }
 

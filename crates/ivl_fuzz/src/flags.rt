@@ -12,8 +12,9 @@ pub struct Flags {
     flags: [bool; COUNT],
 }
 
-fn place(value: i8) -> Option<usize> {
-    usize::try_from(i16::from(value) + 127).ok()
+/// Where the flag of a number stands; past all flags for -128, which is out of range.
+fn place(value: i8) -> usize {
+    usize::from(value.wrapping_add(127).cast_unsigned())
 }
 
 impl Flags {
@@ -24,19 +25,14 @@ impl Flags {
     }
 
     pub fn has(&self, value: i8) -> bool {
-        match place(value) {
-            Some(place) => self.flags.get(place) == Some(&true),
-            None => false,
-        }
+        self.flags.get(place(value)) == Some(&true)
     }
 
     /// Makes the number a member or not, and returns whether that changed anything.
     pub fn put(&mut self, value: i8, is_member: bool) -> bool {
         let had = self.has(value);
-        if let Some(place) = place(value) {
-            if let Some(flag) = self.flags.get_mut(place) {
-                *flag = is_member;
-            }
+        if let Some(flag) = self.flags.get_mut(place(value)) {
+            *flag = is_member;
         }
         had != self.has(value)
     }
@@ -85,7 +81,12 @@ impl Flags {
     }
 
     pub fn next_from(&self, value: i8) -> Option<i8> {
-        (-127i8..=127).find(|&other| value <= other && self.has(other))
+        for other in -127i8..=127 {
+            if value <= other && self.has(other) {
+                return Some(other);
+            }
+        }
+        None
     }
 
     pub fn previous_to(&self, value: i8) -> Option<i8> {
@@ -113,7 +114,10 @@ impl Flags {
                 run = None;
             }
         }
-        run.filter(|ends| ends.0 <= value && value <= ends.1)
+        match run {
+            Some((lower, upper)) if lower <= value && value <= upper => run,
+            _ => None,
+        }
     }
 
     /// Returns the ends of the lowest `count` consecutive members from a number up.

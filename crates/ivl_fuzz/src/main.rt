@@ -29,71 +29,124 @@ impl Generator {
     }
 
     fn next_value(&mut self) -> i8 {
-        i8::try_from(i16::from(self.next()) - 128).unwrap_or(0)
+        self.next().wrapping_sub(128).cast_signed()
+    }
+}
+
+/// The numbers that say what is done in a step: its kind, and what it is done with.
+#[derive(Clone, Copy)]
+struct Step {
+    kind: u8,
+    value: i8,
+    length: u8,
+}
+
+impl Step {
+    fn next(generator: &mut Generator) -> Step {
+        Step {
+            kind: generator.next() % 16,
+            value: generator.next_value(),
+            length: generator.next() % 12,
+        }
+    }
+
+    /// Makes the step on both, and returns whether they agree.
+    fn agrees(self, set: &mut IntervalSet<i8>, flags: &mut Flags) -> bool {
+        if self.kind < 7 {
+            edit(set, flags, self) == Ok(true) && flags.agree(set)
+        } else {
+            question(set, flags, self)
+        }
     }
 }
 
 fn main(rt: HostRuntime) -> io::Result<()> {
-    let mut generator = Generator { state: 7 };
     let mut set = IntervalSet::<i8>::empty(rt.alloc());
-    let mut flags = Flags::none();
-    let mut agreeing: u32 = 0;
-    for step in 0..STEPS {
-        let kind = generator.next() % 16;
-        let value = generator.next_value();
-        let length = generator.next() % 12;
-        let right = if kind < 7 {
-            edit(&mut set, &mut flags, kind, value, length) == Ok(true) && flags.agree(&set)
-        } else {
-            question(&set, &flags, kind, value, length) == Ok(true)
-        };
-        if right {
-            agreeing = agreeing.saturating_add(1);
-        } else {
-            println!(rt; "step {step}: {kind} {value} {length} differs")?;
-        }
-    }
+    let agreeing = agreeing_steps(&rt, &mut set)?;
     println!(rt; "{agreeing} of {STEPS} edits and questions agree; {set}")?;
     Ok(())
 }
 
+/// Makes every step on an empty set, prints those that differ, and returns how many agree.
+fn agreeing_steps(rt: &impl Print, set: &mut IntervalSet<i8>) -> io::Result<u32> {
+    let mut generator = Generator { state: 7 };
+    let mut flags = Flags::none();
+    let mut agreeing: u32 = 0;
+    for number in 0..STEPS {
+        let step = Step::next(&mut generator);
+        if step.agrees(set, &mut flags) {
+            agreeing = agreeing.saturating_add(1);
+        } else {
+            print_difference(rt, number, step)?;
+        }
+    }
+    Ok(agreeing)
+}
+
+fn print_difference(rt: &impl Print, number: u32, step: Step) -> io::Result<()> {
+    println!(rt;
+        "step {number}: {} {} {} differs",
+        step.kind, step.value, step.length
+    )
+}
+
 /// Makes one edit of both, and returns whether the results are the same.
-fn edit(
-    set: &mut IntervalSet<i8>,
-    flags: &mut Flags,
-    kind: u8,
-    value: i8,
-    length: u8,
-) -> Result<bool, AllocError> {
-    // crossed if it is 0 or 1
-    let upper = after(value, length).saturating_sub(2);
-    match kind {
-        0 if Interval::in_range(value, value) => Ok(set.insert(value)? == flags.put(value, true)),
+fn edit(set: &mut IntervalSet<i8>, flags: &mut Flags, step: Step) -> Result<bool, AllocError> {
+    let value = step.value;
+    // crossed if the length is 0 or 1
+    let upper = after(value, step.length).saturating_sub(2);
+    match step.kind {
+        0 => insert(set, flags, value),
         1 => Ok(set.remove(value)? == flags.put(value, false)),
-        2 if Interval::in_range(value, upper) => {
-            set.insert_interval(Interval::new(value, upper))?;
-            flags.put_all(value, upper, true);
-            Ok(true)
-        }
-        3 if Interval::in_range(value, upper) => {
-            set.remove_interval(Interval::new(value, upper))?;
-            flags.put_all(value, upper, false);
-            Ok(true)
-        }
+        2 => edit_run(set, flags, value, upper, true),
+        3 => edit_run(set, flags, value, upper, false),
         4 => Ok(pop(set.pop_first(), flags.nth(0), flags)),
         5 => Ok(pop(set.pop_last(), flags.previous_to(127), flags)),
-        6 if length == 0 && value > 100 => {
-            set.clear();
-            flags.put_all(-127, 127, false);
-            Ok(true)
-        }
-        _ => Ok(true),
+        _ => Ok(clear_seldom(set, flags, step)),
     }
+}
+
+/// Inserts a number that is in range into both.
+fn insert(set: &mut IntervalSet<i8>, flags: &mut Flags, value: i8) -> Result<bool, AllocError> {
+    if Interval::in_range(value, value) {
+        Ok(set.insert(value)? == flags.put(value, true))
+    } else {
+        Ok(true)
+    }
+}
+
+/// Inserts an interval that is in range into both, or removes it from both.
+fn edit_run(
+    set: &mut IntervalSet<i8>,
+    flags: &mut Flags,
+    lower: i8,
+    upper: i8,
+    is_insertion: bool,
+) -> Result<bool, AllocError> {
+    if Interval::in_range(lower, upper) {
+        let run = Interval::new(lower, upper);
+        if is_insertion {
+            set.insert_interval(run)?;
+        } else {
+            set.remove_interval(run)?;
+        }
+        flags.put_all(lower, upper, is_insertion);
+    }
+    Ok(true)
+}
+
+/// Clears both, in few of the steps.
+fn clear_seldom(set: &mut IntervalSet<i8>, flags: &mut Flags, step: Step) -> bool {
+    if step.length == 0 && step.value > 100 {
+        set.clear();
+        flags.put_all(-127, 127, false);
+    }
+    true
 }
 
 /// The number `length` after another, or the greatest.
 fn after(value: i8, length: u8) -> i8 {
-    value.saturating_add(i8::try_from(length).unwrap_or(0))
+    value.saturating_add_unsigned(length)
 }
 
 /// Removes the popped member from the flags too, and returns whether it is the right one.
@@ -104,62 +157,56 @@ fn pop(popped: Option<i8>, expected: Option<i8>, flags: &mut Flags) -> bool {
     popped == expected
 }
 
-/// Makes one query of both, and returns whether the results are the same.
-fn question(
-    set: &IntervalSet<i8>,
-    flags: &Flags,
-    kind: u8,
-    value: i8,
-    length: u8,
-) -> Result<bool, AllocError> {
+/// Makes one query of both, and returns whether the results are the same; false where it runs out of memory.
+fn question(set: &IntervalSet<i8>, flags: &Flags, step: Step) -> bool {
+    let Step {
+        kind,
+        value,
+        length,
+    } = step;
     let count = length.saturating_add(1);
     match kind {
-        7 => Ok(set.next_from(value) == flags.next_from(value)),
-        8 => Ok(set.previous_to(value) == flags.previous_to(value)),
-        9 => Ok(set.run_at(value).map(ends) == flags.run_at(value).map(Some)),
-        10 if count > 0 => Ok(
-            set.first_fit(count).map(ends) == flags.first_fit_from(-127, count).map(Some),
+        7 => set.next_from(value) == flags.next_from(value),
+        8 => set.previous_to(value) == flags.previous_to(value),
+        9 => is_run(set.run_at(value), flags.run_at(value)),
+        10 if count > 0 => is_run(set.first_fit(count), flags.first_fit_from(-127, count)),
+        11 if count > 0 => is_run(
+            set.first_fit_from(value, count),
+            flags.first_fit_from(value, count),
         ),
-        11 if count > 0 => {
-            Ok(
-                set.first_fit_from(value, count).map(ends)
-                    == flags.first_fit_from(value, count).map(Some),
-            )
-        }
-        12 => Ok(set.rank(value) == flags.rank(value)),
-        13 => Ok(set.nth(length) == flags.nth(length)),
+        12 => set.rank(value) == flags.rank(value),
+        13 => set.nth(length) == flags.nth(length),
         14 => gaps_agree(set, flags, value, after(value, length)),
-        _ => Ok(set.contains(&value) == flags.has(value)),
+        _ => set.contains(&value) == flags.has(value),
     }
 }
 
-/// The ends of an interval, or `None` if it is empty.
-fn ends(interval: Interval<i8>) -> Option<(i8, i8)> {
-    if interval.is_empty() {
-        None
-    } else {
-        Some((interval.lower(), interval.upper()))
+/// Whether the interval has these ends, or both are missing.
+fn is_run(interval: Option<Interval<i8>>, ends: Option<(i8, i8)>) -> bool {
+    match interval {
+        Some(run) => !run.is_empty() && ends == Some((run.lower(), run.upper())),
+        None => ends.is_none(),
     }
 }
 
 /// The gaps in an interval agree: as many numbers, and none of them is a member.
-fn gaps_agree(
-    set: &IntervalSet<i8>,
-    flags: &Flags,
-    lower: i8,
-    upper: i8,
-) -> Result<bool, AllocError> {
+fn gaps_agree(set: &IntervalSet<i8>, flags: &Flags, lower: i8, upper: i8) -> bool {
     if !Interval::in_range(lower, upper) {
-        return Ok(true);
+        return true;
     }
-    let gaps = set.gaps_within(&Interval::new(lower, upper))?;
-    if gaps.size() != flags.gaps_within(lower, upper) {
-        return Ok(false);
+    match set.gaps_within(&Interval::new(lower, upper)) {
+        Ok(gaps) => gaps.size() == flags.gaps_within(lower, upper)
+            && are_gaps(&gaps, flags, lower, upper),
+        Err(AllocError) => false,
     }
+}
+
+/// None of the gaps is a member or outside the interval.
+fn are_gaps(gaps: &IntervalSet<i8>, flags: &Flags, lower: i8, upper: i8) -> bool {
     for value in -127i8..=127 {
         if gaps.contains(&value) && (flags.has(value) || value < lower || upper < value) {
-            return Ok(false);
+            return false;
         }
     }
-    Ok(true)
+    true
 }

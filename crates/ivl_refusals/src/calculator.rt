@@ -1,7 +1,9 @@
 //! The calls of the calculator that take memory, and the sums and differences within the range. Each ends in its answer,
 //! or is out of memory with what it was given as before.
 
-use crate::runs::{DIFFERENCES, FIRST, SECOND, SUMS, UNITED, has_runs};
+use crate::runs::{
+    DIFFERENCES, FIRST, FIRST_RUNS, Runs, SECOND, SECOND_RUNS, SUMS, UNITED, has_runs,
+};
 use intervallum::prelude::*;
 use intervallum::sweep::{Op, coalesce, images};
 use ivl_calc::within::{add_within, sub_within};
@@ -10,6 +12,9 @@ use std::alloc::{AllocError, Global};
 
 /// How many numbers `SUMS` has.
 const SUM_COUNT: u32 = 47;
+
+/// The runs of the first operand in no order, one of them twice.
+const UNSORTED: Runs = &[(13, 14), (5, 6), (9, 10), (5, 6), (1, 2)];
 
 /// How many empty intervals a set is extended by.
 const MANY: usize = 1000;
@@ -58,27 +63,37 @@ fn are_images(a: &IntervalSet<i32>, b: &IntervalSet<i32>) -> Result<bool, AllocE
 
 /// The set of a list that is in no order, and has a run twice.
 fn is_coalesced(alloc: Global) -> Result<bool, AllocError> {
+    let set = coalesce(alloc, unsorted(alloc)?)?;
+    Ok(has_runs(&set, FIRST_RUNS))
+}
+
+fn unsorted(alloc: Global) -> Result<Vec<Interval<i32>>, AllocError> {
     let mut list = Vec::new(alloc);
-    for (lower, upper) in [(13, 14), (5, 6), (9, 10), (5, 6), (1, 2)] {
+    for &(lower, upper) in UNSORTED {
         if Interval::in_range(lower, upper) {
             list.push(Interval::new(lower, upper))?;
         }
     }
-    Ok(has_runs(&coalesce(alloc, list)?, &FIRST))
+    Ok(list)
 }
 
 /// A copy is as before once it is extended by many empty intervals.
 fn is_left_by_nothing(alloc: Global, a: &IntervalSet<i32>) -> Result<bool, AllocError> {
+    let none = empty_intervals(alloc)?;
+    let mut set = a.try_clone()?;
+    let answer = set.extend(none.into_iter());
+    if !has_runs(&set, FIRST_RUNS) {
+        return Ok(false);
+    }
+    answer.map(|_| true)
+}
+
+fn empty_intervals(alloc: Global) -> Result<Vec<Interval<i32>>, AllocError> {
     let mut none = Vec::with_capacity(alloc, MANY)?;
     for _ in 0..MANY {
         none.push(Interval::new(9, 4))?;
     }
-    let mut set = a.try_clone()?;
-    let answer = set.extend(none.into_iter());
-    if !has_runs(&set, &FIRST) {
-        return Ok(false);
-    }
-    answer.map(|_| true)
+    Ok(none)
 }
 
 /// A new calculator has empty registers.
@@ -90,14 +105,26 @@ fn is_new(alloc: Global) -> Result<bool, AllocError> {
 /// After an error every register is as before.
 fn is_run_right(alloc: Global) -> Result<bool, AllocError> {
     let mut calc = loaded(alloc)?;
-    let commands = vec![in alloc;
+    let answer = calc.run(&commands(alloc)?);
+    is_as_answered(&calc, &answer)
+}
+
+fn commands(alloc: Global) -> Result<Vec<Command<i32>>, AllocError> {
+    Ok(vec![in alloc;
         Command::Plus(2, 0, 1),
         Command::Union(0, 0, 1),
         Command::Size(2),
-    ]?;
-    match calc.run(&commands) {
-        Ok(replies) => is_as_replied(&calc, &replies),
-        Err(_) if has_registers(&calc, &FIRST, &SECOND, &[]) => Err(AllocError),
+    ]?)
+}
+
+/// The registers are as the answer tells.
+fn is_as_answered(
+    calc: &Calc<i32>,
+    answer: &Result<Vec<Reply<i32>>, AllocError>,
+) -> Result<bool, AllocError> {
+    match answer {
+        Ok(replies) => is_as_replied(calc, replies),
+        Err(_) if has_registers(calc, FIRST_RUNS, SECOND_RUNS, &[]) => Err(AllocError),
         Err(_) => Ok(false),
     }
 }
@@ -108,16 +135,27 @@ fn is_as_replied(calc: &Calc<i32>, replies: &[Reply<i32>]) -> Result<bool, Alloc
     let [plus, union, size] = replies else {
         return Ok(false);
     };
-    let (Some(is_added), Some(is_united)) = (
+    match (
         is_done(plus, &Reply::Cut(false)),
         is_done(union, &Reply::Done),
-    ) else {
-        return Ok(false);
-    };
-    let first = if is_united { UNITED } else { &FIRST };
+    ) {
+        (Some(is_added), Some(is_united)) => is_as_told(calc, is_added, is_united, size),
+        _ => Ok(false),
+    }
+}
+
+/// Whether the registers, and the size of the third, are as these of the commands leave them: an error unless both were
+/// done.
+fn is_as_told(
+    calc: &Calc<i32>,
+    is_added: bool,
+    is_united: bool,
+    size: &Reply<i32>,
+) -> Result<bool, AllocError> {
+    let first = if is_united { UNITED } else { FIRST_RUNS };
     let third = if is_added { SUMS } else { &[] };
     let count = if is_added { SUM_COUNT } else { 0 };
-    if !has_registers(calc, first, &SECOND, third) || *size != Reply::Size(count) {
+    if !has_registers(calc, first, SECOND_RUNS, third) || *size != Reply::Size(count) {
         return Ok(false);
     }
     if is_added && is_united {
@@ -141,10 +179,21 @@ fn is_done(reply: &Reply<i32>, done: &Reply<i32>) -> Option<bool> {
 /// Three registers: the first two operands, and the empty set.
 fn loaded(alloc: Global) -> Result<Calc<i32>, AllocError> {
     let mut calc = Calc::new(alloc, 3)?;
-    let first = calc.apply(&Command::Set(0, Vec::from_array(alloc, FIRST)?));
-    let second = calc.apply(&Command::Set(1, Vec::from_array(alloc, SECOND)?));
-    if first == Reply::Done && second == Reply::Done {
-        Ok(calc)
+    load(alloc, &mut calc, 0, FIRST)?;
+    load(alloc, &mut calc, 1, SECOND)?;
+    Ok(calc)
+}
+
+/// Sets a register.
+fn load(
+    alloc: Global,
+    calc: &mut Calc<i32>,
+    register: usize,
+    pairs: [(i32, i32); 4],
+) -> Result<(), AllocError> {
+    let command = Command::Set(register, Vec::from_array(alloc, pairs)?);
+    if calc.apply(&command) == Reply::Done {
+        Ok(())
     } else {
         Err(AllocError)
     }

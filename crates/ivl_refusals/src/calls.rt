@@ -1,7 +1,8 @@
 //! The calls of sets that take memory. Each is right where it answers the set of these runs.
 
 use crate::runs::{
-    APART, BETWEEN, DIFFERENCES, FIRST, PRODUCTS, SHARED, SUMS, UNITED, WHOLE, is_of,
+    APART, BETWEEN, DIFFERENCES, FIRST, FIRST_RUNS, PRODUCTS, Runs, SHARED, SUMS, UNITED, WHOLE,
+    is_of,
 };
 use intervallum::interval::Interval;
 use intervallum::prelude::*;
@@ -9,7 +10,49 @@ use intervallum::steps::{Walk, common, unite};
 use intervallum::sweep::{Op, coalesce, images};
 use std::alloc::{AllocError, Global};
 
-/// Whether the call of this name gives the right answer; none where there is no such call.
+/// The difference of the operands.
+const LEFT: Runs = &[(1, 1), (6, 6), (9, 10), (13, 14)];
+
+/// The first operand, cut at 6.
+const FROM_SIX: Runs = &[(6, 6), (9, 10), (13, 14)];
+
+const TO_SIX: Runs = &[(1, 2), (5, 6)];
+
+const ABOVE_SIX: Runs = &[(9, 10), (13, 14)];
+
+const BELOW_SIX: Runs = &[(1, 2), (5, 5)];
+
+/// The first operand and a number.
+const WITH_THREE: Runs = &[(1, 3), (5, 6), (9, 10), (13, 14)];
+
+const FIVE: Runs = &[(5, 5)];
+
+const WITHOUT_FIVE: Runs = &[(1, 2), (6, 6), (9, 10), (13, 14)];
+
+const PLUS_THREE: Runs = &[(4, 5), (8, 9), (12, 13), (16, 17)];
+
+const MINUS_THREE: Runs = &[(-2, -1), (2, 3), (6, 7), (10, 11)];
+
+const TIMES_MINUS_THREE: Runs = &[(-42, -39), (-30, -27), (-18, -15), (-6, -3)];
+
+/// The numbers from 2 to 9, and what the first operand is with them.
+const WINDOW: Runs = &[(2, 9)];
+
+const GAPS: Runs = &[(3, 4), (7, 8)];
+
+const WITH_WINDOW: Runs = &[(1, 10), (13, 14)];
+
+const IN_WINDOW: Runs = &[(2, 2), (5, 6), (9, 9)];
+
+const OUTSIDE: Runs = &[(1, 1), (10, 10), (13, 14)];
+
+/// The sets that are made of numbers.
+const THREE: Runs = &[(3, 3)];
+
+const THREE_FOUR: Runs = &[(3, 4)];
+
+/// Whether the call of this name gives the right answer; none where there is no such call. The names of the groups differ,
+/// so that one call is made at most.
 pub fn call(
     alloc: Global,
     name: &str,
@@ -17,12 +60,14 @@ pub fn call(
     b: &IntervalSet<i32>,
 ) -> Option<Result<bool, AllocError>> {
     of_sets(name, a, b)
-        .or_else(|| of_bound(name, a))
-        .or_else(|| of_value(name, a))
-        .or_else(|| of_interval(alloc, name, a))
-        .or_else(|| of_arithmetic(name, a, b))
-        .or_else(|| making(alloc, name))
-        .or_else(|| moving(name, a, b))
+        .or(of_walks(name, a, b))
+        .or(of_bound(name, a))
+        .or(of_value(name, a))
+        .or(of_arithmetic_by_value(name, a))
+        .or(of_interval(alloc, name, a))
+        .or(of_arithmetic(name, a, b))
+        .or(making(alloc, name))
+        .or(moving(name, a, b))
 }
 
 /// The calls of two sets, or of one alone.
@@ -32,12 +77,23 @@ fn of_sets(
     b: &IntervalSet<i32>,
 ) -> Option<Result<bool, AllocError>> {
     Some(match name {
-        "try_clone" => is_of(a.try_clone(), &FIRST),
+        "try_clone" => is_of(a.try_clone(), FIRST_RUNS),
         "complement" => is_of(a.complement(), BETWEEN),
         "union" => is_of(a.union(b), UNITED),
         "intersection" => is_of(a.intersection(b), SHARED),
-        "difference" => is_of(a.difference(b), &[(1, 1), (6, 6), (9, 10), (13, 14)]),
+        "difference" => is_of(a.difference(b), LEFT),
         "symmetric_difference" => is_of(a.symmetric_difference(b), APART),
+        _ => return None,
+    })
+}
+
+/// The merges of the runs of two sets.
+fn of_walks(
+    name: &str,
+    a: &IntervalSet<i32>,
+    b: &IntervalSet<i32>,
+) -> Option<Result<bool, AllocError>> {
+    Some(match name {
         "unite" => is_of(unite(Walk::new(a), Walk::new(b)), UNITED),
         "common" => is_of(common(Walk::new(a), Walk::new(b)), SHARED),
         _ => return None,
@@ -47,10 +103,10 @@ fn of_sets(
 /// The calls that cut a set at a bound.
 fn of_bound(name: &str, a: &IntervalSet<i32>) -> Option<Result<bool, AllocError>> {
     Some(match name {
-        "shrink_left" => is_of(a.shrink_left(6), &[(6, 6), (9, 10), (13, 14)]),
-        "shrink_right" => is_of(a.shrink_right(6), &[(1, 2), (5, 6)]),
-        "strict_shrink_left" => is_of(a.strict_shrink_left(6), &[(9, 10), (13, 14)]),
-        "strict_shrink_right" => is_of(a.strict_shrink_right(6), &[(1, 2), (5, 5)]),
+        "shrink_left" => is_of(a.shrink_left(6), FROM_SIX),
+        "shrink_right" => is_of(a.shrink_right(6), TO_SIX),
+        "strict_shrink_left" => is_of(a.strict_shrink_left(6), ABOVE_SIX),
+        "strict_shrink_right" => is_of(a.strict_shrink_right(6), BELOW_SIX),
         _ => return None,
     })
 }
@@ -58,18 +114,20 @@ fn of_bound(name: &str, a: &IntervalSet<i32>) -> Option<Result<bool, AllocError>
 /// The calls of a set and a number.
 fn of_value(name: &str, a: &IntervalSet<i32>) -> Option<Result<bool, AllocError>> {
     Some(match name {
-        "union_value" => is_of(a.union(&3), &[(1, 3), (5, 6), (9, 10), (13, 14)]),
-        "intersection_value" => is_of(a.intersection(&5), &[(5, 5)]),
-        "difference_value" => is_of(a.difference(&5), &[(1, 2), (6, 6), (9, 10), (13, 14)]),
-        "symmetric_difference_value" => is_of(
-            a.symmetric_difference(&3),
-            &[(1, 3), (5, 6), (9, 10), (13, 14)],
-        ),
-        "plus_value" if a.fits_add(&3) => is_of(a + 3, &[(4, 5), (8, 9), (12, 13), (16, 17)]),
-        "minus_value" if a.fits_sub(&3) => is_of(a - 3, &[(-2, -1), (2, 3), (6, 7), (10, 11)]),
-        "times_value" if a.fits_mul(&-3) => {
-            is_of(a * -3, &[(-42, -39), (-30, -27), (-18, -15), (-6, -3)])
-        }
+        "union_value" => is_of(a.union(&3), WITH_THREE),
+        "intersection_value" => is_of(a.intersection(&5), FIVE),
+        "difference_value" => is_of(a.difference(&5), WITHOUT_FIVE),
+        "symmetric_difference_value" => is_of(a.symmetric_difference(&3), WITH_THREE),
+        _ => return None,
+    })
+}
+
+/// The sums, differences and products of a set and a number.
+fn of_arithmetic_by_value(name: &str, a: &IntervalSet<i32>) -> Option<Result<bool, AllocError>> {
+    Some(match name {
+        "plus_value" if a.fits_add(&3) => is_of(a + 3, PLUS_THREE),
+        "minus_value" if a.fits_sub(&3) => is_of(a - 3, MINUS_THREE),
+        "times_value" if a.fits_mul(&-3) => is_of(a * -3, TIMES_MINUS_THREE),
         _ => return None,
     })
 }
@@ -82,11 +140,11 @@ fn of_interval(
 ) -> Option<Result<bool, AllocError>> {
     let window = Interval::new(2, 9);
     Some(match name {
-        "of" => is_of(IntervalSet::of(alloc, window), &[(2, 9)]),
-        "gaps_within" => is_of(a.gaps_within(&window), &[(3, 4), (7, 8)]),
-        "union_interval" => is_of(a.union(&window), &[(1, 10), (13, 14)]),
-        "intersection_interval" => is_of(a.intersection(&window), &[(2, 2), (5, 6), (9, 9)]),
-        "difference_interval" => is_of(a.difference(&window), &[(1, 1), (10, 10), (13, 14)]),
+        "of" => is_of(IntervalSet::of(alloc, window), WINDOW),
+        "gaps_within" => is_of(a.gaps_within(&window), GAPS),
+        "union_interval" => is_of(a.union(&window), WITH_WINDOW),
+        "intersection_interval" => is_of(a.intersection(&window), IN_WINDOW),
+        "difference_interval" => is_of(a.difference(&window), OUTSIDE),
         _ => return None,
     })
 }
@@ -121,14 +179,14 @@ fn swept(
 /// The calls that make a set of other values.
 fn making(alloc: Global, name: &str) -> Option<Result<bool, AllocError>> {
     Some(match name {
-        "new" => is_of(IntervalSet::new(alloc, 3, 4), &[(3, 4)]),
-        "singleton" => is_of(IntervalSet::singleton(alloc, 3), &[(3, 3)]),
+        "new" => is_of(IntervalSet::new(alloc, 3, 4), THREE_FOUR),
+        "singleton" => is_of(IntervalSet::singleton(alloc, 3), THREE),
         "whole" => is_of(IntervalSet::whole(alloc), WHOLE),
         "bot" => is_of(IntervalSet::bot(alloc), WHOLE),
-        "of_pair" => is_of((3, 4).to_interval_set(alloc), &[(3, 4)]),
-        "of_array" => is_of(FIRST.to_interval_set(alloc), &FIRST),
-        "of_slice" => is_of(FIRST.as_slice().to_interval_set(alloc), &FIRST),
-        "of_vector" => is_of(of_vector(alloc), &FIRST),
+        "of_pair" => is_of((3, 4).to_interval_set(alloc), THREE_FOUR),
+        "of_array" => is_of(FIRST.to_interval_set(alloc), FIRST_RUNS),
+        "of_slice" => is_of(FIRST.as_slice().to_interval_set(alloc), FIRST_RUNS),
+        "of_vector" => is_of(of_vector(alloc), FIRST_RUNS),
         _ => return None,
     })
 }

@@ -1,25 +1,32 @@
 //! The edits of a set in place that take memory, each on a copy, with the runs that it is to leave.
 
-use crate::runs::is_of;
+use crate::runs::{Runs, is_of};
 use intervallum::interval::Interval;
 use intervallum::interval_set::IntervalSet;
 use intervallum::ops::Range;
 use std::alloc::{AllocError, Global};
 
+/// The runs of the first operand once it is extended.
+const EXTENDED: Runs = &[(1, 6), (9, 10), (13, 14), (20, 20)];
+
+/// Those with a number more, and with an interval more.
+const INSERTED: Runs = &[(1, 2), (5, 6), (9, 10), (13, 14), (20, 20)];
+
+const INSERTED_INTERVAL: Runs = &[(1, 2), (5, 6), (9, 10), (13, 14), (20, 30)];
+
+/// Those of the longer copy without a number, and without an interval.
+const REMOVED: Runs = &[(1, 2), (5, 6), (9, 10), (13, 14), (16, 20)];
+
+const REMOVED_INTERVAL: Runs = &[(1, 2), (5, 6), (9, 10), (13, 14), (18, 20)];
+
 /// Whether the edit of this name leaves the right set; none where there is no such edit.
 pub fn call(alloc: Global, name: &str, a: &IntervalSet<i32>) -> Option<Result<bool, AllocError>> {
     Some(match name {
-        "extend" => is_of(extended(alloc, a), &[(1, 6), (9, 10), (13, 14), (20, 20)]),
-        "insert" => is_of(inserted(a), &[(1, 2), (5, 6), (9, 10), (13, 14), (20, 20)]),
-        "remove" => is_of(removed(a), &[(1, 2), (5, 6), (9, 10), (13, 14), (16, 20)]),
-        "insert_interval" => is_of(
-            inserted_interval(a),
-            &[(1, 2), (5, 6), (9, 10), (13, 14), (20, 30)],
-        ),
-        "remove_interval" => is_of(
-            removed_interval(a),
-            &[(1, 2), (5, 6), (9, 10), (13, 14), (18, 20)],
-        ),
+        "extend" => is_of(extended(alloc, a), EXTENDED),
+        "insert" => is_of(inserted(a), INSERTED),
+        "remove" => is_of(removed(a), REMOVED),
+        "insert_interval" => is_of(inserted_interval(a), INSERTED_INTERVAL),
+        "remove_interval" => is_of(removed_interval(a), REMOVED_INTERVAL),
         _ => return None,
     })
 }

@@ -1,12 +1,12 @@
 //! Evaluation, which takes memory for each set that it makes.
 
-use crate::runs::{DIFFERENCES, FIRST, SUMS, is_of};
+use crate::runs::{DIFFERENCES, FIRST_RUNS, Runs, SUMS, is_of};
 use intervallum::interval_set::IntervalSet;
 use ivl_expr::{EvalFault, Expr, eval};
 use std::alloc::{AllocError, Global};
 
 /// Twice the differences.
-const DOUBLED: &[(i32, i32)] = &[
+const DOUBLED: Runs = &[
     (-80, -76),
     (-72, -68),
     (-64, -48),
@@ -24,7 +24,7 @@ pub fn call(
     b: &IntervalSet<i32>,
 ) -> Option<Result<bool, AllocError>> {
     Some(match name {
-        "eval_variable" => is_of(evaluated(alloc, Ok(Expr::Var(0)), a, b), &FIRST),
+        "eval_variable" => is_of(evaluated(alloc, Ok(Expr::Var(0)), a, b), FIRST_RUNS),
         "eval_sum" => is_of(evaluated(alloc, sum(alloc), a, b), SUMS),
         "eval_difference" => is_of(evaluated(alloc, difference(alloc), a, b), DIFFERENCES),
         "eval_doubled" => is_of(evaluated(alloc, doubled(alloc), a, b), DOUBLED),
@@ -42,10 +42,27 @@ fn evaluated(
 ) -> Result<IntervalSet<i32>, AllocError> {
     let expr = expr?;
     let sets = [a.try_clone()?, b.try_clone()?];
-    let answer = eval(alloc, &expr, &sets);
-    if sets[0] != *a || sets[1] != *b {
-        return Ok(IntervalSet::empty(alloc));
+    let answer = refused_or_set(alloc, eval(alloc, &expr, &sets));
+    if are(&sets, a, b) {
+        answer
+    } else {
+        Ok(IntervalSet::empty(alloc))
     }
+}
+
+/// The sets are these two.
+fn are(sets: &[IntervalSet<i32>], a: &IntervalSet<i32>, b: &IntervalSet<i32>) -> bool {
+    match sets {
+        [first, second] => first == a && second == b,
+        _ => false,
+    }
+}
+
+/// No set in place of another fault than a failed allocation.
+fn refused_or_set(
+    alloc: Global,
+    answer: Result<IntervalSet<i32>, EvalFault>,
+) -> Result<IntervalSet<i32>, AllocError> {
     match answer {
         Ok(set) => Ok(set),
         Err(EvalFault::Memory) => Err(AllocError),

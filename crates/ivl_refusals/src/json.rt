@@ -1,6 +1,6 @@
 //! The JSON calls, each with the answer that was worked out by hand.
 
-use crate::runs::{FIRST, has_runs};
+use crate::runs::{FIRST_RUNS, has_runs};
 use intervallum::interval::Interval;
 use intervallum::interval_set::IntervalSet;
 use intervallum::ops::Range;
@@ -33,12 +33,12 @@ fn is_interval_written(alloc: Global) -> Result<bool, AllocError> {
 /// A set is written as the array of its runs.
 fn is_set_written(alloc: Global, a: &IntervalSet<i32>) -> Result<bool, AllocError> {
     let value = a.to_value(alloc)?;
-    Ok(has_pairs(&value, &FIRST))
+    Ok(has_pairs(&value, FIRST_RUNS))
 }
 
 /// An interval is read of its bounds. Its reading does not allocate, so running out of memory is a wrong answer.
 fn is_interval_read(alloc: Global) -> Result<bool, AllocError> {
-    let value = json!(in alloc; [3, 8])?;
+    let value = pair_value(alloc, 3, 8)?;
     let read = Interval::<i32>::from_value(alloc, &value);
     Ok(read == Ok(Interval::new(3, 8)) && is_pair(&value, (3, 8)))
 }
@@ -51,33 +51,42 @@ fn is_set_read(alloc: Global) -> Result<bool, AllocError> {
         return Ok(false);
     }
     match read {
-        Ok(set) => Ok(has_runs(&set, &FIRST)),
+        Ok(set) => Ok(has_runs(&set, FIRST_RUNS)),
         Err(JsonFault::Memory) => Err(AllocError),
         Err(_) => Ok(false),
     }
 }
 
-/// An array of 999 items that are null, and one that has a single number.
+/// The last item is refused of an array of 999 items that are null, and one that has a single number.
 fn is_last_of_thousand_refused(alloc: Global) -> Result<bool, AllocError> {
-    let mut items = Vec::with_capacity(alloc, 1000)?;
-    for _ in 0..999 {
-        items.push(Value::from(()))?;
-    }
-    items.push(json!(in alloc; [1])?)?;
-    match IntervalSet::<i32>::from_value(alloc, &Value::from(items)) {
+    match IntervalSet::<i32>::from_value(alloc, &thousand_items(alloc)?) {
         Err(JsonFault::Memory) => Err(AllocError),
         Err(fault) => Ok(fault == JsonFault::At(999, ItemFault::Length(1))),
         Ok(_) => Ok(false),
     }
 }
 
+fn thousand_items(alloc: Global) -> Result<Value, AllocError> {
+    let mut items = Vec::with_capacity(alloc, 1000)?;
+    for _ in 0..999 {
+        items.push(Value::from(()))?;
+    }
+    items.push(json!(in alloc; [1])?)?;
+    Ok(Value::from(items))
+}
+
 /// An array of pairs.
 fn pairs_value(alloc: Global, pairs: &[(i32, i32)]) -> Result<Value, AllocError> {
     let mut items = Vec::new(alloc);
     for &(lower, upper) in pairs {
-        items.push(json!(in alloc; [lower, upper])?)?;
+        items.push(pair_value(alloc, lower, upper)?)?;
     }
     Ok(Value::from(items))
+}
+
+/// An array of two numbers.
+fn pair_value(alloc: Global, lower: i32, upper: i32) -> Result<Value, AllocError> {
+    json!(in alloc; [lower, upper])
 }
 
 /// The value is an array of these pairs.

@@ -15,7 +15,7 @@ mod runs;
 mod store;
 
 use intervallum::prelude::{IntervalSet, ToIntervalSet};
-use runs::{FIRST, SECOND, has_runs};
+use runs::{FIRST, FIRST_RUNS, SECOND, SECOND_RUNS, has_runs};
 use std::alloc::{AllocError, Global};
 use std::io;
 use std::io::Read;
@@ -28,11 +28,16 @@ fn main(rt: HostRuntime) -> io::Result<()> {
     let count = rt.stdin().read(&mut bytes)?;
     for line in bytes[..count].split(|byte| *byte == b'\n') {
         if !line.is_empty() {
-            let (name, requests) = name_and_requests(line).unwrap_or(("this line", 0));
-            println!(rt; "{name} {}", ending(rt.alloc(), name, requests))?;
+            answer(&rt, line)?;
         }
     }
     Ok(())
+}
+
+/// Makes the call of a line, and prints how it ended.
+fn answer(rt: &(impl Print + AllocGlobal), line: &[u8]) -> io::Result<()> {
+    let (name, requests) = name_and_requests(line).unwrap_or(("this line", 0));
+    println!(rt; "{name} {}", ending(rt.alloc(), name, requests))
 }
 
 /// The name of a call, and how many requests for memory are made before it; none where the line has another form.
@@ -54,10 +59,16 @@ fn ask_for_memory(alloc: Global, requests: u32) -> Result<(), AllocError> {
 
 /// How the call of this name ended, after so many requests for memory.
 fn ending(alloc: Global, name: &str, requests: u32) -> &'static str {
-    match ask_for_memory(alloc, requests).and_then(|()| tried(alloc, name)) {
+    match tried_after(alloc, name, requests) {
         Ok(ending) => ending,
         Err(AllocError) => "out of memory",
     }
+}
+
+/// How the call ended; an error where it, its operands or one of the requests found no memory.
+fn tried_after(alloc: Global, name: &str, requests: u32) -> Result<&'static str, AllocError> {
+    ask_for_memory(alloc, requests)?;
+    tried(alloc, name)
 }
 
 /// How the call ended; an error where it or its operands found no memory.
@@ -68,14 +79,15 @@ fn tried(alloc: Global, name: &str) -> Result<&'static str, AllocError> {
     let a = FIRST.to_interval_set(alloc)?;
     let b = SECOND.to_interval_set(alloc)?;
     let answered = call(alloc, name, &a, &b);
-    if has_runs(&a, &FIRST) && has_runs(&b, &SECOND) {
+    if has_runs(&a, FIRST_RUNS) && has_runs(&b, SECOND_RUNS) {
         told(answered)
     } else {
         Ok("changed an operand")
     }
 }
 
-/// Whether the call of this name gives the right answer; none where there is no such call.
+/// Whether the call of this name gives the right answer; none where there is no such call. The names of the modules
+/// differ, so that one call is made at most.
 fn call(
     alloc: Global,
     name: &str,
@@ -83,10 +95,10 @@ fn call(
     b: &IntervalSet<i32>,
 ) -> Option<Result<bool, AllocError>> {
     calls::call(alloc, name, a, b)
-        .or_else(|| edits::call(alloc, name, a))
-        .or_else(|| expr::call(alloc, name, a, b))
-        .or_else(|| json::call(alloc, name, a))
-        .or_else(|| calculator::call(alloc, name, a, b))
+        .or(edits::call(alloc, name, a))
+        .or(expr::call(alloc, name, a, b))
+        .or(json::call(alloc, name, a))
+        .or(calculator::call(alloc, name, a, b))
 }
 
 /// How a call ended, in words.

@@ -3,25 +3,34 @@
 use intervallum::prelude::{Bounded, Interval, IntervalSet, IsEmpty};
 use std::alloc::AllocError;
 
+/// The runs of a set, as pairs of bounds.
+pub type Runs = &'static [(i32, i32)];
+
 /// The pairs of the first operand of each call.
 pub const FIRST: [(i32, i32); 4] = [(1, 2), (5, 6), (9, 10), (13, 14)];
+
+/// The runs that the first operand is to have.
+pub const FIRST_RUNS: Runs = &FIRST;
 
 /// The pairs of the second operand of each call.
 pub const SECOND: [(i32, i32); 4] = [(2, 5), (20, 21), (30, 31), (40, 41)];
 
+/// The runs that the second operand is to have.
+pub const SECOND_RUNS: Runs = &SECOND;
+
 const GREATEST: i32 = i32::MAX;
 
 /// The run of every number in range.
-pub const WHOLE: &[(i32, i32)] = &[(-GREATEST, GREATEST)];
+pub const WHOLE: Runs = &[(-GREATEST, GREATEST)];
 
 /// What one of the operands has.
-pub const UNITED: &[(i32, i32)] = &[(1, 6), (9, 10), (13, 14), (20, 21), (30, 31), (40, 41)];
+pub const UNITED: Runs = &[(1, 6), (9, 10), (13, 14), (20, 21), (30, 31), (40, 41)];
 
 /// What both operands have.
-pub const SHARED: &[(i32, i32)] = &[(2, 2), (5, 5)];
+pub const SHARED: Runs = &[(2, 2), (5, 5)];
 
 /// What one operand has alone.
-pub const APART: &[(i32, i32)] = &[
+pub const APART: Runs = &[
     (1, 1),
     (3, 4),
     (6, 6),
@@ -33,10 +42,10 @@ pub const APART: &[(i32, i32)] = &[
 ];
 
 /// What the first operand lacks.
-pub const BETWEEN: &[(i32, i32)] = &[(-GREATEST, 0), (3, 4), (7, 8), (11, 12), (15, GREATEST)];
+pub const BETWEEN: Runs = &[(-GREATEST, 0), (3, 4), (7, 8), (11, 12), (15, GREATEST)];
 
 /// The sums of the operands' numbers.
-pub const SUMS: &[(i32, i32)] = &[
+pub const SUMS: Runs = &[
     (3, 19),
     (21, 23),
     (25, 27),
@@ -47,7 +56,7 @@ pub const SUMS: &[(i32, i32)] = &[
 ];
 
 /// Their differences.
-pub const DIFFERENCES: &[(i32, i32)] = &[
+pub const DIFFERENCES: Runs = &[
     (-40, -38),
     (-36, -34),
     (-32, -24),
@@ -58,7 +67,7 @@ pub const DIFFERENCES: &[(i32, i32)] = &[
 ];
 
 /// Their products.
-pub const PRODUCTS: &[(i32, i32)] = &[
+pub const PRODUCTS: Runs = &[
     (2, 82),
     (100, 126),
     (150, 246),

@@ -1,14 +1,11 @@
 //! The calls of a store that take memory. Each ends in its answer, or is out of memory with the
 //! domains as the call says they are then.
 
-use crate::runs::has_runs;
+use crate::runs::{Runs, has_runs};
 use intervallum::prelude::{Interval, IntervalSet, ToIntervalSet};
 use ivl_store::store::callers::post_if_distinct;
 use ivl_store::store::{Constraint, Post, Store, StoreFault};
 use std::alloc::{AllocError, Global};
-
-/// The runs of a domain.
-type Runs = &'static [(i32, i32)];
 
 /// The runs of x, y, z and one; x + y = z, and y + one = z.
 type Family = [Runs; 4];
@@ -17,7 +14,7 @@ const SUM: Constraint = Constraint { x: 0, y: 1, z: 2 };
 
 const NEXT: Constraint = Constraint { x: 1, y: 3, z: 2 };
 
-const FRESH: Family = [
+const FRESH: &Family = &[
     &[(0, 3), (8, 9)],
     &[(0, 1), (4, 9)],
     &[(2, 6), (20, 30)],
@@ -25,13 +22,21 @@ const FRESH: Family = [
 ];
 
 /// The domains once `SUM` has narrowed them.
-const NARROWED: Family = [&[(0, 3)], &[(0, 1), (4, 6)], &[(2, 6)], &[(1, 1)]];
+const NARROWED: &Family = &[&[(0, 3)], &[(0, 1), (4, 6)], &[(2, 6)], &[(1, 1)]];
 
 /// The domains once `NEXT` has narrowed these.
-const ROUND: Family = [&[(0, 3)], &[(1, 1), (4, 5)], &[(2, 2), (5, 6)], &[(1, 1)]];
+const ROUND: &Family = &[&[(0, 3)], &[(1, 1), (4, 5)], &[(2, 2), (5, 6)], &[(1, 1)]];
 
 /// The domains once `SUM` has narrowed these, which nothing narrows any further.
-const FIXED: Family = [&[(0, 2)], &[(1, 1), (4, 5)], &[(2, 2), (5, 6)], &[(1, 1)]];
+const FIXED: &Family = &[&[(0, 2)], &[(1, 1), (4, 5)], &[(2, 2), (5, 6)], &[(1, 1)]];
+
+const UNCHANGED: &[&Family] = &[FRESH];
+
+/// The domains that two constraints pass on their way.
+const PASSED: &[&Family] = &[FRESH, NARROWED, ROUND, FIXED];
+
+/// The numbers to which z is cut.
+const CUT: [(i32, i32); 1] = [(-5, 25)];
 
 /// How the call of this name ended; none where there is no such call.
 pub fn ending(alloc: Global, name: &str) -> Option<Result<&'static str, AllocError>> {
@@ -45,47 +50,58 @@ pub fn ending(alloc: Global, name: &str) -> Option<Result<&'static str, AllocErr
 
 /// One constraint narrows the domains once.
 fn narrowed(alloc: Global) -> Result<&'static str, AllocError> {
-    let mut store = store_of(alloc, &FRESH)?;
+    let mut store = store_of(alloc, FRESH)?;
     let answer = store.narrow(&SUM);
     Ok(judged(
         &store,
         answer == Ok(true),
         is_refusal(&answer),
-        &NARROWED,
-        &[&FRESH],
+        NARROWED,
+        UNCHANGED,
     ))
 }
 
 /// Two constraints narrow the domains until neither does.
 fn propagated(alloc: Global) -> Result<&'static str, AllocError> {
-    let mut store = store_of(alloc, &FRESH)?;
+    let mut store = store_of(alloc, FRESH)?;
     let answer = store.propagate(&[SUM, NEXT], 9);
-    let between = [&FRESH, &NARROWED, &ROUND, &FIXED];
     Ok(judged(
         &store,
         answer == Ok(true),
         is_refusal(&answer),
-        &FIXED,
-        &between,
+        FIXED,
+        PASSED,
     ))
 }
 
 /// Two constraints and a cut are posted together.
 fn posted(alloc: Global) -> Result<&'static str, AllocError> {
-    let mut store = store_of(alloc, &FRESH)?;
-    let cut = [(-5, 25)].to_interval_set(alloc)?;
-    let posts = vec![in alloc;
+    let mut store = store_of(alloc, FRESH)?;
+    let answer = post_if_distinct(&mut store, &posts(alloc)?);
+    Ok(judged(
+        &store,
+        are_all_kept(&answer),
+        is_refusal(&answer),
+        FIXED,
+        PASSED,
+    ))
+}
+
+fn posts(alloc: Global) -> Result<Vec<Post<i32>>, AllocError> {
+    let cut = CUT.to_interval_set(alloc)?;
+    Ok(vec![in alloc;
         Post::Require(SUM),
         Post::Restrict(2, cut),
         Post::Require(NEXT),
-    ]?;
-    let answer = post_if_distinct(&mut store, &posts);
-    let is_right = match &answer {
+    ]?)
+}
+
+/// The answer is that each of the three posts was kept, and emptied no domain.
+fn are_all_kept(answer: &Result<Option<Vec<bool>>, StoreFault>) -> bool {
+    match answer {
         Ok(Some(replies)) => replies.as_slice() == [false, false, false].as_slice(),
         _ => false,
-    };
-    let between = [&FRESH, &NARROWED, &ROUND, &FIXED];
-    Ok(judged(&store, is_right, is_refusal(&answer), &FIXED, &between))
+    }
 }
 
 /// The call was refused because an allocation failed.
