@@ -1,3 +1,4 @@
 pub mod Windows
 pub mod Sums
-pub mod Parts
+pub mod Ranges
+pub mod Sets

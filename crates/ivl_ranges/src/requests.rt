@@ -1,20 +1,29 @@
 //! The requests about an access and their answers, one line each.
-ghost use Rattle.std.specs.Prelude.{◌≡◌, ◌<◌, IfSome, OnErr};
-ghost use Rattle.ivl_ranges.specs.Lines.{IsRangeText, length_of};
+ghost use Rattle.std.specs.Prelude.{◌≡◌, ◌<◌, ℕ, ℤ, List, IfOk, OnErr, OnOk};
+ghost use Rattle.ivl_words.specs.Words.{words_between};
+ghost use Rattle.ivl_ranges.specs.Lines.{length_in, length_of, range_of, ranges_of, Changes, IsDone, IsSetOf, SetsLength, SetsRanges};
 
 use crate::access::{is_safe, safe_indexes};
 use intervallum::interval::Interval;
 use intervallum::interval_set::IntervalSet;
-use intervallum::ops::{IsEmpty, Range};
+use intervallum::ops::Range;
 use ivl_expr::EvalFault;
 use ivl_words::{next_word, number_from, one_word};
 use std::alloc::{AllocError, Global};
+use std::marker::Model;
 
-/// The sets of `i` and of `k`, in this order, and the length of the array.
+/// The sets of `i` and of `k`, in this order, and the length of the array. A contract sees the lists
+/// of the runs of the sets, and the length.
 #[derive(Drop)]
 pub struct Access {
     sets: [IntervalSet<i64>; 2],
     length: u32,
+}
+
+impl Model for Access {
+    ghost Value = { List (List (ℤ × ℤ)) × ℕ };
+
+    ghost view = { λ a. (a.sets, a.length) };
 }
 
 impl Access {
@@ -33,9 +42,20 @@ impl Access {
     ///
     /// Fails only if allocation fails. The access is unchanged then.
     pub fn answer(&mut self, alloc: Global, line: &str) -> Result<String, EvalFault>
-        ensures { OnErr result (self.new ≡ self.old) }
+        ensures changes { OnOk result (Changes (words_between line.now) self.old self.new) }
+        ensures err { OnErr result (self.new ≡ self.old) }
     {
-        let (name, words) = next_word(line).unwrap_or(("", ""));
+        match next_word(line) {
+            Some((name, words)) => self.answer_words(alloc, name, words),
+            None => text(alloc, "write i RANGES, k RANGES, length NUMBER or check"),
+        }
+    }
+
+    /// The answer to a command and the words after it.
+    fn answer_words(&mut self, alloc: Global, name: &str, words: &str) -> Result<String, EvalFault>
+        ensures done { OnOk result (IsDone name.now (words_between words.now) self.old self.new) }
+        ensures err { OnErr result (self.new ≡ self.old) }
+    {
         match name {
             "i" => self.set(alloc, 0, words),
             "k" => self.set(alloc, 1, words),
@@ -47,7 +67,8 @@ impl Access {
 
     fn set(&mut self, alloc: Global, place: usize, words: &str) -> Result<String, EvalFault>
         requires { place < 2 }
-        ensures { OnErr result (self.new ≡ self.old) }
+        ensures set { OnOk result (SetsRanges place (ranges_of (words_between words.now)) self.old self.new) }
+        ensures err { OnErr result (self.new ≡ self.old) }
     {
         match set_from(alloc, words)? {
             Some(set) => {
@@ -63,9 +84,10 @@ impl Access {
     }
 
     fn set_length(&mut self, alloc: Global, words: &str) -> Result<String, EvalFault>
-        ensures { OnErr result (self.new ≡ self.old) }
+        ensures set { OnOk result (SetsLength (length_in (words_between words.now)) self.old self.new) }
+        ensures err { OnErr result (self.new ≡ self.old) }
     {
-        match one_word(words).and_then(length_from) {
+        match length_from(words) {
             Some(length) => {
                 let answer = text(alloc, "ok")?;
                 self.length = length;
@@ -87,25 +109,30 @@ impl Access {
 }
 
 /// The numbers of the ranges, or `None` if there is no word, or one that is not a range.
-fn set_from(alloc: Global, words: &str) -> Result<Option<IntervalSet<i64>>, AllocError> {
-    let mut set = IntervalSet::empty(alloc);
-    for word in words.split(' ') {
-        if word.is_empty() {
-            continue;
-        }
-        match range_from(word) {
-            Some(range) => set.insert_interval(range)?,
-            None => return Ok(None),
-        }
+fn set_from(alloc: Global, words: &str) -> Result<Option<IntervalSet<i64>>, AllocError>
+    ensures { IfOk result (λ set. IsSetOf (ranges_of (words_between words.now)) set) }
+{
+    if next_word(words).is_none() {
+        return Ok(None);
     }
-    Ok(if set.is_empty() { None } else { Some(set) })
+    let mut set = IntervalSet::empty(alloc);
+    let mut rest = words;
+    'words: while let Some((word, after)) = next_word(rest) {
+        let Some(range) = range_from(word) else {
+            return Ok(None);
+        };
+        set.insert_interval(range)?;
+        rest = after;
+    }
+    Ok(Some(set))
 }
 
 /// Reads a range: its two ends, with two dots between them.
 fn range_from(word: &str) -> Option<Interval<i64>>
-    ensures { IfSome result (λ range. IsRangeText word.now range) }
+    ensures { result ≡ range_of word.now }
 {
-    let (lower, upper) = word.split_once("..")?;
+    let (lower, rest) = word.split_once('.')?;
+    let upper = rest.strip_prefix('.')?;
     let (lower, upper) = (number_from(lower)?, number_from(upper)?);
     if lower <= upper && Interval::in_range(lower, upper) {
         Some(Interval::new(lower, upper))
@@ -114,11 +141,11 @@ fn range_from(word: &str) -> Option<Interval<i64>>
     }
 }
 
-/// The length that a word is, or `None` if it is not a number from 0 to 4294967295.
-fn length_from(word: &str) -> Option<u32>
-    ensures { result ≡ length_of word.now }
+/// The length that the only word is, or `None` if it is not a number from 0 to 4294967295.
+fn length_from(words: &str) -> Option<u32>
+    ensures { result ≡ length_in (words_between words.now) }
 {
-    u32::try_from(number_from(word)?).ok()
+    u32::try_from(number_from(one_word(words)?)?).ok()
 }
 
 fn text(alloc: Global, text: &str) -> Result<String, EvalFault> {
