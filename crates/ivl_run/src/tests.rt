@@ -139,6 +139,18 @@ fn a_long_line(rt: HostRuntime) -> Result<(), Fail> {
     Ok(())
 }
 
+// A set of 100,000 pairs, on a line of as many bytes as the one above.
+#[test]
+fn a_long_list_of_pairs(rt: HostRuntime) -> Result<(), Fail> {
+    let mut input = Vec::from_slice(rt.alloc(), b"set a")?;
+    for _ in 0..100_000 {
+        input.extend_from_slice(b" 1 4 -9 -7")?;
+    }
+    input.extend_from_slice(b"\nsize a\n")?;
+    check_session(&rt, &input, b"ok\n7\n");
+    Ok(())
+}
+
 #[test]
 fn outcomes(rt: HostRuntime) {
     for (ended, status) in [
