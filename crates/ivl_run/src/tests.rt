@@ -139,7 +139,7 @@ fn a_long_line(rt: HostRuntime) -> Result<(), Fail> {
     Ok(())
 }
 
-// A set of 100,000 pairs, on a line of as many bytes as the one above.
+// A set of 200,000 pairs, on a line of a megabyte.
 #[test]
 fn a_long_list_of_pairs(rt: HostRuntime) -> Result<(), Fail> {
     let mut input = Vec::from_slice(rt.alloc(), b"set a")?;
