@@ -162,3 +162,17 @@ fn outcomes(rt: HostRuntime) {
         assert_eq!(rt; outcome(&ended), status);
     }
 }
+
+// A fault has a text of its own, beside the line that the program prints for it.
+#[test]
+fn texts_of_faults(rt: HostRuntime) -> Result<(), Fail> {
+    for (fault, text) in [
+        (SessionFault::Read, "read failed"),
+        (SessionFault::Write, "write failed"),
+        (SessionFault::Memory, "out of memory"),
+    ] {
+        let printed = format!(in rt.alloc(); "{fault}")?;
+        assert_eq!(rt; printed.as_str(), text);
+    }
+    Ok(())
+}
