@@ -1,6 +1,6 @@
 //! Operations on a set of few runs and one of many: searches for each of the few among the many,
 //! from where the last search ended.
-ghost use Rattle.std.specs.Prelude.{◌≡◌, ℕ, ◌+◌, ◌*◌, ◌^◌, ◌<◌, ◌≤◌, pos, ◌≤ℤ◌, IfOk, OnOk, length, take};
+ghost use Rattle.std.specs.Prelude.{◌≡◌, ◌↔◌, ℕ, ◌+◌, ◌*◌, ◌^◌, ◌<◌, ◌≤◌, pos, ◌≤ℤ◌, IfOk, IsTrue, OnOk, length, take};
 ghost use Rattle.ivl_laws.specs.Sets.{Intersection, IsBetween, Union, Without};
 ghost use Rattle.ivl_laws.specs.Runs.{Covers, IsRunsOf};
 ghost use Rattle.intervallum.specs.Places.{EndBelow};
@@ -18,7 +18,9 @@ const FAR_MORE: usize = 16;
 
 /// The first set has so few runs, compared with the second, that a search for each of them takes
 /// fewer steps than a walk over both.
-pub(super) fn is_far_shorter<B: Width>(few: &IntervalSet<B>, many: &IntervalSet<B>) -> bool {
+pub(super) fn is_far_shorter<B: Width>(few: &IntervalSet<B>, many: &IntervalSet<B>) -> bool
+    ensures { IsTrue result ↔ (16 * (length few.now + 1) ≤ length many.now) }
+{
     few.interval_count() < many.interval_count() / FAR_MORE
 }
 
