@@ -23,6 +23,7 @@ pub mod Windows
 pub mod Scaling
 pub mod Shifting
 pub mod Splicing
+pub mod Allocating
 pub mod Touching
 pub mod Popping
 pub mod Neighbours
