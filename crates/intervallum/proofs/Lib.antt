@@ -34,3 +34,4 @@ pub mod Appending
 pub mod Few
 pub mod Shortening
 pub mod Members
+pub mod Uniting
