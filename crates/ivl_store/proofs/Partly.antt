@@ -1,11 +1,11 @@
 -- What a call that ran out of memory leaves.
-use Rattle.std.proofs.Common.{◌≡◌, ◌↔◌, ◌∙◌, ℕ, zero, suc, ◌+◌, ◌<◌, ◌≤◌, ◌⊎◌, inl, inr, refl, sym, ap, subst, arith, List, [], ◌∷◌, ◌++◌, length, get_or, take, Bool}
+use Rattle.std.proofs.Common.{◌≡◌, ◌↔◌, ◌∙◌, ℕ, zero, suc, ◌+◌, ◌<◌, ◌⊎◌, inl, inr, refl, sym, ap, subst, arith, List, [], ◌∷◌, ◌++◌, length, get_or, take, Bool}
 use Rattle.std.specs.Prelude.{ℤ}
 use Rattle.ivl_laws.specs.Families.{set_at}
 use Rattle.ivl_store.specs.declared.store.constraint.Constraint.{Constraint}
 use Rattle.ivl_store.specs.declared.store.post.Post.{Post}
 use Rattle.ivl_store.specs.Rounds.{narrowed_by, rounds_of, IsPartlyNarrowedBy, IsPartlySettled}
-use Rattle.ivl_store.specs.Posts.{constraints_of, AllAllow, Cut, IsLeftBy, IsPartlyPosted}
+use Rattle.ivl_store.specs.Posts.{constraints_of, AllAllow, Cut, IsPartlyPosted}
 use Rattle.ivl_store.proofs.Steps.{RoundsSoFar, LostMember-same, narrowed_by-mono, after_some}
 use Rattle.ivl_store.proofs.Posting.{PostedSoFar, AllAllow-parts, AllAllow-append, left_none, next_post, next_constraints}
 
