@@ -4,7 +4,7 @@ use crate::compare::{check_all, check_same, made, set_of};
 use intervallum::interval::Interval;
 use intervallum::interval_set::IntervalSet;
 use intervallum::ops::{
-    Complement, Difference, Fits, Intersection, ShrinkLeft, SymmetricDifference, Union,
+    Complement, Difference, Fits, Intersection, Range, ShrinkLeft, SymmetricDifference, Union,
 };
 use std::alloc::{AllocError, Global};
 use std::process::Abort;
