@@ -13,7 +13,7 @@ use std::alloc::{AllocError, Global};
 const FEW: [(i32, i32); 2] = [(2, 7), (99, 101)];
 
 /// How many runs the set of many has: just as many as a search among them asks for.
-const MANY: i32 = 48;
+const MANY: u8 = 48;
 
 /// What the few and the many have in common, and what the few have alone.
 const SHARED: Runs = &[(3, 3), (6, 6), (99, 99)];
@@ -144,7 +144,7 @@ fn borrowed_set_and_borrowed_value(op: Op, a: &IntervalSet<i32>, x: &i32) -> Mad
 fn many(alloc: Global) -> Made {
     let mut list = Vec::new(alloc);
     for i in 0..MANY {
-        list.push(Interval::singleton(3 * i))?;
+        list.push(Interval::singleton(3 * i as i32))?;
     }
     coalesce(alloc, list)
 }

@@ -10,13 +10,13 @@ use std::alloc::{AllocError, Global};
 use std::process::Abort;
 
 /// How many runs the sets have.
-const COUNT: i32 = 5000;
+const COUNT: u16 = 5000;
 
 /// The first numbers that are four times another.
 fn fourths(rt: &(impl Alloc<A = Global> + Abort)) -> IntervalSet<i32> {
     let mut pairs = made(rt, Vec::with_capacity(rt.alloc(), COUNT as usize));
     for i in 0..COUNT {
-        let is_pushed = pairs.push((4 * i, 4 * i)).is_ok();
+        let is_pushed = pairs.push((4 * i as i32, 4 * i as i32)).is_ok();
         assert!(rt; is_pushed, "memory is left");
     }
     set_of(rt, pairs.as_slice())
