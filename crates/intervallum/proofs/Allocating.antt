@@ -1,9 +1,9 @@
 -- Where an edit needs no more room: it adds no run, and splits none.
-use Rattle.std.proofs.Common.{◌≡◌, ◌⊎◌, ⊎_elim, inl, ℕ, ◌+◌, ◌<◌, ◌≤◌, ℤ, ◌≤ℤ◌, List, [], ◌∷◌, length, get_or, refl, sym, ap, subst, arith}
+use Rattle.std.proofs.Common.{◌≡◌, ⊎_elim, inl, ℕ, ◌+◌, ◌<◌, ℤ, List, [], ◌∷◌, length, get_or, refl, sym, ap, subst, arith}
 use Rattle.std.proofs.lemmas.Int.{ints}
 use Rattle.std.proofs.Math.Nat.{eq-or-lt_of_le}
 use Rattle.std.specs.Prelude.{IsOk, None, Option, Result, Some}
-use Rattle.ivl_laws.specs.Sets.{Above, Below, HasNone, HasSome, Intersection, IsBetween, IsSubset}
+use Rattle.ivl_laws.specs.Sets.{Above, Below, HasSome, Intersection, IsBetween, IsSubset}
 use Rattle.ivl_laws.specs.Runs.{Covers, IsMaximal, IsRunsOf}
 use Rattle.ivl_laws.proofs.Places.{covers_at}
 use Rattle.ivl_laws.proofs.Runs.{lower_end, upper_end}

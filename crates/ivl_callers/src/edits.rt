@@ -1,7 +1,7 @@
 //! What the in-place edits of a set mean, as a caller learns it: the members before and after, and
 //! that a set is unchanged after an error.
-ghost use Rattle.std.specs.Prelude.{◌≡◌, ◌↔◌, ℤ, ◌≤ℤ◌, [], IfOk, IfSome, IsTrue, MatchOption, None, OnErr, OnOk};
-ghost use Rattle.ivl_laws.specs.Sets.{IsBetween, IsInRange, Only, Union, Without};
+ghost use Rattle.std.specs.Prelude.{◌≡◌, ◌↔◌, ℤ, pos, ◌+ℤ◌, ◌-ℤ◌, ◌≤ℤ◌, [], IfOk, IfSome, IsTrue, MatchOption, None, OnErr, OnOk};
+ghost use Rattle.ivl_laws.specs.Sets.{IsBetween, IsInRange, Only, SameMembers, Union, Without};
 ghost use Rattle.ivl_laws.specs.Runs.{Covers, IsRunsOf};
 
 use intervallum::interval::Interval;
@@ -62,6 +62,39 @@ pub fn set_loses_interval<B: Width>(
     ensures err { OnErr result (set.new ≡ set.old) }
 {
     set.remove_interval(interval)
+}
+
+/// Adds a member again, which cannot fail.
+pub fn member_again<B: Width>(set: &mut IntervalSet<B>, value: B)
+    requires in_range { IsBetween B.whole (B.value value) }
+    requires member { Covers set.old (B.value value) }
+    ensures { SameMembers (Covers set.new) (Covers set.old) }
+{
+    set.insert(value).unwrap();
+}
+
+/// Removes a number that is no member, which cannot fail.
+pub fn loses_no_member<B: Width>(set: &mut IntervalSet<B>, value: B)
+    requires { ¬ (Covers set.old (B.value value)) }
+    ensures { SameMembers (Covers set.new) (Covers set.old) }
+{
+    set.remove(value).unwrap();
+}
+
+/// Adds an interval that starts right above a member, which cannot fail.
+pub fn joined_in_place<B: Width>(set: &mut IntervalSet<B>, interval: Interval<B>)
+    requires { Covers set.old (interval.0 -ℤ pos 1) × (interval.0 ≤ℤ interval.1) }
+    ensures { IsRunsOf set.new (Union (Covers set.old) (IsBetween interval)) }
+{
+    set.insert_interval(interval).unwrap();
+}
+
+/// Removes an interval that ends right below a number that is no member, which cannot fail.
+pub fn cut_in_place<B: Width>(set: &mut IntervalSet<B>, interval: Interval<B>)
+    requires { ¬ (Covers set.old (interval.1 +ℤ pos 1)) × (interval.0 ≤ℤ interval.1) }
+    ensures { IsRunsOf set.new (Without (Covers set.old) (IsBetween interval)) }
+{
+    set.remove_interval(interval).unwrap();
 }
 
 /// Removes all members: no run is left.

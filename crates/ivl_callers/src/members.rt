@@ -1,5 +1,5 @@
 //! Callers that iterate over the members of a set, from either end.
-ghost use Rattle.std.specs.Prelude.{◌≡◌, IfOk, IsOk, MatchOption, map};
+ghost use Rattle.std.specs.Prelude.{◌≡◌, [], ◌∷◌, ◌++◌, IfOk, IsOk, MatchOption, map};
 ghost use Rattle.ivl_laws.specs.Sets.{HasNone};
 ghost use Rattle.ivl_laws.specs.Runs.{Covers};
 ghost use Rattle.intervallum.specs.Members.{members_of};
@@ -28,6 +28,20 @@ pub fn greatest_member<B: Width>(set: &IntervalSet<B>) -> Option<B>
     ensures { MatchOption result (HasNone (Covers set.now)) (λ x. IsGreatest (B.value x) (Covers set.now)) }
 {
     set.members().next_back()
+}
+
+/// Removes and returns the first of the members that are left.
+pub fn first_member_left<B: Width>(left: &mut Members<'_, B>) -> Option<B>
+    ensures { MatchOption result ((left.old ≡ []) × (left.new ≡ [])) (λ x. left.old ≡ B.value x ∷ left.new) }
+{
+    left.next()
+}
+
+/// Removes and returns the last of the members that are left.
+pub fn last_member_left<B: Width>(left: &mut Members<'_, B>) -> Option<B>
+    ensures { MatchOption result ((left.old ≡ []) × (left.new ≡ [])) (λ x. left.old ≡ left.new ++ B.value x ∷ []) }
+{
+    left.next_back()
 }
 
 /// Returns a clone, which has the same members left. Cloning never fails.

@@ -1,8 +1,8 @@
 //! The calls of sets that take memory. Each is right where it answers the set of these runs.
 
 use crate::runs::{
-    APART, BETWEEN, DIFFERENCES, FIRST, FIRST_RUNS, PRODUCTS, Runs, SHARED, SUMS, UNITED, WHOLE,
-    is_of,
+    APART, BETWEEN, DIFFERENCES, FIRST, FIRST_RUNS, MINUS_THREE, PLUS_THREE, PRODUCTS, Runs,
+    SHARED, SUMS, TIMES_MINUS_THREE, UNITED, WHOLE, is_of,
 };
 use intervallum::interval::Interval;
 use intervallum::prelude::*;
@@ -28,12 +28,6 @@ const WITH_THREE: Runs = &[(1, 3), (5, 6), (9, 10), (13, 14)];
 const FIVE: Runs = &[(5, 5)];
 
 const WITHOUT_FIVE: Runs = &[(1, 2), (6, 6), (9, 10), (13, 14)];
-
-const PLUS_THREE: Runs = &[(4, 5), (8, 9), (12, 13), (16, 17)];
-
-const MINUS_THREE: Runs = &[(-2, -1), (2, 3), (6, 7), (10, 11)];
-
-const TIMES_MINUS_THREE: Runs = &[(-42, -39), (-30, -27), (-18, -15), (-6, -3)];
 
 /// The numbers from 2 to 9, and what the first operand is with them.
 const WINDOW: Runs = &[(2, 9)];

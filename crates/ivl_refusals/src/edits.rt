@@ -19,6 +19,9 @@ const REMOVED: Runs = &[(1, 2), (5, 6), (9, 10), (13, 14), (16, 20)];
 
 const REMOVED_INTERVAL: Runs = &[(1, 2), (5, 6), (9, 10), (13, 14), (18, 20)];
 
+/// What edits leave that need no memory.
+const EDITED: Runs = &[(1, 2), (5, 5)];
+
 /// Whether the edit of this name leaves the right set; none where there is no such edit.
 pub fn call(alloc: Global, name: &str, a: &IntervalSet<i32>) -> Option<Result<bool, AllocError>> {
     Some(match name {
@@ -27,6 +30,7 @@ pub fn call(alloc: Global, name: &str, a: &IntervalSet<i32>) -> Option<Result<bo
         "remove" => is_of(removed(a), REMOVED),
         "insert_interval" => is_of(inserted_interval(a), INSERTED_INTERVAL),
         "remove_interval" => is_of(removed_interval(a), REMOVED_INTERVAL),
+        "edit_in_place" => is_of(edited_in_place(a), EDITED),
         _ => return None,
     })
 }
@@ -86,5 +90,29 @@ fn removed_interval(a: &IntervalSet<i32>) -> Result<IntervalSet<i32>, AllocError
 fn lengthened(a: &IntervalSet<i32>) -> Result<IntervalSet<i32>, AllocError> {
     let mut set = a.try_clone()?;
     set.insert_interval(Interval::new(15, 20))?;
+    Ok(set)
+}
+
+/// A copy after edits that neither add a run nor split one, and that fill it again up to the capacity that `clear` kept.
+/// So all that it asks for is the copy.
+fn edited_in_place(a: &IntervalSet<i32>) -> Result<IntervalSet<i32>, AllocError> {
+    let mut set = a.try_clone()?;
+    set.insert(2)?;
+    set.insert(3)?;
+    set.insert_interval(Interval::new(4, 11))?;
+    set.remove(0)?;
+    set.remove(1)?;
+    set.remove_interval(Interval::new(11, 13))?;
+    set.remove_interval(Interval::new(20, 30))?;
+    set.extend([Interval::new(3, 9)].iter().copied())?;
+    set.pop_first();
+    set.pop_last();
+    set.clear();
+    set.insert(1)?;
+    set.insert(5)?;
+    set.insert(9)?;
+    set.insert(13)?;
+    set.insert(2)?;
+    set.remove_interval(Interval::new(9, 13))?;
     Ok(set)
 }

@@ -10,6 +10,7 @@ mod calculator;
 mod calls;
 mod edits;
 mod expr;
+mod forms;
 mod json;
 mod runs;
 mod store;
@@ -100,6 +101,7 @@ fn call(
 ) -> Option<Result<bool, AllocError>> {
     calls::call(alloc, name, a, b)
         .or(edits::call(alloc, name, a))
+        .or(forms::call(alloc, name, a, b))
         .or(expr::call(alloc, name, a, b))
         .or(json::call(alloc, name, a))
         .or(calculator::call(alloc, name, a, b))

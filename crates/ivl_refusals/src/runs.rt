@@ -76,6 +76,13 @@ pub const PRODUCTS: Runs = &[
     (520, 574),
 ];
 
+/// The first operand with three added to each number, with three taken away, and times -3.
+pub const PLUS_THREE: Runs = &[(4, 5), (8, 9), (12, 13), (16, 17)];
+
+pub const MINUS_THREE: Runs = &[(-2, -1), (2, 3), (6, 7), (10, 11)];
+
+pub const TIMES_MINUS_THREE: Runs = &[(-42, -39), (-30, -27), (-18, -15), (-6, -3)];
+
 /// Whether a call answered the set of these runs.
 pub fn is_of(
     answer: Result<IntervalSet<i32>, AllocError>,

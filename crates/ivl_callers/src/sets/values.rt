@@ -80,6 +80,13 @@ pub fn runs_by_reference<B: Width>(set: &IntervalSet<B>) -> std::slice::Iter<'_,
     set.into_iter()
 }
 
+/// Removes and returns the first of the runs that are left.
+pub fn first_run_by_value<B: Width>(runs: &mut IntoRuns<B>) -> Option<Interval<B>>
+    ensures { MatchOption result ((runs.old ≡ []) × (runs.new ≡ [])) (λ run. runs.old ≡ run ∷ runs.new) }
+{
+    runs.next()
+}
+
 /// Removes and returns the last of the runs that are left.
 pub fn last_run_by_value<B: Width>(runs: &mut IntoRuns<B>) -> Option<Interval<B>>
     ensures { MatchOption result ((runs.old ≡ []) × (runs.new ≡ [])) (λ run. runs.old ≡ runs.new ++ run ∷ []) }

@@ -139,6 +139,29 @@ fn runs_of_a_set_taken_apart(rt: HostRuntime) {
 }
 
 #[test]
+fn three_runs_from_the_front(rt: HostRuntime) {
+    let a = set_of(&rt, &[(1, 2), (5, 6), (9, 9)]);
+    let wanted = [
+        Some(Interval::new(1, 2)),
+        Some(Interval::new(5, 6)),
+        Some(Interval::new(9, 9)),
+        None,
+    ];
+    let mut lent = a.iter().copied();
+    check_all(
+        &rt,
+        &[lent.next(), lent.next(), lent.next(), lent.next()],
+        &wanted,
+    );
+    let mut runs = a.into_iter();
+    check_all(
+        &rt,
+        &[runs.next(), runs.next(), runs.next(), runs.next()],
+        &wanted,
+    );
+}
+
+#[test]
 fn operations(rt: HostRuntime) {
     let (a, b) = (set_of(&rt, &[(1, 5)]), set_of(&rt, &[(4, 9)]));
     check_set(&rt, a.union(&b), &[(1, 9)]);

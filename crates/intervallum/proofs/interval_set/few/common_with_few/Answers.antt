@@ -1,9 +1,8 @@
-use Rattle.std.proofs.Common.{ℤ, ◌+◌, ◌*◌, ◌^◌, ◌<◌, ◌≤◌, ◌≤ℤ◌, List, length, take, refl, sym, subst, ◌∙◌, arith}
-use Rattle.ivl_laws.specs.Sets.{IsBetween, Intersection, Union}
+use Rattle.std.proofs.Common.{ℤ, ◌+◌, ◌*◌, ◌≤◌, ◌≤ℤ◌, List, length, sym, subst, arith}
+use Rattle.ivl_laws.specs.Sets.{Intersection}
 use Rattle.ivl_laws.specs.Runs.{Covers, IsRunsOf}
 use Rattle.ivl_laws.proofs.Lengths.{length_of_intersection}
 use Rattle.ivl_laws.proofs.Places.{open_at}
-use Rattle.intervallum.specs.Places.{EndBelow}
 use Rattle.intervallum.proofs.Few.{all_looks, more_looks, shared_by_all, shared_by_next, shared_by_none, written_below}
 use Rattle.intervallum.proofs.interval_set.few.common_with_few.Goals as goal
 

@@ -1,4 +1,4 @@
-use Rattle.std.proofs.Common.{◌∙◌, ◌≡◌, ℕ, ◌≤◌, ℤ, List, length, take, ap, subst, sym, arith}
+use Rattle.std.proofs.Common.{◌∙◌, ◌≤◌, ℤ, List, length, take, ap, subst, sym, arith}
 use Rattle.std.proofs.lemmas.Int.{ints}
 use Rattle.intervallum.specs.Places.{EndBelow}
 use Rattle.intervallum.proofs.Few.{is_shared, with_part}

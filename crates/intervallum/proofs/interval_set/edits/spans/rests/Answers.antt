@@ -1,4 +1,4 @@
-use Rattle.std.proofs.Common.{◌≡◌, ℤ, ◌-◌, [], ◌∷◌, Option, Some, subst, arith}
+use Rattle.std.proofs.Common.{ℤ, ◌-◌, [], ◌∷◌, Option, subst, arith}
 use Rattle.ivl_laws.specs.Sets.{Above, Below, IsBetween}
 use Rattle.ivl_laws.specs.Runs.{IsRunsOf}
 use Rattle.ivl_laws.proofs.SetLaws.{IsRunsOf-same}
