@@ -35,3 +35,4 @@ pub mod Few
 pub mod Shortening
 pub mod Members
 pub mod Uniting
+pub mod Clearing
