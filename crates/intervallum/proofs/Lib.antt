@@ -36,3 +36,4 @@ pub mod Few
 pub mod Shortening
 pub mod Members
 pub mod Uniting
+pub mod Clearing

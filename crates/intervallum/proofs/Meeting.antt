@@ -39,7 +39,7 @@ turned S T z = ((λ (s, t). (t, s)), (λ (t, s). (s, t)))
 
 -- ---- the same, where the first runs of two lists are read, and the one that ends first is taken
 
-opens : (L : List (ℤ × ℤ)) (p : ℤ × ℤ) → Some p ≡ slice_get L 0 → (rest : List (ℤ × ℤ)) × (L ≡ p ∷ rest)
+pub opens : (L : List (ℤ × ℤ)) (p : ℤ × ℤ) → Some p ≡ slice_get L 0 → (rest : List (ℤ × ℤ)) × (L ≡ p ∷ rest)
 opens [] p e = absurd (cc)
 opens (x ∷ L) p e = (L, (cc))
 
@@ -85,9 +85,6 @@ ends_before x y a b e f h = omega (arith, ints)
 
 pub starts_before : (x y a b : ℤ) → x ≡ a → y ≡ b → x <ℤ y → a ≤ℤ b
 starts_before x y a b e f h = omega (arith, ints)
-
-pub ends_past : (x y a b : ℤ) → x ≡ a → y ≡ b → y <ℤ x → b ≤ℤ a
-ends_past x y a b e f h = omega (arith, ints)
 
 -- ---- a list that has nothing left
 

@@ -3,7 +3,7 @@ use Rattle.std.proofs.Common.{◌≡◌, ◌↔◌, ⊎_elim, Bool, true, false,
 use Rattle.std.proofs.Math.Seq.{take-length}
 use Rattle.std.proofs.lemmas.Int.{ints, clamps, by_lt_z}
 use Rattle.std.proofs.lemmas.List.{get_or_push, length_push}
-use Rattle.std.proofs.lemmas.Option.{get_or_from_slice_get, slice_get-get_or, slice_get_cases}
+use Rattle.std.proofs.lemmas.Option.{get_or_from_slice_get, slice_get-get_or}
 use Rattle.std.specs.Int.{from_bool, int_max}
 use Rattle.std.specs.Prelude.{cond, not, slice_get}
 use Rattle.ivl_laws.specs.Sets.{Union}
@@ -101,10 +101,6 @@ unites_first V W A B A' B' p e f m n t =
 -- at the end both walks have nothing left
 pub all_united : (W A B : List (ℤ × ℤ)) (S : ℤ → Type 0) → A ≡ [] → B ≡ [] → IsUniting W A B S → IsRunsOf W S
 all_united W A B S e f u = uniting_ends W S (subst (λ (M : List (ℤ × ℤ)). IsUniting W [] M S) f (subst (λ (M : List (ℤ × ℤ)). IsUniting W M B S) e u))
-
-pub none_united : (W A B : List (ℤ × ℤ)) → W ≡ [] → A ≡ [] → B ≡ [] → IsMaximal A → IsMaximal B → IsRunsOf W (Union (Covers A) (Covers B))
-none_united W A B w e f m n =
-    all_united W A B (Union (Covers A) (Covers B)) e f (subst (λ (L : List (ℤ × ℤ)). IsUniting L A B (Union (Covers A) (Covers B))) (sym w) (uniting_begins A B m n))
 
 pub union_is_within : (whole : ℤ × ℤ) (W A B : List (ℤ × ℤ)) → IsRunListIn whole A → IsRunListIn whole B → IsRunsOf W (Union (Covers A) (Covers B)) → IsRunListIn whole W
 union_is_within whole W A B a b r = record { maximal = r.maximal; within = λ z c. ⊎_elim (λ x. a.within z x) (λ y. b.within z y) ((r.members z).0 c) }
