@@ -1,6 +1,6 @@
 //! The calculator, windows and the domain store under one name.
 //!
-//! [`Calc`] carries out commands over registers that hold interval sets. [`within`] has the sums
+//! [`Calc`], also in [`calc`], carries out commands over registers that hold interval sets. [`within`] has the sums
 //! and differences of sets, cut to the range or to a window, and [`store`] narrows domains by
 //! constraints `x + y = z`. A program that needs only the calculator depends on `ivl_registers`,
 //! and does not wait for the proof of the store.
@@ -13,6 +13,8 @@
 //! ```
 #![tactic(auto)]
 
-pub use ivl_registers::{Calc, Command, Refusal, Reply, laws};
+pub mod calc;
+
+pub use calc::{Calc, Command, Refusal, Reply, laws};
 pub use ivl_store::store;
 pub use ivl_within::within;

@@ -8,7 +8,7 @@ mod refusals;
 
 use crate::compare::{check_printed, made};
 use intervallum::width::Width;
-use ivl_calc::{Calc, Command, Reply};
+use ivl_calc::calc::{Calc, Command, Reply};
 use std::alloc::Global;
 use std::fmt::{Debug, Display};
 use std::process::Abort;

@@ -11,7 +11,7 @@ mod shapes;
 use crate::compare::{check_printed, set_of, sets_of};
 use intervallum::interval_set::IntervalSet;
 use intervallum::width::Width;
-use ivl_expr::{EvalFault, Expr, eval};
+use ivl_expr::expr::{EvalFault, Expr, eval};
 use std::alloc::Global;
 use std::fmt::Display;
 use std::process::Abort;

@@ -10,7 +10,7 @@ mod texts;
 mod writing;
 
 use crate::compare::made;
-use ivl_json::{JsonFault, JsonForm};
+use ivl_json::json::{JsonFault, JsonForm};
 use serde_json::Value;
 use std::alloc::{AllocError, Global};
 use std::fmt::Display;

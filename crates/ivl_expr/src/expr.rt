@@ -1,6 +1,9 @@
-//! Expressions.
+//! Expressions, and their evaluation by [`eval`].
 ghost use Rattle.std.specs.Prelude.{◌≡◌, ◌↔◌, IsTrue};
 ghost use Rattle.ivl_expr.specs.Variables.{HasProduct, Occurs, ReadOnce, ShareVariable, first_missing};
+
+pub use crate::fault::EvalFault;
+pub use crate::nodes::eval;
 
 /// An expression: sums, differences and products of variables and constants.
 ///

@@ -21,7 +21,7 @@
 //! The functions of [`laws`] state what holds of the values and node sets of every expression.
 #![tactic(auto)]
 
-mod expr;
+pub mod expr;
 mod fault;
 pub mod laws;
 mod nodes;

@@ -63,7 +63,7 @@ use std::alloc::{AllocError, Global};
 ///
 /// A contract sees a value as serde_json's `Data`, by `view`. For generic code the clauses state
 /// that what is written reads back, and the two laws that a value reads in at most one way.
-pub trait JsonForm {
+pub trait JsonForm: Sized {
     /// The JSON value reads as this.
     ghost reads: { Data → Self → Type 0 };
 

@@ -12,6 +12,7 @@
 pub mod faults;
 pub mod form;
 mod intervals;
+pub mod json;
 pub mod laws;
 mod numbers;
 mod sets;

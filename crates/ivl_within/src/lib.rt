@@ -1,8 +1,10 @@
 //! Sums and differences of sets, cut to the range of the bounds or to a window: see [`within`].
 //!
 //! ```
-//! // `a` is {[0..0][10..12][90..95]}, and `b` is {[1..2][50..60]}
-//! let sums = sums_in_window(&a, &b, &Interval::new(12, 62))?;    // {[12..14][50..62]}
+//! let a: IntervalSet<i16> = [(0, 0), (10, 12), (90, 95)].to_interval_set(alloc)?;
+//! let b: IntervalSet<i16> = [(1, 2), (50, 60)].to_interval_set(alloc)?;
+//! let sums = sums_in_window(&a, &b, &Interval::new(12, 62))?;
+//! assert!(rt; sums == [(12, 14), (50, 62)].to_interval_set(alloc)?);
 //! ```
 #![tactic(auto)]
 

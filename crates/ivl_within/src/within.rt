@@ -11,7 +11,7 @@ mod rows;
 pub use images::image;
 use intervallum::interval::Interval;
 use intervallum::interval_set::IntervalSet;
-use intervallum::ops::{Bounded, Empty, Fits, IsEmpty, Range, Whole};
+use intervallum::ops::{Bounded, Fits, IsEmpty, Whole};
 use intervallum::steps::Walk;
 use intervallum::sweep::coalesce;
 use intervallum::width::Width;
@@ -37,9 +37,9 @@ pub enum Combined {
 /// Fails only if allocation fails, or if `n * m` is above `usize::MAX`.
 ///
 /// ```
-/// // `whole` is the set of all numbers of the range of `i8`
-/// let (sums, is_cut) = add_within(whole, whole)?;
-/// assert!(rt; sums == *whole && is_cut);
+/// let whole: IntervalSet<i8> = IntervalSet::whole(alloc)?;
+/// let (sums, is_cut) = add_within(&whole, &whole)?;
+/// assert!(rt; sums == whole && is_cut);
 /// ```
 pub fn add_within<B: Width>(
     a: &IntervalSet<B>,
@@ -63,9 +63,10 @@ pub fn add_within<B: Width>(
 /// Fails only if allocation fails, or if `n * m` is above `usize::MAX`.
 ///
 /// ```
-/// // `none` is the empty set of `i8`, and `whole` that of all numbers of its range
-/// let (differences, is_cut) = sub_within(whole, none)?;
-/// assert!(rt; differences == *none && !is_cut);
+/// let whole: IntervalSet<i8> = IntervalSet::whole(alloc)?;
+/// let none = IntervalSet::empty(alloc);
+/// let (differences, is_cut) = sub_within(&whole, &none)?;
+/// assert!(rt; differences == none && !is_cut);
 /// ```
 pub fn sub_within<B: Width>(
     a: &IntervalSet<B>,

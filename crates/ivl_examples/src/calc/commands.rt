@@ -3,7 +3,7 @@ use super::{check_done, check_register, check_reply, set};
 use crate::compare::{check, check_all, made};
 use intervallum::interval::Interval;
 use intervallum::ops::Range;
-use ivl_calc::{Calc, Command, Reply};
+use ivl_calc::calc::{Calc, Command, Reply};
 
 #[test]
 fn a_register_may_be_its_own_operand(rt: HostRuntime) {

@@ -1,7 +1,7 @@
 //! What is refused, which reason is told, and that the registers stay.
 use super::{check_register, set};
 use crate::compare::{check, made};
-use ivl_calc::{Calc, Command, Refusal, Reply};
+use ivl_calc::calc::{Calc, Command, Refusal, Reply};
 use std::alloc::Global;
 use std::process::Abort;
 

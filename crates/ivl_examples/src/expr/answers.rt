@@ -5,7 +5,7 @@ use intervallum::interval::Interval;
 use intervallum::interval_set::IntervalSet;
 use intervallum::ops::{Cardinality, Range};
 use intervallum::sweep::coalesce;
-use ivl_expr::{Expr, eval};
+use ivl_expr::expr::{Expr, eval};
 use std::alloc::{AllocError, Global};
 use std::process::Abort;
 

@@ -1,7 +1,7 @@
 //! The examples of the docs: the same calls, and the same values.
 use super::{add, check_fault, check_set, mul, sub};
 use crate::compare::{check, check_all};
-use ivl_expr::{EvalFault, Expr};
+use ivl_expr::expr::{EvalFault, Expr};
 
 #[test]
 fn of_the_type(rt: HostRuntime) {

@@ -1,7 +1,7 @@
 //! What is refused, which fault is told, and the texts of the faults.
 use super::{add, check_fault, check_text, mul, sub};
 use crate::compare::check_printed;
-use ivl_expr::{EvalFault, Expr};
+use ivl_expr::expr::{EvalFault, Expr};
 use std::alloc::AllocError;
 
 #[test]

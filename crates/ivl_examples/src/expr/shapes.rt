@@ -1,7 +1,7 @@
 //! Which variables and products stand in an expression.
 use super::{add, mul, sub};
 use crate::compare::check_all;
-use ivl_expr::Expr;
+use ivl_expr::expr::Expr;
 
 #[test]
 fn variables_that_occur_and_repeat(rt: HostRuntime) {

@@ -5,7 +5,7 @@ use crate::compare::{check_all, check_printed, check_same, made};
 use intervallum::interval_set::ToIntervalSet;
 use intervallum::ops::{Empty, Range};
 use intervallum::{Interval, IntervalSet};
-use ivl_json::{ItemFault, JsonFault, JsonForm};
+use ivl_json::json::{ItemFault, JsonFault, JsonForm};
 use std::alloc::{AllocError, Global};
 use std::process::Abort;
 

@@ -2,7 +2,7 @@
 
 use crate::compare::{check, made};
 use intervallum::IntervalSet;
-use ivl_json::{ItemFault, JsonFault, JsonForm};
+use ivl_json::json::{ItemFault, JsonFault, JsonForm};
 use serde_json::{Value, json};
 use std::alloc::{AllocError, Global};
 

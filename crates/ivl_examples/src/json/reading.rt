@@ -2,7 +2,7 @@
 
 use super::{check_fault, check_read};
 use intervallum::{Interval, IntervalSet};
-use ivl_json::{ItemFault, JsonFault};
+use ivl_json::json::{ItemFault, JsonFault};
 
 // A JSON text, and the text that what is read is printed as.
 type Read = (&'static str, &'static str);

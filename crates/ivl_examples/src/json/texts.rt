@@ -1,7 +1,7 @@
 //! The texts of the faults.
 
 use crate::compare::check_printed;
-use ivl_json::{ItemFault, JsonFault};
+use ivl_json::json::{ItemFault, JsonFault};
 
 const OF_ITEMS: [(ItemFault, &str); 4] = [
     (ItemFault::Shape, "shape"),

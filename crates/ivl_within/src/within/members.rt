@@ -24,9 +24,11 @@ use std::alloc::AllocError;
 /// Fails only if allocation fails.
 ///
 /// ```
-/// // `a` is {[0..0][10..12][90..95]}, and `b` is {[1..2][50..60]}
-/// let x: IntervalSet<i16> = IntervalSet::new(alloc, 60, 93)?;
-/// let sums = kept(&x, &a, &b, Combined::Sum)?;    // {[60..72][91..93]}
+/// let a: IntervalSet<i16> = [(0, 0), (10, 12), (90, 95)].to_interval_set(alloc)?;
+/// let b: IntervalSet<i16> = [(1, 2), (50, 60)].to_interval_set(alloc)?;
+/// let x = IntervalSet::new(alloc, 60, 93)?;
+/// let sums = kept(&x, &a, &b, Combined::Sum)?;
+/// assert!(rt; sums == [(60, 72), (91, 93)].to_interval_set(alloc)?);
 /// ```
 pub fn kept<B: Width>(
     x: &IntervalSet<B>,
