@@ -12,3 +12,7 @@ extern crate alloc;
 pub mod definitions {}
 pub mod proved;
 pub mod rattle;
+pub mod set;
+
+pub use proved::width::{SizeNumber, Width};
+pub use set::IntervalSet;

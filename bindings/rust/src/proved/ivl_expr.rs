@@ -23,7 +23,7 @@
 #[allow(unused_imports)]
 use crate::rattle::prelude::*;
 
-mod expr;
+pub mod expr;
 mod fault;
 
 mod nodes;

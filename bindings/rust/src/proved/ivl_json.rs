@@ -19,6 +19,7 @@ use crate::rattle::prelude::*;
 pub mod faults;
 pub mod form;
 mod intervals;
+pub mod json;
 
 mod numbers;
 mod sets;

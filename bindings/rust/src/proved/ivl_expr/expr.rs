@@ -1,7 +1,9 @@
-//! Expressions.
+//! Expressions, and their evaluation by [`eval`].
 
 #[allow(unused_imports)]
 use crate::rattle::prelude::*;
+pub use crate::proved::ivl_expr::fault::EvalFault;
+pub use crate::proved::ivl_expr::nodes::eval;
 
 /// An expression: sums, differences and products of variables and constants.
 ///

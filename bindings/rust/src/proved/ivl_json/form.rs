@@ -76,7 +76,7 @@ use crate::rattle::std::alloc::{AllocError, Global};
 /// one_way: { (d : Data) (x y : Self) → reads d x → reads d y → same x y }
 /// not_refused: { (d : Data) (x : Self) (fault : JsonFault) → reads d x → faults d fault → fault ≡ Memory }
 /// ```
-pub trait JsonForm {
+pub trait JsonForm: Sized {
     /// Returns the JSON value of this interval or set.
     ///
     /// # Errors

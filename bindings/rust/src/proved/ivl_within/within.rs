@@ -10,7 +10,7 @@ mod rows;
 pub use images::image;
 use crate::proved::intervallum::interval::Interval;
 use crate::proved::intervallum::interval_set::IntervalSet;
-use crate::proved::intervallum::ops::{Bounded, Empty, Fits, IsEmpty, Range, Whole};
+use crate::proved::intervallum::ops::{Bounded, Fits, IsEmpty, Whole};
 use crate::proved::intervallum::steps::Walk;
 use crate::proved::intervallum::sweep::coalesce;
 use crate::proved::intervallum::width::Width;
@@ -39,9 +39,9 @@ pub enum Combined {
 /// # use intervallum::proved::examples::*;
 /// # fn main() -> Result<(), std::boxed::Box<dyn std::error::Error>> {
 /// # let alloc = Global;
-/// // `whole` is the set of all numbers of the range of `i8`
-/// let (sums, is_cut) = add_within(whole, whole)?;
-/// assert!(sums == *whole && is_cut);
+/// let whole: IntervalSet<i8> = IntervalSet::whole(alloc)?;
+/// let (sums, is_cut) = add_within(&whole, &whole)?;
+/// assert!(sums == whole && is_cut);
 /// # Ok(())
 /// # }
 /// ```
@@ -76,9 +76,10 @@ pub fn add_within<B: Width>(
 /// # use intervallum::proved::examples::*;
 /// # fn main() -> Result<(), std::boxed::Box<dyn std::error::Error>> {
 /// # let alloc = Global;
-/// // `none` is the empty set of `i8`, and `whole` that of all numbers of its range
-/// let (differences, is_cut) = sub_within(whole, none)?;
-/// assert!(differences == *none && !is_cut);
+/// let whole: IntervalSet<i8> = IntervalSet::whole(alloc)?;
+/// let none = IntervalSet::empty(alloc);
+/// let (differences, is_cut) = sub_within(&whole, &none)?;
+/// assert!(differences == none && !is_cut);
 /// # Ok(())
 /// # }
 /// ```

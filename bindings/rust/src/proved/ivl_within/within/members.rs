@@ -25,9 +25,11 @@ use crate::rattle::std::alloc::AllocError;
 /// # use intervallum::proved::examples::*;
 /// # fn main() -> Result<(), std::boxed::Box<dyn std::error::Error>> {
 /// # let alloc = Global;
-/// // `a` is {[0..0][10..12][90..95]}, and `b` is {[1..2][50..60]}
-/// let x: IntervalSet<i16> = IntervalSet::new(alloc, 60, 93)?;
-/// let sums = kept(&x, &a, &b, Combined::Sum)?;    // {[60..72][91..93]}
+/// let a: IntervalSet<i16> = [(0, 0), (10, 12), (90, 95)].to_interval_set(alloc)?;
+/// let b: IntervalSet<i16> = [(1, 2), (50, 60)].to_interval_set(alloc)?;
+/// let x = IntervalSet::new(alloc, 60, 93)?;
+/// let sums = kept(&x, &a, &b, Combined::Sum)?;
+/// assert!(sums == [(60, 72), (91, 93)].to_interval_set(alloc)?);
 /// # Ok(())
 /// # }
 /// ```

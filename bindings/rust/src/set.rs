@@ -1,0 +1,176 @@
+//! The set of the root: the proved set with the traits and the manners of a set of Rust's std.
+mod conditions;
+mod conversions;
+mod edits;
+mod iterators;
+mod operators;
+mod pieces;
+mod reads;
+#[cfg(feature = "serde")]
+mod serde;
+
+pub use iterators::{IntoIter, Iter, Range};
+pub use pieces::Piece;
+
+use crate::proved::ops::{
+    Complement as _, Difference as _, Intersection as _, SymmetricDifference as _, Union as _,
+};
+use crate::proved::width::Width;
+use crate::proved::{self, Global, Interval};
+use conditions::{broken, memory, numbers_of_type};
+
+/// A set of integers, stored as ascending runs that neither overlap nor touch.
+///
+/// `T` is one of Rust's integer types of at most 64 bits, or a type of your own that keeps the laws of [`Width`]. The numbers
+/// of a set are those from [`T::min_value()`](Width::min_value) to [`T::max_value()`](Width::max_value): one less than those
+/// of the type, so that the size of a set is a number of the unsigned type. 255 is a member of no set of `u8`.
+///
+/// A method whose docs name a condition panics where it is broken, and names itself, the condition and the values; the method
+/// `checked_..` beside it returns `None` instead. If memory runs out, the program ends, as it does in Rust's std.
+///
+/// ```
+/// use intervallum::IntervalSet;
+///
+/// let mut hours = IntervalSet::from([8..=11u8, 13..=16]);
+/// assert!(hours.insert(12) && !hours.insert(12));
+/// assert_eq!(hours, IntervalSet::new(8, 16));
+/// assert_eq!(hours.first_fit(3), Some(8..=10));
+/// assert_eq!(hours.to_string(), "[8..16]");
+/// ```
+///
+/// Each method is one call of the proved set below it, [`proved::IntervalSet`], whose page has its contract. `n` and `m` are
+/// the numbers of runs.
+pub struct IntervalSet<T: Width>(proved::IntervalSet<T>);
+
+/// Sets from bounds.
+impl<T: Width> IntervalSet<T> {
+    /// The empty set. Does not allocate.
+    pub fn empty() -> Self {
+        Self(proved::IntervalSet::empty(Global))
+    }
+
+    /// The numbers from `lower` to `upper`, both included. Both must be in the range, and `lower` not above `upper`.
+    ///
+    /// ```
+    /// # use intervallum::IntervalSet;
+    /// assert_eq!(IntervalSet::new(1, 5).len(), 5);
+    /// assert_eq!(IntervalSet::checked_new(1u8, 255), None);
+    /// ```
+    #[track_caller]
+    pub fn new(lower: T, upper: T) -> Self {
+        match Self::checked_new(lower, upper) {
+            Some(set) => set,
+            None => broken(
+                format_args!("new({}, {})", lower.number(), upper.number()),
+                format_args!("the bounds must be {}, the first not above the second", numbers_of_type::<T>()),
+            ),
+        }
+    }
+
+    /// [`new`](Self::new), or `None` where its condition is broken.
+    pub fn checked_new(lower: T, upper: T) -> Option<Self> {
+        let can = Interval::in_range(lower, upper) && lower <= upper;
+        can.then(|| Self(memory(proved::IntervalSet::new(Global, lower, upper))))
+    }
+
+    /// The set of one value, which must be in the range.
+    #[track_caller]
+    pub fn singleton(value: T) -> Self {
+        match Self::checked_singleton(value) {
+            Some(set) => set,
+            None => broken(
+                format_args!("singleton({})", value.number()),
+                format_args!("the value must be {}", numbers_of_type::<T>()),
+            ),
+        }
+    }
+
+    /// [`singleton`](Self::singleton), or `None` where its condition is broken.
+    pub fn checked_singleton(value: T) -> Option<Self> {
+        Self::checked_new(value, value)
+    }
+
+    /// All numbers of the range.
+    ///
+    /// ```
+    /// # use intervallum::IntervalSet;
+    /// assert_eq!(IntervalSet::<i8>::whole().to_string(), "[-127..127]");
+    /// ```
+    pub fn whole() -> Self {
+        Self(memory(proved::IntervalSet::whole(Global)))
+    }
+}
+
+/// Sets from sets.
+impl<T: Width> IntervalSet<T> {
+    /// The members of either set, as `|`. `O(n + m)`.
+    ///
+    /// ```
+    /// # use intervallum::IntervalSet;
+    /// let (a, b) = (IntervalSet::new(1, 5), IntervalSet::new(4, 9));
+    /// assert_eq!(a.union(&b), IntervalSet::new(1, 9));
+    /// assert_eq!(a.intersection(&b), IntervalSet::new(4, 5));
+    /// assert_eq!(a.difference(&b), IntervalSet::new(1, 3));
+    /// assert_eq!(a.symmetric_difference(&b), IntervalSet::from([1..=3, 6..=9]));
+    /// ```
+    pub fn union(&self, other: &Self) -> Self {
+        Self(memory(self.0.union(&other.0)))
+    }
+
+    /// The members of both sets, as `&`. `O(n + m)`, or `O(k log n)` if one has only `k` runs, far fewer than the other.
+    pub fn intersection(&self, other: &Self) -> Self {
+        Self(memory(self.0.intersection(&other.0)))
+    }
+
+    /// The members that are not in `other`. `O(n + m)`, or less as for [`intersection`](Self::intersection). The operator
+    /// `-` is another thing: the differences of members.
+    pub fn difference(&self, other: &Self) -> Self {
+        Self(memory(self.0.difference(&other.0)))
+    }
+
+    /// The members of exactly one of the sets, as `^`. `O(n + m)`.
+    pub fn symmetric_difference(&self, other: &Self) -> Self {
+        Self(memory(self.0.symmetric_difference(&other.0)))
+    }
+
+    /// The numbers of the range that are not members, as `!`. `O(n)`.
+    ///
+    /// ```
+    /// # use intervallum::IntervalSet;
+    /// assert_eq!(IntervalSet::new(10u8, 254).complement(), IntervalSet::new(0, 9));
+    /// ```
+    pub fn complement(&self) -> Self {
+        Self(memory(self.0.complement()))
+    }
+
+    /// The members that lie in a range: `O(log n + k)` for the `k` runs of the result.
+    ///
+    /// ```
+    /// # use intervallum::IntervalSet;
+    /// let a = IntervalSet::from([1..=2, 5..=9]);
+    /// assert_eq!(a.within(2..7), IntervalSet::from([2..=2, 5..=6]));
+    /// assert_eq!(a.gaps_within(0..=7), IntervalSet::from([0..=0, 3..=4]));
+    /// ```
+    pub fn within(&self, range: impl Piece<T>) -> Self {
+        Self(memory(self.0.intersection(&range.clamped())))
+    }
+
+    /// The numbers of a range that are not members, as far as they are in the range of `T`. `O(log n + k)`, where `k` runs
+    /// overlap it.
+    pub fn gaps_within(&self, range: impl Piece<T>) -> Self {
+        Self(memory(self.0.gaps_within(&range.clamped())))
+    }
+}
+
+/// The proved set below.
+impl<T: Width> IntervalSet<T> {
+    /// The proved set.
+    pub fn as_proved(&self) -> &proved::IntervalSet<T> {
+        &self.0
+    }
+
+    /// The proved set, by value.
+    pub fn into_proved(self) -> proved::IntervalSet<T> {
+        self.0
+    }
+}

@@ -1,0 +1,99 @@
+//! The traits of Rust's std that make sets, and that copy, compare and print them.
+use super::conditions::memory;
+use super::iterators::interval_of;
+use super::{IntervalSet, Piece};
+use crate::proved::ops::Bounded as _;
+use crate::proved::width::Width;
+use crate::proved::{self, Global, Interval};
+use core::fmt::{self, Debug, Display};
+use core::hash::{Hash, Hasher};
+use core::ops::{Range, RangeFrom, RangeFull, RangeInclusive, RangeTo, RangeToInclusive};
+
+macro_rules! from_pieces {
+    ($($piece:ty),*) => {$(
+        /// The numbers from one end to the other, all of which must be in the range.
+        impl<T: Width> From<$piece> for IntervalSet<T> {
+            #[track_caller]
+            fn from(piece: $piece) -> Self {
+                Self(memory(proved::IntervalSet::of(Global, interval_of("from", &piece))))
+            }
+        }
+    )*};
+}
+
+from_pieces!(
+    Range<T>,
+    RangeInclusive<T>,
+    RangeFrom<T>,
+    RangeTo<T>,
+    RangeToInclusive<T>,
+    RangeFull,
+    Interval<T>
+);
+
+/// The members of every piece: values, ranges or pairs, all of whose numbers must be in the range.
+impl<T: Width, P: Piece<T>, const N: usize> From<[P; N]> for IntervalSet<T> {
+    #[track_caller]
+    fn from(pieces: [P; N]) -> Self {
+        let mut set = Self::empty();
+        set.add_all("from", pieces);
+        set
+    }
+}
+
+impl<T: Width> From<proved::IntervalSet<T>> for IntervalSet<T> {
+    fn from(set: proved::IntervalSet<T>) -> Self {
+        Self(set)
+    }
+}
+
+impl<T: Width> From<IntervalSet<T>> for proved::IntervalSet<T> {
+    fn from(set: IntervalSet<T>) -> Self {
+        set.0
+    }
+}
+
+/// The empty set.
+impl<T: Width> Default for IntervalSet<T> {
+    fn default() -> Self {
+        Self::empty()
+    }
+}
+
+impl<T: Width> Clone for IntervalSet<T> {
+    fn clone(&self) -> Self {
+        Self(memory(self.0.try_clone()))
+    }
+}
+
+/// Whether the members are the same. `O(n)`, or `O(1)` if the sizes differ.
+impl<T: Width> PartialEq for IntervalSet<T> {
+    fn eq(&self, other: &Self) -> bool {
+        self.0 == other.0
+    }
+}
+
+impl<T: Width> Eq for IntervalSet<T> {}
+
+impl<T: Width + Hash> Hash for IntervalSet<T> {
+    fn hash<H: Hasher>(&self, state: &mut H) {
+        state.write_usize(self.interval_count());
+        for run in self.0.runs() {
+            (run.lower(), run.upper()).hash(state);
+        }
+    }
+}
+
+/// The runs, as in `{1..=2, 5..=6}`.
+impl<T: Width + Debug> Debug for IntervalSet<T> {
+    fn fmt(&self, f: &mut fmt::Formatter<'_>) -> fmt::Result {
+        f.debug_set().entries(self.runs()).finish()
+    }
+}
+
+/// `{}` for the empty set, `[1..5]` for one run, and `{[1..2][5..5]}` for more.
+impl<T: Width + Display> Display for IntervalSet<T> {
+    fn fmt(&self, f: &mut fmt::Formatter<'_>) -> fmt::Result {
+        Display::fmt(&self.0, f)
+    }
+}

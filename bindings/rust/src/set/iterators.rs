@@ -1,0 +1,156 @@
+//! Iteration over the members, and sets from what iterators yield.
+use super::conditions::{broken, memory, numbers_between, numbers_of_type};
+use super::{IntervalSet, Piece};
+use crate::proved::interval_set::{IntoRuns, Members};
+use crate::proved::ops::{
+    Bounded as _, Empty as _, Intersection as _, IsEmpty as _, StrictShrinkLeft as _, StrictShrinkRight as _,
+};
+use crate::proved::steps::{Place, Probes, find};
+use crate::proved::width::Width;
+use crate::proved::Interval;
+use core::iter::{Copied, FusedIterator};
+use core::mem;
+use core::slice;
+
+/// The members of a set, ascending.
+pub type Iter<'a, T> = Members<'a, T>;
+
+/// The members of a set, by value, ascending.
+pub struct IntoIter<T: Width>(Values<T, IntoRuns<T>>);
+
+/// The members of a set that lie in a range, ascending.
+pub struct Range<'a, T: Width>(Values<T, Copied<slice::Iter<'a, Interval<T>>>>);
+
+/// The numbers of an interval, of those that an iterator yields, and of a last one.
+struct Values<T: Width, I> {
+    first: Interval<T>,
+    between: I,
+    last: Interval<T>,
+}
+
+impl<T: Width, I: DoubleEndedIterator<Item = Interval<T>>> Values<T, I> {
+    fn next(&mut self) -> Option<T> {
+        if self.first.is_empty() {
+            self.first = self.between.next().unwrap_or_else(|| mem::replace(&mut self.last, Interval::empty()));
+        }
+        let least = (!self.first.is_empty()).then(|| self.first.lower())?;
+        self.first = self.first.strict_shrink_left(least);
+        Some(least)
+    }
+
+    fn next_back(&mut self) -> Option<T> {
+        if self.last.is_empty() {
+            self.last = self.between.next_back().unwrap_or_else(|| mem::replace(&mut self.first, Interval::empty()));
+        }
+        let greatest = (!self.last.is_empty()).then(|| self.last.upper())?;
+        self.last = self.last.strict_shrink_right(greatest);
+        Some(greatest)
+    }
+}
+
+impl<'a, T: Width> Range<'a, T> {
+    pub(super) fn new(set: &'a IntervalSet<T>, window: Interval<T>) -> Self {
+        let (start, end) = if window.is_empty() { (0, 0) } else { span(set, window) };
+        let (first, between, last) = match &set.0.runs()[start..end] {
+            [] => (Interval::empty(), [].as_slice(), Interval::empty()),
+            [run] => (run.intersection(&window), [].as_slice(), Interval::empty()),
+            [first, between @ .., last] => (first.intersection(&window), between, last.intersection(&window)),
+        };
+        Range(Values { first, between: between.iter().copied(), last })
+    }
+}
+
+/// The places of the first run that a window overlaps, and of the first run above it.
+fn span<T: Width>(set: &IntervalSet<T>, window: Interval<T>) -> (usize, usize) {
+    let mut probes = Probes::new(&set.0);
+    let start = match find(&mut probes, window.lower()) {
+        Place::In(run) | Place::Gap(run) => run,
+    };
+    match find(&mut probes, window.upper()) {
+        Place::In(run) => (start, run + 1),
+        Place::Gap(run) => (start, run),
+    }
+}
+
+macro_rules! iterators {
+    ($($name:ty),*) => {$(
+        impl<T: Width> Iterator for $name {
+            type Item = T;
+
+            fn next(&mut self) -> Option<T> {
+                self.0.next()
+            }
+        }
+
+        impl<T: Width> DoubleEndedIterator for $name {
+            fn next_back(&mut self) -> Option<T> {
+                self.0.next_back()
+            }
+        }
+
+        impl<T: Width> FusedIterator for $name {}
+    )*};
+}
+
+iterators!(IntoIter<T>, Range<'_, T>);
+
+/// The members, ascending.
+impl<T: Width> IntoIterator for IntervalSet<T> {
+    type Item = T;
+
+    type IntoIter = IntoIter<T>;
+
+    fn into_iter(self) -> IntoIter<T> {
+        IntoIter(Values { first: Interval::empty(), between: self.0.into_iter(), last: Interval::empty() })
+    }
+}
+
+/// The members, ascending.
+impl<'a, T: Width> IntoIterator for &'a IntervalSet<T> {
+    type Item = T;
+
+    type IntoIter = Iter<'a, T>;
+
+    fn into_iter(self) -> Iter<'a, T> {
+        self.iter()
+    }
+}
+
+/// The members of every piece, all of whose numbers must be in the range. `O(k log k)` for `k` pieces.
+impl<T: Width, P: Piece<T>> FromIterator<P> for IntervalSet<T> {
+    fn from_iter<I: IntoIterator<Item = P>>(pieces: I) -> Self {
+        let mut set = Self::empty();
+        set.add_all("from_iter", pieces);
+        set
+    }
+}
+
+/// Adds the members of every piece, all of whose numbers must be in the range; the set is unchanged if some are not.
+/// `O(k log k + n)` for `k` pieces.
+impl<T: Width, P: Piece<T>> Extend<P> for IntervalSet<T> {
+    fn extend<I: IntoIterator<Item = P>>(&mut self, pieces: I) {
+        self.add_all("extend", pieces);
+    }
+}
+
+impl<T: Width> IntervalSet<T> {
+    /// Adds every piece, for the call of this name.
+    pub(super) fn add_all<P: Piece<T>>(&mut self, call: &str, pieces: impl IntoIterator<Item = P>) {
+        memory(self.0.extend(pieces.into_iter().map(|piece| interval_of(call, &piece))));
+    }
+}
+
+/// The interval of a piece. Panics if some number is outside the range.
+#[track_caller]
+pub(super) fn interval_of<T: Width>(call: &str, piece: &impl Piece<T>) -> Interval<T> {
+    match piece.interval() {
+        Some(interval) => interval,
+        None => {
+            let (lower, upper) = piece.numbers();
+            broken(
+                format_args!("{call}({})", numbers_between(lower, upper)),
+                format_args!("the numbers must be {}", numbers_of_type::<T>()),
+            )
+        }
+    }
+}

@@ -1,0 +1,90 @@
+//! Values, ranges, pairs and intervals as parts of a set.
+use crate::proved::interval::Interval;
+use crate::proved::ops::{Bounded as _, Empty as _, IsEmpty as _, Range as _};
+use crate::proved::width::Width;
+use core::ops::{Range, RangeFrom, RangeFull, RangeInclusive, RangeTo, RangeToInclusive};
+
+/// The numbers from one to another: a value, a reference to one, a range of Rust's std, a pair of bounds that both belong to
+/// it, or a proved [`Interval`].
+///
+/// An unbounded side of a range ends with the range of `T`. Calls that add numbers need them to be in that range; to calls that
+/// ask, other numbers are no members.
+///
+/// ```
+/// use intervallum::IntervalSet;
+///
+/// let mut a: IntervalSet<u8> = [1, 2, 9].into_iter().collect();
+/// a.extend([(4, 5)]);
+/// a.extend([250..]);
+/// assert_eq!(a, IntervalSet::from([1..=2, 4..=5, 9..=9, 250..=254]));
+/// assert!(a.includes(4..6) && a.includes(&9) && !a.includes(..));
+/// ```
+pub trait Piece<T: Width> {
+    /// The least and the greatest number; crossed if there is none.
+    fn numbers(&self) -> (i128, i128);
+
+    /// The interval of the numbers, or `None` if some are outside the range.
+    fn interval(&self) -> Option<Interval<T>> {
+        match self.numbers() {
+            (lower, upper) if lower > upper => Some(Interval::empty()),
+            (lower, upper) => Some(Interval::new(T::from_number(lower)?, T::from_number(upper)?)),
+        }
+    }
+
+    /// The interval of the numbers that are in the range.
+    fn clamped(&self) -> Interval<T> {
+        let (lower, upper) = self.numbers();
+        let bounds = (lower.max(T::min_value().number()), upper.min(T::max_value().number()));
+        Piece::<T>::interval(&Numbers(bounds)).unwrap_or_else(Interval::empty)
+    }
+}
+
+/// Numbers, which may be outside the range of a type.
+struct Numbers((i128, i128));
+
+impl<T: Width> Piece<T> for Numbers {
+    fn numbers(&self) -> (i128, i128) {
+        self.0
+    }
+}
+
+fn below<T: Width>(end: &T) -> i128 {
+    end.number().saturating_sub(1)
+}
+
+fn least<T: Width>() -> i128 {
+    T::min_value().number()
+}
+
+fn greatest<T: Width>() -> i128 {
+    T::max_value().number()
+}
+
+macro_rules! pieces {
+    ($($piece:ty, $x:ident => $lower:expr, $upper:expr;)*) => {$(
+        impl<T: Width> Piece<T> for $piece {
+            fn numbers(&self) -> (i128, i128) {
+                let $x = self;
+                ($lower, $upper)
+            }
+        }
+    )*};
+}
+
+pieces! {
+    T, x => x.number(), x.number();
+    &T, x => x.number(), x.number();
+    (T, T), x => x.0.number(), x.1.number();
+    Range<T>, x => x.start.number(), below(&x.end);
+    RangeInclusive<T>, x => x.start().number(), x.end().number();
+    RangeFrom<T>, x => x.start.number(), greatest::<T>();
+    RangeTo<T>, x => least::<T>(), below(&x.end);
+    RangeToInclusive<T>, x => least::<T>(), x.end.number();
+    RangeFull, _x => least::<T>(), greatest::<T>();
+    Interval<T>, x => bounds(x).0, bounds(x).1;
+}
+
+/// The numbers of the bounds; crossed if the interval is empty.
+fn bounds<T: Width>(interval: &Interval<T>) -> (i128, i128) {
+    if interval.is_empty() { (1, 0) } else { (interval.lower().number(), interval.upper().number()) }
+}
