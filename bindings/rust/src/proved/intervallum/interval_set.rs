@@ -110,7 +110,7 @@ impl<B: Width> IntervalSet<B> {
     ///
     /// Words: [`IsInRange`](crate::definitions#IsInRange).
     pub fn new(alloc: Global, lb: B, ub: B) -> Result<Self, AllocError> {
-        debug_assert!({ #[allow(unused_imports)] use crate::proved::ivl_interval::ops::*; Interval::in_range(lb, ub) && lb <= ub });
+        debug_assert!({ #[allow(unused_imports)] use crate::proved::ivl_interval::ops::*; Interval::in_range(lb, ub) && lb <= ub }, "{}", "the condition of `new` is broken: Interval::in_range(lb, ub) && lb <= ub");
         let run = Interval::new(lb, ub);
         let mut intervals = Vec::with_capacity(alloc, 1)?;
         intervals.push_reserved(run);

@@ -156,6 +156,7 @@ pub trait SizeNumber: Ord + Copy {
     /// ensures { size result ≡ size self + size other }
     /// ```
     fn add_in_range(self, other: Self) -> Self {
+        debug_assert!({ #[allow(unused_imports)] use crate::proved::ivl_interval::ops::*; self.checked_add(other).is_some() }, "{}", "the condition of `add_in_range` is broken: self.checked_add(other).is_some()");
         self.checked_add(other).unwrap()
     }
 }
@@ -298,6 +299,7 @@ pub trait Width: Ord + Copy {
     ///
     /// Words: [`IsInRange`](crate::definitions#IsInRange), [`width_of`](crate::definitions#width_of).
     fn width(lower: &Self, upper: &Self) -> Self::Output {
+        debug_assert!({ #[allow(unused_imports)] use crate::proved::ivl_interval::ops::*; Self::min_value() <= *lower && lower <= upper && *upper <= Self::max_value() }, "{}", "the condition of `width` is broken: Self::min_value() <= *lower && lower <= upper && *upper <= Self::max_value()");
         let last = (upper.number() - lower.number()) as u128;
         Self::Output::from_number(last + 1).unwrap()
     }
@@ -435,6 +437,7 @@ pub trait Width: Ord + Copy {
     ///
     /// Words: [`IsBetween`](crate::definitions#IsBetween).
     fn add_in_range(self, other: Self) -> Self {
+        debug_assert!({ #[allow(unused_imports)] use crate::proved::ivl_interval::ops::*; self.checked_add(other).is_some() }, "{}", "the condition of `add_in_range` is broken: self.checked_add(other).is_some()");
         self.checked_add(other).unwrap()
     }
 
@@ -460,6 +463,7 @@ pub trait Width: Ord + Copy {
     ///
     /// Words: [`IsBetween`](crate::definitions#IsBetween).
     fn sub_in_range(self, other: Self) -> Self {
+        debug_assert!({ #[allow(unused_imports)] use crate::proved::ivl_interval::ops::*; self.checked_sub(other).is_some() }, "{}", "the condition of `sub_in_range` is broken: self.checked_sub(other).is_some()");
         self.checked_sub(other).unwrap()
     }
 
@@ -485,6 +489,7 @@ pub trait Width: Ord + Copy {
     ///
     /// Words: [`IsBetween`](crate::definitions#IsBetween).
     fn mul_in_range(self, other: Self) -> Self {
+        debug_assert!({ #[allow(unused_imports)] use crate::proved::ivl_interval::ops::*; self.checked_mul(other).is_some() }, "{}", "the condition of `mul_in_range` is broken: self.checked_mul(other).is_some()");
         self.checked_mul(other).unwrap()
     }
 }

@@ -44,7 +44,7 @@ impl<B: Width> Add<IntervalSet<B>> for IntervalSet<B> {
     /// # }
     /// ```
     fn add(self, rhs: IntervalSet<B>) -> Result<IntervalSet<B>, AllocError> {
-        debug_assert!({ #[allow(unused_imports)] use crate::proved::ivl_interval::ops::*; self.fits_add(&rhs) });
+        debug_assert!({ #[allow(unused_imports)] use crate::proved::ivl_interval::ops::*; self.fits_add(&rhs) }, "{}", "the condition of `add` is broken: self.fits_add(&rhs)");
         combine(&self, &rhs, Op::Sum)
     }
 }
@@ -66,7 +66,7 @@ impl<B: Width> Add<&IntervalSet<B>> for IntervalSet<B> {
     /// `O(n m log (n m))` for `n` and `m` runs. Allocates at most `2 n m` runs. Fails only if
     /// allocation fails.
     fn add(self, rhs: &IntervalSet<B>) -> Result<IntervalSet<B>, AllocError> {
-        debug_assert!({ #[allow(unused_imports)] use crate::proved::ivl_interval::ops::*; self.fits_add(rhs) });
+        debug_assert!({ #[allow(unused_imports)] use crate::proved::ivl_interval::ops::*; self.fits_add(rhs) }, "{}", "the condition of `add` is broken: self.fits_add(rhs)");
         combine(&self, rhs, Op::Sum)
     }
 }
@@ -88,7 +88,7 @@ impl<B: Width> Add<IntervalSet<B>> for &IntervalSet<B> {
     /// `O(n m log (n m))` for `n` and `m` runs. Allocates at most `2 n m` runs. Fails only if
     /// allocation fails.
     fn add(self, rhs: IntervalSet<B>) -> Result<IntervalSet<B>, AllocError> {
-        debug_assert!({ #[allow(unused_imports)] use crate::proved::ivl_interval::ops::*; self.fits_add(&rhs) });
+        debug_assert!({ #[allow(unused_imports)] use crate::proved::ivl_interval::ops::*; self.fits_add(&rhs) }, "{}", "the condition of `add` is broken: self.fits_add(&rhs)");
         combine(self, &rhs, Op::Sum)
     }
 }
@@ -110,7 +110,7 @@ impl<B: Width> Add<&IntervalSet<B>> for &IntervalSet<B> {
     /// `O(n m log (n m))` for `n` and `m` runs. Allocates at most `2 n m` runs. Fails only if
     /// allocation fails.
     fn add(self, rhs: &IntervalSet<B>) -> Result<IntervalSet<B>, AllocError> {
-        debug_assert!({ #[allow(unused_imports)] use crate::proved::ivl_interval::ops::*; self.fits_add(rhs) });
+        debug_assert!({ #[allow(unused_imports)] use crate::proved::ivl_interval::ops::*; self.fits_add(rhs) }, "{}", "the condition of `add` is broken: self.fits_add(rhs)");
         combine(self, rhs, Op::Sum)
     }
 }
@@ -152,7 +152,7 @@ impl<B: Width> Add<B> for IntervalSet<B> {
     ///
     /// Words: [`IsSubset`](crate::definitions#IsSubset), [`Sums`](crate::definitions#Sums), [`Covers`](crate::definitions#Covers), [`Only`](crate::definitions#Only), [`IsBetween`](crate::definitions#IsBetween), [`IsRunsOf`](crate::definitions#IsRunsOf).
     fn add(self, rhs: B) -> Result<IntervalSet<B>, AllocError> {
-        debug_assert!({ #[allow(unused_imports)] use crate::proved::ivl_interval::ops::*; self.fits_add(&rhs) });
+        debug_assert!({ #[allow(unused_imports)] use crate::proved::ivl_interval::ops::*; self.fits_add(&rhs) }, "{}", "the condition of `add` is broken: self.fits_add(&rhs)");
         combine_with(&self, rhs, Op::Sum)
     }
 }
@@ -183,7 +183,7 @@ impl<B: Width> Add<&B> for IntervalSet<B> {
     ///
     /// Words: [`IsSubset`](crate::definitions#IsSubset), [`Sums`](crate::definitions#Sums), [`Covers`](crate::definitions#Covers), [`Only`](crate::definitions#Only), [`IsBetween`](crate::definitions#IsBetween), [`IsRunsOf`](crate::definitions#IsRunsOf).
     fn add(self, rhs: &B) -> Result<IntervalSet<B>, AllocError> {
-        debug_assert!({ #[allow(unused_imports)] use crate::proved::ivl_interval::ops::*; self.fits_add(rhs) });
+        debug_assert!({ #[allow(unused_imports)] use crate::proved::ivl_interval::ops::*; self.fits_add(rhs) }, "{}", "the condition of `add` is broken: self.fits_add(rhs)");
         combine_with(&self, *rhs, Op::Sum)
     }
 }
@@ -214,7 +214,7 @@ impl<B: Width> Add<B> for &IntervalSet<B> {
     ///
     /// Words: [`IsSubset`](crate::definitions#IsSubset), [`Sums`](crate::definitions#Sums), [`Covers`](crate::definitions#Covers), [`Only`](crate::definitions#Only), [`IsBetween`](crate::definitions#IsBetween), [`IsRunsOf`](crate::definitions#IsRunsOf).
     fn add(self, rhs: B) -> Result<IntervalSet<B>, AllocError> {
-        debug_assert!({ #[allow(unused_imports)] use crate::proved::ivl_interval::ops::*; self.fits_add(&rhs) });
+        debug_assert!({ #[allow(unused_imports)] use crate::proved::ivl_interval::ops::*; self.fits_add(&rhs) }, "{}", "the condition of `add` is broken: self.fits_add(&rhs)");
         combine_with(self, rhs, Op::Sum)
     }
 }
@@ -245,7 +245,7 @@ impl<B: Width> Add<&B> for &IntervalSet<B> {
     ///
     /// Words: [`IsSubset`](crate::definitions#IsSubset), [`Sums`](crate::definitions#Sums), [`Covers`](crate::definitions#Covers), [`Only`](crate::definitions#Only), [`IsBetween`](crate::definitions#IsBetween), [`IsRunsOf`](crate::definitions#IsRunsOf).
     fn add(self, rhs: &B) -> Result<IntervalSet<B>, AllocError> {
-        debug_assert!({ #[allow(unused_imports)] use crate::proved::ivl_interval::ops::*; self.fits_add(rhs) });
+        debug_assert!({ #[allow(unused_imports)] use crate::proved::ivl_interval::ops::*; self.fits_add(rhs) }, "{}", "the condition of `add` is broken: self.fits_add(rhs)");
         combine_with(self, *rhs, Op::Sum)
     }
 }
@@ -278,7 +278,7 @@ impl<B: Width> Sub<IntervalSet<B>> for IntervalSet<B> {
     /// # }
     /// ```
     fn sub(self, rhs: IntervalSet<B>) -> Result<IntervalSet<B>, AllocError> {
-        debug_assert!({ #[allow(unused_imports)] use crate::proved::ivl_interval::ops::*; self.fits_sub(&rhs) });
+        debug_assert!({ #[allow(unused_imports)] use crate::proved::ivl_interval::ops::*; self.fits_sub(&rhs) }, "{}", "the condition of `sub` is broken: self.fits_sub(&rhs)");
         combine(&self, &rhs, Op::Difference)
     }
 }
@@ -300,7 +300,7 @@ impl<B: Width> Sub<&IntervalSet<B>> for IntervalSet<B> {
     /// `O(n m log (n m))` for `n` and `m` runs. Allocates at most `2 n m` runs. Fails only if
     /// allocation fails.
     fn sub(self, rhs: &IntervalSet<B>) -> Result<IntervalSet<B>, AllocError> {
-        debug_assert!({ #[allow(unused_imports)] use crate::proved::ivl_interval::ops::*; self.fits_sub(rhs) });
+        debug_assert!({ #[allow(unused_imports)] use crate::proved::ivl_interval::ops::*; self.fits_sub(rhs) }, "{}", "the condition of `sub` is broken: self.fits_sub(rhs)");
         combine(&self, rhs, Op::Difference)
     }
 }
@@ -322,7 +322,7 @@ impl<B: Width> Sub<IntervalSet<B>> for &IntervalSet<B> {
     /// `O(n m log (n m))` for `n` and `m` runs. Allocates at most `2 n m` runs. Fails only if
     /// allocation fails.
     fn sub(self, rhs: IntervalSet<B>) -> Result<IntervalSet<B>, AllocError> {
-        debug_assert!({ #[allow(unused_imports)] use crate::proved::ivl_interval::ops::*; self.fits_sub(&rhs) });
+        debug_assert!({ #[allow(unused_imports)] use crate::proved::ivl_interval::ops::*; self.fits_sub(&rhs) }, "{}", "the condition of `sub` is broken: self.fits_sub(&rhs)");
         combine(self, &rhs, Op::Difference)
     }
 }
@@ -344,7 +344,7 @@ impl<B: Width> Sub<&IntervalSet<B>> for &IntervalSet<B> {
     /// `O(n m log (n m))` for `n` and `m` runs. Allocates at most `2 n m` runs. Fails only if
     /// allocation fails.
     fn sub(self, rhs: &IntervalSet<B>) -> Result<IntervalSet<B>, AllocError> {
-        debug_assert!({ #[allow(unused_imports)] use crate::proved::ivl_interval::ops::*; self.fits_sub(rhs) });
+        debug_assert!({ #[allow(unused_imports)] use crate::proved::ivl_interval::ops::*; self.fits_sub(rhs) }, "{}", "the condition of `sub` is broken: self.fits_sub(rhs)");
         combine(self, rhs, Op::Difference)
     }
 }
@@ -387,7 +387,7 @@ impl<B: Width> Sub<B> for IntervalSet<B> {
     ///
     /// Words: [`IsSubset`](crate::definitions#IsSubset), [`Differences`](crate::definitions#Differences), [`Covers`](crate::definitions#Covers), [`Only`](crate::definitions#Only), [`IsBetween`](crate::definitions#IsBetween), [`IsRunsOf`](crate::definitions#IsRunsOf).
     fn sub(self, rhs: B) -> Result<IntervalSet<B>, AllocError> {
-        debug_assert!({ #[allow(unused_imports)] use crate::proved::ivl_interval::ops::*; self.fits_sub(&rhs) });
+        debug_assert!({ #[allow(unused_imports)] use crate::proved::ivl_interval::ops::*; self.fits_sub(&rhs) }, "{}", "the condition of `sub` is broken: self.fits_sub(&rhs)");
         combine_with(&self, rhs, Op::Difference)
     }
 }
@@ -419,7 +419,7 @@ impl<B: Width> Sub<&B> for IntervalSet<B> {
     ///
     /// Words: [`IsSubset`](crate::definitions#IsSubset), [`Differences`](crate::definitions#Differences), [`Covers`](crate::definitions#Covers), [`Only`](crate::definitions#Only), [`IsBetween`](crate::definitions#IsBetween), [`IsRunsOf`](crate::definitions#IsRunsOf).
     fn sub(self, rhs: &B) -> Result<IntervalSet<B>, AllocError> {
-        debug_assert!({ #[allow(unused_imports)] use crate::proved::ivl_interval::ops::*; self.fits_sub(rhs) });
+        debug_assert!({ #[allow(unused_imports)] use crate::proved::ivl_interval::ops::*; self.fits_sub(rhs) }, "{}", "the condition of `sub` is broken: self.fits_sub(rhs)");
         combine_with(&self, *rhs, Op::Difference)
     }
 }
@@ -451,7 +451,7 @@ impl<B: Width> Sub<B> for &IntervalSet<B> {
     ///
     /// Words: [`IsSubset`](crate::definitions#IsSubset), [`Differences`](crate::definitions#Differences), [`Covers`](crate::definitions#Covers), [`Only`](crate::definitions#Only), [`IsBetween`](crate::definitions#IsBetween), [`IsRunsOf`](crate::definitions#IsRunsOf).
     fn sub(self, rhs: B) -> Result<IntervalSet<B>, AllocError> {
-        debug_assert!({ #[allow(unused_imports)] use crate::proved::ivl_interval::ops::*; self.fits_sub(&rhs) });
+        debug_assert!({ #[allow(unused_imports)] use crate::proved::ivl_interval::ops::*; self.fits_sub(&rhs) }, "{}", "the condition of `sub` is broken: self.fits_sub(&rhs)");
         combine_with(self, rhs, Op::Difference)
     }
 }
@@ -483,7 +483,7 @@ impl<B: Width> Sub<&B> for &IntervalSet<B> {
     ///
     /// Words: [`IsSubset`](crate::definitions#IsSubset), [`Differences`](crate::definitions#Differences), [`Covers`](crate::definitions#Covers), [`Only`](crate::definitions#Only), [`IsBetween`](crate::definitions#IsBetween), [`IsRunsOf`](crate::definitions#IsRunsOf).
     fn sub(self, rhs: &B) -> Result<IntervalSet<B>, AllocError> {
-        debug_assert!({ #[allow(unused_imports)] use crate::proved::ivl_interval::ops::*; self.fits_sub(rhs) });
+        debug_assert!({ #[allow(unused_imports)] use crate::proved::ivl_interval::ops::*; self.fits_sub(rhs) }, "{}", "the condition of `sub` is broken: self.fits_sub(rhs)");
         combine_with(self, *rhs, Op::Difference)
     }
 }
@@ -516,7 +516,7 @@ impl<B: Width> Mul<IntervalSet<B>> for IntervalSet<B> {
     /// # }
     /// ```
     fn mul(self, rhs: IntervalSet<B>) -> Result<IntervalSet<B>, AllocError> {
-        debug_assert!({ #[allow(unused_imports)] use crate::proved::ivl_interval::ops::*; self.fits_mul(&rhs) });
+        debug_assert!({ #[allow(unused_imports)] use crate::proved::ivl_interval::ops::*; self.fits_mul(&rhs) }, "{}", "the condition of `mul` is broken: self.fits_mul(&rhs)");
         combine(&self, &rhs, Op::Product)
     }
 }
@@ -538,7 +538,7 @@ impl<B: Width> Mul<&IntervalSet<B>> for IntervalSet<B> {
     /// `O(n m log (n m))` for `n` and `m` runs. Allocates at most `2 n m` runs. Fails only if
     /// allocation fails.
     fn mul(self, rhs: &IntervalSet<B>) -> Result<IntervalSet<B>, AllocError> {
-        debug_assert!({ #[allow(unused_imports)] use crate::proved::ivl_interval::ops::*; self.fits_mul(rhs) });
+        debug_assert!({ #[allow(unused_imports)] use crate::proved::ivl_interval::ops::*; self.fits_mul(rhs) }, "{}", "the condition of `mul` is broken: self.fits_mul(rhs)");
         combine(&self, rhs, Op::Product)
     }
 }
@@ -560,7 +560,7 @@ impl<B: Width> Mul<IntervalSet<B>> for &IntervalSet<B> {
     /// `O(n m log (n m))` for `n` and `m` runs. Allocates at most `2 n m` runs. Fails only if
     /// allocation fails.
     fn mul(self, rhs: IntervalSet<B>) -> Result<IntervalSet<B>, AllocError> {
-        debug_assert!({ #[allow(unused_imports)] use crate::proved::ivl_interval::ops::*; self.fits_mul(&rhs) });
+        debug_assert!({ #[allow(unused_imports)] use crate::proved::ivl_interval::ops::*; self.fits_mul(&rhs) }, "{}", "the condition of `mul` is broken: self.fits_mul(&rhs)");
         combine(self, &rhs, Op::Product)
     }
 }
@@ -582,7 +582,7 @@ impl<B: Width> Mul<&IntervalSet<B>> for &IntervalSet<B> {
     /// `O(n m log (n m))` for `n` and `m` runs. Allocates at most `2 n m` runs. Fails only if
     /// allocation fails.
     fn mul(self, rhs: &IntervalSet<B>) -> Result<IntervalSet<B>, AllocError> {
-        debug_assert!({ #[allow(unused_imports)] use crate::proved::ivl_interval::ops::*; self.fits_mul(rhs) });
+        debug_assert!({ #[allow(unused_imports)] use crate::proved::ivl_interval::ops::*; self.fits_mul(rhs) }, "{}", "the condition of `mul` is broken: self.fits_mul(rhs)");
         combine(self, rhs, Op::Product)
     }
 }
@@ -628,7 +628,7 @@ impl<B: Width> Mul<B> for IntervalSet<B> {
     ///
     /// Words: [`IsSubset`](crate::definitions#IsSubset), [`ExactProducts`](crate::definitions#ExactProducts), [`Covers`](crate::definitions#Covers), [`Only`](crate::definitions#Only), [`IsBetween`](crate::definitions#IsBetween), [`IsRunsOf`](crate::definitions#IsRunsOf), [`Products`](crate::definitions#Products).
     fn mul(self, rhs: B) -> Result<IntervalSet<B>, AllocError> {
-        debug_assert!({ #[allow(unused_imports)] use crate::proved::ivl_interval::ops::*; self.fits_mul(&rhs) });
+        debug_assert!({ #[allow(unused_imports)] use crate::proved::ivl_interval::ops::*; self.fits_mul(&rhs) }, "{}", "the condition of `mul` is broken: self.fits_mul(&rhs)");
         combine_with(&self, rhs, Op::Product)
     }
 }
@@ -660,7 +660,7 @@ impl<B: Width> Mul<&B> for IntervalSet<B> {
     ///
     /// Words: [`IsSubset`](crate::definitions#IsSubset), [`ExactProducts`](crate::definitions#ExactProducts), [`Covers`](crate::definitions#Covers), [`Only`](crate::definitions#Only), [`IsBetween`](crate::definitions#IsBetween), [`IsRunsOf`](crate::definitions#IsRunsOf), [`Products`](crate::definitions#Products).
     fn mul(self, rhs: &B) -> Result<IntervalSet<B>, AllocError> {
-        debug_assert!({ #[allow(unused_imports)] use crate::proved::ivl_interval::ops::*; self.fits_mul(rhs) });
+        debug_assert!({ #[allow(unused_imports)] use crate::proved::ivl_interval::ops::*; self.fits_mul(rhs) }, "{}", "the condition of `mul` is broken: self.fits_mul(rhs)");
         combine_with(&self, *rhs, Op::Product)
     }
 }
@@ -692,7 +692,7 @@ impl<B: Width> Mul<B> for &IntervalSet<B> {
     ///
     /// Words: [`IsSubset`](crate::definitions#IsSubset), [`ExactProducts`](crate::definitions#ExactProducts), [`Covers`](crate::definitions#Covers), [`Only`](crate::definitions#Only), [`IsBetween`](crate::definitions#IsBetween), [`IsRunsOf`](crate::definitions#IsRunsOf), [`Products`](crate::definitions#Products).
     fn mul(self, rhs: B) -> Result<IntervalSet<B>, AllocError> {
-        debug_assert!({ #[allow(unused_imports)] use crate::proved::ivl_interval::ops::*; self.fits_mul(&rhs) });
+        debug_assert!({ #[allow(unused_imports)] use crate::proved::ivl_interval::ops::*; self.fits_mul(&rhs) }, "{}", "the condition of `mul` is broken: self.fits_mul(&rhs)");
         combine_with(self, rhs, Op::Product)
     }
 }
@@ -724,7 +724,7 @@ impl<B: Width> Mul<&B> for &IntervalSet<B> {
     ///
     /// Words: [`IsSubset`](crate::definitions#IsSubset), [`ExactProducts`](crate::definitions#ExactProducts), [`Covers`](crate::definitions#Covers), [`Only`](crate::definitions#Only), [`IsBetween`](crate::definitions#IsBetween), [`IsRunsOf`](crate::definitions#IsRunsOf), [`Products`](crate::definitions#Products).
     fn mul(self, rhs: &B) -> Result<IntervalSet<B>, AllocError> {
-        debug_assert!({ #[allow(unused_imports)] use crate::proved::ivl_interval::ops::*; self.fits_mul(rhs) });
+        debug_assert!({ #[allow(unused_imports)] use crate::proved::ivl_interval::ops::*; self.fits_mul(rhs) }, "{}", "the condition of `mul` is broken: self.fits_mul(rhs)");
         combine_with(self, *rhs, Op::Product)
     }
 }

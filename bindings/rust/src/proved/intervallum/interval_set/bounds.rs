@@ -122,7 +122,7 @@ impl<B: Width> Bounded for IntervalSet<B> {
     ///
     /// Words: [`HasSome`](crate::definitions#HasSome), [`Covers`](crate::definitions#Covers), [`IsBetween`](crate::definitions#IsBetween).
     fn lower(&self) -> B {
-        debug_assert!({ #[allow(unused_imports)] use crate::proved::ivl_interval::ops::*; !self.is_empty() });
+        debug_assert!({ #[allow(unused_imports)] use crate::proved::ivl_interval::ops::*; !self.is_empty() }, "{}", "the condition of `lower` is broken: !self.is_empty()");
         let first = self.intervals[0];
         first.lower()
     }
@@ -151,7 +151,7 @@ impl<B: Width> Bounded for IntervalSet<B> {
     ///
     /// Words: [`HasSome`](crate::definitions#HasSome), [`Covers`](crate::definitions#Covers), [`IsBetween`](crate::definitions#IsBetween).
     fn upper(&self) -> B {
-        debug_assert!({ #[allow(unused_imports)] use crate::proved::ivl_interval::ops::*; !self.is_empty() });
+        debug_assert!({ #[allow(unused_imports)] use crate::proved::ivl_interval::ops::*; !self.is_empty() }, "{}", "the condition of `upper` is broken: !self.is_empty()");
         let last = self.intervals[self.intervals.len() - 1];
         last.upper()
     }

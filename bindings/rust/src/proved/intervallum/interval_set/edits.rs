@@ -51,7 +51,7 @@ impl<B: Width> IntervalSet<B> {
     ///
     /// Words: [`IsBetween`](crate::definitions#IsBetween), [`IsRunsOf`](crate::definitions#IsRunsOf), [`Union`](crate::definitions#Union), [`Covers`](crate::definitions#Covers), [`Only`](crate::definitions#Only).
     pub fn insert(&mut self, value: B) -> Result<bool, AllocError> {
-        debug_assert!({ #[allow(unused_imports)] use crate::proved::ivl_interval::ops::*; Interval::in_range(value, value) });
+        debug_assert!({ #[allow(unused_imports)] use crate::proved::ivl_interval::ops::*; Interval::in_range(value, value) }, "{}", "the condition of `insert` is broken: Interval::in_range(value, value)");
         self.in_whole();
         if self.contains(&value) {
             return Ok(false);

@@ -38,7 +38,7 @@ impl<B: Width> IntervalSet<B> {
     ///
     /// Words: [`FitsAt`](crate::definitions#FitsAt), [`Covers`](crate::definitions#Covers), [`IsFirstFit`](crate::definitions#IsFirstFit).
     pub fn first_fit(&self, count: B::Output) -> Option<Interval<B>> {
-        debug_assert!({ #[allow(unused_imports)] use crate::proved::ivl_interval::ops::*; count.number() > 0 });
+        debug_assert!({ #[allow(unused_imports)] use crate::proved::ivl_interval::ops::*; count.number() > 0 }, "{}", "the condition of `first_fit` is broken: count.number() > 0");
         fit_in(self.as_runs(), count)
     }
 
@@ -71,7 +71,7 @@ impl<B: Width> IntervalSet<B> {
     ///
     /// Words: [`FitsAt`](crate::definitions#FitsAt), [`AtLeast`](crate::definitions#AtLeast), [`Covers`](crate::definitions#Covers), [`IsFirstFit`](crate::definitions#IsFirstFit).
     pub fn first_fit_from(&self, v: B, count: B::Output) -> Option<Interval<B>> {
-        debug_assert!({ #[allow(unused_imports)] use crate::proved::ivl_interval::ops::*; count.number() > 0 });
+        debug_assert!({ #[allow(unused_imports)] use crate::proved::ivl_interval::ops::*; count.number() > 0 }, "{}", "the condition of `first_fit_from` is broken: count.number() > 0");
         let runs = self.as_runs();
         let mut probes = Probes::new(self);
         match find(&mut probes, v) {

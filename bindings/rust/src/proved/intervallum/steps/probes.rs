@@ -103,6 +103,7 @@ impl<'a, B: Width> Probes<'a, B> {
     ///
     /// Words: [`IsRunListIn`](crate::definitions#IsRunListIn).
     pub fn look(&mut self, i: usize) -> Interval<B> {
+        debug_assert!({ #[allow(unused_imports)] use crate::proved::ivl_interval::ops::*; i < self.len() }, "{}", "the condition of `look` is broken: i < self.len()");
         let runs = self.runs;
         let run = runs[i];
         self.looks = self.looks.one_more();

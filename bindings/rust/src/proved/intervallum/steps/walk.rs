@@ -107,6 +107,7 @@ impl<'a, B: Width> Walk<'a, B> {
     /// ensures count { self.new.count ≡ self.old.count }
     /// ```
     pub fn advance(&mut self) {
+        debug_assert!({ #[allow(unused_imports)] use crate::proved::ivl_interval::ops::*; self.peek().is_some() }, "{}", "the condition of `advance` is broken: self.peek().is_some()");
         self.taken += 1;
     }
 

@@ -106,7 +106,7 @@ impl<B: Width> Add<Interval<B>> for Interval<B> {
     /// # }
     /// ```
     fn add(self, rhs: Interval<B>) -> Interval<B> {
-        debug_assert!({ #[allow(unused_imports)] use crate::proved::ivl_interval::ops::*; self.fits_add(&rhs) });
+        debug_assert!({ #[allow(unused_imports)] use crate::proved::ivl_interval::ops::*; self.fits_add(&rhs) }, "{}", "the condition of `add` is broken: self.fits_add(&rhs)");
         sums(self, rhs)
     }
 }
@@ -125,7 +125,7 @@ impl<B: Width> Add<&Interval<B>> for Interval<B> {
     /// Returns exactly the sums of a member of `self` and a member of `rhs`. The caller must ensure
     /// that the sums are in the range. Check with `fits_add`.
     fn add(self, rhs: &Interval<B>) -> Interval<B> {
-        debug_assert!({ #[allow(unused_imports)] use crate::proved::ivl_interval::ops::*; self.fits_add(rhs) });
+        debug_assert!({ #[allow(unused_imports)] use crate::proved::ivl_interval::ops::*; self.fits_add(rhs) }, "{}", "the condition of `add` is broken: self.fits_add(rhs)");
         sums(self, *rhs)
     }
 }
@@ -144,7 +144,7 @@ impl<B: Width> Add<Interval<B>> for &Interval<B> {
     /// Returns exactly the sums of a member of `self` and a member of `rhs`. The caller must ensure
     /// that the sums are in the range. Check with `fits_add`.
     fn add(self, rhs: Interval<B>) -> Interval<B> {
-        debug_assert!({ #[allow(unused_imports)] use crate::proved::ivl_interval::ops::*; self.fits_add(&rhs) });
+        debug_assert!({ #[allow(unused_imports)] use crate::proved::ivl_interval::ops::*; self.fits_add(&rhs) }, "{}", "the condition of `add` is broken: self.fits_add(&rhs)");
         sums(*self, rhs)
     }
 }
@@ -163,7 +163,7 @@ impl<B: Width> Add<&Interval<B>> for &Interval<B> {
     /// Returns exactly the sums of a member of `self` and a member of `rhs`. The caller must ensure
     /// that the sums are in the range. Check with `fits_add`.
     fn add(self, rhs: &Interval<B>) -> Interval<B> {
-        debug_assert!({ #[allow(unused_imports)] use crate::proved::ivl_interval::ops::*; self.fits_add(rhs) });
+        debug_assert!({ #[allow(unused_imports)] use crate::proved::ivl_interval::ops::*; self.fits_add(rhs) }, "{}", "the condition of `add` is broken: self.fits_add(rhs)");
         sums(*self, *rhs)
     }
 }
@@ -193,7 +193,7 @@ impl<B: Width> Add<B> for Interval<B> {
     /// # }
     /// ```
     fn add(self, rhs: B) -> Interval<B> {
-        debug_assert!({ #[allow(unused_imports)] use crate::proved::ivl_interval::ops::*; self.fits_add(&rhs) });
+        debug_assert!({ #[allow(unused_imports)] use crate::proved::ivl_interval::ops::*; self.fits_add(&rhs) }, "{}", "the condition of `add` is broken: self.fits_add(&rhs)");
         sums_with(self, rhs)
     }
 }
@@ -212,7 +212,7 @@ impl<B: Width> Add<&B> for Interval<B> {
     /// Returns exactly the sums of a member and the value. The caller must ensure that the sums are
     /// in the range. Check with `fits_add`.
     fn add(self, rhs: &B) -> Interval<B> {
-        debug_assert!({ #[allow(unused_imports)] use crate::proved::ivl_interval::ops::*; self.fits_add(rhs) });
+        debug_assert!({ #[allow(unused_imports)] use crate::proved::ivl_interval::ops::*; self.fits_add(rhs) }, "{}", "the condition of `add` is broken: self.fits_add(rhs)");
         sums_with(self, *rhs)
     }
 }
@@ -231,7 +231,7 @@ impl<B: Width> Add<B> for &Interval<B> {
     /// Returns exactly the sums of a member and the value. The caller must ensure that the sums are
     /// in the range. Check with `fits_add`.
     fn add(self, rhs: B) -> Interval<B> {
-        debug_assert!({ #[allow(unused_imports)] use crate::proved::ivl_interval::ops::*; self.fits_add(&rhs) });
+        debug_assert!({ #[allow(unused_imports)] use crate::proved::ivl_interval::ops::*; self.fits_add(&rhs) }, "{}", "the condition of `add` is broken: self.fits_add(&rhs)");
         sums_with(*self, rhs)
     }
 }
@@ -250,7 +250,7 @@ impl<B: Width> Add<&B> for &Interval<B> {
     /// Returns exactly the sums of a member and the value. The caller must ensure that the sums are
     /// in the range. Check with `fits_add`.
     fn add(self, rhs: &B) -> Interval<B> {
-        debug_assert!({ #[allow(unused_imports)] use crate::proved::ivl_interval::ops::*; self.fits_add(rhs) });
+        debug_assert!({ #[allow(unused_imports)] use crate::proved::ivl_interval::ops::*; self.fits_add(rhs) }, "{}", "the condition of `add` is broken: self.fits_add(rhs)");
         sums_with(*self, *rhs)
     }
 }
@@ -280,7 +280,7 @@ impl<B: Width> Sub<Interval<B>> for Interval<B> {
     /// # }
     /// ```
     fn sub(self, rhs: Interval<B>) -> Interval<B> {
-        debug_assert!({ #[allow(unused_imports)] use crate::proved::ivl_interval::ops::*; self.fits_sub(&rhs) });
+        debug_assert!({ #[allow(unused_imports)] use crate::proved::ivl_interval::ops::*; self.fits_sub(&rhs) }, "{}", "the condition of `sub` is broken: self.fits_sub(&rhs)");
         differences(self, rhs)
     }
 }
@@ -299,7 +299,7 @@ impl<B: Width> Sub<&Interval<B>> for Interval<B> {
     /// Returns exactly the differences of a member of `self` and a member of `rhs`. The caller must
     /// ensure that the differences are in the range. Check with `fits_sub`.
     fn sub(self, rhs: &Interval<B>) -> Interval<B> {
-        debug_assert!({ #[allow(unused_imports)] use crate::proved::ivl_interval::ops::*; self.fits_sub(rhs) });
+        debug_assert!({ #[allow(unused_imports)] use crate::proved::ivl_interval::ops::*; self.fits_sub(rhs) }, "{}", "the condition of `sub` is broken: self.fits_sub(rhs)");
         differences(self, *rhs)
     }
 }
@@ -318,7 +318,7 @@ impl<B: Width> Sub<Interval<B>> for &Interval<B> {
     /// Returns exactly the differences of a member of `self` and a member of `rhs`. The caller must
     /// ensure that the differences are in the range. Check with `fits_sub`.
     fn sub(self, rhs: Interval<B>) -> Interval<B> {
-        debug_assert!({ #[allow(unused_imports)] use crate::proved::ivl_interval::ops::*; self.fits_sub(&rhs) });
+        debug_assert!({ #[allow(unused_imports)] use crate::proved::ivl_interval::ops::*; self.fits_sub(&rhs) }, "{}", "the condition of `sub` is broken: self.fits_sub(&rhs)");
         differences(*self, rhs)
     }
 }
@@ -337,7 +337,7 @@ impl<B: Width> Sub<&Interval<B>> for &Interval<B> {
     /// Returns exactly the differences of a member of `self` and a member of `rhs`. The caller must
     /// ensure that the differences are in the range. Check with `fits_sub`.
     fn sub(self, rhs: &Interval<B>) -> Interval<B> {
-        debug_assert!({ #[allow(unused_imports)] use crate::proved::ivl_interval::ops::*; self.fits_sub(rhs) });
+        debug_assert!({ #[allow(unused_imports)] use crate::proved::ivl_interval::ops::*; self.fits_sub(rhs) }, "{}", "the condition of `sub` is broken: self.fits_sub(rhs)");
         differences(*self, *rhs)
     }
 }
@@ -367,7 +367,7 @@ impl<B: Width> Sub<B> for Interval<B> {
     /// # }
     /// ```
     fn sub(self, rhs: B) -> Interval<B> {
-        debug_assert!({ #[allow(unused_imports)] use crate::proved::ivl_interval::ops::*; self.fits_sub(&rhs) });
+        debug_assert!({ #[allow(unused_imports)] use crate::proved::ivl_interval::ops::*; self.fits_sub(&rhs) }, "{}", "the condition of `sub` is broken: self.fits_sub(&rhs)");
         differences_with(self, rhs)
     }
 }
@@ -386,7 +386,7 @@ impl<B: Width> Sub<&B> for Interval<B> {
     /// Returns exactly the differences of a member and the value. The caller must ensure that the
     /// differences are in the range. Check with `fits_sub`.
     fn sub(self, rhs: &B) -> Interval<B> {
-        debug_assert!({ #[allow(unused_imports)] use crate::proved::ivl_interval::ops::*; self.fits_sub(rhs) });
+        debug_assert!({ #[allow(unused_imports)] use crate::proved::ivl_interval::ops::*; self.fits_sub(rhs) }, "{}", "the condition of `sub` is broken: self.fits_sub(rhs)");
         differences_with(self, *rhs)
     }
 }
@@ -405,7 +405,7 @@ impl<B: Width> Sub<B> for &Interval<B> {
     /// Returns exactly the differences of a member and the value. The caller must ensure that the
     /// differences are in the range. Check with `fits_sub`.
     fn sub(self, rhs: B) -> Interval<B> {
-        debug_assert!({ #[allow(unused_imports)] use crate::proved::ivl_interval::ops::*; self.fits_sub(&rhs) });
+        debug_assert!({ #[allow(unused_imports)] use crate::proved::ivl_interval::ops::*; self.fits_sub(&rhs) }, "{}", "the condition of `sub` is broken: self.fits_sub(&rhs)");
         differences_with(*self, rhs)
     }
 }
@@ -424,7 +424,7 @@ impl<B: Width> Sub<&B> for &Interval<B> {
     /// Returns exactly the differences of a member and the value. The caller must ensure that the
     /// differences are in the range. Check with `fits_sub`.
     fn sub(self, rhs: &B) -> Interval<B> {
-        debug_assert!({ #[allow(unused_imports)] use crate::proved::ivl_interval::ops::*; self.fits_sub(rhs) });
+        debug_assert!({ #[allow(unused_imports)] use crate::proved::ivl_interval::ops::*; self.fits_sub(rhs) }, "{}", "the condition of `sub` is broken: self.fits_sub(rhs)");
         differences_with(*self, *rhs)
     }
 }
@@ -454,7 +454,7 @@ impl<B: Width> Mul<Interval<B>> for Interval<B> {
     /// # }
     /// ```
     fn mul(self, rhs: Interval<B>) -> Interval<B> {
-        debug_assert!({ #[allow(unused_imports)] use crate::proved::ivl_interval::ops::*; self.fits_mul(&rhs) });
+        debug_assert!({ #[allow(unused_imports)] use crate::proved::ivl_interval::ops::*; self.fits_mul(&rhs) }, "{}", "the condition of `mul` is broken: self.fits_mul(&rhs)");
         products(self, rhs)
     }
 }
@@ -473,7 +473,7 @@ impl<B: Width> Mul<&Interval<B>> for Interval<B> {
     /// Returns the least interval that holds the products of a member of each. The caller must
     /// ensure that the products are in the range. Check with `fits_mul`.
     fn mul(self, rhs: &Interval<B>) -> Interval<B> {
-        debug_assert!({ #[allow(unused_imports)] use crate::proved::ivl_interval::ops::*; self.fits_mul(rhs) });
+        debug_assert!({ #[allow(unused_imports)] use crate::proved::ivl_interval::ops::*; self.fits_mul(rhs) }, "{}", "the condition of `mul` is broken: self.fits_mul(rhs)");
         products(self, *rhs)
     }
 }
@@ -492,7 +492,7 @@ impl<B: Width> Mul<Interval<B>> for &Interval<B> {
     /// Returns the least interval that holds the products of a member of each. The caller must
     /// ensure that the products are in the range. Check with `fits_mul`.
     fn mul(self, rhs: Interval<B>) -> Interval<B> {
-        debug_assert!({ #[allow(unused_imports)] use crate::proved::ivl_interval::ops::*; self.fits_mul(&rhs) });
+        debug_assert!({ #[allow(unused_imports)] use crate::proved::ivl_interval::ops::*; self.fits_mul(&rhs) }, "{}", "the condition of `mul` is broken: self.fits_mul(&rhs)");
         products(*self, rhs)
     }
 }
@@ -511,7 +511,7 @@ impl<B: Width> Mul<&Interval<B>> for &Interval<B> {
     /// Returns the least interval that holds the products of a member of each. The caller must
     /// ensure that the products are in the range. Check with `fits_mul`.
     fn mul(self, rhs: &Interval<B>) -> Interval<B> {
-        debug_assert!({ #[allow(unused_imports)] use crate::proved::ivl_interval::ops::*; self.fits_mul(rhs) });
+        debug_assert!({ #[allow(unused_imports)] use crate::proved::ivl_interval::ops::*; self.fits_mul(rhs) }, "{}", "the condition of `mul` is broken: self.fits_mul(rhs)");
         products(*self, *rhs)
     }
 }
@@ -543,7 +543,7 @@ impl<B: Width> Mul<B> for Interval<B> {
     /// # }
     /// ```
     fn mul(self, rhs: B) -> Interval<B> {
-        debug_assert!({ #[allow(unused_imports)] use crate::proved::ivl_interval::ops::*; self.fits_mul(&rhs) });
+        debug_assert!({ #[allow(unused_imports)] use crate::proved::ivl_interval::ops::*; self.fits_mul(&rhs) }, "{}", "the condition of `mul` is broken: self.fits_mul(&rhs)");
         products_with(self, rhs)
     }
 }
@@ -562,7 +562,7 @@ impl<B: Width> Mul<&B> for Interval<B> {
     /// Returns the least interval that holds the products of a member and the value. The caller
     /// must ensure that the products are in the range. Check with `fits_mul`.
     fn mul(self, rhs: &B) -> Interval<B> {
-        debug_assert!({ #[allow(unused_imports)] use crate::proved::ivl_interval::ops::*; self.fits_mul(rhs) });
+        debug_assert!({ #[allow(unused_imports)] use crate::proved::ivl_interval::ops::*; self.fits_mul(rhs) }, "{}", "the condition of `mul` is broken: self.fits_mul(rhs)");
         products_with(self, *rhs)
     }
 }
@@ -581,7 +581,7 @@ impl<B: Width> Mul<B> for &Interval<B> {
     /// Returns the least interval that holds the products of a member and the value. The caller
     /// must ensure that the products are in the range. Check with `fits_mul`.
     fn mul(self, rhs: B) -> Interval<B> {
-        debug_assert!({ #[allow(unused_imports)] use crate::proved::ivl_interval::ops::*; self.fits_mul(&rhs) });
+        debug_assert!({ #[allow(unused_imports)] use crate::proved::ivl_interval::ops::*; self.fits_mul(&rhs) }, "{}", "the condition of `mul` is broken: self.fits_mul(&rhs)");
         products_with(*self, rhs)
     }
 }
@@ -600,7 +600,7 @@ impl<B: Width> Mul<&B> for &Interval<B> {
     /// Returns the least interval that holds the products of a member and the value. The caller
     /// must ensure that the products are in the range. Check with `fits_mul`.
     fn mul(self, rhs: &B) -> Interval<B> {
-        debug_assert!({ #[allow(unused_imports)] use crate::proved::ivl_interval::ops::*; self.fits_mul(rhs) });
+        debug_assert!({ #[allow(unused_imports)] use crate::proved::ivl_interval::ops::*; self.fits_mul(rhs) }, "{}", "the condition of `mul` is broken: self.fits_mul(rhs)");
         products_with(*self, *rhs)
     }
 }

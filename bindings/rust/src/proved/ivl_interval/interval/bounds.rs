@@ -120,7 +120,7 @@ impl<B: Width> Range for Interval<B> {
     ///
     /// Words: [`IsInRange`](crate::definitions#IsInRange), [`SameMembers`](crate::definitions#SameMembers), [`IsBetween`](crate::definitions#IsBetween).
     fn new(lb: B, ub: B) -> Interval<B> {
-        debug_assert!({ #[allow(unused_imports)] use crate::proved::ivl_interval::ops::*; Interval::in_range(lb, ub) });
+        debug_assert!({ #[allow(unused_imports)] use crate::proved::ivl_interval::ops::*; Interval::in_range(lb, ub) }, "{}", "the condition of `new` is broken: Interval::in_range(lb, ub)");
         Interval { lb, ub }
     }
 }
@@ -285,7 +285,6 @@ impl<B: Width> Singleton for Interval<B> {
     ///
     /// Words: [`IsBetween`](crate::definitions#IsBetween), [`SameMembers`](crate::definitions#SameMembers), [`Only`](crate::definitions#Only).
     fn singleton(item: B) -> Interval<B> {
-        debug_assert!({ #[allow(unused_imports)] use crate::proved::ivl_interval::ops::*; Interval::in_range(item, item) });
         Self::new(item, item)
     }
 }
@@ -315,7 +314,7 @@ impl<B: Width> Bounded for Interval<B> {
     ///
     /// Words: [`HasSome`](crate::definitions#HasSome), [`IsBetween`](crate::definitions#IsBetween).
     fn lower(&self) -> B {
-        debug_assert!({ #[allow(unused_imports)] use crate::proved::ivl_interval::ops::*; !self.is_empty() });
+        debug_assert!({ #[allow(unused_imports)] use crate::proved::ivl_interval::ops::*; !self.is_empty() }, "{}", "the condition of `lower` is broken: !self.is_empty()");
         self.lb
     }
 
@@ -343,7 +342,7 @@ impl<B: Width> Bounded for Interval<B> {
     ///
     /// Words: [`HasSome`](crate::definitions#HasSome), [`IsBetween`](crate::definitions#IsBetween).
     fn upper(&self) -> B {
-        debug_assert!({ #[allow(unused_imports)] use crate::proved::ivl_interval::ops::*; !self.is_empty() });
+        debug_assert!({ #[allow(unused_imports)] use crate::proved::ivl_interval::ops::*; !self.is_empty() }, "{}", "the condition of `upper` is broken: !self.is_empty()");
         self.ub
     }
 }

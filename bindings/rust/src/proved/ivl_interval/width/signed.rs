@@ -64,7 +64,7 @@ impl Width for i8 {
     }
 
     fn width(lower: &i8, upper: &i8) -> u8 {
-        debug_assert!({ #[allow(unused_imports)] use crate::proved::ivl_interval::ops::*; Self::min_value() <= *lower && lower <= upper });
+        debug_assert!({ #[allow(unused_imports)] use crate::proved::ivl_interval::ops::*; <Self as Width>::min_value() <= *lower && lower <= upper && *upper <= <Self as Width>::max_value() }, "{}", "the condition of `width` is broken: <Self as Width>::min_value() <= *lower && lower <= upper && *upper <= <Self as Width>::max_value()");
         upper.abs_diff(*lower) + 1
     }
 
@@ -100,14 +100,17 @@ impl Width for i8 {
     }
 
     fn add_in_range(self, other: i8) -> i8 {
+        debug_assert!({ #[allow(unused_imports)] use crate::proved::ivl_interval::ops::*; Width::checked_add(self, other).is_some() }, "{}", "the condition of `add_in_range` is broken: Width::checked_add(self, other).is_some()");
         self + other
     }
 
     fn sub_in_range(self, other: i8) -> i8 {
+        debug_assert!({ #[allow(unused_imports)] use crate::proved::ivl_interval::ops::*; Width::checked_sub(self, other).is_some() }, "{}", "the condition of `sub_in_range` is broken: Width::checked_sub(self, other).is_some()");
         self - other
     }
 
     fn mul_in_range(self, other: i8) -> i8 {
+        debug_assert!({ #[allow(unused_imports)] use crate::proved::ivl_interval::ops::*; Width::checked_mul(self, other).is_some() }, "{}", "the condition of `mul_in_range` is broken: Width::checked_mul(self, other).is_some()");
         self * other
     }
 }
@@ -163,7 +166,7 @@ impl Width for i16 {
     }
 
     fn width(lower: &i16, upper: &i16) -> u16 {
-        debug_assert!({ #[allow(unused_imports)] use crate::proved::ivl_interval::ops::*; Self::min_value() <= *lower && lower <= upper });
+        debug_assert!({ #[allow(unused_imports)] use crate::proved::ivl_interval::ops::*; <Self as Width>::min_value() <= *lower && lower <= upper && *upper <= <Self as Width>::max_value() }, "{}", "the condition of `width` is broken: <Self as Width>::min_value() <= *lower && lower <= upper && *upper <= <Self as Width>::max_value()");
         upper.abs_diff(*lower) + 1
     }
 
@@ -199,14 +202,17 @@ impl Width for i16 {
     }
 
     fn add_in_range(self, other: i16) -> i16 {
+        debug_assert!({ #[allow(unused_imports)] use crate::proved::ivl_interval::ops::*; Width::checked_add(self, other).is_some() }, "{}", "the condition of `add_in_range` is broken: Width::checked_add(self, other).is_some()");
         self + other
     }
 
     fn sub_in_range(self, other: i16) -> i16 {
+        debug_assert!({ #[allow(unused_imports)] use crate::proved::ivl_interval::ops::*; Width::checked_sub(self, other).is_some() }, "{}", "the condition of `sub_in_range` is broken: Width::checked_sub(self, other).is_some()");
         self - other
     }
 
     fn mul_in_range(self, other: i16) -> i16 {
+        debug_assert!({ #[allow(unused_imports)] use crate::proved::ivl_interval::ops::*; Width::checked_mul(self, other).is_some() }, "{}", "the condition of `mul_in_range` is broken: Width::checked_mul(self, other).is_some()");
         self * other
     }
 }
@@ -262,7 +268,7 @@ impl Width for i32 {
     }
 
     fn width(lower: &i32, upper: &i32) -> u32 {
-        debug_assert!({ #[allow(unused_imports)] use crate::proved::ivl_interval::ops::*; Self::min_value() <= *lower && lower <= upper });
+        debug_assert!({ #[allow(unused_imports)] use crate::proved::ivl_interval::ops::*; <Self as Width>::min_value() <= *lower && lower <= upper && *upper <= <Self as Width>::max_value() }, "{}", "the condition of `width` is broken: <Self as Width>::min_value() <= *lower && lower <= upper && *upper <= <Self as Width>::max_value()");
         upper.abs_diff(*lower) + 1
     }
 
@@ -298,14 +304,17 @@ impl Width for i32 {
     }
 
     fn add_in_range(self, other: i32) -> i32 {
+        debug_assert!({ #[allow(unused_imports)] use crate::proved::ivl_interval::ops::*; Width::checked_add(self, other).is_some() }, "{}", "the condition of `add_in_range` is broken: Width::checked_add(self, other).is_some()");
         self + other
     }
 
     fn sub_in_range(self, other: i32) -> i32 {
+        debug_assert!({ #[allow(unused_imports)] use crate::proved::ivl_interval::ops::*; Width::checked_sub(self, other).is_some() }, "{}", "the condition of `sub_in_range` is broken: Width::checked_sub(self, other).is_some()");
         self - other
     }
 
     fn mul_in_range(self, other: i32) -> i32 {
+        debug_assert!({ #[allow(unused_imports)] use crate::proved::ivl_interval::ops::*; Width::checked_mul(self, other).is_some() }, "{}", "the condition of `mul_in_range` is broken: Width::checked_mul(self, other).is_some()");
         self * other
     }
 }
@@ -363,7 +372,7 @@ impl Width for i64 {
     }
 
     fn width(lower: &i64, upper: &i64) -> u64 {
-        debug_assert!({ #[allow(unused_imports)] use crate::proved::ivl_interval::ops::*; Self::min_value() <= *lower && lower <= upper });
+        debug_assert!({ #[allow(unused_imports)] use crate::proved::ivl_interval::ops::*; <Self as Width>::min_value() <= *lower && lower <= upper && *upper <= <Self as Width>::max_value() }, "{}", "the condition of `width` is broken: <Self as Width>::min_value() <= *lower && lower <= upper && *upper <= <Self as Width>::max_value()");
         upper.abs_diff(*lower) + 1
     }
 
@@ -399,14 +408,17 @@ impl Width for i64 {
     }
 
     fn add_in_range(self, other: i64) -> i64 {
+        debug_assert!({ #[allow(unused_imports)] use crate::proved::ivl_interval::ops::*; Width::checked_add(self, other).is_some() }, "{}", "the condition of `add_in_range` is broken: Width::checked_add(self, other).is_some()");
         self + other
     }
 
     fn sub_in_range(self, other: i64) -> i64 {
+        debug_assert!({ #[allow(unused_imports)] use crate::proved::ivl_interval::ops::*; Width::checked_sub(self, other).is_some() }, "{}", "the condition of `sub_in_range` is broken: Width::checked_sub(self, other).is_some()");
         self - other
     }
 
     fn mul_in_range(self, other: i64) -> i64 {
+        debug_assert!({ #[allow(unused_imports)] use crate::proved::ivl_interval::ops::*; Width::checked_mul(self, other).is_some() }, "{}", "the condition of `mul_in_range` is broken: Width::checked_mul(self, other).is_some()");
         self * other
     }
 }
@@ -464,7 +476,7 @@ impl Width for isize {
     }
 
     fn width(lower: &isize, upper: &isize) -> usize {
-        debug_assert!({ #[allow(unused_imports)] use crate::proved::ivl_interval::ops::*; Self::min_value() <= *lower && lower <= upper });
+        debug_assert!({ #[allow(unused_imports)] use crate::proved::ivl_interval::ops::*; <Self as Width>::min_value() <= *lower && lower <= upper && *upper <= <Self as Width>::max_value() }, "{}", "the condition of `width` is broken: <Self as Width>::min_value() <= *lower && lower <= upper && *upper <= <Self as Width>::max_value()");
         upper.abs_diff(*lower) + 1
     }
 
@@ -500,14 +512,17 @@ impl Width for isize {
     }
 
     fn add_in_range(self, other: isize) -> isize {
+        debug_assert!({ #[allow(unused_imports)] use crate::proved::ivl_interval::ops::*; Width::checked_add(self, other).is_some() }, "{}", "the condition of `add_in_range` is broken: Width::checked_add(self, other).is_some()");
         self + other
     }
 
     fn sub_in_range(self, other: isize) -> isize {
+        debug_assert!({ #[allow(unused_imports)] use crate::proved::ivl_interval::ops::*; Width::checked_sub(self, other).is_some() }, "{}", "the condition of `sub_in_range` is broken: Width::checked_sub(self, other).is_some()");
         self - other
     }
 
     fn mul_in_range(self, other: isize) -> isize {
+        debug_assert!({ #[allow(unused_imports)] use crate::proved::ivl_interval::ops::*; Width::checked_mul(self, other).is_some() }, "{}", "the condition of `mul_in_range` is broken: Width::checked_mul(self, other).is_some()");
         self * other
     }
 }

@@ -46,6 +46,7 @@ impl SizeNumber for u8 {
     }
 
     fn add_in_range(self, other: u8) -> u8 {
+        debug_assert!({ #[allow(unused_imports)] use crate::proved::ivl_interval::ops::*; SizeNumber::checked_add(self, other).is_some() }, "{}", "the condition of `add_in_range` is broken: SizeNumber::checked_add(self, other).is_some()");
         self + other
     }
 }
@@ -82,6 +83,7 @@ impl SizeNumber for u16 {
     }
 
     fn add_in_range(self, other: u16) -> u16 {
+        debug_assert!({ #[allow(unused_imports)] use crate::proved::ivl_interval::ops::*; SizeNumber::checked_add(self, other).is_some() }, "{}", "the condition of `add_in_range` is broken: SizeNumber::checked_add(self, other).is_some()");
         self + other
     }
 }
@@ -118,6 +120,7 @@ impl SizeNumber for u32 {
     }
 
     fn add_in_range(self, other: u32) -> u32 {
+        debug_assert!({ #[allow(unused_imports)] use crate::proved::ivl_interval::ops::*; SizeNumber::checked_add(self, other).is_some() }, "{}", "the condition of `add_in_range` is broken: SizeNumber::checked_add(self, other).is_some()");
         self + other
     }
 }
@@ -154,6 +157,7 @@ impl SizeNumber for u64 {
     }
 
     fn add_in_range(self, other: u64) -> u64 {
+        debug_assert!({ #[allow(unused_imports)] use crate::proved::ivl_interval::ops::*; SizeNumber::checked_add(self, other).is_some() }, "{}", "the condition of `add_in_range` is broken: SizeNumber::checked_add(self, other).is_some()");
         self + other
     }
 }
@@ -190,6 +194,7 @@ impl SizeNumber for usize {
     }
 
     fn add_in_range(self, other: usize) -> usize {
+        debug_assert!({ #[allow(unused_imports)] use crate::proved::ivl_interval::ops::*; SizeNumber::checked_add(self, other).is_some() }, "{}", "the condition of `add_in_range` is broken: SizeNumber::checked_add(self, other).is_some()");
         self + other
     }
 }

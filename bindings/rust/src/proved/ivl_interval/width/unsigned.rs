@@ -64,7 +64,7 @@ impl Width for u8 {
     }
 
     fn width(lower: &u8, upper: &u8) -> u8 {
-        debug_assert!({ #[allow(unused_imports)] use crate::proved::ivl_interval::ops::*; lower <= upper && *upper <= Self::max_value() });
+        debug_assert!({ #[allow(unused_imports)] use crate::proved::ivl_interval::ops::*; <Self as Width>::min_value() <= *lower && lower <= upper && *upper <= <Self as Width>::max_value() }, "{}", "the condition of `width` is broken: <Self as Width>::min_value() <= *lower && lower <= upper && *upper <= <Self as Width>::max_value()");
         *upper - *lower + 1
     }
 
@@ -98,14 +98,17 @@ impl Width for u8 {
     }
 
     fn add_in_range(self, other: u8) -> u8 {
+        debug_assert!({ #[allow(unused_imports)] use crate::proved::ivl_interval::ops::*; Width::checked_add(self, other).is_some() }, "{}", "the condition of `add_in_range` is broken: Width::checked_add(self, other).is_some()");
         self + other
     }
 
     fn sub_in_range(self, other: u8) -> u8 {
+        debug_assert!({ #[allow(unused_imports)] use crate::proved::ivl_interval::ops::*; Width::checked_sub(self, other).is_some() }, "{}", "the condition of `sub_in_range` is broken: Width::checked_sub(self, other).is_some()");
         self - other
     }
 
     fn mul_in_range(self, other: u8) -> u8 {
+        debug_assert!({ #[allow(unused_imports)] use crate::proved::ivl_interval::ops::*; Width::checked_mul(self, other).is_some() }, "{}", "the condition of `mul_in_range` is broken: Width::checked_mul(self, other).is_some()");
         self * other
     }
 }
@@ -161,7 +164,7 @@ impl Width for u16 {
     }
 
     fn width(lower: &u16, upper: &u16) -> u16 {
-        debug_assert!({ #[allow(unused_imports)] use crate::proved::ivl_interval::ops::*; lower <= upper && *upper <= Self::max_value() });
+        debug_assert!({ #[allow(unused_imports)] use crate::proved::ivl_interval::ops::*; <Self as Width>::min_value() <= *lower && lower <= upper && *upper <= <Self as Width>::max_value() }, "{}", "the condition of `width` is broken: <Self as Width>::min_value() <= *lower && lower <= upper && *upper <= <Self as Width>::max_value()");
         *upper - *lower + 1
     }
 
@@ -195,14 +198,17 @@ impl Width for u16 {
     }
 
     fn add_in_range(self, other: u16) -> u16 {
+        debug_assert!({ #[allow(unused_imports)] use crate::proved::ivl_interval::ops::*; Width::checked_add(self, other).is_some() }, "{}", "the condition of `add_in_range` is broken: Width::checked_add(self, other).is_some()");
         self + other
     }
 
     fn sub_in_range(self, other: u16) -> u16 {
+        debug_assert!({ #[allow(unused_imports)] use crate::proved::ivl_interval::ops::*; Width::checked_sub(self, other).is_some() }, "{}", "the condition of `sub_in_range` is broken: Width::checked_sub(self, other).is_some()");
         self - other
     }
 
     fn mul_in_range(self, other: u16) -> u16 {
+        debug_assert!({ #[allow(unused_imports)] use crate::proved::ivl_interval::ops::*; Width::checked_mul(self, other).is_some() }, "{}", "the condition of `mul_in_range` is broken: Width::checked_mul(self, other).is_some()");
         self * other
     }
 }
@@ -258,7 +264,7 @@ impl Width for u32 {
     }
 
     fn width(lower: &u32, upper: &u32) -> u32 {
-        debug_assert!({ #[allow(unused_imports)] use crate::proved::ivl_interval::ops::*; lower <= upper && *upper <= Self::max_value() });
+        debug_assert!({ #[allow(unused_imports)] use crate::proved::ivl_interval::ops::*; <Self as Width>::min_value() <= *lower && lower <= upper && *upper <= <Self as Width>::max_value() }, "{}", "the condition of `width` is broken: <Self as Width>::min_value() <= *lower && lower <= upper && *upper <= <Self as Width>::max_value()");
         *upper - *lower + 1
     }
 
@@ -292,14 +298,17 @@ impl Width for u32 {
     }
 
     fn add_in_range(self, other: u32) -> u32 {
+        debug_assert!({ #[allow(unused_imports)] use crate::proved::ivl_interval::ops::*; Width::checked_add(self, other).is_some() }, "{}", "the condition of `add_in_range` is broken: Width::checked_add(self, other).is_some()");
         self + other
     }
 
     fn sub_in_range(self, other: u32) -> u32 {
+        debug_assert!({ #[allow(unused_imports)] use crate::proved::ivl_interval::ops::*; Width::checked_sub(self, other).is_some() }, "{}", "the condition of `sub_in_range` is broken: Width::checked_sub(self, other).is_some()");
         self - other
     }
 
     fn mul_in_range(self, other: u32) -> u32 {
+        debug_assert!({ #[allow(unused_imports)] use crate::proved::ivl_interval::ops::*; Width::checked_mul(self, other).is_some() }, "{}", "the condition of `mul_in_range` is broken: Width::checked_mul(self, other).is_some()");
         self * other
     }
 }
@@ -355,7 +364,7 @@ impl Width for u64 {
     }
 
     fn width(lower: &u64, upper: &u64) -> u64 {
-        debug_assert!({ #[allow(unused_imports)] use crate::proved::ivl_interval::ops::*; lower <= upper && *upper <= Self::max_value() });
+        debug_assert!({ #[allow(unused_imports)] use crate::proved::ivl_interval::ops::*; <Self as Width>::min_value() <= *lower && lower <= upper && *upper <= <Self as Width>::max_value() }, "{}", "the condition of `width` is broken: <Self as Width>::min_value() <= *lower && lower <= upper && *upper <= <Self as Width>::max_value()");
         *upper - *lower + 1
     }
 
@@ -389,14 +398,17 @@ impl Width for u64 {
     }
 
     fn add_in_range(self, other: u64) -> u64 {
+        debug_assert!({ #[allow(unused_imports)] use crate::proved::ivl_interval::ops::*; Width::checked_add(self, other).is_some() }, "{}", "the condition of `add_in_range` is broken: Width::checked_add(self, other).is_some()");
         self + other
     }
 
     fn sub_in_range(self, other: u64) -> u64 {
+        debug_assert!({ #[allow(unused_imports)] use crate::proved::ivl_interval::ops::*; Width::checked_sub(self, other).is_some() }, "{}", "the condition of `sub_in_range` is broken: Width::checked_sub(self, other).is_some()");
         self - other
     }
 
     fn mul_in_range(self, other: u64) -> u64 {
+        debug_assert!({ #[allow(unused_imports)] use crate::proved::ivl_interval::ops::*; Width::checked_mul(self, other).is_some() }, "{}", "the condition of `mul_in_range` is broken: Width::checked_mul(self, other).is_some()");
         self * other
     }
 }
@@ -452,7 +464,7 @@ impl Width for usize {
     }
 
     fn width(lower: &usize, upper: &usize) -> usize {
-        debug_assert!({ #[allow(unused_imports)] use crate::proved::ivl_interval::ops::*; lower <= upper && *upper <= Self::max_value() });
+        debug_assert!({ #[allow(unused_imports)] use crate::proved::ivl_interval::ops::*; <Self as Width>::min_value() <= *lower && lower <= upper && *upper <= <Self as Width>::max_value() }, "{}", "the condition of `width` is broken: <Self as Width>::min_value() <= *lower && lower <= upper && *upper <= <Self as Width>::max_value()");
         *upper - *lower + 1
     }
 
@@ -486,14 +498,17 @@ impl Width for usize {
     }
 
     fn add_in_range(self, other: usize) -> usize {
+        debug_assert!({ #[allow(unused_imports)] use crate::proved::ivl_interval::ops::*; Width::checked_add(self, other).is_some() }, "{}", "the condition of `add_in_range` is broken: Width::checked_add(self, other).is_some()");
         self + other
     }
 
     fn sub_in_range(self, other: usize) -> usize {
+        debug_assert!({ #[allow(unused_imports)] use crate::proved::ivl_interval::ops::*; Width::checked_sub(self, other).is_some() }, "{}", "the condition of `sub_in_range` is broken: Width::checked_sub(self, other).is_some()");
         self - other
     }
 
     fn mul_in_range(self, other: usize) -> usize {
+        debug_assert!({ #[allow(unused_imports)] use crate::proved::ivl_interval::ops::*; Width::checked_mul(self, other).is_some() }, "{}", "the condition of `mul_in_range` is broken: Width::checked_mul(self, other).is_some()");
         self * other
     }
 }

@@ -39,6 +39,7 @@ pub fn image<B: Width>(
     op: Combined,
     window: Interval<B>,
 ) -> Interval<B> {
+    debug_assert!({ #[allow(unused_imports)] use crate::proved::ivl_interval::ops::*; !a.is_empty() && !b.is_empty() && !window.is_empty() }, "{}", "the condition of `image` is broken: !a.is_empty() && !b.is_empty() && !window.is_empty()");
     let (lower, upper) = (b.lower().number(), b.upper().number());
     match op {
         Combined::Sum => clip(
