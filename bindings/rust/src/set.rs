@@ -9,15 +9,12 @@ mod reads;
 #[cfg(feature = "serde")]
 mod serde;
 
-pub use iterators::{IntoIter, Iter, Range};
+pub use iterators::{IntoIter, Iter, Range, Values};
 pub use pieces::Piece;
 
-use crate::proved::ops::{
-    Complement as _, Difference as _, Intersection as _, SymmetricDifference as _, Union as _,
-};
-use crate::proved::width::Width;
-use crate::proved::{self, Global, Interval};
-use conditions::{broken, memory, numbers_of_type};
+use crate::proved::ops::{Complement, Difference, Intersection, SymmetricDifference, Union};
+use crate::proved::{self, Global, Interval, width::Width};
+use conditions::{broken, memory, unless_broken, within_range};
 
 /// A set of integers, stored as ascending runs that neither overlap nor touch.
 ///
@@ -40,6 +37,7 @@ use conditions::{broken, memory, numbers_of_type};
 ///
 /// Each method is one call of the proved set below it, [`proved::IntervalSet`], whose page has its contract. `n` and `m` are
 /// the numbers of runs.
+#[derive(PartialEq, Eq)]
 pub struct IntervalSet<T: Width>(proved::IntervalSet<T>);
 
 /// Sets from bounds.
@@ -58,13 +56,8 @@ impl<T: Width> IntervalSet<T> {
     /// ```
     #[track_caller]
     pub fn new(lower: T, upper: T) -> Self {
-        match Self::checked_new(lower, upper) {
-            Some(set) => set,
-            None => broken(
-                format_args!("new({}, {})", lower.number(), upper.number()),
-                format_args!("the bounds must be {}, the first not above the second", numbers_of_type::<T>()),
-            ),
-        }
+        let condition = within_range::<T>("the first bound must not be above the second, and both");
+        unless_broken!(Self::checked_new(lower, upper), condition, "new({}, {})", lower.number(), upper.number())
     }
 
     /// [`new`](Self::new), or `None` where its condition is broken.
@@ -76,13 +69,8 @@ impl<T: Width> IntervalSet<T> {
     /// The set of one value, which must be in the range.
     #[track_caller]
     pub fn singleton(value: T) -> Self {
-        match Self::checked_singleton(value) {
-            Some(set) => set,
-            None => broken(
-                format_args!("singleton({})", value.number()),
-                format_args!("the value must be {}", numbers_of_type::<T>()),
-            ),
-        }
+        let condition = within_range::<T>("the value");
+        unless_broken!(Self::checked_singleton(value), condition, "singleton({})", value.number())
     }
 
     /// [`singleton`](Self::singleton), or `None` where its condition is broken.
@@ -164,13 +152,8 @@ impl<T: Width> IntervalSet<T> {
 
 /// The proved set below.
 impl<T: Width> IntervalSet<T> {
-    /// The proved set.
+    /// The proved set. `from` converts both ways.
     pub fn as_proved(&self) -> &proved::IntervalSet<T> {
         &self.0
-    }
-
-    /// The proved set, by value.
-    pub fn into_proved(self) -> proved::IntervalSet<T> {
-        self.0
     }
 }

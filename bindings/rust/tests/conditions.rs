@@ -29,9 +29,9 @@ macro_rules! panics {
 fn the_root_panics_with_the_values() {
     let set = || Set::new(10, 20);
     panics! {
-        Set::new(3, 255) => "IntervalSet::new(3, 255): the bounds must be from 0 to 254, the first not above the second";
-        Set::new(8, 3) => "IntervalSet::new(8, 3): the bounds must be from 0 to 254, the first not above the second";
-        Small::new(-128, 0) => "IntervalSet::new(-128, 0): the bounds must be from -127 to 127, the first not above the second";
+        Set::new(3, 255) => "IntervalSet::new(3, 255): the first bound must not be above the second, and both must be from 0 to 254";
+        Set::new(8, 3) => "IntervalSet::new(8, 3): the first bound must not be above the second, and both must be from 0 to 254";
+        Small::new(-128, 0) => "IntervalSet::new(-128, 0): the first bound must not be above the second, and both must be from -127 to 127";
         Set::singleton(255) => "IntervalSet::singleton(255): the value must be from 0 to 254";
         Set::empty().lower() => "IntervalSet::lower(): the set must not be empty, but is {}";
         Set::empty().upper() => "IntervalSet::upper(): the set must not be empty, but is {}";
@@ -108,7 +108,7 @@ fn debug_builds_test_the_conditions_of_the_proved_face() {
         run().hull(&255) => "the condition of `new` is broken: Interval::in_range(lb, ub)";
         run() + run() * 12 => "the condition of `add` is broken: self.fits_add(&rhs)";
         run() - 11 => "the condition of `sub` is broken: self.fits_sub(&rhs)";
-        &run() * &13 => "the condition of `mul` is broken: self.fits_mul(rhs)";
+        run() * 13 => "the condition of `mul` is broken: self.fits_mul(&rhs)";
         Width::add_in_range(254u8, 1) => "the condition of `add_in_range` is broken: Width::checked_add(self, other).is_some()";
         Width::sub_in_range(-127i8, 1) => "the condition of `sub_in_range` is broken: Width::checked_sub(self, other).is_some()";
         Width::mul_in_range(127i8, 2) => "the condition of `mul_in_range` is broken: Width::checked_mul(self, other).is_some()";

@@ -16,7 +16,7 @@ fn sets_are_sent_copied_hashed_and_compared() {
     assert_eq!((known.len(), known.contains(&a)), (2, true));
     assert_eq!((Set::default(), a == Set::default()), (Set::empty(), false));
     let there = proved::IntervalSet::from(a.clone());
-    assert!(*a.as_proved() == there && a.clone().into_proved() == there && Set::from(there) == a);
+    assert!(*a.as_proved() == there && proved::IntervalSet::from(a.clone()) == there && Set::from(there) == a);
 }
 
 #[test]

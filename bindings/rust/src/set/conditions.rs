@@ -6,23 +6,20 @@ use core::fmt::{self, Display};
 
 /// The result of a call that fails only if allocation fails; ends the program as Rust's std does where it did.
 pub fn memory<R>(result: Result<R, AllocError>) -> R {
-    match result {
-        Ok(result) => result,
-        Err(AllocError) => handle_alloc_error(Layout::new::<Interval<u64>>()),
-    }
+    result.unwrap_or_else(|AllocError| handle_alloc_error(Layout::new::<Interval<u64>>()))
 }
 
 /// Panics: the call was made with these values, but has this condition.
 #[cold]
 #[track_caller]
-pub fn broken(call: fmt::Arguments<'_>, condition: fmt::Arguments<'_>) -> ! {
+pub fn broken(call: fmt::Arguments<'_>, condition: impl Display) -> ! {
     panic!("IntervalSet::{call}: {condition}")
 }
 
-/// The text `from 0 to 254`.
-pub fn numbers_of_type<T: Width>() -> impl Display {
+/// The condition that some numbers are in the range.
+pub fn within_range<T: Width>(numbers: &str) -> impl Display {
     let (least, greatest) = (T::min_value().number(), T::max_value().number());
-    fmt::from_fn(move |f| write!(f, "from {least} to {greatest}"))
+    fmt::from_fn(move |f| write!(f, "{numbers} must be from {least} to {greatest}"))
 }
 
 /// The text `1..=5`, or `1` of one number.
@@ -32,3 +29,15 @@ pub fn numbers_between(lower: i128, upper: i128) -> impl Display {
         false => write!(f, "{lower}..={upper}"),
     })
 }
+
+/// The value of a checked form, or a panic with the call and its condition.
+macro_rules! unless_broken {
+    ($checked:expr, $condition:expr, $($call:tt)*) => {
+        match $checked {
+            Some(result) => result,
+            None => broken(format_args!($($call)*), $condition),
+        }
+    };
+}
+
+pub(super) use unless_broken;

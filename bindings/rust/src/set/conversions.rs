@@ -21,15 +21,7 @@ macro_rules! from_pieces {
     )*};
 }
 
-from_pieces!(
-    Range<T>,
-    RangeInclusive<T>,
-    RangeFrom<T>,
-    RangeTo<T>,
-    RangeToInclusive<T>,
-    RangeFull,
-    Interval<T>
-);
+from_pieces!(Range<T>, RangeInclusive<T>, RangeFrom<T>, RangeTo<T>, RangeToInclusive<T>, RangeFull, Interval<T>);
 
 /// The members of every piece: values, ranges or pairs, all of whose numbers must be in the range.
 impl<T: Width, P: Piece<T>, const N: usize> From<[P; N]> for IntervalSet<T> {
@@ -65,15 +57,6 @@ impl<T: Width> Clone for IntervalSet<T> {
         Self(memory(self.0.try_clone()))
     }
 }
-
-/// Whether the members are the same. `O(n)`, or `O(1)` if the sizes differ.
-impl<T: Width> PartialEq for IntervalSet<T> {
-    fn eq(&self, other: &Self) -> bool {
-        self.0 == other.0
-    }
-}
-
-impl<T: Width> Eq for IntervalSet<T> {}
 
 impl<T: Width + Hash> Hash for IntervalSet<T> {
     fn hash<H: Hasher>(&self, state: &mut H) {

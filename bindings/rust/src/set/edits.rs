@@ -1,9 +1,7 @@
 //! Edits in place.
-use super::conditions::{broken, memory, numbers_of_type};
-use super::iterators::interval_of;
-use super::{IntervalSet, Piece};
-use crate::proved::Interval;
-use crate::proved::width::Width;
+use super::conditions::{broken, memory, unless_broken, within_range};
+use super::{IntervalSet, Piece, iterators::interval_of};
+use crate::proved::{Interval, width::Width};
 use alloc::vec::Vec;
 use core::borrow::Borrow;
 
@@ -20,13 +18,7 @@ impl<T: Width> IntervalSet<T> {
     /// ```
     #[track_caller]
     pub fn insert(&mut self, value: T) -> bool {
-        match self.checked_insert(value) {
-            Some(is_new) => is_new,
-            None => broken(
-                format_args!("insert({})", value.number()),
-                format_args!("the value must be {}", numbers_of_type::<T>()),
-            ),
-        }
+        unless_broken!(self.checked_insert(value), within_range::<T>("the value"), "insert({})", value.number())
     }
 
     /// [`insert`](Self::insert), or `None` where its condition is broken.
@@ -57,7 +49,8 @@ impl<T: Width> IntervalSet<T> {
 
     /// [`insert_interval`](Self::insert_interval), or `None` where its condition is broken.
     pub fn checked_insert_interval(&mut self, range: impl Piece<T>) -> Option<()> {
-        Some(memory(self.0.insert_interval(range.interval()?)))
+        memory(self.0.insert_interval(range.interval()?));
+        Some(())
     }
 
     /// Removes the numbers of a range. `O(log n + k)` for the `k` runs that it overlaps, or `O(n)` if the number of runs
@@ -93,7 +86,8 @@ impl<T: Width> IntervalSet<T> {
     /// ```
     pub fn checked_extend<P: Piece<T>>(&mut self, pieces: impl IntoIterator<Item = P>) -> Option<()> {
         let intervals: Option<Vec<Interval<T>>> = pieces.into_iter().map(|piece| piece.interval()).collect();
-        Some(memory(self.0.extend(intervals?.into_iter())))
+        memory(self.0.extend(intervals?.into_iter()));
+        Some(())
     }
 
     /// The set of all pieces that an iterator yields, as `collect` makes it, or `None` if some number is outside the range.

@@ -1,34 +1,33 @@
 //! Iteration over the members, and sets from what iterators yield.
-use super::conditions::{broken, memory, numbers_between, numbers_of_type};
+use super::conditions::{broken, memory, numbers_between, unless_broken, within_range};
 use super::{IntervalSet, Piece};
 use crate::proved::interval_set::{IntoRuns, Members};
-use crate::proved::ops::{
-    Bounded as _, Empty as _, Intersection as _, IsEmpty as _, StrictShrinkLeft as _, StrictShrinkRight as _,
-};
+use crate::proved::ops::{Bounded, Empty, Intersection, IsEmpty, StrictShrinkLeft, StrictShrinkRight};
 use crate::proved::steps::{Place, Probes, find};
-use crate::proved::width::Width;
-use crate::proved::Interval;
+use crate::proved::{Interval, width::Width};
 use core::iter::{Copied, FusedIterator};
-use core::mem;
-use core::slice;
+use core::{mem, slice};
 
 /// The members of a set, ascending.
 pub type Iter<'a, T> = Members<'a, T>;
 
 /// The members of a set, by value, ascending.
-pub struct IntoIter<T: Width>(Values<T, IntoRuns<T>>);
+pub type IntoIter<T> = Values<T, IntoRuns<T>>;
 
 /// The members of a set that lie in a range, ascending.
-pub struct Range<'a, T: Width>(Values<T, Copied<slice::Iter<'a, Interval<T>>>>);
+pub type Range<'a, T> = Values<T, Copied<slice::Iter<'a, Interval<T>>>>;
 
-/// The numbers of an interval, of those that an iterator yields, and of a last one.
-struct Values<T: Width, I> {
+/// The numbers of ascending runs that an iterator yields, from both ends.
+#[derive(Clone)]
+pub struct Values<T: Width, I> {
     first: Interval<T>,
     between: I,
     last: Interval<T>,
 }
 
-impl<T: Width, I: DoubleEndedIterator<Item = Interval<T>>> Values<T, I> {
+impl<T: Width, I: DoubleEndedIterator<Item = Interval<T>>> Iterator for Values<T, I> {
+    type Item = T;
+
     fn next(&mut self) -> Option<T> {
         if self.first.is_empty() {
             self.first = self.between.next().unwrap_or_else(|| mem::replace(&mut self.last, Interval::empty()));
@@ -37,7 +36,9 @@ impl<T: Width, I: DoubleEndedIterator<Item = Interval<T>>> Values<T, I> {
         self.first = self.first.strict_shrink_left(least);
         Some(least)
     }
+}
 
+impl<T: Width, I: DoubleEndedIterator<Item = Interval<T>>> DoubleEndedIterator for Values<T, I> {
     fn next_back(&mut self) -> Option<T> {
         if self.last.is_empty() {
             self.last = self.between.next_back().unwrap_or_else(|| mem::replace(&mut self.first, Interval::empty()));
@@ -48,6 +49,8 @@ impl<T: Width, I: DoubleEndedIterator<Item = Interval<T>>> Values<T, I> {
     }
 }
 
+impl<T: Width, I: DoubleEndedIterator<Item = Interval<T>> + FusedIterator> FusedIterator for Values<T, I> {}
+
 impl<'a, T: Width> Range<'a, T> {
     pub(super) fn new(set: &'a IntervalSet<T>, window: Interval<T>) -> Self {
         let (start, end) = if window.is_empty() { (0, 0) } else { span(set, window) };
@@ -56,7 +59,7 @@ impl<'a, T: Width> Range<'a, T> {
             [run] => (run.intersection(&window), [].as_slice(), Interval::empty()),
             [first, between @ .., last] => (first.intersection(&window), between, last.intersection(&window)),
         };
-        Range(Values { first, between: between.iter().copied(), last })
+        Values { first, between: between.iter().copied(), last }
     }
 }
 
@@ -72,28 +75,6 @@ fn span<T: Width>(set: &IntervalSet<T>, window: Interval<T>) -> (usize, usize) {
     }
 }
 
-macro_rules! iterators {
-    ($($name:ty),*) => {$(
-        impl<T: Width> Iterator for $name {
-            type Item = T;
-
-            fn next(&mut self) -> Option<T> {
-                self.0.next()
-            }
-        }
-
-        impl<T: Width> DoubleEndedIterator for $name {
-            fn next_back(&mut self) -> Option<T> {
-                self.0.next_back()
-            }
-        }
-
-        impl<T: Width> FusedIterator for $name {}
-    )*};
-}
-
-iterators!(IntoIter<T>, Range<'_, T>);
-
 /// The members, ascending.
 impl<T: Width> IntoIterator for IntervalSet<T> {
     type Item = T;
@@ -101,7 +82,7 @@ impl<T: Width> IntoIterator for IntervalSet<T> {
     type IntoIter = IntoIter<T>;
 
     fn into_iter(self) -> IntoIter<T> {
-        IntoIter(Values { first: Interval::empty(), between: self.0.into_iter(), last: Interval::empty() })
+        Values { first: Interval::empty(), between: self.0.into_iter(), last: Interval::empty() }
     }
 }
 
@@ -143,14 +124,6 @@ impl<T: Width> IntervalSet<T> {
 /// The interval of a piece. Panics if some number is outside the range.
 #[track_caller]
 pub(super) fn interval_of<T: Width>(call: &str, piece: &impl Piece<T>) -> Interval<T> {
-    match piece.interval() {
-        Some(interval) => interval,
-        None => {
-            let (lower, upper) = piece.numbers();
-            broken(
-                format_args!("{call}({})", numbers_between(lower, upper)),
-                format_args!("the numbers must be {}", numbers_of_type::<T>()),
-            )
-        }
-    }
+    let (lower, upper) = piece.numbers();
+    unless_broken!(piece.interval(), within_range::<T>("the numbers"), "{call}({})", numbers_between(lower, upper))
 }

@@ -1,12 +1,10 @@
 //! Operators: `|`, `&`, `^` and `!` of sets, and the arithmetic `+`, `-` and `*` of their members.
 use super::IntervalSet;
-use super::conditions::{broken, memory, numbers_between, numbers_of_type};
-use crate::proved::ops::Fits as _;
-use crate::proved::width::Width;
+use super::conditions::{broken, memory, numbers_between, unless_broken, within_range};
+use crate::proved::{ops::Fits, width::Width};
 use core::fmt::{self, Display};
-use core::ops::{
-    Add, AddAssign, BitAnd, BitAndAssign, BitOr, BitOrAssign, BitXor, BitXorAssign, Mul, MulAssign, Not, Sub, SubAssign,
-};
+use core::ops::{Add, AddAssign, BitAnd, BitAndAssign, BitOr, BitOrAssign, BitXor, BitXorAssign};
+use core::ops::{Mul, MulAssign, Not, Sub, SubAssign};
 
 /// The text of the least and the greatest member, as in `3..=8`.
 fn hull<T: Width>(set: &IntervalSet<T>) -> impl Display {
@@ -17,9 +15,57 @@ fn hull<T: Width>(set: &IntervalSet<T>) -> impl Display {
     })
 }
 
+/// The forms of an operator with a left operand by value, and the assigning ones, by that with a borrowed one.
+macro_rules! forms {
+    ($trait:ident $call:ident $assign_trait:ident $assign:ident: $($other:ty, $x:ident => $right:expr;)*) => {$(
+        impl<T: Width> $trait<$other> for IntervalSet<T> {
+            type Output = Self;
+
+            #[track_caller]
+            fn $call(self, $x: $other) -> Self {
+                (&self).$call($right)
+            }
+        }
+
+        impl<T: Width> $assign_trait<$other> for IntervalSet<T> {
+            #[track_caller]
+            fn $assign(&mut self, $x: $other) {
+                *self = (&*self).$call($right);
+            }
+        }
+    )*};
+}
+
+/// An operator between sets, by a method, in each form.
+macro_rules! operator {
+    ($trait:ident $call:ident $assign_trait:ident $assign:ident, $method:ident: $doc:expr) => {
+        #[doc = $doc]
+        impl<T: Width> $trait for &IntervalSet<T> {
+            type Output = IntervalSet<T>;
+
+            #[track_caller]
+            fn $call(self, other: Self) -> IntervalSet<T> {
+                self.$method(other)
+            }
+        }
+
+        impl<T: Width> $trait<IntervalSet<T>> for &IntervalSet<T> {
+            type Output = IntervalSet<T>;
+
+            #[track_caller]
+            fn $call(self, other: IntervalSet<T>) -> IntervalSet<T> {
+                self.$method(&other)
+            }
+        }
+
+        forms!($trait $call $assign_trait $assign: Self, x => &x; &IntervalSet<T>, x => x;);
+    };
+}
+
+/// The arithmetic of members: the conditions, the checked forms, and the operators.
 macro_rules! arithmetic {
-    ($($trait:ident $call:ident $assign_trait:ident $assign:ident $op:tt $fits:ident $checked:ident $fits_value:ident
-        $checked_value:ident $results:literal;)*) => {$(
+    ($trait:ident $call:ident $assign_trait:ident $assign:ident $op:tt $results:literal: $fits:ident $checked:ident
+        $tested:ident $fits_value:ident $checked_value:ident) => {
         impl<T: Width> IntervalSet<T> {
             #[doc = concat!("Whether the ", $results, " of a member of each are all in the range. `O(1)`.")]
             pub fn $fits(&self, other: &Self) -> bool {
@@ -29,6 +75,12 @@ macro_rules! arithmetic {
             #[doc = concat!("The ", $results, " of a member of each, or `None` if some are outside the range.")]
             pub fn $checked(&self, other: &Self) -> Option<Self> {
                 self.$fits(other).then(|| Self(memory(&self.0 $op &other.0)))
+            }
+
+            #[track_caller]
+            fn $tested(&self, other: &Self) -> Self {
+                let condition = within_range::<T>(concat!("the ", $results));
+                unless_broken!(self.$checked(other), condition, "{}({}, {})", stringify!($call), hull(self), hull(other))
             }
 
             #[doc = concat!("Whether the ", $results, " of a member and a value are all in the range. `O(1)`.")]
@@ -42,21 +94,8 @@ macro_rules! arithmetic {
             }
         }
 
-        #[doc = concat!("The ", $results, " of a member of each set, which must be in the range.")]
-        impl<T: Width> $trait for &IntervalSet<T> {
-            type Output = IntervalSet<T>;
-
-            #[track_caller]
-            fn $call(self, other: Self) -> IntervalSet<T> {
-                match self.$checked(other) {
-                    Some(results) => results,
-                    None => broken(
-                        format_args!("{}({}, {})", stringify!($call), hull(self), hull(other)),
-                        format_args!(concat!("the ", $results, " must be {}"), numbers_of_type::<T>()),
-                    ),
-                }
-            }
-        }
+        operator!($trait $call $assign_trait $assign, $tested:
+            concat!("The ", $results, " of a member of each set, which must be in the range."));
 
         #[doc = concat!("The ", $results, " of a member and a value, which must be in the range.")]
         impl<T: Width> $trait<T> for &IntervalSet<T> {
@@ -64,96 +103,22 @@ macro_rules! arithmetic {
 
             #[track_caller]
             fn $call(self, value: T) -> IntervalSet<T> {
-                match self.$checked_value(value) {
-                    Some(results) => results,
-                    None => broken(
-                        format_args!("{}({}, {})", stringify!($call), hull(self), value.number()),
-                        format_args!(concat!("the ", $results, " must be {}"), numbers_of_type::<T>()),
-                    ),
-                }
+                let (set, condition) = (hull(self), within_range::<T>(concat!("the ", $results)));
+                unless_broken!(self.$checked_value(value), condition, "{}({set}, {})", stringify!($call), value.number())
             }
         }
 
-        forms!($trait $call $assign_trait $assign $op T);
-        forms!($trait $call $assign_trait $assign $op);
-    )*};
-}
-
-/// The forms of an operator with operands by value, and the assigning ones.
-macro_rules! forms {
-    ($trait:ident $call:ident $assign_trait:ident $assign:ident $op:tt) => {
-        forms!($trait $call $assign_trait $assign $op &IntervalSet<T>);
-
-        impl<T: Width> $trait for IntervalSet<T> {
-            type Output = IntervalSet<T>;
-
-            #[track_caller]
-            fn $call(self, other: Self) -> IntervalSet<T> {
-                &self $op &other
-            }
-        }
-
-        impl<T: Width> $trait<IntervalSet<T>> for &IntervalSet<T> {
-            type Output = IntervalSet<T>;
-
-            #[track_caller]
-            fn $call(self, other: IntervalSet<T>) -> IntervalSet<T> {
-                self $op &other
-            }
-        }
-
-        impl<T: Width> $assign_trait for IntervalSet<T> {
-            #[track_caller]
-            fn $assign(&mut self, other: Self) {
-                *self = &*self $op &other;
-            }
-        }
-    };
-    ($trait:ident $call:ident $assign_trait:ident $assign:ident $op:tt $other:ty) => {
-        impl<T: Width> $trait<$other> for IntervalSet<T> {
-            type Output = IntervalSet<T>;
-
-            #[track_caller]
-            fn $call(self, other: $other) -> IntervalSet<T> {
-                &self $op other
-            }
-        }
-
-        impl<T: Width> $assign_trait<$other> for IntervalSet<T> {
-            #[track_caller]
-            fn $assign(&mut self, other: $other) {
-                *self = &*self $op other;
-            }
-        }
+        forms!($trait $call $assign_trait $assign: T, x => x;);
     };
 }
 
-macro_rules! algebra {
-    ($($trait:ident $call:ident $assign_trait:ident $assign:ident $op:tt $method:ident;)*) => {$(
-        #[doc = concat!("As [`", stringify!($method), "`](IntervalSet::", stringify!($method), ").")]
-        impl<T: Width> $trait for &IntervalSet<T> {
-            type Output = IntervalSet<T>;
-
-            fn $call(self, other: Self) -> IntervalSet<T> {
-                self.$method(other)
-            }
-        }
-
-        forms!($trait $call $assign_trait $assign $op);
-    )*};
-}
-
-algebra! {
-    BitOr bitor BitOrAssign bitor_assign | union;
-    BitAnd bitand BitAndAssign bitand_assign & intersection;
-    BitXor bitxor BitXorAssign bitxor_assign ^ symmetric_difference;
-}
-
-arithmetic! {
-    Add add AddAssign add_assign + fits_add checked_add fits_add_value checked_add_value "sums";
-    Sub sub SubAssign sub_assign - fits_sub checked_sub fits_sub_value checked_sub_value "differences";
-    Mul mul MulAssign mul_assign * fits_mul checked_mul fits_mul_value checked_mul_value "products";
-}
+operator!(BitOr bitor BitOrAssign bitor_assign, union: "As [`union`](IntervalSet::union).");
+operator!(BitAnd bitand BitAndAssign bitand_assign, intersection: "As [`intersection`](IntervalSet::intersection).");
+operator!(BitXor bitxor BitXorAssign bitxor_assign, symmetric_difference:
+    "As [`symmetric_difference`](IntervalSet::symmetric_difference).");
+arithmetic!(Add add AddAssign add_assign + "sums": fits_add checked_add add_tested fits_add_value checked_add_value);
+arithmetic!(Sub sub SubAssign sub_assign - "differences": fits_sub checked_sub sub_tested fits_sub_value checked_sub_value);
+arithmetic!(Mul mul MulAssign mul_assign * "products": fits_mul checked_mul mul_tested fits_mul_value checked_mul_value);
 
 /// As [`complement`](IntervalSet::complement).
 impl<T: Width> Not for &IntervalSet<T> {
@@ -166,9 +131,9 @@ impl<T: Width> Not for &IntervalSet<T> {
 
 /// As [`complement`](IntervalSet::complement).
 impl<T: Width> Not for IntervalSet<T> {
-    type Output = IntervalSet<T>;
+    type Output = Self;
 
-    fn not(self) -> IntervalSet<T> {
+    fn not(self) -> Self {
         self.complement()
     }
 }

@@ -48,18 +48,6 @@ impl<T: Width> Piece<T> for Numbers {
     }
 }
 
-fn below<T: Width>(end: &T) -> i128 {
-    end.number().saturating_sub(1)
-}
-
-fn least<T: Width>() -> i128 {
-    T::min_value().number()
-}
-
-fn greatest<T: Width>() -> i128 {
-    T::max_value().number()
-}
-
 macro_rules! pieces {
     ($($piece:ty, $x:ident => $lower:expr, $upper:expr;)*) => {$(
         impl<T: Width> Piece<T> for $piece {
@@ -75,12 +63,12 @@ pieces! {
     T, x => x.number(), x.number();
     &T, x => x.number(), x.number();
     (T, T), x => x.0.number(), x.1.number();
-    Range<T>, x => x.start.number(), below(&x.end);
+    Range<T>, x => x.start.number(), x.end.number().saturating_sub(1);
     RangeInclusive<T>, x => x.start().number(), x.end().number();
-    RangeFrom<T>, x => x.start.number(), greatest::<T>();
-    RangeTo<T>, x => least::<T>(), below(&x.end);
-    RangeToInclusive<T>, x => least::<T>(), x.end.number();
-    RangeFull, _x => least::<T>(), greatest::<T>();
+    RangeFrom<T>, x => x.start.number(), T::max_value().number();
+    RangeTo<T>, x => T::min_value().number(), x.end.number().saturating_sub(1);
+    RangeToInclusive<T>, x => T::min_value().number(), x.end.number();
+    RangeFull, _x => T::min_value().number(), T::max_value().number();
     Interval<T>, x => bounds(x).0, bounds(x).1;
 }
 

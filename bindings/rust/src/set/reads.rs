@@ -1,14 +1,15 @@
 //! What a set is asked.
-use super::conditions::broken;
+use super::conditions::{broken, unless_broken};
 use super::{IntervalSet, Iter, Piece, Range};
 use crate::proved::Interval;
 use crate::proved::ops::{
-    Bounded as _, Cardinality as _, Contains as _, Disjoint as _, IsEmpty as _, IsSingleton as _, Overlap as _,
-    ProperSubset as _, Subset as _,
+    Bounded, Cardinality, Contains, Disjoint, IsEmpty, IsSingleton, Overlap, ProperSubset, Subset,
 };
 use crate::proved::width::{SizeNumber, Width};
-use core::borrow::Borrow;
-use core::ops::RangeInclusive;
+use core::{borrow::Borrow, ops::RangeInclusive};
+
+const FILLED: &str = "the set must not be empty, but is {}";
+const ABOVE_0: &str = "the count must be above 0";
 
 /// A proved interval, which is not empty, as a range of Rust's std.
 pub fn as_range<T: Width>(run: &Interval<T>) -> RangeInclusive<T> {
@@ -45,10 +46,7 @@ impl<T: Width> IntervalSet<T> {
     /// The least member. The set must not be empty. `O(1)`.
     #[track_caller]
     pub fn lower(&self) -> T {
-        match self.checked_lower() {
-            Some(least) => least,
-            None => broken(format_args!("lower()"), format_args!("the set must not be empty, but is {{}}")),
-        }
+        unless_broken!(self.checked_lower(), FILLED, "lower()")
     }
 
     /// [`lower`](Self::lower), or `None` of the empty set.
@@ -59,10 +57,7 @@ impl<T: Width> IntervalSet<T> {
     /// The greatest member. The set must not be empty. `O(1)`.
     #[track_caller]
     pub fn upper(&self) -> T {
-        match self.checked_upper() {
-            Some(greatest) => greatest,
-            None => broken(format_args!("upper()"), format_args!("the set must not be empty, but is {{}}")),
-        }
+        unless_broken!(self.checked_upper(), FILLED, "upper()")
     }
 
     /// [`upper`](Self::upper), or `None` of the empty set.
@@ -171,10 +166,7 @@ impl<T: Width> IntervalSet<T> {
     /// The lowest `count` consecutive members, if there are so many. `count` must be above 0. `O(n)`.
     #[track_caller]
     pub fn first_fit(&self, count: T::Output) -> Option<RangeInclusive<T>> {
-        match self.checked_first_fit(count) {
-            Some(fit) => fit,
-            None => broken(format_args!("first_fit(0)"), format_args!("the count must be above 0")),
-        }
+        unless_broken!(self.checked_first_fit(count), ABOVE_0, "first_fit(0)")
     }
 
     /// [`first_fit`](Self::first_fit), or `None` where its condition is broken.
@@ -192,13 +184,7 @@ impl<T: Width> IntervalSet<T> {
     /// ```
     #[track_caller]
     pub fn first_fit_from(&self, value: T, count: T::Output) -> Option<RangeInclusive<T>> {
-        match self.checked_first_fit_from(value, count) {
-            Some(fit) => fit,
-            None => broken(
-                format_args!("first_fit_from({}, 0)", value.number()),
-                format_args!("the count must be above 0"),
-            ),
-        }
+        unless_broken!(self.checked_first_fit_from(value, count), ABOVE_0, "first_fit_from({}, 0)", value.number())
     }
 
     /// [`first_fit_from`](Self::first_fit_from), or `None` where its condition is broken.

@@ -1,128 +1,81 @@
 //! The JSON form of a set, by serde: `null` for the empty set, else the array of the runs, as in `[[1,2],[5,5]]`.
 //!
-//! What is read may have its runs in any order; they may overlap, touch, cross or be `null`. A format has to say what it holds
-//! (`deserialize_any`), as JSON does.
+//! What is read may have its runs in any order; they may overlap, touch, cross or be `null`.
 use super::IntervalSet;
-use super::conditions::{numbers_between, numbers_of_type};
+use super::conditions::within_range;
 use crate::proved::interval::Interval;
-use crate::proved::ops::{Bounded as _, Empty as _, Range as _};
+use crate::proved::ops::{Bounded, Range};
 use crate::proved::width::Width;
 use alloc::vec::Vec;
-use core::fmt;
-use core::marker::PhantomData;
-use serde::de::{Error, SeqAccess, Unexpected, Visitor};
-use serde::{Deserialize, Deserializer, Serialize, Serializer};
+use core::{fmt, marker::PhantomData};
+use serde::de::{Deserialize, Deserializer, Error, Visitor};
+use serde::ser::{Serialize, Serializer};
 
-/// A bound as a number of 64 bits.
-struct Bound(i128);
+/// A bound, as a number of 64 bits: signed if the range of the type has negative numbers.
+struct Number<T>(T);
 
-impl Serialize for Bound {
+/// The runs of a set that is not empty.
+struct Runs<'a, T: Width>(&'a [Interval<T>]);
+
+impl<T: Width> Serialize for Number<T> {
     fn serialize<S: Serializer>(&self, serializer: S) -> Result<S::Ok, S::Error> {
-        match u64::try_from(self.0) {
-            Ok(number) => serializer.serialize_u64(number),
-            Err(_) => serializer.serialize_i64(self.0 as i64),
+        match T::min_value().number() < 0 {
+            true => serializer.serialize_i64(self.0.number() as i64),
+            false => serializer.serialize_u64(self.0.number() as u64),
         }
+    }
+}
+
+impl<T: Width> Serialize for Runs<'_, T> {
+    fn serialize<S: Serializer>(&self, serializer: S) -> Result<S::Ok, S::Error> {
+        serializer.collect_seq(self.0.iter().map(|run| (Number(run.lower()), Number(run.upper()))))
     }
 }
 
 impl<T: Width> Serialize for IntervalSet<T> {
     fn serialize<S: Serializer>(&self, serializer: S) -> Result<S::Ok, S::Error> {
-        if self.is_empty() {
-            return serializer.serialize_unit();
-        }
-        serializer.collect_seq(self.0.runs().iter().map(|run| (Bound(run.lower().number()), Bound(run.upper().number()))))
-    }
-}
-
-/// Reads what a visitor of a type makes of a value.
-struct Reading<T>(PhantomData<T>);
-
-/// A value that is read by [`Reading`].
-struct Read<V>(V);
-
-impl<'de, V> Deserialize<'de> for Read<V>
-where
-    Reading<V>: Visitor<'de, Value = V>,
-{
-    fn deserialize<D: Deserializer<'de>>(deserializer: D) -> Result<Self, D::Error> {
-        deserializer.deserialize_any(Reading::<V>(PhantomData)).map(Read)
+        (!self.is_empty()).then(|| Runs(self.0.runs())).serialize(serializer)
     }
 }
 
 impl<'de, T: Width> Deserialize<'de> for IntervalSet<T> {
     fn deserialize<D: Deserializer<'de>>(deserializer: D) -> Result<Self, D::Error> {
-        deserializer.deserialize_any(Reading::<Self>(PhantomData))
+        let pairs = Option::<Vec<Option<(Number<T>, Number<T>)>>>::deserialize(deserializer)?;
+        Ok(pairs.into_iter().flatten().flatten().map(|pair| Interval::new(pair.0.0, pair.1.0)).collect())
     }
 }
 
-impl<'de, T: Width> Visitor<'de> for Reading<IntervalSet<T>> {
-    type Value = IntervalSet<T>;
-
-    fn expecting(&self, f: &mut fmt::Formatter<'_>) -> fmt::Result {
-        f.write_str("null or an array of intervals")
-    }
-
-    fn visit_unit<E: Error>(self) -> Result<IntervalSet<T>, E> {
-        Ok(IntervalSet::empty())
-    }
-
-    fn visit_seq<A: SeqAccess<'de>>(self, mut items: A) -> Result<IntervalSet<T>, A::Error> {
-        let mut intervals = Vec::new();
-        while let Some(Read(interval)) = items.next_element::<Read<Interval<T>>>()? {
-            intervals.push(interval);
-        }
-        Ok(intervals.into_iter().collect())
-    }
-}
-
-impl<'de, T: Width> Visitor<'de> for Reading<Interval<T>> {
-    type Value = Interval<T>;
-
-    fn expecting(&self, f: &mut fmt::Formatter<'_>) -> fmt::Result {
-        f.write_str("null or an array of two bounds")
-    }
-
-    fn visit_unit<E: Error>(self) -> Result<Interval<T>, E> {
-        Ok(Interval::empty())
-    }
-
-    fn visit_seq<A: SeqAccess<'de>>(self, mut items: A) -> Result<Interval<T>, A::Error> {
-        let mut bounds = [0; 2];
-        for (i, bound) in bounds.iter_mut().enumerate() {
-            let Some(Read(Bound(number))) = items.next_element()? else {
-                return Err(Error::invalid_length(i, &self));
-            };
-            *bound = number;
-        }
-        if items.next_element::<Read<Bound>>()?.is_some() {
-            return Err(Error::invalid_length(3, &self));
-        }
-        match (T::from_number(bounds[0]), T::from_number(bounds[1])) {
-            (Some(lower), Some(upper)) => Ok(Interval::new(lower, upper)),
-            _ => {
-                let given = numbers_between(bounds[0], bounds[1]);
-                Err(Error::custom(format_args!("{given} must be {}", numbers_of_type::<T>())))
-            }
+impl<'de, T: Width> Deserialize<'de> for Number<T> {
+    fn deserialize<D: Deserializer<'de>>(deserializer: D) -> Result<Self, D::Error> {
+        match T::min_value().number() < 0 {
+            true => deserializer.deserialize_i64(Bound(PhantomData)),
+            false => deserializer.deserialize_u64(Bound(PhantomData)),
         }
     }
 }
 
-impl<'de> Visitor<'de> for Reading<Bound> {
-    type Value = Bound;
+/// Reads a number that is in the range of a type.
+struct Bound<T>(PhantomData<T>);
+
+impl<T: Width> Bound<T> {
+    fn number<E: Error>(self, number: i128) -> Result<Number<T>, E> {
+        let told = || E::custom(format_args!("{number}: {}", within_range::<T>("a bound")));
+        T::from_number(number).map(Number).ok_or_else(told)
+    }
+}
+
+impl<T: Width> Visitor<'_> for Bound<T> {
+    type Value = Number<T>;
 
     fn expecting(&self, f: &mut fmt::Formatter<'_>) -> fmt::Result {
         f.write_str("a whole number of 64 bits")
     }
 
-    fn visit_u64<E: Error>(self, number: u64) -> Result<Bound, E> {
-        Ok(Bound(number.into()))
+    fn visit_i64<E: Error>(self, number: i64) -> Result<Number<T>, E> {
+        self.number(number.into())
     }
 
-    fn visit_i64<E: Error>(self, number: i64) -> Result<Bound, E> {
-        Ok(Bound(number.into()))
-    }
-
-    fn visit_f64<E: Error>(self, number: f64) -> Result<Bound, E> {
-        Err(Error::invalid_type(Unexpected::Float(number), &self))
+    fn visit_u64<E: Error>(self, number: u64) -> Result<Number<T>, E> {
+        self.number(number.into())
     }
 }

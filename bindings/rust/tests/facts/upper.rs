@@ -12,7 +12,10 @@ pub fn answer<B: Bound>(fact: &Fact<'_>) -> Option<String> {
     match fact.call {
         "eval" => evaluated::<B>(fact.operands[0], fact.operands[1]),
         "narrow" | "propagate" | "post_all" => of_store::<B>(fact),
+        #[cfg(feature = "json")]
         _ => of_json::<B>(fact),
+        #[cfg(not(feature = "json"))]
+        _ => None,
     }
 }
 
@@ -85,11 +88,6 @@ fn post<B: Bound>(text: &str) -> Option<Post<B>> {
     };
     let (variable, runs) = cut.split_once(' ')?;
     Some(Post::Restrict(variable.parse().ok()?, set(runs)?))
-}
-
-#[cfg(not(feature = "json"))]
-fn of_json<B: Bound>(_fact: &Fact<'_>) -> Option<String> {
-    None
 }
 
 #[cfg(feature = "json")]

@@ -175,7 +175,7 @@ impl<B: Width> IntervalSet<B> {
 
 impl<B: Width> IntervalKind for IntervalSet<B> {}
 
-/// Proved, with these words:
+/// Proved, with these words of the trait:
 ///
 /// ```text
 /// members = { Covers }
@@ -187,7 +187,7 @@ impl<B: Width> Collection for IntervalSet<B> {
     type Item = B;
 }
 
-/// Proved, with these words:
+/// Proved, with these words of the trait:
 ///
 /// ```text
 /// members = { Covers }
@@ -219,7 +219,7 @@ impl<B: Width> Cardinality for IntervalSet<B> {
     }
 }
 
-/// Proved, with these words:
+/// Proved, with these words of the trait:
 ///
 /// ```text
 /// members = { Covers }
@@ -253,11 +253,10 @@ impl<B: Width> IsEmpty for IntervalSet<B> {
     }
 }
 
-/// Proved, with these words:
+/// Proved, with these words of the trait:
 ///
 /// ```text
 /// eq = { same_runs }
-/// laws = { same_runs_laws }
 /// ```
 ///
 /// Words: [`same_runs`](crate::definitions#same_runs).
@@ -288,10 +287,5 @@ impl<B: Width> PartialEq for IntervalSet<B> {
     }
 }
 
-/// Proved, with these words:
-///
-/// ```text
-/// laws = { same_runs_equiv }
-/// ```
 impl<B: Width> Eq for IntervalSet<B> {
 }

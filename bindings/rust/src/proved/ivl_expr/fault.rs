@@ -30,7 +30,7 @@ impl core::fmt::Display for EvalFault {
 
 impl core::error::Error for EvalFault {}
 
-/// Proved, with these words:
+/// Proved, with these words of the trait:
 ///
 /// ```text
 /// from_gives = { λ _ e. e ≡ Memory }

@@ -36,7 +36,7 @@ pub struct Interval<B: Width> {
     ub: B,
 }
 
-/// Proved, with these words:
+/// Proved, with these words of the trait:
 ///
 /// ```text
 /// is_clone = { λ x y. y ≡ x }
@@ -49,11 +49,10 @@ impl<B: Width> Clone for Interval<B> {
     }
 }
 
-/// Proved, with these words:
+/// Proved, with these words of the trait:
 ///
 /// ```text
 /// eq = { same_interval }
-/// laws = { same_interval_laws }
 /// ```
 ///
 /// Words: [`same_interval`](crate::definitions#same_interval).
@@ -90,10 +89,5 @@ fn has_same_members<B: Width>(a: &Interval<B>, b: &Interval<B>) -> bool {
     }
 }
 
-/// Proved, with these words:
-///
-/// ```text
-/// laws = { same_interval_equiv }
-/// ```
 impl<B: Width> Eq for Interval<B> {
 }

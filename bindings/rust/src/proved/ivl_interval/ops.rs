@@ -17,7 +17,7 @@ use crate::proved::ivl_interval::width::Width;
 
 /// A type whose values are sets of items, such as `Interval<B>` with items of type `B`.
 ///
-/// Proved of each type, and assumed of one that you write:
+/// Words and laws of the contracts:
 ///
 /// ```text
 /// members: { Self → ℤ → Type 0 }
@@ -42,7 +42,7 @@ pub trait IntervalKind {}
 /// # }
 /// ```
 ///
-/// Proved of each type, and assumed of one that you write:
+/// Words and laws of the contracts:
 ///
 /// ```text
 /// members: { Self → ℤ → Type 0 }
@@ -72,7 +72,7 @@ pub trait Empty {
 /// # }
 /// ```
 ///
-/// Proved of each type, and assumed of one that you write:
+/// Words and laws of the contracts:
 ///
 /// ```text
 /// members: { Self → ℤ → Type 0 }
@@ -101,7 +101,7 @@ pub trait Top {
 /// # }
 /// ```
 ///
-/// Proved of each type, and assumed of one that you write:
+/// Words and laws of the contracts:
 ///
 /// ```text
 /// members: { Self → ℤ → Type 0 }
@@ -131,7 +131,7 @@ pub trait Bot {
 /// # }
 /// ```
 ///
-/// Proved of each type, and assumed of one that you write:
+/// Words and laws of the contracts:
 ///
 /// ```text
 /// members: { Self → ℤ → Type 0 }
@@ -161,7 +161,7 @@ pub trait Whole {
 /// # }
 /// ```
 ///
-/// Proved of each type, and assumed of one that you write:
+/// Words and laws of the contracts:
 ///
 /// ```text
 /// whole: { ℤ × ℤ }
@@ -192,7 +192,7 @@ pub trait Singleton: Collection {
 /// # }
 /// ```
 ///
-/// Proved of each type, and assumed of one that you write:
+/// Words and laws of the contracts:
 ///
 /// ```text
 /// whole: { ℤ × ℤ }
@@ -265,7 +265,7 @@ pub trait Bounded: Collection {
 /// # }
 /// ```
 ///
-/// Proved of each type, and assumed of one that you write:
+/// Words and laws of the contracts:
 ///
 /// ```text
 /// members: { Self → ℤ → Type 0 }
@@ -298,7 +298,7 @@ pub trait Cardinality {
 /// # }
 /// ```
 ///
-/// Proved of each type, and assumed of one that you write:
+/// Words and laws of the contracts:
 ///
 /// ```text
 /// members: { Self → ℤ → Type 0 }
@@ -328,7 +328,7 @@ pub trait IsEmpty {
 /// # }
 /// ```
 ///
-/// Proved of each type, and assumed of one that you write:
+/// Words and laws of the contracts:
 ///
 /// ```text
 /// members: { Self → ℤ → Type 0 }
@@ -379,7 +379,7 @@ pub trait Contains: Collection {
 /// # }
 /// ```
 ///
-/// Proved of each type, and assumed of one that you write:
+/// Words and laws of the contracts:
 ///
 /// ```text
 /// members: { Self → ℤ → Type 0 }
@@ -409,7 +409,7 @@ pub trait Disjoint<R> {
 /// # }
 /// ```
 ///
-/// Proved of each type, and assumed of one that you write:
+/// Words and laws of the contracts:
 ///
 /// ```text
 /// members: { Self → ℤ → Type 0 }
@@ -440,7 +440,7 @@ pub trait Overlap<R> {
 /// # }
 /// ```
 ///
-/// Proved of each type, and assumed of one that you write:
+/// Words and laws of the contracts:
 ///
 /// ```text
 /// members: { Self → ℤ → Type 0 }
@@ -470,7 +470,7 @@ pub trait Subset {
 /// # }
 /// ```
 ///
-/// Proved of each type, and assumed of one that you write:
+/// Words and laws of the contracts:
 ///
 /// ```text
 /// members: { Self → ℤ → Type 0 }
@@ -501,7 +501,7 @@ pub trait ProperSubset {
 /// # }
 /// ```
 ///
-/// Proved of each type, and assumed of one that you write:
+/// Words and laws of the contracts:
 ///
 /// ```text
 /// members: { Self → ℤ → Type 0 }
@@ -539,7 +539,7 @@ pub trait Union<R> {
 /// # }
 /// ```
 ///
-/// Proved of each type, and assumed of one that you write:
+/// Words and laws of the contracts:
 ///
 /// ```text
 /// members: { Self → ℤ → Type 0 }
@@ -573,7 +573,7 @@ pub trait Intersection<R> {
 /// # }
 /// ```
 ///
-/// Proved of each type, and assumed of one that you write:
+/// Words and laws of the contracts:
 ///
 /// ```text
 /// members: { Self → ℤ → Type 0 }
@@ -609,7 +609,7 @@ pub trait Difference<R> {
 /// # }
 /// ```
 ///
-/// Proved of each type, and assumed of one that you write:
+/// Words and laws of the contracts:
 ///
 /// ```text
 /// members: { Self → ℤ → Type 0 }
@@ -647,7 +647,7 @@ pub trait SymmetricDifference<R> {
 /// # }
 /// ```
 ///
-/// Proved of each type, and assumed of one that you write:
+/// Words and laws of the contracts:
 ///
 /// ```text
 /// members: { Self → ℤ → Type 0 }
@@ -686,7 +686,7 @@ pub trait Hull<R> {
 /// # }
 /// ```
 ///
-/// Proved of each type, and assumed of one that you write:
+/// Words and laws of the contracts:
 ///
 /// ```text
 /// whole: { ℤ × ℤ }
@@ -720,7 +720,7 @@ pub trait Complement {
 /// # }
 /// ```
 ///
-/// Proved of each type, and assumed of one that you write:
+/// Words and laws of the contracts:
 ///
 /// ```text
 /// answers: { Self.Output → (ℤ → Type 0) → Type 0 }
@@ -752,7 +752,7 @@ pub trait ShrinkLeft: Collection {
 /// # }
 /// ```
 ///
-/// Proved of each type, and assumed of one that you write:
+/// Words and laws of the contracts:
 ///
 /// ```text
 /// answers: { Self.Output → (ℤ → Type 0) → Type 0 }
@@ -784,7 +784,7 @@ pub trait ShrinkRight: Collection {
 /// # }
 /// ```
 ///
-/// Proved of each type, and assumed of one that you write:
+/// Words and laws of the contracts:
 ///
 /// ```text
 /// answers: { Self.Output → (ℤ → Type 0) → Type 0 }
@@ -816,7 +816,7 @@ pub trait StrictShrinkLeft: Collection {
 /// # }
 /// ```
 ///
-/// Proved of each type, and assumed of one that you write:
+/// Words and laws of the contracts:
 ///
 /// ```text
 /// answers: { Self.Output → (ℤ → Type 0) → Type 0 }
@@ -849,7 +849,7 @@ pub trait StrictShrinkRight: Collection {
 /// # }
 /// ```
 ///
-/// Proved of each type, and assumed of one that you write:
+/// Words and laws of the contracts:
 ///
 /// ```text
 /// members: { Self → ℤ → Type 0 }
@@ -883,7 +883,7 @@ pub trait Join: Sized {
 /// # }
 /// ```
 ///
-/// Proved of each type, and assumed of one that you write:
+/// Words and laws of the contracts:
 ///
 /// ```text
 /// members: { Self → ℤ → Type 0 }
@@ -917,7 +917,7 @@ pub trait Meet: Sized {
 /// # }
 /// ```
 ///
-/// Proved of each type, and assumed of one that you write:
+/// Words and laws of the contracts:
 ///
 /// ```text
 /// members: { Self → ℤ → Type 0 }
@@ -948,7 +948,7 @@ pub trait Entailment {
 /// # }
 /// ```
 ///
-/// Proved of each type, and assumed of one that you write:
+/// Words and laws of the contracts:
 ///
 /// ```text
 /// can_convert: { Self → Type 0 }
@@ -982,7 +982,7 @@ pub trait ToInterval<B: Width> {
 /// # }
 /// ```
 ///
-/// Proved of each type, and assumed of one that you write:
+/// Words and laws of the contracts:
 ///
 /// ```text
 /// whole: { ℤ × ℤ }

@@ -24,7 +24,7 @@ mod unsigned;
 /// # }
 /// ```
 ///
-/// Proved of each type, and assumed of one that you write:
+/// Words and laws of the contracts:
 ///
 /// ```text
 /// size: { Self → ℕ }
@@ -183,7 +183,7 @@ pub trait SizeNumber: Ord + Copy {
 /// # }
 /// ```
 ///
-/// Proved of each type, and assumed of one that you write:
+/// Words and laws of the contracts:
 ///
 /// ```text
 /// value: { Self → ℤ }

@@ -91,7 +91,7 @@ impl core::fmt::Display for JsonFault {
 
 impl core::error::Error for JsonFault {}
 
-/// Proved, with these words:
+/// Proved, with these words of the trait:
 ///
 /// ```text
 /// from_gives = { λ fault same. same ≡ fault_of fault }
@@ -119,7 +119,7 @@ impl From<ItemFault> for JsonFault {
     }
 }
 
-/// Proved, with these words:
+/// Proved, with these words of the trait:
 ///
 /// ```text
 /// from_gives = { λ _ fault. fault ≡ Memory }

@@ -66,7 +66,7 @@ use crate::rattle::std::alloc::{AllocError, Global};
 /// A contract sees a value as serde_json's `Data`, by `view`. For generic code the clauses state
 /// that what is written reads back, and the two laws that a value reads in at most one way.
 ///
-/// Proved of each type, and assumed of one that you write:
+/// Words and laws of the contracts:
 ///
 /// ```text
 /// reads: { Data → Self → Type 0 }
@@ -99,8 +99,6 @@ pub trait JsonForm: Sized {
     /// ensures written { IfOk result (λ v. view v ≡ json self.now) }
     /// ensures reads_back { reads (json self.now) self.now }
     /// ```
-    ///
-    /// Words: [`written`](crate::definitions#written).
     fn to_value(&self, alloc: Global) -> Result<Value, AllocError>;
 
     /// Reads a JSON value, which is unchanged.

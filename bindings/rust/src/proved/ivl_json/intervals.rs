@@ -11,15 +11,13 @@ use crate::proved::intervallum::width::Width;
 use serde_json::Value;
 use crate::rattle::std::alloc::{AllocError, Global};
 
-/// Proved, with these words:
+/// Proved, with these words of the trait:
 ///
 /// ```text
 /// reads = { λ d p. Reads B.whole d (IsBetween p) }
 /// faults = { λ d f. (k : ItemFault) × (f ≡ fault_of k) × (interval_read B.whole d ≡ Err k) }
 /// json = { interval_json }
 /// same = { λ p q. SameMembers (IsBetween p) (IsBetween q) }
-/// one_way = { intervals_read_alike B.whole }
-/// not_refused = { interval_refused_alone B.whole }
 /// ```
 ///
 /// Words: [`Reads`](crate::definitions#Reads), [`IsBetween`](crate::definitions#IsBetween), [`fault_of`](crate::definitions#fault_of), [`interval_read`](crate::definitions#interval_read), [`interval_json`](crate::definitions#interval_json), [`SameMembers`](crate::definitions#SameMembers).

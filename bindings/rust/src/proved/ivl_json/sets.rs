@@ -11,15 +11,13 @@ use crate::proved::intervallum::{Interval, IntervalSet};
 use serde_json::Value;
 use crate::rattle::std::alloc::{AllocError, Global};
 
-/// Proved, with these words:
+/// Proved, with these words of the trait:
 ///
 /// ```text
 /// reads = { λ d L. IsRunListIn B.whole L × SetReads B.whole d (Covers L) }
 /// faults = { λ d f. (f ≡ Memory) ⊎ (set_read B.whole d ≡ Err f) }
 /// json = { set_json }
 /// same = { λ L M. L ≡ M }
-/// one_way = { sets_read_alike B.whole }
-/// not_refused = { set_refused_alone B.whole }
 /// ```
 ///
 /// Words: [`IsRunListIn`](crate::definitions#IsRunListIn), [`SetReads`](crate::definitions#SetReads), [`Covers`](crate::definitions#Covers), [`set_read`](crate::definitions#set_read), [`set_json`](crate::definitions#set_json).

@@ -11,7 +11,7 @@ use crate::proved::intervallum::steps::{Probes, Walk, common, gaps, have_common,
 use crate::proved::intervallum::width::Width;
 use crate::rattle::std::alloc::AllocError;
 
-/// Proved, with these words:
+/// Proved, with these words of the trait:
 ///
 /// ```text
 /// members = { Covers }
@@ -50,7 +50,7 @@ impl<B: Width> Union<IntervalSet<B>> for IntervalSet<B> {
     }
 }
 
-/// Proved, with these words:
+/// Proved, with these words of the trait:
 ///
 /// ```text
 /// members = { Covers }
@@ -98,7 +98,7 @@ impl<B: Width> Intersection<IntervalSet<B>> for IntervalSet<B> {
     }
 }
 
-/// Proved, with these words:
+/// Proved, with these words of the trait:
 ///
 /// ```text
 /// members = { Covers }
@@ -147,7 +147,7 @@ impl<B: Width> Difference<IntervalSet<B>> for IntervalSet<B> {
     }
 }
 
-/// Proved, with these words:
+/// Proved, with these words of the trait:
 ///
 /// ```text
 /// members = { Covers }
@@ -188,7 +188,7 @@ impl<B: Width> SymmetricDifference<IntervalSet<B>> for IntervalSet<B> {
     }
 }
 
-/// Proved, with these words:
+/// Proved, with these words of the trait:
 ///
 /// ```text
 /// whole = { B.whole }
@@ -226,7 +226,7 @@ impl<B: Width> Complement for IntervalSet<B> {
     }
 }
 
-/// Proved, with these words:
+/// Proved, with these words of the trait:
 ///
 /// ```text
 /// members = { Covers }
@@ -260,7 +260,7 @@ impl<B: Width> Disjoint<IntervalSet<B>> for IntervalSet<B> {
     }
 }
 
-/// Proved, with these words:
+/// Proved, with these words of the trait:
 ///
 /// ```text
 /// members = { Covers }

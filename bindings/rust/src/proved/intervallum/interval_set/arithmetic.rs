@@ -16,7 +16,7 @@ use crate::proved::intervallum::width::Width;
 use crate::rattle::std::alloc::AllocError;
 use crate::rattle::std::ops::{Add, Mul, Sub};
 
-/// Proved, with these words:
+/// Proved, with these words of the trait:
 ///
 /// ```text
 /// can_add = { λ a b. IsSubset (Sums (Covers a) (Covers b)) (IsBetween B.whole) }
@@ -49,7 +49,7 @@ impl<B: Width> Add<IntervalSet<B>> for IntervalSet<B> {
     }
 }
 
-/// Proved, with these words:
+/// Proved, with these words of the trait:
 ///
 /// ```text
 /// can_add = { λ a b. IsSubset (Sums (Covers a) (Covers b.now)) (IsBetween B.whole) }
@@ -71,7 +71,7 @@ impl<B: Width> Add<&IntervalSet<B>> for IntervalSet<B> {
     }
 }
 
-/// Proved, with these words:
+/// Proved, with these words of the trait:
 ///
 /// ```text
 /// can_add = { λ a b. IsSubset (Sums (Covers a.now) (Covers b)) (IsBetween B.whole) }
@@ -93,7 +93,7 @@ impl<B: Width> Add<IntervalSet<B>> for &IntervalSet<B> {
     }
 }
 
-/// Proved, with these words:
+/// Proved, with these words of the trait:
 ///
 /// ```text
 /// can_add = { λ a b. IsSubset (Sums (Covers a.now) (Covers b.now)) (IsBetween B.whole) }
@@ -115,7 +115,7 @@ impl<B: Width> Add<&IntervalSet<B>> for &IntervalSet<B> {
     }
 }
 
-/// Proved, with these words:
+/// Proved, with these words of the trait:
 ///
 /// ```text
 /// can_add = { λ a x. IsSubset (Sums (Covers a) (Only (B.value x))) (IsBetween B.whole) }
@@ -157,7 +157,7 @@ impl<B: Width> Add<B> for IntervalSet<B> {
     }
 }
 
-/// Proved, with these words:
+/// Proved, with these words of the trait:
 ///
 /// ```text
 /// can_add = { λ a x. IsSubset (Sums (Covers a) (Only (B.value x.now))) (IsBetween B.whole) }
@@ -188,7 +188,7 @@ impl<B: Width> Add<&B> for IntervalSet<B> {
     }
 }
 
-/// Proved, with these words:
+/// Proved, with these words of the trait:
 ///
 /// ```text
 /// can_add = { λ a x. IsSubset (Sums (Covers a.now) (Only (B.value x))) (IsBetween B.whole) }
@@ -219,7 +219,7 @@ impl<B: Width> Add<B> for &IntervalSet<B> {
     }
 }
 
-/// Proved, with these words:
+/// Proved, with these words of the trait:
 ///
 /// ```text
 /// can_add = { λ a x. IsSubset (Sums (Covers a.now) (Only (B.value x.now))) (IsBetween B.whole) }
@@ -250,7 +250,7 @@ impl<B: Width> Add<&B> for &IntervalSet<B> {
     }
 }
 
-/// Proved, with these words:
+/// Proved, with these words of the trait:
 ///
 /// ```text
 /// can_sub = { λ a b. IsSubset (Differences (Covers a) (Covers b)) (IsBetween B.whole) }
@@ -283,7 +283,7 @@ impl<B: Width> Sub<IntervalSet<B>> for IntervalSet<B> {
     }
 }
 
-/// Proved, with these words:
+/// Proved, with these words of the trait:
 ///
 /// ```text
 /// can_sub = { λ a b. IsSubset (Differences (Covers a) (Covers b.now)) (IsBetween B.whole) }
@@ -305,7 +305,7 @@ impl<B: Width> Sub<&IntervalSet<B>> for IntervalSet<B> {
     }
 }
 
-/// Proved, with these words:
+/// Proved, with these words of the trait:
 ///
 /// ```text
 /// can_sub = { λ a b. IsSubset (Differences (Covers a.now) (Covers b)) (IsBetween B.whole) }
@@ -327,7 +327,7 @@ impl<B: Width> Sub<IntervalSet<B>> for &IntervalSet<B> {
     }
 }
 
-/// Proved, with these words:
+/// Proved, with these words of the trait:
 ///
 /// ```text
 /// can_sub = { λ a b. IsSubset (Differences (Covers a.now) (Covers b.now)) (IsBetween B.whole) }
@@ -349,7 +349,7 @@ impl<B: Width> Sub<&IntervalSet<B>> for &IntervalSet<B> {
     }
 }
 
-/// Proved, with these words:
+/// Proved, with these words of the trait:
 ///
 /// ```text
 /// can_sub = { λ a x. IsSubset (Differences (Covers a) (Only (B.value x))) (IsBetween B.whole) }
@@ -392,7 +392,7 @@ impl<B: Width> Sub<B> for IntervalSet<B> {
     }
 }
 
-/// Proved, with these words:
+/// Proved, with these words of the trait:
 ///
 /// ```text
 /// can_sub = { λ a x. IsSubset (Differences (Covers a) (Only (B.value x.now))) (IsBetween B.whole) }
@@ -424,7 +424,7 @@ impl<B: Width> Sub<&B> for IntervalSet<B> {
     }
 }
 
-/// Proved, with these words:
+/// Proved, with these words of the trait:
 ///
 /// ```text
 /// can_sub = { λ a x. IsSubset (Differences (Covers a.now) (Only (B.value x))) (IsBetween B.whole) }
@@ -456,7 +456,7 @@ impl<B: Width> Sub<B> for &IntervalSet<B> {
     }
 }
 
-/// Proved, with these words:
+/// Proved, with these words of the trait:
 ///
 /// ```text
 /// can_sub = { λ a x. IsSubset (Differences (Covers a.now) (Only (B.value x.now))) (IsBetween B.whole) }
@@ -488,7 +488,7 @@ impl<B: Width> Sub<&B> for &IntervalSet<B> {
     }
 }
 
-/// Proved, with these words:
+/// Proved, with these words of the trait:
 ///
 /// ```text
 /// can_mul = { λ a b. IsSubset (ExactProducts (Covers a) (Covers b)) (IsBetween B.whole) }
@@ -521,7 +521,7 @@ impl<B: Width> Mul<IntervalSet<B>> for IntervalSet<B> {
     }
 }
 
-/// Proved, with these words:
+/// Proved, with these words of the trait:
 ///
 /// ```text
 /// can_mul = { λ a b. IsSubset (ExactProducts (Covers a) (Covers b.now)) (IsBetween B.whole) }
@@ -543,7 +543,7 @@ impl<B: Width> Mul<&IntervalSet<B>> for IntervalSet<B> {
     }
 }
 
-/// Proved, with these words:
+/// Proved, with these words of the trait:
 ///
 /// ```text
 /// can_mul = { λ a b. IsSubset (ExactProducts (Covers a.now) (Covers b)) (IsBetween B.whole) }
@@ -565,7 +565,7 @@ impl<B: Width> Mul<IntervalSet<B>> for &IntervalSet<B> {
     }
 }
 
-/// Proved, with these words:
+/// Proved, with these words of the trait:
 ///
 /// ```text
 /// can_mul = { λ a b. IsSubset (ExactProducts (Covers a.now) (Covers b.now)) (IsBetween B.whole) }
@@ -587,7 +587,7 @@ impl<B: Width> Mul<&IntervalSet<B>> for &IntervalSet<B> {
     }
 }
 
-/// Proved, with these words:
+/// Proved, with these words of the trait:
 ///
 /// ```text
 /// can_mul = { λ a x. IsSubset (ExactProducts (Covers a) (Only (B.value x))) (IsBetween B.whole) }
@@ -633,7 +633,7 @@ impl<B: Width> Mul<B> for IntervalSet<B> {
     }
 }
 
-/// Proved, with these words:
+/// Proved, with these words of the trait:
 ///
 /// ```text
 /// can_mul = { λ a x. IsSubset (ExactProducts (Covers a) (Only (B.value x.now))) (IsBetween B.whole) }
@@ -665,7 +665,7 @@ impl<B: Width> Mul<&B> for IntervalSet<B> {
     }
 }
 
-/// Proved, with these words:
+/// Proved, with these words of the trait:
 ///
 /// ```text
 /// can_mul = { λ a x. IsSubset (ExactProducts (Covers a.now) (Only (B.value x))) (IsBetween B.whole) }
@@ -697,7 +697,7 @@ impl<B: Width> Mul<B> for &IntervalSet<B> {
     }
 }
 
-/// Proved, with these words:
+/// Proved, with these words of the trait:
 ///
 /// ```text
 /// can_mul = { λ a x. IsSubset (ExactProducts (Covers a.now) (Only (B.value x.now))) (IsBetween B.whole) }

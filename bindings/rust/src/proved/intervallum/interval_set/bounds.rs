@@ -157,7 +157,7 @@ impl<B: Width> Bounded for IntervalSet<B> {
     }
 }
 
-/// Proved, with these words:
+/// Proved, with these words of the trait:
 ///
 /// ```text
 /// members = { Covers }

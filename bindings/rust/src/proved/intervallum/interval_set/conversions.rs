@@ -35,7 +35,7 @@ impl<B: Width> IntoRuns<B> {
     }
 }
 
-/// Proved, with these words:
+/// Proved, with these words of the trait:
 ///
 /// ```text
 /// next_gives = { YieldsFirst (λ rest. rest) }
@@ -61,7 +61,7 @@ impl<B: Width> Iterator for IntoRuns<B> {
     }
 }
 
-/// Proved, with these words:
+/// Proved, with these words of the trait:
 ///
 /// ```text
 /// next_back_gives = { YieldsLast (λ rest. rest) }
@@ -84,7 +84,7 @@ impl<B: Width> DoubleEndedIterator for IntoRuns<B> {
     }
 }
 
-/// Proved, with these words:
+/// Proved, with these words of the trait:
 ///
 /// ```text
 /// into_iter_gives = { λ s it. it ≡ s }
@@ -112,7 +112,7 @@ impl<B: Width> IntoIterator for IntervalSet<B> {
     }
 }
 
-/// Proved, with these words:
+/// Proved, with these words of the trait:
 ///
 /// ```text
 /// into_iter_gives = { λ s it. it.rest.now ≡ s.now }
@@ -228,7 +228,7 @@ fn gathered<B: Width, I: Iterator<Item = Interval<B>> + Drop>(
 /// # }
 /// ```
 ///
-/// Proved of each type, and assumed of one that you write:
+/// Words and laws of the contracts:
 ///
 /// ```text
 /// can_convert: { Self → Type 0 }
@@ -262,7 +262,7 @@ pub trait ToIntervalSet<B: Width> {
     fn to_interval_set(self, alloc: Global) -> Result<IntervalSet<B>, AllocError>;
 }
 
-/// Proved, with these words:
+/// Proved, with these words of the trait:
 ///
 /// ```text
 /// can_convert = { λ p. IsInRange B.whole (B.value p.0, B.value p.1) }
@@ -284,7 +284,7 @@ impl<B: Width> ToIntervalSet<B> for (B, B) {
     }
 }
 
-/// Proved, with these words:
+/// Proved, with these words of the trait:
 ///
 /// ```text
 /// can_convert = { λ s. All (λ p. IsInRange B.whole (B.value p.0, B.value p.1)) s.now }
@@ -304,7 +304,7 @@ impl<B: Width> ToIntervalSet<B> for &[(B, B)] {
     }
 }
 
-/// Proved, with these words:
+/// Proved, with these words of the trait:
 ///
 /// ```text
 /// can_convert = { λ v. All (λ p. IsInRange B.whole (B.value p.0, B.value p.1)) v.items }
@@ -324,7 +324,7 @@ impl<B: Width> ToIntervalSet<B> for Vec<(B, B)> {
     }
 }
 
-/// Proved, with these words:
+/// Proved, with these words of the trait:
 ///
 /// ```text
 /// can_convert = { λ a. All (λ p. IsInRange B.whole (B.value p.0, B.value p.1)) a }

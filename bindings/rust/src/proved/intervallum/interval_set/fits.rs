@@ -10,7 +10,7 @@ use crate::proved::intervallum::interval::Interval;
 use crate::proved::intervallum::ops::{Bounded, Empty, Fits, Range};
 use crate::proved::intervallum::width::Width;
 
-/// Proved, with these words:
+/// Proved, with these words of the trait:
 ///
 /// ```text
 /// whole = { B.whole }
@@ -84,7 +84,7 @@ impl<B: Width> Fits<IntervalSet<B>> for IntervalSet<B> {
     }
 }
 
-/// Proved, with these words:
+/// Proved, with these words of the trait:
 ///
 /// ```text
 /// whole = { B.whole }

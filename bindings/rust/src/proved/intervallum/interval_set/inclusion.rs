@@ -9,7 +9,7 @@ use crate::proved::intervallum::ops::{Bounded, Cardinality, Entailment, ProperSu
 use crate::proved::intervallum::steps::{Place, Probes, find_from};
 use crate::proved::intervallum::width::Width;
 
-/// Proved, with these words:
+/// Proved, with these words of the trait:
 ///
 /// ```text
 /// members = { Covers }
@@ -68,7 +68,7 @@ fn holder<B: Width>(runs: &mut Probes<'_, B>, run: &Interval<B>, from: usize) ->
     }
 }
 
-/// Proved, with these words:
+/// Proved, with these words of the trait:
 ///
 /// ```text
 /// members = { Covers }
@@ -97,7 +97,7 @@ impl<B: Width> ProperSubset for IntervalSet<B> {
     }
 }
 
-/// Proved, with these words:
+/// Proved, with these words of the trait:
 ///
 /// ```text
 /// members = { Covers }

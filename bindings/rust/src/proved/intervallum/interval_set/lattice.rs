@@ -8,7 +8,7 @@ use crate::proved::intervallum::steps::{Walk, common, unite};
 use crate::proved::intervallum::width::Width;
 use crate::rattle::std::alloc::AllocError;
 
-/// Proved, with these words:
+/// Proved, with these words of the trait:
 ///
 /// ```text
 /// members = { Covers }
@@ -46,7 +46,7 @@ impl<B: Width> Join for IntervalSet<B> {
     }
 }
 
-/// Proved, with these words:
+/// Proved, with these words of the trait:
 ///
 /// ```text
 /// members = { Covers }

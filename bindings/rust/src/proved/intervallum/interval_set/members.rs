@@ -34,7 +34,7 @@ pub struct Members<'a, B: Width> {
     last: Interval<B>,
 }
 
-/// Proved, with these words:
+/// Proved, with these words of the trait:
 ///
 /// ```text
 /// is_clone = { λ m copy. copy ≡ m }
@@ -64,7 +64,7 @@ impl<'a, B: Width> Clone for Members<'a, B> {
     }
 }
 
-/// Proved, with these words:
+/// Proved, with these words of the trait:
 ///
 /// ```text
 /// next_gives = { YieldsFirstBy B.value (λ left. left) }
@@ -100,7 +100,7 @@ impl<'a, B: Width> Iterator for Members<'a, B> {
     }
 }
 
-/// Proved, with these words:
+/// Proved, with these words of the trait:
 ///
 /// ```text
 /// next_back_gives = { YieldsLastBy B.value (λ left. left) }

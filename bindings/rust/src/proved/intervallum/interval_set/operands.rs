@@ -5,7 +5,7 @@ use crate::rattle::prelude::*;
 use super::IntervalSet;
 use crate::proved::intervallum::ops::{Contains, Overlap};
 
-/// Proved, with these words:
+/// Proved, with these words of the trait:
 ///
 /// ```text
 /// members = { λ x. Only (pos x) }
@@ -34,7 +34,7 @@ impl Overlap<IntervalSet<u8>> for u8 {
     }
 }
 
-/// Proved, with these words:
+/// Proved, with these words of the trait:
 ///
 /// ```text
 /// members = { λ x. Only (pos x) }
@@ -53,7 +53,7 @@ impl Overlap<IntervalSet<u16>> for u16 {
     }
 }
 
-/// Proved, with these words:
+/// Proved, with these words of the trait:
 ///
 /// ```text
 /// members = { λ x. Only (pos x) }
@@ -72,7 +72,7 @@ impl Overlap<IntervalSet<u32>> for u32 {
     }
 }
 
-/// Proved, with these words:
+/// Proved, with these words of the trait:
 ///
 /// ```text
 /// members = { λ x. Only (pos x) }
@@ -91,7 +91,7 @@ impl Overlap<IntervalSet<u64>> for u64 {
     }
 }
 
-/// Proved, with these words:
+/// Proved, with these words of the trait:
 ///
 /// ```text
 /// members = { λ x. Only (pos x) }
@@ -110,7 +110,7 @@ impl Overlap<IntervalSet<usize>> for usize {
     }
 }
 
-/// Proved, with these words:
+/// Proved, with these words of the trait:
 ///
 /// ```text
 /// members = { Only }
@@ -129,7 +129,7 @@ impl Overlap<IntervalSet<i8>> for i8 {
     }
 }
 
-/// Proved, with these words:
+/// Proved, with these words of the trait:
 ///
 /// ```text
 /// members = { Only }
@@ -148,7 +148,7 @@ impl Overlap<IntervalSet<i16>> for i16 {
     }
 }
 
-/// Proved, with these words:
+/// Proved, with these words of the trait:
 ///
 /// ```text
 /// members = { Only }
@@ -167,7 +167,7 @@ impl Overlap<IntervalSet<i32>> for i32 {
     }
 }
 
-/// Proved, with these words:
+/// Proved, with these words of the trait:
 ///
 /// ```text
 /// members = { Only }
@@ -186,7 +186,7 @@ impl Overlap<IntervalSet<i64>> for i64 {
     }
 }
 
-/// Proved, with these words:
+/// Proved, with these words of the trait:
 ///
 /// ```text
 /// members = { Only }

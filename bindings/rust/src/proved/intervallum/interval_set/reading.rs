@@ -34,7 +34,7 @@ impl<B: Width> Contains for IntervalSet<B> {
     }
 }
 
-/// Proved, with these words:
+/// Proved, with these words of the trait:
 ///
 /// ```text
 /// members = { Covers }
@@ -64,7 +64,7 @@ impl<B: Width> Overlap<B> for IntervalSet<B> {
     }
 }
 
-/// Proved, with these words:
+/// Proved, with these words of the trait:
 ///
 /// ```text
 /// members = { Covers }

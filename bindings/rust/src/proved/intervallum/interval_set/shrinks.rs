@@ -12,7 +12,7 @@ use crate::proved::intervallum::steps::{Probes, runs_before, runs_up_to};
 use crate::proved::intervallum::width::Width;
 use crate::rattle::std::alloc::{AllocError, Global};
 
-/// Proved, with these words:
+/// Proved, with these words of the trait:
 ///
 /// ```text
 /// answers = { λ r S. IfOk r (λ L. IsRunsOf L S) }
@@ -49,7 +49,7 @@ impl<B: Width> ShrinkLeft for IntervalSet<B> {
     }
 }
 
-/// Proved, with these words:
+/// Proved, with these words of the trait:
 ///
 /// ```text
 /// answers = { λ r S. IfOk r (λ L. IsRunsOf L S) }
@@ -86,7 +86,7 @@ impl<B: Width> ShrinkRight for IntervalSet<B> {
     }
 }
 
-/// Proved, with these words:
+/// Proved, with these words of the trait:
 ///
 /// ```text
 /// answers = { λ r S. IfOk r (λ L. IsRunsOf L S) }
@@ -123,7 +123,7 @@ impl<B: Width> StrictShrinkLeft for IntervalSet<B> {
     }
 }
 
-/// Proved, with these words:
+/// Proved, with these words of the trait:
 ///
 /// ```text
 /// answers = { λ r S. IfOk r (λ L. IsRunsOf L S) }

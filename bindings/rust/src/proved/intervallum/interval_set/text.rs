@@ -6,7 +6,7 @@ use super::IntervalSet;
 use crate::proved::intervallum::width::Width;
 use crate::rattle::std::fmt;
 
-/// Proved, with these words:
+/// Proved, with these words of the trait:
 ///
 /// ```text
 /// output = { set_text (λ p. interval_text p (B.output (B.at p.0)) (B.output (B.at p.1))) }

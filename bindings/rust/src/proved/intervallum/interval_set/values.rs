@@ -7,7 +7,7 @@ use crate::proved::intervallum::ops::{Contains, Difference, Intersection, Symmet
 use crate::proved::intervallum::width::Width;
 use crate::rattle::std::alloc::AllocError;
 
-/// Proved, with these words:
+/// Proved, with these words of the trait:
 ///
 /// ```text
 /// members = { Covers }
@@ -52,7 +52,7 @@ impl<B: Width> Union<B> for IntervalSet<B> {
     }
 }
 
-/// Proved, with these words:
+/// Proved, with these words of the trait:
 ///
 /// ```text
 /// members = { Covers }
@@ -100,7 +100,7 @@ impl<B: Width> SymmetricDifference<B> for IntervalSet<B> {
     }
 }
 
-/// Proved, with these words:
+/// Proved, with these words of the trait:
 ///
 /// ```text
 /// members = { Covers }
@@ -144,7 +144,7 @@ impl<B: Width> Intersection<B> for IntervalSet<B> {
     }
 }
 
-/// Proved, with these words:
+/// Proved, with these words of the trait:
 ///
 /// ```text
 /// members = { Covers }

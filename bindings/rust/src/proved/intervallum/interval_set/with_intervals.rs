@@ -70,7 +70,7 @@ impl<B: Width> IntervalSet<B> {
     }
 }
 
-/// Proved, with these words:
+/// Proved, with these words of the trait:
 ///
 /// ```text
 /// members = { Covers }
@@ -106,7 +106,7 @@ impl<B: Width> Overlap<Interval<B>> for IntervalSet<B> {
     }
 }
 
-/// Proved, with these words:
+/// Proved, with these words of the trait:
 ///
 /// ```text
 /// members = { Covers }
@@ -147,7 +147,7 @@ impl<B: Width> Union<Interval<B>> for IntervalSet<B> {
     }
 }
 
-/// Proved, with these words:
+/// Proved, with these words of the trait:
 ///
 /// ```text
 /// members = { Covers }
@@ -185,7 +185,7 @@ impl<B: Width> Intersection<Interval<B>> for IntervalSet<B> {
     }
 }
 
-/// Proved, with these words:
+/// Proved, with these words of the trait:
 ///
 /// ```text
 /// members = { Covers }

@@ -81,7 +81,7 @@ fn product<B: Width>(x: B, y: B) -> B {
     x.mul_in_range(y)
 }
 
-/// Proved, with these words:
+/// Proved, with these words of the trait:
 ///
 /// ```text
 /// can_add = { λ a b. IsSubset (Sums (IsBetween a) (IsBetween b)) (IsBetween B.whole) }
@@ -111,7 +111,7 @@ impl<B: Width> Add<Interval<B>> for Interval<B> {
     }
 }
 
-/// Proved, with these words:
+/// Proved, with these words of the trait:
 ///
 /// ```text
 /// can_add = { λ a b. IsSubset (Sums (IsBetween a) (IsBetween b.now)) (IsBetween B.whole) }
@@ -130,7 +130,7 @@ impl<B: Width> Add<&Interval<B>> for Interval<B> {
     }
 }
 
-/// Proved, with these words:
+/// Proved, with these words of the trait:
 ///
 /// ```text
 /// can_add = { λ a b. IsSubset (Sums (IsBetween a.now) (IsBetween b)) (IsBetween B.whole) }
@@ -149,7 +149,7 @@ impl<B: Width> Add<Interval<B>> for &Interval<B> {
     }
 }
 
-/// Proved, with these words:
+/// Proved, with these words of the trait:
 ///
 /// ```text
 /// can_add = { λ a b. IsSubset (Sums (IsBetween a.now) (IsBetween b.now)) (IsBetween B.whole) }
@@ -168,7 +168,7 @@ impl<B: Width> Add<&Interval<B>> for &Interval<B> {
     }
 }
 
-/// Proved, with these words:
+/// Proved, with these words of the trait:
 ///
 /// ```text
 /// can_add = { λ a x. IsSubset (Sums (IsBetween a) (Only (B.value x))) (IsBetween B.whole) }
@@ -198,7 +198,7 @@ impl<B: Width> Add<B> for Interval<B> {
     }
 }
 
-/// Proved, with these words:
+/// Proved, with these words of the trait:
 ///
 /// ```text
 /// can_add = { λ a x. IsSubset (Sums (IsBetween a) (Only (B.value x.now))) (IsBetween B.whole) }
@@ -217,7 +217,7 @@ impl<B: Width> Add<&B> for Interval<B> {
     }
 }
 
-/// Proved, with these words:
+/// Proved, with these words of the trait:
 ///
 /// ```text
 /// can_add = { λ a x. IsSubset (Sums (IsBetween a.now) (Only (B.value x))) (IsBetween B.whole) }
@@ -236,7 +236,7 @@ impl<B: Width> Add<B> for &Interval<B> {
     }
 }
 
-/// Proved, with these words:
+/// Proved, with these words of the trait:
 ///
 /// ```text
 /// can_add = { λ a x. IsSubset (Sums (IsBetween a.now) (Only (B.value x.now))) (IsBetween B.whole) }
@@ -255,7 +255,7 @@ impl<B: Width> Add<&B> for &Interval<B> {
     }
 }
 
-/// Proved, with these words:
+/// Proved, with these words of the trait:
 ///
 /// ```text
 /// can_sub = { λ a b. IsSubset (Differences (IsBetween a) (IsBetween b)) (IsBetween B.whole) }
@@ -285,7 +285,7 @@ impl<B: Width> Sub<Interval<B>> for Interval<B> {
     }
 }
 
-/// Proved, with these words:
+/// Proved, with these words of the trait:
 ///
 /// ```text
 /// can_sub = { λ a b. IsSubset (Differences (IsBetween a) (IsBetween b.now)) (IsBetween B.whole) }
@@ -304,7 +304,7 @@ impl<B: Width> Sub<&Interval<B>> for Interval<B> {
     }
 }
 
-/// Proved, with these words:
+/// Proved, with these words of the trait:
 ///
 /// ```text
 /// can_sub = { λ a b. IsSubset (Differences (IsBetween a.now) (IsBetween b)) (IsBetween B.whole) }
@@ -323,7 +323,7 @@ impl<B: Width> Sub<Interval<B>> for &Interval<B> {
     }
 }
 
-/// Proved, with these words:
+/// Proved, with these words of the trait:
 ///
 /// ```text
 /// can_sub = { λ a b. IsSubset (Differences (IsBetween a.now) (IsBetween b.now)) (IsBetween B.whole) }
@@ -342,7 +342,7 @@ impl<B: Width> Sub<&Interval<B>> for &Interval<B> {
     }
 }
 
-/// Proved, with these words:
+/// Proved, with these words of the trait:
 ///
 /// ```text
 /// can_sub = { λ a x. IsSubset (Differences (IsBetween a) (Only (B.value x))) (IsBetween B.whole) }
@@ -372,7 +372,7 @@ impl<B: Width> Sub<B> for Interval<B> {
     }
 }
 
-/// Proved, with these words:
+/// Proved, with these words of the trait:
 ///
 /// ```text
 /// can_sub = { λ a x. IsSubset (Differences (IsBetween a) (Only (B.value x.now))) (IsBetween B.whole) }
@@ -391,7 +391,7 @@ impl<B: Width> Sub<&B> for Interval<B> {
     }
 }
 
-/// Proved, with these words:
+/// Proved, with these words of the trait:
 ///
 /// ```text
 /// can_sub = { λ a x. IsSubset (Differences (IsBetween a.now) (Only (B.value x))) (IsBetween B.whole) }
@@ -410,7 +410,7 @@ impl<B: Width> Sub<B> for &Interval<B> {
     }
 }
 
-/// Proved, with these words:
+/// Proved, with these words of the trait:
 ///
 /// ```text
 /// can_sub = { λ a x. IsSubset (Differences (IsBetween a.now) (Only (B.value x.now))) (IsBetween B.whole) }
@@ -429,7 +429,7 @@ impl<B: Width> Sub<&B> for &Interval<B> {
     }
 }
 
-/// Proved, with these words:
+/// Proved, with these words of the trait:
 ///
 /// ```text
 /// can_mul = { λ a b. IsSubset (ExactProducts (IsBetween a) (IsBetween b)) (IsBetween B.whole) }
@@ -459,7 +459,7 @@ impl<B: Width> Mul<Interval<B>> for Interval<B> {
     }
 }
 
-/// Proved, with these words:
+/// Proved, with these words of the trait:
 ///
 /// ```text
 /// can_mul = { λ a b. IsSubset (ExactProducts (IsBetween a) (IsBetween b.now)) (IsBetween B.whole) }
@@ -478,7 +478,7 @@ impl<B: Width> Mul<&Interval<B>> for Interval<B> {
     }
 }
 
-/// Proved, with these words:
+/// Proved, with these words of the trait:
 ///
 /// ```text
 /// can_mul = { λ a b. IsSubset (ExactProducts (IsBetween a.now) (IsBetween b)) (IsBetween B.whole) }
@@ -497,7 +497,7 @@ impl<B: Width> Mul<Interval<B>> for &Interval<B> {
     }
 }
 
-/// Proved, with these words:
+/// Proved, with these words of the trait:
 ///
 /// ```text
 /// can_mul = { λ a b. IsSubset (ExactProducts (IsBetween a.now) (IsBetween b.now)) (IsBetween B.whole) }
@@ -516,7 +516,7 @@ impl<B: Width> Mul<&Interval<B>> for &Interval<B> {
     }
 }
 
-/// Proved, with these words:
+/// Proved, with these words of the trait:
 ///
 /// ```text
 /// can_mul = { λ a x. IsSubset (ExactProducts (IsBetween a) (Only (B.value x))) (IsBetween B.whole) }
@@ -548,7 +548,7 @@ impl<B: Width> Mul<B> for Interval<B> {
     }
 }
 
-/// Proved, with these words:
+/// Proved, with these words of the trait:
 ///
 /// ```text
 /// can_mul = { λ a x. IsSubset (ExactProducts (IsBetween a) (Only (B.value x.now))) (IsBetween B.whole) }
@@ -567,7 +567,7 @@ impl<B: Width> Mul<&B> for Interval<B> {
     }
 }
 
-/// Proved, with these words:
+/// Proved, with these words of the trait:
 ///
 /// ```text
 /// can_mul = { λ a x. IsSubset (ExactProducts (IsBetween a.now) (Only (B.value x))) (IsBetween B.whole) }
@@ -586,7 +586,7 @@ impl<B: Width> Mul<B> for &Interval<B> {
     }
 }
 
-/// Proved, with these words:
+/// Proved, with these words of the trait:
 ///
 /// ```text
 /// can_mul = { λ a x. IsSubset (ExactProducts (IsBetween a.now) (Only (B.value x.now))) (IsBetween B.whole) }

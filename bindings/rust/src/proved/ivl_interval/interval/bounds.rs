@@ -77,7 +77,7 @@ impl<B: Width> Interval<B> {
     pub fn in_whole(self) {}
 }
 
-/// Proved, with these words:
+/// Proved, with these words of the trait:
 ///
 /// ```text
 /// members = { IsBetween }
@@ -91,7 +91,7 @@ impl<B: Width> Collection for Interval<B> {
 
 impl<B: Width> IntervalKind for Interval<B> {}
 
-/// Proved, with these words:
+/// Proved, with these words of the trait:
 ///
 /// ```text
 /// whole = { B.whole }
@@ -125,7 +125,7 @@ impl<B: Width> Range for Interval<B> {
     }
 }
 
-/// Proved, with these words:
+/// Proved, with these words of the trait:
 ///
 /// ```text
 /// members = { IsBetween }
@@ -157,7 +157,7 @@ impl<B: Width> Empty for Interval<B> {
     }
 }
 
-/// Proved, with these words:
+/// Proved, with these words of the trait:
 ///
 /// ```text
 /// members = { IsBetween }
@@ -189,7 +189,7 @@ impl<B: Width> Top for Interval<B> {
     }
 }
 
-/// Proved, with these words:
+/// Proved, with these words of the trait:
 ///
 /// ```text
 /// members = { IsBetween }
@@ -224,7 +224,7 @@ impl<B: Width> Whole for Interval<B> {
     }
 }
 
-/// Proved, with these words:
+/// Proved, with these words of the trait:
 ///
 /// ```text
 /// members = { IsBetween }
@@ -257,7 +257,7 @@ impl<B: Width> Bot for Interval<B> {
     }
 }
 
-/// Proved, with these words:
+/// Proved, with these words of the trait:
 ///
 /// ```text
 /// whole = { B.whole }
@@ -347,7 +347,7 @@ impl<B: Width> Bounded for Interval<B> {
     }
 }
 
-/// Proved, with these words:
+/// Proved, with these words of the trait:
 ///
 /// ```text
 /// members = { IsBetween }
@@ -386,7 +386,7 @@ impl<B: Width> Cardinality for Interval<B> {
     }
 }
 
-/// Proved, with these words:
+/// Proved, with these words of the trait:
 ///
 /// ```text
 /// members = { IsBetween }
@@ -419,7 +419,7 @@ impl<B: Width> IsEmpty for Interval<B> {
     }
 }
 
-/// Proved, with these words:
+/// Proved, with these words of the trait:
 ///
 /// ```text
 /// members = { IsBetween }

@@ -7,7 +7,7 @@ use crate::proved::ivl_interval::ops::{Empty, Range, Singleton, ToInterval};
 use crate::proved::ivl_interval::width::Width;
 use crate::rattle::std::ops::{RangeFrom, RangeInclusive, RangeToInclusive};
 
-/// Proved, with these words:
+/// Proved, with these words of the trait:
 ///
 /// ```text
 /// can_convert = { λ _. ⊤ }
@@ -41,7 +41,7 @@ impl<B: Width> ToInterval<B> for Interval<B> {
     }
 }
 
-/// Proved, with these words:
+/// Proved, with these words of the trait:
 ///
 /// ```text
 /// can_convert = { λ bounds. IsInRange B.whole (B.value bounds.0, B.value bounds.1) }
@@ -78,7 +78,7 @@ impl<B: Width> ToInterval<B> for (B, B) {
     }
 }
 
-/// Proved, with these words:
+/// Proved, with these words of the trait:
 ///
 /// ```text
 /// can_convert = { λ _. ⊤ }
@@ -111,7 +111,7 @@ impl<B: Width> ToInterval<B> for () {
     }
 }
 
-/// Proved, with these words:
+/// Proved, with these words of the trait:
 ///
 /// ```text
 /// can_convert = { λ x. IsBetween B.whole (B.value x) }
@@ -148,7 +148,7 @@ impl<B: Width> ToInterval<B> for B {
     }
 }
 
-/// Proved, with these words:
+/// Proved, with these words of the trait:
 ///
 /// ```text
 /// can_convert = { λ range. IsInRange B.whole (B.value (range_inclusive_start range), B.value (range_inclusive_end range)) }
@@ -186,7 +186,7 @@ impl<B: Width> ToInterval<B> for RangeInclusive<B> {
     }
 }
 
-/// Proved, with these words:
+/// Proved, with these words of the trait:
 ///
 /// ```text
 /// can_convert = { λ range. IsBetween B.whole (B.value range.start) }
@@ -223,7 +223,7 @@ impl<B: Width> ToInterval<B> for RangeFrom<B> {
     }
 }
 
-/// Proved, with these words:
+/// Proved, with these words of the trait:
 ///
 /// ```text
 /// can_convert = { λ range. IsBetween B.whole (B.value range.end) }

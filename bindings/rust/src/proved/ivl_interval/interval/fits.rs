@@ -9,7 +9,7 @@ use crate::proved::ivl_interval::interval::Interval;
 use crate::proved::ivl_interval::ops::{Fits, IsEmpty};
 use crate::proved::ivl_interval::width::Width;
 
-/// Proved, with these words:
+/// Proved, with these words of the trait:
 ///
 /// ```text
 /// whole = { B.whole }
@@ -86,7 +86,7 @@ impl<B: Width> Fits<Interval<B>> for Interval<B> {
     }
 }
 
-/// Proved, with these words:
+/// Proved, with these words of the trait:
 ///
 /// ```text
 /// whole = { B.whole }

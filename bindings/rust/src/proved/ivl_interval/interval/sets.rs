@@ -10,7 +10,7 @@ use crate::proved::ivl_interval::ops::{
 };
 use crate::proved::ivl_interval::width::Width;
 
-/// Proved, with these words:
+/// Proved, with these words of the trait:
 ///
 /// ```text
 /// members = { IsBetween }
@@ -38,7 +38,7 @@ impl<B: Width> Disjoint<Interval<B>> for Interval<B> {
     }
 }
 
-/// Proved, with these words:
+/// Proved, with these words of the trait:
 ///
 /// ```text
 /// members = { IsBetween }
@@ -66,7 +66,7 @@ impl<B: Width> Overlap<Interval<B>> for Interval<B> {
     }
 }
 
-/// Proved, with these words:
+/// Proved, with these words of the trait:
 ///
 /// ```text
 /// members = { IsBetween }
@@ -101,7 +101,7 @@ impl<B: Width> Intersection<Interval<B>> for Interval<B> {
     }
 }
 
-/// Proved, with these words:
+/// Proved, with these words of the trait:
 ///
 /// ```text
 /// members = { IsBetween }
@@ -165,7 +165,7 @@ pub(super) fn predecessor<B: Width>(x: B) -> B {
     x.sub_in_range(B::one())
 }
 
-/// Proved, with these words:
+/// Proved, with these words of the trait:
 ///
 /// ```text
 /// members = { IsBetween }
@@ -205,7 +205,7 @@ impl<B: Width> Hull<Interval<B>> for Interval<B> {
     }
 }
 
-/// Proved, with these words:
+/// Proved, with these words of the trait:
 ///
 /// ```text
 /// members = { IsBetween }
@@ -236,7 +236,7 @@ impl<B: Width> Subset for Interval<B> {
     }
 }
 
-/// Proved, with these words:
+/// Proved, with these words of the trait:
 ///
 /// ```text
 /// members = { IsBetween }
@@ -263,7 +263,7 @@ impl<B: Width> ProperSubset for Interval<B> {
     }
 }
 
-/// Proved, with these words:
+/// Proved, with these words of the trait:
 ///
 /// ```text
 /// members = { IsBetween }
@@ -293,7 +293,7 @@ impl<B: Width> Join for Interval<B> {
     }
 }
 
-/// Proved, with these words:
+/// Proved, with these words of the trait:
 ///
 /// ```text
 /// members = { IsBetween }
@@ -323,7 +323,7 @@ impl<B: Width> Meet for Interval<B> {
     }
 }
 
-/// Proved, with these words:
+/// Proved, with these words of the trait:
 ///
 /// ```text
 /// members = { IsBetween }

@@ -7,7 +7,7 @@ use crate::proved::ivl_interval::interval::sets::{predecessor, successor};
 use crate::proved::ivl_interval::ops::{Empty, Range, ShrinkLeft, ShrinkRight, StrictShrinkLeft, StrictShrinkRight};
 use crate::proved::ivl_interval::width::Width;
 
-/// Proved, with these words:
+/// Proved, with these words of the trait:
 ///
 /// ```text
 /// answers = { λ p S. SameMembers (IsBetween p) S }
@@ -38,7 +38,7 @@ impl<B: Width> ShrinkLeft for Interval<B> {
     }
 }
 
-/// Proved, with these words:
+/// Proved, with these words of the trait:
 ///
 /// ```text
 /// answers = { λ p S. SameMembers (IsBetween p) S }
@@ -69,7 +69,7 @@ impl<B: Width> ShrinkRight for Interval<B> {
     }
 }
 
-/// Proved, with these words:
+/// Proved, with these words of the trait:
 ///
 /// ```text
 /// answers = { λ p S. SameMembers (IsBetween p) S }
@@ -107,7 +107,7 @@ impl<B: Width> StrictShrinkLeft for Interval<B> {
     }
 }
 
-/// Proved, with these words:
+/// Proved, with these words of the trait:
 ///
 /// ```text
 /// answers = { λ p S. SameMembers (IsBetween p) S }

@@ -7,7 +7,7 @@ use crate::proved::ivl_interval::ops::IsEmpty;
 use crate::proved::ivl_interval::width::Width;
 use crate::rattle::std::fmt;
 
-/// Proved, with these words:
+/// Proved, with these words of the trait:
 ///
 /// ```text
 /// output = { λ p. interval_text p (B.output (B.at p.0)) (B.output (B.at p.1)) }

@@ -10,7 +10,7 @@ use crate::proved::ivl_interval::ops::{
 use crate::proved::ivl_interval::optional::Optional;
 use crate::proved::ivl_interval::width::Width;
 
-/// Proved, with these words:
+/// Proved, with these words of the trait:
 ///
 /// ```text
 /// members = { IsBetween }
@@ -39,7 +39,7 @@ impl<B: Width> Disjoint<B> for Interval<B> {
     }
 }
 
-/// Proved, with these words:
+/// Proved, with these words of the trait:
 ///
 /// ```text
 /// members = { IsBetween }
@@ -68,7 +68,7 @@ impl<B: Width> Overlap<B> for Interval<B> {
     }
 }
 
-/// Proved, with these words:
+/// Proved, with these words of the trait:
 ///
 /// ```text
 /// members = { IsBetween }
@@ -101,7 +101,7 @@ impl<B: Width> Intersection<B> for Interval<B> {
     }
 }
 
-/// Proved, with these words:
+/// Proved, with these words of the trait:
 ///
 /// ```text
 /// members = { IsBetween }
@@ -145,7 +145,7 @@ impl<B: Width> Difference<B> for Interval<B> {
     }
 }
 
-/// Proved, with these words:
+/// Proved, with these words of the trait:
 ///
 /// ```text
 /// members = { IsBetween }
@@ -179,7 +179,7 @@ impl<B: Width> Hull<B> for Interval<B> {
     }
 }
 
-/// Proved, with these words:
+/// Proved, with these words of the trait:
 ///
 /// ```text
 /// members = { IsBetween }
@@ -208,7 +208,7 @@ impl<B: Width> Disjoint<Optional<B>> for Interval<B> {
     }
 }
 
-/// Proved, with these words:
+/// Proved, with these words of the trait:
 ///
 /// ```text
 /// members = { IsBetween }
@@ -240,7 +240,7 @@ impl<B: Width> Overlap<Optional<B>> for Interval<B> {
     }
 }
 
-/// Proved, with these words:
+/// Proved, with these words of the trait:
 ///
 /// ```text
 /// members = { IsBetween }
@@ -275,7 +275,7 @@ impl<B: Width> Intersection<Optional<B>> for Interval<B> {
     }
 }
 
-/// Proved, with these words:
+/// Proved, with these words of the trait:
 ///
 /// ```text
 /// members = { IsBetween }
@@ -311,7 +311,7 @@ impl<B: Width> Difference<Optional<B>> for Interval<B> {
     }
 }
 
-/// Proved, with these words:
+/// Proved, with these words of the trait:
 ///
 /// ```text
 /// members = { λ x. Only (B.value x) }
@@ -340,7 +340,7 @@ impl<B: Width> Disjoint<Interval<B>> for B {
     }
 }
 
-/// Proved, with these words:
+/// Proved, with these words of the trait:
 ///
 /// ```text
 /// members = { λ x. Only (B.value x) }
@@ -369,7 +369,7 @@ impl<B: Width> Overlap<Interval<B>> for B {
     }
 }
 
-/// Proved, with these words:
+/// Proved, with these words of the trait:
 ///
 /// ```text
 /// members = { λ x. Only (B.value x) }
@@ -403,7 +403,7 @@ impl<B: Width> Hull<Interval<B>> for B {
     }
 }
 
-/// Proved, with these words:
+/// Proved, with these words of the trait:
 ///
 /// ```text
 /// members = { λ o. Held (option_map B.value o) }
@@ -432,7 +432,7 @@ impl<B: Width> Disjoint<Interval<B>> for Optional<B> {
     }
 }
 
-/// Proved, with these words:
+/// Proved, with these words of the trait:
 ///
 /// ```text
 /// members = { λ o. Held (option_map B.value o) }
@@ -461,7 +461,7 @@ impl<B: Width> Overlap<Interval<B>> for Optional<B> {
     }
 }
 
-/// Proved, with these words:
+/// Proved, with these words of the trait:
 ///
 /// ```text
 /// members = { λ o. Held (option_map B.value o) }
@@ -502,7 +502,7 @@ impl<B: Width> Intersection<Interval<B>> for Optional<B> {
     }
 }
 
-/// Proved, with these words:
+/// Proved, with these words of the trait:
 ///
 /// ```text
 /// members = { λ o. Held (option_map B.value o) }

@@ -16,16 +16,12 @@ use crate::proved::ivl_interval::width::Width;
 /// # }
 /// ```
 ///
-/// Proved, with these words:
+/// Proved, with these words of the trait:
 ///
 /// ```text
 /// value = { λ x. x }
 /// at = { λ z. z }
 /// whole = { (negsuc (2 ^ 7 - 2), pos (2 ^ 7 - 1)) }
-/// ordered = { signed_order }
-/// at_value = { λ x. refl }
-/// range = { range_i8 }
-/// countable = { countable_i8 }
 /// ```
 impl Width for i8 {
     type Output = u8;
@@ -118,16 +114,12 @@ impl Width for i8 {
 /// From -32767 to 32767, with sizes of `u16`. The least value of the type, -32768, is outside the
 /// range.
 ///
-/// Proved, with these words:
+/// Proved, with these words of the trait:
 ///
 /// ```text
 /// value = { λ x. x }
 /// at = { λ z. z }
 /// whole = { (negsuc (2 ^ 15 - 2), pos (2 ^ 15 - 1)) }
-/// ordered = { signed_order }
-/// at_value = { λ x. refl }
-/// range = { range_i16 }
-/// countable = { countable_i16 }
 /// ```
 impl Width for i16 {
     type Output = u16;
@@ -220,16 +212,12 @@ impl Width for i16 {
 /// From -2147483647 to 2147483647, with sizes of `u32`. The least value of the type, -2147483648,
 /// is outside the range.
 ///
-/// Proved, with these words:
+/// Proved, with these words of the trait:
 ///
 /// ```text
 /// value = { λ x. x }
 /// at = { λ z. z }
 /// whole = { (negsuc (2 ^ 31 - 2), pos (2 ^ 31 - 1)) }
-/// ordered = { signed_order }
-/// at_value = { λ x. refl }
-/// range = { range_i32 }
-/// countable = { countable_i32 }
 /// ```
 impl Width for i32 {
     type Output = u32;
@@ -322,19 +310,13 @@ impl Width for i32 {
 /// From -9223372036854775807 to 9223372036854775807, with sizes of `u64`. The least value of the
 /// type, -9223372036854775808, is outside the range.
 ///
-/// Proved, with these words:
+/// Proved, with these words of the trait:
 ///
 /// ```text
 /// value = { λ x. x }
 /// at = { λ z. z }
 /// whole = { (negsuc (2 ^ 63 - 2), pos (2 ^ 63 - 1)) }
-/// ordered = { signed_order }
-/// at_value = { λ x. refl }
-/// range = { range_i64 }
-/// countable = { countable_i64 }
 /// ```
-///
-/// Words: [`range_i64`](crate::definitions#range_i64).
 impl Width for i64 {
     type Output = u64;
 
@@ -426,19 +408,13 @@ impl Width for i64 {
 /// From -9223372036854775807 to 9223372036854775807, with sizes of `usize`. The least value of the
 /// type, -9223372036854775808, is outside the range.
 ///
-/// Proved, with these words:
+/// Proved, with these words of the trait:
 ///
 /// ```text
 /// value = { λ x. x }
 /// at = { λ z. z }
 /// whole = { (negsuc (2 ^ 63 - 2), pos (2 ^ 63 - 1)) }
-/// ordered = { signed_order }
-/// at_value = { λ x. refl }
-/// range = { range_i64 }
-/// countable = { countable_i64 }
 /// ```
-///
-/// Words: [`range_i64`](crate::definitions#range_i64).
 impl Width for isize {
     type Output = usize;
 

@@ -16,13 +16,11 @@ use crate::proved::ivl_interval::width::SizeNumber;
 /// # }
 /// ```
 ///
-/// Proved, with these words:
+/// Proved, with these words of the trait:
 ///
 /// ```text
 /// size = { λ x. x }
 /// greatest = { 2 ^ 8 - 1 }
-/// ordered = { size_order }
-/// bounded = { fits_u8 }
 /// ```
 impl SizeNumber for u8 {
     fn number(self) -> u128 {
@@ -53,13 +51,11 @@ impl SizeNumber for u8 {
 
 /// The numbers from 0 to 65535: each value of the type.
 ///
-/// Proved, with these words:
+/// Proved, with these words of the trait:
 ///
 /// ```text
 /// size = { λ x. x }
 /// greatest = { 2 ^ 16 - 1 }
-/// ordered = { size_order }
-/// bounded = { fits_u16 }
 /// ```
 impl SizeNumber for u16 {
     fn number(self) -> u128 {
@@ -90,13 +86,11 @@ impl SizeNumber for u16 {
 
 /// The numbers from 0 to 4294967295: each value of the type.
 ///
-/// Proved, with these words:
+/// Proved, with these words of the trait:
 ///
 /// ```text
 /// size = { λ x. x }
 /// greatest = { 2 ^ 32 - 1 }
-/// ordered = { size_order }
-/// bounded = { fits_u32 }
 /// ```
 impl SizeNumber for u32 {
     fn number(self) -> u128 {
@@ -127,13 +121,11 @@ impl SizeNumber for u32 {
 
 /// The numbers from 0 to 18446744073709551615: each value of the type.
 ///
-/// Proved, with these words:
+/// Proved, with these words of the trait:
 ///
 /// ```text
 /// size = { λ x. x }
 /// greatest = { 2 ^ 64 - 1 }
-/// ordered = { size_order }
-/// bounded = { fits_u64 }
 /// ```
 impl SizeNumber for u64 {
     fn number(self) -> u128 {
@@ -164,13 +156,11 @@ impl SizeNumber for u64 {
 
 /// The numbers from 0 to 18446744073709551615: each value of the type.
 ///
-/// Proved, with these words:
+/// Proved, with these words of the trait:
 ///
 /// ```text
 /// size = { λ x. x }
 /// greatest = { 2 ^ 64 - 1 }
-/// ordered = { size_order }
-/// bounded = { fits_u64 }
 /// ```
 impl SizeNumber for usize {
     fn number(self) -> u128 {

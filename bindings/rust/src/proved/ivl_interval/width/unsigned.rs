@@ -16,16 +16,12 @@ use crate::proved::ivl_interval::width::Width;
 /// # }
 /// ```
 ///
-/// Proved, with these words:
+/// Proved, with these words of the trait:
 ///
 /// ```text
 /// value = { pos }
 /// at = { unsigned_abs }
 /// whole = { (pos 0, pos (2 ^ 8 - 2)) }
-/// ordered = { unsigned_order }
-/// at_value = { λ x. refl }
-/// range = { range_u8 }
-/// countable = { countable_u8 }
 /// ```
 impl Width for u8 {
     type Output = u8;
@@ -116,16 +112,12 @@ impl Width for u8 {
 /// From 0 to 65534, with sizes of `u16`. The greatest value of the type, 65535, is outside the
 /// range.
 ///
-/// Proved, with these words:
+/// Proved, with these words of the trait:
 ///
 /// ```text
 /// value = { pos }
 /// at = { unsigned_abs }
 /// whole = { (pos 0, pos (2 ^ 16 - 2)) }
-/// ordered = { unsigned_order }
-/// at_value = { λ x. refl }
-/// range = { range_u16 }
-/// countable = { countable_u16 }
 /// ```
 impl Width for u16 {
     type Output = u16;
@@ -216,16 +208,12 @@ impl Width for u16 {
 /// From 0 to 4294967294, with sizes of `u32`. The greatest value of the type, 4294967295, is
 /// outside the range.
 ///
-/// Proved, with these words:
+/// Proved, with these words of the trait:
 ///
 /// ```text
 /// value = { pos }
 /// at = { unsigned_abs }
 /// whole = { (pos 0, pos (2 ^ 32 - 2)) }
-/// ordered = { unsigned_order }
-/// at_value = { λ x. refl }
-/// range = { range_u32 }
-/// countable = { countable_u32 }
 /// ```
 impl Width for u32 {
     type Output = u32;
@@ -316,16 +304,12 @@ impl Width for u32 {
 /// From 0 to 18446744073709551614, with sizes of `u64`. The greatest value of the type,
 /// 18446744073709551615, is outside the range.
 ///
-/// Proved, with these words:
+/// Proved, with these words of the trait:
 ///
 /// ```text
 /// value = { pos }
 /// at = { unsigned_abs }
 /// whole = { (pos 0, pos (2 ^ 64 - 2)) }
-/// ordered = { unsigned_order }
-/// at_value = { λ x. refl }
-/// range = { range_u64 }
-/// countable = { countable_u64 }
 /// ```
 impl Width for u64 {
     type Output = u64;
@@ -416,16 +400,12 @@ impl Width for u64 {
 /// From 0 to 18446744073709551614, with sizes of `usize`. The greatest value of the type,
 /// 18446744073709551615, is outside the range.
 ///
-/// Proved, with these words:
+/// Proved, with these words of the trait:
 ///
 /// ```text
 /// value = { pos }
 /// at = { unsigned_abs }
 /// whole = { (pos 0, pos (2 ^ 64 - 2)) }
-/// ordered = { unsigned_order }
-/// at_value = { λ x. refl }
-/// range = { range_u64 }
-/// countable = { countable_u64 }
 /// ```
 impl Width for usize {
     type Output = usize;

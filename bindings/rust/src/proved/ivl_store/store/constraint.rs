@@ -97,7 +97,7 @@ impl core::fmt::Display for StoreFault {
 
 impl core::error::Error for StoreFault {}
 
-/// Proved, with these words:
+/// Proved, with these words of the trait:
 ///
 /// ```text
 /// from_gives = { λ _ e. e ≡ Memory }
