@@ -72,11 +72,10 @@ fn fit(model: &Model, from: i8, count: u8) -> Option<RangeInclusive<i8>> {
     Some(*run.start()..=(i16::from(*run.start()) + i16::from(count) - 1) as i8)
 }
 
-fn assert_same(set: &Set, model: &Model, what: &str) {
-    assert!(set.iter().eq(model.iter().copied()), "{what}: {set:?} beside {model:?}");
-    assert_eq!(set.len(), model.len(), "{what}");
-    assert_eq!(set.runs().collect::<Vec<_>>(), runs(model), "{what}");
-    assert_eq!(set.interval_count(), runs(model).len(), "{what}");
+fn assert_same(set: &Set, model: &Model, step: u32, what: &str) {
+    let wanted = runs(model);
+    let is_same = set.len() == model.len() && set.interval_count() == wanted.len() && set.runs().eq(wanted);
+    assert!(is_same, "step {step}, {what}: {set:?} beside {model:?}");
 }
 
 /// Edits the first pair; returns the name of the call.
@@ -158,7 +157,10 @@ fn make(random: &mut Random, a: &Set, b: &Set, m: &Model, n: &Model) -> (&'stati
         5 => ("symmetric_difference", Some((a.symmetric_difference(b), m ^ n))),
         6 => ("^", Some((a.clone() ^ b, m ^ n))),
         7 => ("!", Some((!a, WHOLE.filter(|x| !m.contains(x)).collect()))),
-        8 => ("within", Some((a.within(x..*range.end()), m.iter().copied().filter(|y| (x..*range.end()).contains(y)).collect()))),
+        8 => (
+            "within",
+            Some((a.within(x..*range.end()), m.iter().copied().filter(|y| (x..*range.end()).contains(y)).collect())),
+        ),
         9 => ("gaps_within", Some((a.gaps_within(range.clone()), range.filter(|y| !m.contains(y)).collect()))),
         10 => ("+", both(p.checked_add(&q), arithmetic(&u, &v, |x, y| x + y), "+")),
         11 => ("-", both(p.checked_sub(&q), arithmetic(&u, &v, |x, y| x - y), "-")),
@@ -181,7 +183,6 @@ fn hash(set: &Set) -> u64 {
 fn ask(random: &mut Random, set: &Set, model: &Model) {
     let (x, range, count) = (random.value(), random.member_range(), random.below(9) as u8);
     assert_eq!(set.contains(x), model.contains(&x));
-    assert!(model.iter().all(|y| set.contains(y)));
     assert_eq!(set.next_from(x), model.range(x..).next().copied());
     assert_eq!(set.previous_to(x), model.range(..=x).next_back().copied());
     assert_eq!(set.run_at(x), runs(model).into_iter().find(|run| run.contains(&x)));
@@ -211,6 +212,7 @@ fn iterate(random: &mut Random, set: &Set, model: &Model) {
         }
     }
     assert!(left.eq(wanted) && part.eq(part_wanted), "up to {end}");
+    assert!(set.iter().eq(model.iter().copied()) && model.iter().all(|x| set.contains(x)));
     let again: Set = set.iter().collect();
     let by_runs: Set = set.runs().rev().collect();
     let by_reference: Set = model.iter().collect();
@@ -224,7 +226,10 @@ fn compare(a: &Set, b: &Set, m: &Model, n: &Model) {
     assert_eq!(a.is_superset(b), m.is_superset(n));
     assert_eq!(a.is_proper_subset(b), m.is_subset(n) && m != n);
     assert_eq!(a == b, m == n);
-    assert_eq!(format!("{a:?}"), format!("{{{}}}", runs(m).iter().map(|r| format!("{r:?}")).collect::<Vec<_>>().join(", ")));
+    assert_eq!(
+        format!("{a:?}"),
+        format!("{{{}}}", runs(m).iter().map(|r| format!("{r:?}")).collect::<Vec<_>>().join(", "))
+    );
 }
 
 #[test]
@@ -252,6 +257,6 @@ fn random_calls_answer_as_a_btree_set() {
                 "iteration"
             }
         };
-        assert_same(&sets[i], &models[i], &format!("step {step}, {what}"));
+        assert_same(&sets[i], &models[i], step, what);
     }
 }
