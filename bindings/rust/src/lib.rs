@@ -61,3 +61,8 @@ pub mod set;
 pub use proved::width::{SizeNumber, Width};
 #[doc(inline)]
 pub use set::IntervalSet;
+
+/// The page for Rust, whose examples run with those of the docs.
+#[cfg(doctest)]
+#[doc = include_str!("../../../docs/RUST.md")]
+pub mod page {}
