@@ -1,4 +1,4 @@
-//! The set of the root: the proved set with the traits and the manners of a set of Rust's std.
+//! Sets with the methods and traits of a set of std, over the proved ones.
 mod conditions;
 mod conversions;
 mod edits;
@@ -22,8 +22,8 @@ use conditions::{broken, memory, unless_broken, within_range};
 /// of a set are those from [`T::min_value()`](Width::min_value) to [`T::max_value()`](Width::max_value): one less than those
 /// of the type, so that the size of a set is a number of the unsigned type. 255 is a member of no set of `u8`.
 ///
-/// A method whose docs name a condition panics where it is broken, and names itself, the condition and the values; the method
-/// `checked_..` beside it returns `None` instead. If memory runs out, the program ends, as it does in Rust's std.
+/// If the condition of a method does not hold, it panics with its name, the condition and the values; the method `checked_..`
+/// beside it returns `None` instead. If an allocation fails, the process aborts, as in std.
 ///
 /// ```
 /// use intervallum::IntervalSet;
@@ -35,19 +35,19 @@ use conditions::{broken, memory, unless_broken, within_range};
 /// assert_eq!(hours.to_string(), "[8..16]");
 /// ```
 ///
-/// Each method is one call of the proved set below it, [`proved::IntervalSet`], whose page has its contract. `n` and `m` are
-/// the numbers of runs.
+/// Each method is one call of a [`proved::IntervalSet`], whose page has the contract. `n` and `m` are the numbers of runs.
 #[derive(PartialEq, Eq)]
 pub struct IntervalSet<T: Width>(proved::IntervalSet<T>);
 
 /// Sets from bounds.
 impl<T: Width> IntervalSet<T> {
-    /// The empty set. Does not allocate.
+    /// Returns the empty set. Does not allocate.
     pub fn empty() -> Self {
         Self(proved::IntervalSet::empty(Global))
     }
 
-    /// The numbers from `lower` to `upper`, both included. Both must be in the range, and `lower` not above `upper`.
+    /// Returns the set of the numbers from `lower` to `upper`, both included. Both must be in the range, and `lower` must not
+    /// be above `upper`.
     ///
     /// ```
     /// # use intervallum::IntervalSet;
@@ -60,25 +60,25 @@ impl<T: Width> IntervalSet<T> {
         unless_broken!(Self::checked_new(lower, upper), condition, "new({}, {})", lower.number(), upper.number())
     }
 
-    /// [`new`](Self::new), or `None` where its condition is broken.
+    /// Returns [`new`](Self::new), or `None` if its condition does not hold.
     pub fn checked_new(lower: T, upper: T) -> Option<Self> {
         let can = Interval::in_range(lower, upper) && lower <= upper;
         can.then(|| Self(memory(proved::IntervalSet::new(Global, lower, upper))))
     }
 
-    /// The set of one value, which must be in the range.
+    /// Returns the set of one value, which must be in the range.
     #[track_caller]
     pub fn singleton(value: T) -> Self {
         let condition = within_range::<T>("the value");
         unless_broken!(Self::checked_singleton(value), condition, "singleton({})", value.number())
     }
 
-    /// [`singleton`](Self::singleton), or `None` where its condition is broken.
+    /// Returns [`singleton`](Self::singleton), or `None` if its condition does not hold.
     pub fn checked_singleton(value: T) -> Option<Self> {
         Self::checked_new(value, value)
     }
 
-    /// All numbers of the range.
+    /// Returns the set of all numbers of the range.
     ///
     /// ```
     /// # use intervallum::IntervalSet;
@@ -91,7 +91,7 @@ impl<T: Width> IntervalSet<T> {
 
 /// Sets from sets.
 impl<T: Width> IntervalSet<T> {
-    /// The members of either set, as `|`. `O(n + m)`.
+    /// Returns the members of either set, as `|` does. `O(n + m)`.
     ///
     /// ```
     /// # use intervallum::IntervalSet;
@@ -105,23 +105,24 @@ impl<T: Width> IntervalSet<T> {
         Self(memory(self.0.union(&other.0)))
     }
 
-    /// The members of both sets, as `&`. `O(n + m)`, or `O(k log n)` if one has only `k` runs, far fewer than the other.
+    /// Returns the members of both sets, as `&` does. `O(n + m)`, or `O(k log n)` if one set has only `k` runs, far fewer than
+    /// the other.
     pub fn intersection(&self, other: &Self) -> Self {
         Self(memory(self.0.intersection(&other.0)))
     }
 
-    /// The members that are not in `other`. `O(n + m)`, or less as for [`intersection`](Self::intersection). The operator
-    /// `-` is another thing: the differences of members.
+    /// Returns the members that are not in `other`. `O(n + m)`, or less as for [`intersection`](Self::intersection). This is
+    /// not the operator `-`, which subtracts members.
     pub fn difference(&self, other: &Self) -> Self {
         Self(memory(self.0.difference(&other.0)))
     }
 
-    /// The members of exactly one of the sets, as `^`. `O(n + m)`.
+    /// Returns the members of exactly one of the sets, as `^` does. `O(n + m)`.
     pub fn symmetric_difference(&self, other: &Self) -> Self {
         Self(memory(self.0.symmetric_difference(&other.0)))
     }
 
-    /// The numbers of the range that are not members, as `!`. `O(n)`.
+    /// Returns the complement within the type's range, as `!` does. `O(n)`.
     ///
     /// ```
     /// # use intervallum::IntervalSet;
@@ -131,7 +132,7 @@ impl<T: Width> IntervalSet<T> {
         Self(memory(self.0.complement()))
     }
 
-    /// The members that lie in a range: `O(log n + k)` for the `k` runs of the result.
+    /// Returns the members that lie in a range. `O(log n + k)` for the `k` runs of the result.
     ///
     /// ```
     /// # use intervallum::IntervalSet;
@@ -143,8 +144,8 @@ impl<T: Width> IntervalSet<T> {
         Self(memory(self.0.intersection(&range.clamped())))
     }
 
-    /// The numbers of a range that are not members, as far as they are in the range of `T`. `O(log n + k)`, where `k` runs
-    /// overlap it.
+    /// Returns the numbers of a range that are not members, and are in the type's range. `O(log n + k)`, where `k` runs overlap
+    /// it.
     pub fn gaps_within(&self, range: impl Piece<T>) -> Self {
         Self(memory(self.0.gaps_within(&range.clamped())))
     }
@@ -152,7 +153,7 @@ impl<T: Width> IntervalSet<T> {
 
 /// The proved set below.
 impl<T: Width> IntervalSet<T> {
-    /// The proved set. `from` converts both ways.
+    /// Returns the proved set. `from` converts both ways, without a copy.
     pub fn as_proved(&self) -> &proved::IntervalSet<T> {
         &self.0
     }

@@ -1,4 +1,4 @@
-//! The traits of Rust's std that make sets, and that copy, compare and print them.
+//! Traits of std that make, copy, hash and print sets.
 use super::conditions::memory;
 use super::iterators::interval_of;
 use super::{IntervalSet, Piece};
@@ -11,7 +11,7 @@ use core::ops::{Range, RangeFrom, RangeFull, RangeInclusive, RangeTo, RangeToInc
 
 macro_rules! from_pieces {
     ($($piece:ty),*) => {$(
-        /// The numbers from one end to the other, all of which must be in the range.
+        /// Makes the set of the numbers of a range. All must be in the range of `T`.
         impl<T: Width> From<$piece> for IntervalSet<T> {
             #[track_caller]
             fn from(piece: $piece) -> Self {
@@ -23,7 +23,7 @@ macro_rules! from_pieces {
 
 from_pieces!(Range<T>, RangeInclusive<T>, RangeFrom<T>, RangeTo<T>, RangeToInclusive<T>, RangeFull, Interval<T>);
 
-/// The members of every piece: values, ranges or pairs, all of whose numbers must be in the range.
+/// Makes the set of every piece: values, ranges or pairs. All numbers must be in the range.
 impl<T: Width, P: Piece<T>, const N: usize> From<[P; N]> for IntervalSet<T> {
     #[track_caller]
     fn from(pieces: [P; N]) -> Self {
@@ -45,7 +45,7 @@ impl<T: Width> From<IntervalSet<T>> for proved::IntervalSet<T> {
     }
 }
 
-/// The empty set.
+/// Makes the empty set.
 impl<T: Width> Default for IntervalSet<T> {
     fn default() -> Self {
         Self::empty()
@@ -67,14 +67,14 @@ impl<T: Width + Hash> Hash for IntervalSet<T> {
     }
 }
 
-/// The runs, as in `{1..=2, 5..=6}`.
+/// Writes the runs, as in `{1..=2, 5..=6}`.
 impl<T: Width + Debug> Debug for IntervalSet<T> {
     fn fmt(&self, f: &mut fmt::Formatter<'_>) -> fmt::Result {
         f.debug_set().entries(self.runs()).finish()
     }
 }
 
-/// `{}` for the empty set, `[1..5]` for one run, and `{[1..2][5..5]}` for more.
+/// Writes `{}` for the empty set, `[1..5]` for one run, and `{[1..2][5..5]}` for more.
 impl<T: Width + Display> Display for IntervalSet<T> {
     fn fmt(&self, f: &mut fmt::Formatter<'_>) -> fmt::Result {
         Display::fmt(&self.0, f)

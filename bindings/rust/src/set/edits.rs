@@ -6,8 +6,8 @@ use alloc::vec::Vec;
 use core::borrow::Borrow;
 
 impl<T: Width> IntervalSet<T> {
-    /// Adds a value, which must be in the range, and returns whether it is new. `O(log n)`, or `O(n)` if the number of runs
-    /// changes.
+    /// Adds a value, which must be in the range. Returns true exactly when it was not a member before. `O(log n)`, or `O(n)`
+    /// if the number of runs changes.
     ///
     /// ```
     /// # use intervallum::IntervalSet;
@@ -21,19 +21,19 @@ impl<T: Width> IntervalSet<T> {
         unless_broken!(self.checked_insert(value), within_range::<T>("the value"), "insert({})", value.number())
     }
 
-    /// [`insert`](Self::insert), or `None` where its condition is broken.
+    /// Returns [`insert`](Self::insert), or `None` if its condition does not hold.
     pub fn checked_insert(&mut self, value: T) -> Option<bool> {
         Interval::in_range(value, value).then(|| memory(self.0.insert(value)))
     }
 
-    /// Removes a value, which may be any value of its type, and returns whether it was a member. `O(log n)`, or `O(n)` if
-    /// the number of runs changes.
+    /// Removes a value, which may be any value of its type. Returns true exactly when it was a member. `O(log n)`, or `O(n)`
+    /// if the number of runs changes.
     pub fn remove(&mut self, value: impl Borrow<T>) -> bool {
         memory(self.0.remove(*value.borrow()))
     }
 
-    /// Adds the numbers of a range, which must all be in the range of `T`. `O(log n + k)` for the `k` runs that it meets, or
-    /// `O(n)` if the number of runs changes.
+    /// Adds the numbers of a range, all of which must be in the range of `T`. `O(log n + k)` for the `k` runs that it overlaps
+    /// or touches, or `O(n)` if the number of runs changes.
     ///
     /// ```
     /// # use intervallum::IntervalSet;
@@ -47,7 +47,7 @@ impl<T: Width> IntervalSet<T> {
         memory(self.0.insert_interval(interval_of("insert_interval", &range)));
     }
 
-    /// [`insert_interval`](Self::insert_interval), or `None` where its condition is broken.
+    /// Does what [`insert_interval`](Self::insert_interval) does, or returns `None` if its condition does not hold.
     pub fn checked_insert_interval(&mut self, range: impl Piece<T>) -> Option<()> {
         memory(self.0.insert_interval(range.interval()?));
         Some(())
@@ -59,22 +59,23 @@ impl<T: Width> IntervalSet<T> {
         memory(self.0.remove_interval(range.clamped()));
     }
 
-    /// Removes all members, and keeps the memory.
+    /// Removes all members and keeps the capacity.
     pub fn clear(&mut self) {
         self.0.clear();
     }
 
-    /// Takes the least member out. `O(1)`, or `O(n)` if it is a run by itself.
+    /// Removes and returns the least member, or returns `None` if the set is empty. `O(1)`, or `O(n)` if the member is a run by
+    /// itself.
     pub fn pop_first(&mut self) -> Option<T> {
         self.0.pop_first()
     }
 
-    /// Takes the greatest member out. `O(1)`.
+    /// Removes and returns the greatest member, or returns `None` if the set is empty. `O(1)`.
     pub fn pop_last(&mut self) -> Option<T> {
         self.0.pop_last()
     }
 
-    /// Adds all pieces that an iterator yields, as `extend` does, or returns `None` and changes nothing if some number is
+    /// Adds every piece that an iterator yields, as `extend` does, or returns `None` and changes nothing if some number is
     /// outside the range. `O(k log k + n)` for `k` pieces.
     ///
     /// ```
@@ -90,7 +91,8 @@ impl<T: Width> IntervalSet<T> {
         Some(())
     }
 
-    /// The set of all pieces that an iterator yields, as `collect` makes it, or `None` if some number is outside the range.
+    /// Returns the set of every piece that an iterator yields, as `collect` does, or `None` if some number is outside the
+    /// range.
     pub fn checked_from_iter<P: Piece<T>>(pieces: impl IntoIterator<Item = P>) -> Option<Self> {
         let mut set = Self::empty();
         set.checked_extend(pieces)?;

@@ -1,4 +1,4 @@
-//! Iteration over the members, and sets from what iterators yield.
+//! Iterators over members, and sets from iterators.
 use super::conditions::{broken, memory, numbers_between, unless_broken, within_range};
 use super::{IntervalSet, Piece};
 use crate::proved::interval_set::{IntoRuns, Members};
@@ -8,16 +8,16 @@ use crate::proved::{Interval, width::Width};
 use core::iter::{Copied, FusedIterator};
 use core::{mem, slice};
 
-/// The members of a set, ascending.
+/// An iterator over the members of a set.
 pub type Iter<'a, T> = Members<'a, T>;
 
-/// The members of a set, by value, ascending.
+/// An iterator over the members of a set that is consumed.
 pub type IntoIter<T> = Values<T, IntoRuns<T>>;
 
-/// The members of a set that lie in a range, ascending.
+/// An iterator over the members of a set that lie in a range.
 pub type Range<'a, T> = Values<T, Copied<slice::Iter<'a, Interval<T>>>>;
 
-/// The numbers of ascending runs that an iterator yields, from both ends.
+/// A double-ended iterator over the numbers of runs that another yields, in ascending order.
 #[derive(Clone)]
 pub struct Values<T: Width, I> {
     first: Interval<T>,
@@ -63,7 +63,7 @@ impl<'a, T: Width> Range<'a, T> {
     }
 }
 
-/// The places of the first run that a window overlaps, and of the first run above it.
+/// Returns the place of the first run that a window overlaps, and that of the first run above the window.
 fn span<T: Width>(set: &IntervalSet<T>, window: Interval<T>) -> (usize, usize) {
     let mut probes = Probes::new(&set.0);
     let start = match find(&mut probes, window.lower()) {
@@ -75,7 +75,7 @@ fn span<T: Width>(set: &IntervalSet<T>, window: Interval<T>) -> (usize, usize) {
     }
 }
 
-/// The members, ascending.
+/// Iterates over the members, in ascending order.
 impl<T: Width> IntoIterator for IntervalSet<T> {
     type Item = T;
 
@@ -86,7 +86,7 @@ impl<T: Width> IntoIterator for IntervalSet<T> {
     }
 }
 
-/// The members, ascending.
+/// Iterates over the members, in ascending order.
 impl<'a, T: Width> IntoIterator for &'a IntervalSet<T> {
     type Item = T;
 
@@ -97,7 +97,7 @@ impl<'a, T: Width> IntoIterator for &'a IntervalSet<T> {
     }
 }
 
-/// The members of every piece, all of whose numbers must be in the range. `O(k log k)` for `k` pieces.
+/// Makes the set of every piece. All numbers must be in the range. `O(k log k)` for `k` pieces.
 impl<T: Width, P: Piece<T>> FromIterator<P> for IntervalSet<T> {
     fn from_iter<I: IntoIterator<Item = P>>(pieces: I) -> Self {
         let mut set = Self::empty();
@@ -106,8 +106,7 @@ impl<T: Width, P: Piece<T>> FromIterator<P> for IntervalSet<T> {
     }
 }
 
-/// Adds the members of every piece, all of whose numbers must be in the range; the set is unchanged if some are not.
-/// `O(k log k + n)` for `k` pieces.
+/// Adds every piece. All numbers must be in the range; after a panic the set is unchanged. `O(k log k + n)` for `k` pieces.
 impl<T: Width, P: Piece<T>> Extend<P> for IntervalSet<T> {
     fn extend<I: IntoIterator<Item = P>>(&mut self, pieces: I) {
         self.add_all("extend", pieces);
@@ -121,7 +120,7 @@ impl<T: Width> IntervalSet<T> {
     }
 }
 
-/// The interval of a piece. Panics if some number is outside the range.
+/// Returns the interval of a piece. Panics if some number is outside the range.
 #[track_caller]
 pub(super) fn interval_of<T: Width>(call: &str, piece: &impl Piece<T>) -> Interval<T> {
     let (lower, upper) = piece.numbers();

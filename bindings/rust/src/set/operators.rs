@@ -6,7 +6,7 @@ use core::fmt::{self, Display};
 use core::ops::{Add, AddAssign, BitAnd, BitAndAssign, BitOr, BitOrAssign, BitXor, BitXorAssign};
 use core::ops::{Mul, MulAssign, Not, Sub, SubAssign};
 
-/// The text of the least and the greatest member, as in `3..=8`.
+/// Returns the text of the least and the greatest member, as in `3..=8`.
 fn hull<T: Width>(set: &IntervalSet<T>) -> impl Display {
     let ends = set.checked_lower().zip(set.checked_upper());
     fmt::from_fn(move |f| match ends {
@@ -67,12 +67,12 @@ macro_rules! arithmetic {
     ($trait:ident $call:ident $assign_trait:ident $assign:ident $op:tt $results:literal: $fits:ident $checked:ident
         $tested:ident $fits_value:ident $checked_value:ident) => {
         impl<T: Width> IntervalSet<T> {
-            #[doc = concat!("Whether the ", $results, " of a member of each are all in the range. `O(1)`.")]
+            #[doc = concat!("Returns true exactly when the ", $results, " of a member of each are all in the range. `O(1)`.")]
             pub fn $fits(&self, other: &Self) -> bool {
                 self.0.$fits(&other.0)
             }
 
-            #[doc = concat!("The ", $results, " of a member of each, or `None` if some are outside the range.")]
+            #[doc = concat!("Returns the ", $results, " of a member of each, or `None` if some are outside the range.")]
             pub fn $checked(&self, other: &Self) -> Option<Self> {
                 self.$fits(other).then(|| Self(memory(&self.0 $op &other.0)))
             }
@@ -83,21 +83,21 @@ macro_rules! arithmetic {
                 unless_broken!(self.$checked(other), condition, "{}({}, {})", stringify!($call), hull(self), hull(other))
             }
 
-            #[doc = concat!("Whether the ", $results, " of a member and a value are all in the range. `O(1)`.")]
+            #[doc = concat!("Returns true exactly when the ", $results, " of a member and a value are all in the range. `O(1)`.")]
             pub fn $fits_value(&self, value: T) -> bool {
                 self.0.$fits(&value)
             }
 
-            #[doc = concat!("The ", $results, " of a member and a value, or `None` if some are outside the range.")]
+            #[doc = concat!("Returns the ", $results, " of a member and a value, or `None` if some are outside the range.")]
             pub fn $checked_value(&self, value: T) -> Option<Self> {
                 self.$fits_value(value).then(|| Self(memory(&self.0 $op value)))
             }
         }
 
         operator!($trait $call $assign_trait $assign, $tested:
-            concat!("The ", $results, " of a member of each set, which must be in the range."));
+            concat!("Returns the ", $results, " of a member of each set, all of which must be in the range."));
 
-        #[doc = concat!("The ", $results, " of a member and a value, which must be in the range.")]
+        #[doc = concat!("Returns the ", $results, " of a member and a value, all of which must be in the range.")]
         impl<T: Width> $trait<T> for &IntervalSet<T> {
             type Output = IntervalSet<T>;
 

@@ -1,14 +1,13 @@
-//! Values, ranges, pairs and intervals as parts of a set.
+//! Values, ranges, pairs and intervals as parts of sets.
 use crate::proved::interval::Interval;
 use crate::proved::ops::{Bounded as _, Empty as _, IsEmpty as _, Range as _};
 use crate::proved::width::Width;
 use core::ops::{Range, RangeFrom, RangeFull, RangeInclusive, RangeTo, RangeToInclusive};
 
-/// The numbers from one to another: a value, a reference to one, a range of Rust's std, a pair of bounds that both belong to
-/// it, or a proved [`Interval`].
+/// A part of a set: a value or a reference to one, a range of std, a pair of inclusive bounds, or a proved [`Interval`].
 ///
-/// An unbounded side of a range ends with the range of `T`. Calls that add numbers need them to be in that range; to calls that
-/// ask, other numbers are no members.
+/// A range without a bound ends with the range of `T`. An empty range, and a pair that crosses, have no numbers. Calls that add
+/// numbers require them to be in the range of `T`; for calls that ask, other numbers are no members.
 ///
 /// ```
 /// use intervallum::IntervalSet;
@@ -20,10 +19,10 @@ use core::ops::{Range, RangeFrom, RangeFull, RangeInclusive, RangeTo, RangeToInc
 /// assert!(a.includes(4..6) && a.includes(&9) && !a.includes(..));
 /// ```
 pub trait Piece<T: Width> {
-    /// The least and the greatest number; crossed if there is none.
+    /// Returns the least and the greatest number. If there is none, the first is above the second.
     fn numbers(&self) -> (i128, i128);
 
-    /// The interval of the numbers, or `None` if some are outside the range.
+    /// Returns the interval of the numbers, or `None` if some are outside the range.
     fn interval(&self) -> Option<Interval<T>> {
         match self.numbers() {
             (lower, upper) if lower > upper => Some(Interval::empty()),
@@ -31,7 +30,7 @@ pub trait Piece<T: Width> {
         }
     }
 
-    /// The interval of the numbers that are in the range.
+    /// Returns the interval of the numbers that are in the range.
     fn clamped(&self) -> Interval<T> {
         let (lower, upper) = self.numbers();
         let bounds = (lower.max(T::min_value().number()), upper.min(T::max_value().number()));
@@ -39,7 +38,7 @@ pub trait Piece<T: Width> {
     }
 }
 
-/// Numbers, which may be outside the range of a type.
+/// The numbers from the first to the second, which may be outside the range of a type.
 struct Numbers((i128, i128));
 
 impl<T: Width> Piece<T> for Numbers {
@@ -72,7 +71,7 @@ pieces! {
     Interval<T>, x => bounds(x).0, bounds(x).1;
 }
 
-/// The numbers of the bounds; crossed if the interval is empty.
+/// Returns the numbers of the bounds; the first is above the second if the interval is empty.
 fn bounds<T: Width>(interval: &Interval<T>) -> (i128, i128) {
     if interval.is_empty() { (1, 0) } else { (interval.lower().number(), interval.upper().number()) }
 }

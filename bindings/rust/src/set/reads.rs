@@ -1,4 +1,4 @@
-//! What a set is asked.
+//! Queries.
 use super::conditions::{broken, unless_broken};
 use super::{IntervalSet, Iter, Piece, Range};
 use crate::proved::Interval;
@@ -11,56 +11,56 @@ use core::{borrow::Borrow, ops::RangeInclusive};
 const FILLED: &str = "the set must not be empty, but is {}";
 const ABOVE_0: &str = "the count must be above 0";
 
-/// A proved interval, which is not empty, as a range of Rust's std.
+/// Returns a proved interval, which is not empty, as a range of std.
 pub fn as_range<T: Width>(run: &Interval<T>) -> RangeInclusive<T> {
     run.lower()..=run.upper()
 }
 
 /// Sizes and ends.
 impl<T: Width> IntervalSet<T> {
-    /// The number of members. `O(1)`.
+    /// Returns the number of members. `O(1)`.
     pub fn size(&self) -> T::Output {
         self.0.size()
     }
 
-    /// The number of members, as `usize`. `O(1)`.
+    /// Returns the number of members as a `usize`. `O(1)`.
     pub fn len(&self) -> usize {
         self.size().number() as usize
     }
 
-    /// Whether there is no member. `O(1)`.
+    /// Returns true exactly when there is no member. `O(1)`.
     pub fn is_empty(&self) -> bool {
         self.0.is_empty()
     }
 
-    /// Whether there is exactly one member. `O(1)`.
+    /// Returns true exactly when there is one member. `O(1)`.
     pub fn is_singleton(&self) -> bool {
         self.0.is_singleton()
     }
 
-    /// The number of runs. `O(1)`.
+    /// Returns the number of runs. `O(1)`.
     pub fn interval_count(&self) -> usize {
         self.0.interval_count()
     }
 
-    /// The least member. The set must not be empty. `O(1)`.
+    /// Returns the least member. The set must not be empty. `O(1)`.
     #[track_caller]
     pub fn lower(&self) -> T {
         unless_broken!(self.checked_lower(), FILLED, "lower()")
     }
 
-    /// [`lower`](Self::lower), or `None` of the empty set.
+    /// Returns the least member, or `None` if the set is empty. `O(1)`.
     pub fn checked_lower(&self) -> Option<T> {
         (!self.is_empty()).then(|| self.0.lower())
     }
 
-    /// The greatest member. The set must not be empty. `O(1)`.
+    /// Returns the greatest member. The set must not be empty. `O(1)`.
     #[track_caller]
     pub fn upper(&self) -> T {
         unless_broken!(self.checked_upper(), FILLED, "upper()")
     }
 
-    /// [`upper`](Self::upper), or `None` of the empty set.
+    /// Returns the greatest member, or `None` if the set is empty. `O(1)`.
     pub fn checked_upper(&self) -> Option<T> {
         (!self.is_empty()).then(|| self.0.upper())
     }
@@ -68,7 +68,7 @@ impl<T: Width> IntervalSet<T> {
 
 /// Members and runs.
 impl<T: Width> IntervalSet<T> {
-    /// Whether a value is a member; it may be any value of its type. `O(log n)`.
+    /// Returns true exactly when a value, which may be any value of its type, is a member. `O(log n)`.
     ///
     /// ```
     /// # use intervallum::IntervalSet;
@@ -79,17 +79,17 @@ impl<T: Width> IntervalSet<T> {
         self.0.contains(value.borrow())
     }
 
-    /// Whether each number of a range is a member, so always for an empty range. `O(log n)`.
+    /// Returns true exactly when each number of a range is a member, so always for an empty range. `O(log n)`.
     pub fn includes(&self, range: impl Piece<T>) -> bool {
         range.interval().is_some_and(|interval| self.0.includes(&interval))
     }
 
-    /// Whether some number of a range is a member. `O(log n)`.
+    /// Returns true exactly when some number of a range is a member. `O(log n)`.
     pub fn overlaps(&self, range: impl Piece<T>) -> bool {
         self.0.overlap(&range.clamped())
     }
 
-    /// The members, ascending; also from the end. `O(1)` for each.
+    /// Returns a double-ended iterator over the members, in ascending order. Each step is `O(1)`.
     ///
     /// ```
     /// # use intervallum::IntervalSet;
@@ -101,7 +101,8 @@ impl<T: Width> IntervalSet<T> {
         self.0.members()
     }
 
-    /// The members that lie in a range, ascending; also from the end. `O(log n)`, and `O(1)` for each. Does not allocate.
+    /// Returns a double-ended iterator over the members that lie in a range, in ascending order. `O(log n)`; each step is
+    /// `O(1)`. Does not allocate.
     ///
     /// ```
     /// # use intervallum::IntervalSet;
@@ -112,7 +113,7 @@ impl<T: Width> IntervalSet<T> {
         Range::new(self, range.clamped())
     }
 
-    /// The runs, ascending; also from the end.
+    /// Returns a double-ended iterator over the runs, in ascending order.
     ///
     /// ```
     /// # use intervallum::IntervalSet;
@@ -123,12 +124,13 @@ impl<T: Width> IntervalSet<T> {
         self.0.runs().iter().map(as_range)
     }
 
-    /// The run that holds a value: the longest range of members with it; `None` if it is no member. `O(log n)`.
+    /// Returns the run that holds a value, the longest range of members with the value in it, or `None` if the value is not a
+    /// member. `O(log n)`.
     pub fn run_at(&self, value: T) -> Option<RangeInclusive<T>> {
         self.0.run_at(value).as_ref().map(as_range)
     }
 
-    /// The least member that is at least a value. `O(log n)`.
+    /// Returns the least member that is at least `value`, or `None` if there is none. `O(log n)`.
     ///
     /// ```
     /// # use intervallum::IntervalSet;
@@ -139,12 +141,12 @@ impl<T: Width> IntervalSet<T> {
         self.0.next_from(value)
     }
 
-    /// The greatest member that is at most a value. `O(log n)`.
+    /// Returns the greatest member that is at most `value`, or `None` if there is none. `O(log n)`.
     pub fn previous_to(&self, value: T) -> Option<T> {
         self.0.previous_to(value)
     }
 
-    /// The number of members below a value. `O(n)`.
+    /// Returns the number of members below `value`. `O(n)`.
     ///
     /// ```
     /// # use intervallum::IntervalSet;
@@ -155,27 +157,27 @@ impl<T: Width> IntervalSet<T> {
         self.0.rank(value)
     }
 
-    /// The member with so many members below it, if there is one. `O(n)`.
+    /// Returns the member with exactly `index` members below it, or `None` if there is none. `O(n)`.
     pub fn nth(&self, index: T::Output) -> Option<T> {
         self.0.nth(index)
     }
 }
 
-/// Rooms.
+/// Consecutive members.
 impl<T: Width> IntervalSet<T> {
-    /// The lowest `count` consecutive members, if there are so many. `count` must be above 0. `O(n)`.
+    /// Returns the lowest `count` consecutive members, or `None` if there are none. `count` must be above 0. `O(n)`.
     #[track_caller]
     pub fn first_fit(&self, count: T::Output) -> Option<RangeInclusive<T>> {
         unless_broken!(self.checked_first_fit(count), ABOVE_0, "first_fit(0)")
     }
 
-    /// [`first_fit`](Self::first_fit), or `None` where its condition is broken.
+    /// Returns [`first_fit`](Self::first_fit), or `None` if its condition does not hold.
     pub fn checked_first_fit(&self, count: T::Output) -> Option<Option<RangeInclusive<T>>> {
         (count.number() > 0).then(|| self.0.first_fit(count).as_ref().map(as_range))
     }
 
-    /// The lowest `count` consecutive members that are all at least `value`, if there are so many. `count` must be above 0.
-    /// `O(log n + k)`, where `k` runs are scanned.
+    /// Returns the lowest `count` consecutive members that are all at least `value`, or `None` if there are none. `count` must
+    /// be above 0. `O(log n + k)` for the `k` runs from `value` up to the first that is long enough.
     ///
     /// ```
     /// # use intervallum::IntervalSet;
@@ -187,35 +189,35 @@ impl<T: Width> IntervalSet<T> {
         unless_broken!(self.checked_first_fit_from(value, count), ABOVE_0, "first_fit_from({}, 0)", value.number())
     }
 
-    /// [`first_fit_from`](Self::first_fit_from), or `None` where its condition is broken.
+    /// Returns [`first_fit_from`](Self::first_fit_from), or `None` if its condition does not hold.
     pub fn checked_first_fit_from(&self, value: T, count: T::Output) -> Option<Option<RangeInclusive<T>>> {
         (count.number() > 0).then(|| self.0.first_fit_from(value, count).as_ref().map(as_range))
     }
 }
 
-/// Two sets.
+/// Comparisons of two sets.
 impl<T: Width> IntervalSet<T> {
-    /// Whether the sets have a common member. `O(n + m)`.
+    /// Returns true exactly when some number is a member of both. `O(n + m)`.
     pub fn overlap(&self, other: &Self) -> bool {
         self.0.overlap(&other.0)
     }
 
-    /// Whether the sets have no common member. `O(n + m)`.
+    /// Returns true exactly when no number is a member of both. `O(n + m)`.
     pub fn is_disjoint(&self, other: &Self) -> bool {
         self.0.is_disjoint(&other.0)
     }
 
-    /// Whether each member is one of `other`. `O(n log (m / n + 2))`.
+    /// Returns true exactly when each member is a member of `other`. `O(n log (m / n + 2))`.
     pub fn is_subset(&self, other: &Self) -> bool {
         self.0.is_subset(&other.0)
     }
 
-    /// Whether each member of `other` is one of this set.
+    /// Returns true exactly when each member of `other` is a member. `O(m log (n / m + 2))`.
     pub fn is_superset(&self, other: &Self) -> bool {
         other.0.is_subset(&self.0)
     }
 
-    /// Whether each member is one of `other`, which has more.
+    /// Returns true exactly when each member is a member of `other`, and `other` has more. `O(n log (m / n + 2))`.
     pub fn is_proper_subset(&self, other: &Self) -> bool {
         self.0.is_proper_subset(&other.0)
     }
