@@ -1,8 +1,8 @@
 //! Times the calls of the root on sets of `i64`.
 //!
 //! `cargo run --release --example bench` prints what each call answers at two sizes of its inputs: the runs and the size of a
-//! set, or a number. With the arguments `time SECONDS GREATEST_N` it prints lines `name n ns_per_operation runs size`, each the
-//! least of three repetitions of at least so many seconds. The inputs are those of `ivl_bench`, so that the lines can be
+//! set, or a number. With the arguments `time SECONDS GREATEST_N [WORD]` it prints lines `name n ns_per_operation runs size`, each
+//! the least of three repetitions of at least so many seconds; WORD picks measures by name. The inputs are those of `ivl_bench`, so that the lines can be
 //! compared with its, and with those of other programs that make the same. The names that end in `_btree` are the edits of a
 //! `BTreeMap` from the start of each run to its end.
 use intervallum::IntervalSet;
@@ -185,7 +185,11 @@ fn makings<'a>(inputs: &'a Inputs) -> Vec<Measure<'a>> {
         (
             "build_extend",
             1,
-            Box::new(move || of_set(black_box(&inputs.pairs).iter().map(|run| run.0..=run.1).collect())),
+            Box::new(move || {
+                let mut set = Set::empty();
+                set.extend(black_box(&inputs.pairs).iter().map(|run| run.0..=run.1));
+                of_set(set)
+            }),
         ),
         ("build_pairs", 1, Box::new(move || of_set(black_box(&inputs.pairs).iter().copied().collect()))),
         (
@@ -281,25 +285,23 @@ fn nanoseconds(measure: &Measure<'_>, least: Duration) -> f64 {
 
 fn main() {
     let arguments: Vec<String> = std::env::args().skip(1).collect();
-    let limits = match arguments.as_slice() {
-        [] => None,
-        [word, seconds, greatest] if word == "time" => {
-            Some((seconds.parse().expect("the seconds"), greatest.parse().expect("the greatest n")))
+    let (limits, word) = match arguments.iter().map(String::as_str).collect::<Vec<_>>()[..] {
+        [] => (None, ""),
+        ["time", seconds, greatest, ref word @ ..] => {
+            let limits = (seconds.parse().expect("the seconds"), greatest.parse().expect("the greatest n"));
+            (Some(limits), *word.first().unwrap_or(&""))
         }
-        _ => panic!("the arguments are: time SECONDS GREATEST_N"),
+        _ => panic!("the arguments are: time SECONDS GREATEST_N [WORD]"),
     };
-    for n in SIZES {
-        if n > limits.map_or(100, |(_, greatest)| greatest) {
-            break;
-        }
+    for n in SIZES.into_iter().filter(|n| *n <= limits.map_or(100, |(_, greatest)| greatest)) {
         let inputs = Inputs::new(n);
-        for measure in measures(&inputs) {
+        for measure in measures(&inputs).iter().filter(|measure| measure.0.contains(word)) {
             let (runs, size) = measure.2();
             let answer = if size == 0 { runs.to_string() } else { format!("{runs} {size}") };
             match limits {
                 None => println!("{} {n} {answer}", measure.0),
                 Some((seconds, _)) => {
-                    let time = nanoseconds(&measure, Duration::from_secs_f64(seconds));
+                    let time = nanoseconds(measure, Duration::from_secs_f64(seconds));
                     println!("{} {n} {time:.2} {answer}", measure.0);
                 }
             }

@@ -10,7 +10,7 @@
 //!
 //! | Word | Meaning |
 //! |---|---|
-//! | `requires`, `ensures` | what a caller owes; what holds when the call has returned |
+//! | `requires`, `ensures` | what a caller must ensure; what holds after the call |
 //! | `result`; `self.now`; `self.old`, `self.new` | what is returned; a borrowed value; a changed one before and after the call |
 //! | `≡`, `≢`, `¬ P`, `P × Q`, `P ⊎ Q`, `P → Q`, `P ↔ Q`, `⊤` | equal, not equal, not, and, or, if, exactly if, always |
 //! | `(z : ℤ) → P`, `(z : ℤ) × P` | `P` for each whole number `z`; for some `z` |
@@ -21,6 +21,8 @@
 //! | `[]`, `x ∷ xs`, `xs ++ ys`, `length`, `take n`, `drop n`, `map f` | lists: empty, with a first element, joined, their length, their first `n` elements, the others, the results of `f` |
 //! | `All P xs` | `P` of each element |
 //! | `IsTrue b` | the truth value is true |
-//! | `IsSome o`, `IfSome o P`, `IfNone o P`, `MatchOption o P Q` | there is a value; if there is one, `P` of it; if there is none, `P`; both, with `Q` of the value |
-//! | `IfOk r P`, `OnOk r P`, `IfErr r P`, `OnErr r P` | if the result is `Ok`, `P` of its value; `P` holds then; the same of an error |
+//! | `IsSome o`, `IfSome o P`, `IfNone o P` | there is a value; if there is one, `P` of it; if there is none, `P` |
+//! | `MatchOption o P Q` | `P` if there is no value, and `Q` of the value if there is one |
+//! | `IfOk r P`, `OnOk r P` | if the result is `Ok`, `P` of its value; if it is `Ok`, `P` |
+//! | `IfErr r P`, `OnErr r P` | if the result is an error, `P` of the error; if it is an error, `P` |
 #![doc = include_str!("proved/definitions.md")]

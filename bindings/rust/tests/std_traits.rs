@@ -48,6 +48,8 @@ fn sets_are_made_of_ranges_arrays_and_iterators() {
         assert_eq!(made, a);
     }
     assert_eq!((Set::from(..), Set::from(..=2), Set::from(..3)), (Set::whole(), !Set::from(3..), !Set::from(3..)));
+    let mut passed = 5..=5;
+    assert_eq!((passed.next(), Set::from(passed)), (Some(5), Set::empty()), "a range that was iterated over is empty");
     let mut b = Set::empty();
     b.extend([3]);
     b.extend(&a);

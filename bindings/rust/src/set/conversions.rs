@@ -27,9 +27,7 @@ from_pieces!(Range<T>, RangeInclusive<T>, RangeFrom<T>, RangeTo<T>, RangeToInclu
 impl<T: Width, P: Piece<T>, const N: usize> From<[P; N]> for IntervalSet<T> {
     #[track_caller]
     fn from(pieces: [P; N]) -> Self {
-        let mut set = Self::empty();
-        set.add_all("from", pieces);
-        set
+        Self::gathered("from", pieces)
     }
 }
 

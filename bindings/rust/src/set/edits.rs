@@ -1,7 +1,7 @@
 //! Edits in place.
 use super::conditions::{broken, memory, unless_broken, within_range};
 use super::{IntervalSet, Piece, iterators::interval_of};
-use crate::proved::{Interval, width::Width};
+use crate::proved::{Global, Interval, sweep::coalesce, width::Width};
 use alloc::vec::Vec;
 use core::borrow::Borrow;
 
@@ -94,8 +94,7 @@ impl<T: Width> IntervalSet<T> {
     /// Returns the set of every piece that an iterator yields, as `collect` does, or `None` if some number is outside the
     /// range.
     pub fn checked_from_iter<P: Piece<T>>(pieces: impl IntoIterator<Item = P>) -> Option<Self> {
-        let mut set = Self::empty();
-        set.checked_extend(pieces)?;
-        Some(set)
+        let intervals: Option<_> = pieces.into_iter().map(|piece| piece.interval()).collect();
+        Some(Self(memory(coalesce(Global, intervals?))))
     }
 }

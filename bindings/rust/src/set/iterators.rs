@@ -4,7 +4,7 @@ use super::{IntervalSet, Piece};
 use crate::proved::interval_set::{IntoRuns, Members};
 use crate::proved::ops::{Bounded, Empty, Intersection, IsEmpty, StrictShrinkLeft, StrictShrinkRight};
 use crate::proved::steps::{Place, Probes, find};
-use crate::proved::{Interval, width::Width};
+use crate::proved::{Global, Interval, sweep::coalesce, width::Width};
 use core::iter::{Copied, FusedIterator};
 use core::{mem, slice};
 
@@ -100,23 +100,22 @@ impl<'a, T: Width> IntoIterator for &'a IntervalSet<T> {
 /// Makes the set of every piece. All numbers must be in the range. `O(k log k)` for `k` pieces.
 impl<T: Width, P: Piece<T>> FromIterator<P> for IntervalSet<T> {
     fn from_iter<I: IntoIterator<Item = P>>(pieces: I) -> Self {
-        let mut set = Self::empty();
-        set.add_all("from_iter", pieces);
-        set
+        Self::gathered("from_iter", pieces)
     }
 }
 
 /// Adds every piece. All numbers must be in the range; after a panic the set is unchanged. `O(k log k + n)` for `k` pieces.
 impl<T: Width, P: Piece<T>> Extend<P> for IntervalSet<T> {
     fn extend<I: IntoIterator<Item = P>>(&mut self, pieces: I) {
-        self.add_all("extend", pieces);
+        memory(self.0.extend(pieces.into_iter().map(|piece| interval_of("extend", &piece))));
     }
 }
 
 impl<T: Width> IntervalSet<T> {
-    /// Adds every piece, for the call of this name.
-    pub(super) fn add_all<P: Piece<T>>(&mut self, call: &str, pieces: impl IntoIterator<Item = P>) {
-        memory(self.0.extend(pieces.into_iter().map(|piece| interval_of(call, &piece))));
+    /// Returns the set of every piece, for the call of this name.
+    pub(super) fn gathered<P: Piece<T>>(call: &str, pieces: impl IntoIterator<Item = P>) -> Self {
+        let intervals = pieces.into_iter().map(|piece| interval_of(call, &piece)).collect();
+        Self(memory(coalesce(Global, intervals)))
     }
 }
 

@@ -48,30 +48,25 @@ impl<T: Width> Piece<T> for Numbers {
 }
 
 macro_rules! pieces {
-    ($($piece:ty, $x:ident => $lower:expr, $upper:expr;)*) => {$(
+    ($($piece:ty, $x:ident => $numbers:expr;)*) => {$(
         impl<T: Width> Piece<T> for $piece {
             fn numbers(&self) -> (i128, i128) {
                 let $x = self;
-                ($lower, $upper)
+                $numbers
             }
         }
     )*};
 }
 
 pieces! {
-    T, x => x.number(), x.number();
-    &T, x => x.number(), x.number();
-    (T, T), x => x.0.number(), x.1.number();
-    Range<T>, x => x.start.number(), x.end.number().saturating_sub(1);
-    RangeInclusive<T>, x => x.start().number(), x.end().number();
-    RangeFrom<T>, x => x.start.number(), T::max_value().number();
-    RangeTo<T>, x => T::min_value().number(), x.end.number().saturating_sub(1);
-    RangeToInclusive<T>, x => T::min_value().number(), x.end.number();
-    RangeFull, _x => T::min_value().number(), T::max_value().number();
-    Interval<T>, x => bounds(x).0, bounds(x).1;
-}
-
-/// Returns the numbers of the bounds; the first is above the second if the interval is empty.
-fn bounds<T: Width>(interval: &Interval<T>) -> (i128, i128) {
-    if interval.is_empty() { (1, 0) } else { (interval.lower().number(), interval.upper().number()) }
+    T, x => (x.number(), x.number());
+    &T, x => (x.number(), x.number());
+    (T, T), x => (x.0.number(), x.1.number());
+    Range<T>, x => (x.start.number(), x.end.number().saturating_sub(1));
+    RangeInclusive<T>, x => if x.is_empty() { (1, 0) } else { (x.start().number(), x.end().number()) };
+    RangeFrom<T>, x => (x.start.number(), T::max_value().number());
+    RangeTo<T>, x => (T::min_value().number(), x.end.number().saturating_sub(1));
+    RangeToInclusive<T>, x => (T::min_value().number(), x.end.number());
+    RangeFull, _x => (T::min_value().number(), T::max_value().number());
+    Interval<T>, x => if x.is_empty() { (1, 0) } else { (x.lower().number(), x.upper().number()) };
 }

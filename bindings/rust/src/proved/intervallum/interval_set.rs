@@ -213,7 +213,7 @@ impl<B: Width> Cardinality for IntervalSet<B> {
     ///
     /// # Proved
     ///
-    /// What [`Cardinality::size`] says, by the words of this `impl`.
+    /// What [`Cardinality::size`] says, by the words of the type.
     fn size(&self) -> B::Output {
         self.size
     }

@@ -37,7 +37,7 @@ impl<B: Width> JsonForm for Interval<B> {
     ///
     /// # Proved
     ///
-    /// What [`JsonForm::to_value`] says, by the words of this `impl`.
+    /// What [`JsonForm::to_value`] says, by the words of the type.
     fn to_value(&self, alloc: Global) -> Result<Value, AllocError> {
         self.in_whole();
         interval_value(alloc, *self)
@@ -59,7 +59,7 @@ impl<B: Width> JsonForm for Interval<B> {
     ///
     /// # Proved
     ///
-    /// What [`JsonForm::from_value`] says, by the words of this `impl`.
+    /// What [`JsonForm::from_value`] says, by the words of the type.
     fn from_value(_alloc: Global, value: &Value) -> Result<Interval<B>, JsonFault> {
         Ok(interval_from(value)?)
     }

@@ -38,7 +38,7 @@ impl<B: Width> JsonForm for IntervalSet<B> {
     ///
     /// # Proved
     ///
-    /// What [`JsonForm::to_value`] says, by the words of this `impl`.
+    /// What [`JsonForm::to_value`] says, by the words of the type.
     fn to_value(&self, alloc: Global) -> Result<Value, AllocError> {
         runs_value(alloc, self.iter().as_slice())
     }
@@ -59,7 +59,7 @@ impl<B: Width> JsonForm for IntervalSet<B> {
     ///
     /// # Proved
     ///
-    /// What [`JsonForm::from_value`] says, by the words of this `impl`.
+    /// What [`JsonForm::from_value`] says, by the words of the type.
     fn from_value(alloc: Global, value: &Value) -> Result<IntervalSet<B>, JsonFault> {
         if value.is_null() {
             return Ok(IntervalSet::empty(alloc));

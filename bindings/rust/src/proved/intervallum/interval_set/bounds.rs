@@ -179,7 +179,7 @@ impl<B: Width> IsSingleton for IntervalSet<B> {
     ///
     /// # Proved
     ///
-    /// What [`IsSingleton::is_singleton`] says, by the words of this `impl`.
+    /// What [`IsSingleton::is_singleton`] says, by the words of the type.
     fn is_singleton(&self) -> bool {
         if self.intervals.len() != 1 {
             return false;

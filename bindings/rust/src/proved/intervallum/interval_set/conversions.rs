@@ -276,7 +276,7 @@ impl<B: Width> ToIntervalSet<B> for (B, B) {
     ///
     /// # Proved
     ///
-    /// What [`ToIntervalSet::to_interval_set`] says, by the words of this `impl`.
+    /// What [`ToIntervalSet::to_interval_set`] says, by the words of the type.
     fn to_interval_set(self, alloc: Global) -> Result<IntervalSet<B>, AllocError> {
         let mut list = Vec::with_capacity(alloc, 1)?;
         list.push_reserved(Interval::new(self.0, self.1));
@@ -298,7 +298,7 @@ impl<B: Width> ToIntervalSet<B> for &[(B, B)] {
     ///
     /// # Proved
     ///
-    /// What [`ToIntervalSet::to_interval_set`] says, by the words of this `impl`.
+    /// What [`ToIntervalSet::to_interval_set`] says, by the words of the type.
     fn to_interval_set(self, alloc: Global) -> Result<IntervalSet<B>, AllocError> {
         of_pairs(alloc, self)
     }
@@ -318,7 +318,7 @@ impl<B: Width> ToIntervalSet<B> for Vec<(B, B)> {
     ///
     /// # Proved
     ///
-    /// What [`ToIntervalSet::to_interval_set`] says, by the words of this `impl`.
+    /// What [`ToIntervalSet::to_interval_set`] says, by the words of the type.
     fn to_interval_set(self, alloc: Global) -> Result<IntervalSet<B>, AllocError> {
         of_pairs(alloc, self.as_slice())
     }
@@ -337,7 +337,7 @@ impl<B: Width, const N: usize> ToIntervalSet<B> for [(B, B); N] {
     ///
     /// # Proved
     ///
-    /// What [`ToIntervalSet::to_interval_set`] says, by the words of this `impl`.
+    /// What [`ToIntervalSet::to_interval_set`] says, by the words of the type.
     fn to_interval_set(self, alloc: Global) -> Result<IntervalSet<B>, AllocError> {
         of_pairs(alloc, &self)
     }

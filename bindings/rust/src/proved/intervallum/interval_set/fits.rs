@@ -36,7 +36,7 @@ impl<B: Width> Fits<IntervalSet<B>> for IntervalSet<B> {
     ///
     /// # Proved
     ///
-    /// What [`Fits::fits_add`] says, by the words of this `impl`.
+    /// What [`Fits::fits_add`] says, by the words of the type.
     fn fits_add(&self, other: &IntervalSet<B>) -> bool {
         span(self).fits_add(&span(other))
     }
@@ -57,7 +57,7 @@ impl<B: Width> Fits<IntervalSet<B>> for IntervalSet<B> {
     ///
     /// # Proved
     ///
-    /// What [`Fits::fits_sub`] says, by the words of this `impl`.
+    /// What [`Fits::fits_sub`] says, by the words of the type.
     fn fits_sub(&self, other: &IntervalSet<B>) -> bool {
         span(self).fits_sub(&span(other))
     }
@@ -78,7 +78,7 @@ impl<B: Width> Fits<IntervalSet<B>> for IntervalSet<B> {
     ///
     /// # Proved
     ///
-    /// What [`Fits::fits_mul`] says, by the words of this `impl`.
+    /// What [`Fits::fits_mul`] says, by the words of the type.
     fn fits_mul(&self, other: &IntervalSet<B>) -> bool {
         span(self).fits_mul(&span(other))
     }
@@ -109,7 +109,7 @@ impl<B: Width> Fits<B> for IntervalSet<B> {
     ///
     /// # Proved
     ///
-    /// What [`Fits::fits_add`] says, by the words of this `impl`.
+    /// What [`Fits::fits_add`] says, by the words of the type.
     fn fits_add(&self, other: &B) -> bool {
         span(self).fits_add(other)
     }
@@ -129,7 +129,7 @@ impl<B: Width> Fits<B> for IntervalSet<B> {
     ///
     /// # Proved
     ///
-    /// What [`Fits::fits_sub`] says, by the words of this `impl`.
+    /// What [`Fits::fits_sub`] says, by the words of the type.
     fn fits_sub(&self, other: &B) -> bool {
         span(self).fits_sub(other)
     }
@@ -149,7 +149,7 @@ impl<B: Width> Fits<B> for IntervalSet<B> {
     ///
     /// # Proved
     ///
-    /// What [`Fits::fits_mul`] says, by the words of this `impl`.
+    /// What [`Fits::fits_mul`] says, by the words of the type.
     fn fits_mul(&self, other: &B) -> bool {
         span(self).fits_mul(other)
     }

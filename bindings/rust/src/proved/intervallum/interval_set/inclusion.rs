@@ -35,7 +35,7 @@ impl<B: Width> Subset for IntervalSet<B> {
     ///
     /// # Proved
     ///
-    /// What [`Subset::is_subset`] says, by the words of this `impl`.
+    /// What [`Subset::is_subset`] says, by the words of the type.
     fn is_subset(&self, other: &IntervalSet<B>) -> bool {
         if self.size() > other.size() {
             return false;
@@ -91,7 +91,7 @@ impl<B: Width> ProperSubset for IntervalSet<B> {
     ///
     /// # Proved
     ///
-    /// What [`ProperSubset::is_proper_subset`] says, by the words of this `impl`.
+    /// What [`ProperSubset::is_proper_subset`] says, by the words of the type.
     fn is_proper_subset(&self, other: &IntervalSet<B>) -> bool {
         self.size() != other.size() && self.is_subset(other)
     }
@@ -121,7 +121,7 @@ impl<B: Width> Entailment for IntervalSet<B> {
     ///
     /// # Proved
     ///
-    /// What [`Entailment::entail`] says, by the words of this `impl`.
+    /// What [`Entailment::entail`] says, by the words of the type.
     fn entail(&self, other: &IntervalSet<B>) -> SKleene {
         if self.is_subset(other) {
             SKleene::True

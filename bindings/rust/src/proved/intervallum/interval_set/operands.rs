@@ -28,7 +28,7 @@ impl Overlap<IntervalSet<u8>> for u8 {
     ///
     /// # Proved
     ///
-    /// What [`Overlap::overlap`] says, by the words of this `impl`.
+    /// What [`Overlap::overlap`] says, by the words of the type.
     fn overlap(&self, other: &IntervalSet<u8>) -> bool {
         other.contains(self)
     }
@@ -47,7 +47,7 @@ impl Overlap<IntervalSet<u16>> for u16 {
     ///
     /// # Proved
     ///
-    /// What [`Overlap::overlap`] says, by the words of this `impl`.
+    /// What [`Overlap::overlap`] says, by the words of the type.
     fn overlap(&self, other: &IntervalSet<u16>) -> bool {
         other.contains(self)
     }
@@ -66,7 +66,7 @@ impl Overlap<IntervalSet<u32>> for u32 {
     ///
     /// # Proved
     ///
-    /// What [`Overlap::overlap`] says, by the words of this `impl`.
+    /// What [`Overlap::overlap`] says, by the words of the type.
     fn overlap(&self, other: &IntervalSet<u32>) -> bool {
         other.contains(self)
     }
@@ -85,7 +85,7 @@ impl Overlap<IntervalSet<u64>> for u64 {
     ///
     /// # Proved
     ///
-    /// What [`Overlap::overlap`] says, by the words of this `impl`.
+    /// What [`Overlap::overlap`] says, by the words of the type.
     fn overlap(&self, other: &IntervalSet<u64>) -> bool {
         other.contains(self)
     }
@@ -104,7 +104,7 @@ impl Overlap<IntervalSet<usize>> for usize {
     ///
     /// # Proved
     ///
-    /// What [`Overlap::overlap`] says, by the words of this `impl`.
+    /// What [`Overlap::overlap`] says, by the words of the type.
     fn overlap(&self, other: &IntervalSet<usize>) -> bool {
         other.contains(self)
     }
@@ -123,7 +123,7 @@ impl Overlap<IntervalSet<i8>> for i8 {
     ///
     /// # Proved
     ///
-    /// What [`Overlap::overlap`] says, by the words of this `impl`.
+    /// What [`Overlap::overlap`] says, by the words of the type.
     fn overlap(&self, other: &IntervalSet<i8>) -> bool {
         other.contains(self)
     }
@@ -142,7 +142,7 @@ impl Overlap<IntervalSet<i16>> for i16 {
     ///
     /// # Proved
     ///
-    /// What [`Overlap::overlap`] says, by the words of this `impl`.
+    /// What [`Overlap::overlap`] says, by the words of the type.
     fn overlap(&self, other: &IntervalSet<i16>) -> bool {
         other.contains(self)
     }
@@ -161,7 +161,7 @@ impl Overlap<IntervalSet<i32>> for i32 {
     ///
     /// # Proved
     ///
-    /// What [`Overlap::overlap`] says, by the words of this `impl`.
+    /// What [`Overlap::overlap`] says, by the words of the type.
     fn overlap(&self, other: &IntervalSet<i32>) -> bool {
         other.contains(self)
     }
@@ -180,7 +180,7 @@ impl Overlap<IntervalSet<i64>> for i64 {
     ///
     /// # Proved
     ///
-    /// What [`Overlap::overlap`] says, by the words of this `impl`.
+    /// What [`Overlap::overlap`] says, by the words of the type.
     fn overlap(&self, other: &IntervalSet<i64>) -> bool {
         other.contains(self)
     }
@@ -199,7 +199,7 @@ impl Overlap<IntervalSet<isize>> for isize {
     ///
     /// # Proved
     ///
-    /// What [`Overlap::overlap`] says, by the words of this `impl`.
+    /// What [`Overlap::overlap`] says, by the words of the type.
     fn overlap(&self, other: &IntervalSet<isize>) -> bool {
         other.contains(self)
     }

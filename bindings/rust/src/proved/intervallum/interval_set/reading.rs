@@ -24,7 +24,7 @@ impl<B: Width> Contains for IntervalSet<B> {
     ///
     /// # Proved
     ///
-    /// What [`Contains::contains`] says, by the words of this `impl`.
+    /// What [`Contains::contains`] says, by the words of the type.
     fn contains(&self, item: &B) -> bool {
         let mut runs = Probes::new(self);
         match find(&mut runs, *item) {
@@ -58,7 +58,7 @@ impl<B: Width> Overlap<B> for IntervalSet<B> {
     ///
     /// # Proved
     ///
-    /// What [`Overlap::overlap`] says, by the words of this `impl`.
+    /// What [`Overlap::overlap`] says, by the words of the type.
     fn overlap(&self, other: &B) -> bool {
         self.contains(other)
     }
@@ -88,7 +88,7 @@ impl<B: Width> Overlap<Optional<B>> for IntervalSet<B> {
     ///
     /// # Proved
     ///
-    /// What [`Overlap::overlap`] says, by the words of this `impl`.
+    /// What [`Overlap::overlap`] says, by the words of the type.
     fn overlap(&self, other: &Optional<B>) -> bool {
         match other.as_ref() {
             Some(x) => self.contains(x),

@@ -94,7 +94,7 @@ impl<B: Width> Overlap<Interval<B>> for IntervalSet<B> {
     ///
     /// # Proved
     ///
-    /// What [`Overlap::overlap`] says, by the words of this `impl`.
+    /// What [`Overlap::overlap`] says, by the words of the type.
     fn overlap(&self, other: &Interval<B>) -> bool {
         if other.is_empty() {
             return false;

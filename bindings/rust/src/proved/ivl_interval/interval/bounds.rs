@@ -467,7 +467,7 @@ impl<B: Width> Contains for Interval<B> {
     ///
     /// # Proved
     ///
-    /// What [`Contains::contains`] says, by the words of this `impl`.
+    /// What [`Contains::contains`] says, by the words of the type.
     fn contains(&self, item: &B) -> bool {
         self.lb <= *item && *item <= self.ub
     }

@@ -33,7 +33,7 @@ impl<B: Width> Fits<Interval<B>> for Interval<B> {
     ///
     /// # Proved
     ///
-    /// What [`Fits::fits_add`] says, by the words of this `impl`.
+    /// What [`Fits::fits_add`] says, by the words of the type.
     fn fits_add(&self, other: &Interval<B>) -> bool {
         if self.is_empty() || other.is_empty() {
             return true;
@@ -55,7 +55,7 @@ impl<B: Width> Fits<Interval<B>> for Interval<B> {
     ///
     /// # Proved
     ///
-    /// What [`Fits::fits_sub`] says, by the words of this `impl`.
+    /// What [`Fits::fits_sub`] says, by the words of the type.
     fn fits_sub(&self, other: &Interval<B>) -> bool {
         if self.is_empty() || other.is_empty() {
             return true;
@@ -77,7 +77,7 @@ impl<B: Width> Fits<Interval<B>> for Interval<B> {
     ///
     /// # Proved
     ///
-    /// What [`Fits::fits_mul`] says, by the words of this `impl`.
+    /// What [`Fits::fits_mul`] says, by the words of the type.
     fn fits_mul(&self, other: &Interval<B>) -> bool {
         if self.is_empty() || other.is_empty() {
             return true;
@@ -110,7 +110,7 @@ impl<B: Width> Fits<B> for Interval<B> {
     ///
     /// # Proved
     ///
-    /// What [`Fits::fits_add`] says, by the words of this `impl`.
+    /// What [`Fits::fits_add`] says, by the words of the type.
     fn fits_add(&self, other: &B) -> bool {
         if self.is_empty() {
             return true;
@@ -132,7 +132,7 @@ impl<B: Width> Fits<B> for Interval<B> {
     ///
     /// # Proved
     ///
-    /// What [`Fits::fits_sub`] says, by the words of this `impl`.
+    /// What [`Fits::fits_sub`] says, by the words of the type.
     fn fits_sub(&self, other: &B) -> bool {
         if self.is_empty() {
             return true;
@@ -154,7 +154,7 @@ impl<B: Width> Fits<B> for Interval<B> {
     ///
     /// # Proved
     ///
-    /// What [`Fits::fits_mul`] says, by the words of this `impl`.
+    /// What [`Fits::fits_mul`] says, by the words of the type.
     fn fits_mul(&self, other: &B) -> bool {
         if self.is_empty() {
             return true;

@@ -32,7 +32,7 @@ impl<B: Width> Disjoint<Interval<B>> for Interval<B> {
     ///
     /// # Proved
     ///
-    /// What [`Disjoint::is_disjoint`] says, by the words of this `impl`.
+    /// What [`Disjoint::is_disjoint`] says, by the words of the type.
     fn is_disjoint(&self, other: &Interval<B>) -> bool {
         self.intersection(other).is_empty()
     }
@@ -60,7 +60,7 @@ impl<B: Width> Overlap<Interval<B>> for Interval<B> {
     ///
     /// # Proved
     ///
-    /// What [`Overlap::overlap`] says, by the words of this `impl`.
+    /// What [`Overlap::overlap`] says, by the words of the type.
     fn overlap(&self, other: &Interval<B>) -> bool {
         !self.intersection(other).is_empty()
     }
@@ -92,7 +92,7 @@ impl<B: Width> Intersection<Interval<B>> for Interval<B> {
     ///
     /// # Proved
     ///
-    /// What [`Intersection::intersection`] says, by the words of this `impl`.
+    /// What [`Intersection::intersection`] says, by the words of the type.
     fn intersection(&self, other: &Interval<B>) -> Interval<B> {
         Interval {
             lb: self.lb.max(other.lb),
@@ -129,7 +129,7 @@ impl<B: Width> Difference<Interval<B>> for Interval<B> {
     ///
     /// # Proved
     ///
-    /// What [`Difference::difference`] says, by the words of this `impl`.
+    /// What [`Difference::difference`] says, by the words of the type.
     fn difference(&self, other: &Interval<B>) -> Interval<B> {
         if self.is_empty() {
             return *self;
@@ -193,7 +193,7 @@ impl<B: Width> Hull<Interval<B>> for Interval<B> {
     ///
     /// # Proved
     ///
-    /// What [`Hull::hull`] says, by the words of this `impl`.
+    /// What [`Hull::hull`] says, by the words of the type.
     fn hull(&self, other: &Interval<B>) -> Interval<B> {
         if self.is_empty() {
             return *other;
@@ -227,7 +227,7 @@ impl<B: Width> Subset for Interval<B> {
     ///
     /// # Proved
     ///
-    /// What [`Subset::is_subset`] says, by the words of this `impl`.
+    /// What [`Subset::is_subset`] says, by the words of the type.
     fn is_subset(&self, other: &Interval<B>) -> bool {
         if self.is_empty() {
             return true;
@@ -257,7 +257,7 @@ impl<B: Width> ProperSubset for Interval<B> {
     ///
     /// # Proved
     ///
-    /// What [`ProperSubset::is_proper_subset`] says, by the words of this `impl`.
+    /// What [`ProperSubset::is_proper_subset`] says, by the words of the type.
     fn is_proper_subset(&self, other: &Interval<B>) -> bool {
         self.is_subset(other) && self != other
     }
@@ -287,7 +287,7 @@ impl<B: Width> Join for Interval<B> {
     ///
     /// # Proved
     ///
-    /// What [`Join::join`] says, by the words of this `impl`.
+    /// What [`Join::join`] says, by the words of the type.
     fn join(self, other: Interval<B>) -> Interval<B> {
         self.intersection(&other)
     }
@@ -317,7 +317,7 @@ impl<B: Width> Meet for Interval<B> {
     ///
     /// # Proved
     ///
-    /// What [`Meet::meet`] says, by the words of this `impl`.
+    /// What [`Meet::meet`] says, by the words of the type.
     fn meet(self, other: Interval<B>) -> Interval<B> {
         self.hull(&other)
     }
@@ -347,7 +347,7 @@ impl<B: Width> Entailment for Interval<B> {
     ///
     /// # Proved
     ///
-    /// What [`Entailment::entail`] says, by the words of this `impl`.
+    /// What [`Entailment::entail`] says, by the words of the type.
     fn entail(&self, other: &Interval<B>) -> SKleene {
         if self.is_subset(other) {
             SKleene::True

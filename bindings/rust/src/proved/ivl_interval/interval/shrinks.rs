@@ -32,7 +32,7 @@ impl<B: Width> ShrinkLeft for Interval<B> {
     ///
     /// # Proved
     ///
-    /// What [`ShrinkLeft::shrink_left`] says, by the words of this `impl`.
+    /// What [`ShrinkLeft::shrink_left`] says, by the words of the type.
     fn shrink_left(&self, lower: B) -> Interval<B> {
         Self::new(self.lb.max(lower), self.ub)
     }
@@ -63,7 +63,7 @@ impl<B: Width> ShrinkRight for Interval<B> {
     ///
     /// # Proved
     ///
-    /// What [`ShrinkRight::shrink_right`] says, by the words of this `impl`.
+    /// What [`ShrinkRight::shrink_right`] says, by the words of the type.
     fn shrink_right(&self, upper: B) -> Interval<B> {
         Self::new(self.lb, self.ub.min(upper))
     }
@@ -94,7 +94,7 @@ impl<B: Width> StrictShrinkLeft for Interval<B> {
     ///
     /// # Proved
     ///
-    /// What [`StrictShrinkLeft::strict_shrink_left`] says, by the words of this `impl`.
+    /// What [`StrictShrinkLeft::strict_shrink_left`] says, by the words of the type.
     fn strict_shrink_left(&self, lower: B) -> Interval<B> {
         if lower < self.lb {
             return *self;
@@ -132,7 +132,7 @@ impl<B: Width> StrictShrinkRight for Interval<B> {
     ///
     /// # Proved
     ///
-    /// What [`StrictShrinkRight::strict_shrink_right`] says, by the words of this `impl`.
+    /// What [`StrictShrinkRight::strict_shrink_right`] says, by the words of the type.
     fn strict_shrink_right(&self, upper: B) -> Interval<B> {
         if upper > self.ub {
             return *self;

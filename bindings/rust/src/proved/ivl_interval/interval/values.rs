@@ -33,7 +33,7 @@ impl<B: Width> Disjoint<B> for Interval<B> {
     ///
     /// # Proved
     ///
-    /// What [`Disjoint::is_disjoint`] says, by the words of this `impl`.
+    /// What [`Disjoint::is_disjoint`] says, by the words of the type.
     fn is_disjoint(&self, other: &B) -> bool {
         !self.contains(other)
     }
@@ -62,7 +62,7 @@ impl<B: Width> Overlap<B> for Interval<B> {
     ///
     /// # Proved
     ///
-    /// What [`Overlap::overlap`] says, by the words of this `impl`.
+    /// What [`Overlap::overlap`] says, by the words of the type.
     fn overlap(&self, other: &B) -> bool {
         self.contains(other)
     }
@@ -95,7 +95,7 @@ impl<B: Width> Intersection<B> for Interval<B> {
     ///
     /// # Proved
     ///
-    /// What [`Intersection::intersection`] says, by the words of this `impl`.
+    /// What [`Intersection::intersection`] says, by the words of the type.
     fn intersection(&self, other: &B) -> Interval<B> {
         Self::new(self.lb.max(*other), self.ub.min(*other))
     }
@@ -133,7 +133,7 @@ impl<B: Width> Difference<B> for Interval<B> {
     ///
     /// # Proved
     ///
-    /// What [`Difference::difference`] says, by the words of this `impl`.
+    /// What [`Difference::difference`] says, by the words of the type.
     fn difference(&self, other: &B) -> Interval<B> {
         if *other == self.lb {
             self.strict_shrink_left(*other)
@@ -173,7 +173,7 @@ impl<B: Width> Hull<B> for Interval<B> {
     ///
     /// # Proved
     ///
-    /// What [`Hull::hull`] says, by the words of this `impl`.
+    /// What [`Hull::hull`] says, by the words of the type.
     fn hull(&self, other: &B) -> Interval<B> {
         self.hull(&Self::singleton(*other))
     }
@@ -202,7 +202,7 @@ impl<B: Width> Disjoint<Optional<B>> for Interval<B> {
     ///
     /// # Proved
     ///
-    /// What [`Disjoint::is_disjoint`] says, by the words of this `impl`.
+    /// What [`Disjoint::is_disjoint`] says, by the words of the type.
     fn is_disjoint(&self, other: &Optional<B>) -> bool {
         !self.overlap(other)
     }
@@ -231,7 +231,7 @@ impl<B: Width> Overlap<Optional<B>> for Interval<B> {
     ///
     /// # Proved
     ///
-    /// What [`Overlap::overlap`] says, by the words of this `impl`.
+    /// What [`Overlap::overlap`] says, by the words of the type.
     fn overlap(&self, other: &Optional<B>) -> bool {
         match other.as_ref() {
             Some(x) => self.contains(x),
@@ -266,7 +266,7 @@ impl<B: Width> Intersection<Optional<B>> for Interval<B> {
     ///
     /// # Proved
     ///
-    /// What [`Intersection::intersection`] says, by the words of this `impl`.
+    /// What [`Intersection::intersection`] says, by the words of the type.
     fn intersection(&self, other: &Optional<B>) -> Interval<B> {
         match other.as_ref() {
             Some(x) => self.intersection(x),
@@ -302,7 +302,7 @@ impl<B: Width> Difference<Optional<B>> for Interval<B> {
     ///
     /// # Proved
     ///
-    /// What [`Difference::difference`] says, by the words of this `impl`.
+    /// What [`Difference::difference`] says, by the words of the type.
     fn difference(&self, other: &Optional<B>) -> Interval<B> {
         match other.as_ref() {
             Some(x) => self.difference(x),
@@ -334,7 +334,7 @@ impl<B: Width> Disjoint<Interval<B>> for B {
     ///
     /// # Proved
     ///
-    /// What [`Disjoint::is_disjoint`] says, by the words of this `impl`.
+    /// What [`Disjoint::is_disjoint`] says, by the words of the type.
     fn is_disjoint(&self, other: &Interval<B>) -> bool {
         !other.contains(self)
     }
@@ -363,7 +363,7 @@ impl<B: Width> Overlap<Interval<B>> for B {
     ///
     /// # Proved
     ///
-    /// What [`Overlap::overlap`] says, by the words of this `impl`.
+    /// What [`Overlap::overlap`] says, by the words of the type.
     fn overlap(&self, other: &Interval<B>) -> bool {
         other.contains(self)
     }
@@ -397,7 +397,7 @@ impl<B: Width> Hull<Interval<B>> for B {
     ///
     /// # Proved
     ///
-    /// What [`Hull::hull`] says, by the words of this `impl`.
+    /// What [`Hull::hull`] says, by the words of the type.
     fn hull(&self, other: &Interval<B>) -> Interval<B> {
         Interval::singleton(*self).hull(other)
     }
@@ -426,7 +426,7 @@ impl<B: Width> Disjoint<Interval<B>> for Optional<B> {
     ///
     /// # Proved
     ///
-    /// What [`Disjoint::is_disjoint`] says, by the words of this `impl`.
+    /// What [`Disjoint::is_disjoint`] says, by the words of the type.
     fn is_disjoint(&self, other: &Interval<B>) -> bool {
         other.is_disjoint(self)
     }
@@ -455,7 +455,7 @@ impl<B: Width> Overlap<Interval<B>> for Optional<B> {
     ///
     /// # Proved
     ///
-    /// What [`Overlap::overlap`] says, by the words of this `impl`.
+    /// What [`Overlap::overlap`] says, by the words of the type.
     fn overlap(&self, other: &Interval<B>) -> bool {
         other.overlap(self)
     }
