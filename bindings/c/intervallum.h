@@ -18,6 +18,8 @@
 #include <stddef.h>
 #include <stdint.h>
 
+#define IVL_VERSION "1.0.0"
+
 #ifdef __cplusplus
 extern "C" {
 #endif

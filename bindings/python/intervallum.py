@@ -18,6 +18,8 @@ The shared library is `libintervallum.so` beside this file, or the path in the e
 import ctypes
 import os
 
+__version__ = "1.0.0"
+
 try:
     import numpy
 except ImportError:

@@ -1,9 +1,14 @@
 -- What a walk keeps that writes a set from left to right: what is written lies below what is still to write.
-use Rattle.std.proofs.Common.{◌≡◌, ◌↔◌, ◌⊎◌, inl, inr, ⊎_elim, ℤ, pos, ◌+ℤ◌, ◌≤ℤ◌, List, [], ◌∷◌, ◌++◌, arith, sym, subst}
+use Rattle.std.proofs.Common.{◌≡◌, ◌∙◌, ◌↔◌, ◌⊎◌, inl, inr, ⊎_elim, Bool, true, false, IsTrue, ℕ, ◌-◌, ℤ, pos, ◌+ℤ◌, ◌≤ℤ◌, List, [], ◌∷◌, ◌++◌, length, take, ap, arith, refl, sym, subst}
+use Rattle.std.proofs.Math.Seq.{take-append_seam, take-length}
 use Rattle.std.proofs.lemmas.Int.{ints}
+use Rattle.std.proofs.lemmas.List.{length_push}
+use Rattle.std.specs.Int.{from_bool}
 use lib.Signed.{≤ℤ_refl}
-use Rattle.ivl_laws.specs.Sets.{IsBetween, IsSubset, HasNone, SameMembers, Union}
+use Rattle.ivl_laws.specs.Sets.{IsBetween, IsCrossed, IsSubset, HasNone, SameMembers, Union}
 use Rattle.ivl_laws.specs.Runs.{Covers, StartsBy, IsMaximal, IsRunsOf, AddsRun}
+use Rattle.ivl_laws.proofs.Adding.{untrue}
+use Rattle.ivl_laws.proofs.Intervals.{none_is_crossed, not_crossed}
 use Rattle.ivl_laws.proofs.Runs.{lower_end, upper_end}
 use Rattle.ivl_laws.proofs.Merging.{covers-append, covers-append_left, covers-append_right}
 use Rattle.intervallum.specs.Sides.{IsBelow}
@@ -96,3 +101,16 @@ adds_none L S m n = record { maximal = m; members = λ z. ((λ c. inl c), ⊎_el
 -- a gap of two is one of one
 pub nearer : (S T : ℤ → Type 0) → IsBelow (pos 2) S T → IsBelow (pos 1) S T
 nearer S T b x y s t = let far = b x y s t in omega (arith, ints)
+
+-- an interval is written at the end, and dropped again by the test whether it has no member
+pub written_if_filled : (test : Bool) (L : List (ℤ × ℤ)) (q : ℤ × ℤ) (n : ℕ) → (IsTrue test ↔ IsCrossed q) → IsMaximal L → IsBelow (pos 2) (Covers L) (IsBetween q) →
+    n ≡ length (L ++ q ∷ []) - from_bool test → IsRunsOf (take n (L ++ q ∷ [])) (Union (Covers L) (IsBetween q))
+written_if_filled true L q n t m b e =
+    let more = length_push L q in
+    let same : n ≡ length L = omega (arith, e, more) in
+    let left : take n (L ++ q ∷ []) ≡ L = ap (λ (k : ℕ). take k (L ++ q ∷ [])) same ∙ take-append_seam L (q ∷ []) in
+    subst (λ (M : List (ℤ × ℤ)). IsRunsOf M (Union (Covers L) (IsBetween q))) (sym left) (adds_none L (IsBetween q) m ((none_is_crossed q).1 (t.0 refl)))
+written_if_filled false L q n t m b e =
+    let same : n ≡ length (L ++ q ∷ []) = omega (arith, e) in
+    let all : take n (L ++ q ∷ []) ≡ L ++ q ∷ [] = ap (λ (k : ℕ). take k (L ++ q ∷ [])) same ∙ take-length (L ++ q ∷ []) in
+    subst (λ (M : List (ℤ × ℤ)). IsRunsOf M (Union (Covers L) (IsBetween q))) (sym all) (adds_above L q m (not_crossed q (untrue false refl t)) b).runs

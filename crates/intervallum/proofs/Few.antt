@@ -22,18 +22,20 @@ pub record IsShared (whole : ℤ × ℤ) (L K : List (ℤ × ℤ)) (W : ℤ × �
   pub last : StartsBy W.1 K
   pub members : SameMembers (Intersection (Covers K) (IsBetween W)) (Intersection (Covers L) (IsBetween W))
 
--- M and N are the list as the two searches left it, for the ends of W
-pub is_shared : (whole : ℤ × ℤ) (L M N K : List (ℤ × ℤ)) (W : ℤ × ℤ) (a b : ℤ) (i j : ℕ) → IsRunListIn whole L → M ≡ L → N ≡ M → W.0 ≤ℤ W.1 → a ≡ W.0 → b ≡ W.1 →
-    i ≤ length L → EndBelow a (take i L) → EndsFrom a (drop i L) → StartsBy b (take j M) → StartAbove b (drop j M) → K ≡ take (j - i) (drop i N) → IsShared whole L K W
-is_shared whole L M N K W a b i j l e h o f g le below ends starts above is =
-    let w : IsWindow L W i j = is_window L L M W a b i j l.maximal refl e o f g le below above in
-    let made : IsShared whole L (take (j - i) (drop i L)) W = record {
-      runs = part_is_run_list whole L i (j - i) l;
-      first = first_of_kept L L L i (j - i) a W.0 refl refl f ends;
-      last = starts_of_kept L L L M i j b W.1 refl refl e g starts;
-      members = same_in_window L i j W w.in_order w.below w.above;
+-- R is the list as it is read, and P and M as the two searches had it, for the ends of W
+pub is_shared : (whole : ℤ × ℤ) (L R P M : List (ℤ × ℤ)) (W : ℤ × ℤ) (a b : ℤ) (i j : ℕ) → IsRunListIn whole L → R ≡ L → P ≡ L → M ≡ P → W.0 ≤ℤ W.1 → a ≡ W.0 → b ≡ W.1 →
+    i ≤ length P → EndBelow a (take i P) → EndsFrom a (drop i P) → StartsBy b (take j M) → StartAbove b (drop j M) → IsShared whole L (take (j - i) (drop i R)) W
+is_shared whole L R P M W a b i j l r p e o f g le below ends starts above =
+    let q : IsRunListIn whole P = subst (IsRunListIn whole) (sym p) l in
+    let w : IsWindow P W i j = is_window P P M W a b i j q.maximal refl e o f g le below above in
+    let made : IsShared whole P (take (j - i) (drop i P)) W = record {
+      runs = part_is_run_list whole P i (j - i) q;
+      first = first_of_kept P P P i (j - i) a W.0 refl refl f ends;
+      last = starts_of_kept P P P M i j b W.1 refl refl e g starts;
+      members = same_in_window P i j W w.in_order w.below w.above;
     } in
-    subst (λ (R : List (ℤ × ℤ)). IsShared whole L R W) (sym (is ∙ ap (λ (R : List (ℤ × ℤ)). take (j - i) (drop i R)) (h ∙ e))) made
+    let there : IsShared whole L (take (j - i) (drop i L)) W = subst (λ (N : List (ℤ × ℤ)). IsShared whole N (take (j - i) (drop i N)) W) p made in
+    subst (λ (N : List (ℤ × ℤ)). IsShared whole L (take (j - i) (drop i N)) W) (sym r) there
 
 -- the same numbers are added, told in another way
 pub with_part : (old new : List (ℤ × ℤ)) (S T : ℤ → Type 0) → SameMembers S T → IsRunsOf new (Union (Covers old) S) → IsRunsOf new (Union (Covers old) T)
@@ -116,9 +118,8 @@ without_shared r F C few shared M e f u = IfOk-weaker r _ _ (λ R i. IsRunsOf-sa
     (λ z. ((λ (c, n). (c, λ m. n ((u.members z).1 (c, m)))), (λ (c, n). (c, λ s. n ((u.members z).0 s).1))))
     (subst (λ (K : List (ℤ × ℤ)). IsRunsOf R (Without (Covers few) (Covers K))) f (subst (λ (K : List (ℤ × ℤ)). IsRunsOf R (Without (Covers K) (Covers C))) e i)))
 
--- F is the complement of few runs, and K the many, as a search saw them
-pub without_free : {E : Type 0} (r : Result (List (ℤ × ℤ)) E) (whole : ℤ × ℤ) (F K many few : List (ℤ × ℤ)) → K ≡ many → IsRunListIn whole many → IsRunsOf F (Complement whole (Covers few)) →
-    IfOk r (λ R. IsRunsOf R (Intersection (Covers F) (Covers K))) → IfOk r (λ R. IsRunsOf R (Without (Covers many) (Covers few)))
-without_free r whole F K many few e m f = IfOk-weaker r _ _ (λ R i. IsRunsOf-same (Intersection (Covers F) (Covers many)) (Without (Covers many) (Covers few)) R
-    (λ z. ((λ (a, b). (b, ((f.members z).0 a).1)), (λ (b, n). ((f.members z).1 (m.within z b, n), b))))
-    (subst (λ (L : List (ℤ × ℤ)). IsRunsOf R (Intersection (Covers F) (Covers L))) e i))
+-- F is the complement of few runs
+pub without_free : {E : Type 0} (r : Result (List (ℤ × ℤ)) E) (whole : ℤ × ℤ) (F many few : List (ℤ × ℤ)) → IsRunListIn whole many → IsRunsOf F (Complement whole (Covers few)) →
+    IfOk r (λ R. IsRunsOf R (Intersection (Covers F) (Covers many))) → IfOk r (λ R. IsRunsOf R (Without (Covers many) (Covers few)))
+without_free r whole F many few m f = IfOk-weaker r _ _ (λ R i. IsRunsOf-same (Intersection (Covers F) (Covers many)) (Without (Covers many) (Covers few)) R
+    (λ z. ((λ (a, b). (b, ((f.members z).0 a).1)), (λ (b, n). ((f.members z).1 (m.within z b, n), b)))) i)

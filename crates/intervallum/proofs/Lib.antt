@@ -23,6 +23,7 @@ pub mod Windows
 pub mod Scaling
 pub mod Shifting
 pub mod Splicing
+pub mod Allocating
 pub mod Touching
 pub mod Popping
 pub mod Neighbours
@@ -34,3 +35,4 @@ pub mod Appending
 pub mod Few
 pub mod Shortening
 pub mod Members
+pub mod Uniting

@@ -1,15 +1,15 @@
 -- What two lists of runs have in common, from the left: of their first runs, the one that ends first is done.
-use Rattle.std.proofs.Common.{◌≡◌, ◌⊎◌, inl, inr, ⊎_elim, ℤ, pos, ◌≤ℤ◌, ◌<ℤ◌, List, [], ◌∷◌, Option, Some, None, sym, subst, arith}
-use Rattle.std.proofs.lemmas.Int.{ints, clamps}
+use Rattle.std.proofs.Common.{◌≡◌, ◌↔◌, inl, inr, ⊎_elim, Bool, true, false, IsTrue, ℤ, pos, ◌≤ℤ◌, ◌<ℤ◌, List, [], ◌∷◌, Some, None, refl, sym, subst, arith}
+use Rattle.std.proofs.lemmas.Int.{ints, clamps, by_lt_z}
 use Rattle.std.specs.Int.{int_max}
-use Rattle.std.specs.Prelude.{slice_get}
+use Rattle.std.specs.Prelude.{not, slice_get}
 use Rattle.ivl_laws.specs.Sets.{HasNone, HasSome, IsBetween, IsSubset, Intersection, SameMembers, Union}
 use Rattle.ivl_laws.specs.Runs.{Covers, IsMaximal, IsRunsOf}
+use Rattle.ivl_laws.proofs.Adding.{untrue}
 use Rattle.ivl_laws.proofs.Runs.{covered_after, covered_from}
-use Rattle.intervallum.specs.Led.{led_by}
+use Rattle.intervallum.specs.Led.{IsTakenIf}
 use Rattle.intervallum.specs.Sides.{IsBelow}
 use Rattle.intervallum.proofs.Building.{IsBuilding, building_below, building_same, building_takes}
-use Rattle.intervallum.proofs.Leading.{IsLed, leads, leads_none, open_held}
 use Rattle.intervallum.proofs.Walking.{is_first}
 
 -- the first run of a list is among what the list covers
@@ -37,44 +37,44 @@ module _ (p q r : ℤ × ℤ) (A B : List (ℤ × ℤ)) (m : IsMaximal (p ∷ A)
 turned : (S T : ℤ → Type 0) → SameMembers (Intersection S T) (Intersection T S)
 turned S T z = ((λ (s, t). (t, s)), (λ (t, s). (s, t)))
 
--- ---- the same, where the two first runs are held
+-- ---- the same, where the first runs of two lists are read, and the one that ends first is taken
 
--- what is still to write
-abbrev pub rest_common : Option (ℤ × ℤ) → List (ℤ × ℤ) → Option (ℤ × ℤ) → List (ℤ × ℤ) → ℤ → Type 0
-rest_common a A b B = Intersection (Covers (led_by a A)) (Covers (led_by b B))
+opens : (L : List (ℤ × ℤ)) (p : ℤ × ℤ) → Some p ≡ slice_get L 0 → (rest : List (ℤ × ℤ)) × (L ≡ p ∷ rest)
+opens [] p e = absurd (cc)
+opens (x ∷ L) p e = (L, (cc))
 
-common_turned : (W : List (ℤ × ℤ)) (a b : Option (ℤ × ℤ)) (A B : List (ℤ × ℤ)) (S : ℤ → Type 0) → IsBuilding (pos 2) W (rest_common a A b B) S → IsBuilding (pos 2) W (rest_common b B a A) S
-common_turned W a b A B S u = building_same (pos 2) W _ _ S (turned (Covers (led_by a A)) (Covers (led_by b B))) u
+pub shared_is_above : (W A B : List (ℤ × ℤ)) (p q r : ℤ × ℤ) (S : ℤ → Type 0) → Some p ≡ slice_get A 0 → Some q ≡ slice_get B 0 →
+    IsBuilding (pos 2) W (Intersection (Covers A) (Covers B)) S → SameMembers (IsBetween r) (Intersection (IsBetween p) (IsBetween q)) → IsBelow (pos 2) (Covers W) (IsBetween r)
+shared_is_above W A B p q r S e f u shared =
+    building_below (pos 2) W (Intersection (Covers A) (Covers B)) (IsBetween r) S u (λ z i. let (x, y) = (shared z).0 i in (first_covers A p e z x, first_covers B q f z y))
 
-module _ (W : List (ℤ × ℤ)) (a b : Option (ℤ × ℤ)) (A B : List (ℤ × ℤ)) (p q r : ℤ × ℤ) (S : ℤ → Type 0) (e : a ≡ Some p) (f : b ≡ Some q)
-    (l : IsLed a A) (k : IsLed b B) (u : IsBuilding (pos 2) W (rest_common a A b B) S) (shared : SameMembers (IsBetween r) (Intersection (IsBetween p) (IsBetween q))) where
-  opened : IsBuilding (pos 2) W (Intersection (Covers (p ∷ A)) (Covers (q ∷ B))) S
-  opened = subst (λ (L : List (ℤ × ℤ)). IsBuilding (pos 2) W (Intersection (Covers (p ∷ A)) (Covers L)) S) (leads b q B f)
-      (subst (λ (L : List (ℤ × ℤ)). IsBuilding (pos 2) W (Intersection (Covers L) (Covers (led_by b B))) S) (leads a p A e) u)
+common_first : (W W' A B A' : List (ℤ × ℤ)) (p q r : ℤ × ℤ) (S : ℤ → Type 0) → Some p ≡ slice_get A 0 → Some q ≡ slice_get B 0 → IsMaximal A → IsMaximal B →
+    IsBuilding (pos 2) W (Intersection (Covers A) (Covers B)) S → SameMembers (IsBetween r) (Intersection (IsBetween p) (IsBetween q)) → IsRunsOf W' (Union (Covers W) (IsBetween r)) →
+    (x : ℤ × ℤ) × (A ≡ x ∷ A') → p.1 ≤ℤ q.1 → IsBuilding (pos 2) W' (Intersection (Covers A') (Covers B)) S
+common_first W W' A B A' p q r S e f m n u shared added (x, g) h =
+    let first = is_first A A' p x e g in
+    let (rest, second) = opens B q f in
+    let mm : IsMaximal (p ∷ A') = subst IsMaximal first m in
+    let nn : IsMaximal (q ∷ rest) = subst IsMaximal second n in
+    let uu : IsBuilding (pos 2) W (Intersection (Covers (p ∷ A')) (Covers (q ∷ rest))) S =
+    subst (λ (L : List (ℤ × ℤ)). IsBuilding (pos 2) W (Intersection (Covers (p ∷ A')) (Covers L)) S) second
+    (subst (λ (L : List (ℤ × ℤ)). IsBuilding (pos 2) W (Intersection (Covers L) (Covers B)) S) first u) in
+    subst (λ (L : List (ℤ × ℤ)). IsBuilding (pos 2) W' (Intersection (Covers A') (Covers L)) S) (sym second)
+    (building_takes (pos 2) W W' _ (IsBetween r) _ S uu (meeting_parts p q r A' rest mm nn h shared) (meeting_below p q r A' rest mm nn h shared) added)
 
-  pub shared_is_above : IsBelow (pos 2) (Covers W) (IsBetween r)
-  shared_is_above = building_below (pos 2) W _ _ S opened (λ z i. let (x, y) = (shared z).0 i in (inl x, inl y))
-
-  pub common_first : (W' : List (ℤ × ℤ)) → IsRunsOf W' (Union (Covers W) (IsBetween r)) → (a' : Option (ℤ × ℤ)) (A' : List (ℤ × ℤ)) → A ≡ led_by a' A' → p.1 ≤ℤ q.1 →
-      IsBuilding (pos 2) W' (rest_common a' A' b B) S
-  common_first W' added a' A' t h =
-      let m = open_held a p A l e in
-      let n = open_held b q B k f in
-      let next = building_takes (pos 2) W W' _ (IsBetween r) _ S opened (meeting_parts p q r A B m n h shared) (meeting_below p q r A B m n h shared) added in
-      subst (λ (L : List (ℤ × ℤ)). IsBuilding (pos 2) W' (Intersection (Covers L) (Covers (led_by b B))) S) t
-      (subst (λ (L : List (ℤ × ℤ)). IsBuilding (pos 2) W' (Intersection (Covers A) (Covers L)) S) (sym (leads b q B f)) next)
-
-pub common_second : (W W' : List (ℤ × ℤ)) (a b b' : Option (ℤ × ℤ)) (A B B' : List (ℤ × ℤ)) (p q r : ℤ × ℤ) (S : ℤ → Type 0) → a ≡ Some p → b ≡ Some q → IsLed a A → IsLed b B →
-    IsBuilding (pos 2) W (rest_common a A b B) S → SameMembers (IsBetween r) (Intersection (IsBetween p) (IsBetween q)) → IsRunsOf W' (Union (Covers W) (IsBetween r)) →
-    B ≡ led_by b' B' → q.1 ≤ℤ p.1 → IsBuilding (pos 2) W' (rest_common a A b' B') S
-common_second W W' a b b' A B B' p q r S e f l k u shared added t h =
-    common_turned W' b' a B' A S
-    (common_first W b a B A q p r S f e k l (common_turned W a b A B S u) (λ z. ((λ i. let (x, y) = (shared z).0 i in (y, x)), (λ (y, x). (shared z).1 (x, y)))) W' added b' B' t h)
-
--- where one of the two lists is at its end, nothing is left
-pub no_common : (a b : Option (ℤ × ℤ)) (A B : List (ℤ × ℤ)) → IsLed a A → IsLed b B → (a ≡ None) ⊎ (b ≡ None) → HasNone (rest_common a A b B)
-no_common a b A B l k (inl e) z i = subst (λ (L : List (ℤ × ℤ)). Covers L z) (leads_none a A l e) i.0
-no_common a b A B l k (inr e) z i = subst (λ (L : List (ℤ × ℤ)). Covers L z) (leads_none b B k e) i.1
+-- by the test which of the two ends first
+pub common_next : (test : Bool) (W W' A B A' B' : List (ℤ × ℤ)) (p q r : ℤ × ℤ) (S : ℤ → Type 0) → Some p ≡ slice_get A 0 → Some q ≡ slice_get B 0 → IsMaximal A → IsMaximal B →
+    IsBuilding (pos 2) W (Intersection (Covers A) (Covers B)) S → SameMembers (IsBetween r) (Intersection (IsBetween p) (IsBetween q)) → IsRunsOf W' (Union (Covers W) (IsBetween r)) →
+    (IsTrue test ↔ (p.1 ≤ℤ q.1)) → IsTakenIf test A A' → IsTakenIf (not test) B B' → IsBuilding (pos 2) W' (Intersection (Covers A') (Covers B')) S
+common_next true W W' A B A' B' p q r S e f m n u shared added t taken kept =
+    subst (λ (L : List (ℤ × ℤ)). IsBuilding (pos 2) W' (Intersection (Covers A') (Covers L)) S) (sym kept)
+    (common_first W W' A B A' p q r S e f m n u shared added taken (t.0 refl))
+common_next false W W' A B A' B' p q r S e f m n u shared added t kept taken =
+    let below : q.1 ≤ℤ p.1 = by_lt_z q.1 p.1 (λ lt. omega (arith, ints)) (λ le. absurd (untrue false refl t le)) in
+    let other = common_first W W' B A B' q p r S f e n m
+    (building_same (pos 2) W _ _ S (turned (Covers A) (Covers B)) u) (λ z. ((λ i. let (x, y) = (shared z).0 i in (y, x)), (λ (y, x). (shared z).1 (x, y)))) added taken below in
+    subst (λ (L : List (ℤ × ℤ)). IsBuilding (pos 2) W' (Intersection (Covers L) (Covers B')) S) (sym kept)
+    (building_same (pos 2) W' _ _ S (turned (Covers B') (Covers A)) other)
 
 -- two values whose numbers are ends of two runs
 pub ends_by : (x y a b : ℤ) → x ≡ a → y ≡ b → x ≤ℤ y → a ≤ℤ b

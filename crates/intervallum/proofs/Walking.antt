@@ -1,8 +1,11 @@
 -- What a walk has left, and what its first run tells.
-use Rattle.std.proofs.Common.{◌≡◌, ◌≢◌, ℕ, zero, suc, ◌+◌, ◌<◌, ℤ, ◌≤ℤ◌, List, [], ◌∷◌, Some, None, drop, length, arith, refl, sym, subst, inl, inr}
-use Rattle.std.specs.Prelude.{slice_get}
+use Rattle.std.proofs.Common.{◌≡◌, ◌≢◌, ◌↔◌, Bool, true, false, ℕ, zero, suc, ◌+◌, ◌<◌, ◌≤◌, IsTrue, ℤ, ◌≤ℤ◌, List, [], ◌∷◌, Some, None, drop, length, arith, refl, ap, sym, subst, inl, inr}
+use Rattle.std.proofs.lemmas.Int.{ints}
+use Rattle.std.specs.Int.{from_bool}
+use Rattle.std.specs.Prelude.{not, slice_get}
 use Rattle.ivl_laws.specs.Runs.{IsMaximal}
 use Rattle.ivl_laws.specs.Walks.{StartsFrom, TakesFirst}
+use Rattle.intervallum.specs.Led.{IsTakenIf}
 
 -- a list that has something left has a first thing left, and the rest
 pub left_more : (L : List (ℤ × ℤ)) (i : ℕ) → drop i L ≢ [] → (x : ℤ × ℤ) × (drop i L ≡ x ∷ drop (i + 1) L)
@@ -50,3 +53,29 @@ takes_only_first A B A' a e none (x, g) = inl (is_first A A' a x e g, refl, subs
 
 pub takes_only_second : (A B B' : List (ℤ × ℤ)) (b : ℤ × ℤ) → Some b ≡ slice_get B 0 → A ≡ [] → (x : ℤ × ℤ) × (B ≡ x ∷ B') → TakesFirst A B A B' b
 takes_only_second A B B' b e none (x, g) = inr (is_first B B' b x e g, refl, subst (λ (L : List (ℤ × ℤ)). StartsFrom b.0 L) (sym none) tt)
+
+-- ---- what the two lists have left where one of them gives its first run, by a test
+
+pub some_is_left : (L : List (ℤ × ℤ)) (p : ℤ × ℤ) → Some p ≡ slice_get L 0 → 0 < length L
+some_is_left [] p e = absurd (cc)
+some_is_left (x ∷ L) p e = omega arith
+
+one_less : (L M : List (ℤ × ℤ)) → (x : ℤ × ℤ) × (L ≡ x ∷ M) → length L ≡ length M + 1
+one_less L M (x, e) = let n = ap {B = ℕ} (λ (N : List (ℤ × ℤ)). length N) e in omega arith
+
+pub one_is_taken : (test : Bool) (A B A' B' : List (ℤ × ℤ)) → IsTakenIf test A A' → IsTakenIf (not test) B B' → length A + length B ≡ (length A' + length B') + 1
+one_is_taken true A B A' B' taken kept = let one = one_less A A' taken in let same = ap {B = ℕ} (λ (N : List (ℤ × ℤ)). length N) kept in omega arith
+one_is_taken false A B A' B' kept taken = let one = one_less B B' taken in let same = ap {B = ℕ} (λ (N : List (ℤ × ℤ)). length N) kept in omega arith
+
+-- a test of two values whose numbers are bounds of two runs
+pub test_of_bounds : (test : Bool) (x y a b : ℤ) → x ≡ a → y ≡ b → (IsTrue test ↔ (x ≤ℤ y)) → IsTrue test ↔ (a ≤ℤ b)
+test_of_bounds test x y a b e f t = ((λ p. let h = t.0 p in omega (arith, ints)), (λ h. t.1 (omega (arith, ints))))
+
+-- where a walk stands in the list of its set
+pub taken_if : (test : Bool) (L : List (ℤ × ℤ)) (i j : ℕ) → (IsTrue test → drop i L ≢ []) → j ≡ from_bool test → IsTakenIf test (drop i L) (drop (i + j) L)
+taken_if true L i j n e = rw e (left_more L i (n refl))
+taken_if false L i j n e = let same : i + j ≡ i = omega (arith, e) in ap (λ (k : ℕ). drop k L) same
+
+pub place_if : (test : Bool) (L : List (ℤ × ℤ)) (i j : ℕ) → (IsTrue test → drop i L ≢ []) → j ≡ from_bool test → i ≤ length L → i + j ≤ length L
+place_if true L i j n e h = let more = is_more L i (n refl) in omega (arith, e, more)
+place_if false L i j n e h = omega (arith, e, h)

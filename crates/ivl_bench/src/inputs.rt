@@ -1,6 +1,7 @@
 //! The operands, the same at each run: numbers of a linear congruential generator.
 
 use crate::expressions::Expressions;
+use crate::fresh;
 use crate::json::JsonInputs;
 use anyhow::{Context, Result, ensure};
 use intervallum::interval::Interval;
@@ -18,12 +19,14 @@ pub struct Inputs {
     pub middle: i64,
     pub wide: Box<Wide>,
     pub forms: Box<Forms>,
+    /// Pairs that are merged in turn.
+    pub fresh: Vec<Pair>,
 }
 
 impl Inputs {
     /// The operands for sets of `n` runs.
     pub fn new(alloc: Global, n: u32) -> Result<Box<Inputs>> {
-        let dense = Pair::new(dense_set(alloc, n, 1), dense_set(alloc, n, 2))?;
+        let dense = dense_pair(alloc, n, 1)?;
         let span = Span::of(&dense.a)?;
         let lists = Lists::new(alloc, n, span)?;
         let inputs = Inputs {
@@ -32,6 +35,7 @@ impl Inputs {
             wide: Wide::new(alloc, n)?,
             forms: Forms::new(alloc, &lists.runs, &dense)?,
             related: Related::new(&dense)?,
+            fresh: fresh::pairs(alloc, n)?,
             dense,
             lists,
         };
@@ -154,6 +158,14 @@ impl Forms {
         };
         Ok(Box::new(alloc, forms)?)
     }
+}
+
+/// Two sets of `n` runs with small gaps, by a seed and the next one.
+pub fn dense_pair(alloc: Global, n: u32, seed: u64) -> Result<Pair> {
+    Pair::new(
+        dense_set(alloc, n, seed),
+        dense_set(alloc, n, seed.saturating_add(1)),
+    )
 }
 
 fn dense_set(alloc: Global, n: u32, seed: u64) -> Result<IntervalSet<i64>> {

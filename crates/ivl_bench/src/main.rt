@@ -2,12 +2,14 @@
 //!
 //! Without arguments, prints what each call answers at two sizes of its inputs, and no time. With the
 //! arguments `time SECONDS GREATEST_N`, prints for each call a line `name n ns_per_operation runs size`.
-//! With the arguments `store FILE`, prints how long an instance of the domain store takes.
+//! With the argument `million`, prints how long one union of two sets of a million runs takes, and the
+//! peak of memory. With the arguments `store FILE`, prints how long an instance of the domain store takes.
 #![tactic(auto)]
 
 mod calls;
 mod edits;
 mod expressions;
+mod fresh;
 mod inputs;
 mod json;
 mod measures;
@@ -90,9 +92,10 @@ fn obey(
 ) -> Result<()> {
     match word {
         None => print_all_answers(rt),
+        Some("million") => fresh::print_million(rt),
         Some("store") => print_store_times(rt, first),
         Some("time") => print_times(rt, first, second),
-        Some(_) => bail!("the arguments are: time SECONDS GREATEST_N, or store FILE"),
+        Some(_) => bail!("the arguments are: time SECONDS GREATEST_N, million, or store FILE"),
     }
 }
 

@@ -1,7 +1,7 @@
 //! The calls that are measured, by their names.
 
 use crate::inputs::Inputs;
-use crate::{calls, json};
+use crate::{calls, fresh, json};
 use anyhow::{Result, ensure};
 use intervallum::interval_set::IntervalSet;
 use intervallum::ops::Cardinality;
@@ -48,6 +48,10 @@ pub enum Measure {
     InsertRandom,
     RemoveRandom,
     PopFirst,
+    UnionFresh,
+    IntersectionFresh,
+    DifferenceFresh,
+    SymmetricFresh,
 }
 
 /// What a call answers. The answer itself is dropped: to move a set or a value about takes longer than
@@ -86,7 +90,7 @@ pub enum Made {
 
 impl Measure {
     /// Every call and its name, in the order in which they are made.
-    pub const ALL: [(Measure, &'static str); 36] = [
+    pub const ALL: [(Measure, &'static str); 40] = [
         (Measure::BuildExtend, "build_extend"),
         (Measure::BuildPairs, "build_pairs"),
         (Measure::ExtendOne, "extend_one"),
@@ -123,6 +127,10 @@ impl Measure {
         (Measure::InsertRandom, "insert_random"),
         (Measure::RemoveRandom, "remove_random"),
         (Measure::PopFirst, "pop_first"),
+        (Measure::UnionFresh, "union_fresh"),
+        (Measure::IntersectionFresh, "inter_fresh"),
+        (Measure::DifferenceFresh, "diff_fresh"),
+        (Measure::SymmetricFresh, "sym_fresh"),
     ];
 
     /// Whether the call is measured for sets of `n` runs: the others only where they end soon, 300
@@ -149,6 +157,10 @@ impl Measure {
             Measure::Contains | Measure::NextFrom => inputs.lists.probes.len() as u64,
             Measure::InsertRandom | Measure::RemoveRandom => inputs.lists.edits.len() as u64,
             Measure::PopFirst => inputs.dense.a.size(),
+            Measure::UnionFresh
+            | Measure::IntersectionFresh
+            | Measure::DifferenceFresh
+            | Measure::SymmetricFresh => inputs.fresh.len() as u64,
             _ => 1,
         }
     }
@@ -206,6 +218,10 @@ impl Measure {
             Measure::InsertRandom => repeated(count, inputs, calls::inserted),
             Measure::RemoveRandom => repeated(count, inputs, calls::removed),
             Measure::PopFirst => repeated(count, inputs, calls::popped),
+            Measure::UnionFresh => repeated(count, inputs, fresh::united),
+            Measure::IntersectionFresh => repeated(count, inputs, fresh::common),
+            Measure::DifferenceFresh => repeated(count, inputs, fresh::without),
+            Measure::SymmetricFresh => repeated(count, inputs, fresh::alone),
         }
     }
 }

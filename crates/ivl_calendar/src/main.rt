@@ -8,11 +8,19 @@ mod requests;
 mod rooms;
 
 use anyhow::Result;
+use ivl_words::VERSION;
 use requests::Calendar;
-use std::io;
 use std::io::{BufRead, BufReader};
+use std::{env, io};
 
 fn main(rt: HostRuntime) -> Result<()> {
+    if env::args(&rt)?
+        .nth(1)
+        .is_some_and(|word| word.as_str() == "--version")
+    {
+        println!(rt; "ivl_calendar {VERSION}")?;
+        return Ok(());
+    }
     let mut calendar = Calendar::new(rt.alloc());
     for line in BufReader::new(rt.alloc(), rt.stdin())?.lines(rt.alloc()) {
         let text = calendar.answer(rt.alloc(), line?.as_str())?;

@@ -134,7 +134,7 @@ where
 }
 
 /// The numbers of a text, two by two; `-` for none.
-fn pairs<B: Width + FromStr>(alloc: Global, text: &str) -> Result<Vec<(B, B)>, Unanswered>
+pub fn pairs<B: Width + FromStr>(alloc: Global, text: &str) -> Result<Vec<(B, B)>, Unanswered>
 where
     B::Err: Drop,
 {

@@ -4,7 +4,9 @@
 use intervallum::interval::Interval;
 use intervallum::interval_set::{IntervalSet, ToIntervalSet};
 use intervallum::kleene::SKleene;
-use intervallum::ops::{Contains, Fits, Overlap, Range, Union};
+use intervallum::ops::{
+    Contains, Fits, Overlap, Range, StrictShrinkLeft, StrictShrinkRight, Union,
+};
 use intervallum::optional::Optional;
 use intervallum::steps::{Place, Walk};
 use intervallum::sweep::Op;
@@ -21,6 +23,8 @@ pub fn agree(alloc: Global) -> Result<bool, AllocError> {
             && forms_with_value_agree()
             && numbers_agree()
             && laws_of_unions_agree(alloc)?
+            && ends_of_signed_types_agree(alloc)?
+            && ends_of_unsigned_types_agree(alloc)?
             && sets_agree(alloc)?
             && runs_agree(alloc)?
             && debug_texts_agree(alloc)?,
@@ -68,6 +72,43 @@ fn laws_of_unions_agree(alloc: Global) -> Result<bool, AllocError> {
             && united.contains(&5)
             && !united.contains(&3)
             && united == [(1, 2), (4, 10)].to_interval_set(alloc)?,
+    )
+}
+
+/// The ends of each type on the left of a set, and its value outside the range.
+fn ends_of_signed_types_agree(alloc: Global) -> Result<bool, AllocError> {
+    Ok(
+        ends_agree(alloc, i8::MIN)?
+            && ends_agree(alloc, i16::MIN)?
+            && ends_agree(alloc, i32::MIN)?
+            && ends_agree(alloc, i64::MIN)?
+            && ends_agree(alloc, isize::MIN)?,
+    )
+}
+
+fn ends_of_unsigned_types_agree(alloc: Global) -> Result<bool, AllocError> {
+    Ok(
+        ends_agree(alloc, u8::MAX)?
+            && ends_agree(alloc, u16::MAX)?
+            && ends_agree(alloc, u32::MAX)?
+            && ends_agree(alloc, u64::MAX)?
+            && ends_agree(alloc, usize::MAX)?,
+    )
+}
+
+fn ends_agree<B: Width + Overlap<IntervalSet<B>>>(
+    alloc: Global,
+    outside: B,
+) -> Result<bool, AllocError> {
+    let (low, high) = (B::min_value(), B::max_value());
+    let all = IntervalSet::<B>::whole(alloc)?;
+    let between = all.strict_shrink_left(low)?.strict_shrink_right(high)?;
+    Ok(
+        low.overlap(&all)
+            && high.overlap(&all)
+            && !outside.overlap(&all)
+            && !low.overlap(&between)
+            && !high.overlap(&between),
     )
 }
 

@@ -1,8 +1,10 @@
-//! The calls of JSON, expressions and the domain store that the files name.
+//! The calls of JSON, expressions, windows, the calculator and the domain store that the files name.
 
+mod calculator;
 mod expr;
 mod json;
 mod store;
+mod windows;
 
 use crate::fact::Fact;
 use crate::unanswered::Unanswered;
@@ -19,7 +21,13 @@ where
 {
     match (fact.call, fact.second) {
         ("eval", Some(sets)) => expr::answer::<B>(alloc, fact.first, sets),
-        (call, Some(rest)) => store::answer::<B>(alloc, call, fact.first, rest),
+        ("narrow" | "propagate" | "post_all", Some(rest)) => {
+            store::answer::<B>(alloc, fact.call, fact.first, rest)
+        }
+        (call, Some(rest)) if call.starts_with("calc_") => {
+            calculator::answer::<B>(alloc, call, fact.first, rest)
+        }
+        (call, Some(rest)) => windows::answer::<B>(alloc, call, fact.first, rest),
         (call, None) => json::answer::<B>(alloc, call, fact.first),
     }
 }

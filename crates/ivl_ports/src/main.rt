@@ -13,12 +13,20 @@ mod ports;
 mod requests;
 
 use anyhow::Result;
+use ivl_words::VERSION;
 use ports::Ports;
 use requests::answer;
-use std::io;
 use std::io::{BufRead, BufReader};
+use std::{env, io};
 
 fn main(rt: HostRuntime) -> Result<()> {
+    if env::args(&rt)?
+        .nth(1)
+        .is_some_and(|word| word.as_str() == "--version")
+    {
+        println!(rt; "ivl_ports {VERSION}")?;
+        return Ok(());
+    }
     let mut ports = Ports::new(rt.alloc(), 1024, 65535)?;
     for line in BufReader::new(rt.alloc(), rt.stdin())?.lines(rt.alloc()) {
         let text = answer(rt.alloc(), &mut ports, line?.as_str())?;

@@ -13,11 +13,19 @@ mod access;
 mod requests;
 
 use anyhow::Result;
+use ivl_words::VERSION;
 use requests::Access;
-use std::io;
 use std::io::{BufRead, BufReader};
+use std::{env, io};
 
 fn main(rt: HostRuntime) -> Result<()> {
+    if env::args(&rt)?
+        .nth(1)
+        .is_some_and(|word| word.as_str() == "--version")
+    {
+        println!(rt; "ivl_ranges {VERSION}")?;
+        return Ok(());
+    }
     let mut access = Access::new(rt.alloc());
     for line in BufReader::new(rt.alloc(), rt.stdin())?.lines(rt.alloc()) {
         let text = access.answer(rt.alloc(), line?.as_str())?;

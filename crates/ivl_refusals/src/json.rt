@@ -20,6 +20,7 @@ pub fn call(alloc: Global, name: &str, a: &IntervalSet<i32>) -> Option<Result<bo
         "json_read_interval" => Some(is_interval_read(alloc)),
         "json_read_set" => Some(is_set_read(alloc)),
         "json_read_thousand" => Some(is_last_of_thousand_refused(alloc)),
+        "json_read_thousands" => Some(is_last_of_thousands_read(alloc)),
         _ => None,
     }
 }
@@ -59,19 +60,31 @@ fn is_set_read(alloc: Global) -> Result<bool, AllocError> {
 
 /// The last item is refused of an array of 999 items that are null, and one that has a single number.
 fn is_last_of_thousand_refused(alloc: Global) -> Result<bool, AllocError> {
-    match IntervalSet::<i32>::from_value(alloc, &thousand_items(alloc)?) {
+    let value = nulls_and(alloc, 999, json!(in alloc; [1])?)?;
+    match IntervalSet::<i32>::from_value(alloc, &value) {
         Err(JsonFault::Memory) => Err(AllocError),
         Err(fault) => Ok(fault == JsonFault::At(999, ItemFault::Length(1))),
         Ok(_) => Ok(false),
     }
 }
 
-fn thousand_items(alloc: Global) -> Result<Value, AllocError> {
-    let mut items = Vec::with_capacity(alloc, 1000)?;
-    for _ in 0..999 {
+/// A set is read of an array of 2,999 items that are null, and one that has two bounds.
+fn is_last_of_thousands_read(alloc: Global) -> Result<bool, AllocError> {
+    let value = nulls_and(alloc, 2999, pair_value(alloc, 5, 7)?)?;
+    match IntervalSet::<i32>::from_value(alloc, &value) {
+        Err(JsonFault::Memory) => Err(AllocError),
+        Err(_) => Ok(false),
+        Ok(set) => Ok(has_runs(&set, &[(5, 7)])),
+    }
+}
+
+/// An array of so many items that are null, and then this one.
+fn nulls_and(alloc: Global, nulls: u16, last: Value) -> Result<Value, AllocError> {
+    let mut items = Vec::with_capacity(alloc, usize::from(nulls) + 1)?;
+    for _ in 0..nulls {
         items.push(Value::from(()))?;
     }
-    items.push(json!(in alloc; [1])?)?;
+    items.push(last)?;
     Ok(Value::from(items))
 }
 

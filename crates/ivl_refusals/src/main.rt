@@ -23,6 +23,9 @@ use std::io::Read;
 /// As many bytes as the names may have.
 const ROOM: usize = 4096;
 
+/// The request of a run that the script refuses.
+const REFUSED: u32 = 60;
+
 fn main(rt: HostRuntime) -> io::Result<()> {
     let mut bytes = [0u8; ROOM];
     let count = rt.stdin().read(&mut bytes)?;
@@ -68,12 +71,13 @@ fn ending(alloc: Global, name: &str, requests: u32) -> &'static str {
 /// How the call ended; an error where it, its operands or one of the requests found no memory.
 fn tried_after(alloc: Global, name: &str, requests: u32) -> Result<&'static str, AllocError> {
     ask_for_memory(alloc, requests)?;
-    tried(alloc, name)
+    tried(alloc, name, REFUSED.saturating_sub(requests))
 }
 
-/// How the call ended; an error where it or its operands found no memory.
-fn tried(alloc: Global, name: &str) -> Result<&'static str, AllocError> {
-    if let Some(ended) = store::ending(alloc, name) {
+/// How the call ended; an error where it or its operands found no memory. Where memory is refused, it is refused to
+/// this request of theirs, counted from 1.
+fn tried(alloc: Global, name: &str, refused: u32) -> Result<&'static str, AllocError> {
+    if let Some(ended) = store::ending(alloc, name, refused) {
         return ended;
     }
     let a = FIRST.to_interval_set(alloc)?;

@@ -24,10 +24,10 @@ const FRESH: &Family = &[
 /// The domains once `SUM` has narrowed them.
 const NARROWED: &Family = &[&[(0, 3)], &[(0, 1), (4, 6)], &[(2, 6)], &[(1, 1)]];
 
-/// The domains once `NEXT` has narrowed these.
+/// The domains once `NEXT` has narrowed those.
 const ROUND: &Family = &[&[(0, 3)], &[(1, 1), (4, 5)], &[(2, 2), (5, 6)], &[(1, 1)]];
 
-/// The domains once `SUM` has narrowed these, which nothing narrows any further.
+/// The domains once `SUM` has narrowed those, which nothing narrows any further.
 const FIXED: &Family = &[&[(0, 2)], &[(1, 1), (4, 5)], &[(2, 2), (5, 6)], &[(1, 1)]];
 
 const UNCHANGED: &[&Family] = &[FRESH];
@@ -36,14 +36,41 @@ const UNCHANGED: &[&Family] = &[FRESH];
 const PASSED: &[&Family] = &[FRESH, NARROWED, ROUND, FIXED];
 
 /// The numbers to which z is cut.
-const CUT: [(i32, i32); 1] = [(-5, 25)];
+const ALLOWED: [(i32, i32); 1] = [(-5, 5)];
 
-/// How the call of this name ended; none where there is no such call.
-pub fn ending(alloc: Global, name: &str) -> Option<Result<&'static str, AllocError>> {
+/// The domains once z is cut to these numbers after `SUM` has narrowed them.
+const CUT: &Family = &[&[(0, 3)], &[(0, 1), (4, 6)], &[(2, 5)], &[(1, 1)]];
+
+/// The domains once `SUM` has narrowed those.
+const CUT_NARROWED: &Family = &[&[(0, 3)], &[(0, 1), (4, 5)], &[(2, 5)], &[(1, 1)]];
+
+/// The domains once `NEXT` has narrowed those.
+const CUT_ROUND: &Family = &[&[(0, 3)], &[(1, 1), (4, 4)], &[(2, 2), (5, 5)], &[(1, 1)]];
+
+/// The domains once `SUM` has narrowed those, which nothing narrows any further.
+const CUT_FIXED: &Family = &[&[(1, 1)], &[(1, 1), (4, 4)], &[(2, 2), (5, 5)], &[(1, 1)]];
+
+/// The domains that the posts pass on their way, each with the first request for memory, the operands' among them,
+/// that leaves them if it is refused.
+const POSTED: [(u32, &Family); 5] = [
+    (0, FRESH),
+    (21, NARROWED),
+    (22, CUT),
+    (28, CUT_NARROWED),
+    (33, CUT_ROUND),
+];
+
+/// How many posts the longest list has.
+const MANY: usize = 1000;
+
+/// How the call of this name ended, to whose request of this number memory may be refused; none where there is no
+/// such call.
+pub fn ending(alloc: Global, name: &str, refused: u32) -> Option<Result<&'static str, AllocError>> {
     match name {
         "store_narrow" => Some(narrowed(alloc)),
         "store_propagate" => Some(propagated(alloc)),
-        "store_post_all" => Some(posted(alloc)),
+        "store_post_all" => Some(posted(alloc, refused)),
+        "store_post_many" => Some(posted_many(alloc)),
         _ => None,
     }
 }
@@ -74,21 +101,22 @@ fn propagated(alloc: Global) -> Result<&'static str, AllocError> {
     ))
 }
 
-/// Two constraints and a cut are posted together.
-fn posted(alloc: Global) -> Result<&'static str, AllocError> {
+/// Two constraints and a cut that removes members are posted together. A refused request leaves the domains as they
+/// were before it, and no earlier ones.
+fn posted(alloc: Global, refused: u32) -> Result<&'static str, AllocError> {
     let mut store = store_of(alloc, FRESH)?;
     let answer = post_if_distinct(&mut store, &posts(alloc)?);
     Ok(judged(
         &store,
-        are_all_kept(&answer),
+        are_replies(&answer, &[false, false, false]),
         is_refusal(&answer),
-        FIXED,
-        PASSED,
+        CUT_FIXED,
+        &[passed_by(refused)],
     ))
 }
 
 fn posts(alloc: Global) -> Result<Vec<Post<i32>>, AllocError> {
-    let cut = CUT.to_interval_set(alloc)?;
+    let cut = ALLOWED.to_interval_set(alloc)?;
     Ok(vec![in alloc;
         Post::Require(SUM),
         Post::Restrict(2, cut),
@@ -96,10 +124,39 @@ fn posts(alloc: Global) -> Result<Vec<Post<i32>>, AllocError> {
     ]?)
 }
 
-/// The answer is that each of the three posts was kept, and emptied no domain.
-fn are_all_kept(answer: &Result<Option<Vec<bool>>, StoreFault>) -> bool {
+/// The domains that the posts have reached when this request is made.
+fn passed_by(request: u32) -> &'static Family {
+    let mut reached = FRESH;
+    for &(first, family) in &POSTED {
+        if first <= request {
+            reached = family;
+        }
+    }
+    reached
+}
+
+/// The variable one is cut to no number, over and over.
+fn posted_many(alloc: Global) -> Result<&'static str, AllocError> {
+    let mut store = store_of(alloc, FRESH)?;
+    let mut posts = Vec::with_capacity(alloc, MANY)?;
+    for _ in 0..MANY {
+        posts.push(Post::Restrict(3, IntervalSet::empty(alloc)))?;
+    }
+    let answer = post_if_distinct(&mut store, &posts);
+    let [x, y, z, _] = *FRESH;
+    Ok(judged(
+        &store,
+        are_replies(&answer, &[true; MANY]),
+        is_refusal(&answer),
+        &[x, y, z, &[]],
+        UNCHANGED,
+    ))
+}
+
+/// The posts were answered by these replies.
+fn are_replies(answer: &Result<Option<Vec<bool>>, StoreFault>, wanted: &[bool]) -> bool {
     match answer {
-        Ok(Some(replies)) => replies.as_slice() == [false, false, false].as_slice(),
+        Ok(Some(replies)) => replies.as_slice() == wanted,
         _ => false,
     }
 }

@@ -139,6 +139,18 @@ fn a_long_line(rt: HostRuntime) -> Result<(), Fail> {
     Ok(())
 }
 
+// A set of 200,000 pairs, on a line of a megabyte.
+#[test]
+fn a_long_list_of_pairs(rt: HostRuntime) -> Result<(), Fail> {
+    let mut input = Vec::from_slice(rt.alloc(), b"set a")?;
+    for _ in 0..100_000 {
+        input.extend_from_slice(b" 1 4 -9 -7")?;
+    }
+    input.extend_from_slice(b"\nsize a\n")?;
+    check_session(&rt, &input, b"ok\n7\n");
+    Ok(())
+}
+
 #[test]
 fn outcomes(rt: HostRuntime) {
     for (ended, status) in [
@@ -149,4 +161,18 @@ fn outcomes(rt: HostRuntime) {
     ] {
         assert_eq!(rt; outcome(&ended), status);
     }
+}
+
+// A fault has a text of its own, beside the line that the program prints for it.
+#[test]
+fn texts_of_faults(rt: HostRuntime) -> Result<(), Fail> {
+    for (fault, text) in [
+        (SessionFault::Read, "read failed"),
+        (SessionFault::Write, "write failed"),
+        (SessionFault::Memory, "out of memory"),
+    ] {
+        let printed = format!(in rt.alloc(); "{fault}")?;
+        assert_eq!(rt; printed.as_str(), text);
+    }
+    Ok(())
 }

@@ -6,11 +6,19 @@
 mod tests;
 
 use ivl_solver::{SessionFault, outcome, session};
-use std::io;
+use ivl_words::VERSION;
 use std::io::BufWriter;
 use std::process::ExitCode;
+use std::{env, io};
 
 fn main(rt: HostRuntime) -> io::Result<ExitCode> {
+    if env::args(&rt)?
+        .nth(1)
+        .is_some_and(|word| word.as_str() == "--version")
+    {
+        println!(rt; "ivl_solve {VERSION}")?;
+        return Ok(ExitCode::SUCCESS);
+    }
     let ended = match BufWriter::new(rt.alloc(), rt.stdout()) {
         Ok(mut writer) => session(rt.alloc(), &mut rt.stdin(), &mut writer),
         Err(_) => Err(SessionFault::Memory),

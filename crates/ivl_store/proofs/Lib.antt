@@ -8,6 +8,7 @@ pub mod Families
 pub mod Keeping
 pub mod Lists
 pub mod Orders
+pub mod Partly
 pub mod Places
 pub mod Points
 pub mod Posting

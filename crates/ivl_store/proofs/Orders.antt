@@ -1,5 +1,5 @@
--- What a list of posts leaves does not depend on their order.
-use Rattle.std.proofs.Common.{◌≡◌, ℕ, List, [], ◌∷◌}
+-- What a list of posts leaves does not depend on their order, nor what constraints leave on that of their list.
+use Rattle.std.proofs.Common.{◌≡◌, ◌↔◌, ℕ, List, [], ◌∷◌}
 use Rattle.std.specs.Prelude.{ℤ, All}
 use Rattle.std.specs.List.Sorted.{IsPermutation}
 use Rattle.std.proofs.lemmas.List.Elements.{All-nil, All-cons}
@@ -10,8 +10,9 @@ use Rattle.ivl_store.specs.declared.store.constraint.Constraint.{Constraint}
 use Rattle.ivl_store.specs.declared.store.post.Post.{Post}
 use Rattle.ivl_store.specs.declared.store.post.Post.TheVariants.{Restrict, Require}
 use Rattle.ivl_laws.specs.Families.{set_at}
-use Rattle.ivl_store.specs.Solutions.{Supports}
+use Rattle.ivl_store.specs.Solutions.{Supports, IsGreatestFamily}
 use Rattle.ivl_store.specs.Posts.{constraints_of, OfConstraint, AllAllow, IsLeftBy}
+use Rattle.ivl_store.proofs.Families.{greatest_unique}
 
 -- what holds of the constraint of each post holds of each constraint among them
 pub constraints_all : {B O : Type 0} (P : Constraint → Type 0) (posts : List (Post B O)) → All (OfConstraint P) posts → All P (constraints_of posts)
@@ -64,3 +65,15 @@ left_ordered posts others p old family g =
           (λ i v h. let u = w i v h in (u.0, allowed_moved others posts q i v u.1))
           (constraints_moved (λ c. Supports c (set_at other)) others posts q s));
     }
+
+-- the greatest families for a list of constraints, and for it in another order, have the same members
+pub greatest_ordered : (constraints others : List Constraint) → IsPermutation constraints others → (old first second : List (List (ℤ × ℤ)))
+    → IsGreatestFamily constraints (set_at old) (set_at first) → IsGreatestFamily others (set_at old) (set_at second)
+    → (i : ℕ) (v : ℤ) → set_at first i v ↔ set_at second i v
+greatest_ordered constraints others p old first second g h =
+    let q = IsPermutation-sym constraints others p in
+    greatest_unique others (set_at old) first second (record {
+      within = g.within;
+      supported = All-permutation (λ c. Supports c (set_at first)) constraints others p g.supported;
+      greatest = (λ other w s. g.greatest other w (All-permutation (λ c. Supports c (set_at other)) others constraints q s));
+    }) h

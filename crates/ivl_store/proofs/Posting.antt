@@ -156,11 +156,11 @@ posted_none posts old constraints replies e f = record {
 }
 
 -- one more post stands at the end of those taken
-next_post : {B O : Type 0} (posts : List (Post B O)) (k : ℕ) (p : Post B O) → k < length posts → p ≡ get_or posts k p → take (k + 1) posts ≡ take k posts ++ p ∷ []
+pub next_post : {B O : Type 0} (posts : List (Post B O)) (k : ℕ) (p : Post B O) → k < length posts → p ≡ get_or posts k p → take (k + 1) posts ≡ take k posts ++ p ∷ []
 next_post posts k p lt e = take_more posts k p lt ∙ ap (λ q. take k posts ++ q ∷ []) (sym e)
 
 -- the constraints with those of one more post
-next_constraints : {B O : Type 0} (posts : List (Post B O)) (constraints : List Constraint) (k : ℕ) (p : Post B O) → k < length posts → p ≡ get_or posts k p
+pub next_constraints : {B O : Type 0} (posts : List (Post B O)) (constraints : List Constraint) (k : ℕ) (p : Post B O) → k < length posts → p ≡ get_or posts k p
     → constraints ≡ constraints_of (take k posts) → constraints ++ constraints_of (p ∷ []) ≡ constraints_of (take k posts ++ p ∷ [])
 next_constraints posts constraints k p lt e f = ap (λ cs. cs ++ constraints_of (p ∷ [])) f ∙ sym (constraints_of-append (take k posts) (p ∷ []))
 

@@ -11,7 +11,7 @@ use Rattle.ivl_store.specs.Rounds.{narrowed_by, rounds_of, IsNarrowedBy, After, 
 use Rattle.ivl_store.proofs.Rounds.{Narrowed-mono, none_lost}
 
 -- a larger family is left larger
-narrowed_by-mono : (constraints : List Constraint) (inner outer : ℕ → ℤ → Type 0) → LiesWithin inner outer
+pub narrowed_by-mono : (constraints : List Constraint) (inner outer : ℕ → ℤ → Type 0) → LiesWithin inner outer
     → LiesWithin (narrowed_by constraints inner) (narrowed_by constraints outer)
 narrowed_by-mono [] inner outer w = w
 narrowed_by-mono (c ∷ cs) inner outer w = narrowed_by-mono cs (Narrowed c inner) (Narrowed c outer) (Narrowed-mono c inner outer w)
@@ -30,7 +30,7 @@ rounds_of-more constraints zero sets i v = ((λ h. h), (λ h. h))
 rounds_of-more constraints (suc k) sets i v = rounds_of-more constraints k (narrowed_by constraints sets) i v
 
 -- a lost member, in sets that have the same members
-LostMember-same : (s s' t t' : ℕ → ℤ → Type 0) → ((i : ℕ) (v : ℤ) → s i v ↔ s' i v) → ((i : ℕ) (v : ℤ) → t i v ↔ t' i v) → LostMember s t → LostMember s' t'
+pub LostMember-same : (s s' t t' : ℕ → ℤ → Type 0) → ((i : ℕ) (v : ℤ) → s i v ↔ s' i v) → ((i : ℕ) (v : ℤ) → t i v ↔ t' i v) → LostMember s t → LostMember s' t'
 LostMember-same s s' t t' a b l = record {
   variable = l.variable;
   member = l.member;

@@ -4,6 +4,7 @@
 --     LaterLiesWithin posts      the greatest family for one more post lies within that for the posts before it
 --     LeftIsOne posts      two families that the posts leave have the same members
 --     OrderPlaysNoPart posts others      what the posts leave, the same posts leave in another order
+--     ListOrderPlaysNoPart cs others      the greatest families for a list of constraints, and for it in another order, have the same members
 --     IsFamilyOf cs point family      the family has at each variable that the constraints name the point's number, and no other
 --     SolutionIsFamily      a common solution within some domains is a supported family within them
 --     SolutionsStay      where no supported family loses a member, no common solution is lost
@@ -12,7 +13,7 @@ use Rattle.std.specs.List.Sorted.{IsPermutation}
 use Rattle.ivl_laws.specs.Families.{set_at}
 use Rattle.ivl_store.specs.declared.store.constraint.Constraint.{Constraint}
 use Rattle.ivl_store.specs.declared.store.post.Post.{Post}
-use Rattle.ivl_store.specs.Solutions.{SupportedBy, LiesWithin, IsCommonSolution}
+use Rattle.ivl_store.specs.Solutions.{SupportedBy, LiesWithin, IsCommonSolution, IsGreatestFamily}
 use Rattle.ivl_store.specs.Posts.{IsLeftBy}
 
 abbrev pub IsUnionOf : List (List (ℤ × ℤ)) → List (List (ℤ × ℤ)) → List (List (ℤ × ℤ)) → Type 0
@@ -33,6 +34,11 @@ LeftIsOne posts = (old first second : List (List (ℤ × ℤ))) → IsLeftBy pos
 abbrev pub OrderPlaysNoPart : {B O : Type 0} → List (Post B O) → List (Post B O) → Type 0
 OrderPlaysNoPart posts others = IsPermutation posts others
     → (old family : List (List (ℤ × ℤ))) → IsLeftBy posts (set_at old) (set_at family) → IsLeftBy others (set_at old) (set_at family)
+
+abbrev pub ListOrderPlaysNoPart : List Constraint → List Constraint → Type 0
+ListOrderPlaysNoPart constraints others = IsPermutation constraints others → (old first second : List (List (ℤ × ℤ)))
+    → IsGreatestFamily constraints (set_at old) (set_at first) → IsGreatestFamily others (set_at old) (set_at second)
+    → (i : ℕ) (v : ℤ) → set_at first i v ↔ set_at second i v
 
 pub record IsFamilyOf (constraints : List Constraint) (point : ℕ → ℤ) (family : List (List (ℤ × ℤ))) : Type 0 where
   pub solved : IsCommonSolution constraints (set_at family) point

@@ -9,7 +9,8 @@
 --     IsKnown count post      the post names only variables below the count
 --     unknown_in count post, first_unknown_post count posts      the first index that is not below it, in list order; `None` if there is none
 --     CutKeeps cs posts old new      the new sets only lack members, and none of a supported family within the cut
-use Rattle.std.specs.Prelude.{◌≡◌, ◌<◌, ◌+◌, ◌↔◌, ℕ, ℤ, Bool, false, IsTrue, List, [], ◌∷◌, length, take, slice_index_or, Option, Some, None, nat_le, if◌then◌else◌}
+--     IsPartlyPosted posts old new      some first posts leave these sets; or they leave others, which the next post cut, and its rounds partly settled
+use Rattle.std.specs.Prelude.{◌≡◌, ◌<◌, ◌≤◌, ◌+◌, ◌↔◌, ◌⊎◌, ℕ, ℤ, Bool, false, IsTrue, List, [], ◌∷◌, length, take, slice_index_or, Option, Some, None, nat_le, if◌then◌else◌}
 use Rattle.std.specs.Option.{option_or}
 use Rattle.ivl_laws.specs.Runs.{Covers}
 use Rattle.ivl_laws.specs.Families.{set_at}
@@ -18,6 +19,7 @@ use Rattle.ivl_store.specs.declared.store.post.Post.{Post}
 use Rattle.ivl_store.specs.declared.store.post.Post.TheVariants.{Restrict, Require}
 use Rattle.ivl_store.specs.Solutions.{IsGreatestFamily, LiesWithin, SupportedBy}
 use Rattle.ivl_store.specs.Narrowing.{AllPresent, first_unknown}
+use Rattle.ivl_store.specs.Rounds.{IsPartlySettled}
 
 abbrev pub constraints_of : {B O : Type 0} → List (Post B O) → List Constraint
 constraints_of [] = []
@@ -68,3 +70,10 @@ first_unknown_post count (post ∷ posts) = option_or (unknown_in count post) (f
 pub record CutKeeps {B O : Type 0} (constraints : List Constraint) (posts : List (Post B O)) (old new : List (List (ℤ × ℤ))) : Type 0 where
   pub within : LiesWithin (set_at new) (set_at old)
   pub families : (family : List (List (ℤ × ℤ))) → SupportedBy constraints (set_at family) → LiesWithin (set_at family) (Cut posts (set_at old)) → LiesWithin (set_at family) (set_at new)
+
+pub record IsPartlyPosted {B O : Type 0} (posts : List (Post B O)) (old new : List (List (ℤ × ℤ))) : Type 0 where
+  pub done : ℕ
+  pub in_list : done ≤ length posts
+  pub family : List (List (ℤ × ℤ))
+  pub left : IsLeftBy (take done posts) (set_at old) (set_at family)
+  pub next : (new ≡ family) ⊎ ((done < length posts) × IsPartlySettled (constraints_of (take (done + 1) posts)) (Cut (take (done + 1) posts) (set_at family)) (set_at new))

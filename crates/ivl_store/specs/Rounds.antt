@@ -6,6 +6,7 @@
 --     After cs n before after      n rounds leave these members
 --     AfterSome cs n j before after      n rounds do, and of the next the narrowings by the first j constraints
 --     EachLost cs n sets      each of the first n rounds takes a member
+--     IsPartlySettled cs before after      rounds that each take a member leave these members, or such rounds and some first narrowings of one more
 use Rattle.std.specs.Prelude.{◌↔◌, ◌<◌, ◌≤◌, ◌+◌, ℕ, zero, suc, ℤ, List, [], ◌∷◌, length, take}
 use Rattle.ivl_store.specs.declared.store.constraint.Constraint.{Constraint}
 use Rattle.ivl_store.specs.Solutions.{LostMember}
@@ -33,3 +34,10 @@ AfterSome constraints count first before after = IsNarrowedBy (take first constr
 
 abbrev pub EachLost : List Constraint → ℕ → (ℕ → ℤ → Type 0) → Type 0
 EachLost constraints count sets = (m : ℕ) → m < count → LostMember (rounds_of constraints m sets) (rounds_of constraints (m + 1) sets)
+
+pub record IsPartlySettled (constraints : List Constraint) (before after : ℕ → ℤ → Type 0) : Type 0 where
+  pub rounds : ℕ
+  pub narrowings : ℕ
+  pub in_list : narrowings ≤ length constraints
+  pub each_lost : EachLost constraints rounds before
+  pub left : AfterSome constraints rounds narrowings before after

@@ -1,7 +1,8 @@
 //! Bound types that a user could write.
 //!
-//! The crates below are proved generically. This crate has two types of bounds, [`bit`] and [`narrow`], which use every
-//! layer through the public contracts alone, and their ranges in plain numbers. `ivl_facts` replays answers over them.
+//! Intervals and sets are proved for any bound type that keeps the laws of `Width`. This crate has two, [`bit`] and
+//! [`narrow`], which keep these laws by the public contracts alone; [`ranges`] pins their ranges in plain numbers.
+//! `ivl_facts` replays answers over both.
 #![tactic(auto)]
 
 pub mod bit;

@@ -6,3 +6,6 @@ mod words;
 
 pub use numbers::{number_from, pairs_from};
 pub use words::{next_word, one_word, three_words, two_words};
+
+/// The version of these crates, which the programs print.
+pub const VERSION: &str = "1.0.0";

@@ -1,8 +1,8 @@
 //! Edits in place: members are added to a set and removed from it.
-ghost use Rattle.std.specs.Prelude.{◌≡◌, ◌↔◌, ◌<◌, ◌≤◌, ℤ, ◌≤ℤ◌, [], None, Some, IfNone, IfOk, IfSome, IsOk, IsTrue, OnErr, OnOk, length};
-ghost use Rattle.ivl_laws.specs.Sets.{IsBetween, Only, Union, Without};
+ghost use Rattle.std.specs.Prelude.{◌≡◌, ◌↔◌, ◌+◌, ◌<◌, ◌≤◌, ℤ, ◌≤ℤ◌, [], None, Some, IfNone, IfOk, IfSome, IsOk, IsTrue, OnErr, OnOk, length};
+ghost use Rattle.ivl_laws.specs.Sets.{HasNone, HasSome, Intersection, IsBetween, IsSubset, Only, Union, Without};
 ghost use Rattle.ivl_laws.specs.Runs.{Covers, IsRunListIn, IsRunsOf};
-ghost use Rattle.intervallum.specs.Edits.{replaced};
+ghost use Rattle.intervallum.specs.Edits.{replaced, widened};
 
 mod spans;
 mod splices;
@@ -40,6 +40,8 @@ impl<B: Width> IntervalSet<B> {
         ensures members { OnOk result (IsRunsOf self.new (Union (Covers self.old) (Only (B.value value)))) }
         ensures is_new { IfOk result (λ is_new. IsTrue is_new ↔ ¬ (Covers self.old (B.value value))) }
         ensures err { OnErr result (self.new ≡ self.old) }
+        // it cannot fail where the value or a number next to it is a member
+        ensures in_place { HasSome (Intersection (Covers self.old) (IsBetween (widened (B.value value, B.value value)))) → IsOk result }
     {
         self.in_whole();
         if self.contains(&value) {
@@ -68,6 +70,8 @@ impl<B: Width> IntervalSet<B> {
         ensures members { OnOk result (IsRunsOf self.new (Without (Covers self.old) (Only (B.value value)))) }
         ensures was_member { IfOk result (λ was_member. IsTrue was_member ↔ Covers self.old (B.value value)) }
         ensures err { OnErr result (self.new ≡ self.old) }
+        // it cannot fail unless the value and both numbers next to it are members
+        ensures in_place { ¬ (IsSubset (IsBetween (widened (B.value value, B.value value))) (Covers self.old)) → IsOk result }
     {
         self.in_whole();
         if !self.contains(&value) {
@@ -96,6 +100,9 @@ impl<B: Width> IntervalSet<B> {
     pub fn insert_interval(&mut self, interval: Interval<B>) -> Result<(), AllocError>
         ensures ok { OnOk result (IsRunsOf self.new (Union (Covers self.old) (IsBetween interval))) }
         ensures err { OnErr result (self.new ≡ self.old) }
+        ensures empty { HasNone (IsBetween interval) → IsOk result }
+        // it cannot fail where it overlaps or touches a run
+        ensures in_place { HasSome (Intersection (Covers self.old) (IsBetween (widened interval))) → IsOk result }
     {
         let runs = self.as_runs();
         if interval.is_empty() {
@@ -125,6 +132,9 @@ impl<B: Width> IntervalSet<B> {
     pub fn remove_interval(&mut self, interval: Interval<B>) -> Result<(), AllocError>
         ensures ok { OnOk result (IsRunsOf self.new (Without (Covers self.old) (IsBetween interval))) }
         ensures err { OnErr result (self.new ≡ self.old) }
+        ensures empty { HasNone (IsBetween interval) → IsOk result }
+        // it cannot fail unless it lies inside a run and splits it
+        ensures in_place { ¬ (IsSubset (IsBetween (widened interval)) (Covers self.old)) → IsOk result }
     {
         let runs = self.as_runs();
         if interval.is_empty() {
@@ -220,6 +230,8 @@ impl<B: Width> IntervalSet<B> {
         ensures ok { OnOk result (self.new ≡ replaced self.old start end first second) }
         ensures err { OnErr result (self.new ≡ self.old) }
         ensures in_place { second ≡ None → start < end → IsOk result }
+        ensures in_place_above { first ≡ None → start < end → IsOk result }
+        ensures in_place_of_two { start + 1 < end → IsOk result }
     {
         let gone = total_size(&self.intervals[start..end]);
         let kept = shrunk::<B>(self.size, gone);

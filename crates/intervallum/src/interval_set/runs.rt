@@ -1,5 +1,5 @@
 //! How a run list is read and made: a set is built by pushing runs at its end, or from a list of runs and its size.
-ghost use Rattle.std.specs.Prelude.{◌≡◌, ◌↔◌, ◌+◌, ◌<◌, ◌≤◌, ℕ, pos, ◌+ℤ◌, ◌-ℤ◌, ◌≤ℤ◌, [], ◌∷◌, ◌++◌, IsTrue, IfOk, OnOk, OnErr, length};
+ghost use Rattle.std.specs.Prelude.{◌≡◌, ◌↔◌, ◌+◌, ◌<◌, ◌≤◌, ℕ, pos, ◌+ℤ◌, ◌-ℤ◌, ◌≤ℤ◌, [], ◌∷◌, ◌++◌, ◌-◌, IsTrue, IfOk, OnOk, OnErr, Some, length, slice_get, vec_capacity, vec_len};
 ghost use Rattle.ivl_laws.specs.Sets.{IsBetween, IsSubset};
 ghost use Rattle.ivl_laws.specs.Runs.{AddsRun, Covers, IsMaximal, IsRunListIn, StartsBy};
 ghost use Rattle.ivl_laws.specs.Counts.{IsCountOf};
@@ -11,6 +11,7 @@ use crate::interval::Interval;
 use crate::ops::{Bounded, Cardinality, IsEmpty, Range, StrictShrinkLeft};
 use crate::width::{SizeNumber, Width};
 use std::alloc::{AllocError, Global};
+use std::hint::select_unpredictable;
 
 impl<B: Width> IntervalSet<B> {
     /// The runs as a slice.
@@ -159,11 +160,34 @@ fn joins<B: Width>(last: &Interval<B>, run: &Interval<B>) -> bool
     ensures { IsTrue result ↔ (run.now.0 ≤ℤ (last.now.1 +ℤ pos 1)) }
 {
     let (end, start) = (last.upper(), run.lower());
-    if start <= end {
-        true
-    } else {
-        B::width(&end, &start).number() <= 2
-    }
+    // by one comparison: the width is one where the run starts no higher than the other ends
+    B::width(&end, &start.max(end)).number() <= 2
+}
+
+/// Adds a run that starts no lower than the last one, in room that is reserved, and returns the run
+/// that is then the last. The last run is written again unless the new one is apart from it, so that
+/// no branch hangs on their values.
+pub(crate) fn add_reserved<B: Width>(
+    runs: &mut Vec<Interval<B>>,
+    last: Interval<B>,
+    run: Interval<B>,
+) -> Interval<B>
+    requires room { vec_len runs.old < vec_capacity runs.old }
+    requires maximal { IsMaximal runs.old.items }
+    requires last { Some last ≡ slice_get runs.old.items (length runs.old.items - 1) }
+    requires filled { run.0 ≤ℤ run.1 }
+    requires in_order { StartsBy run.0 runs.old.items }
+    ensures adds { AddsRun runs.old.items run runs.new.items }
+    ensures last { Some result ≡ slice_get runs.new.items (length runs.new.items - 1) }
+    ensures count { vec_len runs.new ≤ vec_len runs.old + 1 }
+    ensures capacity { vec_capacity runs.new ≡ vec_capacity runs.old }
+{
+    let is_joined = joins(&last, &run);
+    let lower = select_unpredictable(is_joined, last.lower(), run.lower());
+    let next = Interval::new(lower, last.upper().max(run.upper()));
+    runs.truncate(runs.len() - usize::from(is_joined));
+    runs.push_reserved(next);
+    next
 }
 
 /// How many numbers of a run lie above another run's end.

@@ -44,16 +44,12 @@ fn common_runs<B: Width>(
     // no memory holds more runs than a `usize` counts
     let room = first.left().checked_add(second.left()).ok_or(AllocError)?;
     let mut runs = Vec::with_capacity(first.alloc(), room)?;
-    let mut a = first.take();
-    let mut b = second.take();
-    'walk: while let Some(heads) = a.zip(b) {
+    'walk: while let Some(heads) = heads(&first, &second) {
         let (run, other) = heads;
         push_reserved_part(&mut runs, run.intersection(&other));
-        if run.upper() <= other.upper() {
-            a = first.take();
-        } else {
-            b = second.take();
-        }
+        let ends_first = run.upper() <= other.upper();
+        first.advance_if(ends_first);
+        second.advance_if(!ends_first);
     }
     Ok(runs)
 }
@@ -81,9 +77,9 @@ pub(super) fn push_reserved_part<B: Width>(runs: &mut Vec<Interval<B>>, part: In
     ensures count { vec_len runs.new ≤ vec_len runs.old + 1 }
     ensures capacity { vec_capacity runs.new ≡ vec_capacity runs.old }
 {
-    if !part.is_empty() {
-        runs.push_reserved(part);
-    }
+    // written, and dropped again if it has none: no branch hangs on the values
+    runs.push_reserved(part);
+    runs.truncate(runs.len() - usize::from(part.is_empty()));
 }
 
 /// Whether the runs left in two walks have a member in common. Advances at most once for each of

@@ -1,5 +1,5 @@
 //! The runs of a set, read one at a time by looks that contracts count.
-ghost use Rattle.std.specs.Prelude.{◌≡◌, ◌+◌, ◌-◌, ◌^◌, ◌<◌, ◌≤◌, ◌≤ℤ◌, Some, drop, length, slice_get, take};
+ghost use Rattle.std.specs.Prelude.{◌≡◌, ◌+◌, ◌^◌, ◌<◌, ◌≤ℤ◌, Some, length, slice_get};
 ghost use Rattle.ivl_laws.specs.Runs.{IsRunListIn};
 
 use crate::interval::Interval;
@@ -93,16 +93,5 @@ impl<'a, B: Width> Probes<'a, B> {
         ensures counted { length self.now.runs < 2 ^ 64 }
     {
         self.len();
-    }
-
-    /// The runs from place `start` to before place `end`, to be copied. This is not a look.
-    pub(crate) fn part(&self, start: usize, end: usize) -> &'a [Interval<B>]
-        requires in_order { start ≤ end }
-        requires at_most { end ≤ length self.now.runs }
-        ensures part { result.now ≡ take (end - start) (drop start self.now.runs) }
-        ensures runs { IsRunListIn B.whole self.now.runs }
-    {
-        let runs = self.runs;
-        &runs[start..end]
     }
 }

@@ -1,8 +1,9 @@
 //! A walk over the runs of a set, from the left.
-ghost use Rattle.std.specs.Prelude.{◌≡◌, ◌≢◌, ℕ, ◌+◌, ◌≤◌, ℤ, [], ◌∷◌, IfSome, None, length, slice_get};
+ghost use Rattle.std.specs.Prelude.{◌≡◌, ◌≢◌, ℕ, ◌+◌, ◌≤◌, ℤ, [], ◌∷◌, IfSome, IsTrue, None, length, slice_get};
+ghost use Rattle.std.specs.Int.{from_bool};
 ghost use Rattle.ivl_laws.specs.Sets.{HasSome, IsBetween};
 ghost use Rattle.ivl_laws.specs.Runs.{IsRunListIn};
-ghost use Rattle.intervallum.specs.Led.{led_by};
+ghost use Rattle.intervallum.specs.Led.{IsTakenIf, led_by};
 
 use crate::interval::Interval;
 use crate::interval_set::IntervalSet;
@@ -90,6 +91,16 @@ impl<'a, B: Width> Walk<'a, B> {
         ensures count { self.new.count ≡ self.old.count }
     {
         self.taken += 1;
+    }
+
+    /// Takes the first run that is left if a condition holds: the place moves by it, with no branch.
+    pub(crate) fn advance_if(&mut self, condition: bool)
+        requires { IsTrue condition → self.old.left ≢ [] }
+        ensures taken { IsTakenIf condition self.old.left self.new.left }
+        ensures advances { self.new.advances ≡ self.old.advances + from_bool condition }
+        ensures count { self.new.count ≡ self.old.count }
+    {
+        self.taken += usize::from(condition);
     }
 
     /// Takes the first run that is left, if there is one.

@@ -1,6 +1,6 @@
 //! What is refused, which reason is told, and that the registers stay.
 use super::{check_register, set};
-use crate::compare::{check, made};
+use crate::compare::{check, check_printed, made};
 use ivl_calc::calc::{Calc, Command, Refusal, Reply};
 use std::alloc::Global;
 use std::process::Abort;
@@ -87,4 +87,18 @@ fn no_register_is_no_answer(rt: HostRuntime) {
         Command::Show(0),
     ];
     check_refused(&rt, &mut calc, &commands, &[Refusal::Register; 25]);
+}
+
+const TEXTS: [(Refusal, &str); 4] = [
+    (Refusal::Register, "refused 1 register"),
+    (Refusal::Range, "refused 2 range"),
+    (Refusal::Fit, "refused 3 fit"),
+    (Refusal::Memory, "refused 4 memory"),
+];
+
+#[test]
+fn texts_of_refusals(rt: HostRuntime) {
+    for &(refusal, text) in &TEXTS {
+        check_printed(&rt, &refusal, text);
+    }
 }

@@ -1,7 +1,7 @@
 //! Tests of the condition of [`Store::post_all`].
 ghost use Rattle.std.specs.Prelude.{◌≡◌, ◌↔◌, ℕ, ℤ, List, All, Err, IfOk, IsNone, IsSome, IsTrue, MatchOption, None, Some, length, ⊤};
 ghost use Rattle.ivl_laws.specs.Families.{set_at};
-ghost use Rattle.ivl_store.specs.Posts.{AnswersPosts, Cut, IsLeftBy, OfConstraint, constraints_of, first_unknown_post as first_unknown_in_posts};
+ghost use Rattle.ivl_store.specs.Posts.{AnswersPosts, Cut, IsLeftBy, IsPartlyPosted, OfConstraint, constraints_of, first_unknown_post as first_unknown_in_posts};
 ghost use Rattle.ivl_store.specs.Solutions.{AreDistinct, LiesWithin, SupportedBy};
 
 use super::{Post, Store, StoreFault};
@@ -46,6 +46,7 @@ pub fn post_if_distinct<B: Width>(
     ensures unknown { (i : ℕ) → (result ≡ Err (StoreFault.Variable i)) ↔ (All AreDistinct (constraints_of posts.now) × (first_unknown_in_posts (length store.old) posts.now ≡ Some i)) }
     ensures unchanged { (i : ℕ) → result ≡ Err (StoreFault.Variable i) → store.new ≡ store.old }
     ensures memory { result ≡ Err StoreFault.Memory → All AreDistinct (constraints_of posts.now) × (first_unknown_in_posts (length store.old) posts.now ≡ None) }
+    ensures partly { result ≡ Err StoreFault.Memory → IsPartlyPosted posts.now store.old store.new }
 
     // Whatever is returned, domains only lose members, and no family loses one that the posts leave it.
     ensures kept_count { length store.new ≡ length store.old }

@@ -1,7 +1,7 @@
 //! The laws of supported families. Each function here does nothing: its contract is the law.
-ghost use Rattle.ivl_store.specs.FamilyLaws.{LaterLiesWithin, LeftIsOne, OrderPlaysNoPart, SolutionIsFamily, SolutionsStay, UnionIsSupported};
+ghost use Rattle.ivl_store.specs.FamilyLaws.{LaterLiesWithin, LeftIsOne, ListOrderPlaysNoPart, OrderPlaysNoPart, SolutionIsFamily, SolutionsStay, UnionIsSupported};
 
-use super::Post;
+use super::{Constraint, Post};
 use intervallum::width::Width;
 
 /// The union, domain by domain, of two families that the constraints support is supported too.
@@ -22,6 +22,12 @@ pub fn left_is_one<B: Width>(posts: &[Post<B>])
 /// Posts leave the same family in any order.
 pub fn order_plays_no_part<B: Width>(posts: &[Post<B>], others: &[Post<B>])
     ensures { OrderPlaysNoPart posts.now others.now }
+{}
+
+/// Where [`Store::propagate`](super::Store::propagate) leaves the greatest domains, the same constraints in
+/// another order leave domains with the same members.
+pub fn list_order_plays_no_part(constraints: &[Constraint], others: &[Constraint])
+    ensures { ListOrderPlaysNoPart constraints.now others.now }
 {}
 
 /// A point that solves all the constraints within some domains is the only point of a supported

@@ -1,9 +1,10 @@
 //! Posts, taken one by one, with a reply to each.
-ghost use Rattle.std.specs.Prelude.{◌≡◌, ◌↔◌, ◌<◌, ◌++◌, ◌∷◌, [], ℕ, ℤ, List, All, Err, IfOk, IsTrue, OnErr, OnOk, Some, false, length};
+ghost use Rattle.std.specs.Prelude.{◌≡◌, ◌↔◌, ◌<◌, ◌⊎◌, ◌++◌, ◌∷◌, [], ℕ, ℤ, List, All, Err, IfOk, IsTrue, OnErr, OnOk, Some, false, length};
 ghost use Rattle.ivl_laws.specs.Runs.{Covers};
 ghost use Rattle.ivl_laws.specs.Families.{set_at};
 ghost use Rattle.ivl_store.specs.Narrowing.{AllPresent, IsFixed, Keeps};
-ghost use Rattle.ivl_store.specs.Posts.{AnswersPosts, Cut, CutKeeps, HasEmpty, IsKnown, IsLeftBy, constraints_of, first_unknown_post as first_unknown_in_posts};
+ghost use Rattle.ivl_store.specs.Posts.{AnswersPosts, Cut, CutKeeps, HasEmpty, IsKnown, IsLeftBy, IsPartlyPosted, constraints_of, first_unknown_post as first_unknown_in_posts};
+ghost use Rattle.ivl_store.specs.Rounds.{IsPartlySettled};
 ghost use Rattle.ivl_store.specs.Settled.{AreSettled};
 ghost use Rattle.ivl_store.specs.Solutions.{AreDistinct, IsCommonSolution, IsGreatestFamily, LiesWithin, SupportedBy};
 
@@ -62,6 +63,9 @@ impl<B: Width> Store<B> {
         // Each reply speaks of the greatest family for the posts up to its own; the domains are that for all of them.
         ensures replies { IfOk result (λ replies. AnswersPosts posts.now self.old replies.items) }
         ensures left { OnOk result (IsLeftBy posts.now (set_at self.old) (set_at self.new)) }
+
+        // Out of memory: what some first posts leave, or what the cut of one more leaves of that, and the narrowings made since.
+        ensures memory { result ≡ Err StoreFault.Memory → IsPartlyPosted posts.now self.old self.new }
     {
         if let Some(i) = first_unknown_post(posts, self.domains.len()) {
             return Err(StoreFault::Variable(i));
@@ -77,6 +81,7 @@ impl<B: Width> Store<B> {
         ensures keeps { CutKeeps (constraints_of posts.now) posts.now self.old self.new }
         ensures replies { IfOk result (λ replies. AnswersPosts posts.now self.old replies.items) }
         ensures left { OnOk result (IsLeftBy posts.now (set_at self.old) (set_at self.new)) }
+        ensures memory { OnErr result (IsPartlyPosted posts.now self.old self.new) }
     {
         let mut replies = Vec::with_capacity(self.alloc, posts.len())?;
         let mut constraints = Vec::with_capacity(self.alloc, posts.len())?;
@@ -108,6 +113,7 @@ impl<B: Width> Store<B> {
         ensures left { OnOk result (All AreDistinct constraints.new.items → IsGreatestFamily constraints.new.items (Cut (post.now ∷ []) (set_at self.old)) (set_at self.new)) }
         ensures reply { IfOk result (λ b. IsTrue b ↔ HasEmpty (length self.new) (set_at self.new)) }
         ensures settled { OnOk result (AreSettled constraints.new.items settled.new.items (set_at self.new)) }
+        ensures memory { OnErr result ((self.new ≡ self.old) ⊎ IsPartlySettled (constraints.old.items ++ constraints_of (post.now ∷ [])) (Cut (post.now ∷ []) (set_at self.old)) (set_at self.new)) }
     {
         self.admit(post, constraints, settled)?;
         self.settle(constraints, settled)?;
@@ -168,6 +174,7 @@ impl<B: Width> Store<B> {
         ensures keeps { Keeps constraints.now self.old self.new }
         ensures fixed { IfOk result (λ _. All (IsFixed (set_at self.new)) constraints.now) }
         ensures settled { OnOk result (AreSettled constraints.now settled.new.items (set_at self.new)) }
+        ensures memory { OnErr result (IsPartlySettled constraints.now (set_at self.old) (set_at self.new)) }
     {
         while self.round(constraints, settled)? {}
         Ok(())

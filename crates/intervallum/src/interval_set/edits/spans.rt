@@ -1,8 +1,8 @@
 //! Which runs of a set an edit changes.
-ghost use Rattle.std.specs.Prelude.{◌≡◌, ◌⊎◌, ◌<◌, ◌≤◌, pos, ◌+ℤ◌, ◌-ℤ◌, ◌≤ℤ◌, [], None, Some, drop, length, take};
-ghost use Rattle.ivl_laws.specs.Sets.{IsBetween, Union, Without};
+ghost use Rattle.std.specs.Prelude.{◌≡◌, ◌⊎◌, ◌+◌, ◌<◌, ◌≤◌, pos, ◌+ℤ◌, ◌-ℤ◌, ◌≤ℤ◌, [], None, Some, drop, length, take};
+ghost use Rattle.ivl_laws.specs.Sets.{IsBetween, IsSubset, Union, Without};
 ghost use Rattle.ivl_laws.specs.Runs.{Covers, IsMaximal, IsRunsOf, StartsBy};
-ghost use Rattle.intervallum.specs.Edits.{IsSpan, replaced};
+ghost use Rattle.intervallum.specs.Edits.{IsSpan, replaced, widened};
 ghost use Rattle.intervallum.specs.Led.{led_by};
 ghost use Rattle.intervallum.specs.Places.{EndBelow, EndsFrom, StartAbove};
 
@@ -90,7 +90,9 @@ pub(super) fn rests<B: Width>(
     requires maximal { IsMaximal runs.now }
     requires span { IsSpan runs.now interval.0 interval.1 start end }
     requires some { start < end }
-    ensures { IsRunsOf (replaced runs.now start end result.0 result.1) (Without (Covers runs.now) (IsBetween interval)) }
+    ensures rest { IsRunsOf (replaced runs.now start end result.0 result.1) (Without (Covers runs.now) (IsBetween interval)) }
+    // two parts of one run
+    ensures split { (p : _) (q : _) → end ≡ start + 1 → result.0 ≡ Some p → result.1 ≡ Some q → IsSubset (IsBetween (widened interval)) (Covers runs.now) }
 {
     let below = runs[start].strict_shrink_right(interval.lower());
     let above = runs[end - 1].strict_shrink_left(interval.upper());

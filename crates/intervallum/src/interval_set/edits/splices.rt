@@ -36,6 +36,8 @@ pub(super) fn replace_runs<B: Width>(
     ensures ok { OnOk result (runs.new.items ≡ replaced runs.old.items start end first second) }
     ensures err { OnErr result (runs.new.items ≡ runs.old.items) }
     ensures in_place { second ≡ None → start < end → IsOk result }
+    ensures in_place_above { first ≡ None → start < end → IsOk result }
+    ensures in_place_of_two { start + 1 < end → IsOk result }
 {
     match (first, second) {
         (None, None) => {

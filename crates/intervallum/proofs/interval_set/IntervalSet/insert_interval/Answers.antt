@@ -1,11 +1,13 @@
-use Rattle.std.proofs.Common.{inl, inr, None, Some, ℤ, List, subst, sym}
+use Rattle.std.proofs.Common.{inl, inr, refl, None, Some, ℤ, List, subst, sym}
 use Rattle.std.proofs.lemmas.Result.{on_ok_weaker}
 use Rattle.ivl_laws.specs.Sets.{IsBetween, Union}
 use Rattle.ivl_laws.specs.Runs.{Covers, IsRunsOf}
 use Rattle.ivl_laws.proofs.Adding.{untrue}
 use Rattle.ivl_laws.proofs.Intervals.{not_crossed}
 use Rattle.ivl_laws.proofs.Ranges.{IsRunListIn-runs}
-use Rattle.intervallum.specs.Edits.{replaced}
+use Rattle.ivl_laws.proofs.Runs.{lower_end}
+use Rattle.intervallum.specs.Edits.{replaced, widened}
+use Rattle.intervallum.proofs.Allocating.{some_in_span}
 use Rattle.intervallum.proofs.Sweeping.{adds_nothing}
 use Rattle.intervallum.proofs.interval_set.IntervalSet.insert_interval.Goals as goal
 
@@ -44,3 +46,9 @@ returns-clause-err g c = c.replace.ensures.err
 
 pub returns-then-is_empty-clause-ok : goal.returns-then-is_empty-clause-ok
 returns-then-is_empty-clause-ok g c = adds_nothing c.args.self.now c.args.interval c.as_runs-runs.ensures.runs.maximal (c.is_empty.ensures.crossed.0 c.if-is_empty.true)
+
+pub returns-clause-empty : goal.returns-clause-empty
+returns-clause-empty g c = λ none. absurd (none c.args.interval.0 (lower_end c.args.interval (not_crossed c.args.interval (untrue _ c.if-is_empty.false c.is_empty.ensures.crossed))))
+
+pub returns-clause-in_place : goal.returns-clause-in_place
+returns-clause-in_place g c = λ some. c.replace.ensures.in_place refl (some_in_span c.args.self.now (widened c.args.interval) c.touched-start.result.0 c.touched-start.result.1 c.as_runs-runs.ensures.runs.maximal c.touched-start.ensures some)

@@ -6,5 +6,5 @@ use Rattle.intervallum.proofs.interval_set.few.common_with_few.Given as goal
 -- what is written is what the runs so far have in common with the many
 abbrev pub invariant-loop-run : goal.invariant-loop-run
 invariant-loop-run g l =
-    (l.many.runs ≡ l.fn.many.runs) × (l.run-items ≡ l.fn.few) × IsMaximal l.run-items × SharedSoFar l.run-items l.fn.many.runs l.set l.run-index l.from
-    × ((digits : ℕ) → length l.fn.many.runs + 1 < 2 ^ digits → l.many.looks ≤ l.fn.many.looks + l.run-index * (4 * digits))
+    (l.probes.runs ≡ l.fn.many) × (l.run-items ≡ l.fn.few) × IsMaximal l.run-items × SharedSoFar l.run-items l.fn.many l.set l.run-index l.from
+    × ((digits : ℕ) → length l.fn.many + 1 < 2 ^ digits → l.probes.looks ≤ l.fn.probes.looks + l.run-index * (4 * digits))

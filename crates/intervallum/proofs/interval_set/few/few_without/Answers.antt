@@ -1,6 +1,3 @@
-use Rattle.std.proofs.Common.{ℤ, List, subst}
-use Rattle.ivl_laws.specs.Sets.{Intersection}
-use Rattle.ivl_laws.specs.Runs.{Covers, IsRunsOf}
 use Rattle.intervallum.proofs.Few.{without_shared}
 use Rattle.intervallum.proofs.interval_set.few.few_without.Goals as goal
 
@@ -10,5 +7,5 @@ returns g c =
     let shared = c.in_ok-shared.shared in
     record {
       members = without_shared c.without.result c.new-2.result.left c.new-3.result.left few shared c.args.many.now c.new-2.ensures.left c.new-3.ensures.left
-          (subst (λ (M : List (ℤ × ℤ)). IsRunsOf shared (Intersection (Covers few) (Covers M))) c.new.ensures.runs c.in_ok-shared.ensures.members) c.without.ensures.members;
+          c.in_ok-shared.ensures.members c.without.ensures.members;
     }

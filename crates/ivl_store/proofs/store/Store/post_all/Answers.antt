@@ -18,3 +18,6 @@ returns-in_err-post_known-clause-solutions g c =
 pub returns-clause-solutions : goal.returns-clause-solutions
 returns-clause-solutions g c =
     solutions_kept (constraints_of c.args.posts.now) (Cut c.args.posts.now (set_at c.args.self.now)) (set_at c.post_known.new.self) c.post_known.ensures.keeps.families
+
+pub returns-in_err-post_known-clause-memory : goal.returns-in_err-post_known-clause-memory
+returns-in_err-post_known-clause-memory g c = λ _. c.in_err-post_known.ensures.memory

@@ -1,5 +1,7 @@
-use Rattle.std.proofs.Common.{◌≡◌, ◌∙◌, ◌+◌, ◌≤◌, ap, arith, length}
+use Rattle.std.proofs.Common.{◌≡◌, ◌∙◌, ◌+◌, ◌≤◌, ap, arith, length, refl}
 use Rattle.std.specs.Vec.{vec_len, vec_capacity}
+use Rattle.ivl_store.proofs.Partly.{nothing_posted, partly_posted}
+use Rattle.ivl_store.proofs.Steps.{on_err}
 use Rattle.ivl_store.proofs.Posting.{posted_present, posted_keeps, posted_step, posted_left, left_keeps}
 use Rattle.ivl_store.proofs.store.Store.post_known.Goals as goal
 
@@ -34,3 +36,18 @@ returns-clause-keeps g c =
 pub returns-clause-left : goal.returns-clause-left
 returns-clause-left g c =
     posted_left c.args.posts.now c.args.self.now c.loop-post.self c.loop-post.constraints.items c.loop-post.replies.items c.loop-post.post-index c.loop-post-test.false c.loop-post.invariant.0
+
+pub returns-in_err-replies-clause-memory : goal.returns-in_err-replies-clause-memory
+returns-in_err-replies-clause-memory g c = on_err c.from_residual.result _ (nothing_posted c.args.posts.now c.args.self.now c.args.self.now refl)
+
+pub returns-in_err-constraints-clause-memory : goal.returns-in_err-constraints-clause-memory
+returns-in_err-constraints-clause-memory g c = on_err c.from_residual-in_err-constraints.result _ (nothing_posted c.args.posts.now c.args.self.now c.args.self.now refl)
+
+pub returns-in_err-settled-clause-memory : goal.returns-in_err-settled-clause-memory
+returns-in_err-settled-clause-memory g c = on_err c.from_residual-in_err-settled.result _ (nothing_posted c.args.posts.now c.args.self.now c.args.self.now refl)
+
+pub returns-in_err-reply-clause-memory : goal.returns-in_err-reply-clause-memory
+returns-in_err-reply-clause-memory g c =
+    on_err c.from_residual-in_err-reply.result _
+    (partly_posted c.args.posts.now c.args.self.now c.loop-post.self c.take_post.new.self c.loop-post.constraints.items c.loop-post.replies.items c.loop-post.post-index c.post-item.result
+    c.loop-post-test.true c.post-item.is c.loop-post.invariant.0 c.in_err-reply.ensures.memory)

@@ -43,6 +43,9 @@ returns-in_err-post_all-clause-memory g c = λ is. (
   none_unknown _ c.in_err-post_all.field-0.0 (passed_on _ _ _ c.from_residual.ensures.1 is) c.in_err-post_all.ensures.unknown,
 )
 
+pub returns-in_err-post_all-clause-partly : goal.returns-in_err-post_all-clause-partly
+returns-in_err-post_all-clause-partly g c = λ is. c.in_err-post_all.ensures.memory (ap Err (sym (passed_on _ _ _ c.from_residual.ensures.1 is)))
+
 pub returns-clause-unknown : goal.returns-clause-unknown
 returns-clause-unknown g c = λ i. (
   (λ is. no_fault _ _ is),
