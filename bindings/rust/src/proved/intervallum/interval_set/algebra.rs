@@ -89,9 +89,9 @@ impl<B: Width> Intersection<IntervalSet<B>> for IntervalSet<B> {
     /// Words: [`IsRunsOf`](crate::definitions#IsRunsOf), [`Intersection`](crate::definitions#Intersection), [`Covers`](crate::definitions#Covers).
     fn intersection(&self, other: &IntervalSet<B>) -> Result<IntervalSet<B>, AllocError> {
         if is_far_shorter(self, other) {
-            common_with_few(self, &mut Probes::new(other))
+            common_with_few(self, other, &mut Probes::new(other))
         } else if is_far_shorter(other, self) {
-            common_with_few(other, &mut Probes::new(self))
+            common_with_few(other, self, &mut Probes::new(self))
         } else {
             common(Walk::new(self), Walk::new(other))
         }

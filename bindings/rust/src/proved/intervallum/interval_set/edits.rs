@@ -47,9 +47,10 @@ impl<B: Width> IntervalSet<B> {
     /// ensures members { OnOk result (IsRunsOf self.new (Union (Covers self.old) (Only (B.value value)))) }
     /// ensures is_new { IfOk result (λ is_new. IsTrue is_new ↔ ¬ (Covers self.old (B.value value))) }
     /// ensures err { OnErr result (self.new ≡ self.old) }
+    /// ensures in_place { HasSome (Intersection (Covers self.old) (IsBetween (widened (B.value value, B.value value)))) → IsOk result }
     /// ```
     ///
-    /// Words: [`IsBetween`](crate::definitions#IsBetween), [`IsRunsOf`](crate::definitions#IsRunsOf), [`Union`](crate::definitions#Union), [`Covers`](crate::definitions#Covers), [`Only`](crate::definitions#Only).
+    /// Words: [`IsBetween`](crate::definitions#IsBetween), [`IsRunsOf`](crate::definitions#IsRunsOf), [`Union`](crate::definitions#Union), [`Covers`](crate::definitions#Covers), [`Only`](crate::definitions#Only), [`HasSome`](crate::definitions#HasSome), [`Intersection`](crate::definitions#Intersection).
     pub fn insert(&mut self, value: B) -> Result<bool, AllocError> {
         debug_assert!({ #[allow(unused_imports)] use crate::proved::ivl_interval::ops::*; Interval::in_range(value, value) }, "{}", "the condition of `insert` is broken: Interval::in_range(value, value)");
         self.in_whole();
@@ -87,9 +88,10 @@ impl<B: Width> IntervalSet<B> {
     /// ensures members { OnOk result (IsRunsOf self.new (Without (Covers self.old) (Only (B.value value)))) }
     /// ensures was_member { IfOk result (λ was_member. IsTrue was_member ↔ Covers self.old (B.value value)) }
     /// ensures err { OnErr result (self.new ≡ self.old) }
+    /// ensures in_place { ¬ (IsSubset (IsBetween (widened (B.value value, B.value value))) (Covers self.old)) → IsOk result }
     /// ```
     ///
-    /// Words: [`IsRunsOf`](crate::definitions#IsRunsOf), [`Without`](crate::definitions#Without), [`Covers`](crate::definitions#Covers), [`Only`](crate::definitions#Only).
+    /// Words: [`IsRunsOf`](crate::definitions#IsRunsOf), [`Without`](crate::definitions#Without), [`Covers`](crate::definitions#Covers), [`Only`](crate::definitions#Only), [`IsSubset`](crate::definitions#IsSubset), [`IsBetween`](crate::definitions#IsBetween).
     pub fn remove(&mut self, value: B) -> Result<bool, AllocError> {
         self.in_whole();
         if !self.contains(&value) {
@@ -126,9 +128,11 @@ impl<B: Width> IntervalSet<B> {
     /// ```text
     /// ensures ok { OnOk result (IsRunsOf self.new (Union (Covers self.old) (IsBetween interval))) }
     /// ensures err { OnErr result (self.new ≡ self.old) }
+    /// ensures empty { HasNone (IsBetween interval) → IsOk result }
+    /// ensures in_place { HasSome (Intersection (Covers self.old) (IsBetween (widened interval))) → IsOk result }
     /// ```
     ///
-    /// Words: [`IsRunsOf`](crate::definitions#IsRunsOf), [`Union`](crate::definitions#Union), [`Covers`](crate::definitions#Covers), [`IsBetween`](crate::definitions#IsBetween).
+    /// Words: [`IsRunsOf`](crate::definitions#IsRunsOf), [`Union`](crate::definitions#Union), [`Covers`](crate::definitions#Covers), [`IsBetween`](crate::definitions#IsBetween), [`HasNone`](crate::definitions#HasNone), [`HasSome`](crate::definitions#HasSome), [`Intersection`](crate::definitions#Intersection).
     pub fn insert_interval(&mut self, interval: Interval<B>) -> Result<(), AllocError> {
         let runs = self.as_runs();
         if interval.is_empty() {
@@ -166,9 +170,11 @@ impl<B: Width> IntervalSet<B> {
     /// ```text
     /// ensures ok { OnOk result (IsRunsOf self.new (Without (Covers self.old) (IsBetween interval))) }
     /// ensures err { OnErr result (self.new ≡ self.old) }
+    /// ensures empty { HasNone (IsBetween interval) → IsOk result }
+    /// ensures in_place { ¬ (IsSubset (IsBetween (widened interval)) (Covers self.old)) → IsOk result }
     /// ```
     ///
-    /// Words: [`IsRunsOf`](crate::definitions#IsRunsOf), [`Without`](crate::definitions#Without), [`Covers`](crate::definitions#Covers), [`IsBetween`](crate::definitions#IsBetween).
+    /// Words: [`IsRunsOf`](crate::definitions#IsRunsOf), [`Without`](crate::definitions#Without), [`Covers`](crate::definitions#Covers), [`IsBetween`](crate::definitions#IsBetween), [`HasNone`](crate::definitions#HasNone), [`IsSubset`](crate::definitions#IsSubset).
     pub fn remove_interval(&mut self, interval: Interval<B>) -> Result<(), AllocError> {
         let runs = self.as_runs();
         if interval.is_empty() {

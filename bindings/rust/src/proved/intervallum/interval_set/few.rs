@@ -21,15 +21,17 @@ pub(super) fn is_far_shorter<B: Width>(few: &IntervalSet<B>, many: &IntervalSet<
 
 /// The members that a set of few runs has in common with one of many. Reserves the few, and more as
 /// the answer grows. Copies the runs of the many that are kept whole.
+///
+/// The searches see the runs of the many by the looks of `probes` alone.
 pub(super) fn common_with_few<B: Width>(
     few: &IntervalSet<B>,
-    many: &mut Probes<'_, B>,
+    many: &IntervalSet<B>,
+    probes: &mut Probes<'_, B>,
 ) -> Result<IntervalSet<B>, AllocError> {
-    many.in_whole();
     let mut set = IntervalSet::with_room(few.allocator(), few.interval_count())?;
     let mut from = 0;
     for run in few.as_runs() {
-        from = push_shared(&mut set, many, *run, from)?;
+        from = push_shared(&mut set, many, probes, *run, from)?;
     }
     Ok(set.fitted())
 }
@@ -43,7 +45,7 @@ pub(super) fn without_few<B: Width>(
     // members of the many are in the range, so in the complement of the few unless in them
     many.in_whole();
     let free = few.complement()?;
-    common_with_few(&free, &mut Probes::new(many))
+    common_with_few(&free, many, &mut Probes::new(many))
 }
 
 /// The members of a set of few runs that are not in one of many: those that are not among what the
@@ -52,20 +54,23 @@ pub(super) fn few_without<B: Width>(
     few: &IntervalSet<B>,
     many: &IntervalSet<B>,
 ) -> Result<IntervalSet<B>, AllocError> {
-    let shared = common_with_few(few, &mut Probes::new(many))?;
+    let shared = common_with_few(few, many, &mut Probes::new(many))?;
     without(Walk::new(few), Walk::new(&shared))
 }
 
-/// Adds what a run has in common with runs whose first `from` end below it. Returns how many end
-/// below it.
+/// Adds what a run has in common with a set of many runs, whose first `from` end below it. Returns
+/// how many end below it.
 fn push_shared<B: Width>(
     set: &mut IntervalSet<B>,
-    many: &mut Probes<'_, B>,
+    many: &IntervalSet<B>,
+    probes: &mut Probes<'_, B>,
     run: Interval<B>,
     from: usize,
 ) -> Result<usize, AllocError> {
-    let start = first_from(many, run.lower(), from);
-    let end = last_up_to(many, run.upper(), start);
-    set.push_cut(many.part(start, end), &run)?;
+    let runs = many.as_runs();
+    let start = first_from(probes, run.lower(), from);
+    let end = last_up_to(probes, run.upper(), start);
+    let shared = &runs[start..end];
+    set.push_cut(shared, &run)?;
     Ok(start)
 }

@@ -7,6 +7,7 @@ use crate::proved::intervallum::interval::Interval;
 use crate::proved::intervallum::ops::{Bounded, Cardinality, IsEmpty, Range, StrictShrinkLeft};
 use crate::proved::intervallum::width::{SizeNumber, Width};
 use crate::rattle::std::alloc::{AllocError, Global};
+use crate::rattle::std::hint::select_unpredictable;
 
 impl<B: Width> IntervalSet<B> {
     /// The runs as a slice.
@@ -118,11 +119,24 @@ fn is_same<B: Width>(run: Interval<B>, other: Interval<B>) -> bool {
 /// No number is missing between a run and one that starts no lower.
 fn joins<B: Width>(last: &Interval<B>, run: &Interval<B>) -> bool {
     let (end, start) = (last.upper(), run.lower());
-    if start <= end {
-        true
-    } else {
-        B::width(&end, &start).number() <= 2
-    }
+    // by one comparison: the width is one where the run starts no higher than the other ends
+    B::width(&end, &start.max(end)).number() <= 2
+}
+
+/// Adds a run that starts no lower than the last one, in room that is reserved, and returns the run
+/// that is then the last. The last run is written again unless the new one is apart from it, so that
+/// no branch hangs on their values.
+pub(crate) fn add_reserved<B: Width>(
+    runs: &mut Vec<Interval<B>>,
+    last: Interval<B>,
+    run: Interval<B>,
+) -> Interval<B> {
+    let is_joined = joins(&last, &run);
+    let lower = select_unpredictable(is_joined, last.lower(), run.lower());
+    let next = Interval::new(lower, last.upper().max(run.upper()));
+    runs.truncate(runs.len() - usize::from(is_joined));
+    runs.push_reserved(next);
+    next
 }
 
 /// How many numbers of a run lie above another run's end.

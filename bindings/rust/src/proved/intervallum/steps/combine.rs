@@ -50,16 +50,12 @@ fn common_runs<B: Width>(
     // no memory holds more runs than a `usize` counts
     let room = first.left().checked_add(second.left()).ok_or(AllocError)?;
     let mut runs = Vec::with_capacity(first.alloc(), room)?;
-    let mut a = first.take();
-    let mut b = second.take();
-    'walk: while let Some(heads) = a.zip(b) {
+    'walk: while let Some(heads) = heads(&first, &second) {
         let (run, other) = heads;
         push_reserved_part(&mut runs, run.intersection(&other));
-        if run.upper() <= other.upper() {
-            a = first.take();
-        } else {
-            b = second.take();
-        }
+        let ends_first = run.upper() <= other.upper();
+        first.advance_if(ends_first);
+        second.advance_if(!ends_first);
     }
     Ok(runs)
 }
@@ -75,9 +71,9 @@ fn heads<B: Width>(first: &Walk<'_, B>, second: &Walk<'_, B>) -> Option<(Interva
 /// Adds the members of an interval, if it has any, at least two above those that are there, in room
 /// that is reserved.
 pub(super) fn push_reserved_part<B: Width>(runs: &mut Vec<Interval<B>>, part: Interval<B>) {
-    if !part.is_empty() {
-        runs.push_reserved(part);
-    }
+    // written, and dropped again if it has none: no branch hangs on the values
+    runs.push_reserved(part);
+    runs.truncate(runs.len() - usize::from(part.is_empty()));
 }
 
 /// Whether the runs left in two walks have a member in common. Advances at most once for each of

@@ -115,10 +115,4 @@ impl<'a, B: Width> Probes<'a, B> {
     pub(crate) fn in_whole(&self) {
         self.len();
     }
-
-    /// The runs from place `start` to before place `end`, to be copied. This is not a look.
-    pub(crate) fn part(&self, start: usize, end: usize) -> &'a [Interval<B>] {
-        let runs = self.runs;
-        &runs[start..end]
-    }
 }

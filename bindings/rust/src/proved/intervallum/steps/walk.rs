@@ -111,6 +111,11 @@ impl<'a, B: Width> Walk<'a, B> {
         self.taken += 1;
     }
 
+    /// Takes the first run that is left if a condition holds: the place moves by it, with no branch.
+    pub(crate) fn advance_if(&mut self, condition: bool) {
+        self.taken += usize::from(condition);
+    }
+
     /// Takes the first run that is left, if there is one.
     pub(crate) fn take(&mut self) -> Option<Interval<B>> {
         let run = self.peek()?;

@@ -48,12 +48,13 @@ fn is_distinct<B: Width>(post: &Post<B>) -> bool {
 /// ensures unknown { (i : ℕ) → (result ≡ Err (StoreFault.Variable i)) ↔ (All AreDistinct (constraints_of posts.now) × (first_unknown_in_posts (length store.old) posts.now ≡ Some i)) }
 /// ensures unchanged { (i : ℕ) → result ≡ Err (StoreFault.Variable i) → store.new ≡ store.old }
 /// ensures memory { result ≡ Err StoreFault.Memory → All AreDistinct (constraints_of posts.now) × (first_unknown_in_posts (length store.old) posts.now ≡ None) }
+/// ensures partly { result ≡ Err StoreFault.Memory → IsPartlyPosted posts.now store.old store.new }
 /// ensures kept_count { length store.new ≡ length store.old }
 /// ensures only_lost { LiesWithin (set_at store.new) (set_at store.old) }
 /// ensures families { (family : List (List (ℤ × ℤ))) → SupportedBy (constraints_of posts.now) (set_at family) → LiesWithin (set_at family) (Cut posts.now (set_at store.old)) → LiesWithin (set_at family) (set_at store.new) }
 /// ```
 ///
-/// Words: [`AreDistinct`](crate::definitions#AreDistinct), [`constraints_of`](crate::definitions#constraints_of), [`AnswersPosts`](crate::definitions#AnswersPosts), [`IsLeftBy`](crate::definitions#IsLeftBy), [`first_unknown_in_posts`](crate::definitions#first_unknown_post), [`LiesWithin`](crate::definitions#LiesWithin), [`SupportedBy`](crate::definitions#SupportedBy), [`Cut`](crate::definitions#Cut).
+/// Words: [`AreDistinct`](crate::definitions#AreDistinct), [`constraints_of`](crate::definitions#constraints_of), [`AnswersPosts`](crate::definitions#AnswersPosts), [`IsLeftBy`](crate::definitions#IsLeftBy), [`first_unknown_in_posts`](crate::definitions#first_unknown_post), [`IsPartlyPosted`](crate::definitions#IsPartlyPosted), [`LiesWithin`](crate::definitions#LiesWithin), [`SupportedBy`](crate::definitions#SupportedBy), [`Cut`](crate::definitions#Cut).
 pub fn post_if_distinct<B: Width>(
     store: &mut Store<B>,
     posts: &[Post<B>],
