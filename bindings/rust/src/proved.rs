@@ -1,0 +1,77 @@
+//! The proved surface as it is: modules that a script takes out of the proved source, body for body.
+//!
+//! Calls that allocate take the allocator [`Global`] and return a `Result`, whose only error is a failed allocation
+//! ([`AllocError`]); borrowed operands, and a set that was to be changed, are then unchanged. A call with a condition says so,
+//! and which public test tells whether it holds. Debug builds test the condition and panic; other builds do not, and a call
+//! whose condition is broken then panics or has a wrong answer, but never undefined behaviour, since all of it is safe Rust.
+//!
+//! | Module | |
+//! |---|---|
+//! | [`prelude`] | the types and every trait of their operations, for glob imports |
+//! | [`interval`], [`interval_set`], [`ops`], [`width`] | intervals, sets, their operations, and the types of bounds |
+//! | [`steps`], [`sweep`] | walks over the runs of sets, and sets from lists of intervals, as parts for calls of your own |
+//! | [`ivl_within`] | sums and differences that are cut to a window |
+//! | [`ivl_store`] | domains of variables, narrowed by constraints `x + y = z` |
+//! | [`ivl_expr`] | expressions over sets, for range analysis |
+//! | `ivl_json` | JSON, with the feature `json` of the package `intervallum-proved-serde` |
+//!
+//! ```
+//! use intervallum::proved::prelude::*;
+//! use intervallum::proved::{AllocError, Global};
+//!
+//! fn main() -> Result<(), AllocError> {
+//!     let a = IntervalSet::new(Global, 1, 2)?;
+//!     let b = IntervalSet::new(Global, 3, 5)?;
+//!     assert_eq!(a.union(&b)?.size(), 5u32);
+//!     Ok(())
+//! }
+//! ```
+//!
+//! # Contracts
+//!
+//! The block "Proved" of a method is its contract, in the words of the source: what it requires of its caller and what it
+//! ensures of its result, clause by clause. [`definitions`](crate::definitions) explains the words.
+#![allow(missing_docs)]
+// proofs state what holds in a loop by its label
+#![allow(unused_labels)]
+// the bodies stand as they were proved
+#![allow(clippy::style, clippy::complexity)]
+// a link that the source needs may be one that Rust could do without
+#![allow(rustdoc::redundant_explicit_links)]
+
+pub mod intervallum;
+pub mod ivl_expr;
+pub mod ivl_interval;
+#[cfg(feature = "json")]
+pub mod ivl_json;
+pub mod ivl_store;
+pub mod ivl_within;
+
+pub use crate::rattle::alloc::{AllocError, Global};
+#[doc(no_inline)]
+pub use intervallum::{
+    Interval, IntervalSet, interval, interval_set, kleene, ops, optional, prelude, steps, sweep, width,
+};
+
+/// What the doc examples of this module have in scope.
+#[doc(hidden)]
+pub mod examples {
+    pub use super::interval_set::{IntoRuns, Members};
+    pub use super::ivl_expr::{EvalFault, Expr, eval};
+    #[cfg(feature = "json")]
+    pub use super::ivl_json::{ItemFault, JsonFault, JsonForm};
+    pub use super::ivl_store::store::{Constraint, Post, Store, StoreFault};
+    pub use super::ivl_within::within::{
+        Combined, add_within, differences_in_window, image, kept, sub_within, sums_in_window,
+    };
+    pub use super::kleene::SKleene;
+    pub use super::prelude::*;
+    pub use super::steps::{Place, Probes, Walk, common, find, unite};
+    pub use super::sweep::{Op, coalesce, images};
+    pub use super::{AllocError, Global};
+    pub use crate::rattle::boxed::Box;
+    pub use crate::rattle::clone::Clone as _;
+    pub use crate::rattle::vec::Vec;
+    #[cfg(feature = "json")]
+    pub use {core::str::FromStr, serde_json::Value};
+}

@@ -1,0 +1,189 @@
+//! Sets of one run, and the least and the greatest member.
+
+#[allow(unused_imports)]
+use crate::rattle::prelude::*;
+use super::IntervalSet;
+use crate::proved::intervallum::ops::{Bounded, IsSingleton};
+use crate::proved::intervallum::width::Width;
+use crate::rattle::std::alloc::{AllocError, Global};
+
+impl<B: Width> IntervalSet<B> {
+    /// Returns the set of `x` alone. The caller must ensure that `x` is in the range. Check with
+    /// `Interval::whole().contains(&x)`. `O(1)`. Allocates one run. Fails only if allocation fails.
+    ///
+    /// ```
+    /// # use intervallum::proved::examples::*;
+    /// # fn main() -> Result<(), std::boxed::Box<dyn std::error::Error>> {
+    /// # let alloc = Global;
+    /// let five = IntervalSet::singleton(alloc, 5)?;
+    /// assert!(five == IntervalSet::new(alloc, 5, 5)?);
+    /// # Ok(())
+    /// # }
+    /// ```
+    ///
+    /// # Proved
+    ///
+    /// ```text
+    /// requires { IsBetween B.whole (B.value x) }
+    /// ensures { IfOk result (λ L. L ≡ (B.value x, B.value x) ∷ []) }
+    /// ```
+    ///
+    /// Words: [`IsBetween`](crate::definitions#IsBetween).
+    pub fn singleton(alloc: Global, x: B) -> Result<Self, AllocError> {
+        Self::new(alloc, x, x)
+    }
+
+    /// Returns the range of `B`, as one run. `O(1)`. Allocates one run. Fails only if allocation
+    /// fails.
+    ///
+    /// ```
+    /// # use intervallum::proved::examples::*;
+    /// # fn main() -> Result<(), std::boxed::Box<dyn std::error::Error>> {
+    /// # let alloc = Global;
+    /// let bytes = IntervalSet::<u8>::whole(alloc)?;
+    /// assert!(bytes.contains(&0) && bytes.contains(&254) && !bytes.contains(&255));
+    /// # Ok(())
+    /// # }
+    /// ```
+    ///
+    /// # Proved
+    ///
+    /// ```text
+    /// ensures { IfOk result (λ L. L ≡ B.whole ∷ []) }
+    /// ```
+    pub fn whole(alloc: Global) -> Result<Self, AllocError> {
+        Self::new(alloc, B::min_value(), B::max_value())
+    }
+
+    /// Returns the range of `B`, which every set entails. `O(1)`. Allocates one run. Fails only if
+    /// allocation fails.
+    ///
+    /// ```
+    /// # use intervallum::proved::examples::*;
+    /// # fn main() -> Result<(), std::boxed::Box<dyn std::error::Error>> {
+    /// # let alloc = Global;
+    /// assert!(IntervalSet::<u8>::bot(alloc)? == IntervalSet::whole(alloc)?);
+    /// # Ok(())
+    /// # }
+    /// ```
+    ///
+    /// # Proved
+    ///
+    /// ```text
+    /// ensures { IfOk result (λ L. L ≡ B.whole ∷ []) }
+    /// ```
+    pub fn bot(alloc: Global) -> Result<Self, AllocError> {
+        Self::whole(alloc)
+    }
+
+    /// Returns the empty set, which entails every other. `O(1)`. Does not allocate.
+    ///
+    /// ```
+    /// # use intervallum::proved::examples::*;
+    /// # fn main() -> Result<(), std::boxed::Box<dyn std::error::Error>> {
+    /// # let alloc = Global;
+    /// assert!(IntervalSet::<u8>::top(alloc).is_empty());
+    /// # Ok(())
+    /// # }
+    /// ```
+    ///
+    /// # Proved
+    ///
+    /// ```text
+    /// ensures { result ≡ [] }
+    /// ```
+    pub fn top(alloc: Global) -> Self {
+        Self::empty(alloc)
+    }
+}
+
+impl<B: Width> Bounded for IntervalSet<B> {
+    /// Returns the least member: the start of the first run. The caller must ensure that the set is
+    /// not empty. Check with `is_empty`. `O(1)`. Does not allocate.
+    ///
+    /// ```
+    /// # use intervallum::proved::examples::*;
+    /// # fn main() -> Result<(), std::boxed::Box<dyn std::error::Error>> {
+    /// # let alloc = Global;
+    /// let a: IntervalSet<i32> = [(1, 2), (5, 6)].to_interval_set(alloc)?;
+    /// assert!(!a.is_empty() && a.lower() == 1);
+    /// # Ok(())
+    /// # }
+    /// ```
+    ///
+    /// # Proved
+    ///
+    /// ```text
+    /// requires { HasSome (Covers self.now) }
+    /// ensures member { Covers self.now (B.value result) }
+    /// ensures least { (z : ℤ) → Covers self.now z → B.value result ≤ℤ z }
+    /// ensures in_range { IsBetween B.whole (B.value result) }
+    /// ```
+    ///
+    /// Words: [`HasSome`](crate::definitions#HasSome), [`Covers`](crate::definitions#Covers), [`IsBetween`](crate::definitions#IsBetween).
+    fn lower(&self) -> B {
+        debug_assert!({ #[allow(unused_imports)] use crate::proved::ivl_interval::ops::*; !self.is_empty() }, "{}", "the condition of `lower` is broken: !self.is_empty()");
+        let first = self.intervals[0];
+        first.lower()
+    }
+
+    /// Returns the greatest member: the end of the last run. The caller must ensure that the set is
+    /// not empty. Check with `is_empty`. `O(1)`. Does not allocate.
+    ///
+    /// ```
+    /// # use intervallum::proved::examples::*;
+    /// # fn main() -> Result<(), std::boxed::Box<dyn std::error::Error>> {
+    /// # let alloc = Global;
+    /// let a: IntervalSet<i32> = [(1, 2), (5, 6)].to_interval_set(alloc)?;
+    /// assert!(!a.is_empty() && a.upper() == 6);
+    /// # Ok(())
+    /// # }
+    /// ```
+    ///
+    /// # Proved
+    ///
+    /// ```text
+    /// requires { HasSome (Covers self.now) }
+    /// ensures member { Covers self.now (B.value result) }
+    /// ensures greatest { (z : ℤ) → Covers self.now z → z ≤ℤ B.value result }
+    /// ensures in_range { IsBetween B.whole (B.value result) }
+    /// ```
+    ///
+    /// Words: [`HasSome`](crate::definitions#HasSome), [`Covers`](crate::definitions#Covers), [`IsBetween`](crate::definitions#IsBetween).
+    fn upper(&self) -> B {
+        debug_assert!({ #[allow(unused_imports)] use crate::proved::ivl_interval::ops::*; !self.is_empty() }, "{}", "the condition of `upper` is broken: !self.is_empty()");
+        let last = self.intervals[self.intervals.len() - 1];
+        last.upper()
+    }
+}
+
+/// Proved, with these words of the trait:
+///
+/// ```text
+/// members = { Covers }
+/// ```
+///
+/// Words: [`Covers`](crate::definitions#Covers).
+impl<B: Width> IsSingleton for IntervalSet<B> {
+    /// Returns true exactly when the set has one member and no other. `O(1)`. Does not allocate.
+    ///
+    /// ```
+    /// # use intervallum::proved::examples::*;
+    /// # fn main() -> Result<(), std::boxed::Box<dyn std::error::Error>> {
+    /// # let alloc = Global;
+    /// let a = IntervalSet::new(alloc, 1, 2)?;
+    /// assert!(!a.is_singleton() && IntervalSet::new(alloc, 5, 5)?.is_singleton());
+    /// # Ok(())
+    /// # }
+    /// ```
+    ///
+    /// # Proved
+    ///
+    /// What [`IsSingleton::is_singleton`] says, by the words of the type.
+    fn is_singleton(&self) -> bool {
+        if self.intervals.len() != 1 {
+            return false;
+        }
+        self.intervals[0].is_singleton()
+    }
+}

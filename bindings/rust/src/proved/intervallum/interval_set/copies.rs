@@ -1,0 +1,45 @@
+//! Copies of a set.
+
+#[allow(unused_imports)]
+use crate::rattle::prelude::*;
+use super::IntervalSet;
+use crate::proved::intervallum::width::Width;
+use crate::rattle::std::alloc::AllocError;
+
+impl<B: Width> IntervalSet<B> {
+    /// Returns a copy of the set. `O(n)`. Reserves `n` runs. Fails only if allocation fails.
+    ///
+    /// ```
+    /// # use intervallum::proved::examples::*;
+    /// # fn main() -> Result<(), std::boxed::Box<dyn std::error::Error>> {
+    /// # let alloc = Global;
+    /// let a = IntervalSet::new(alloc, 1, 2)?;
+    /// assert!(a.try_clone()? == a);
+    /// # Ok(())
+    /// # }
+    /// ```
+    ///
+    /// # Proved
+    ///
+    /// ```text
+    /// ensures { IfOk result (λ L. L ≡ self.now) }
+    /// ```
+    pub fn try_clone(&self) -> Result<Self, AllocError> {
+        let intervals = Vec::from_slice(self.allocator(), &self.intervals)?;
+        Ok(IntervalSet {
+            intervals,
+            size: self.size,
+        })
+    }
+
+    /// A copy of the set with room for one more run.
+    pub(super) fn copy_with_room(&self) -> Result<Self, AllocError> {
+        let room = self.intervals.len().saturating_add(1);
+        let mut intervals = Vec::with_capacity(self.allocator(), room)?;
+        intervals.extend_from_slice(&self.intervals).unwrap();
+        Ok(IntervalSet {
+            intervals,
+            size: self.size,
+        })
+    }
+}

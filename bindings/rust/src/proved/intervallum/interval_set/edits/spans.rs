@@ -1,0 +1,76 @@
+//! Which runs of a set an edit changes.
+
+#[allow(unused_imports)]
+use crate::rattle::prelude::*;
+use crate::proved::intervallum::interval::Interval;
+use crate::proved::intervallum::interval_set::IntervalSet;
+use crate::proved::intervallum::ops::{Bounded, IsEmpty, Range, StrictShrinkLeft, StrictShrinkRight};
+use crate::proved::intervallum::steps::{Probes, last_up_to, runs_before};
+use crate::proved::intervallum::width::Width;
+
+/// The places of the runs that end at `lower` or above and start at `upper` or below: the first,
+/// and the one after the last. `O(log n)`; the search for the second starts at the first.
+pub(super) fn span<B: Width>(set: &IntervalSet<B>, lower: B, upper: B) -> (usize, usize) {
+    let mut probes = Probes::new(set);
+    let start = runs_before(&mut probes, lower);
+    let end = last_up_to(&mut probes, upper, start);
+    (start, end)
+}
+
+/// The places of the runs that overlap or touch an interval: the first, and the one after the last.
+pub(super) fn touched<B: Width>(set: &IntervalSet<B>, interval: &Interval<B>) -> (usize, usize) {
+    set.in_whole();
+    let below = one_below(interval.lower());
+    let above = one_above(interval.upper());
+    span(set, below, above)
+}
+
+/// The number before, or the number itself if it is the least of the range.
+fn one_below<B: Width>(value: B) -> B {
+    match value.checked_sub(B::one()) {
+        Some(below) => below,
+        None => value,
+    }
+}
+
+/// The number after, or the number itself if it is the greatest of the range.
+fn one_above<B: Width>(value: B) -> B {
+    match value.checked_add(B::one()) {
+        Some(above) => above,
+        None => value,
+    }
+}
+
+/// The run that an interval makes together with those from `start` to before `end`, which are the
+/// runs that it overlaps or touches.
+pub(super) fn joined<B: Width>(
+    runs: &[Interval<B>],
+    start: usize,
+    end: usize,
+    interval: Interval<B>,
+) -> Interval<B> {
+    if start == end {
+        return interval;
+    }
+    let lower = interval.lower().min(runs[start].lower());
+    let upper = interval.upper().max(runs[end - 1].upper());
+    Interval::new(lower, upper)
+}
+
+/// What is left below and above an interval of the runs from `start` to before `end`, which are
+/// those that it overlaps.
+pub(super) fn rests<B: Width>(
+    runs: &[Interval<B>],
+    start: usize,
+    end: usize,
+    interval: Interval<B>,
+) -> (Option<Interval<B>>, Option<Interval<B>>) {
+    let below = runs[start].strict_shrink_right(interval.lower());
+    let above = runs[end - 1].strict_shrink_left(interval.upper());
+    (if_filled(below), if_filled(above))
+}
+
+/// The interval, if it has a member.
+pub(super) fn if_filled<B: Width>(part: Interval<B>) -> Option<Interval<B>> {
+    if part.is_empty() { None } else { Some(part) }
+}

@@ -1,0 +1,134 @@
+//! Which of two sets includes the other.
+
+#[allow(unused_imports)]
+use crate::rattle::prelude::*;
+use super::IntervalSet;
+use crate::proved::intervallum::interval::Interval;
+use crate::proved::intervallum::kleene::SKleene;
+use crate::proved::intervallum::ops::{Bounded, Cardinality, Entailment, ProperSubset, Subset};
+use crate::proved::intervallum::steps::{Place, Probes, find_from};
+use crate::proved::intervallum::width::Width;
+
+/// Proved, with these words of the trait:
+///
+/// ```text
+/// members = { Covers }
+/// ```
+///
+/// Words: [`Covers`](crate::definitions#Covers).
+impl<B: Width> Subset for IntervalSet<B> {
+    /// Returns true exactly when each member is a member of `other`, so always for an empty set.
+    /// Does not allocate.
+    ///
+    /// `O(n log (m / n + 2))`: searches for each of the `n` runs among the `m` of `other`, from
+    /// where the last search ended. `O(1)` if this set has more members than `other`.
+    ///
+    /// ```
+    /// # use intervallum::proved::examples::*;
+    /// # fn main() -> Result<(), std::boxed::Box<dyn std::error::Error>> {
+    /// # let alloc = Global;
+    /// let (a, b) = (IntervalSet::new(alloc, 1, 2)?, IntervalSet::new(alloc, 0, 10)?);
+    /// assert!(a.is_subset(&b) && !b.is_subset(&a));
+    /// # Ok(())
+    /// # }
+    /// ```
+    ///
+    /// # Proved
+    ///
+    /// What [`Subset::is_subset`] says, by the words of the type.
+    fn is_subset(&self, other: &IntervalSet<B>) -> bool {
+        if self.size() > other.size() {
+            return false;
+        }
+        let mut runs = Probes::new(other);
+        let mut from = 0;
+        for run in self.as_runs() {
+            match holder(&mut runs, run, from) {
+                Some(place) => from = place,
+                None => return false,
+            }
+        }
+        true
+    }
+}
+
+/// The place of the run that holds each number of another run, or `None` if no run does. The runs
+/// before place `from` lie below the other run.
+fn holder<B: Width>(runs: &mut Probes<'_, B>, run: &Interval<B>, from: usize) -> Option<usize> {
+    match find_from(runs, run.lower(), from) {
+        Place::In(i) => {
+            let other = runs.look(i);
+            if run.upper() <= other.upper() {
+                Some(i)
+            } else {
+                None
+            }
+        }
+        Place::Gap(_) => None,
+    }
+}
+
+/// Proved, with these words of the trait:
+///
+/// ```text
+/// members = { Covers }
+/// ```
+///
+/// Words: [`Covers`](crate::definitions#Covers).
+impl<B: Width> ProperSubset for IntervalSet<B> {
+    /// Returns true exactly when each member is a member of `other`, and `other` has more.
+    /// `O(n log (m / n + 2))`, or `O(1)` if the sizes are equal. Does not allocate.
+    ///
+    /// ```
+    /// # use intervallum::proved::examples::*;
+    /// # fn main() -> Result<(), std::boxed::Box<dyn std::error::Error>> {
+    /// # let alloc = Global;
+    /// let (a, b) = (IntervalSet::new(alloc, 1, 2)?, IntervalSet::new(alloc, 0, 10)?);
+    /// assert!(a.is_proper_subset(&b) && !a.is_proper_subset(&a));
+    /// # Ok(())
+    /// # }
+    /// ```
+    ///
+    /// # Proved
+    ///
+    /// What [`ProperSubset::is_proper_subset`] says, by the words of the type.
+    fn is_proper_subset(&self, other: &IntervalSet<B>) -> bool {
+        self.size() != other.size() && self.is_subset(other)
+    }
+}
+
+/// Proved, with these words of the trait:
+///
+/// ```text
+/// members = { Covers }
+/// ```
+///
+/// Words: [`Covers`](crate::definitions#Covers).
+impl<B: Width> Entailment for IntervalSet<B> {
+    /// Returns `True` if `other` includes this set, else `False` if this one includes `other`, else
+    /// `Unknown`. `O(n log (m / n + 2) + m log (n / m + 2))`. Does not allocate.
+    ///
+    /// ```
+    /// # use intervallum::proved::examples::*;
+    /// # fn main() -> Result<(), std::boxed::Box<dyn std::error::Error>> {
+    /// # let alloc = Global;
+    /// let (a, b) = (IntervalSet::new(alloc, 1, 2)?, IntervalSet::new(alloc, 0, 10)?);
+    /// assert_eq!(a.entail(&b), SKleene::True);
+    /// assert_eq!(b.entail(&a), SKleene::False);
+    /// # Ok(())
+    /// # }
+    /// ```
+    ///
+    /// # Proved
+    ///
+    /// What [`Entailment::entail`] says, by the words of the type.
+    fn entail(&self, other: &IntervalSet<B>) -> SKleene {
+        if self.is_subset(other) {
+            SKleene::True
+        } else if other.is_subset(self) {
+            SKleene::False
+        } else {
+            SKleene::Unknown
+        }
+    }
+}

@@ -1,0 +1,155 @@
+//! Expressions, and their evaluation by [`eval`].
+
+#[allow(unused_imports)]
+use crate::rattle::prelude::*;
+pub use crate::proved::ivl_expr::fault::EvalFault;
+pub use crate::proved::ivl_expr::nodes::eval;
+
+/// An expression: sums, differences and products of variables and constants.
+///
+/// A variable is the index of its set in the slice that is passed to [`eval`](crate::proved::ivl_expr::eval). A
+/// constant may be any value of the type; `eval` fails for one outside the range.
+///
+/// The calls of an expression, and dropping one, recurse: they use stack in proportion to its
+/// depth, so an expression that is built in a loop can overflow the stack.
+///
+/// ```
+/// # use intervallum::proved::examples::*;
+/// # fn main() -> Result<(), std::boxed::Box<dyn std::error::Error>> {
+/// # let alloc = Global;
+/// // (x0 + x1) - 3
+/// let sum = Expr::Add(Box::new(alloc, Expr::Var(0))?, Box::new(alloc, Expr::Var(1))?);
+/// let less = Expr::Sub(Box::new(alloc, sum)?, Box::new(alloc, Expr::Const(3i32))?);
+/// assert!(less.occurs(1) && less.read_once() && !less.has_product());
+/// # Ok(())
+/// # }
+/// ```
+pub enum Expr<B> {
+    /// The variable with this index.
+    Var(usize),
+    /// A constant.
+    Const(B),
+    /// The sum of the two.
+    Add(Box<Expr<B>>, Box<Expr<B>>),
+    /// The first less the second.
+    Sub(Box<Expr<B>>, Box<Expr<B>>),
+    /// The product of the two.
+    Mul(Box<Expr<B>>, Box<Expr<B>>),
+}
+
+impl<B> Expr<B> {
+    /// Returns true exactly when variable `i` occurs. Linear in the nodes, does not allocate.
+    ///
+    /// ```
+    /// # use intervallum::proved::examples::*;
+    /// # fn main() -> Result<(), std::boxed::Box<dyn std::error::Error>> {
+    /// # let alloc = Global;
+    /// let sum = Expr::Add(Box::new(alloc, Expr::Var(3))?, Box::new(alloc, Expr::Const(5i32))?);
+    /// assert!(sum.occurs(3) && !sum.occurs(5));
+    /// # Ok(())
+    /// # }
+    /// ```
+    ///
+    /// # Proved
+    ///
+    /// ```text
+    /// ensures { IsTrue result ↔ Occurs i self.now }
+    /// ```
+    ///
+    /// Words: [`Occurs`](crate::definitions#Occurs).
+    pub fn occurs(&self, i: usize) -> bool {
+        match self {
+            Expr::Var(j) => *j == i,
+            Expr::Const(_) => false,
+            Expr::Add(a, b) | Expr::Sub(a, b) | Expr::Mul(a, b) => a.occurs(i) || b.occurs(i),
+        }
+    }
+
+    /// Returns true exactly when no variable occurs twice. Then both ends of each run that
+    /// [`eval`](crate::proved::ivl_expr::eval) returns are values.
+    ///
+    /// Compares each variable with the nodes on its right at most once: at worst `O(v n)` for `v`
+    /// variables and `n` nodes. Does not allocate.
+    ///
+    /// ```
+    /// # use intervallum::proved::examples::*;
+    /// # fn main() -> Result<(), std::boxed::Box<dyn std::error::Error>> {
+    /// # let alloc = Global;
+    /// let sum = Expr::Add(Box::new(alloc, Expr::Var(0))?, Box::new(alloc, Expr::Var(1))?);
+    /// assert!(sum.read_once());
+    /// let less_first = Expr::Sub(Box::new(alloc, sum)?, Box::new(alloc, Expr::<i32>::Var(0))?);
+    /// assert!(!less_first.read_once());
+    /// # Ok(())
+    /// # }
+    /// ```
+    ///
+    /// # Proved
+    ///
+    /// ```text
+    /// ensures { IsTrue result ↔ ReadOnce self.now }
+    /// ```
+    ///
+    /// Words: [`ReadOnce`](crate::definitions#ReadOnce).
+    pub fn read_once(&self) -> bool {
+        match self {
+            Expr::Var(_) | Expr::Const(_) => true,
+            Expr::Add(a, b) | Expr::Sub(a, b) | Expr::Mul(a, b) => {
+                a.read_once() && b.read_once() && !a.shares(b)
+            }
+        }
+    }
+
+    /// Returns true exactly when a product occurs. Linear in the nodes, does not allocate.
+    ///
+    /// ```
+    /// # use intervallum::proved::examples::*;
+    /// # fn main() -> Result<(), std::boxed::Box<dyn std::error::Error>> {
+    /// # let alloc = Global;
+    /// let product = Expr::Mul(Box::new(alloc, Expr::Var(0))?, Box::new(alloc, Expr::Const(2i32))?);
+    /// let sum = Expr::Add(Box::new(alloc, product)?, Box::new(alloc, Expr::Var(1))?);
+    /// assert!(sum.has_product());
+    /// # Ok(())
+    /// # }
+    /// ```
+    ///
+    /// # Proved
+    ///
+    /// ```text
+    /// ensures { IsTrue result ↔ HasProduct self.now }
+    /// ```
+    ///
+    /// Words: [`HasProduct`](crate::definitions#HasProduct).
+    pub fn has_product(&self) -> bool {
+        match self {
+            Expr::Var(_) | Expr::Const(_) => false,
+            Expr::Add(a, b) | Expr::Sub(a, b) => a.has_product() || b.has_product(),
+            Expr::Mul(_, _) => true,
+        }
+    }
+
+    /// Returns true exactly when some variable occurs in both.
+    fn shares(&self, other: &Expr<B>) -> bool {
+        match self {
+            Expr::Var(i) => other.occurs(*i),
+            Expr::Const(_) => false,
+            Expr::Add(a, b) | Expr::Sub(a, b) | Expr::Mul(a, b) => {
+                a.shares(other) || b.shares(other)
+            }
+        }
+    }
+
+    /// Returns the leftmost variable whose index is not below `count`.
+    pub(crate) fn first_missing(&self, count: usize) -> Option<usize> {
+        match self {
+            Expr::Var(i) if *i < count => None,
+            Expr::Var(i) => Some(*i),
+            Expr::Const(_) => None,
+            Expr::Add(a, b) | Expr::Sub(a, b) | Expr::Mul(a, b) => {
+                match a.first_missing(count) {
+                    Some(i) => Some(i),
+                    None => b.first_missing(count),
+                }
+            }
+        }
+    }
+}

@@ -1,0 +1,6 @@
+//! The trait of types that have a JSON form, and its errors.
+
+#[allow(unused_imports)]
+use crate::rattle::prelude::*;
+pub use crate::proved::ivl_json::faults::{ItemFault, JsonFault};
+pub use crate::proved::ivl_json::form::JsonForm;

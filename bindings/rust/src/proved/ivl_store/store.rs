@@ -1,0 +1,91 @@
+//! Finite domains, narrowed by constraints `x + y = z`.
+//!
+//! A [`Store`] has a set of numbers for each variable, its domain. Variables are named by their
+//! indexes from 0. Narrowing by a constraint removes members that are in no solution from the
+//! domains of its variables, and never removes one that is. [`Store::narrow`] narrows by one
+//! constraint once, [`Store::propagate`] by a list in rounds, and [`Store::post_all`] takes cuts
+//! and constraints one by one and replies after each whether a domain is empty.
+//!
+//! ```
+//! # use intervallum::proved::examples::*;
+//! # fn main() -> Result<(), std::boxed::Box<dyn std::error::Error>> {
+//! # let alloc = Global;
+//! // x + y = z
+//! let sum = Constraint { x: 0, y: 1, z: 2 };
+//! let domains = Vec::from_array(alloc, [
+//!     IntervalSet::new(alloc, 0, 10)?, IntervalSet::new(alloc, 3, 4)?, IntervalSet::new(alloc, 5, 6)?])?;
+//! let mut store: Store<i32> = Store::new(alloc, domains);
+//! assert!(store.narrow(&sum)?);
+//! assert!(store.domains()[0] == IntervalSet::new(alloc, 1, 3)?);
+//! # Ok(())
+//! # }
+//! ```
+
+#[allow(unused_imports)]
+use crate::rattle::prelude::*;
+
+pub mod callers;
+mod constraint;
+mod keeping;
+
+mod marks;
+mod narrowing;
+mod post;
+mod posting;
+
+pub use constraint::{Constraint, StoreFault};
+use crate::proved::intervallum::interval_set::IntervalSet;
+use crate::proved::intervallum::width::Width;
+pub use post::Post;
+use crate::rattle::std::alloc::Global;
+
+/// The domains of some variables: a set of numbers for each. A contract sees the list of their run
+/// lists.
+///
+/// The number of variables never changes, and domains only lose members. A call that fails with
+/// [`StoreFault::Variable`] leaves the store unchanged.
+pub struct Store<B: Width> {
+    alloc: Global,
+    domains: Vec<IntervalSet<B>>,
+}
+
+impl<B: Width> Store<B> {
+    /// Creates a store with these domains, in this order. Later calls use `alloc` for their
+    /// bookkeeping. `O(1)` per domain, does not allocate.
+    ///
+    /// ```
+    /// # use intervallum::proved::examples::*;
+    /// # fn main() -> Result<(), std::boxed::Box<dyn std::error::Error>> {
+    /// # let alloc = Global;
+    /// let store: Store<i32> = Store::new(alloc, Vec::from_array(alloc, [ IntervalSet::new(alloc, 0, 9)?])?);
+    /// assert_eq!(store.domains().len(), 1);
+    /// # Ok(())
+    /// # }
+    /// ```
+    ///
+    /// # Proved
+    ///
+    /// ```text
+    /// ensures { result ≡ domains.items }
+    /// ```
+    pub fn new(alloc: Global, domains: Vec<IntervalSet<B>>) -> Store<B> {
+        for domain in &domains {
+            domain.in_whole();
+        }
+        Store { alloc, domains }
+    }
+
+    /// Returns the domains, in the order of the variables. `O(1)`, does not allocate.
+    ///
+    /// # Proved
+    ///
+    /// ```text
+    /// ensures same { result.now ≡ self.now }
+    /// ensures runs { All (IsRunListIn B.whole) self.now }
+    /// ```
+    ///
+    /// Words: [`IsRunListIn`](crate::definitions#IsRunListIn).
+    pub fn domains(&self) -> &[IntervalSet<B>] {
+        self.domains.as_slice()
+    }
+}

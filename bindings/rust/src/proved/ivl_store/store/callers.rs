@@ -1,0 +1,66 @@
+//! Tests of the condition of [`Store::post_all`].
+
+#[allow(unused_imports)]
+use crate::rattle::prelude::*;
+use super::{Post, Store, StoreFault};
+use crate::proved::intervallum::width::Width;
+
+/// Returns true exactly when each constraint among the posts has three different variables. Then
+/// the posts may be passed to [`Store::post_all`]. Linear, does not allocate.
+///
+/// # Proved
+///
+/// ```text
+/// ensures { IsTrue result ↔ All AreDistinct (constraints_of posts.now) }
+/// ```
+///
+/// Words: [`AreDistinct`](crate::definitions#AreDistinct), [`constraints_of`](crate::definitions#constraints_of).
+pub fn all_distinct<B: Width>(posts: &[Post<B>]) -> bool {
+    for post in posts {
+        if !is_distinct(post) {
+            return false;
+        }
+    }
+    true
+}
+
+/// Whether the post's constraint, if it has one, has three different variables.
+fn is_distinct<B: Width>(post: &Post<B>) -> bool {
+    match post {
+        Post::Restrict(_, _) => true,
+        Post::Require(c) => c.distinct(),
+    }
+}
+
+/// Passes the posts to [`Store::post_all`], unless a constraint among them has a variable twice:
+/// then returns `None`, and leaves the store unchanged.
+///
+/// # Errors
+///
+/// Those of [`Store::post_all`], and only if each constraint has three different variables.
+///
+/// # Proved
+///
+/// ```text
+/// ensures none { IfOk result (λ o. IsNone o → ¬ (All AreDistinct (constraints_of posts.now)) × (store.new ≡ store.old)) }
+/// ensures replies { IfOk result (λ o. MatchOption o ⊤ (λ replies. AnswersPosts posts.now store.old replies.items)) }
+/// ensures left { IfOk result (λ o. IsSome o → IsLeftBy posts.now (set_at store.old) (set_at store.new)) }
+/// ensures unknown { (i : ℕ) → (result ≡ Err (StoreFault.Variable i)) ↔ (All AreDistinct (constraints_of posts.now) × (first_unknown_in_posts (length store.old) posts.now ≡ Some i)) }
+/// ensures unchanged { (i : ℕ) → result ≡ Err (StoreFault.Variable i) → store.new ≡ store.old }
+/// ensures memory { result ≡ Err StoreFault.Memory → All AreDistinct (constraints_of posts.now) × (first_unknown_in_posts (length store.old) posts.now ≡ None) }
+/// ensures partly { result ≡ Err StoreFault.Memory → IsPartlyPosted posts.now store.old store.new }
+/// ensures kept_count { length store.new ≡ length store.old }
+/// ensures only_lost { LiesWithin (set_at store.new) (set_at store.old) }
+/// ensures families { (family : List (List (ℤ × ℤ))) → SupportedBy (constraints_of posts.now) (set_at family) → LiesWithin (set_at family) (Cut posts.now (set_at store.old)) → LiesWithin (set_at family) (set_at store.new) }
+/// ```
+///
+/// Words: [`AreDistinct`](crate::definitions#AreDistinct), [`constraints_of`](crate::definitions#constraints_of), [`AnswersPosts`](crate::definitions#AnswersPosts), [`IsLeftBy`](crate::definitions#IsLeftBy), [`first_unknown_in_posts`](crate::definitions#first_unknown_post), [`IsPartlyPosted`](crate::definitions#IsPartlyPosted), [`LiesWithin`](crate::definitions#LiesWithin), [`SupportedBy`](crate::definitions#SupportedBy), [`Cut`](crate::definitions#Cut).
+pub fn post_if_distinct<B: Width>(
+    store: &mut Store<B>,
+    posts: &[Post<B>],
+) -> Result<Option<Vec<bool>>, StoreFault> {
+    if !all_distinct(posts) {
+        return Ok(None);
+    }
+    Ok(Some(store.post_all(posts)?))
+}

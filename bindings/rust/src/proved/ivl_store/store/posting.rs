@@ -1,0 +1,149 @@
+//! Posts, taken one by one, with a reply to each.
+
+#[allow(unused_imports)]
+use crate::rattle::prelude::*;
+use super::keeping::keep_within;
+use super::marks::clear_marks;
+use super::post::first_unknown_post;
+use super::{Constraint, Post, Store, StoreFault};
+use crate::proved::intervallum::interval_set::IntervalSet;
+use crate::proved::intervallum::ops::IsEmpty;
+use crate::proved::intervallum::width::Width;
+use crate::rattle::std::alloc::AllocError;
+
+impl<B: Width> Store<B> {
+    /// Takes the posts in turn. Each cuts one domain or adds a constraint to those of this call;
+    /// then the constraints so far narrow the domains until nothing changes. Returns one reply per
+    /// post: true exactly when some domain is then empty.
+    ///
+    /// After all posts the domains are the greatest ones, within the old domains and the sets of
+    /// all cuts, in which every member is supported by each constraint. They do not depend on the
+    /// order of the posts, and each reply depends only on the posts up to its own.
+    ///
+    /// The caller must ensure that each constraint has three different variables. Check with
+    /// [`Constraint::distinct`], or [`all_distinct`](super::callers::all_distinct) for a list.
+    ///
+    /// # Errors
+    ///
+    /// [`StoreFault::Variable`] for the first unknown index in list order, that of a cut included,
+    /// before anything changes. [`StoreFault::Memory`] if allocation fails: the store is then as
+    /// the last completed cut or narrowing left it. Replies, constraints and marks are reserved
+    /// before the first cut.
+    ///
+    /// ```
+    /// # use intervallum::proved::examples::*;
+    /// # fn main() -> Result<(), std::boxed::Box<dyn std::error::Error>> {
+    /// # let alloc = Global;
+    /// // x + y = z, for x, y and z from 0 to 9; then z is 0 or 1
+    /// let domains = Vec::from_array(alloc, [
+    ///     IntervalSet::new(alloc, 0, 9)?, IntervalSet::new(alloc, 0, 9)?, IntervalSet::new(alloc, 0, 9)?])?;
+    /// let mut store: Store<i32> = Store::new(alloc, domains);
+    /// let sum = Constraint { x: 0, y: 1, z: 2 };
+    /// let cut = Post::Restrict(2, IntervalSet::new(alloc, 0, 1)?);
+    /// let replies = store.post_all(&Vec::from_array(alloc, [ Post::Require(sum), cut])?)?;
+    /// assert!(replies == Vec::from_array(alloc, [ false, false])?);
+    /// assert!(store.domains()[0] == IntervalSet::new(alloc, 0, 1)?);
+    /// # Ok(())
+    /// # }
+    /// ```
+    ///
+    /// # Proved
+    ///
+    /// ```text
+    /// requires { All AreDistinct (constraints_of posts.now) }
+    /// ensures unknown { (i : ℕ) → (result ≡ Err (StoreFault.Variable i)) ↔ (first_unknown_in_posts (length self.old) posts.now ≡ Some i) }
+    /// ensures unchanged { (i : ℕ) → result ≡ Err (StoreFault.Variable i) → self.new ≡ self.old }
+    /// ensures kept_count { length self.new ≡ length self.old }
+    /// ensures only_lost { LiesWithin (set_at self.new) (set_at self.old) }
+    /// ensures families { (family : List (List (ℤ × ℤ))) → SupportedBy (constraints_of posts.now) (set_at family) → LiesWithin (set_at family) (Cut posts.now (set_at self.old)) → LiesWithin (set_at family) (set_at self.new) }
+    /// ensures solutions { (point : ℕ → ℤ) → IsCommonSolution (constraints_of posts.now) (Cut posts.now (set_at self.old)) point → IsCommonSolution (constraints_of posts.now) (set_at self.new) point }
+    /// ensures replies { IfOk result (λ replies. AnswersPosts posts.now self.old replies.items) }
+    /// ensures left { OnOk result (IsLeftBy posts.now (set_at self.old) (set_at self.new)) }
+    /// ensures memory { result ≡ Err StoreFault.Memory → IsPartlyPosted posts.now self.old self.new }
+    /// ```
+    ///
+    /// Words: [`AreDistinct`](crate::definitions#AreDistinct), [`constraints_of`](crate::definitions#constraints_of), [`first_unknown_in_posts`](crate::definitions#first_unknown_post), [`LiesWithin`](crate::definitions#LiesWithin), [`SupportedBy`](crate::definitions#SupportedBy), [`Cut`](crate::definitions#Cut), [`IsCommonSolution`](crate::definitions#IsCommonSolution), [`AnswersPosts`](crate::definitions#AnswersPosts), [`IsLeftBy`](crate::definitions#IsLeftBy), [`IsPartlyPosted`](crate::definitions#IsPartlyPosted).
+    pub fn post_all(&mut self, posts: &[Post<B>]) -> Result<Vec<bool>, StoreFault> {
+        debug_assert!({ #[allow(unused_imports)] use crate::proved::ivl_interval::ops::*; posts.iter().all(|post| match post { Post::Require(c) => c.distinct(), Post::Restrict(..) => true }) }, "{}", "the condition of `post_all` is broken: posts.iter().all(|post| match post { Post::Require(c) => c.distinct(), Post::Restrict(..) => true })");
+        if let Some(i) = first_unknown_post(posts, self.domains.len()) {
+            return Err(StoreFault::Variable(i));
+        }
+        Ok(self.post_known(posts)?)
+    }
+
+    /// The same for posts on variables that the store has.
+    fn post_known(&mut self, posts: &[Post<B>]) -> Result<Vec<bool>, AllocError> {
+        let mut replies = Vec::with_capacity(self.alloc, posts.len())?;
+        let mut constraints = Vec::with_capacity(self.alloc, posts.len())?;
+        let mut settled = Vec::with_capacity(self.alloc, posts.len())?;
+        for post in posts {
+            let reply = self.take_post(post, &mut constraints, &mut settled)?;
+            // The room was reserved, so a reply that is reached is never lost.
+            let has_room = replies.len() < replies.capacity();
+            debug_assert!(has_room);
+            replies.push(reply)?;
+        }
+        Ok(replies)
+    }
+
+    /// Takes one post over the constraints so far. Returns true exactly when some domain is then
+    /// empty.
+    fn take_post(
+        &mut self,
+        post: &Post<B>,
+        constraints: &mut Vec<Constraint>,
+        settled: &mut Vec<bool>,
+    ) -> Result<bool, AllocError> {
+        self.admit(post, constraints, settled)?;
+        self.settle(constraints, settled)?;
+        Ok(self.has_empty())
+    }
+
+    /// Cuts the domain that the post restricts, or adds the constraint that it requires.
+    fn admit(
+        &mut self,
+        post: &Post<B>,
+        constraints: &mut Vec<Constraint>,
+        settled: &mut Vec<bool>,
+    ) -> Result<(), AllocError> {
+        match post {
+            Post::Restrict(i, allowed) => {
+                let lost = self.restrict(*i, allowed)?;
+                clear_marks(lost, constraints, *i, settled);
+            }
+            Post::Require(c) => {
+                constraints.push(*c)?;
+                settled.push(false)?;
+            }
+        }
+        Ok(())
+    }
+
+    /// Keeps the members of one domain that are allowed. Returns false if that is all of them.
+    fn restrict(&mut self, i: usize, allowed: &IntervalSet<B>) -> Result<bool, AllocError> {
+        let left = keep_within(&self.domains[i], allowed)?;
+        let lost = left.is_some();
+        self.put(i, left);
+        Ok(lost)
+    }
+
+    /// Narrows by the constraints until none changes a domain.
+    fn settle(
+        &mut self,
+        constraints: &[Constraint],
+        settled: &mut Vec<bool>,
+    ) -> Result<(), AllocError> {
+        while self.round(constraints, settled)? {}
+        Ok(())
+    }
+
+    /// Whether some domain is empty.
+    fn has_empty(&self) -> bool {
+        for domain in &self.domains {
+            if domain.is_empty() {
+                return true;
+            }
+        }
+        false
+    }
+}

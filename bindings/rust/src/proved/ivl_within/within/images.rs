@@ -1,0 +1,66 @@
+//! The results of two runs in a window.
+
+#[allow(unused_imports)]
+use crate::rattle::prelude::*;
+use super::Combined;
+use crate::proved::intervallum::interval::Interval;
+use crate::proved::intervallum::ops::{Bounded, Empty, Range};
+use crate::proved::intervallum::width::Width;
+
+/// Returns the sums, or the differences, of a number of each interval that are in the window.
+///
+/// The caller must ensure that neither interval nor the window is empty. Check with
+/// [`IsEmpty::is_empty`](crate::proved::intervallum::ops::IsEmpty::is_empty). `O(1)`, does not allocate.
+///
+/// ```
+/// # use intervallum::proved::examples::*;
+/// # fn main() -> Result<(), std::boxed::Box<dyn std::error::Error>> {
+/// # let alloc = Global;
+/// let (a, b): (Interval<i16>, Interval<i16>) = (Interval::new(3, 5), Interval::new(10, 20));
+/// let sums = image(a, b, Combined::Sum, Interval::new(14, 18));
+/// assert!(sums == Interval::new(14, 18));
+/// # Ok(())
+/// # }
+/// ```
+///
+/// # Proved
+///
+/// ```text
+/// requires left { a.0 ≤ℤ a.1 }
+/// requires right { b.0 ≤ℤ b.1 }
+/// requires window { window.0 ≤ℤ window.1 }
+/// ensures { SameMembers (IsBetween result) (Clipped window (IsBetween (sum_by op a b))) }
+/// ```
+///
+/// Words: [`SameMembers`](crate::definitions#SameMembers), [`IsBetween`](crate::definitions#IsBetween), [`Clipped`](crate::definitions#Clipped), [`sum_by`](crate::definitions#sum_by).
+pub fn image<B: Width>(
+    a: Interval<B>,
+    b: Interval<B>,
+    op: Combined,
+    window: Interval<B>,
+) -> Interval<B> {
+    debug_assert!({ #[allow(unused_imports)] use crate::proved::ivl_interval::ops::*; !a.is_empty() && !b.is_empty() && !window.is_empty() }, "{}", "the condition of `image` is broken: !a.is_empty() && !b.is_empty() && !window.is_empty()");
+    let (lower, upper) = (b.lower().number(), b.upper().number());
+    match op {
+        Combined::Sum => clip(
+            a.lower().number() + lower,
+            a.upper().number() + upper,
+            window,
+        ),
+        Combined::Difference => clip(
+            a.lower().number() - upper,
+            a.upper().number() - lower,
+            window,
+        ),
+    }
+}
+
+/// The numbers of the window from a lower to an upper one, which may be outside it.
+fn clip<B: Width>(lower: i128, upper: i128, window: Interval<B>) -> Interval<B> {
+    let lower = lower.max(window.lower().number());
+    let upper = upper.min(window.upper().number());
+    match (B::from_number(lower), B::from_number(upper)) {
+        (Some(lower), Some(upper)) => Interval::new(lower, upper),
+        _ => Interval::empty(),
+    }
+}

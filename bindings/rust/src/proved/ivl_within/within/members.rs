@@ -1,0 +1,58 @@
+//! The members of a set that are sums or differences.
+
+#[allow(unused_imports)]
+use crate::rattle::prelude::*;
+use super::{Combined, combine};
+use crate::proved::intervallum::interval::Interval;
+use crate::proved::intervallum::interval_set::IntervalSet;
+use crate::proved::intervallum::ops::{Bounded, Intersection, IsEmpty, Range};
+use crate::proved::intervallum::steps::Walk;
+use crate::proved::intervallum::width::Width;
+use crate::rattle::std::alloc::AllocError;
+
+/// Returns the members of `x` that are the sum, or the difference, of a member of `a` and one of
+/// `b`.
+///
+/// Makes only the results between the least and the greatest member of `x`, at the cost of
+/// [`sums_in_window`](super::sums_in_window), and intersects them with `x` unless `x` is one run.
+/// Returns the empty set if `x` is empty, and then does not allocate.
+///
+/// # Errors
+///
+/// Fails only if allocation fails.
+///
+/// ```
+/// # use intervallum::proved::examples::*;
+/// # fn main() -> Result<(), std::boxed::Box<dyn std::error::Error>> {
+/// # let alloc = Global;
+/// let a: IntervalSet<i16> = [(0, 0), (10, 12), (90, 95)].to_interval_set(alloc)?;
+/// let b: IntervalSet<i16> = [(1, 2), (50, 60)].to_interval_set(alloc)?;
+/// let x = IntervalSet::new(alloc, 60, 93)?;
+/// let sums = kept(&x, &a, &b, Combined::Sum)?;
+/// assert!(sums == [(60, 72), (91, 93)].to_interval_set(alloc)?);
+/// # Ok(())
+/// # }
+/// ```
+///
+/// # Proved
+///
+/// ```text
+/// ensures { IfOk result (λ L. IsRunsOf L (Intersection (Covers x.now) (SumsBy op (Covers a.now) (Covers b.now)))) }
+/// ```
+///
+/// Words: [`IsRunsOf`](crate::definitions#IsRunsOf), [`Intersection`](crate::definitions#Intersection), [`Covers`](crate::definitions#Covers), [`SumsBy`](crate::definitions#SumsBy).
+pub fn kept<B: Width>(
+    x: &IntervalSet<B>,
+    a: &IntervalSet<B>,
+    b: &IntervalSet<B>,
+    op: Combined,
+) -> Result<IntervalSet<B>, AllocError> {
+    if x.is_empty() {
+        return Ok(IntervalSet::empty(Walk::new(x).alloc()));
+    }
+    let made = combine(a, b, op, Interval::new(x.lower(), x.upper()), 0)?;
+    if x.interval_count() == 1 {
+        return Ok(made);
+    }
+    x.intersection(&made)
+}

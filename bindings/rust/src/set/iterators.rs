@@ -1,0 +1,127 @@
+//! Iterators over members, and sets from iterators.
+use super::conditions::{broken, memory, numbers_between, unless_broken, within_range};
+use super::{IntervalSet, Piece};
+use crate::proved::interval_set::{IntoRuns, Members};
+use crate::proved::ops::{Bounded, Empty, Intersection, IsEmpty, StrictShrinkLeft, StrictShrinkRight};
+use crate::proved::steps::{Place, Probes, find};
+use crate::proved::{Global, Interval, sweep::coalesce, width::Width};
+use core::iter::{Copied, FusedIterator};
+use core::{mem, slice};
+
+/// An iterator over the members of a set.
+pub type Iter<'a, T> = Members<'a, T>;
+
+/// An iterator over the members of a set that is consumed.
+pub type IntoIter<T> = Values<T, IntoRuns<T>>;
+
+/// An iterator over the members of a set that lie in a range.
+pub type Range<'a, T> = Values<T, Copied<slice::Iter<'a, Interval<T>>>>;
+
+/// A double-ended iterator over the numbers of runs that another yields, in ascending order.
+#[derive(Clone)]
+pub struct Values<T: Width, I> {
+    first: Interval<T>,
+    between: I,
+    last: Interval<T>,
+}
+
+impl<T: Width, I: DoubleEndedIterator<Item = Interval<T>>> Iterator for Values<T, I> {
+    type Item = T;
+
+    fn next(&mut self) -> Option<T> {
+        if self.first.is_empty() {
+            self.first = self.between.next().unwrap_or_else(|| mem::replace(&mut self.last, Interval::empty()));
+        }
+        let least = (!self.first.is_empty()).then(|| self.first.lower())?;
+        self.first = self.first.strict_shrink_left(least);
+        Some(least)
+    }
+}
+
+impl<T: Width, I: DoubleEndedIterator<Item = Interval<T>>> DoubleEndedIterator for Values<T, I> {
+    fn next_back(&mut self) -> Option<T> {
+        if self.last.is_empty() {
+            self.last = self.between.next_back().unwrap_or_else(|| mem::replace(&mut self.first, Interval::empty()));
+        }
+        let greatest = (!self.last.is_empty()).then(|| self.last.upper())?;
+        self.last = self.last.strict_shrink_right(greatest);
+        Some(greatest)
+    }
+}
+
+impl<T: Width, I: DoubleEndedIterator<Item = Interval<T>> + FusedIterator> FusedIterator for Values<T, I> {}
+
+impl<'a, T: Width> Range<'a, T> {
+    pub(super) fn new(set: &'a IntervalSet<T>, window: Interval<T>) -> Self {
+        let (start, end) = if window.is_empty() { (0, 0) } else { span(set, window) };
+        let (first, between, last) = match &set.0.runs()[start..end] {
+            [] => (Interval::empty(), [].as_slice(), Interval::empty()),
+            [run] => (run.intersection(&window), [].as_slice(), Interval::empty()),
+            [first, between @ .., last] => (first.intersection(&window), between, last.intersection(&window)),
+        };
+        Values { first, between: between.iter().copied(), last }
+    }
+}
+
+/// Returns the place of the first run that a window overlaps, and that of the first run above the window.
+fn span<T: Width>(set: &IntervalSet<T>, window: Interval<T>) -> (usize, usize) {
+    let mut probes = Probes::new(&set.0);
+    let start = match find(&mut probes, window.lower()) {
+        Place::In(run) | Place::Gap(run) => run,
+    };
+    match find(&mut probes, window.upper()) {
+        Place::In(run) => (start, run + 1),
+        Place::Gap(run) => (start, run),
+    }
+}
+
+/// Iterates over the members, in ascending order.
+impl<T: Width> IntoIterator for IntervalSet<T> {
+    type Item = T;
+
+    type IntoIter = IntoIter<T>;
+
+    fn into_iter(self) -> IntoIter<T> {
+        Values { first: Interval::empty(), between: self.0.into_iter(), last: Interval::empty() }
+    }
+}
+
+/// Iterates over the members, in ascending order.
+impl<'a, T: Width> IntoIterator for &'a IntervalSet<T> {
+    type Item = T;
+
+    type IntoIter = Iter<'a, T>;
+
+    fn into_iter(self) -> Iter<'a, T> {
+        self.iter()
+    }
+}
+
+/// Makes the set of every piece. All numbers must be in the range. `O(k log k)` for `k` pieces.
+impl<T: Width, P: Piece<T>> FromIterator<P> for IntervalSet<T> {
+    fn from_iter<I: IntoIterator<Item = P>>(pieces: I) -> Self {
+        Self::gathered("from_iter", pieces)
+    }
+}
+
+/// Adds every piece. All numbers must be in the range; after a panic the set is unchanged. `O(k log k + n)` for `k` pieces.
+impl<T: Width, P: Piece<T>> Extend<P> for IntervalSet<T> {
+    fn extend<I: IntoIterator<Item = P>>(&mut self, pieces: I) {
+        memory(self.0.extend(pieces.into_iter().map(|piece| interval_of("extend", &piece))));
+    }
+}
+
+impl<T: Width> IntervalSet<T> {
+    /// Returns the set of every piece, for the call of this name.
+    pub(super) fn gathered<P: Piece<T>>(call: &str, pieces: impl IntoIterator<Item = P>) -> Self {
+        let intervals = pieces.into_iter().map(|piece| interval_of(call, &piece)).collect();
+        Self(memory(coalesce(Global, intervals)))
+    }
+}
+
+/// Returns the interval of a piece. Panics if some number is outside the range.
+#[track_caller]
+pub(super) fn interval_of<T: Width>(call: &str, piece: &impl Piece<T>) -> Interval<T> {
+    let (lower, upper) = piece.numbers();
+    unless_broken!(piece.interval(), within_range::<T>("the numbers"), "{call}({})", numbers_between(lower, upper))
+}

@@ -1,0 +1,110 @@
+//! Each allocation of each call fails in turn: the call returns an error, or its answer where only
+//! shrinking failed, operands are unchanged, and the process goes on.
+use intervallum::proved::prelude::*;
+use intervallum::proved::{AllocError, Global};
+use std::alloc::{GlobalAlloc, Layout, System};
+use std::sync::atomic::{AtomicIsize, Ordering::SeqCst};
+
+struct Failing;
+
+static LEFT: AtomicIsize = AtomicIsize::new(-1);
+static FAILED: AtomicIsize = AtomicIsize::new(0);
+
+fn fails() -> bool {
+    if LEFT.load(SeqCst) < 0 || LEFT.fetch_sub(1, SeqCst) > 0 {
+        return false;
+    }
+    FAILED.fetch_add(1, SeqCst);
+    true
+}
+
+unsafe impl GlobalAlloc for Failing {
+    unsafe fn alloc(&self, layout: Layout) -> *mut u8 {
+        if fails() { std::ptr::null_mut() } else { unsafe { System.alloc(layout) } }
+    }
+
+    unsafe fn dealloc(&self, at: *mut u8, layout: Layout) {
+        unsafe { System.dealloc(at, layout) }
+    }
+
+    unsafe fn realloc(&self, at: *mut u8, layout: Layout, size: usize) -> *mut u8 {
+        if fails() { std::ptr::null_mut() } else { unsafe { System.realloc(at, layout, size) } }
+    }
+}
+
+#[global_allocator]
+static ALLOCATOR: Failing = Failing;
+
+type Set = IntervalSet<i32>;
+type Call = fn(&mut Set, &Set) -> Result<Set, AllocError>;
+
+fn pairs(count: i32, step: i32, first: i32) -> Set {
+    let all: Vec<(i32, i32)> = (0..count).map(|i| (first + i * step, first + i * step + 2)).collect();
+    all.as_slice().to_interval_set(Global).unwrap()
+}
+
+const CALLS: [(&str, Call); 29] = [
+    ("try_clone", |a, _| a.try_clone()),
+    ("union", |a, b| a.union(b)),
+    ("intersection", |a, b| a.intersection(b)),
+    ("difference", |a, b| a.difference(b)),
+    ("symmetric_difference", |a, b| a.symmetric_difference(b)),
+    ("complement", |a, _| a.complement()),
+    ("union with a value", |a, _| a.union(&1000)),
+    ("intersection with a value", |a, _| a.intersection(&1)),
+    ("difference with a value", |a, _| a.difference(&1)),
+    ("symmetric_difference with a value", |a, _| a.symmetric_difference(&1)),
+    ("union with an interval", |a, _| a.union(&Interval::new(1000, 1010))),
+    ("intersection with an interval", |a, _| a.intersection(&Interval::new(0, 20))),
+    ("difference with an interval", |a, _| a.difference(&Interval::new(1, 20))),
+    ("shrink_left", |a, _| a.shrink_left(7)),
+    ("shrink_right", |a, _| a.shrink_right(7)),
+    ("strict_shrink_left", |a, _| a.strict_shrink_left(7)),
+    ("strict_shrink_right", |a, _| a.strict_shrink_right(7)),
+    ("gaps_within", |a, _| a.gaps_within(&Interval::new(-3, 40))),
+    ("sum", |a, b| &*a + b),
+    ("difference of members", |a, b| &*a - b),
+    ("product", |a, b| &*a * b),
+    ("sum with a value", |a, _| &*a + 3),
+    ("product with a value", |a, _| &*a * -3),
+    ("to_interval_set", |_, _| [(5, 9), (1, 2), (20, 30)].to_interval_set(Global)),
+    ("new", |_, _| Set::new(Global, 1, 2)),
+    ("whole", |_, _| Set::whole(Global)),
+    ("extend", |a, b| a.extend(b.iter().copied()).and_then(|()| a.try_clone())),
+    ("insert", |a, _| a.insert(1000).and_then(|_| a.try_clone())),
+    ("remove_interval", |a, _| a.remove_interval(Interval::new(1, 1)).and_then(|_| a.try_clone())),
+];
+
+#[test]
+fn each_allocation_fails_in_turn() {
+    let (mut failures, mut errors, mut calls) = (0, 0, 0);
+    for (count, other) in [(0, 3), (1, 1), (3, 4), (40, 3), (3, 40), (60, 55)] {
+        for (name, call) in CALLS {
+            let (old, b) = (pairs(count, 9, 0), pairs(other, 7, 1));
+            let want = call(&mut old.try_clone().unwrap(), &b).unwrap();
+            for at in 0.. {
+                let mut a = old.try_clone().unwrap();
+                FAILED.store(0, SeqCst);
+                LEFT.store(at, SeqCst);
+                let got = call(&mut a, &b);
+                LEFT.store(-1, SeqCst);
+                calls += 1;
+                if FAILED.load(SeqCst) == 0 {
+                    assert!(got == Ok(want), "{name}");
+                    break;
+                }
+                failures += 1;
+                match got {
+                    Ok(set) => assert!(set == want, "{name}"),
+                    Err(AllocError) => {
+                        errors += 1;
+                        // the copy after a change may be what failed
+                        assert!(a == old || a == want, "{name}");
+                    }
+                }
+                assert!(b == pairs(other, 7, 1), "{name}");
+            }
+        }
+    }
+    println!("{calls} calls, {failures} failed allocations, {errors} errors");
+}

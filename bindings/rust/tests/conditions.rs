@@ -1,0 +1,133 @@
+//! What a broken condition gets: at the root, in every build, a panic that names the call, the condition and the values, or
+//! `None`; in the proved face, in debug builds, a panic that names both.
+use intervallum::IntervalSet;
+use intervallum::proved::Global;
+use intervallum::proved::{self, Interval, ops::*, width::Width};
+use std::panic::{UnwindSafe, catch_unwind};
+
+type Set = IntervalSet<u8>;
+type Small = IntervalSet<i8>;
+
+/// The message of the panic of a call.
+fn message<R>(call: impl FnOnce() -> R + UnwindSafe) -> String {
+    match catch_unwind(call) {
+        Ok(_) => String::from("no panic"),
+        Err(panic) => match panic.downcast::<String>() {
+            Ok(text) => *text,
+            Err(panic) => panic.downcast_ref::<&str>().map_or(String::new(), |text| text.to_string()),
+        },
+    }
+}
+
+macro_rules! panics {
+    ($($call:expr => $text:literal;)*) => {$(
+        assert_eq!(message(|| $call), $text, "{}", stringify!($call));
+    )*};
+}
+
+#[test]
+fn the_root_panics_with_the_values() {
+    let set = || Set::new(10, 20);
+    panics! {
+        Set::new(3, 255) => "IntervalSet::new(3, 255): the first bound must not be above the second, and both must be from 0 to 254";
+        Set::new(8, 3) => "IntervalSet::new(8, 3): the first bound must not be above the second, and both must be from 0 to 254";
+        Small::new(-128, 0) => "IntervalSet::new(-128, 0): the first bound must not be above the second, and both must be from -127 to 127";
+        Set::singleton(255) => "IntervalSet::singleton(255): the value must be from 0 to 254";
+        Set::empty().lower() => "IntervalSet::lower(): the set must not be empty, but is {}";
+        Set::empty().upper() => "IntervalSet::upper(): the set must not be empty, but is {}";
+        set().insert(255) => "IntervalSet::insert(255): the value must be from 0 to 254";
+        set().insert_interval(250..=255) => "IntervalSet::insert_interval(250..=255): the numbers must be from 0 to 254";
+        set().insert_interval(255) => "IntervalSet::insert_interval(255): the numbers must be from 0 to 254";
+        set().first_fit(0) => "IntervalSet::first_fit(0): the count must be above 0";
+        set().first_fit_from(12, 0) => "IntervalSet::first_fit_from(12, 0): the count must be above 0";
+        set().extend([1, 255]) => "IntervalSet::extend(255): the numbers must be from 0 to 254";
+        [3..=4, 0..=255].into_iter().collect::<Set>() => "IntervalSet::from_iter(0..=255): the numbers must be from 0 to 254";
+        Set::from([(1, 255)]) => "IntervalSet::from(1..=255): the numbers must be from 0 to 254";
+        Set::from(9..=255) => "IntervalSet::from(9..=255): the numbers must be from 0 to 254";
+        set() + Set::new(0, 235) => "IntervalSet::add(10..=20, 0..=235): the sums must be from 0 to 254";
+        set() + 235 => "IntervalSet::add(10..=20, 235): the sums must be from 0 to 254";
+        set() - Set::singleton(11) => "IntervalSet::sub(10..=20, 11): the differences must be from 0 to 254";
+        set() - 11 => "IntervalSet::sub(10..=20, 11): the differences must be from 0 to 254";
+        set() * Set::new(12, 13) => "IntervalSet::mul(10..=20, 12..=13): the products must be from 0 to 254";
+        set() * 13 => "IntervalSet::mul(10..=20, 13): the products must be from 0 to 254";
+        { let mut a = set(); a += 235; } => "IntervalSet::add(10..=20, 235): the sums must be from 0 to 254";
+        { let mut a = set(); a -= set(); } => "IntervalSet::sub(10..=20, 10..=20): the differences must be from 0 to 254";
+    }
+}
+
+#[test]
+fn each_panic_has_a_checked_form() {
+    let mut set = Set::new(10, 20);
+    assert!(Set::checked_new(3, 255).is_none() && Set::checked_new(8, 3).is_none() && Set::checked_new(3, 8).is_some());
+    assert!(Set::checked_singleton(255).is_none() && Set::checked_singleton(254).is_some());
+    assert!(Set::empty().checked_lower().is_none() && Set::empty().checked_upper().is_none());
+    assert_eq!((set.checked_insert(255), set.checked_insert(20)), (None, Some(false)));
+    assert_eq!((set.checked_insert_interval(250..=255), set.checked_insert_interval(9..=9)), (None, Some(())));
+    assert_eq!((set.checked_first_fit(0), set.checked_first_fit(12)), (None, Some(Some(9..=20))));
+    assert_eq!((set.checked_first_fit_from(12, 0), set.checked_first_fit_from(12, 10)), (None, Some(None)));
+    assert_eq!((set.checked_extend([1, 255]), set.checked_extend([8])), (None, Some(())));
+    assert!(Set::checked_from_iter([0..=255]).is_none() && Set::checked_from_iter([8..=20]) == Some(set.clone()));
+    let (big, eight) = (Set::new(0, 247), Set::singleton(8));
+    assert!(set.checked_add(&big).is_none() && set.checked_add(&eight) == Some(Set::new(16, 28)));
+    assert!(set.checked_sub(&big).is_none() && set.checked_sub(&eight) == Some(Set::new(0, 12)));
+    assert!(set.checked_mul(&big).is_none() && set.checked_mul(&eight) == Some(Set::new(64, 160)));
+    assert!(set.checked_add_value(247).is_none() && set.checked_add_value(8) == set.checked_add(&eight));
+    assert!(set.checked_sub_value(9).is_none() && set.checked_sub_value(8) == set.checked_sub(&eight));
+    assert!(set.checked_mul_value(13).is_none() && set.checked_mul_value(2) == Some(Set::from([16..=40])));
+    assert_eq!(set, Set::new(8, 20), "a call that returns None changes nothing");
+}
+
+#[test]
+fn numbers_outside_the_range_are_no_members() {
+    let set = Set::new(250, 254);
+    assert!(!set.contains(255) && !set.includes(250..=255) && set.overlaps(254..=255) && !set.overlaps(255));
+    assert_eq!(set.within(252..=255), Set::new(252, 254));
+    assert_eq!(set.gaps_within(249..=255), Set::singleton(249));
+    assert_eq!((set.next_from(255), set.previous_to(255), set.run_at(255)), (None, Some(254), None));
+    assert_eq!((set.range(..).count(), set.range(253..=255).count(), set.range(255..).count()), (5, 2, 0));
+    assert_eq!(Small::from(..), Small::whole());
+    assert_eq!((Small::from(..0).len(), Small::from(120..).len(), Small::from(5..5).len()), (127, 8, 0));
+}
+
+#[test]
+#[cfg(debug_assertions)]
+fn debug_builds_test_the_conditions_of_the_proved_face() {
+    use intervallum::proved::ivl_store::store::{Constraint, Post, Store};
+    use intervallum::proved::ivl_within::within::{Combined, image};
+    use intervallum::proved::steps::{Probes, Walk};
+    use intervallum::proved::sweep::{Op, images};
+
+    let set = || proved::IntervalSet::<u8>::new(Global, 10, 20).unwrap();
+    let run = || Interval::new(10u8, 20);
+    let empty = || proved::IntervalSet::<u8>::empty(Global);
+    panics! {
+        Interval::new(0u8, 255) => "the condition of `new` is broken: Interval::in_range(lb, ub)";
+        Interval::singleton(-128i8) => "the condition of `new` is broken: Interval::in_range(lb, ub)";
+        Interval::<u8>::empty().lower() => "the condition of `lower` is broken: !self.is_empty()";
+        Interval::<u8>::empty().upper() => "the condition of `upper` is broken: !self.is_empty()";
+        run().hull(&255) => "the condition of `new` is broken: Interval::in_range(lb, ub)";
+        run() + run() * 12 => "the condition of `add` is broken: self.fits_add(&rhs)";
+        run() - 11 => "the condition of `sub` is broken: self.fits_sub(&rhs)";
+        run() * 13 => "the condition of `mul` is broken: self.fits_mul(&rhs)";
+        Width::add_in_range(254u8, 1) => "the condition of `add_in_range` is broken: Width::checked_add(self, other).is_some()";
+        Width::sub_in_range(-127i8, 1) => "the condition of `sub_in_range` is broken: Width::checked_sub(self, other).is_some()";
+        Width::mul_in_range(127i8, 2) => "the condition of `mul_in_range` is broken: Width::checked_mul(self, other).is_some()";
+        proved::IntervalSet::new(Global, 8, 3) => "the condition of `new` is broken: Interval::in_range(lb, ub) && lb <= ub";
+        proved::IntervalSet::singleton(Global, 255u8) => "the condition of `new` is broken: Interval::in_range(lb, ub) && lb <= ub";
+        empty().lower() => "the condition of `lower` is broken: !self.is_empty()";
+        empty().upper() => "the condition of `upper` is broken: !self.is_empty()";
+        set().insert(255) => "the condition of `insert` is broken: Interval::in_range(value, value)";
+        set().union(&255) => "the condition of `insert` is broken: Interval::in_range(value, value)";
+        set().symmetric_difference(&255) => "the condition of `insert` is broken: Interval::in_range(value, value)";
+        set().first_fit(0) => "the condition of `first_fit` is broken: count.number() > 0";
+        set().first_fit_from(3, 0) => "the condition of `first_fit_from` is broken: count.number() > 0";
+        set() + 235 => "the condition of `add` is broken: self.fits_add(&rhs)";
+        &set() - &set() => "the condition of `sub` is broken: self.fits_sub(rhs)";
+        set() * set() => "the condition of `mul` is broken: self.fits_mul(&rhs)";
+        Walk::new(&empty()).advance() => "the condition of `advance` is broken: self.peek().is_some()";
+        Probes::new(&set()).look(1) => "the condition of `look` is broken: i < self.len()";
+        images(&set(), &set(), Op::Difference) => "the condition of `images` is broken: match op { Op::Sum => a.fits_add(b), Op::Difference => a.fits_sub(b), Op::Product => a.fits_mul(b) }";
+        image(run(), Interval::empty(), Combined::Sum, run()) => "the condition of `image` is broken: !a.is_empty() && !b.is_empty() && !window.is_empty()";
+        Store::<u8>::new(Global, vec![set()].into()).post_all(&[Post::Require(Constraint { x: 0, y: 0, z: 0 })]) => "the condition of `post_all` is broken: posts.iter().all(|post| match post { Post::Require(c) => c.distinct(), Post::Restrict(..) => true })";
+    }
+}
