@@ -6,7 +6,7 @@ ghost use Rattle.ivl_session.specs.View.{view_of};
 
 use crate::commands::command_from;
 use ivl_registers::Command;
-use ivl_words::next_word;
+use ivl_lines::next_word;
 use std::alloc::{AllocError, Global};
 
 /// What a line says: nothing, a command, or something that is not a command.

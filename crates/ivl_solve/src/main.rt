@@ -6,7 +6,7 @@
 mod tests;
 
 use ivl_solver::{SessionFault, outcome, session};
-use ivl_words::VERSION;
+use ivl_lines::VERSION;
 use std::io::BufWriter;
 use std::process::ExitCode;
 use std::{env, io};

@@ -7,7 +7,7 @@ use crate::fault::Fault;
 use crate::replies::{write_domains, write_fault, write_state};
 use crate::request::{Request, request_from};
 use crate::solver::Solver;
-use ivl_words::next_word;
+use ivl_lines::next_word;
 use std::alloc::{AllocError, Global};
 use std::io;
 use std::io::{ErrorKind, Read, Write};

@@ -6,7 +6,7 @@ use Rattle.std.proofs.lemmas.Bool.{cases_Bool}
 use Rattle.std.proofs.lemmas.Str.{IsUtf8-from_is_utf8, is_utf8-from_IsUtf8}
 use Rattle.ivl_registers.specs.declared.command.Command.{Command}
 use Rattle.ivl_session.specs.Commands.{action_from}
-use Rattle.ivl_words.specs.Words.{words_between}
+use Rattle.ivl_lines.specs.Words.{words_between}
 use Rattle.ivl_session.specs.Lines.{words_of}
 use Rattle.ivl_session.specs.Reading.{bad, reading_from, reading_of_words, reading_of}
 use Rattle.ivl_session.specs.View.{action_of}
