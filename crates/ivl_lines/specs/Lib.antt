@@ -4,3 +4,4 @@ pub mod Lines
 pub mod Answered
 pub mod Cut
 pub mod Faults
+pub mod Sets

@@ -4,8 +4,8 @@ ghost use Rattle.ivl_session.specs.Commands.{action_from, looked_up, commands, r
 ghost use Rattle.ivl_lines.specs.Words.{words_between};
 ghost use Rattle.ivl_session.specs.View.{action_of};
 
-use ivl_registers::Command;
 use ivl_lines::{next_word, number_from, one_word, pairs_from, three_words, two_words};
+use ivl_registers::Command;
 use std::alloc::{AllocError, Global};
 
 /// Returns the command with this name and these words after it, or `None` if that is not a command.
