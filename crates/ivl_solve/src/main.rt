@@ -5,8 +5,8 @@
 #[cfg(test)]
 mod tests;
 
-use ivl_solver::{SessionFault, outcome, session};
 use ivl_lines::VERSION;
+use ivl_solver::{SessionFault, outcome, session};
 use std::io::BufWriter;
 use std::process::ExitCode;
 use std::{env, io};

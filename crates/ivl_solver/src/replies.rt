@@ -31,11 +31,7 @@ pub fn write_domains<W: Write>(writer: &mut W, solver: &Solver) -> io::Result<()
     Ok(())
 }
 
-fn write_domain<W: Write>(
-    writer: &mut W,
-    name: &str,
-    domain: &IntervalSet<i64>,
-) -> io::Result<()>
+fn write_domain<W: Write>(writer: &mut W, name: &str, domain: &IntervalSet<i64>) -> io::Result<()>
     ensures { OnOk result (Appends (W.contents writer.old) (W.contents writer.new) (domain_line name.now domain.now)) }
 {
     domain.in_whole();
