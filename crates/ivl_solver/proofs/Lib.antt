@@ -1,2 +1,4 @@
 pub mod Ranges
 pub mod Requiring
+pub mod Printing
+pub mod Answering

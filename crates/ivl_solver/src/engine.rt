@@ -10,7 +10,7 @@ ghost use Rattle.ivl_solver.specs.Requests.{asked_of};
 ghost use Rattle.ivl_solver.specs.Solving.{State};
 
 use crate::fault::Fault;
-use crate::replies::{write_domains, write_fault, write_state};
+use crate::replies::{write_fault, write_shown, write_state};
 use crate::request::{Request, request_from};
 use crate::solver::Solver;
 use ivl_lines::{Answers, LineFault, SessionFault, line_text, next_word, serve};
@@ -102,14 +102,25 @@ fn answer_request<W: Write>(
         × AnswersAsked solver.old (asked_of request.entry) text solver.new
         × Appends (W.contents writer.old) (W.contents writer.new) text) }
 {
-    let shows = matches!(&request, Request::Show);
-    if let Err(fault) = solver.carry_out(request) {
-        return write_fault(writer, &fault);
+    match request {
+        Request::Show => write_shown(writer, solver),
+        change => answer_change(solver, change, writer),
     }
-    if shows {
-        write_domains(writer, solver)?;
+}
+
+fn answer_change<W: Write>(
+    solver: &mut Solver,
+    request: Request<'_>,
+    writer: &mut W,
+) -> io::Result<()>
+    ensures { OnOk result ((text : List ℕ)
+        × AnswersAsked solver.old (asked_of request.entry) text solver.new
+        × Appends (W.contents writer.old) (W.contents writer.new) text) }
+{
+    match solver.carry_out(request) {
+        Ok(()) => write_state(writer, solver),
+        Err(fault) => write_fault(writer, &fault),
     }
-    write_state(writer, solver)
 }
 
 /// Returns the exit status of the program, and what it writes to standard error.

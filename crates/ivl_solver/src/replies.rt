@@ -1,8 +1,8 @@
 //! The text of an answer.
-ghost use Rattle.std.specs.Prelude.{OnOk};
+ghost use Rattle.std.specs.Prelude.{ℕ, ◌++◌, List, OnOk};
 ghost use Rattle.std.specs.Io.KnownBytes.{Appends};
 ghost use Rattle.ivl_solver.specs.Faults.{told_of};
-ghost use Rattle.ivl_solver.specs.Printed.{domain_line, domain_lines, state_line, told_line};
+ghost use Rattle.ivl_solver.specs.Printed.{domain_line, state_line, told_line};
 
 use crate::fault::Fault;
 use crate::solver::Solver;
@@ -21,9 +21,17 @@ pub fn write_state<W: Write>(writer: &mut W, solver: &Solver) -> io::Result<()>
     }
 }
 
-/// Writes the domain of each variable, one per line.
-pub fn write_domains<W: Write>(writer: &mut W, solver: &Solver) -> io::Result<()>
-    ensures { OnOk result (Appends (W.contents writer.old) (W.contents writer.new) (domain_lines solver.now.names solver.now.domains)) }
+/// Writes the domain of each variable, one per line, and then what `write_state` writes.
+pub fn write_shown<W: Write>(writer: &mut W, solver: &Solver) -> io::Result<()>
+    ensures { OnOk result ((shown : List ℕ)
+        × Appends (W.contents writer.old) (W.contents writer.new) (shown ++ state_line solver.now.domains)) }
+{
+    write_domains(writer, solver)?;
+    write_state(writer, solver)
+}
+
+fn write_domains<W: Write>(writer: &mut W, solver: &Solver) -> io::Result<()>
+    ensures { OnOk result ((text : List ℕ) × Appends (W.contents writer.old) (W.contents writer.new) text) }
 {
     for (name, domain) in solver.names().iter().zip(solver.domains()) {
         write_domain(writer, name.as_str(), domain)?;
