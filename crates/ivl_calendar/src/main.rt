@@ -8,7 +8,7 @@ mod requests;
 mod rooms;
 
 use anyhow::Result;
-use ivl_words::VERSION;
+use ivl_lines::VERSION;
 use requests::Calendar;
 use std::io::{BufRead, BufReader};
 use std::{env, io};

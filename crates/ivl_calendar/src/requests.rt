@@ -2,7 +2,7 @@
 
 use crate::dates::{days_from, interval_text, set_text};
 use crate::rooms::{Room, free_in_all};
-use ivl_words::{next_word, number_from, one_word, three_words, two_words};
+use ivl_lines::{next_word, number_from, one_word, three_words, two_words};
 use std::alloc::{AllocError, Global};
 
 /// Rooms, each with its name at the same index.

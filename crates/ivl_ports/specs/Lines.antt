@@ -9,7 +9,7 @@
 use Rattle.std.specs.Prelude.{◌≡◌, ℕ, ℤ, pos, negsuc, ◌&&◌, ◌⊎◌, nat_le, nat_lt, if◌then◌else◌, bytes_eq, codes, List, [], ◌∷◌, MatchBool, Option, None, Some, option_and_then}
 use Rattle.ivl_laws.specs.Runs.{Covers, IsRunsOf}
 use Rattle.ivl_laws.specs.Sets.{HasNone, Intersection, IsBetween, IsSubset, Union, Without}
-use Rattle.ivl_words.specs.Numbers.{number_of}
+use Rattle.ivl_lines.specs.Numbers.{number_of}
 use Rattle.intervallum.specs.Rooms.{FitsAt, IsFirstFit}
 
 abbrev pub up_to : ℕ → ℤ → Option ℕ

@@ -13,7 +13,7 @@ mod ports;
 mod requests;
 
 use anyhow::Result;
-use ivl_words::VERSION;
+use ivl_lines::VERSION;
 use ports::Ports;
 use requests::answer;
 use std::io::{BufRead, BufReader};

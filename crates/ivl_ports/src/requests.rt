@@ -2,13 +2,13 @@
 ghost use Rattle.std.specs.Prelude.{◌≡◌, ◌≤◌, pos, IfSome, OnOk};
 ghost use Rattle.ivl_laws.specs.Runs.{Covers};
 ghost use Rattle.ivl_laws.specs.Sets.{IsBetween, IsSubset};
-ghost use Rattle.ivl_words.specs.Words.{words_between};
+ghost use Rattle.ivl_lines.specs.Words.{words_between};
 ghost use Rattle.ivl_ports.specs.Lines.{count_of, given_of, port_of, Changes, Gives, IsDone, IsPortSet, Takes};
 
 use crate::ports::Ports;
 use intervallum::interval::Interval;
 use intervallum::ops::Range;
-use ivl_words::{next_word, number_from, one_word, two_words};
+use ivl_lines::{next_word, number_from, one_word, two_words};
 use std::alloc::{AllocError, Global};
 
 /// Returns the answer to a line: the ports that were taken, `none`, `ok`, the free ports, or an error message. A line

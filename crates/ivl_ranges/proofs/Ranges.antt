@@ -4,7 +4,7 @@ use Rattle.std.specs.Prelude.{int_le, option_and_then}
 use Rattle.std.specs.List.{after_first, before_first}
 use Rattle.std.proofs.lemmas.Bool.{cases_Bool, eqb-true}
 use Rattle.std.proofs.lemmas.Int.{ints}
-use Rattle.ivl_words.specs.Numbers.{number_of}
+use Rattle.ivl_lines.specs.Numbers.{number_of}
 use Rattle.ivl_ranges.specs.Indexes.{range_i64}
 use Rattle.ivl_ranges.specs.Lines.{after_dot, in_order, is_dot, range_of}
 

@@ -11,7 +11,7 @@
 use Rattle.std.specs.Prelude.{◌≡◌, ◌-◌, ◌^◌, ◌==◌, ◌&&◌, ℕ, ℤ, pos, negsuc, int_le, nat_le, if◌then◌else◌, Bool, MatchBool, List, [], ◌∷◌, drop, slice_index, slice_set, bytes_eq, codes, Option, None, Some, option_and_then, option_map}
 use Rattle.std.specs.List.{after_first, before_first}
 use Rattle.ivl_laws.specs.Runs.{Covers, IsRunsOf}
-use Rattle.ivl_words.specs.Numbers.{number_of}
+use Rattle.ivl_lines.specs.Numbers.{number_of}
 use Rattle.ivl_ranges.specs.Indexes.{range_i64}
 
 abbrev pub is_dot : ℕ → Bool

@@ -13,7 +13,7 @@ mod access;
 mod requests;
 
 use anyhow::Result;
-use ivl_words::VERSION;
+use ivl_lines::VERSION;
 use requests::Access;
 use std::io::{BufRead, BufReader};
 use std::{env, io};

@@ -1,6 +1,6 @@
 //! The requests about an access and their answers, one line each.
 ghost use Rattle.std.specs.Prelude.{◌≡◌, ◌<◌, ℕ, ℤ, List, IfOk, OnErr, OnOk};
-ghost use Rattle.ivl_words.specs.Words.{words_between};
+ghost use Rattle.ivl_lines.specs.Words.{words_between};
 ghost use Rattle.ivl_ranges.specs.Lines.{length_in, length_of, range_of, ranges_of, Changes, IsDone, IsSetOf, SetsLength, SetsRanges};
 
 use crate::access::{is_safe, safe_indexes};
@@ -8,7 +8,7 @@ use intervallum::interval::Interval;
 use intervallum::interval_set::IntervalSet;
 use intervallum::ops::Range;
 use ivl_expr::EvalFault;
-use ivl_words::{next_word, number_from, one_word};
+use ivl_lines::{next_word, number_from, one_word};
 use std::alloc::{AllocError, Global};
 use std::marker::Model;
 

@@ -6,9 +6,11 @@ use Rattle.ivl_registers.specs.Actions.{Action, Answer}
 use Rattle.ivl_registers.specs.Step.{Run}
 use Rattle.ivl_session.specs.Reading.{Reading, blank, bad, command, reading_of}
 use Rattle.ivl_session.specs.Printed.{printed}
-use Rattle.ivl_session.specs.Session.{i64_range, actions_of, with_newline, placed, Answers, AnswersReading}
+use Rattle.ivl_lines.specs.Answered.{IsAnswered}
+use Rattle.ivl_lines.specs.Lines.{with_newline}
+use Rattle.ivl_session.specs.Session.{i64_range, actions_of, placed, Answers, AnswersReading}
 
-pub no_lines : (s : List (List (ℤ × ℤ))) → Answers s [] [] s
+no_lines : (s : List (List (ℤ × ℤ))) → Answers s [] [] s
 no_lines s = record { replies = []; run = refl; written = refl }
 
 -- one line
@@ -20,9 +22,6 @@ answers_reading s t line text (command action) e h = record {
   run = rw e (t, h.1, refl);
   written = rw (h.2, e) (sym (append-nil (with_newline (printed h.0))));
 }
-
-pub one_line : (s t : List (List (ℤ × ℤ))) (line text : List ℕ) (reading : Reading) → reading ≡ reading_of line → AnswersReading s reading text t → Answers s (line ∷ []) text t
-one_line s t line text reading e h = answers_reading s t line text reading (sym e) h
 
 actions_of-append : (xs ys : List Reading) → actions_of (xs ++ ys) ≡ actions_of xs ++ actions_of ys
 actions_of-append [] ys = refl
@@ -49,9 +48,16 @@ placed-append a b (command c ∷ xs) ys (r ∷ rs) ss h =
     ap (λ more. with_newline (printed r) ++ more) (placed-append h.0 b xs ys rs ss h.2)
     ∙ sym (append_assoc (with_newline (printed r)) (placed xs rs) (placed ys ss))
 
-pub Answers-append : (a b c : List (List (ℤ × ℤ))) (ls ms : List (List ℕ)) (t u : List ℕ) → Answers a ls t b → Answers b ms u c → Answers a (ls ++ ms) (t ++ u) c
+Answers-append : (a b c : List (List (ℤ × ℤ))) (ls ms : List (List ℕ)) (t u : List ℕ) → Answers a ls t b → Answers b ms u c → Answers a (ls ++ ms) (t ++ u) c
 Answers-append a b c ls ms t u h k = record {
   replies = h.replies ++ k.replies;
   run = rw (map-append, actions_of-append) (Run-append a b c (actions_of (map reading_of ls)) (actions_of (map reading_of ms)) h.replies k.replies h.run k.run);
   written = rw (h.written, k.written, map-append) (sym (placed-append a b (map reading_of ls) (map reading_of ms) h.replies k.replies h.run));
 }
+
+-- what answers the lines one after another answers them as a whole
+pub answers_of : (s t : List (List (ℤ × ℤ))) (lines : List (List ℕ)) (text : List ℕ) → IsAnswered (λ old line said new. AnswersReading old (reading_of line) said new) s lines text t → Answers s lines text t
+answers_of s t [] text h = rw (h.0, h.1) (no_lines s)
+answers_of s t (line ∷ lines) text h =
+    let first : Answers s (line ∷ []) h.1 h.0 = answers_reading s h.0 line h.1 (reading_of line) refl h.3 in
+    rw h.5 (Answers-append s h.0 t (line ∷ []) lines h.1 h.2 first (answers_of h.0 t lines h.2 h.4))

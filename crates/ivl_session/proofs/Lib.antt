@@ -1,5 +1,3 @@
 pub mod Answered
-pub mod Cuts
 pub mod Shown
-pub mod Splits
 pub mod Pairs

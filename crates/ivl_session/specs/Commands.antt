@@ -6,7 +6,7 @@
 --     action_from name words      what the command does
 use Rattle.std.specs.Prelude.{ℕ, ℤ, ◌-◌, ◌&&◌, List, [], ◌∷◌, nat_le, if◌then◌else◌, bytes_eq, codes, Option, None, Some, option_map, option_and_then}
 use Rattle.ivl_registers.specs.Actions.{Making, pairs, union, intersection, difference, symmetric, complement, at_least, at_most, above, below, plus, minus, times, plus_value, minus_value, times_value, Question, has, size, count, low, high, same, subset, meets, show, Action, make, ask}
-use Rattle.ivl_words.specs.Numbers.{number_of, pairs_of}
+use Rattle.ivl_lines.specs.Numbers.{number_of, pairs_of}
 
 abbrev pub register_of : List ℕ → Option ℕ
 register_of (letter ∷ []) = if nat_le 97 letter && nat_le letter 122 then Some (letter - 97) else None

@@ -1,7 +1,7 @@
 -- How the program ends.
 use Rattle.std.specs.Prelude.{ℕ, List, [], codes, Result, Ok, Err}
-use Rattle.ivl_session.specs.declared.engine.SessionFault.{SessionFault}
-use Rattle.ivl_session.specs.declared.engine.SessionFault.TheVariants.{Read, Write, Memory}
+use Rattle.ivl_lines.specs.declared.session.SessionFault.{SessionFault}
+use Rattle.ivl_lines.specs.declared.session.SessionFault.TheVariants.{Read, Write, Memory}
 
 -- the line on standard error
 abbrev pub fault_line : SessionFault → List ℕ

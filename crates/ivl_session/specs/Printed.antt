@@ -1,6 +1,7 @@
 -- The text of a reply.
-use Rattle.std.specs.Prelude.{ℕ, ℤ, ◌≤ℤ◌, Bool, List, [], ◌∷◌, ◌++◌, All, codes, decimal, flat_map, if◌then◌else◌, Option, None, Some}
+use Rattle.std.specs.Prelude.{ℕ, ℤ, ◌≤ℤ◌, Bool, List, All, codes, decimal, if◌then◌else◌, Option, None, Some}
 use Rattle.std.specs.Fmt.{signed_decimal}
+use Rattle.ivl_lines.specs.Sets.{runs_text}
 use Rattle.ivl_registers.specs.Actions.{Answer, done, cut, flag, sized, counted, value, runs, refused}
 use Rattle.ivl_registers.specs.declared.reply.Refusal.{Refusal}
 use Rattle.ivl_registers.specs.declared.reply.Refusal.TheVariants.{Register, Range, Fit, Memory}
@@ -20,15 +21,6 @@ cut_text b = if b then codes "cut" else codes "ok"
 abbrev pub value_text : Option ℤ → List ℕ
 value_text None = codes "none"
 value_text (Some z) = signed_decimal z
-
--- one run, as `[l..u]`
-abbrev pub run_text : ℤ × ℤ → List ℕ
-run_text p = codes "[" ++ signed_decimal p.0 ++ codes ".." ++ signed_decimal p.1 ++ codes "]"
-
--- the runs one after the other, in braces unless there is just one
-abbrev pub runs_text : List (ℤ × ℤ) → List ℕ
-runs_text (p ∷ []) = run_text p
-runs_text list = codes "{" ++ flat_map run_text list ++ codes "}"
 
 abbrev pub printed : Answer → List ℕ
 printed done = codes "ok"

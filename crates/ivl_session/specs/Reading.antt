@@ -2,7 +2,7 @@
 use Rattle.std.specs.Prelude.{ℕ, List, [], ◌∷◌, if◌then◌else◌, Option, None, Some}
 use Rattle.std.specs.Str.{is_utf8}
 use Rattle.ivl_registers.specs.Actions.{Action}
-use Rattle.ivl_session.specs.Lines.{words_of}
+use Rattle.ivl_lines.specs.Lines.{words_of}
 use Rattle.ivl_session.specs.Commands.{action_from}
 
 pub data Reading : Type 0 where

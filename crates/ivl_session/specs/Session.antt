@@ -4,6 +4,7 @@
 --     IsSessionText lines text      the same from 26 empty registers
 --     IsWholeSessionText lines text      the same, and no command was refused as out of memory
 use Rattle.std.specs.Prelude.{◌≡◌, ◌≢◌, ℕ, ℤ, pos, negsuc, ◌^◌, ◌-◌, All, List, [], ◌∷◌, ◌++◌, codes, map, replicate}
+use Rattle.ivl_lines.specs.Lines.{with_newline}
 use Rattle.ivl_registers.specs.Actions.{Action, Answer, refused}
 use Rattle.ivl_registers.specs.Step.{MayStep, Run}
 use Rattle.ivl_registers.specs.declared.reply.Refusal.TheVariants.{Memory}
@@ -20,9 +21,6 @@ actions_of [] = []
 actions_of (blank ∷ more) = actions_of more
 actions_of (bad ∷ more) = actions_of more
 actions_of (command action ∷ more) = action ∷ actions_of more
-
-abbrev pub with_newline : List ℕ → List ℕ
-with_newline text = text ++ 10 ∷ []
 
 -- the replies in the places of their commands, and `bad line` for each line that is no command
 abbrev pub placed : List Reading → List Answer → List ℕ

@@ -1,11 +1,11 @@
 //! Parses the words of a line as a command.
 ghost use Rattle.std.specs.Prelude.{◌≡◌, IfOk, IsSomeAnd, MatchOption, None, option_map};
 ghost use Rattle.ivl_session.specs.Commands.{action_from, looked_up, commands, register_of, register_alone_of, two_registers_of, three_registers_of, register_and_number_of, two_registers_and_number_of, of_pairs};
-ghost use Rattle.ivl_words.specs.Words.{words_between};
+ghost use Rattle.ivl_lines.specs.Words.{words_between};
 ghost use Rattle.ivl_session.specs.View.{action_of};
 
+use ivl_lines::{next_word, number_from, one_word, pairs_from, three_words, two_words};
 use ivl_registers::Command;
-use ivl_words::{next_word, number_from, one_word, pairs_from, three_words, two_words};
 use std::alloc::{AllocError, Global};
 
 /// Returns the command with this name and these words after it, or `None` if that is not a command.

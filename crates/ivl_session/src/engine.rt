@@ -1,48 +1,51 @@
-//! The session: reads lines, carries them out and writes the answers.
-ghost use Rattle.std.specs.Prelude.{◌≡◌, ◌≢◌, ℕ, List, [], ◌∷◌, ◌++◌, OnOk, IfSome, IfNone, IfErr, IsErrOf};
-ghost use Rattle.std.specs.Io.KnownBytes.{Appends, Consumes, Keeps, IsAtEnd};
-ghost use Rattle.ivl_session.specs.Lines.{lines_of, ended_lines_of};
-ghost use Rattle.ivl_session.specs.Session.{Answers, AnswersReading, IsSessionText};
+//! What answers the lines of a session of the calculator, and how the session ends.
+ghost use Rattle.std.specs.Prelude.{◌≡◌, ℕ, List, ◌++◌, OnOk, IfSome, IsErrOf};
+ghost use Rattle.std.specs.Io.KnownBytes.{Appends, Consumes, IsAtEnd};
+ghost use Rattle.ivl_lines.specs.Lines.{lines_of, ended_lines_of};
+ghost use Rattle.ivl_session.specs.Session.{AnswersReading, IsSessionText};
 ghost use Rattle.ivl_session.specs.Outcome.{outcome_of};
 ghost use Rattle.ivl_session.specs.View.{view_of};
-ghost use Rattle.ivl_session.specs.Cut.{Progress, HasNoNewline, IsSplitAtNewline};
 
 use crate::lines::{Line, read_line};
 use crate::replies::write_reply;
+use ivl_lines::{Answers, LineFault, SessionFault, serve};
 use ivl_registers::Calc;
-use std::alloc::{AllocError, Global};
+use std::alloc::Global;
 use std::io;
-use std::io::{ErrorKind, Read, Write};
-use thiserror::Error;
-
-/// Why a session ended before its input did.
-#[derive(Clone, Copy, Debug, PartialEq, Eq, Error)]
-pub enum SessionFault {
-    /// A read failed.
-    #[error("read failed")]
-    Read,
-    /// A write or a flush failed.
-    #[error("write failed")]
-    Write,
-    /// An allocation failed.
-    #[error("out of memory")]
-    Memory,
-}
-
-impl From<AllocError> for SessionFault {
-    ghost use Rattle.ivl_session.specs.declared.engine.SessionFault.TheVariants.{Memory};
-
-    ghost from_gives = { λ _ fault. fault ≡ Memory };
-
-    fn from(_: AllocError) -> SessionFault {
-        SessionFault::Memory
-    }
-}
+use std::io::{Read, Write};
+use std::marker::Model;
 
 const REGISTERS: usize = 26;
 
-// The most bytes that one read may return.
-const PIECE: usize = 65536;
+// The registers of a session. A contract sees the lists of their runs.
+#[derive(Drop)]
+struct Registers {
+    alloc: Global,
+    calc: Calc<i64>,
+}
+
+impl Model for Registers {
+    ghost use Rattle.std.specs.Prelude.{ℤ, List};
+
+    ghost Value = { List (List (ℤ × ℤ)) };
+
+    ghost view = { λ r. r.calc };
+}
+
+impl Answers for Registers {
+    ghost use Rattle.ivl_session.specs.Reading.{reading_of};
+    ghost use Rattle.ivl_session.specs.Session.{AnswersReading};
+
+    ghost allowed = { λ old line text new. AnswersReading old (reading_of line) text new };
+
+    fn answer<W: Write>(&mut self, line: &[u8], writer: &mut W) -> Result<(), LineFault> {
+        let read = read_line(self.alloc, line)?;
+        if write_answer(&mut self.calc, &read, writer).is_err() {
+            return Err(LineFault::Write);
+        }
+        Ok(())
+    }
+}
 
 /// Answers each line of the input, over registers that are empty at first. What is written is
 /// flushed before each read and at the end.
@@ -75,121 +78,8 @@ pub fn session<R: Read, W: Write>(
         × IsSessionText (ended_lines_of front) text
         × Appends (W.contents writer.old) (W.contents writer.new) text }
 {
-    let mut calc = Calc::new(alloc, REGISTERS)?;
-    let mut line = Vec::new(alloc);
-    let mut piece = [0u8; PIECE];
-    'reads: for _ in 0..u64::MAX {
-        flush(writer)?;
-        match reader.read(&mut piece) {
-            Ok(0) => return finish(alloc, &mut calc, &line, writer),
-            Ok(count) => answer_piece(alloc, &mut calc, &mut line, &piece[..count], writer)?,
-            Err(error) => {
-                if error.kind() != ErrorKind::Interrupted {
-                    return Err(SessionFault::Read);
-                }
-            }
-        }
-    }
-    Err(SessionFault::Read)
-}
-
-fn flush<W: Write>(writer: &mut W) -> Result<(), SessionFault>
-    ensures kept { Keeps (W.contents writer.old) (W.contents writer.new) }
-    ensures never_read { IfErr result (λ fault. fault ≢ SessionFault.Read) }
-{
-    if writer.flush().is_err() {
-        return Err(SessionFault::Write);
-    }
-    Ok(())
-}
-
-// Answers the last line, which no newline ended.
-fn finish<W: Write>(
-    alloc: Global,
-    calc: &mut Calc<i64>,
-    last: &[u8],
-    writer: &mut W,
-) -> Result<(), SessionFault>
-    ensures ok { OnOk result ((text : List ℕ)
-        × Answers calc.old (last.now ∷ []) text calc.new
-        × Appends (W.contents writer.old) (W.contents writer.new) text) }
-    ensures never_read { IfErr result (λ fault. fault ≢ SessionFault.Read) }
-{
-    answer_line(alloc, calc, last, writer)?;
-    flush(writer)
-}
-
-// Answers the lines that a newline of the piece ends, and keeps what comes after the last newline.
-fn answer_piece<W: Write>(
-    alloc: Global,
-    calc: &mut Calc<i64>,
-    line: &mut Vec<u8>,
-    piece: &[u8],
-    writer: &mut W,
-) -> Result<(), SessionFault>
-    requires { HasNoNewline line.old.items }
-    ensures ok { OnOk result (Progress (line.old.items ++ piece.now) line.new.items
-        calc.old calc.new (Appends (W.contents writer.old) (W.contents writer.new))) }
-    ensures never_read { IfErr result (λ fault. fault ≢ SessionFault.Read) }
-{
-    let mut rest = piece;
-    while let Some((bytes, after)) = split_line(rest) {
-        answer_ended(alloc, calc, line, bytes, writer)?;
-        rest = after;
-    }
-    line.extend_from_slice(rest)?;
-    Ok(())
-}
-
-// The bytes before the first newline and those after it, or `None` if there is no newline.
-fn split_line(bytes: &[u8]) -> Option<(&[u8], &[u8])>
-    ensures none { IfNone result (HasNoNewline bytes.now) }
-    ensures some { IfSome result (λ parts. IsSplitAtNewline bytes.now parts.0.now parts.1.now) }
-{
-    let at = bytes.iter().position(|byte| *byte == b'\n')?;
-    Some((&bytes[..at], &bytes[at + 1..]))
-}
-
-// Answers the line that begins with what was kept of earlier pieces and ends with these bytes.
-fn answer_ended<W: Write>(
-    alloc: Global,
-    calc: &mut Calc<i64>,
-    line: &mut Vec<u8>,
-    bytes: &[u8],
-    writer: &mut W,
-) -> Result<(), SessionFault>
-    ensures ok { OnOk result ((text : List ℕ)
-        × Answers calc.old ((line.old.items ++ bytes.now) ∷ []) text calc.new
-        × Appends (W.contents writer.old) (W.contents writer.new) text) }
-    ensures emptied { OnOk result (line.new.items ≡ []) }
-    ensures never_read { IfErr result (λ fault. fault ≢ SessionFault.Read) }
-{
-    if line.is_empty() {
-        return answer_line(alloc, calc, bytes, writer);
-    }
-    line.extend_from_slice(bytes)?;
-    answer_line(alloc, calc, line, writer)?;
-    line.clear();
-    Ok(())
-}
-
-// Answers one line, unless it has no words.
-fn answer_line<W: Write>(
-    alloc: Global,
-    calc: &mut Calc<i64>,
-    line: &[u8],
-    writer: &mut W,
-) -> Result<(), SessionFault>
-    ensures ok { OnOk result ((text : List ℕ)
-        × Answers calc.old (line.now ∷ []) text calc.new
-        × Appends (W.contents writer.old) (W.contents writer.new) text) }
-    ensures never_read { IfErr result (λ fault. fault ≢ SessionFault.Read) }
-{
-    let read = read_line(alloc, line)?;
-    if write_answer(calc, &read, writer).is_err() {
-        return Err(SessionFault::Write);
-    }
-    Ok(())
+    let calc = Calc::new(alloc, REGISTERS)?;
+    serve(alloc, &mut Registers { alloc, calc }, reader, writer)
 }
 
 // Carries out what a line says, and writes the answer to it.

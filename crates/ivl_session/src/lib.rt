@@ -8,4 +8,5 @@ pub mod laws;
 mod lines;
 mod replies;
 
-pub use engine::{SessionFault, outcome, session};
+pub use engine::{outcome, session};
+pub use ivl_lines::SessionFault;

@@ -1,12 +1,11 @@
 //! What a line says.
 ghost use Rattle.std.specs.Prelude.{◌≡◌, IfOk};
-ghost use Rattle.std.specs.Str.Lines.{strip_carriage_return};
 ghost use Rattle.ivl_session.specs.Reading.{reading_of};
 ghost use Rattle.ivl_session.specs.View.{view_of};
 
 use crate::commands::command_from;
+use ivl_lines::{line_text, next_word};
 use ivl_registers::Command;
-use ivl_words::next_word;
 use std::alloc::{AllocError, Global};
 
 /// What a line says: nothing, a command, or something that is not a command.
@@ -28,23 +27,14 @@ pub enum Line {
 pub fn read_line(alloc: Global, line: &[u8]) -> Result<Line, AllocError>
     ensures { IfOk result (λ read. view_of read ≡ reading_of line.now) }
 {
-    let Ok(text) = str::from_utf8(line) else {
+    let Some(text) = line_text(line) else {
         return Ok(Line::Bad);
     };
-    let Some((name, words)) = next_word(without_return(text)) else {
+    let Some((name, words)) = next_word(text) else {
         return Ok(Line::Blank);
     };
     match command_from(alloc, name, words)? {
         Some(command) => Ok(Line::Command(command)),
         None => Ok(Line::Bad),
-    }
-}
-
-fn without_return(text: &str) -> &str
-    ensures { result.now ≡ strip_carriage_return text.entry.now }
-{
-    match text.strip_suffix('\r') {
-        Some(front) => front,
-        None => text,
     }
 }

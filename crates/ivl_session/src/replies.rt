@@ -1,8 +1,9 @@
 //! The text of a reply.
 ghost use Rattle.std.specs.Prelude.{◌≡◌, ◌≤ℤ◌, ◌++◌, All, OnOk, flat_map, codes};
 ghost use Rattle.std.specs.Io.KnownBytes.{Appends};
-ghost use Rattle.ivl_session.specs.Printed.{printed, refusal_text, runs_text, HasRunsInOrder};
-ghost use Rattle.ivl_session.specs.Session.{with_newline};
+ghost use Rattle.ivl_lines.specs.Sets.{runs_text};
+ghost use Rattle.ivl_session.specs.Printed.{printed, refusal_text, HasRunsInOrder};
+ghost use Rattle.ivl_lines.specs.Lines.{with_newline};
 ghost use Rattle.ivl_session.specs.View.{answer_of};
 
 use intervallum::interval::Interval;

@@ -5,8 +5,8 @@
 #[cfg(test)]
 mod tests;
 
+use ivl_lines::VERSION;
 use ivl_solver::{SessionFault, outcome, session};
-use ivl_words::VERSION;
 use std::io::BufWriter;
 use std::process::ExitCode;
 use std::{env, io};

@@ -1,3 +1,4 @@
 pub mod Ranges
 pub mod Requiring
-pub mod Splits
+pub mod Printing
+pub mod Answering

@@ -2,3 +2,5 @@ pub mod Faults
 pub mod Outcome
 pub mod Requests
 pub mod Solving
+pub mod Printed
+pub mod Answering

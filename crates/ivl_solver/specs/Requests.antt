@@ -6,7 +6,7 @@
 --     why_no_request name words      the fault of a command and the words after it that are no request
 --     needs_list name words      whether pairs may stand there, for which memory is needed
 use Rattle.std.specs.Prelude.{ℕ, ℤ, Bool, true, false, not, ◌&&◌, ◌||◌, List, [], ◌∷◌, bytes_eq, codes, find, if◌then◌else◌, is_none, Option, None, Some, option_map}
-use Rattle.ivl_words.specs.Numbers.{number_of, pairs_of}
+use Rattle.ivl_lines.specs.Numbers.{number_of, pairs_of}
 use Rattle.ivl_solver.specs.Faults.{Told, no_command, no_form, no_number}
 use Rattle.ivl_solver.specs.declared.request.Request.{Request}
 use Rattle.ivl_solver.specs.declared.request.Request.TheVariants as kept

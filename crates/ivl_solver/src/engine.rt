@@ -1,44 +1,35 @@
-//! The session: reads lines, carries them out and writes the answers.
-ghost use Rattle.std.specs.Prelude.{◌≡◌, ◌==◌, ◌++◌, ◌∷◌, IfNone, IfSome, None, OnOk, Some, length, position};
-ghost use Rattle.std.specs.Io.KnownBytes.{IsAtEnd};
+//! What answers the lines of a session of the store, and how the session ends.
+ghost use Rattle.std.specs.Prelude.{◌≡◌, ℕ, List, ◌++◌, [], IfSome, IsErrOf, OnOk};
+ghost use Rattle.std.specs.Io.KnownBytes.{Appends, Consumes, IsAtEnd};
+ghost use Rattle.ivl_lines.specs.Answered.{IsAnswered};
+ghost use Rattle.ivl_lines.specs.Lines.{ended_lines_of, lines_of};
+ghost use Rattle.ivl_lines.specs.Words.{words_between};
+ghost use Rattle.ivl_solver.specs.Answering.{AnswersAsked, AnswersLine, AnswersWords};
 ghost use Rattle.ivl_solver.specs.Outcome.{outcome_of};
+ghost use Rattle.ivl_solver.specs.Requests.{asked_of};
+ghost use Rattle.ivl_solver.specs.Solving.{State};
 
 use crate::fault::Fault;
-use crate::replies::{write_domains, write_fault, write_state};
+use crate::replies::{write_fault, write_shown, write_state};
 use crate::request::{Request, request_from};
 use crate::solver::Solver;
-use ivl_words::next_word;
-use std::alloc::{AllocError, Global};
+use ivl_lines::{Answers, LineFault, SessionFault, line_text, next_word, serve};
+use std::alloc::Global;
 use std::io;
-use std::io::{ErrorKind, Read, Write};
-use thiserror::Error;
+use std::io::{Read, Write};
 
-/// Why a session ended before its input did.
-#[derive(Clone, Copy, Debug, PartialEq, Eq, Error)]
-pub enum SessionFault {
-    /// A read failed.
-    #[error("read failed")]
-    Read,
-    /// A write or a flush failed.
-    #[error("write failed")]
-    Write,
-    /// An allocation for the output buffer or the bytes of a line failed.
-    #[error("out of memory")]
-    Memory,
-}
+impl Answers for Solver {
+    ghost use Rattle.ivl_solver.specs.Answering.{AnswersLine};
 
-impl From<AllocError> for SessionFault {
-    ghost use Rattle.ivl_solver.specs.declared.engine.SessionFault.TheVariants.{Memory};
+    ghost allowed = { AnswersLine };
 
-    ghost from_gives = { λ _ fault. fault ≡ Memory };
-
-    fn from(_: AllocError) -> SessionFault {
-        SessionFault::Memory
+    fn answer<W: Write>(&mut self, line: &[u8], writer: &mut W) -> Result<(), LineFault> {
+        if answer_line(self, line, writer).is_err() {
+            return Err(LineFault::Write);
+        }
+        Ok(())
     }
 }
-
-// The most bytes that one read may return.
-const PIECE: usize = 65536;
 
 /// Answers each line of the input, over a solver that has no variables at first. What is written is
 /// flushed before each read and at the end.
@@ -61,107 +52,41 @@ pub fn session<R: Read, W: Write>(
     reader: &mut R,
     writer: &mut W,
 ) -> Result<(), SessionFault>
-    ensures { OnOk result (IsAtEnd (R.remaining reader.new)) }
+    // All bytes were read, and what is written answers their lines.
+    ensures end { OnOk result (IsAtEnd (R.remaining reader.new)) }
+    ensures ok { OnOk result (IfSome (R.remaining reader.old) (λ bytes. (text : List ℕ) × (end : State)
+        × IsAnswered AnswersLine (record { names = []; domains = []; constraints = [] }) (lines_of bytes) text end
+        × Appends (W.contents writer.old) (W.contents writer.new) text)) }
+    // What is written answers the ended lines of the bytes that the reader gave.
+    ensures read { IsErrOf result SessionFault.Read → (front : List ℕ) × (text : List ℕ) × (end : State)
+        × Consumes (R.remaining reader.old) (R.remaining reader.new) front
+        × IsAnswered AnswersLine (record { names = []; domains = []; constraints = [] }) (ended_lines_of front) text end
+        × Appends (W.contents writer.old) (W.contents writer.new) text }
 {
-    let mut solver = Solver::new(alloc);
-    let mut line = Vec::new(alloc);
-    let mut piece = [0u8; PIECE];
-    'reads: for _ in 0..u64::MAX {
-        flush(writer)?;
-        match reader.read(&mut piece) {
-            Ok(0) => return finish(alloc, &mut solver, &line, writer),
-            Ok(count) => answer_piece(alloc, &mut solver, &mut line, &piece[..count], writer)?,
-            Err(error) => {
-                if error.kind() != ErrorKind::Interrupted {
-                    return Err(SessionFault::Read);
-                }
-            }
-        }
-    }
-    Err(SessionFault::Read)
-}
-
-fn flush<W: Write>(writer: &mut W) -> Result<(), SessionFault> {
-    if writer.flush().is_err() {
-        return Err(SessionFault::Write);
-    }
-    Ok(())
-}
-
-// Answers the last line, which no newline ended.
-fn finish<W: Write>(
-    alloc: Global,
-    solver: &mut Solver,
-    last: &[u8],
-    writer: &mut W,
-) -> Result<(), SessionFault> {
-    answer_line(alloc, solver, last, writer)?;
-    flush(writer)
-}
-
-// Answers the lines that a newline of the piece ends, and keeps what comes after the last newline.
-fn answer_piece<W: Write>(
-    alloc: Global,
-    solver: &mut Solver,
-    line: &mut Vec<u8>,
-    piece: &[u8],
-    writer: &mut W,
-) -> Result<(), SessionFault> {
-    let mut rest = piece;
-    while let Some((bytes, after)) = split_line(rest) {
-        line.extend_from_slice(bytes)?;
-        answer_line(alloc, solver, line, writer)?;
-        line.clear();
-        rest = after;
-    }
-    line.extend_from_slice(rest)?;
-    Ok(())
-}
-
-// The bytes before the first newline and those after it, or `None` if there is no newline.
-fn split_line(bytes: &[u8]) -> Option<(&[u8], &[u8])>
-    ensures none { IfNone result (position (λ byte. byte == 10) bytes.now ≡ None) }
-    ensures first { IfSome result (λ parts. position (λ byte. byte == 10) bytes.now ≡ Some (length parts.0.now)) }
-    ensures parts { IfSome result (λ parts. bytes.now ≡ parts.0.now ++ 10 ∷ parts.1.now) }
-{
-    let at = bytes.iter().position(|byte| *byte == b'\n')?;
-    Some((&bytes[..at], &bytes[at + 1..]))
+    serve(alloc, &mut Solver::new(alloc), reader, writer)
 }
 
 // Answers one line. A line without words has no answer.
-fn answer_line<W: Write>(
-    alloc: Global,
-    solver: &mut Solver,
-    line: &[u8],
-    writer: &mut W,
-) -> Result<(), SessionFault> {
-    let written = match str::from_utf8(line) {
-        Ok(text) => answer_text(alloc, solver, without_return(text), writer),
-        Err(_) => write_fault(writer, &Fault::Bytes),
-    };
-    if written.is_err() {
-        return Err(SessionFault::Write);
-    }
-    Ok(())
-}
-
-fn without_return(text: &str) -> &str {
-    match text.strip_suffix('\r') {
-        Some(front) => front,
-        None => text,
+fn answer_line<W: Write>(solver: &mut Solver, line: &[u8], writer: &mut W) -> io::Result<()>
+    ensures { OnOk result ((text : List ℕ)
+        × AnswersLine solver.old line.now text solver.new
+        × Appends (W.contents writer.old) (W.contents writer.new) text) }
+{
+    match line_text(line) {
+        Some(text) => answer_text(solver, text, writer),
+        None => write_fault(writer, &Fault::Bytes),
     }
 }
 
-fn answer_text<W: Write>(
-    alloc: Global,
-    solver: &mut Solver,
-    text: &str,
-    writer: &mut W,
-) -> io::Result<()> {
+fn answer_text<W: Write>(solver: &mut Solver, text: &str, writer: &mut W) -> io::Result<()>
+    ensures { OnOk result ((answer : List ℕ)
+        × AnswersWords solver.old (words_between text.now) answer solver.new
+        × Appends (W.contents writer.old) (W.contents writer.new) answer) }
+{
     let Some((name, words)) = next_word(text) else {
         return Ok(());
     };
-    match request_from(alloc, name, words) {
+    match request_from(solver.allocator(), name, words) {
         Ok(request) => answer_request(solver, request, writer),
         Err(fault) => write_fault(writer, &fault),
     }
@@ -172,15 +97,30 @@ fn answer_request<W: Write>(
     solver: &mut Solver,
     request: Request<'_>,
     writer: &mut W,
-) -> io::Result<()> {
-    let shows = matches!(&request, Request::Show);
-    if let Err(fault) = solver.carry_out(request) {
-        return write_fault(writer, &fault);
+) -> io::Result<()>
+    ensures { OnOk result ((text : List ℕ)
+        × AnswersAsked solver.old (asked_of request.entry) text solver.new
+        × Appends (W.contents writer.old) (W.contents writer.new) text) }
+{
+    match request {
+        Request::Show => write_shown(writer, solver),
+        change => answer_change(solver, change, writer),
     }
-    if shows {
-        write_domains(writer, solver)?;
+}
+
+fn answer_change<W: Write>(
+    solver: &mut Solver,
+    request: Request<'_>,
+    writer: &mut W,
+) -> io::Result<()>
+    ensures { OnOk result ((text : List ℕ)
+        × AnswersAsked solver.old (asked_of request.entry) text solver.new
+        × Appends (W.contents writer.old) (W.contents writer.new) text) }
+{
+    match solver.carry_out(request) {
+        Ok(()) => write_state(writer, solver),
+        Err(fault) => write_fault(writer, &fault),
     }
-    write_state(writer, solver)
 }
 
 /// Returns the exit status of the program, and what it writes to standard error.

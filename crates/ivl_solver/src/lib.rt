@@ -7,4 +7,5 @@ mod replies;
 mod request;
 mod solver;
 
-pub use engine::{SessionFault, outcome, session};
+pub use engine::{outcome, session};
+pub use ivl_lines::SessionFault;

@@ -1,11 +1,19 @@
 //! The text of an answer.
+ghost use Rattle.std.specs.Prelude.{ℕ, ◌++◌, List, OnOk};
+ghost use Rattle.std.specs.Io.KnownBytes.{Appends};
+ghost use Rattle.ivl_solver.specs.Faults.{told_of};
+ghost use Rattle.ivl_solver.specs.Printed.{domain_line, state_line, told_line};
+
 use crate::fault::Fault;
 use crate::solver::Solver;
+use intervallum::interval_set::IntervalSet;
 use std::io;
 use std::io::Write;
 
 /// Writes `no solution` if a domain is empty, and `ok` otherwise.
-pub fn write_state<W: Write>(writer: &mut W, solver: &Solver) -> io::Result<()> {
+pub fn write_state<W: Write>(writer: &mut W, solver: &Solver) -> io::Result<()>
+    ensures { OnOk result (Appends (W.contents writer.old) (W.contents writer.new) (state_line solver.now.domains)) }
+{
     if solver.has_empty() {
         writer.write_all(b"no solution\n")
     } else {
@@ -13,16 +21,35 @@ pub fn write_state<W: Write>(writer: &mut W, solver: &Solver) -> io::Result<()> 
     }
 }
 
-/// Writes the domain of each variable, one per line.
-pub fn write_domains<W: Write>(writer: &mut W, solver: &Solver) -> io::Result<()> {
+/// Writes the domain of each variable, one per line, and then what `write_state` writes.
+pub fn write_shown<W: Write>(writer: &mut W, solver: &Solver) -> io::Result<()>
+    ensures { OnOk result ((shown : List ℕ)
+        × Appends (W.contents writer.old) (W.contents writer.new) (shown ++ state_line solver.now.domains)) }
+{
+    write_domains(writer, solver)?;
+    write_state(writer, solver)
+}
+
+fn write_domains<W: Write>(writer: &mut W, solver: &Solver) -> io::Result<()>
+    ensures { OnOk result ((text : List ℕ) × Appends (W.contents writer.old) (W.contents writer.new) text) }
+{
     for (name, domain) in solver.names().iter().zip(solver.domains()) {
-        writeln!(writer, "{name} {domain}")?;
+        write_domain(writer, name.as_str(), domain)?;
     }
     Ok(())
 }
 
+fn write_domain<W: Write>(writer: &mut W, name: &str, domain: &IntervalSet<i64>) -> io::Result<()>
+    ensures { OnOk result (Appends (W.contents writer.old) (W.contents writer.new) (domain_line name.now domain.now)) }
+{
+    domain.in_whole();
+    writeln!(writer, "{name} {domain}")
+}
+
 /// Writes why a line was not carried out.
-pub fn write_fault<W: Write>(writer: &mut W, fault: &Fault<'_>) -> io::Result<()> {
+pub fn write_fault<W: Write>(writer: &mut W, fault: &Fault<'_>) -> io::Result<()>
+    ensures { OnOk result (Appends (W.contents writer.old) (W.contents writer.new) (told_line (told_of fault.now))) }
+{
     match fault {
         Fault::Bytes => writeln!(writer, "error: not UTF-8"),
         Fault::Command(word) => writeln!(writer, "error: unknown command {word}"),

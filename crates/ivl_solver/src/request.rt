@@ -1,11 +1,11 @@
 //! What a line asks for.
 ghost use Rattle.std.specs.Prelude.{◌≡◌, ◌≢◌, [], IfErr, IfOk, IsSome, IsTrue, None, Some, option_map};
-ghost use Rattle.ivl_words.specs.Words.{words_between};
+ghost use Rattle.ivl_lines.specs.Words.{words_between};
 ghost use Rattle.ivl_solver.specs.Faults.{told_of};
 ghost use Rattle.ivl_solver.specs.Requests.{asked_of, first_bad_number_of, name_and_pairs, needs_list, request_of, why_no_pairs, why_no_request};
 
 use crate::fault::Fault;
-use ivl_words::{next_word, number_from, pairs_from, three_words};
+use ivl_lines::{next_word, number_from, pairs_from, three_words};
 use std::alloc::Global;
 
 /// What a line asks for. Variables are named by words.

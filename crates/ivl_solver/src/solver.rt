@@ -53,6 +53,11 @@ impl Solver {
         }
     }
 
+    /// Returns the allocator.
+    pub fn allocator(&self) -> Global {
+        self.alloc
+    }
+
     /// Carries out what a line asks for. A fault of the line changes nothing; after
     /// [`Fault::Memory`], a `cut` or `sum` may be carried out in part.
     pub fn carry_out<'a>(&mut self, request: Request<'a>) -> Result<(), Fault<'a>>

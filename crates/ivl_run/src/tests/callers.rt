@@ -1,6 +1,6 @@
 //! A caller of a session, with a reader and a writer whose contracts name their bytes.
 ghost use Rattle.std.specs.Prelude.{IfOk};
-ghost use Rattle.ivl_session.specs.Lines.{lines_of};
+ghost use Rattle.ivl_lines.specs.Lines.{lines_of};
 ghost use Rattle.ivl_session.specs.Session.{IsSessionText};
 
 use ivl_session::{SessionFault, session};

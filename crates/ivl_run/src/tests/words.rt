@@ -1,5 +1,5 @@
 //! Words and numbers by example.
-use ivl_words::{next_word, number_from, one_word, pairs_from, three_words, two_words};
+use ivl_lines::{next_word, number_from, one_word, pairs_from, three_words, two_words};
 use std::test::Fail;
 
 #[test]

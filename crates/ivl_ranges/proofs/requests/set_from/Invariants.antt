@@ -3,7 +3,7 @@ use Rattle.std.specs.Prelude.{option_map}
 use denote.Text.{Utf8}
 use denote.Shadow.{shadow}
 use Rattle.ivl_laws.specs.Runs.{Covers, IsRunsOf}
-use Rattle.ivl_words.specs.Words.{words_between}
+use Rattle.ivl_lines.specs.Words.{words_between}
 use Rattle.ivl_ranges.specs.Lines.{all_ranges}
 use Rattle.ivl_ranges.proofs.requests.set_from.Given as goal
 

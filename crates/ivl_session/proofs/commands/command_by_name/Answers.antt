@@ -8,7 +8,7 @@ use Rattle.ivl_registers.specs.declared.command.Command.{Command}
 use Rattle.ivl_registers.specs.declared.command.Command.TheVariants as variants
 use Rattle.ivl_session.specs.Commands.{looked_up, commands, register_alone_of, two_registers_of, three_registers_of, register_and_number_of, two_registers_and_number_of}
 use Rattle.ivl_session.specs.View.{action_of}
-use Rattle.ivl_words.specs.Words.{words_between}
+use Rattle.ivl_lines.specs.Words.{words_between}
 use Rattle.ivl_session.proofs.commands.command_by_name.Goals as goal
 
 -- what is looked up under a name is what is looked up under the same key

@@ -1,79 +1,25 @@
-use Rattle.std.proofs.Common.{◌≡◌, ℕ, ℤ, List, [], ◌++◌, take, length, ◌<◌, Option, eqb, false, refl, sym, subst, arith}
+use Rattle.std.proofs.Common.{◌≡◌, ℕ, ℤ, List, Option, None, Some, subst}
+use Rattle.std.specs.Prelude.{IfSome}
+use Rattle.std.specs.Io.KnownBytes.{Appends}
 use Rattle.std.proofs.lemmas.Result.{on_ok_weaker}
-use Rattle.std.proofs.KnownBytes.{Consumes-kept, Consumes-nil, Consumes-trans}
-use Rattle.std.proofs.lemmas.List.Elements.{All-nil}
-use Rattle.std.specs.Io.KnownBytes.{Appends, Consumes}
-use Rattle.ivl_session.specs.Cut.{Progress}
-use Rattle.ivl_session.specs.Session.{start}
-use Rattle.ivl_session.proofs.Cuts.{Progress-append, Progress-none, Progress-flushed, finished, ended_text}
+use Rattle.ivl_lines.specs.Answered.{IsAnswered}
+use Rattle.ivl_lines.specs.Lines.{lines_of}
+use Rattle.ivl_session.specs.Reading.{reading_of}
+use Rattle.ivl_session.specs.Session.{Answers, AnswersReading, IsSessionText, start}
+use Rattle.ivl_session.proofs.Answered.{answers_of}
 use Rattle.ivl_session.proofs.engine.session.Goals as goal
-use Rattle.ivl_session.proofs.engine.session.Goals.{in-Ok+in_ok-answer_piece-in-Ok, in-Err+else-ne}
 
-pub returns-in-Ok-eq0-clause-ok : goal.returns-in-Ok-eq0-clause-ok
-returns-in-Ok-eq0-clause-ok g c =
-    let room : 0 < length c.read.new.buf = omega arith in
-    let none : c.in-Ok-eq0.field-0 ≡ 0 = omega arith in
-    let so_far = Progress-flushed _ _ _ _ _ _ _ c.reads.invariant.1.2 c.flush.ensures.kept in
-    on_ok_weaker c.finish.result
-    (λ answered. finished _ _ _ c.reads.invariant.1.0 c.read.new.buf c.reads.line.items c.deref.result.now answered.0 c.in-Ok-eq0.field-0 c.reads.calc c.finish.new.calc _ _ _
-    none room c.reads.invariant.1.1 c.in-Ok-eq0.ensures.bytes so_far c.deref.ensures.value (answered.1, answered.2))
-    c.finish.ensures.ok
+from_start : (s t : List (List (ℤ × ℤ))) (lines : List (List ℕ)) (text : List ℕ) → s ≡ start → IsAnswered (λ old line said new. AnswersReading old (reading_of line) said new) s lines text t → Answers start lines text t
+from_start s t lines text e h = subst (λ (old : List (List (ℤ × ℤ))). Answers old lines text t) e (answers_of s t lines text h)
 
-pub returns-then-ne-clause-read : goal.returns-then-ne-clause-read
-returns-then-ne-clause-read g c =
-    let so_far = Progress-flushed _ _ _ _ _ _ _ c.reads.invariant.1.2 c.flush.ensures.kept in
-    λ _. (
-      c.reads.invariant.1.0,
-      so_far.text,
-      Consumes-kept _ _ _ c.reads.invariant.1.0 c.reads.invariant.1.1 c.in-Err.ensures.bytes,
-      ended_text _ _ _ _ so_far,
-      so_far.written,
-    )
+texts_from : (r x y : Option (List ℕ)) (s t : List (List (ℤ × ℤ))) → s ≡ start → IfSome r (λ bytes. (text : List ℕ) × IsAnswered (λ old line said new. AnswersReading old (reading_of line) said new) s (lines_of bytes) text t × Appends x y text) → IfSome r (λ bytes. (text : List ℕ) × IsSessionText (lines_of bytes) text × Appends x y text)
+texts_from None x y s t e h = tt
+texts_from (Some bytes) x y s t e h = (h.0, (t, from_start s t (lines_of bytes) h.0 e h.1), h.2)
 
-pub reads-preserved : goal.reads-preserved
-reads-preserved g c =
-    let front : List ℕ = c.reads.invariant.1.0 in
-    let room : length c.read.new.buf ≡ 65536 = omega arith in
-    let so_far = Progress-flushed _ _ _ _ _ _ _ c.reads.invariant.1.2 c.flush.ensures.kept in
-    elim c.match-read.branch [
-      | in-Ok+in_ok-answer_piece-in-Ok w ↦
-          let piece : List ℕ = take w.in-Ok.count c.read.new.buf in
-          rw (w.writer-is, w.calc-is, w.line-is) (
-            room,
-            (
-              front ++ piece,
-              Consumes-trans _ _ _ front piece c.reads.invariant.1.1 w.in-Ok.ensures.bytes.0,
-              Progress-append front piece _ _ _ _ _ _ _ _ so_far w.in_ok-answer_piece-in-Ok.ensures.ok,
-            ),
-          )
-      | in-Err+else-ne w ↦
-          rw (w.writer-is, w.calc-is, w.line-is) (
-            room,
-            (
-              front,
-              Consumes-kept _ _ _ front c.reads.invariant.1.1 w.in-Err.ensures.bytes,
-              so_far,
-            ),
-          )
-    ]
+pub returns-clause-ok : goal.returns-clause-ok
+returns-clause-ok g c = on_ok_weaker c.serve.result (λ some. texts_from _ _ _ _ _ c.in_ok-calc.ensures some) c.serve.ensures.ok
 
 pub returns-clause-read : goal.returns-clause-read
-returns-clause-read g c =
-    λ _. (
-      c.reads.invariant.1.0,
-      c.reads.invariant.1.2.text,
-      c.reads.invariant.1.1,
-      ended_text _ _ _ _ c.reads.invariant.1.2,
-      c.reads.invariant.1.2.written,
-    )
-
--- nothing is read yet, and nothing is written
-begins : (r x : Option (List ℕ)) (line : List ℕ) (calc : List (List (ℤ × ℤ))) → line ≡ [] → calc ≡ start →
-    (front : List ℕ) × Consumes r r front × Progress front line start calc (Appends x x)
-begins r x line calc e f =
-    let P : List (List (ℤ × ℤ)) → Type 0 = λ s. Progress [] line start s (Appends x x) in
-    let Q : List ℕ → Type 0 = λ bytes. Progress [] bytes start start (Appends x x) in
-    ([], Consumes-nil r, subst P (sym f) (subst Q (sym e) (Progress-none [] start x (All-nil (λ b. eqb b 10 ≡ false)))))
-
-pub reads-init : goal.reads-init
-reads-init g c = (refl, begins _ _ _ _ c.new-line.ensures.items c.in_ok-calc.ensures)
+returns-clause-read g c = λ failed.
+    let answered = c.serve.ensures.read failed in
+    (answered.0, answered.1, answered.2, (_, from_start _ _ _ _ c.in_ok-calc.ensures answered.3), answered.4)

@@ -6,8 +6,8 @@ use Rattle.std.proofs.lemmas.Bool.{cases_Bool}
 use Rattle.std.proofs.lemmas.Str.{IsUtf8-from_is_utf8, is_utf8-from_IsUtf8}
 use Rattle.ivl_registers.specs.declared.command.Command.{Command}
 use Rattle.ivl_session.specs.Commands.{action_from}
-use Rattle.ivl_words.specs.Words.{words_between}
-use Rattle.ivl_session.specs.Lines.{words_of}
+use Rattle.ivl_lines.specs.Words.{words_between}
+use Rattle.ivl_lines.specs.Lines.{words_of}
 use Rattle.ivl_session.specs.Reading.{bad, reading_from, reading_of_words, reading_of}
 use Rattle.ivl_session.specs.View.{action_of}
 use Rattle.ivl_session.proofs.lines.read_line.Goals as goal
@@ -18,22 +18,22 @@ is_bad line never = elim (cases_Bool (is_utf8 line)) [
   | inr fails ↦ rw fails refl
 ]
 
--- what the line says, by the words of the text that it is without a return
-is_read : (line front text : List ℕ) (words : List (List ℕ)) → IsUtf8 line → front ≡ strip_carriage_return text → text ≡ line → words_between front ≡ words → reading_of_words words ≡ reading_of line
-is_read line front text words utf8 without same parts =
-    let all : words ≡ words_of line = sym parts ∙ ap (λ (t : List ℕ). words_between t) (without ∙ ap (λ (t : List ℕ). strip_carriage_return t) same) in
+-- what the line says, by the words of its text
+is_read : (line text : List ℕ) (words : List (List ℕ)) → IsUtf8 line → text ≡ strip_carriage_return line → words_between text ≡ words → reading_of_words words ≡ reading_of line
+is_read line text words utf8 same parts =
+    let all : words ≡ words_of line = sym parts ∙ ap (λ (t : List ℕ). words_between t) same in
     rw (all, is_utf8-from_IsUtf8 line utf8) refl
 
 pub returns-in_default : goal.returns-in_default
-returns-in_default c = is_bad c.args.line.now c.in_default.ensures.cases.0
+returns-in_default c = is_bad c.args.line.now c.in_default.ensures.none
 
 pub returns-in_default-next_word : goal.returns-in_default-next_word
 returns-in_default-next_word c =
-    is_read _ _ _ [] c.in-Ok.ensures.cases.1 c.without_return.ensures c.in-Ok.ensures.cases.0 c.in_default-next_word.ensures.none
+    is_read _ _ [] c.in-Some.ensures.utf8 c.in-Some.ensures.some c.in_default-next_word.ensures.none
 
 pub returns-in-Some-2 : goal.returns-in-Some-2
 returns-in-Some-2 c =
-    let says : Some (action_of c.in-Some-2.command) ≡ action_from c.in-Some.name.now (words_between c.in-Some.words.now) =
+    let says : Some (action_of c.in-Some-2.command) ≡ action_from c.in-Some-next_word.name.now (words_between c.in-Some-next_word.words.now) =
     ap (λ (o : Option (Command ℤ)). option_map action_of o) (sym c.in-Some-2.is) ∙ c.in_ok-command.ensures in
     ap reading_from says
-    ∙ is_read _ _ _ (c.in-Some.name.now ∷ words_between c.in-Some.words.now) c.in-Ok.ensures.cases.1 c.without_return.ensures c.in-Ok.ensures.cases.0 c.in-Some.ensures.some
+    ∙ is_read _ _ (c.in-Some-next_word.name.now ∷ words_between c.in-Some-next_word.words.now) c.in-Some.ensures.utf8 c.in-Some.ensures.some c.in-Some-next_word.ensures.some

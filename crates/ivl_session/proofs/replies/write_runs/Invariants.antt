@@ -1,7 +1,7 @@
 use Rattle.std.proofs.Common.{◌++◌, take}
 use Rattle.std.specs.Prelude.{flat_map, codes}
 use Rattle.std.specs.Io.KnownBytes.{Appends}
-use Rattle.ivl_session.specs.Printed.{run_text}
+use Rattle.ivl_lines.specs.Sets.{run_text}
 use Rattle.ivl_session.proofs.replies.write_runs.Given as goal
 
 abbrev pub invariant-loop-run : goal.invariant-loop-run

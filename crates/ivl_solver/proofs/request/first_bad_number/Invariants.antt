@@ -1,7 +1,7 @@
 use Rattle.std.proofs.Common.{◌≡◌, length}
 use denote.Text.{Utf8}
 use denote.Shadow.{shadow}
-use Rattle.ivl_words.specs.Words.{words_between}
+use Rattle.ivl_lines.specs.Words.{words_between}
 use Rattle.ivl_solver.specs.Requests.{first_bad_number_of}
 use Rattle.ivl_solver.proofs.request.first_bad_number.Given as goal
 

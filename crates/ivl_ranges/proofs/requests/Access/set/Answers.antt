@@ -1,6 +1,6 @@
 use Rattle.std.proofs.Common.{ℕ, ℤ, List, subst}
 use Rattle.std.specs.Prelude.{slice_set}
-use Rattle.ivl_words.specs.Words.{words_between}
+use Rattle.ivl_lines.specs.Words.{words_between}
 use Rattle.ivl_ranges.specs.Lines.{ranges_of, SetsRanges}
 use Rattle.ivl_ranges.proofs.Sets.{SetsRanges-set}
 use Rattle.ivl_ranges.proofs.requests.Access.set.Goals as goal

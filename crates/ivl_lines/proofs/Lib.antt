@@ -1,0 +1,5 @@
+pub mod Pairs
+pub mod Spaces
+pub mod Answered
+pub mod Cuts
+pub mod Splits

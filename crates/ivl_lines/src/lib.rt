@@ -1,0 +1,16 @@
+//! Programs that read lines: the words and numbers of a line, and a session, which reads lines to the end of its input,
+//! has each answered, and writes the answers.
+#![tactic(auto)]
+
+mod numbers;
+mod session;
+mod text;
+mod words;
+
+pub use numbers::{number_from, pairs_from};
+pub use session::{Answers, LineFault, SessionFault, serve};
+pub use text::line_text;
+pub use words::{next_word, one_word, three_words, two_words};
+
+/// The version of these crates, which the programs print.
+pub const VERSION: &str = "1.0.0";

@@ -1,0 +1,210 @@
+//! A session: reads lines, has each answered, and writes the answers.
+ghost use Rattle.std.specs.Prelude.{◌≡◌, ◌≢◌, ℕ, List, [], ◌++◌, OnOk, IfSome, IfNone, IfErr, IsErrOf};
+ghost use Rattle.std.specs.Io.KnownBytes.{Appends, Consumes, Keeps, IsAtEnd};
+ghost use Rattle.ivl_lines.specs.Lines.{lines_of, ended_lines_of};
+ghost use Rattle.ivl_lines.specs.Answered.{IsAnswered};
+ghost use Rattle.ivl_lines.specs.Cut.{Progress, HasNoNewline, IsSplitAtNewline};
+
+use std::alloc::{AllocError, Global};
+use std::io::{ErrorKind, Read, Write};
+use thiserror::Error;
+
+/// Why a line could not be answered, which ends the session.
+#[derive(Clone, Copy, Debug, PartialEq, Eq, Error)]
+pub enum LineFault {
+    /// A write failed.
+    #[error("write failed")]
+    Write,
+    /// An allocation failed.
+    #[error("out of memory")]
+    Memory,
+}
+
+impl From<AllocError> for LineFault {
+    ghost use Rattle.ivl_lines.specs.declared.session.LineFault.TheVariants.{Memory};
+
+    ghost from_gives = { λ _ fault. fault ≡ Memory };
+
+    fn from(_: AllocError) -> LineFault {
+        LineFault::Memory
+    }
+}
+
+/// Why a session ended before its input did.
+#[derive(Clone, Copy, Debug, PartialEq, Eq, Error)]
+pub enum SessionFault {
+    /// A read failed.
+    #[error("read failed")]
+    Read,
+    /// A write or a flush failed.
+    #[error("write failed")]
+    Write,
+    /// An allocation failed.
+    #[error("out of memory")]
+    Memory,
+}
+
+impl From<AllocError> for SessionFault {
+    ghost use Rattle.ivl_lines.specs.declared.session.SessionFault.TheVariants.{Memory};
+
+    ghost from_gives = { λ _ fault. fault ≡ Memory };
+
+    fn from(_: AllocError) -> SessionFault {
+        SessionFault::Memory
+    }
+}
+
+impl From<LineFault> for SessionFault {
+    ghost use Rattle.ivl_lines.specs.Faults.{session_fault_of};
+
+    ghost from_gives = { λ fault told. told ≡ session_fault_of fault };
+
+    fn from(fault: LineFault) -> SessionFault {
+        match fault {
+            LineFault::Write => SessionFault::Write,
+            LineFault::Memory => SessionFault::Memory,
+        }
+    }
+}
+
+/// What answers the lines of a session, and keeps the state between them.
+pub trait Answers {
+    /// From this state, this line may be answered with this text, and leave that state.
+    ghost allowed: { Self → List ℕ → List ℕ → Self → Type 0 };
+
+    /// Answers a line, which is given without its newline.
+    ///
+    /// # Errors
+    ///
+    /// `Write` if a write failed, `Memory` if an allocation failed that the line cannot be answered
+    /// without. Either ends the session.
+    fn answer<W: Write>(&mut self, line: &[u8], writer: &mut W) -> Result<(), LineFault>
+        ensures { OnOk result ((text : List ℕ)
+            × allowed self.old line.now text self.new
+            × Appends (W.contents writer.old) (W.contents writer.new) text) };
+}
+
+// The most bytes that one read may return.
+const PIECE: usize = 65536;
+
+/// Has each line of the input answered. What is written is flushed before each read and at the end.
+///
+/// A line is what stands between newlines; what follows the last newline is a line too. It is kept
+/// only if it does not end in the piece that it begins in.
+///
+/// # Errors
+///
+/// `Read` if a read failed, or the reader still returned bytes after 2^64 - 1 reads; an interrupted
+/// read is repeated. `Write` if a write or a flush failed. `Memory` if an allocation for the bytes
+/// of a line failed, or that of an answer.
+pub fn serve<A: Answers, R: Read, W: Write>(
+    alloc: Global,
+    answers: &mut A,
+    reader: &mut R,
+    writer: &mut W,
+) -> Result<(), SessionFault>
+    // All bytes were read, and what is written answers their lines.
+    ensures end { OnOk result (IsAtEnd (R.remaining reader.new)) }
+    ensures ok { OnOk result (IfSome (R.remaining reader.old) (λ bytes. (text : List ℕ)
+        × IsAnswered A.allowed answers.old (lines_of bytes) text answers.new
+        × Appends (W.contents writer.old) (W.contents writer.new) text)) }
+    // What is written answers the ended lines of the bytes that the reader gave.
+    ensures read { IsErrOf result SessionFault.Read → (front : List ℕ) × (text : List ℕ)
+        × Consumes (R.remaining reader.old) (R.remaining reader.new) front
+        × IsAnswered A.allowed answers.old (ended_lines_of front) text answers.new
+        × Appends (W.contents writer.old) (W.contents writer.new) text }
+{
+    let mut line = Vec::new(alloc);
+    let mut piece = [0u8; PIECE];
+    'reads: for _ in 0..u64::MAX {
+        flush(writer)?;
+        match reader.read(&mut piece) {
+            Ok(0) => return finish(answers, &line, writer),
+            Ok(count) => answer_piece(answers, &mut line, &piece[..count], writer)?,
+            Err(error) => {
+                if error.kind() != ErrorKind::Interrupted {
+                    return Err(SessionFault::Read);
+                }
+            }
+        }
+    }
+    Err(SessionFault::Read)
+}
+
+fn flush<W: Write>(writer: &mut W) -> Result<(), SessionFault>
+    ensures kept { Keeps (W.contents writer.old) (W.contents writer.new) }
+    ensures never_read { IfErr result (λ fault. fault ≢ SessionFault.Read) }
+{
+    if writer.flush().is_err() {
+        return Err(SessionFault::Write);
+    }
+    Ok(())
+}
+
+// Answers the last line, which no newline ended.
+fn finish<A: Answers, W: Write>(
+    answers: &mut A,
+    last: &[u8],
+    writer: &mut W,
+) -> Result<(), SessionFault>
+    ensures ok { OnOk result ((text : List ℕ)
+        × A.allowed answers.old last.now text answers.new
+        × Appends (W.contents writer.old) (W.contents writer.new) text) }
+    ensures never_read { IfErr result (λ fault. fault ≢ SessionFault.Read) }
+{
+    answers.answer(last, writer)?;
+    flush(writer)
+}
+
+// Answers the lines that a newline of the piece ends, and keeps what comes after the last newline.
+fn answer_piece<A: Answers, W: Write>(
+    answers: &mut A,
+    line: &mut Vec<u8>,
+    piece: &[u8],
+    writer: &mut W,
+) -> Result<(), SessionFault>
+    requires { HasNoNewline line.old.items }
+    ensures ok { OnOk result (Progress A.allowed (line.old.items ++ piece.now) line.new.items
+        answers.old answers.new (Appends (W.contents writer.old) (W.contents writer.new))) }
+    ensures never_read { IfErr result (λ fault. fault ≢ SessionFault.Read) }
+{
+    let mut rest = piece;
+    while let Some((bytes, after)) = split_line(rest) {
+        answer_ended(answers, line, bytes, writer)?;
+        rest = after;
+    }
+    line.extend_from_slice(rest)?;
+    Ok(())
+}
+
+// The bytes before the first newline and those after it, or `None` if there is no newline.
+fn split_line(bytes: &[u8]) -> Option<(&[u8], &[u8])>
+    ensures none { IfNone result (HasNoNewline bytes.now) }
+    ensures some { IfSome result (λ parts. IsSplitAtNewline bytes.now parts.0.now parts.1.now) }
+{
+    let at = bytes.iter().position(|byte| *byte == b'\n')?;
+    Some((&bytes[..at], &bytes[at + 1..]))
+}
+
+// Answers the line that begins with what was kept of earlier pieces and ends with these bytes.
+fn answer_ended<A: Answers, W: Write>(
+    answers: &mut A,
+    line: &mut Vec<u8>,
+    bytes: &[u8],
+    writer: &mut W,
+) -> Result<(), SessionFault>
+    ensures ok { OnOk result ((text : List ℕ)
+        × A.allowed answers.old (line.old.items ++ bytes.now) text answers.new
+        × Appends (W.contents writer.old) (W.contents writer.new) text) }
+    ensures emptied { OnOk result (line.new.items ≡ []) }
+    ensures never_read { IfErr result (λ fault. fault ≢ SessionFault.Read) }
+{
+    if line.is_empty() {
+        answers.answer(bytes, writer)?;
+        return Ok(());
+    }
+    line.extend_from_slice(bytes)?;
+    answers.answer(line, writer)?;
+    line.clear();
+    Ok(())
+}

@@ -1,0 +1,26 @@
+-- The answer to a line, by what was carried out or told.
+use Rattle.std.proofs.Common.{◌≡◌, ℕ, List, [], ◌++◌, Option, None, Some, inl, inr, refl, sym, ap}
+use Rattle.std.specs.Prelude.{IsSome, IsTrue}
+use Rattle.ivl_solver.specs.Answering.{AnswersAsked, AnswersRead}
+use Rattle.ivl_solver.specs.Faults.{Told}
+use Rattle.ivl_solver.specs.Printed.{IsReply, state_line, told_line}
+use Rattle.ivl_solver.specs.Requests.{Asked, var, cut, sum, show, needs_list, why_no_request}
+use Rattle.ivl_solver.specs.Solving.{State, fault_of}
+
+pub is_reply : (asked : Asked) (new : State) → IsReply asked new (state_line new.domains)
+is_reply (var name pairs) new = refl
+is_reply (cut name pairs) new = refl
+is_reply (sum x y z) new = refl
+is_reply show new = ([], refl)
+
+pub shown_reply : (asked : Asked) (old : State) (shown : List ℕ) → asked ≡ show → AnswersAsked old asked (shown ++ state_line old.domains) old
+shown_reply asked old shown e = rw e (inl (refl, refl, (shown, refl)))
+
+pub refused : (told : Option Told) (asked : Asked) (old new : State) → told ≡ fault_of asked old → (IsSome told → new ≡ old) → AnswersAsked old asked (told_line told) new
+refused None asked old new e same = inr (inr refl)
+refused (Some why) asked old new e same = inr (inl (why, sym e, refl, same refl))
+
+pub no_request : (told : Option Told) (name : List ℕ) (words : List (List ℕ)) (o : Option Asked) (old : State) → (IsSome told → o ≡ None) → (IsSome told → told ≡ Some (why_no_request name words)) → (told ≡ None → IsTrue (needs_list name words)) → AnswersRead old name words o (told_line told) old
+no_request (Some why) name words o old none fault memory = rw (none refl) (inl (ap (λ (t : Option Told). told_line t) (fault refl)), refl)
+no_request None name words None old none fault memory = (inr (memory refl, refl), refl)
+no_request None name words (Some asked) old none fault memory = inr (inr refl)

@@ -1,0 +1,40 @@
+-- The text of an answer.
+--     told_line told      why a line is not carried out, or that memory ran out
+--     domain_line name domain      the line of a variable: its name and its domain
+--     state_line domains      whether a domain is empty
+--     IsReply asked new text      the text answers a request that is carried out
+use Rattle.std.specs.Prelude.{◌≡◌, ℕ, ℤ, Bool, true, false, List, [], ◌∷◌, ◌++◌, codes, if◌then◌else◌, Option, None, Some}
+use Rattle.std.specs.List.{list_any}
+use Rattle.ivl_lines.specs.Lines.{with_newline}
+use Rattle.ivl_lines.specs.Sets.{runs_text}
+use Rattle.ivl_solver.specs.Faults.{Told, no_text, no_command, no_form, no_number, out_of_range, unknown, defined, repeated}
+use Rattle.ivl_solver.specs.Requests.{Asked, var, cut, sum, show}
+use Rattle.ivl_solver.specs.Solving.{State}
+
+abbrev pub told_line : Option Told → List ℕ
+told_line None = with_newline (codes "error: out of memory")
+told_line (Some no_text) = with_newline (codes "error: not UTF-8")
+told_line (Some (no_command word)) = codes "error: unknown command " ++ with_newline word
+told_line (Some (no_form form)) = codes "error: write " ++ with_newline form
+told_line (Some (no_number word)) = codes "error: bad number " ++ with_newline word
+told_line (Some out_of_range) = with_newline (codes "error: out of range")
+told_line (Some (unknown name)) = codes "error: unknown variable " ++ with_newline name
+told_line (Some (defined name)) = codes "error: " ++ name ++ with_newline (codes " is defined already")
+told_line (Some (repeated name)) = codes "error: " ++ name ++ with_newline (codes " is named twice")
+
+abbrev pub domain_line : List ℕ → List (ℤ × ℤ) → List ℕ
+domain_line name domain = name ++ (codes " " ++ with_newline (runs_text domain))
+
+abbrev pub has_no_run : List (ℤ × ℤ) → Bool
+has_no_run [] = true
+has_no_run (run ∷ runs) = false
+
+abbrev pub state_line : List (List (ℤ × ℤ)) → List ℕ
+state_line domains = with_newline (if list_any has_no_run domains then codes "no solution" else codes "ok")
+
+-- `show` has a line for each variable first
+abbrev pub IsReply : Asked → State → List ℕ → Type 0
+IsReply (var name pairs) new text = text ≡ state_line new.domains
+IsReply (cut name pairs) new text = text ≡ state_line new.domains
+IsReply (sum x y z) new text = text ≡ state_line new.domains
+IsReply show new text = (shown : List ℕ) × (text ≡ shown ++ state_line new.domains)
