@@ -126,13 +126,12 @@ fn posts(alloc: Global) -> Result<Vec<Post<i32>>, AllocError> {
 
 /// The domains that the posts have reached when this request is made.
 fn passed_by(request: u32) -> &'static Family {
-    let mut reached = FRESH;
-    for &(first, family) in &POSTED {
+    for &(first, family) in POSTED.iter().rev() {
         if first <= request {
-            reached = family;
+            return family;
         }
     }
-    reached
+    FRESH
 }
 
 /// The variable one is cut to no number, over and over.
