@@ -50,7 +50,7 @@ impl<B: Width> IntervalSet<B> {
     /// ensures in_place { HasSome (Intersection (Covers self.old) (IsBetween (widened (B.value value, B.value value)))) → IsOk result }
     /// ```
     ///
-    /// Words: [`IsBetween`](crate::definitions#IsBetween), [`IsRunsOf`](crate::definitions#IsRunsOf), [`Union`](crate::definitions#Union), [`Covers`](crate::definitions#Covers), [`Only`](crate::definitions#Only), [`HasSome`](crate::definitions#HasSome), [`Intersection`](crate::definitions#Intersection).
+    /// Words: [`IsBetween`](crate::definitions#IsBetween), [`IsRunsOf`](crate::definitions#IsRunsOf), [`Union`](crate::definitions#Union), [`Covers`](crate::definitions#Covers), [`Only`](crate::definitions#Only), [`HasSome`](crate::definitions#HasSome), [`Intersection`](crate::definitions#Intersection), [`widened`](crate::definitions#widened).
     pub fn insert(&mut self, value: B) -> Result<bool, AllocError> {
         debug_assert!({ #[allow(unused_imports)] use crate::proved::ivl_interval::ops::*; Interval::in_range(value, value) }, "{}", "the condition of `insert` is broken: Interval::in_range(value, value)");
         self.in_whole();
@@ -91,7 +91,7 @@ impl<B: Width> IntervalSet<B> {
     /// ensures in_place { ¬ (IsSubset (IsBetween (widened (B.value value, B.value value))) (Covers self.old)) → IsOk result }
     /// ```
     ///
-    /// Words: [`IsRunsOf`](crate::definitions#IsRunsOf), [`Without`](crate::definitions#Without), [`Covers`](crate::definitions#Covers), [`Only`](crate::definitions#Only), [`IsSubset`](crate::definitions#IsSubset), [`IsBetween`](crate::definitions#IsBetween).
+    /// Words: [`IsRunsOf`](crate::definitions#IsRunsOf), [`Without`](crate::definitions#Without), [`Covers`](crate::definitions#Covers), [`Only`](crate::definitions#Only), [`IsSubset`](crate::definitions#IsSubset), [`IsBetween`](crate::definitions#IsBetween), [`widened`](crate::definitions#widened).
     pub fn remove(&mut self, value: B) -> Result<bool, AllocError> {
         self.in_whole();
         if !self.contains(&value) {
@@ -132,7 +132,7 @@ impl<B: Width> IntervalSet<B> {
     /// ensures in_place { HasSome (Intersection (Covers self.old) (IsBetween (widened interval))) → IsOk result }
     /// ```
     ///
-    /// Words: [`IsRunsOf`](crate::definitions#IsRunsOf), [`Union`](crate::definitions#Union), [`Covers`](crate::definitions#Covers), [`IsBetween`](crate::definitions#IsBetween), [`HasNone`](crate::definitions#HasNone), [`HasSome`](crate::definitions#HasSome), [`Intersection`](crate::definitions#Intersection).
+    /// Words: [`IsRunsOf`](crate::definitions#IsRunsOf), [`Union`](crate::definitions#Union), [`Covers`](crate::definitions#Covers), [`IsBetween`](crate::definitions#IsBetween), [`HasNone`](crate::definitions#HasNone), [`HasSome`](crate::definitions#HasSome), [`Intersection`](crate::definitions#Intersection), [`widened`](crate::definitions#widened).
     pub fn insert_interval(&mut self, interval: Interval<B>) -> Result<(), AllocError> {
         let runs = self.as_runs();
         if interval.is_empty() {
@@ -174,7 +174,7 @@ impl<B: Width> IntervalSet<B> {
     /// ensures in_place { ¬ (IsSubset (IsBetween (widened interval)) (Covers self.old)) → IsOk result }
     /// ```
     ///
-    /// Words: [`IsRunsOf`](crate::definitions#IsRunsOf), [`Without`](crate::definitions#Without), [`Covers`](crate::definitions#Covers), [`IsBetween`](crate::definitions#IsBetween), [`HasNone`](crate::definitions#HasNone), [`IsSubset`](crate::definitions#IsSubset).
+    /// Words: [`IsRunsOf`](crate::definitions#IsRunsOf), [`Without`](crate::definitions#Without), [`Covers`](crate::definitions#Covers), [`IsBetween`](crate::definitions#IsBetween), [`HasNone`](crate::definitions#HasNone), [`IsSubset`](crate::definitions#IsSubset), [`widened`](crate::definitions#widened).
     pub fn remove_interval(&mut self, interval: Interval<B>) -> Result<(), AllocError> {
         let runs = self.as_runs();
         if interval.is_empty() {
