@@ -58,6 +58,23 @@ pub mod proved;
 pub mod rattle;
 pub mod set;
 
+/// The root's types, for glob imports.
+///
+/// ```
+/// use intervallum::prelude::*;
+///
+/// let morning = IntervalSet::new(8, 11);
+/// let noon = IntervalSet::new(12, 13);
+/// let open = morning.union(&noon);           // the two touch, so they are one run
+/// assert_eq!(open.interval_count(), 1);
+/// assert_eq!(open.size(), 6u32);
+/// assert!(open.contains(&12) && !open.contains(&14));
+/// assert!(open == IntervalSet::new(8, 13));
+/// ```
+pub mod prelude {
+    pub use crate::{IntervalSet, SizeNumber, Width};
+}
+
 pub use proved::width::{SizeNumber, Width};
 #[doc(inline)]
 pub use set::IntervalSet;

@@ -1,4 +1,4 @@
-//! Types of bounds of one's own: IPv4 addresses, and a type with many values outside its range.
+//! Types of bounds that are not integers of Rust: IPv4 addresses, and a type with many values outside its range.
 use intervallum::{IntervalSet, Width};
 use std::fmt::{self, Debug, Display};
 use std::net::Ipv4Addr;

@@ -1,4 +1,4 @@
-//! Types of bounds of our own: the shortest possible range, and a type with many values outside its range.
+//! Two more types of bounds: one with the shortest possible range, and one with many values outside its range.
 use intervallum::proved::width::Width;
 use std::fmt;
 use std::num::ParseIntError;
