@@ -1,9 +1,7 @@
 //! Which variables and products stand in an expression.
-use super::{add, check_set, mul, sub};
+use super::{add, mul, sub};
 use crate::compare::check_all;
 use ivl_expr::expr::Expr;
-use std::alloc::Global;
-use std::process::Abort;
 
 #[test]
 fn variables_that_occur_and_repeat(rt: HostRuntime) {
@@ -26,21 +24,4 @@ fn products_below_sums(rt: HostRuntime) {
     let below = add(&rt, sum, product);
     check_all(&rt, &have_products, &[false, true]);
     check_all(&rt, &[below.has_product()], &[true]);
-}
-
-/// Variable 0, and so many times 1 more.
-fn levels(rt: &(impl Alloc<A = Global> + Abort), count: u16) -> Expr<i32> {
-    let mut expr = Expr::Var(0);
-    for _ in 0..count {
-        expr = add(rt, expr, Expr::Const(1));
-    }
-    expr
-}
-
-#[test]
-fn ten_thousand_levels(rt: HostRuntime) {
-    let sum = levels(&rt, 10_000);
-    let found = [sum.occurs(0), sum.occurs(1), sum.has_product()];
-    check_all(&rt, &found, &[true, false, false]);
-    check_set(&rt, &sum, &[&[(1, 2)]], &[(10_001, 10_002)]);
 }
