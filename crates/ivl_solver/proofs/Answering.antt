@@ -1,20 +1,20 @@
 -- The answer to a line, by what was carried out or told.
-use Rattle.std.proofs.Common.{◌≡◌, ℕ, List, [], ◌++◌, Option, None, Some, inl, inr, refl, sym, ap}
+use Rattle.std.proofs.Common.{◌≡◌, ◌≢◌, ℕ, List, ◌++◌, Option, None, Some, inl, inr, refl, sym, ap}
 use Rattle.std.specs.Prelude.{IsSome, IsTrue}
 use Rattle.ivl_solver.specs.Answering.{AnswersAsked, AnswersRead}
 use Rattle.ivl_solver.specs.Faults.{Told}
-use Rattle.ivl_solver.specs.Printed.{IsReply, state_line, told_line}
+use Rattle.ivl_solver.specs.Printed.{domain_lines, reply, state_line, told_line}
 use Rattle.ivl_solver.specs.Requests.{Asked, var, cut, sum, show, needs_list, why_no_request}
 use Rattle.ivl_solver.specs.Solving.{State, fault_of}
 
-pub is_reply : (asked : Asked) (new : State) → IsReply asked new (state_line new.domains)
-is_reply (var name pairs) new = refl
-is_reply (cut name pairs) new = refl
-is_reply (sum x y z) new = refl
-is_reply show new = ([], refl)
+pub changed_reply : (asked : Asked) (new : State) → asked ≢ show → state_line new.domains ≡ reply asked new
+changed_reply (var name pairs) new other = refl
+changed_reply (cut name pairs) new other = refl
+changed_reply (sum x y z) new other = refl
+changed_reply show new other = absurd (other refl)
 
-pub shown_reply : (asked : Asked) (old : State) (shown : List ℕ) → asked ≡ show → AnswersAsked old asked (shown ++ state_line old.domains) old
-shown_reply asked old shown e = rw e (inl (refl, refl, (shown, refl)))
+pub shown_reply : (asked : Asked) (old : State) → asked ≡ show → AnswersAsked old asked (domain_lines old.names old.domains ++ state_line old.domains) old
+shown_reply asked old e = rw e (inl (refl, refl, refl))
 
 pub refused : (told : Option Told) (asked : Asked) (old new : State) → told ≡ fault_of asked old → (IsSome told → new ≡ old) → AnswersAsked old asked (told_line told) new
 refused None asked old new e same = inr (inr refl)

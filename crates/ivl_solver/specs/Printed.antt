@@ -1,9 +1,10 @@
 -- The text of an answer.
 --     told_line told      why a line is not carried out, or that memory ran out
 --     domain_line name domain      the line of a variable: its name and its domain
+--     domain_lines names domains      the lines of all variables
 --     state_line domains      whether a domain is empty
---     IsReply asked new text      the text answers a request that is carried out
-use Rattle.std.specs.Prelude.{◌≡◌, ℕ, ℤ, Bool, true, false, List, [], ◌∷◌, ◌++◌, codes, if◌then◌else◌, Option, None, Some}
+--     reply asked new      the answer to a request that is carried out
+use Rattle.std.specs.Prelude.{ℕ, ℤ, Bool, true, false, List, [], ◌∷◌, ◌++◌, codes, if◌then◌else◌, Option, None, Some}
 use Rattle.std.specs.List.{list_any}
 use Rattle.ivl_lines.specs.Lines.{with_newline}
 use Rattle.ivl_lines.specs.Sets.{runs_text}
@@ -25,6 +26,11 @@ told_line (Some (repeated name)) = codes "error: " ++ name ++ with_newline (code
 abbrev pub domain_line : List ℕ → List (ℤ × ℤ) → List ℕ
 domain_line name domain = name ++ (codes " " ++ with_newline (runs_text domain))
 
+abbrev pub domain_lines : List (List ℕ) → List (List (ℤ × ℤ)) → List ℕ
+domain_lines [] domains = []
+domain_lines (name ∷ names) [] = []
+domain_lines (name ∷ names) (domain ∷ domains) = domain_line name domain ++ domain_lines names domains
+
 abbrev pub has_no_run : List (ℤ × ℤ) → Bool
 has_no_run [] = true
 has_no_run (run ∷ runs) = false
@@ -32,9 +38,8 @@ has_no_run (run ∷ runs) = false
 abbrev pub state_line : List (List (ℤ × ℤ)) → List ℕ
 state_line domains = with_newline (if list_any has_no_run domains then codes "no solution" else codes "ok")
 
--- `show` has a line for each variable first
-abbrev pub IsReply : Asked → State → List ℕ → Type 0
-IsReply (var name pairs) new text = text ≡ state_line new.domains
-IsReply (cut name pairs) new text = text ≡ state_line new.domains
-IsReply (sum x y z) new text = text ≡ state_line new.domains
-IsReply show new text = (shown : List ℕ) × (text ≡ shown ++ state_line new.domains)
+abbrev pub reply : Asked → State → List ℕ
+reply (var name pairs) new = state_line new.domains
+reply (cut name pairs) new = state_line new.domains
+reply (sum x y z) new = state_line new.domains
+reply show new = domain_lines new.names new.domains ++ state_line new.domains

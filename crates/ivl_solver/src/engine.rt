@@ -1,12 +1,12 @@
 //! What answers the lines of a session of the store, and how the session ends.
-ghost use Rattle.std.specs.Prelude.{◌≡◌, ℕ, List, ◌++◌, [], IfSome, IsErrOf, OnOk};
+ghost use Rattle.std.specs.Prelude.{◌≡◌, ◌≢◌, ℕ, List, ◌++◌, [], IfSome, IsErrOf, OnOk};
 ghost use Rattle.std.specs.Io.KnownBytes.{Appends, Consumes, IsAtEnd};
 ghost use Rattle.ivl_lines.specs.Answered.{IsAnswered};
 ghost use Rattle.ivl_lines.specs.Lines.{ended_lines_of, lines_of};
 ghost use Rattle.ivl_lines.specs.Words.{words_between};
 ghost use Rattle.ivl_solver.specs.Answering.{AnswersAsked, AnswersLine, AnswersWords};
 ghost use Rattle.ivl_solver.specs.Outcome.{outcome_of};
-ghost use Rattle.ivl_solver.specs.Requests.{asked_of};
+ghost use Rattle.ivl_solver.specs.Requests.{asked_of, show};
 ghost use Rattle.ivl_solver.specs.Solving.{State};
 
 use crate::fault::Fault;
@@ -113,6 +113,7 @@ fn answer_change<W: Write>(
     request: Request<'_>,
     writer: &mut W,
 ) -> io::Result<()>
+    requires { asked_of request ≢ show }
     ensures { OnOk result ((text : List ℕ)
         × AnswersAsked solver.old (asked_of request.entry) text solver.new
         × Appends (W.contents writer.old) (W.contents writer.new) text) }

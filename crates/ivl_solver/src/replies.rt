@@ -1,8 +1,8 @@
 //! The text of an answer.
-ghost use Rattle.std.specs.Prelude.{ℕ, ◌++◌, List, OnOk};
+ghost use Rattle.std.specs.Prelude.{◌≡◌, ◌++◌, ◌<◌, [], IfNone, IfSome, OnOk, length, map, string_bytes};
 ghost use Rattle.std.specs.Io.KnownBytes.{Appends};
 ghost use Rattle.ivl_solver.specs.Faults.{told_of};
-ghost use Rattle.ivl_solver.specs.Printed.{domain_line, state_line, told_line};
+ghost use Rattle.ivl_solver.specs.Printed.{domain_line, domain_lines, state_line, told_line};
 
 use crate::fault::Fault;
 use crate::solver::Solver;
@@ -23,20 +23,54 @@ pub fn write_state<W: Write>(writer: &mut W, solver: &Solver) -> io::Result<()>
 
 /// Writes the domain of each variable, one per line, and then what `write_state` writes.
 pub fn write_shown<W: Write>(writer: &mut W, solver: &Solver) -> io::Result<()>
-    ensures { OnOk result ((shown : List ℕ)
-        × Appends (W.contents writer.old) (W.contents writer.new) (shown ++ state_line solver.now.domains)) }
+    ensures { OnOk result (Appends (W.contents writer.old) (W.contents writer.new)
+        (domain_lines solver.now.names solver.now.domains ++ state_line solver.now.domains)) }
 {
-    write_domains(writer, solver)?;
+    write_domains(writer, solver.names(), solver.domains())?;
     write_state(writer, solver)
 }
 
-fn write_domains<W: Write>(writer: &mut W, solver: &Solver) -> io::Result<()>
-    ensures { OnOk result ((text : List ℕ) × Appends (W.contents writer.old) (W.contents writer.new) text) }
+fn write_domains<W: Write>(
+    writer: &mut W,
+    names: &[String],
+    domains: &[IntervalSet<i64>],
+) -> io::Result<()>
+    ensures { OnOk result (Appends (W.contents writer.old) (W.contents writer.new)
+        (domain_lines (map string_bytes names.now) domains.now)) }
 {
-    for (name, domain) in solver.names().iter().zip(solver.domains()) {
-        write_domain(writer, name.as_str(), domain)?;
+    let (mut names, mut domains) = (names, domains);
+    while let Some((name, domain, other_names, other_domains)) = first_variable(names, domains) {
+        write_domain(writer, name, domain)?;
+        names = other_names;
+        domains = other_domains;
     }
     Ok(())
+}
+
+/// The name and the domain of the first variable, and those of the others.
+fn first_variable<'a>(
+    names: &'a [String],
+    domains: &'a [IntervalSet<i64>],
+) -> Option<
+    (
+        &'a str,
+        &'a IntervalSet<i64>,
+        &'a [String],
+        &'a [IntervalSet<i64>],
+    ),
+>
+    ensures none { IfNone result (domain_lines (map string_bytes names.now) domains.now ≡ []) }
+    ensures lines { IfSome result (λ parts. domain_lines (map string_bytes names.now) domains.now
+        ≡ domain_line parts.0.now parts.1.now ++ domain_lines (map string_bytes parts.2.now) parts.3.now) }
+    ensures shorter { IfSome result (λ parts. length parts.2.now < length names.now) }
+{
+    let [name, other_names @ ..] = names else {
+        return None;
+    };
+    let [domain, other_domains @ ..] = domains else {
+        return None;
+    };
+    Some((name.as_str(), domain, other_names, other_domains))
 }
 
 fn write_domain<W: Write>(writer: &mut W, name: &str, domain: &IntervalSet<i64>) -> io::Result<()>

@@ -4,6 +4,5 @@ use Rattle.ivl_solver.proofs.replies.write_shown.Goals as goal
 
 pub returns : goal.returns
 returns g c =
-    on_ok_weaker c.write_state.result
-    (λ written. (c.in_ok-write_domains.ensures.0, Appends-trans _ _ _ _ _ c.in_ok-write_domains.ensures.1 written))
-    c.write_state.ensures
+    let lines = c.in_ok-write_domains.ensures in
+    on_ok_weaker c.write_state.result (λ written. Appends-trans _ _ _ _ _ (rw (← c.names.ensures, ← c.domains.ensures) lines) written) c.write_state.ensures
