@@ -1,6 +1,8 @@
 """What tests/bindings runs in Python: answers of the original crate, and random calls beside lists of flags."""
 
+import copy
 import ctypes
+import pickle
 import random
 import sys
 import time
@@ -24,7 +26,7 @@ ADDED_AS = {
 ASKED = {
     "overlap": lambda a, b: a.overlaps(b),
     "is_subset": lambda a, b: a.issubset(b),
-    "is_proper_subset": lambda a, b: a.issubset(b) and a != b,
+    "is_proper_subset": lambda a, b: a < b,
     "eq": lambda a, b: a == b,
 }
 
@@ -41,7 +43,7 @@ def answer_of(bounds, call, operands):
         return IntervalSet(pairs_of(text), bounds=bounds)
 
     def shown(made):
-        words = " ".join("%d %d" % run for run in made) or "-"
+        words = " ".join("%d %d" % run for run in made.runs()) or "-"
         return "%s # %d" % (words, made.size)
 
     name, is_value = (call[:-2], True) if call.endswith("_v") else (call, False)
@@ -312,6 +314,79 @@ def fuzz(count):
     print("bindings: Python: %d random calls agree with lists of flags" % calls)
 
 
+# ---- sets of Python, and what is no set
+
+
+def raises(kind, call, told=""):
+    try:
+        call()
+    except kind as error:
+        assert told in str(error), (told, str(error))
+        return
+    raise AssertionError((kind, told))
+
+
+def random_items(numbers):
+    """The same set as numbers, ranges and pairs in any order."""
+    items = []
+    for lower, upper in runs_of(flags_of([(n, n) for n in numbers], LOW), LOW):
+        cut = random.randrange(lower, upper + 1)
+        form = random.randrange(3)
+        items += [(lower, cut), [cut, upper]] if form == 0 else [range(lower, upper + 1)] if form == 1 else list(range(lower, upper + 1))
+    random.shuffle(items)
+    return items
+
+
+def sets(count):
+    """The manners of a set, beside those of `set`."""
+    random.seed(21)
+    operators = {"__or__": "union", "__and__": "intersection", "__sub__": "difference", "__xor__": "symmetric_difference"}
+    for _ in range(count):
+        first, second = ({n for n in range(LOW, LOW + COUNT) if random.random() < share} for share in (0.4, random.random()))
+        if random.random() < 0.3:
+            second = {n for n in first if random.random() < 0.9}
+        a, b = IntervalSet(random_items(first)), IntervalSet(random_items(second))
+        for name, method in operators.items():
+            expected = getattr(first, name)(second)
+            assert list(getattr(a, name)(b)) == list(getattr(a, method)(second)) == sorted(expected), (first, second, name)
+        for name in ("__le__", "__lt__", "__ge__", "__gt__", "__eq__", "isdisjoint", "issubset", "issuperset"):
+            assert getattr(a, name)(b) == getattr(first, name)(second), (first, second, name)
+        assert len(a) == a.size == len(first) and bool(a) == bool(first)
+        assert list(reversed(a)) == sorted(first, reverse=True)
+        assert list(reversed(a.runs())) == list(a.runs())[::-1] and a.runs()[:2] == list(a.runs())[:2]
+        if first:
+            assert (a.min(), a.max()) == (min(first), max(first))
+        value = random.randrange(LOW - 2, LOW + COUNT + 2)
+        below = [n for n in first if n <= value]
+        assert a.previous_to(value) == (max(below) if below else None)
+        run = a.run_at(value)
+        assert (run is not None and run[0] <= value <= run[1]) == (value in first) == (value in a)
+        assert a == eval(repr(a)) == pickle.loads(pickle.dumps(a)) == copy.deepcopy(a) == IntervalSet(a)
+        assert hash(a) == hash(IntervalSet(random_items(first)))
+    misuse()
+    print("bindings: Python: %d pairs of sets agree with `set`; misuse is told" % count)
+
+
+def misuse():
+    a, unsigned = IntervalSet([(1, 5)]), IntervalSet([3], bounds="u64")
+    for wrong in ([(5,)], [()], [(1, 2, 3)], [5, (1,)]):
+        raises(TypeError, lambda: IntervalSet(wrong), "a pair has two bounds")
+    for wrong in ([("a", "b")], ["ab"], [1.5], [(1, 2.0)], [None], 5):
+        raises(TypeError, lambda: IntervalSet(wrong))
+    raises(OutOfRange, lambda: IntervalSet([(0, 2**63)]), "9223372036854775808 is no value of i64")
+    raises(OutOfRange, lambda: IntervalSet([-1], bounds="u64"), "-1 is no value of u64")
+    raises(OutOfRange, lambda: IntervalSet([-(2**63)]), "outside the range")
+    raises(ValueError, lambda: IntervalSet(bounds="i32"), "bounds is 'i64' or 'u64'")
+    for call in (lambda: a | unsigned, lambda: a & {3}, lambda: {3} - a, lambda: a ^ [3], lambda: a < {1}):
+        raises(TypeError, call)
+    for call in (lambda: 1.5 in a, lambda: a.next_from("1"), lambda: a.first_fit(2.0), lambda: a.union(5)):
+        raises(TypeError, call)
+    raises(OverflowError, lambda: len(~a), "size")
+    raises(ValueError, lambda: IntervalSet().min(), "empty")
+    assert a != unsigned and a != [1, 2, 3, 4, 5] and 2**70 not in a and a.next_from(-(2**70)) == 1
+    assert IntervalSet([(9, 4)]) == IntervalSet() and IntervalSet([range(9, 2, -3)]) == IntervalSet([9, 6, 3])
+
+
 # ---- arrays of numpy
 
 
@@ -326,15 +401,20 @@ def arrays():
         assert IntervalSet(array[::2], bounds=bounds).runs() == [(5, 9)]
         assert IntervalSet(numpy.asfortranarray(array), bounds=bounds) == made
         assert IntervalSet(array[:0], bounds=bounds).array().shape == (0, 2)
-        for wrong in (array.astype(numpy.int32), array[:, :1], array[0], array.astype(float)):
-            try:
-                IntervalSet(wrong, bounds=bounds)
-            except TypeError:
-                continue
-            raise AssertionError(wrong)
-    # no view of an array outlives its memory, and none can be written
-    view = IntervalSet(array, bounds="u64").array()
+        assert IntervalSet(array.astype(numpy.int32), bounds=bounds) == made
+        masked = numpy.ma.masked_array(array, mask=[[0, 0], [1, 1], [0, 0]])
+        for wrong in (array[:, :1], array[0], array.astype(float), masked):
+            raises(TypeError, lambda: IntervalSet(wrong, bounds=bounds))
+    raises(OutOfRange, lambda: IntervalSet(numpy.array([[0, 2**63 + 5]], dtype=numpy.uint64)), "9223372036854775813")
+    raises(OutOfRange, lambda: IntervalSet(numpy.array([[-1, 5]]), bounds="u64"), "-1 is no value of u64")
+    # a value that wraps in its own type is no member
+    assert numpy.uint64(2**63 + 5) not in IntervalSet([(-(2**63) + 5, 0)]) and numpy.int32(3) in IntervalSet([3])
+    # no array outlives its memory, and none can be written, also if one asks for it
+    made = IntervalSet(array, bounds="u64")
+    view = made.array()
     assert view.tolist() == [[1, 3], [5, 9]] and not view.flags.writeable
+    raises(ValueError, lambda: setattr(view.flags, "writeable", True))
+    assert made.runs() == [(1, 3), (5, 9)]
     print("bindings: Python: arrays of numpy; a call took %s microseconds more than its library call" % overhead())
 
 
@@ -367,5 +447,7 @@ if __name__ == "__main__":
         facts(sys.argv[2])
     elif sys.argv[1] == "arrays":
         arrays()
+    elif sys.argv[1] == "sets":
+        sets(int(sys.argv[2]))
     else:
         fuzz(int(sys.argv[2]))
