@@ -35,4 +35,3 @@ pub mod Few
 pub mod Shortening
 pub mod Members
 pub mod Uniting
-pub mod Clearing
