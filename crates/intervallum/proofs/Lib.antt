@@ -36,4 +36,3 @@ pub mod Few
 pub mod Shortening
 pub mod Members
 pub mod Uniting
-pub mod Clearing

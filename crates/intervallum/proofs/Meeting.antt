@@ -39,7 +39,7 @@ turned S T z = ((λ (s, t). (t, s)), (λ (t, s). (s, t)))
 
 -- ---- the same, where the first runs of two lists are read, and the one that ends first is taken
 
-pub opens : (L : List (ℤ × ℤ)) (p : ℤ × ℤ) → Some p ≡ slice_get L 0 → (rest : List (ℤ × ℤ)) × (L ≡ p ∷ rest)
+opens : (L : List (ℤ × ℤ)) (p : ℤ × ℤ) → Some p ≡ slice_get L 0 → (rest : List (ℤ × ℤ)) × (L ≡ p ∷ rest)
 opens [] p e = absurd (cc)
 opens (x ∷ L) p e = (L, (cc))
 

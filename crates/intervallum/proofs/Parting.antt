@@ -1,5 +1,5 @@
 -- What a list of runs leaves of an interval or of another list, from the left.
-use Rattle.std.proofs.Common.{◌≡◌, inl, inr, ⊎_elim, ℤ, pos, ◌≤ℤ◌, ◌<ℤ◌, List, [], ◌∷◌, Option, Some, None, sym, subst, arith}
+use Rattle.std.proofs.Common.{◌≡◌, ◌⊎◌, inl, inr, ⊎_elim, ℤ, pos, ◌≤ℤ◌, ◌<ℤ◌, List, [], ◌∷◌, Option, Some, None, sym, subst, arith}
 use Rattle.std.proofs.lemmas.Int.{ints, by_lt_z}
 use Rattle.std.specs.Prelude.{slice_get}
 use Rattle.ivl_laws.specs.Sets.{Above, Below, IsBetween, IsSubset, SameMembers, Union, Without}
@@ -7,8 +7,8 @@ use Rattle.ivl_laws.specs.Runs.{Covers, IsMaximal, IsRunsOf, StartsAfter}
 use Rattle.ivl_laws.proofs.Runs.{covered_after, covered_from, upper_end}
 use Rattle.intervallum.specs.Led.{led_by}
 use Rattle.intervallum.specs.Sides.{IsBelow}
-use Rattle.intervallum.proofs.Building.{IsBuilding, building_takes}
-use Rattle.intervallum.proofs.Leading.{IsLed, leads, open_held}
+use Rattle.intervallum.proofs.Building.{IsBuilding, building_below, building_takes}
+use Rattle.intervallum.proofs.Leading.{IsLed, leads, leads_none, open_held}
 use Rattle.intervallum.proofs.Walking.{is_first}
 
 -- ---- an interval without the runs of a list
@@ -67,7 +67,7 @@ cut_below r p x y e h = subst (λ (t : ℤ). SameMembers (IsBetween r) (Below t 
 pub cut_above : (r p : ℤ × ℤ) (x y : ℤ) → x ≡ y → SameMembers (IsBetween r) (Above x (IsBetween p)) → SameMembers (IsBetween r) (Above y (IsBetween p))
 cut_above r p x y e h = subst (λ (t : ℤ). SameMembers (IsBetween r) (Above t (IsBetween p))) e h
 
--- ---- a run that is cut
+-- ---- a list without another one, where p and q are the first runs
 
 -- what is left of a run above one that ends before it
 pub record IsCutAbove (p above : ℤ × ℤ) (v : ℤ) : Type 0 where
@@ -88,9 +88,102 @@ cut_maximal p above v A m h a =
     let c = is_cut_above p above v m.0 h a in
     (c.filled, subst (λ (t : ℤ). StartsAfter t A) (sym c.upper) m.1, m.2)
 
+module _ (p q below : ℤ × ℤ) (A B : List (ℤ × ℤ)) (m : IsMaximal (p ∷ A)) (n : IsMaximal (q ∷ B))
+    (d : SameMembers (IsBetween below) (Below q.0 (IsBetween p))) where
+  not_below : (z : ℤ) → z <ℤ q.0 → ¬ (Covers (q ∷ B) z)
+  not_below z lt c = let low = covered_from q B z n c in omega (arith, ints)
+
+  pub below_is_left : IsSubset (IsBetween below) (Without (Covers (p ∷ A)) (Covers (q ∷ B)))
+  below_is_left z i = let (x, lt) = (d z).0 i in (inl x, not_below z lt)
+
+  -- the first list's run ends no higher than the second's
+  module _ (h : p.1 ≤ℤ q.1) where
+    first_there : (z : ℤ) → Without (Covers (p ∷ A)) (Covers (q ∷ B)) z → Union (IsBetween below) (Without (Covers A) (Covers (q ∷ B))) z
+    first_there z (inl i, f) = by_lt_z z q.0 (λ lt. inl ((d z).1 (i, lt))) (λ le. let high = i.1 in absurd (f (inl (le, omega (arith, ints)))))
+    first_there z (inr c, f) = inr (c, f)
+
+    first_back : (z : ℤ) → Union (IsBetween below) (Without (Covers A) (Covers (q ∷ B))) z → Without (Covers (p ∷ A)) (Covers (q ∷ B)) z
+    first_back z (inl i) = below_is_left z i
+    first_back z (inr (c, f)) = (inr c, f)
+
+    pub first_done : SameMembers (Without (Covers (p ∷ A)) (Covers (q ∷ B))) (Union (IsBetween below) (Without (Covers A) (Covers (q ∷ B))))
+    first_done z = (first_there z, first_back z)
+
+    pub first_done_below : IsBelow (pos 2) (IsBetween below) (Without (Covers A) (Covers (q ∷ B)))
+    first_done_below x y i j = let high = ((d x).0 i).0.1 in let far = covered_after p.1 A y m.1 m.2 j.0 in omega (arith, ints)
+
+  -- the second list's run ends below the end of the first's, of which `above` is left
+  module _ (above : ℤ × ℤ) (h : q.1 <ℤ p.1) (a : SameMembers (IsBetween above) (Above q.1 (IsBetween p))) where
+    past : (z : ℤ) → Covers (above ∷ A) z → q.1 <ℤ z
+    past z (inl i) = ((a z).0 i).1
+    past z (inr c) = let far = covered_after p.1 A z m.1 m.2 c in omega (arith, ints)
+
+    within : (z : ℤ) → Covers (above ∷ A) z → Covers (p ∷ A) z
+    within z (inl i) = inl ((a z).0 i).0
+    within z (inr c) = inr c
+
+    second_there : (z : ℤ) → Without (Covers (p ∷ A)) (Covers (q ∷ B)) z → Union (IsBetween below) (Without (Covers (above ∷ A)) (Covers B)) z
+    second_there z (inl i, f) = by_lt_z z q.0
+        (λ lt. inl ((d z).1 (i, lt)))
+        (λ le. by_lt_z q.1 z
+        (λ lt. inr (inl ((a z).1 (i, lt)), λ c. f (inr c)))
+        (λ high. absurd (f (inl (le, high)))))
+    second_there z (inr c, f) = inr (inr c, λ b. f (inr b))
+
+    second_back : (z : ℤ) → Union (IsBetween below) (Without (Covers (above ∷ A)) (Covers B)) z → Without (Covers (p ∷ A)) (Covers (q ∷ B)) z
+    second_back z (inl i) = below_is_left z i
+    second_back z (inr (c, f)) = (within z c, ⊎_elim (λ b. let high = b.1 in let low = past z c in omega (arith, ints)) f)
+
+    pub second_done : SameMembers (Without (Covers (p ∷ A)) (Covers (q ∷ B))) (Union (IsBetween below) (Without (Covers (above ∷ A)) (Covers B)))
+    second_done z = (second_there z, second_back z)
+
+    pub second_done_below : IsBelow (pos 2) (IsBetween below) (Without (Covers (above ∷ A)) (Covers B))
+    second_done_below x y i j = let low = ((d x).0 i).1 in let high = past y j.0 in let o = n.0 in omega (arith, ints)
+
+-- ---- the same, where the two first runs are held
+
+-- what is still to write
+abbrev pub rest_without : Option (ℤ × ℤ) → List (ℤ × ℤ) → Option (ℤ × ℤ) → List (ℤ × ℤ) → ℤ → Type 0
+rest_without a A b B = Without (Covers (led_by a A)) (Covers (led_by b B))
+
+module _ (W : List (ℤ × ℤ)) (a b : Option (ℤ × ℤ)) (A B : List (ℤ × ℤ)) (p q below : ℤ × ℤ) (S : ℤ → Type 0) (e : a ≡ Some p) (f : b ≡ Some q)
+    (l : IsLed a A) (r : IsLed b B) (u : IsBuilding (pos 2) W (rest_without a A b B) S) (d : SameMembers (IsBetween below) (Below q.0 (IsBetween p))) where
+  m : IsMaximal (p ∷ A)
+  m = open_held a p A l e
+
+  n : IsMaximal (q ∷ B)
+  n = open_held b q B r f
+
+  opened : IsBuilding (pos 2) W (Without (Covers (p ∷ A)) (Covers (q ∷ B))) S
+  opened = subst (λ (L : List (ℤ × ℤ)). IsBuilding (pos 2) W (Without (Covers (p ∷ A)) (Covers L)) S) (leads b q B f)
+      (subst (λ (L : List (ℤ × ℤ)). IsBuilding (pos 2) W (Without (Covers L) (Covers (led_by b B))) S) (leads a p A e) u)
+
+  pub part_is_above : IsBelow (pos 2) (Covers W) (IsBetween below)
+  part_is_above = building_below (pos 2) W _ _ S opened (below_is_left p q below A B m n d)
+
+  module _ (W' : List (ℤ × ℤ)) (added : IsRunsOf W' (Union (Covers W) (IsBetween below))) where
+    pub parts_first : (a' : Option (ℤ × ℤ)) (A' : List (ℤ × ℤ)) → A ≡ led_by a' A' → p.1 ≤ℤ q.1 → IsBuilding (pos 2) W' (rest_without a' A' b B) S
+    parts_first a' A' t h =
+        let next = building_takes (pos 2) W W' _ (IsBetween below) _ S opened (first_done p q below A B m n d h) (first_done_below p q below A B m n d h) added in
+        subst (λ (L : List (ℤ × ℤ)). IsBuilding (pos 2) W' (Without (Covers L) (Covers (led_by b B))) S) t
+        (subst (λ (L : List (ℤ × ℤ)). IsBuilding (pos 2) W' (Without (Covers A) (Covers L)) S) (sym (leads b q B f)) next)
+
+    pub parts_second : (above : ℤ × ℤ) (b' : Option (ℤ × ℤ)) (B' : List (ℤ × ℤ)) → B ≡ led_by b' B' → q.1 <ℤ p.1 → SameMembers (IsBetween above) (Above q.1 (IsBetween p)) →
+        IsBuilding (pos 2) W' (rest_without (Some above) A b' B') S
+    parts_second above b' B' t h s =
+        let next = building_takes (pos 2) W W' _ (IsBetween below) _ S opened (second_done p q below A B m n d above h s) (second_done_below p q below A B m n d above h s) added in
+        subst (λ (L : List (ℤ × ℤ)). IsBuilding (pos 2) W' (Without (Covers (above ∷ A)) (Covers L)) S) t next
+
 -- a run of which only the upper part is held
 pub led_by_cut : (a : Option (ℤ × ℤ)) (A : List (ℤ × ℤ)) (p above : ℤ × ℤ) (v : ℤ) → IsLed a A → a ≡ Some p → v <ℤ p.1 → SameMembers (IsBetween above) (Above v (IsBetween p)) → IsLed (Some above) A
 led_by_cut a A p above v l e h s = record { maximal = cut_maximal p above v A (open_held a p A l e) h s; ended = λ t. absurd (cc) }
+
+-- where one of the two lists is at its end, all that is left of the first is to write
+pub left_alone : (a b : Option (ℤ × ℤ)) (A B : List (ℤ × ℤ)) → IsLed a A → IsLed b B → (a ≡ None) ⊎ (b ≡ None) → SameMembers (rest_without a A b B) (Covers (led_by a A))
+left_alone a b A B l r (inl e) =
+    subst (λ (L : List (ℤ × ℤ)). SameMembers (Without (Covers L) (Covers (led_by b B))) (Covers L)) (sym (leads_none a A l e)) (λ z. ((λ w. w.0), (λ c. absurd c)))
+left_alone a b A B l r (inr e) =
+    subst (λ (L : List (ℤ × ℤ)). SameMembers (Without (Covers (led_by a A)) (Covers L)) (Covers (led_by a A))) (sym (leads_none b B r e)) (λ z. ((λ w. w.0), (λ c. (c, λ n. n))))
 
 -- ---- the runs that are left in one list
 

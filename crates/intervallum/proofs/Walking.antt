@@ -1,5 +1,5 @@
 -- What a walk has left, and what its first run tells.
-use Rattle.std.proofs.Common.{◌≡◌, ◌≢◌, ◌↔◌, Bool, true, false, ℕ, zero, suc, ◌+◌, ◌<◌, ◌≤◌, IsTrue, ℤ, ◌≤ℤ◌, ◌<ℤ◌, List, [], ◌∷◌, Some, None, drop, length, arith, refl, ap, sym, subst, inl, inr}
+use Rattle.std.proofs.Common.{◌≡◌, ◌≢◌, ◌↔◌, Bool, true, false, ℕ, zero, suc, ◌+◌, ◌<◌, ◌≤◌, IsTrue, ℤ, ◌≤ℤ◌, List, [], ◌∷◌, Some, None, drop, length, arith, refl, ap, sym, subst, inl, inr}
 use Rattle.std.proofs.lemmas.Int.{ints}
 use Rattle.std.specs.Int.{from_bool}
 use Rattle.std.specs.Prelude.{not, slice_get}
@@ -60,7 +60,7 @@ pub some_is_left : (L : List (ℤ × ℤ)) (p : ℤ × ℤ) → Some p ≡ slice
 some_is_left [] p e = absurd (cc)
 some_is_left (x ∷ L) p e = omega arith
 
-pub one_less : (L M : List (ℤ × ℤ)) → (x : ℤ × ℤ) × (L ≡ x ∷ M) → length L ≡ length M + 1
+one_less : (L M : List (ℤ × ℤ)) → (x : ℤ × ℤ) × (L ≡ x ∷ M) → length L ≡ length M + 1
 one_less L M (x, e) = let n = ap {B = ℕ} (λ (N : List (ℤ × ℤ)). length N) e in omega arith
 
 pub one_is_taken : (test : Bool) (A B A' B' : List (ℤ × ℤ)) → IsTakenIf test A A' → IsTakenIf (not test) B B' → length A + length B ≡ (length A' + length B') + 1
@@ -70,9 +70,6 @@ one_is_taken false A B A' B' kept taken = let one = one_less B B' taken in let s
 -- a test of two values whose numbers are bounds of two runs
 pub test_of_bounds : (test : Bool) (x y a b : ℤ) → x ≡ a → y ≡ b → (IsTrue test ↔ (x ≤ℤ y)) → IsTrue test ↔ (a ≤ℤ b)
 test_of_bounds test x y a b e f t = ((λ p. let h = t.0 p in omega (arith, ints)), (λ h. t.1 (omega (arith, ints))))
-
-pub test_below : (test : Bool) (x y a b : ℤ) → x ≡ a → y ≡ b → (IsTrue test ↔ (x <ℤ y)) → IsTrue test ↔ (a <ℤ b)
-test_below test x y a b e f t = ((λ p. let h = t.0 p in omega (arith, ints)), (λ h. t.1 (omega (arith, ints))))
 
 -- where a walk stands in the list of its set
 pub taken_if : (test : Bool) (L : List (ℤ × ℤ)) (i j : ℕ) → (IsTrue test → drop i L ≢ []) → j ≡ from_bool test → IsTakenIf test (drop i L) (drop (i + j) L)
