@@ -2,54 +2,36 @@
 
 #[allow(unused_imports)]
 use crate::rattle::prelude::*;
-use super::combine::push_reserved_part;
 use super::merge::room_for;
 use super::walk::Walk;
 use crate::proved::intervallum::interval::Interval;
 use crate::proved::intervallum::interval_set::IntervalSet;
-use crate::proved::intervallum::interval_set::runs::size_of_runs;
-use crate::proved::intervallum::ops::{Bounded, Intersection, IsEmpty, StrictShrinkLeft, StrictShrinkRight, Whole};
+use crate::proved::intervallum::ops::{Bounded, IsEmpty, StrictShrinkLeft, StrictShrinkRight};
 use crate::proved::intervallum::width::Width;
 use crate::rattle::std::alloc::AllocError;
-use crate::rattle::std::hint::select_unpredictable;
 
 /// The members that the first walk has left and the second does not. Advances at most once for each
 /// run left in the two, and reserves as many runs once. The result has the allocator of the first
 /// walk. Fails only if allocation fails.
 pub(crate) fn without<B: Width>(
-    first: Walk<'_, B>,
-    second: Walk<'_, B>,
-) -> Result<IntervalSet<B>, AllocError> {
-    let runs = runs_without(first, second)?;
-    let size = size_of_runs(&runs);
-    Ok(IntervalSet::of_runs(runs, size).fitted())
-}
-
-/// The runs of the members that the first walk has left and the second does not.
-fn runs_without<B: Width>(
     mut first: Walk<'_, B>,
     mut second: Walk<'_, B>,
-) -> Result<Vec<Interval<B>>, AllocError> {
-    // no memory holds more runs than a `usize` counts
-    let room = first.left().checked_add(second.left()).ok_or(AllocError)?;
-    let mut runs = Vec::with_capacity(first.alloc(), room)?;
-    // the numbers above the runs that were taken of the second walk
-    let mut gap = Interval::whole();
-    'walk: while let Some(run) = first.peek() {
-        let free = gap.intersection(&run);
-        if let Some(other) = second.peek() {
-            push_reserved_part(&mut runs, free.strict_shrink_right(other.lower()));
-            let ends_first = run.upper() < other.lower();
-            first.advance_if(ends_first);
-            second.advance_if(!ends_first);
-            let next = Interval::whole().strict_shrink_left(other.upper());
-            gap = select_unpredictable(ends_first, gap, next);
+) -> Result<IntervalSet<B>, AllocError> {
+    let mut set = room_for(&first, &second)?;
+    let mut a = first.take();
+    let mut b = second.take();
+    'walk: while let Some(runs) = a.zip(b) {
+        let (run, other) = runs;
+        push_part(&mut set, run.strict_shrink_right(other.lower()))?;
+        if other.upper() < run.upper() {
+            a = Some(run.strict_shrink_left(other.upper()));
+            b = second.take();
         } else {
-            push_reserved_part(&mut runs, free);
-            first.advance();
+            a = first.take();
         }
     }
-    Ok(runs)
+    push_rest(&mut set, a, first)?;
+    Ok(set.fitted())
 }
 
 /// The members that exactly one of two walks has left. Steps, memory and errors are those of
@@ -102,6 +84,16 @@ fn push_rest<B: Width>(
         held = walk.take();
     }
     Ok(())
+}
+
+/// Adds the members of an interval, if it has any, at least two above those that are there.
+fn push_part<B: Width>(set: &mut IntervalSet<B>, part: Interval<B>) -> Result<(), AllocError> {
+    set.in_whole();
+    if part.is_empty() {
+        return Ok(());
+    }
+    part.in_whole();
+    set.push_apart(part)
 }
 
 /// Adds the members of an interval, if it has any, above those that are there.
