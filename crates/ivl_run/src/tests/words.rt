@@ -1,5 +1,5 @@
-//! Lines, words and numbers by example.
-use ivl_lines::{line_text, next_word, number_from, one_word, pairs_from, three_words, two_words};
+//! Words and numbers by example.
+use ivl_lines::{next_word, number_from, one_word, pairs_from, three_words, two_words};
 use std::test::Fail;
 
 #[test]
@@ -16,10 +16,6 @@ fn words_of_a_text(rt: HostRuntime) {
     assert_eq!(rt;
         [three_words("x y z"), three_words("x y z w")],
         [Some(("x", "y", "z")), None]
-    );
-    assert_eq!(rt;
-        [line_text(b"show a\r"), line_text(b"\xff")],
-        [Some("show a"), None]
     );
 }
 
