@@ -1,15 +1,17 @@
 -- What two run lists have in common, from two places on: of the pairs at these places, the one that ends first is done.
-use Rattle.std.proofs.Common.{◌≡◌, ◌⊎◌, inl, inr, ℕ, ◌+◌, ℤ, ◌≤ℤ◌, List, ◌∷◌, Some, None, ◌∙◌, ap, map, drop, refl, sym, subst}
+use Rattle.std.proofs.Common.{◌≡◌, ◌⊎◌, inl, inr, ℕ, ◌+◌, true, ℤ, pos, ◌≤ℤ◌, ◌<ℤ◌, arith, List, ◌∷◌, Some, None, ◌∙◌, ap, map, drop, refl, sym, subst}
 use Rattle.std.specs.Prelude.{Option, slice_get}
 use Rattle.std.specs.Int.{int_max, int_min}
 use Rattle.std.specs.Option.{option_zip}
+use Rattle.std.proofs.lemmas.Int.{ints}
 use Rattle.std.proofs.lemmas.Option.{get_or_from_slice_get, slice_get_within}
 use Rattle.ivl_laws.specs.Sets.{HasNone, IsBetween, Intersection, SameMembers, Union}
 use Rattle.ivl_laws.specs.Runs.{Covers, IsMaximal}
 use Rattle.ivl_laws.proofs.Merging.{overlap_between}
 use Rattle.ivl_laws.proofs.Runs.{pair_same}
+use Rattle.intervallum.proofs.Building.{building_same}
 use Rattle.intervallum.proofs.Leading.{IsLed, zip_none}
-use Rattle.intervallum.proofs.Meeting.{common_first, common_second, shared_is_above}
+use Rattle.intervallum.proofs.Meeting.{common_next, shared_is_above}
 use Rattle.ivl_lists.specs.Merging.{IsLaid, LaysNext}
 use Rattle.ivl_lists.proofs.Laying.{IsLaying, laying_begins, laying_ends, lays}
 use Rattle.ivl_lists.proofs.Resting.{none_from, rest_all, rest_at, rest_maximal}
@@ -17,22 +19,29 @@ use Rattle.ivl_lists.proofs.Resting.{none_from, rest_all, rest_at, rest_maximal}
 pub both_starts : {a b m n : ℤ} → a ≡ m → b ≡ n → int_min a b ≡ int_min m n
 both_starts e f = cc
 
+-- two values whose numbers are ends of two runs
+pub ends_past : (x y a b : ℤ) → x ≡ a → y ≡ b → y <ℤ x → b ≤ℤ a
+ends_past x y a b e f h = omega (arith, ints)
+
 -- a run before its list is led by itself
 pub led : (p : ℤ × ℤ) (A : List (ℤ × ℤ)) → IsMaximal (p ∷ A) → IsLed (Some p) A
 led p A m = record { maximal = m; ended = λ t. absurd (cc) }
+
+turned : (S T : ℤ → Type 0) → SameMembers (Intersection S T) (Intersection T S)
+turned S T z = ((λ (s, t). (t, s)), (λ (t, s). (s, t)))
 
 module _ (A B : List (ℤ × ℤ)) (p q r : ℤ × ℤ) (S : ℤ → Type 0) (old room room' : List (ℤ × ℤ)) (told told' : ℕ) (m : IsMaximal (p ∷ A)) (n : IsMaximal (q ∷ B))
     (shared : SameMembers (IsBetween r) (Intersection (IsBetween p) (IsBetween q))) (l : LaysNext r room room' told told')
     (W : List (ℤ × ℤ)) (u : IsLaying (Intersection (Covers (p ∷ A)) (Covers (q ∷ B))) S old room told W) where
   laid_next : (W' : List (ℤ × ℤ)) × IsLaid (Union (Covers W) (IsBetween r)) old room' told' W'
   laid_next = lays W r old room room' told told' u.state.maximal
-      (shared_is_above W (Some p) (Some q) A B p q r S refl refl (led p A m) (led q B n) u.state shared) u.count u.room l
+      (shared_is_above W (p ∷ A) (q ∷ B) p q r S refl refl u.state shared) u.count u.room l
 
   pub meets_first : p.1 ≤ℤ q.1 → (W' : List (ℤ × ℤ)) × IsLaying (Intersection (Covers A) (Covers (q ∷ B))) S old room' told' W'
   meets_first h = let (W', v) = laid_next in (
     W',
     record {
-      state = common_first W (Some p) (Some q) A B p q r S refl refl (led p A m) (led q B n) u.state shared W' v.runs None A refl h;
+      state = common_next true W W' (p ∷ A) (q ∷ B) A (q ∷ B) p q r S refl refl m n u.state shared v.runs ((λ t. h), (λ le. refl)) (p, refl) refl;
       count = v.count;
       room = v.room;
     },
@@ -42,7 +51,9 @@ module _ (A B : List (ℤ × ℤ)) (p q r : ℤ × ℤ) (S : ℤ → Type 0) (ol
   meets_second h = let (W', v) = laid_next in (
     W',
     record {
-      state = common_second W W' (Some p) (Some q) None A B B p q r S refl refl (led p A m) (led q B n) u.state shared v.runs refl h;
+      state = building_same (pos 2) W' _ _ S (turned (Covers B) (Covers (p ∷ A)))
+          (common_next true W W' (q ∷ B) (p ∷ A) B (p ∷ A) q p r S refl refl n m (building_same (pos 2) W _ _ S (turned (Covers (p ∷ A)) (Covers (q ∷ B))) u.state)
+          (λ z. ((λ i. let (x, y) = (shared z).0 i in (y, x)), (λ (y, x). (shared z).1 (x, y)))) v.runs ((λ t. h), (λ le. refl)) (q, refl) refl);
       count = v.count;
       room = v.room;
     },

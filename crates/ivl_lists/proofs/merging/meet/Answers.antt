@@ -1,11 +1,11 @@
 use Rattle.std.proofs.Common.{◌∙◌, ap, sym, ℤ, map, arith}
 use Rattle.std.proofs.lemmas.Option.{slice_get_within}
 use Rattle.ivl_laws.proofs.Orders.{le_number, max_number, min_number, not_le_number}
-use Rattle.intervallum.proofs.Meeting.{ends_by, ends_past}
+use Rattle.intervallum.proofs.Meeting.{ends_by}
 use Rattle.intervallum.proofs.Pushing.{both_ends}
 use Rattle.ivl_lists.proofs.Laying.{one_more_at_most}
 use Rattle.intervallum.proofs.Leading.{zip_some}
-use Rattle.ivl_lists.proofs.Meets.{both_starts, meeting_begins, meeting_ends, meeting_first, meeting_second}
+use Rattle.ivl_lists.proofs.Meets.{ends_past, both_starts, meeting_begins, meeting_ends, meeting_first, meeting_second}
 use Rattle.ivl_lists.proofs.merging.meet.Goals as goal
 
 pub walk-init : goal.walk-init

@@ -1,7 +1,8 @@
 use Rattle.std.proofs.Common.{◌∙◌, sym, arith}
 use Rattle.std.proofs.lemmas.Option.{slice_get_within}
 use Rattle.ivl_laws.proofs.Orders.{le_number, not_le_number}
-use Rattle.intervallum.proofs.Meeting.{ends_by, ends_past}
+use Rattle.intervallum.proofs.Meeting.{ends_by}
+use Rattle.ivl_lists.proofs.Meets.{ends_past}
 use Rattle.ivl_lists.proofs.Resting.{none_from}
 use Rattle.ivl_lists.proofs.Unites.{takes_left, takes_left_alone, takes_right, takes_right_alone}
 use Rattle.ivl_lists.proofs.merging.take_first.Goals as goal
