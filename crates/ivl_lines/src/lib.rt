@@ -2,11 +2,13 @@
 //! has each answered, and writes the answers.
 #![tactic(auto)]
 
+mod arguments;
 mod numbers;
 mod session;
 mod text;
 mod words;
 
+pub use arguments::{Start, start_of};
 pub use numbers::{number_from, pairs_from};
 pub use session::{Answers, LineFault, SessionFault, serve};
 pub use text::line_text;

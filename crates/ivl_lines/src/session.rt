@@ -72,6 +72,10 @@ pub trait Answers {
     /// From this state, this line may be answered with this text, and leave that state.
     ghost allowed: { Self → List ℕ → List ℕ → Self → Type 0 };
 
+    /// Returns whether the answer to a line may take long, so that what was answered before it is
+    /// flushed first.
+    fn may_take_long(&self, line: &[u8]) -> bool;
+
     /// Answers a line, which is given without its newline.
     ///
     /// # Errors
@@ -87,7 +91,8 @@ pub trait Answers {
 // The most bytes that one read may return.
 const PIECE: usize = 65536;
 
-/// Has each line of the input answered. What is written is flushed before each read and at the end.
+/// Has each line of the input answered. What is written is flushed before each read, before each
+/// line that may take long, and at the end.
 ///
 /// A line is what stands between newlines; what follows the last newline is a line too. It is kept
 /// only if it does not end in the piece that it begins in.
@@ -152,7 +157,7 @@ fn finish<A: Answers, W: Write>(
         × Appends (W.contents writer.old) (W.contents writer.new) text) }
     ensures never_read { IfErr result (λ fault. fault ≢ SessionFault.Read) }
 {
-    answers.answer(last, writer)?;
+    answer_seen(answers, last, writer)?;
     flush(writer)
 }
 
@@ -200,11 +205,28 @@ fn answer_ended<A: Answers, W: Write>(
     ensures never_read { IfErr result (λ fault. fault ≢ SessionFault.Read) }
 {
     if line.is_empty() {
-        answers.answer(bytes, writer)?;
-        return Ok(());
+        return answer_seen(answers, bytes, writer);
     }
     line.extend_from_slice(bytes)?;
-    answers.answer(line, writer)?;
+    answer_seen(answers, line, writer)?;
     line.clear();
+    Ok(())
+}
+
+// Answers a line. What was answered before is seen while a line that may take long is answered.
+fn answer_seen<A: Answers, W: Write>(
+    answers: &mut A,
+    line: &[u8],
+    writer: &mut W,
+) -> Result<(), SessionFault>
+    ensures ok { OnOk result ((text : List ℕ)
+        × A.allowed answers.old line.now text answers.new
+        × Appends (W.contents writer.old) (W.contents writer.new) text) }
+    ensures never_read { IfErr result (λ fault. fault ≢ SessionFault.Read) }
+{
+    if answers.may_take_long(line) {
+        flush(writer)?;
+    }
+    answers.answer(line, writer)?;
     Ok(())
 }
