@@ -10,26 +10,53 @@
 #![tactic(auto)]
 
 mod access;
-mod requests;
+mod engine;
+mod reading;
+mod reply;
+mod state;
 
-use anyhow::Result;
-use ivl_lines::VERSION;
-use requests::Access;
-use std::io::{BufRead, BufReader};
+use engine::{outcome, session};
+use ivl_lines::{SessionFault, Start, VERSION, start_of};
+use std::io::BufWriter;
+use std::process::ExitCode;
 use std::{env, io};
 
-fn main(rt: HostRuntime) -> Result<()> {
-    if env::args(&rt)?
-        .nth(1)
-        .is_some_and(|word| word.as_str() == "--version")
-    {
-        println!(rt; "ivl_ranges {VERSION}")?;
-        return Ok(());
+const HELP: &str = "\
+usage: ivl_ranges [--help | --version]
+
+Reads lines from standard input, and answers each on standard output.
+
+  i L..U L..U ..     the values that i may have: one or more ranges, in any order
+  k L..U L..U ..     the values that k may have
+  length N           the length of the array a, from 0 to 4294967295
+  check              whether every a[i + k] is within bounds, and if not, for which values of i it is
+";
+
+fn main(rt: HostRuntime) -> io::Result<ExitCode> {
+    let mut words = env::args(&rt)?;
+    let (_, first) = (words.next(), words.next());
+    match start_of(first.as_ref().map(String::as_str), words.next().is_some()) {
+        Start::Lines => {}
+        Start::Help => {
+            print!(rt; "{HELP}")?;
+            return Ok(ExitCode::SUCCESS);
+        }
+        Start::Version => {
+            println!(rt; "ivl_ranges {VERSION}")?;
+            return Ok(ExitCode::SUCCESS);
+        }
+        Start::Other => {
+            eprint!(rt; "{HELP}")?;
+            return Ok(ExitCode::from(2));
+        }
     }
-    let mut access = Access::new(rt.alloc());
-    for line in BufReader::new(rt.alloc(), rt.stdin())?.lines(rt.alloc()) {
-        let text = access.answer(rt.alloc(), line?.as_str())?;
-        println!(rt; "{text}")?;
+    let ended = match BufWriter::new(rt.alloc(), rt.stdout()) {
+        Ok(mut writer) => session(rt.alloc(), &mut rt.stdin(), &mut writer),
+        Err(_) => Err(SessionFault::Memory),
+    };
+    let (status, line) = outcome(&ended);
+    if !line.is_empty() {
+        eprintln!(rt; "{line}")?;
     }
-    Ok(())
+    Ok(ExitCode::from(status))
 }
