@@ -22,34 +22,37 @@ use std::process::ExitCode;
 use std::{env, io};
 
 const HELP: &str = "\
-usage: ivl_ranges [--help | --version]
+Says whether every access a[i + k] is within bounds: reads one line at a time from standard input, and answers each.
 
-Reads lines from standard input, and answers each on standard output.
+  i -1..1 5..5       the values that i may have: ranges, the lower end first, in any order
+  k -1..1 5..5       the values that k may have
+  length 10          the length of the array
+  check              safe; or the values of i that are safe for every k: safe for i in [1..7] alone, or safe for no i
 
-  i L..U L..U ..     the values that i may have: one or more ranges, in any order
-  k L..U L..U ..     the values that k may have
-  length N           the length of the array a, from 0 to 4294967295
-  check              whether every a[i + k] is within bounds, and if not, for which values of i it is
+--version prints the version.
 ";
 
 fn main(rt: HostRuntime) -> io::Result<ExitCode> {
     let mut words = env::args(&rt)?;
     let (_, first) = (words.next(), words.next());
-    match start_of(first.as_ref().map(String::as_str), words.next().is_some()) {
-        Start::Lines => {}
+    match start_of(first.as_deref(), words.next().is_some()) {
+        Start::Lines => answer_lines(&rt),
         Start::Help => {
             print!(rt; "{HELP}")?;
-            return Ok(ExitCode::SUCCESS);
+            Ok(ExitCode::SUCCESS)
         }
         Start::Version => {
             println!(rt; "ivl_ranges {VERSION}")?;
-            return Ok(ExitCode::SUCCESS);
+            Ok(ExitCode::SUCCESS)
         }
         Start::Other => {
             eprint!(rt; "{HELP}")?;
-            return Ok(ExitCode::from(2));
+            Ok(ExitCode::from(2))
         }
     }
+}
+
+fn answer_lines(rt: &HostRuntime) -> io::Result<ExitCode> {
     let ended = match BufWriter::new(rt.alloc(), rt.stdout()) {
         Ok(mut writer) => session(rt.alloc(), &mut rt.stdin(), &mut writer),
         Err(_) => Err(SessionFault::Memory),
