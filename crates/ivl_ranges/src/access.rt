@@ -43,7 +43,8 @@ pub fn safe_indexes(
 /// The numbers whose sum with every member of a set is an index, as far as they are values of `i64`.
 fn window(offset: &IntervalSet<i64>, length: u32) -> Interval<i64>
     requires { HasSome (Covers offset.now) }
-    ensures { (x : ℤ) → x <ℤ pos (2 ^ 63) → IsBetween result x ↔ ((y : ℤ) → Covers offset.now y → IsIndexOf length (x +ℤ y)) }
+    ensures { (x : ℤ) → x <ℤ pos (2 ^ 63)
+        → IsBetween result x ↔ ((y : ℤ) → Covers offset.now y → IsIndexOf length (x +ℤ y)) }
 {
     let last = i64::from(length) - 1;
     let (lower, upper) = (offset.lower(), offset.upper());

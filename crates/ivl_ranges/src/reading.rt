@@ -33,7 +33,8 @@ pub fn set_from(alloc: Global, words: &str) -> Result<IntervalSet<i64>, Fault>
 /// The two ends of each range, or `None` if a word is not a range.
 fn ranges_from(alloc: Global, words: &str) -> Result<Option<Vec<(i64, i64)>>, AllocError>
     ensures some { IfOk result (λ ranges. IfSome ranges (λ v. AreRanges (words_between words.now) v.items)) }
-    ensures none { IfOk result (λ ranges. IfNone ranges ((list : List (ℤ × ℤ)) → ¬ (AreRanges (words_between words.now) list))) }
+    ensures none { IfOk result (λ ranges.
+        IfNone ranges ((list : List (ℤ × ℤ)) → ¬ (AreRanges (words_between words.now) list))) }
 {
     let mut ranges = Vec::new(alloc);
     let mut rest = words;

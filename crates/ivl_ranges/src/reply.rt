@@ -65,7 +65,8 @@ pub fn write_told<W: Write>(writer: &mut W, told: &Result<Reply, Fault>) -> io::
 }
 
 fn write_safe_for<W: Write>(writer: &mut W, safe: &IntervalSet<i64>) -> io::Result<()>
-    ensures { OnOk result (Appends (W.contents writer.old) (W.contents writer.new) (told_line (Ok (Reply.SafeFor safe.now)))) }
+    ensures { OnOk result (Appends (W.contents writer.old) (W.contents writer.new)
+        (told_line (Ok (Reply.SafeFor safe.now)))) }
 {
     if safe.is_empty() {
         return writer.write_all(b"safe for no i\n");
