@@ -131,7 +131,7 @@ class Calculator:
         numbers = [number(word) for word in words[1:]]
         if None in numbers:
             return None
-        if any(value < LEAST for value in numbers):
+        if any(lower < LEAST for lower in numbers[::2]):
             return "refused 2 range"
         self.sets[words[0]] = joined(zip(numbers[::2], numbers[1::2]))
         return "ok"

@@ -72,7 +72,7 @@ class Solver:
             return words[0] + b" is defined already"
         if name == b"cut" and words[0] not in self.domains:
             return b"unknown variable " + words[0]
-        if any(number(word) < LEAST for word in words[1:]):
+        if any(number(lower) < LEAST for lower in words[1::2]):
             return b"out of range"
         return None
 
