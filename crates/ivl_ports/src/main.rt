@@ -21,33 +21,36 @@ use std::process::ExitCode;
 use std::{env, io};
 
 const HELP: &str = "\
-usage: ivl_ports [--help | --version]
+Hands out the ports from 1024 to 65535: reads one line at a time from standard input, and answers each.
 
-Hands out the ports from 1024 to 65535. Reads one request per line, and answers each:
+  take COUNT         takes the lowest COUNT consecutive free ports: [1024..1031], or none
+  give FIRST LAST    gives ports back: ok, or some of them are free, and then nothing changes
+  free               how many ports are free, and which
 
-take COUNT         takes the lowest COUNT consecutive free ports: [1024..1031], or none
-give FIRST LAST    gives ports back: ok, or some of them are free, and then nothing changes
-free               how many ports are free, and which
+--version prints the version.
 ";
 
 fn main(rt: HostRuntime) -> io::Result<ExitCode> {
     let mut words = env::args(&rt)?;
     let (_, first) = (words.next(), words.next());
-    match start_of(first.as_ref().map(String::as_str), words.next().is_some()) {
-        Start::Lines => {}
+    match start_of(first.as_deref(), words.next().is_some()) {
+        Start::Lines => answer_lines(&rt),
         Start::Help => {
             print!(rt; "{HELP}")?;
-            return Ok(ExitCode::SUCCESS);
+            Ok(ExitCode::SUCCESS)
         }
         Start::Version => {
             println!(rt; "ivl_ports {VERSION}")?;
-            return Ok(ExitCode::SUCCESS);
+            Ok(ExitCode::SUCCESS)
         }
         Start::Other => {
             eprint!(rt; "{HELP}")?;
-            return Ok(ExitCode::from(2));
+            Ok(ExitCode::from(2))
         }
     }
+}
+
+fn answer_lines(rt: &HostRuntime) -> io::Result<ExitCode> {
     let ended = match BufWriter::new(rt.alloc(), rt.stdout()) {
         Ok(mut writer) => session(rt.alloc(), &mut rt.stdin(), &mut writer),
         Err(_) => Err(SessionFault::Memory),
