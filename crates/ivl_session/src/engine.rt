@@ -8,7 +8,7 @@ ghost use Rattle.ivl_session.specs.View.{view_of};
 
 use crate::lines::{Line, read_line};
 use crate::replies::write_reply;
-use ivl_lines::{Answers, LineFault, SessionFault, serve};
+use ivl_lines::{Answers, LineFault, SessionFault, first_word, serve};
 use ivl_registers::Calc;
 use std::alloc::Global;
 use std::io;
@@ -38,6 +38,13 @@ impl Answers for Registers {
 
     ghost allowed = { λ old line text new. AnswersReading old (reading_of line) text new };
 
+    fn may_take_long(&self, line: &[u8]) -> bool {
+        match first_word(line) {
+            "plus" | "minus" | "times" => true,
+            _ => false,
+        }
+    }
+
     fn answer<W: Write>(&mut self, line: &[u8], writer: &mut W) -> Result<(), LineFault> {
         let read = read_line(self.alloc, line)?;
         if write_answer(&mut self.calc, &read, writer).is_err() {
@@ -48,7 +55,8 @@ impl Answers for Registers {
 }
 
 /// Answers each line of the input, over registers that are empty at first. What is written is
-/// flushed before each read and at the end.
+/// flushed before each read, before each line of sums, differences or products of two registers,
+/// and at the end.
 ///
 /// # Errors
 ///
