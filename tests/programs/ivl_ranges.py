@@ -110,10 +110,5 @@ def random_lines(dice, count):
     return first + [dice.choice([small(b"i"), small(b"k"), b"check"]) if dice.random() < 0.5 else random_line(dice) for _ in range(count)]
 
 
-# For `refused.py`: a line that makes two requests for memory, and a session after it.
-MODEL, REQUESTS, PADDING = Access, (80, 81), [b"i 1..1"]
-SESSION = [b"i 9..12 0..3 4..4 1..1 20..20", b"k 0..1 -1..0", b"length 12", b"check", b"i 5..6 5..6", b"check", b"length 3", b"check"]
-
-
 if __name__ == "__main__":
     main("ivl_ranges", Access, random_lines, b"check")
