@@ -193,6 +193,8 @@ fn ask(random: &mut Random, set: &Set, model: &Model) {
     assert_eq!(set.checked_first_fit(count), (count > 0).then(|| fit(model, -128, count)));
     assert_eq!(set.checked_first_fit_from(x, count), (count > 0).then(|| fit(model, x, count)));
     assert_eq!((set.checked_lower(), set.checked_upper()), (model.first().copied(), model.last().copied()));
+    assert_eq!((set.first(), set.last()), (model.first().copied(), model.last().copied()));
+    assert_eq!(set.hull(), model.first().zip(model.last()).map(|(least, greatest)| *least..=*greatest));
     assert_eq!((set.is_empty(), set.is_singleton()), (model.is_empty(), model.len() == 1));
 }
 
@@ -225,6 +227,7 @@ fn compare(a: &Set, b: &Set, m: &Model, n: &Model) {
     assert_eq!(a.is_subset(b), m.is_subset(n));
     assert_eq!(a.is_superset(b), m.is_superset(n));
     assert_eq!(a.is_proper_subset(b), m.is_subset(n) && m != n);
+    assert_eq!(a.is_proper_superset(b), m.is_superset(n) && m != n);
     assert_eq!(a == b, m == n);
     assert_eq!(
         format!("{a:?}"),

@@ -1,6 +1,6 @@
 -- What one look tells of the runs on one side of it.
-use Rattle.std.proofs.Common.{◌≡◌, ℕ, zero, suc, ◌+◌, ◌*◌, ◌^◌, ◌<◌, ◌≤◌, ℤ, ◌≤ℤ◌, ◌<ℤ◌, Bool, IsTrue, ◌↔◌, List, [], ◌∷◌, length, get_or, slice_get, Some, take, drop, ⊎_elim, arith, refl, sym, subst, inl, inr, true, false}
-use Rattle.std.specs.Prelude.{int_lt, IsSomeAnd, Option}
+use Rattle.std.proofs.Common.{◌≡◌, ℕ, zero, suc, ◌+◌, ◌-◌, ◌*◌, ◌^◌, ◌<◌, ◌≤◌, ℤ, ◌≤ℤ◌, ◌<ℤ◌, Bool, IsTrue, ◌↔◌, List, [], ◌∷◌, length, get_or, slice_get, Some, take, drop, ⊎_elim, arith, refl, sym, subst, inl, inr, true, false}
+use Rattle.std.specs.Prelude.{cond, int_lt, IsSomeAnd, Option}
 use Rattle.std.proofs.lemmas.Int.{ints, by_lt_z}
 use Rattle.std.proofs.Math.Nat.{pow-le-pow_right}
 use Rattle.std.proofs.lemmas.Bool.{cases_lt}
@@ -104,3 +104,37 @@ in_at v L k b (i, l, h) =
     let P : ℕ → Type 0 = λ j. IsSomeAnd (slice_get L j) (λ run. IsBetween run v) in
     let e : i ≡ k = let m = not_before v L i k b h in omega (arith, l, m) in
     subst P e h
+
+-- after a look at the last of `half` runs from place k on: the search goes on above it, or up to it
+pub goes_on : (v : ℤ) (L M : List (ℤ × ℤ)) (low half left next : ℕ) (run : ℤ × ℤ) (u d : ℤ) (below starts was is : Bool) →
+    0 < half → 2 * half ≤ left + 1 → low + left ≤ length L → IsMaximal L → M ≡ L → slice_get M (low + half - 1) ≡ Some run → u ≡ run.1 → d ≡ run.0 →
+    (IsTrue below ↔ (u <ℤ v)) → (IsTrue starts ↔ (d ≤ℤ v)) → EndBelow v (take low L) → IsFrom v L (low + left) was →
+    next ≡ cond below (low + half) low → is ≡ cond below was starts →
+    (low ≤ next) × (next + (left - half) ≤ low + left) × EndBelow v (take next L) × IsFrom v L (next + (left - half)) is
+goes_on v L M low half left next run u d true starts was is h two at m same seen eu ed below k b w en ei =
+    let Q : ℤ × ℤ → Type 0 = λ r. r.1 <ℤ v in
+    let R : ℕ → Type 0 = λ k. EndBelow v (take k L) in
+    let S : ℕ → Type 0 = λ k. IsFrom v L k is in
+    let i = low + half - 1 in
+    let e : slice_get L i ≡ Some run = subst (λ (N : List (ℤ × ℤ)). slice_get N i ≡ Some run) same seen in
+    let ends : run.1 <ℤ v = let l = below.0 refl in omega (arith, ints, l, eu) in
+    let to = below_to v L i run (omega (arith, h, two, at)) (subst Q (sym (get_or_from_slice_get L i run run e)) ends) m in
+    let more : suc i ≡ next = omega (arith, h, en) in
+    let still : low + left ≡ next + (left - half) = omega (arith, h, two, en) in (
+      omega (arith, en),
+      omega (arith, en, h, two),
+      subst R more to,
+      subst S still (rw ei w),
+    )
+goes_on v L M low half left next run u d false starts was is h two at m same seen eu ed below k b w en ei =
+    let R : ℕ → Type 0 = λ k. EndBelow v (take k L) in
+    let S : ℕ → Type 0 = λ k. IsFrom v L k is in
+    let i = low + half - 1 in
+    let e : slice_get L i ≡ Some run = subst (λ (N : List (ℤ × ℤ)). slice_get N i ≡ Some run) same seen in
+    let C : ℤ → Type 0 = λ z. IsTrue starts ↔ (z ≤ℤ v) in
+    let reaches : v ≤ℤ run.1 = by_lt_z run.1 v (λ lt. absurd (untrue false refl below (subst (λ z. z <ℤ v) (sym eu) lt))) (λ le. le) in (
+      omega (arith, en),
+      omega (arith, en),
+      subst R (sym en) b,
+      rw ei (is_from v L i (next + (left - half)) run starts (omega (arith, h, two, at)) (omega (arith, h, two, en)) m e reaches (subst C ed k)),
+    )

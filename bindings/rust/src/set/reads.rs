@@ -51,7 +51,7 @@ impl<T: Width> IntervalSet<T> {
 
     /// Returns the least member, or `None` if the set is empty. `O(1)`.
     pub fn checked_lower(&self) -> Option<T> {
-        (!self.is_empty()).then(|| self.0.lower())
+        self.0.first()
     }
 
     /// Returns the greatest member. The set must not be empty. `O(1)`.
@@ -62,7 +62,29 @@ impl<T: Width> IntervalSet<T> {
 
     /// Returns the greatest member, or `None` if the set is empty. `O(1)`.
     pub fn checked_upper(&self) -> Option<T> {
-        (!self.is_empty()).then(|| self.0.upper())
+        self.0.last()
+    }
+
+    /// Returns the least member, or `None` if the set is empty, as that of a `BTreeSet`. `O(1)`.
+    pub fn first(&self) -> Option<T> {
+        self.0.first()
+    }
+
+    /// Returns the greatest member, or `None` if the set is empty, as that of a `BTreeSet`. `O(1)`.
+    pub fn last(&self) -> Option<T> {
+        self.0.last()
+    }
+
+    /// Returns the range from the least member to the greatest, or `None` if the set is empty. `O(1)`.
+    ///
+    /// ```
+    /// # use intervallum::IntervalSet;
+    /// let a = IntervalSet::from([5..=6, 1..=2]);
+    /// assert_eq!((a.first(), a.last(), a.hull()), (Some(1), Some(6), Some(1..=6)));
+    /// ```
+    pub fn hull(&self) -> Option<RangeInclusive<T>> {
+        let hull = self.0.hull();
+        (!hull.is_empty()).then(|| as_range(&hull))
     }
 }
 
@@ -214,11 +236,16 @@ impl<T: Width> IntervalSet<T> {
 
     /// Returns true exactly when each member of `other` is a member. `O(m log (n / m + 2))`.
     pub fn is_superset(&self, other: &Self) -> bool {
-        other.0.is_subset(&self.0)
+        self.0.is_superset(&other.0)
     }
 
     /// Returns true exactly when each member is a member of `other`, and `other` has more. `O(n log (m / n + 2))`.
     pub fn is_proper_subset(&self, other: &Self) -> bool {
         self.0.is_proper_subset(&other.0)
+    }
+
+    /// Returns true exactly when each member of `other` is a member, and this set has more. `O(m log (n / m + 2))`.
+    pub fn is_proper_superset(&self, other: &Self) -> bool {
+        self.0.is_proper_superset(&other.0)
     }
 }

@@ -1,10 +1,12 @@
-//! Sets of one run, and the least and the greatest member.
-ghost use Rattle.std.specs.Prelude.{◌≡◌, ℤ, ◌≤ℤ◌, [], ◌∷◌, IfOk};
-ghost use Rattle.ivl_laws.specs.Sets.{HasSome, IsBetween};
+//! Sets of one run, the least and the greatest member, and the interval between them.
+ghost use Rattle.std.specs.Prelude.{◌≡◌, ℤ, ◌≤ℤ◌, [], ◌∷◌, IfOk, IfSome, MatchOption};
+ghost use Rattle.ivl_laws.specs.Sets.{HasNone, HasSome, IsBetween, IsHullOf};
 ghost use Rattle.ivl_laws.specs.Runs.{Covers};
+ghost use Rattle.intervallum.specs.Neighbours.{IsGreatest, IsLeast};
 
 use super::IntervalSet;
-use crate::ops::{Bounded, IsSingleton};
+use crate::interval::Interval;
+use crate::ops::{Bounded, Empty, IsEmpty, IsSingleton, Range};
 use crate::width::Width;
 use std::alloc::{AllocError, Global};
 
@@ -57,6 +59,61 @@ impl<B: Width> IntervalSet<B> {
         ensures { result ≡ [] }
     {
         Self::empty(alloc)
+    }
+
+    /// Returns the least member, or `None` if there is none. `O(1)`. Does not allocate.
+    ///
+    /// ```
+    /// let a: IntervalSet<i32> = [(1, 2), (5, 6)].to_interval_set(alloc)?;
+    /// assert_eq!(rt; a.first(), Some(1));
+    /// assert_eq!(rt; IntervalSet::<i32>::empty(alloc).first(), None);
+    /// ```
+    pub fn first(&self) -> Option<B>
+        ensures least { MatchOption result (HasNone (Covers self.now)) (λ x. IsLeast (B.value x) (Covers self.now)) }
+        ensures in_range { IfSome result (λ x. IsBetween B.whole (B.value x)) }
+    {
+        if self.is_empty() {
+            None
+        } else {
+            Some(self.lower())
+        }
+    }
+
+    /// Returns the greatest member, or `None` if there is none. `O(1)`. Does not allocate.
+    ///
+    /// ```
+    /// let a: IntervalSet<i32> = [(1, 2), (5, 6)].to_interval_set(alloc)?;
+    /// assert_eq!(rt; a.last(), Some(6));
+    /// assert_eq!(rt; IntervalSet::<i32>::empty(alloc).last(), None);
+    /// ```
+    pub fn last(&self) -> Option<B>
+        ensures greatest { MatchOption result (HasNone (Covers self.now)) (λ x. IsGreatest (B.value x) (Covers self.now)) }
+        ensures in_range { IfSome result (λ x. IsBetween B.whole (B.value x)) }
+    {
+        if self.is_empty() {
+            None
+        } else {
+            Some(self.upper())
+        }
+    }
+
+    /// Returns the least interval that holds the members: from the least to the greatest, or empty
+    /// if there is none. `O(1)`. Does not allocate.
+    ///
+    /// ```
+    /// let a: IntervalSet<i32> = [(1, 2), (5, 6)].to_interval_set(alloc)?;
+    /// assert!(rt; a.hull() == Interval::new(1, 6));
+    /// assert!(rt; IntervalSet::<i32>::empty(alloc).hull().is_empty());
+    /// ```
+    pub fn hull(&self) -> Interval<B>
+        ensures { IsHullOf result (Covers self.now) }
+    {
+        let runs = self.as_runs();
+        let count = runs.len();
+        if count == 0 {
+            return Interval::empty();
+        }
+        Interval::new(runs[0].lower(), runs[count - 1].upper())
     }
 }
 

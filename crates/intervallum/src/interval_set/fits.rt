@@ -2,12 +2,11 @@
 //!
 //! Each call reads only the ends of the sets, since the least and the greatest result are results
 //! of ends. No call allocates.
-ghost use Rattle.ivl_laws.specs.Sets.{IsHullOf, Only};
+ghost use Rattle.ivl_laws.specs.Sets.{Only};
 ghost use Rattle.ivl_laws.specs.Runs.{Covers};
 
 use super::IntervalSet;
-use crate::interval::Interval;
-use crate::ops::{Bounded, Empty, Fits, Range};
+use crate::ops::Fits;
 use crate::width::Width;
 
 impl<B: Width> Fits<IntervalSet<B>> for IntervalSet<B> {
@@ -26,7 +25,7 @@ impl<B: Width> Fits<IntervalSet<B>> for IntervalSet<B> {
     /// assert!(rt; !a.fits_add(&IntervalSet::new(alloc, 28, 28)?));
     /// ```
     fn fits_add(&self, other: &IntervalSet<B>) -> bool {
-        span(self).fits_add(&span(other))
+        self.hull().fits_add(&other.hull())
     }
 
     /// Returns true exactly when `self - other` may be called, so always if a set is empty. `O(1)`.
@@ -38,7 +37,7 @@ impl<B: Width> Fits<IntervalSet<B>> for IntervalSet<B> {
     /// assert!(rt; !a.fits_sub(&IntervalSet::new(alloc, 4, 4)?));
     /// ```
     fn fits_sub(&self, other: &IntervalSet<B>) -> bool {
-        span(self).fits_sub(&span(other))
+        self.hull().fits_sub(&other.hull())
     }
 
     /// Returns true exactly when `self * other` may be called, so always if a set is empty. `O(1)`.
@@ -50,7 +49,7 @@ impl<B: Width> Fits<IntervalSet<B>> for IntervalSet<B> {
     /// assert!(rt; !a.fits_mul(&IntervalSet::new(alloc, 2, 2)?));
     /// ```
     fn fits_mul(&self, other: &IntervalSet<B>) -> bool {
-        span(self).fits_mul(&span(other))
+        self.hull().fits_mul(&other.hull())
     }
 }
 
@@ -69,7 +68,7 @@ impl<B: Width> Fits<B> for IntervalSet<B> {
     /// assert!(rt; a.fits_add(&27) && !a.fits_add(&28));
     /// ```
     fn fits_add(&self, other: &B) -> bool {
-        span(self).fits_add(other)
+        self.hull().fits_add(other)
     }
 
     /// Returns true exactly when `self - *other` may be called; `other` may be outside the range.
@@ -80,7 +79,7 @@ impl<B: Width> Fits<B> for IntervalSet<B> {
     /// assert!(rt; a.fits_sub(&3) && !a.fits_sub(&4));
     /// ```
     fn fits_sub(&self, other: &B) -> bool {
-        span(self).fits_sub(other)
+        self.hull().fits_sub(other)
     }
 
     /// Returns true exactly when `self * *other` may be called; `other` may be outside the range.
@@ -91,18 +90,6 @@ impl<B: Width> Fits<B> for IntervalSet<B> {
     /// assert!(rt; a.fits_mul(&1) && !a.fits_mul(&2));
     /// ```
     fn fits_mul(&self, other: &B) -> bool {
-        span(self).fits_mul(other)
+        self.hull().fits_mul(other)
     }
-}
-
-/// The least interval that holds a set.
-fn span<B: Width>(set: &IntervalSet<B>) -> Interval<B>
-    ensures { IsHullOf result (Covers set.now) }
-{
-    let runs = set.as_runs();
-    let count = runs.len();
-    if count == 0 {
-        return Interval::empty();
-    }
-    Interval::new(runs[0].lower(), runs[count - 1].upper())
 }

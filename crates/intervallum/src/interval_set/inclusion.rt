@@ -1,6 +1,6 @@
 //! Which of two sets includes the other.
-ghost use Rattle.std.specs.Prelude.{◌≡◌, ◌≤◌, ◌≤ℤ◌, MatchOption, length, take};
-ghost use Rattle.ivl_laws.specs.Sets.{IsBetween, IsSubset};
+ghost use Rattle.std.specs.Prelude.{◌≡◌, ◌↔◌, ◌≤◌, ◌≤ℤ◌, IsTrue, MatchOption, length, take};
+ghost use Rattle.ivl_laws.specs.Sets.{IsBetween, IsProperSubset, IsSubset};
 ghost use Rattle.ivl_laws.specs.Runs.{Covers};
 ghost use Rattle.intervallum.specs.Places.{EndBelow, HoldsAt};
 
@@ -74,6 +74,34 @@ impl<B: Width> ProperSubset for IntervalSet<B> {
     /// ```
     fn is_proper_subset(&self, other: &IntervalSet<B>) -> bool {
         self.size() != other.size() && self.is_subset(other)
+    }
+}
+
+impl<B: Width> IntervalSet<B> {
+    /// Returns true exactly when each member of `other` is a member, so always if `other` is empty.
+    /// `O(m log (n / m + 2))`, or `O(1)` if `other` has more members. Does not allocate.
+    ///
+    /// ```
+    /// let (a, b) = (IntervalSet::new(alloc, 0, 10)?, IntervalSet::new(alloc, 1, 2)?);
+    /// assert!(rt; a.is_superset(&b) && !b.is_superset(&a));
+    /// ```
+    pub fn is_superset(&self, other: &IntervalSet<B>) -> bool
+        ensures { IsTrue result ↔ IsSubset (Covers other.now) (Covers self.now) }
+    {
+        other.is_subset(self)
+    }
+
+    /// Returns true exactly when each member of `other` is a member, and this set has more.
+    /// `O(m log (n / m + 2))`, or `O(1)` if the sizes are equal. Does not allocate.
+    ///
+    /// ```
+    /// let (a, b) = (IntervalSet::new(alloc, 0, 10)?, IntervalSet::new(alloc, 1, 2)?);
+    /// assert!(rt; a.is_proper_superset(&b) && !a.is_proper_superset(&a));
+    /// ```
+    pub fn is_proper_superset(&self, other: &IntervalSet<B>) -> bool
+        ensures { IsTrue result ↔ IsProperSubset (Covers other.now) (Covers self.now) }
+    {
+        other.is_proper_subset(self)
     }
 }
 

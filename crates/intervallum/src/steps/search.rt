@@ -6,6 +6,7 @@ ghost use Rattle.intervallum.specs.Places.{EndBelow, IsPlaceOf, StartAbove, inde
 use super::probes::Probes;
 use crate::ops::Bounded;
 use crate::width::Width;
+use std::hint::select_unpredictable;
 
 /// The place of a value among runs numbered from 0, as `find` returns it.
 ///
@@ -95,11 +96,9 @@ fn find_between<B: Width>(probes: &mut Probes<'_, B>, v: B, mut low: usize, high
         let half = left - left / 2;
         left -= half;
         let run = probes.look(low + half - 1);
-        if run.upper() < v {
-            low += half;
-        } else {
-            is_in = run.lower() <= v;
-        }
+        let is_below = run.upper() < v;
+        low = select_unpredictable(is_below, low + half, low);
+        is_in = select_unpredictable(is_below, is_in, run.lower() <= v);
     }
     if is_in {
         Place::In(low)

@@ -1,10 +1,11 @@
 //! The ends of a set, and whether the results of arithmetic are in the range.
-ghost use Rattle.std.specs.Prelude.{◌↔◌, ◌≤ℤ◌, ℤ, IsTrue};
-ghost use Rattle.ivl_laws.specs.Sets.{Differences, ExactProducts, HasSome, IsBetween, IsSubset, Only, Sums};
+ghost use Rattle.std.specs.Prelude.{◌↔◌, ◌≤ℤ◌, ℤ, IsTrue, MatchOption};
+ghost use Rattle.ivl_laws.specs.Sets.{Differences, ExactProducts, HasNone, HasSome, IsBetween, IsHullOf, IsSubset, Only, Sums};
 ghost use Rattle.ivl_laws.specs.Runs.{Covers};
 
+use intervallum::interval::Interval;
 use intervallum::interval_set::IntervalSet;
-use intervallum::ops::Bounded;
+use intervallum::ops::{Bounded, Empty, Singleton};
 use intervallum::width::Width;
 use ivl_interval_callers::callers::arithmetic as callers;
 
@@ -24,6 +25,41 @@ pub fn greatest_of_set<B: Width>(set: &IntervalSet<B>) -> B
     ensures greatest { (z : ℤ) → Covers set.now z → z ≤ℤ B.value result }
 {
     set.upper()
+}
+
+/// Returns the least number that the runs cover, or `None` if they cover none.
+pub fn first_of_set<B: Width>(set: &IntervalSet<B>) -> Option<B>
+    ensures { MatchOption result
+        (HasNone (Covers set.now))
+        (λ x. Covers set.now (B.value x) × ((z : ℤ) → Covers set.now z → B.value x ≤ℤ z)) }
+{
+    set.first()
+}
+
+/// Returns the greatest number that the runs cover, or `None` if they cover none.
+pub fn last_of_set<B: Width>(set: &IntervalSet<B>) -> Option<B>
+    ensures { MatchOption result
+        (HasNone (Covers set.now))
+        (λ x. Covers set.now (B.value x) × ((z : ℤ) → Covers set.now z → z ≤ℤ B.value x)) }
+{
+    set.last()
+}
+
+/// Returns the set of the least number that the runs cover, or of none, as an interval.
+pub fn first_alone<B: Width>(set: &IntervalSet<B>) -> Interval<B>
+    ensures { IsSubset (IsBetween result) (Covers set.now) }
+{
+    match set.first() {
+        Some(x) => Interval::singleton(x),
+        None => Interval::empty(),
+    }
+}
+
+/// Returns the least interval that holds each number that the runs cover.
+pub fn hull_of_set<B: Width>(set: &IntervalSet<B>) -> Interval<B>
+    ensures { IsHullOf result (Covers set.now) }
+{
+    set.hull()
 }
 
 /// Returns true exactly when each sum is in the range.

@@ -63,6 +63,21 @@ pub fn set_is_proper_subset<B: Width>(a: &IntervalSet<B>, b: &IntervalSet<B>) ->
     callers::is_proper_subset_by_bound(a, b)
 }
 
+/// Returns true exactly when each number that the other list covers is covered by the one.
+pub fn set_is_superset<B: Width>(a: &IntervalSet<B>, b: &IntervalSet<B>) -> bool
+    ensures { IsTrue result ↔ IsSubset (Covers b.now) (Covers a.now) }
+{
+    a.is_superset(b)
+}
+
+/// Returns true exactly when each number that the other list covers is covered by the one, which
+/// covers more.
+pub fn set_is_proper_superset<B: Width>(a: &IntervalSet<B>, b: &IntervalSet<B>) -> bool
+    ensures { IsTrue result ↔ IsProperSubset (Covers b.now) (Covers a.now) }
+{
+    a.is_proper_superset(b)
+}
+
 /// Returns true exactly when no number is covered by both lists.
 pub fn sets_are_disjoint<B: Width>(a: &IntervalSet<B>, b: &IntervalSet<B>) -> bool
     ensures { IsTrue result ↔ HasNone (Intersection (Covers a.now) (Covers b.now)) }

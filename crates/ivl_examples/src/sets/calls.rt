@@ -211,6 +211,16 @@ fn inclusion(rt: HostRuntime) {
     );
     check_all(
         &rt,
+        &[
+            b.is_superset(&a),
+            a.is_superset(&b),
+            b.is_proper_superset(&a),
+            b.is_proper_superset(&b),
+        ],
+        &[true, false, true, false],
+    );
+    check_all(
+        &rt,
         &[a.entail(&b), b.entail(&a)],
         &[SKleene::True, SKleene::False],
     );

@@ -54,6 +54,21 @@ fn runs_of_values(rt: HostRuntime) {
 }
 
 #[test]
+fn ends(rt: HostRuntime) {
+    let (a, none) = (set_of(&rt, &[(1, 2), (5, 6)]), set_of::<i32>(&rt, &[]));
+    check_all(
+        &rt,
+        &[a.first(), a.last(), none.first(), none.last()],
+        &[Some(1), Some(6), None, None],
+    );
+    check_all(&rt, &[a.hull()], &[Interval::new(1, 6)]);
+    check(&rt, none.hull().is_empty(), true);
+    let bytes = made(&rt, IntervalSet::<u8>::whole(rt.alloc()));
+    check_all(&rt, &[bytes.first(), bytes.last()], &[Some(0), Some(254)]);
+    check_all(&rt, &[bytes.hull()], &[Interval::new(0, 254)]);
+}
+
+#[test]
 fn first_fits(rt: HostRuntime) {
     let a = set_of::<i32>(&rt, &[(1, 2), (5, 9)]);
     check_all(

@@ -1,9 +1,10 @@
-//! Sets of one run, and the least and the greatest member.
+//! Sets of one run, the least and the greatest member, and the interval between them.
 
 #[allow(unused_imports)]
 use crate::rattle::prelude::*;
 use super::IntervalSet;
-use crate::proved::intervallum::ops::{Bounded, IsSingleton};
+use crate::proved::intervallum::interval::Interval;
+use crate::proved::intervallum::ops::{Bounded, Empty, IsEmpty, IsSingleton, Range};
 use crate::proved::intervallum::width::Width;
 use crate::rattle::std::alloc::{AllocError, Global};
 
@@ -94,6 +95,94 @@ impl<B: Width> IntervalSet<B> {
     /// ```
     pub fn top(alloc: Global) -> Self {
         Self::empty(alloc)
+    }
+
+    /// Returns the least member, or `None` if there is none. `O(1)`. Does not allocate.
+    ///
+    /// ```
+    /// # use intervallum::proved::examples::*;
+    /// # fn main() -> Result<(), std::boxed::Box<dyn std::error::Error>> {
+    /// # let alloc = Global;
+    /// let a: IntervalSet<i32> = [(1, 2), (5, 6)].to_interval_set(alloc)?;
+    /// assert_eq!(a.first(), Some(1));
+    /// assert_eq!(IntervalSet::<i32>::empty(alloc).first(), None);
+    /// # Ok(())
+    /// # }
+    /// ```
+    ///
+    /// # Proved
+    ///
+    /// ```text
+    /// ensures least { MatchOption result (HasNone (Covers self.now)) (λ x. IsLeast (B.value x) (Covers self.now)) }
+    /// ensures in_range { IfSome result (λ x. IsBetween B.whole (B.value x)) }
+    /// ```
+    ///
+    /// Words: [`HasNone`](crate::definitions#HasNone), [`Covers`](crate::definitions#Covers), [`IsLeast`](crate::definitions#IsLeast), [`IsBetween`](crate::definitions#IsBetween).
+    pub fn first(&self) -> Option<B> {
+        if self.is_empty() {
+            None
+        } else {
+            Some(self.lower())
+        }
+    }
+
+    /// Returns the greatest member, or `None` if there is none. `O(1)`. Does not allocate.
+    ///
+    /// ```
+    /// # use intervallum::proved::examples::*;
+    /// # fn main() -> Result<(), std::boxed::Box<dyn std::error::Error>> {
+    /// # let alloc = Global;
+    /// let a: IntervalSet<i32> = [(1, 2), (5, 6)].to_interval_set(alloc)?;
+    /// assert_eq!(a.last(), Some(6));
+    /// assert_eq!(IntervalSet::<i32>::empty(alloc).last(), None);
+    /// # Ok(())
+    /// # }
+    /// ```
+    ///
+    /// # Proved
+    ///
+    /// ```text
+    /// ensures greatest { MatchOption result (HasNone (Covers self.now)) (λ x. IsGreatest (B.value x) (Covers self.now)) }
+    /// ensures in_range { IfSome result (λ x. IsBetween B.whole (B.value x)) }
+    /// ```
+    ///
+    /// Words: [`HasNone`](crate::definitions#HasNone), [`Covers`](crate::definitions#Covers), [`IsGreatest`](crate::definitions#IsGreatest), [`IsBetween`](crate::definitions#IsBetween).
+    pub fn last(&self) -> Option<B> {
+        if self.is_empty() {
+            None
+        } else {
+            Some(self.upper())
+        }
+    }
+
+    /// Returns the least interval that holds the members: from the least to the greatest, or empty
+    /// if there is none. `O(1)`. Does not allocate.
+    ///
+    /// ```
+    /// # use intervallum::proved::examples::*;
+    /// # fn main() -> Result<(), std::boxed::Box<dyn std::error::Error>> {
+    /// # let alloc = Global;
+    /// let a: IntervalSet<i32> = [(1, 2), (5, 6)].to_interval_set(alloc)?;
+    /// assert!(a.hull() == Interval::new(1, 6));
+    /// assert!(IntervalSet::<i32>::empty(alloc).hull().is_empty());
+    /// # Ok(())
+    /// # }
+    /// ```
+    ///
+    /// # Proved
+    ///
+    /// ```text
+    /// ensures { IsHullOf result (Covers self.now) }
+    /// ```
+    ///
+    /// Words: [`IsHullOf`](crate::definitions#IsHullOf), [`Covers`](crate::definitions#Covers).
+    pub fn hull(&self) -> Interval<B> {
+        let runs = self.as_runs();
+        let count = runs.len();
+        if count == 0 {
+            return Interval::empty();
+        }
+        Interval::new(runs[0].lower(), runs[count - 1].upper())
     }
 }
 

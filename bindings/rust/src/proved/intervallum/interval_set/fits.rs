@@ -6,8 +6,7 @@
 #[allow(unused_imports)]
 use crate::rattle::prelude::*;
 use super::IntervalSet;
-use crate::proved::intervallum::interval::Interval;
-use crate::proved::intervallum::ops::{Bounded, Empty, Fits, Range};
+use crate::proved::intervallum::ops::Fits;
 use crate::proved::intervallum::width::Width;
 
 /// Proved, with these words of the trait:
@@ -38,7 +37,7 @@ impl<B: Width> Fits<IntervalSet<B>> for IntervalSet<B> {
     ///
     /// What [`Fits::fits_add`] says, by the words of the type.
     fn fits_add(&self, other: &IntervalSet<B>) -> bool {
-        span(self).fits_add(&span(other))
+        self.hull().fits_add(&other.hull())
     }
 
     /// Returns true exactly when `self - other` may be called, so always if a set is empty. `O(1)`.
@@ -59,7 +58,7 @@ impl<B: Width> Fits<IntervalSet<B>> for IntervalSet<B> {
     ///
     /// What [`Fits::fits_sub`] says, by the words of the type.
     fn fits_sub(&self, other: &IntervalSet<B>) -> bool {
-        span(self).fits_sub(&span(other))
+        self.hull().fits_sub(&other.hull())
     }
 
     /// Returns true exactly when `self * other` may be called, so always if a set is empty. `O(1)`.
@@ -80,7 +79,7 @@ impl<B: Width> Fits<IntervalSet<B>> for IntervalSet<B> {
     ///
     /// What [`Fits::fits_mul`] says, by the words of the type.
     fn fits_mul(&self, other: &IntervalSet<B>) -> bool {
-        span(self).fits_mul(&span(other))
+        self.hull().fits_mul(&other.hull())
     }
 }
 
@@ -111,7 +110,7 @@ impl<B: Width> Fits<B> for IntervalSet<B> {
     ///
     /// What [`Fits::fits_add`] says, by the words of the type.
     fn fits_add(&self, other: &B) -> bool {
-        span(self).fits_add(other)
+        self.hull().fits_add(other)
     }
 
     /// Returns true exactly when `self - *other` may be called; `other` may be outside the range.
@@ -131,7 +130,7 @@ impl<B: Width> Fits<B> for IntervalSet<B> {
     ///
     /// What [`Fits::fits_sub`] says, by the words of the type.
     fn fits_sub(&self, other: &B) -> bool {
-        span(self).fits_sub(other)
+        self.hull().fits_sub(other)
     }
 
     /// Returns true exactly when `self * *other` may be called; `other` may be outside the range.
@@ -151,16 +150,6 @@ impl<B: Width> Fits<B> for IntervalSet<B> {
     ///
     /// What [`Fits::fits_mul`] says, by the words of the type.
     fn fits_mul(&self, other: &B) -> bool {
-        span(self).fits_mul(other)
+        self.hull().fits_mul(other)
     }
-}
-
-/// The least interval that holds a set.
-fn span<B: Width>(set: &IntervalSet<B>) -> Interval<B> {
-    let runs = set.as_runs();
-    let count = runs.len();
-    if count == 0 {
-        return Interval::empty();
-    }
-    Interval::new(runs[0].lower(), runs[count - 1].upper())
 }

@@ -97,6 +97,56 @@ impl<B: Width> ProperSubset for IntervalSet<B> {
     }
 }
 
+impl<B: Width> IntervalSet<B> {
+    /// Returns true exactly when each member of `other` is a member, so always if `other` is empty.
+    /// `O(m log (n / m + 2))`, or `O(1)` if `other` has more members. Does not allocate.
+    ///
+    /// ```
+    /// # use intervallum::proved::examples::*;
+    /// # fn main() -> Result<(), std::boxed::Box<dyn std::error::Error>> {
+    /// # let alloc = Global;
+    /// let (a, b) = (IntervalSet::new(alloc, 0, 10)?, IntervalSet::new(alloc, 1, 2)?);
+    /// assert!(a.is_superset(&b) && !b.is_superset(&a));
+    /// # Ok(())
+    /// # }
+    /// ```
+    ///
+    /// # Proved
+    ///
+    /// ```text
+    /// ensures { IsTrue result ↔ IsSubset (Covers other.now) (Covers self.now) }
+    /// ```
+    ///
+    /// Words: [`IsSubset`](crate::definitions#IsSubset), [`Covers`](crate::definitions#Covers).
+    pub fn is_superset(&self, other: &IntervalSet<B>) -> bool {
+        other.is_subset(self)
+    }
+
+    /// Returns true exactly when each member of `other` is a member, and this set has more.
+    /// `O(m log (n / m + 2))`, or `O(1)` if the sizes are equal. Does not allocate.
+    ///
+    /// ```
+    /// # use intervallum::proved::examples::*;
+    /// # fn main() -> Result<(), std::boxed::Box<dyn std::error::Error>> {
+    /// # let alloc = Global;
+    /// let (a, b) = (IntervalSet::new(alloc, 0, 10)?, IntervalSet::new(alloc, 1, 2)?);
+    /// assert!(a.is_proper_superset(&b) && !a.is_proper_superset(&a));
+    /// # Ok(())
+    /// # }
+    /// ```
+    ///
+    /// # Proved
+    ///
+    /// ```text
+    /// ensures { IsTrue result ↔ IsProperSubset (Covers other.now) (Covers self.now) }
+    /// ```
+    ///
+    /// Words: [`IsProperSubset`](crate::definitions#IsProperSubset), [`Covers`](crate::definitions#Covers).
+    pub fn is_proper_superset(&self, other: &IntervalSet<B>) -> bool {
+        other.is_proper_subset(self)
+    }
+}
+
 /// Proved, with these words of the trait:
 ///
 /// ```text

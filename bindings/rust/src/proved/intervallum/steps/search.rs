@@ -5,6 +5,7 @@ use crate::rattle::prelude::*;
 use super::probes::Probes;
 use crate::proved::intervallum::ops::Bounded;
 use crate::proved::intervallum::width::Width;
+use crate::rattle::std::hint::select_unpredictable;
 
 /// The place of a value among runs numbered from 0, as `find` returns it.
 ///
@@ -92,11 +93,9 @@ fn find_between<B: Width>(probes: &mut Probes<'_, B>, v: B, mut low: usize, high
         let half = left - left / 2;
         left -= half;
         let run = probes.look(low + half - 1);
-        if run.upper() < v {
-            low += half;
-        } else {
-            is_in = run.lower() <= v;
-        }
+        let is_below = run.upper() < v;
+        low = select_unpredictable(is_below, low + half, low);
+        is_in = select_unpredictable(is_below, is_in, run.lower() <= v);
     }
     if is_in {
         Place::In(low)

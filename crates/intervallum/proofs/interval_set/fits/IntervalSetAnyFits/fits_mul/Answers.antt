@@ -5,4 +5,4 @@ use Rattle.intervallum.proofs.interval_set.fits.IntervalSetAnyFits.fits_mul.Goal
 pub returns : goal.returns
 returns g c =
     told c.fits_mul.ensures
-    (products_by_hulls (Covers c.args.self.now) (Covers c.args.other.now) c.span.result c.span-2.result g.B.Width.whole c.span.ensures c.span-2.ensures)
+    (products_by_hulls (Covers c.args.self.now) (Covers c.args.other.now) c.hull.result c.hull-2.result g.B.Width.whole c.hull.ensures c.hull-2.ensures)

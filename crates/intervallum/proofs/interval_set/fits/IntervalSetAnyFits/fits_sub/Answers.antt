@@ -5,4 +5,4 @@ use Rattle.intervallum.proofs.interval_set.fits.IntervalSetAnyFits.fits_sub.Goal
 pub returns : goal.returns
 returns g c =
     told c.fits_sub.ensures
-    (differences_by_hulls (Covers c.args.self.now) (Covers c.args.other.now) c.span.result c.span-2.result g.B.Width.whole c.span.ensures c.span-2.ensures)
+    (differences_by_hulls (Covers c.args.self.now) (Covers c.args.other.now) c.hull.result c.hull-2.result g.B.Width.whole c.hull.ensures c.hull-2.ensures)

@@ -6,4 +6,4 @@ use Rattle.intervallum.proofs.interval_set.fits.IntervalSetAnyFitsAny.fits_sub.G
 pub returns : goal.returns
 returns g c =
     told c.fits_sub.ensures
-    (differences_by_hull (Covers c.args.self.now) (Only (g.B.Width.value c.args.other.now)) c.span.result g.B.Width.whole c.span.ensures)
+    (differences_by_hull (Covers c.args.self.now) (Only (g.B.Width.value c.args.other.now)) c.hull.result g.B.Width.whole c.hull.ensures)
