@@ -22,5 +22,13 @@ ended_lines_of bytes = all_but_last (lines_of bytes)
 abbrev pub words_of : List ℕ → List (List ℕ)
 words_of line = words_between (strip_carriage_return line)
 
+-- the first of the words, or nothing where there is none
+abbrev pub first_of : List (List ℕ) → List ℕ
+first_of [] = []
+first_of (word ∷ words) = word
+
+abbrev pub first_word_of : List ℕ → List ℕ
+first_word_of line = first_of (words_of line)
+
 abbrev pub with_newline : List ℕ → List ℕ
 with_newline text = text ++ 10 ∷ []

@@ -11,7 +11,7 @@ mod words;
 pub use arguments::{Start, start_of};
 pub use numbers::{number_from, pairs_from};
 pub use session::{Answers, LineFault, SessionFault, serve};
-pub use text::line_text;
+pub use text::{first_word, line_text};
 pub use words::{next_word, one_word, three_words, two_words};
 
 /// The version of these crates, which the programs print.

@@ -1,6 +1,9 @@
 //! The text of a line.
-ghost use Rattle.std.specs.Prelude.{◌≡◌, IfNone, IfSome, IsUtf8};
+ghost use Rattle.std.specs.Prelude.{◌≡◌, [], IfNone, IfSome, IsUtf8};
 ghost use Rattle.std.specs.Str.Lines.{strip_carriage_return};
+ghost use Rattle.ivl_lines.specs.Lines.{first_word_of};
+
+use crate::words::next_word;
 
 /// Returns the text of a line that is given without its newline, less one carriage return at its
 /// end. Returns `None` if the line is not UTF-8. Linear, does not allocate.
@@ -17,6 +20,26 @@ pub fn line_text(line: &[u8]) -> Option<&str>
     match str::from_utf8(line) {
         Ok(text) => Some(without_return(text)),
         Err(_) => None,
+    }
+}
+
+/// Returns the first word of a line that is given without its newline, or the empty text if it has
+/// none or is not UTF-8. Linear, does not allocate.
+///
+/// ```
+/// assert_eq!(rt; first_word(b"sum x y z"), "sum");
+/// assert_eq!(rt; first_word(b"\r"), "");
+/// ```
+pub fn first_word(line: &[u8]) -> &str
+    ensures word { IsUtf8 line.now → result.now ≡ first_word_of line.now }
+    ensures none { ¬ (IsUtf8 line.now) → result.now ≡ [] }
+{
+    let Some(text) = line_text(line) else {
+        return "";
+    };
+    match next_word(text) {
+        Some((word, _)) => word,
+        None => "",
     }
 }
 

@@ -1,3 +1,4 @@
 pub mod Answered
 pub mod Shown
 pub mod Pairs
+pub mod Unkept

@@ -4,3 +4,4 @@ pub mod Printed
 pub mod Session
 pub mod View
 pub mod Outcome
+pub mod Unkept

@@ -1,9 +1,14 @@
 //! Parses the words of a line as a command.
-ghost use Rattle.std.specs.Prelude.{◌≡◌, IfOk, IsSomeAnd, MatchOption, None, option_map};
+ghost use Rattle.std.specs.Prelude.{◌≡◌, IfOk, IsSomeAnd, MatchOption, None, OnErr, option_map};
+ghost use Rattle.std.specs.List.{list_all};
 ghost use Rattle.ivl_session.specs.Commands.{action_from, looked_up, commands, register_of, register_alone_of, two_registers_of, three_registers_of, register_and_number_of, two_registers_and_number_of, of_pairs};
 ghost use Rattle.ivl_lines.specs.Words.{words_between};
+ghost use Rattle.ivl_lines.specs.Numbers.{pairs_of};
+ghost use Rattle.ivl_session.specs.Unkept.{is_in_range};
 ghost use Rattle.ivl_session.specs.View.{action_of};
 
+use intervallum::interval::Interval;
+use intervallum::ops::Range;
 use ivl_lines::{next_word, number_from, one_word, pairs_from, three_words, two_words};
 use ivl_registers::Command;
 use std::alloc::{AllocError, Global};
@@ -18,8 +23,9 @@ pub fn command_from(
     name: &str,
     words: &str,
 ) -> Result<Option<Command<i64>>, AllocError>
-    ensures { IfOk result (λ command. option_map action_of command
+    ensures ok { IfOk result (λ command. option_map action_of command
         ≡ action_from name.now (words_between words.now)) }
+    ensures set { OnErr result (action_from name.now (words_between words.now) ≡ of_pairs (words_between words.now)) }
 {
     match name {
         "set" => set_from(alloc, words),
@@ -128,6 +134,28 @@ fn set_from(alloc: Global, words: &str) -> Result<Option<Command<i64>>, AllocErr
     }
 }
 
+/// Whether all pairs of the words are in range, or `None` if the words are no pairs. Linear, does not
+/// allocate.
+pub fn pairs_in_range(words: &str) -> Option<bool>
+    ensures { result ≡ option_map (λ list. list_all is_in_range list) (pairs_of (words_between words.now)) }
+{
+    let mut in_range = true;
+    let mut rest = words;
+    while let Some((l, after)) = next_word(rest) {
+        let (u, after) = next_word(after)?;
+        let (lower, upper) = (number_from(l)?, number_from(u)?);
+        in_range &= pair_in_range(lower, upper);
+        rest = after;
+    }
+    Some(in_range)
+}
+
+fn pair_in_range(lower: i64, upper: i64) -> bool
+    ensures { result ≡ is_in_range (lower, upper) }
+{
+    Interval::in_range(lower, upper)
+}
+
 fn register_alone(words: &str) -> Option<usize>
     ensures { result ≡ register_alone_of (words_between words.now) }
 {
@@ -162,7 +190,8 @@ fn two_registers_and_number(words: &str) -> Option<(usize, usize, i64)>
     Some((register_from(r)?, register_from(a)?, number_from(v)?))
 }
 
-fn register_from(word: &str) -> Option<usize>
+/// The register that a word names, or `None` if it is not one letter from a to z.
+pub fn register_from(word: &str) -> Option<usize>
     ensures { result ≡ register_of word.now }
 {
     match word.as_bytes() {

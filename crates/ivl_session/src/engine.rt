@@ -1,15 +1,20 @@
 //! What answers the lines of a session of the calculator, and how the session ends.
-ghost use Rattle.std.specs.Prelude.{◌≡◌, ℕ, List, ◌++◌, OnOk, IfSome, IsErrOf};
+ghost use Rattle.std.specs.Prelude.{◌≡◌, ℕ, List, ◌++◌, OnOk, IfSome, IsErrOf, length};
 ghost use Rattle.std.specs.Io.KnownBytes.{Appends, Consumes, IsAtEnd};
 ghost use Rattle.ivl_lines.specs.Lines.{lines_of, ended_lines_of};
 ghost use Rattle.ivl_session.specs.Session.{AnswersReading, IsSessionText};
 ghost use Rattle.ivl_session.specs.Outcome.{outcome_of};
+ghost use Rattle.ivl_lines.specs.Lines.{with_newline};
+ghost use Rattle.ivl_registers.specs.Actions.{refused};
+ghost use Rattle.ivl_session.specs.Printed.{printed};
+ghost use Rattle.ivl_session.specs.Reading.{reading_of};
+ghost use Rattle.ivl_session.specs.Unkept.{why_unkept};
 ghost use Rattle.ivl_session.specs.View.{view_of};
 
-use crate::lines::{Line, read_line};
+use crate::lines::{Line, Unkept, read_line};
 use crate::replies::write_reply;
-use ivl_lines::{Answers, LineFault, SessionFault, serve};
-use ivl_registers::Calc;
+use ivl_lines::{Answers, LineFault, SessionFault, first_word, serve};
+use ivl_registers::{Calc, Refusal, Reply};
 use std::alloc::Global;
 use std::io;
 use std::io::{Read, Write};
@@ -38,9 +43,15 @@ impl Answers for Registers {
 
     ghost allowed = { λ old line text new. AnswersReading old (reading_of line) text new };
 
+    fn may_take_long(&self, line: &[u8]) -> bool {
+        match first_word(line) {
+            "plus" | "minus" | "times" => true,
+            _ => false,
+        }
+    }
+
     fn answer<W: Write>(&mut self, line: &[u8], writer: &mut W) -> Result<(), LineFault> {
-        let read = read_line(self.alloc, line)?;
-        if write_answer(&mut self.calc, &read, writer).is_err() {
+        if answer_line(self.alloc, &mut self.calc, line, writer).is_err() {
             return Err(LineFault::Write);
         }
         Ok(())
@@ -48,13 +59,15 @@ impl Answers for Registers {
 }
 
 /// Answers each line of the input, over registers that are empty at first. What is written is
-/// flushed before each read and at the end.
+/// flushed before each read, before each line of sums, differences or products of two registers,
+/// and at the end.
 ///
 /// # Errors
 ///
 /// `Read` if a read failed, or the reader still returned bytes after 2^64 - 1 reads; an interrupted
 /// read is repeated. `Write` if a write or a flush failed. `Memory` if an allocation for the
-/// registers, a line or the numbers of a `set` failed.
+/// registers or the bytes of a line failed. A command that runs out of memory is refused with that,
+/// and the session continues.
 ///
 /// ```
 /// let mut input: &[u8] = b"set a 5 6\nshow a";
@@ -80,6 +93,37 @@ pub fn session<R: Read, W: Write>(
 {
     let calc = Calc::new(alloc, REGISTERS)?;
     serve(alloc, &mut Registers { alloc, calc }, reader, writer)
+}
+
+fn answer_line<W: Write>(
+    alloc: Global,
+    calc: &mut Calc<i64>,
+    line: &[u8],
+    writer: &mut W,
+) -> io::Result<()>
+    ensures { OnOk result ((text : List ℕ)
+        × AnswersReading calc.old (reading_of line.now) text calc.new
+        × Appends (W.contents writer.old) (W.contents writer.new) text) }
+{
+    match read_line(alloc, line) {
+        Ok(read) => write_answer(calc, &read, writer),
+        Err(unkept) => write_unkept(calc, unkept, writer),
+    }
+}
+
+// Refuses a `set` for whose pairs there is no memory, with the reason that counts.
+fn write_unkept<W: Write>(calc: &Calc<i64>, unkept: Unkept, writer: &mut W) -> io::Result<()>
+    ensures { OnOk result (Appends (W.contents writer.old) (W.contents writer.new)
+        (with_newline (printed (refused (why_unkept (length calc.now) unkept))))) }
+{
+    let why = if unkept.register >= calc.registers() {
+        Refusal::Register
+    } else if unkept.in_range {
+        Refusal::Memory
+    } else {
+        Refusal::Range
+    };
+    write_reply(writer, &Reply::Refused(why))
 }
 
 // Carries out what a line says, and writes the answer to it.

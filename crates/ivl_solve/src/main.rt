@@ -5,20 +5,44 @@
 #[cfg(test)]
 mod tests;
 
-use ivl_lines::VERSION;
+use ivl_lines::{Start, VERSION, start_of};
 use ivl_solver::{SessionFault, outcome, session};
 use std::io::BufWriter;
 use std::process::ExitCode;
 use std::{env, io};
 
+const HELP: &str = "\
+Narrows the domains of variables by sums: reads one line at a time from standard input, and answers each.
+
+  var x l u l u ..     a new variable, whose domain is the union of the pairs
+  cut x l u l u ..     x keeps the members of its domain that are in the union of the pairs
+  sum x y z            x + y = z, from now on
+  show                 the domain of each variable
+
+Each is answered `ok`, or `no solution` once a domain is empty. --version prints the version.
+";
+
 fn main(rt: HostRuntime) -> io::Result<ExitCode> {
-    if env::args(&rt)?
-        .nth(1)
-        .is_some_and(|word| word.as_str() == "--version")
-    {
-        println!(rt; "ivl_solve {VERSION}")?;
-        return Ok(ExitCode::SUCCESS);
+    let mut words = env::args(&rt)?;
+    let (_, first) = (words.next(), words.next());
+    match start_of(first.as_deref(), words.next().is_some()) {
+        Start::Lines => answer_lines(&rt),
+        Start::Help => {
+            print!(rt; "{HELP}")?;
+            Ok(ExitCode::SUCCESS)
+        }
+        Start::Version => {
+            println!(rt; "ivl_solve {VERSION}")?;
+            Ok(ExitCode::SUCCESS)
+        }
+        Start::Other => {
+            eprint!(rt; "{HELP}")?;
+            Ok(ExitCode::from(2))
+        }
     }
+}
+
+fn answer_lines(rt: &HostRuntime) -> io::Result<ExitCode> {
     let ended = match BufWriter::new(rt.alloc(), rt.stdout()) {
         Ok(mut writer) => session(rt.alloc(), &mut rt.stdin(), &mut writer),
         Err(_) => Err(SessionFault::Memory),

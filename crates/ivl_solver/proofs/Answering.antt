@@ -16,11 +16,11 @@ changed_reply show new other = absurd (other refl)
 pub shown_reply : (asked : Asked) (old : State) → asked ≡ show → AnswersAsked old asked (domain_lines old.names old.domains ++ state_line old.domains) old
 shown_reply asked old e = rw e (inl (refl, refl, refl))
 
-pub refused : (told : Option Told) (asked : Asked) (old new : State) → told ≡ fault_of asked old → (IsSome told → new ≡ old) → AnswersAsked old asked (told_line told) new
-refused None asked old new e same = inr (inr refl)
-refused (Some why) asked old new e same = inr (inl (why, sym e, refl, same refl))
+pub refused : (told : Option Told) (asked : Asked) (old new : State) → told ≡ fault_of asked old → new ≡ old → AnswersAsked old asked (told_line told) new
+refused None asked old new e same = inr (inr (refl, same))
+refused (Some why) asked old new e same = inr (inl (why, sym e, refl, same))
 
 pub no_request : (told : Option Told) (name : List ℕ) (words : List (List ℕ)) (o : Option Asked) (old : State) → (IsSome told → o ≡ None) → (IsSome told → told ≡ Some (why_no_request name words)) → (told ≡ None → IsTrue (needs_list name words)) → AnswersRead old name words o (told_line told) old
 no_request (Some why) name words o old none fault memory = rw (none refl) (inl (ap (λ (t : Option Told). told_line t) (fault refl)), refl)
 no_request None name words None old none fault memory = (inr (memory refl, refl), refl)
-no_request None name words (Some asked) old none fault memory = inr (inr refl)
+no_request None name words (Some asked) old none fault memory = inr (inr (refl, refl))

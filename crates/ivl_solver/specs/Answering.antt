@@ -10,12 +10,12 @@ use Rattle.ivl_solver.specs.Requests.{Asked, needs_list, request_of, why_no_requ
 use Rattle.ivl_solver.specs.Solving.{State, Carries, fault_of}
 use Rattle.ivl_solver.specs.Printed.{told_line, reply}
 
--- carried out, or refused with its fault, or out of memory
+-- carried out, or refused with its fault, or out of memory; only the first changes anything
 abbrev pub AnswersAsked : State → Asked → List ℕ → State → Type 0
 AnswersAsked old asked text new =
     ((fault_of asked old ≡ None) × Carries asked old new × (text ≡ reply asked new))
     ⊎ ((why : Told) × (fault_of asked old ≡ Some why) × (text ≡ told_line (Some why)) × (new ≡ old))
-    ⊎ (text ≡ told_line None)
+    ⊎ ((text ≡ told_line None) × (new ≡ old))
 
 -- no request, which is told unless the list of its pairs found no memory
 abbrev pub AnswersNoRequest : State → List ℕ → List (List ℕ) → List ℕ → State → Type 0

@@ -13,7 +13,7 @@ use crate::fault::Fault;
 use crate::replies::{write_fault, write_shown, write_state};
 use crate::request::{Request, request_from};
 use crate::solver::Solver;
-use ivl_lines::{Answers, LineFault, SessionFault, line_text, next_word, serve};
+use ivl_lines::{Answers, LineFault, SessionFault, first_word, line_text, next_word, serve};
 use std::alloc::Global;
 use std::io;
 use std::io::{Read, Write};
@@ -22,6 +22,13 @@ impl Answers for Solver {
     ghost use Rattle.ivl_solver.specs.Answering.{AnswersLine};
 
     ghost allowed = { AnswersLine };
+
+    fn may_take_long(&self, line: &[u8]) -> bool {
+        match first_word(line) {
+            "cut" | "sum" => true,
+            _ => false,
+        }
+    }
 
     fn answer<W: Write>(&mut self, line: &[u8], writer: &mut W) -> Result<(), LineFault> {
         if answer_line(self, line, writer).is_err() {
@@ -32,7 +39,7 @@ impl Answers for Solver {
 }
 
 /// Answers each line of the input, over a solver that has no variables at first. What is written is
-/// flushed before each read and at the end.
+/// flushed before each read, before each line that narrows domains, and at the end.
 ///
 /// # Errors
 ///

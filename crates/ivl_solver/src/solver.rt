@@ -58,13 +58,12 @@ impl Solver {
         self.alloc
     }
 
-    /// Carries out what a line asks for. A fault of the line changes nothing; after
-    /// [`Fault::Memory`], a `cut` or `sum` may be carried out in part.
+    /// Carries out what a line asks for. A fault changes nothing.
     pub fn carry_out<'a>(&mut self, request: Request<'a>) -> Result<(), Fault<'a>>
         ensures carried { OnOk result (Carries (asked_of request.entry) self.old self.new) }
         ensures no_fault { OnOk result (fault_of (asked_of request.entry) self.old ≡ None) }
         ensures fault { IfErr result (λ fault. told_of fault ≡ fault_of (asked_of request.entry) self.old) }
-        ensures refused { IfErr result (λ fault. IsSome (told_of fault) → self.new ≡ self.old) }
+        ensures refused { OnErr result (self.new ≡ self.old) }
     {
         match request {
             Request::Var(name, pairs) => self.define(name, &pairs),
@@ -115,14 +114,22 @@ impl Solver {
         ensures ok { OnOk result (self.new ≡ record { names = self.old.names ++ name.now ∷ []; domains = self.old.domains ++ domain ∷ []; constraints = self.old.constraints }) }
         ensures err { OnErr result (self.new ≡ self.old) }
     {
-        let mut domains = Vec::with_capacity(self.alloc, self.domains().len().saturating_add(1))?;
-        for old in self.store.domains() {
-            domains.push(old.try_clone()?)?;
-        }
+        let mut domains = self.copied_domains()?;
         domains.push(domain)?;
         self.names.push(String::from_str(self.alloc, name)?)?;
         self.store = Store::new(self.alloc, domains);
         Ok(())
+    }
+
+    /// Copies the domains, with room for one more.
+    fn copied_domains(&self) -> Result<Vec<IntervalSet<i64>>, AllocError>
+        ensures { IfOk result (λ domains. domains.items ≡ self.now.domains) }
+    {
+        let mut domains = Vec::with_capacity(self.alloc, self.domains().len().saturating_add(1))?;
+        for old in self.store.domains() {
+            domains.push(old.try_clone()?)?;
+        }
+        Ok(domains)
     }
 
     /// Keeps the members of a domain that are in the union of the pairs.
@@ -130,7 +137,7 @@ impl Solver {
         ensures ok { OnOk result (Cuts name.now pairs.now self.old self.new) }
         ensures no_fault { OnOk result (fault_of (cut_of name.now pairs.now) self.old ≡ None) }
         ensures fault { IfErr result (λ fault. told_of fault ≡ fault_of (cut_of name.now pairs.now) self.old) }
-        ensures refused { IfErr result (λ fault. IsSome (told_of fault) → self.new ≡ self.old) }
+        ensures refused { OnErr result (self.new ≡ self.old) }
     {
         let variable = self.known(name)?;
         let allowed = set_of(self.alloc, pairs)?;
@@ -143,7 +150,7 @@ impl Solver {
         ensures ok { OnOk result (Adds x.now y.now z.now self.old self.new) }
         ensures no_fault { OnOk result (fault_of (sum_of x.now y.now z.now) self.old ≡ None) }
         ensures fault { IfErr result (λ fault. told_of fault ≡ fault_of (sum_of x.now y.now z.now) self.old) }
-        ensures refused { IfErr result (λ fault. IsSome (told_of fault) → self.new ≡ self.old) }
+        ensures refused { OnErr result (self.new ≡ self.old) }
     {
         let sum = Constraint {
             x: self.known(x)?,
@@ -175,39 +182,36 @@ impl Solver {
         place_of(&self.names, name)
     }
 
-    /// Posts all constraints, and then a cut.
+    /// Posts all constraints, and then a cut, to a copy of the domains: a failed allocation leaves the
+    /// domains as they are.
     fn restrict(&mut self, variable: usize, allowed: IntervalSet<i64>) -> Result<(), AllocError>
         requires { variable < length self.old.domains }
         ensures left { OnOk result (IsLeftBy (required_by self.old.constraints ++ Restrict variable allowed ∷ []) (set_at self.old.domains) (set_at self.new.domains)) }
         ensures names { self.new.names ≡ self.old.names }
         ensures constraints { self.new.constraints ≡ self.old.constraints }
+        ensures err { OnErr result (self.new ≡ self.old) }
     {
         let posts = required_with(self.alloc, &self.constraints, variable, allowed)?;
-        post(&mut self.store, &posts)
+        let mut store = Store::new(self.alloc, self.copied_domains()?);
+        post(&mut store, &posts)?;
+        self.store = store;
+        Ok(())
     }
 
-    /// Adds a constraint, and posts all. If allocation fails once it is added, it is kept, because
-    /// domains may have changed.
+    /// Posts all constraints, and then a new one, to a copy of the domains, and adds the constraint.
     fn require(&mut self, sum: Constraint) -> Result<(), AllocError>
         requires distinct { AreDistinct sum }
         requires present { AllPresent (length self.old.domains) sum }
         ensures left { OnOk result (IsLeftBy (required_by self.new.constraints) (set_at self.old.domains) (set_at self.new.domains)) }
         ensures names { self.new.names ≡ self.old.names }
         ensures constraints { OnOk result (self.new.constraints ≡ self.old.constraints ++ sum ∷ []) }
-    {
-        self.keep(sum)?;
-        let posts = required(self.alloc, &self.constraints)?;
-        post(&mut self.store, &posts)
-    }
-
-    /// Adds a constraint.
-    fn keep(&mut self, sum: Constraint) -> Result<(), AllocError>
-        requires distinct { AreDistinct sum }
-        requires present { AllPresent (length self.old.domains) sum }
-        ensures ok { OnOk result (self.new ≡ record self.old { constraints = self.old.constraints ++ sum ∷ [] }) }
         ensures err { OnErr result (self.new ≡ self.old) }
     {
+        let posts = required_and(self.alloc, &self.constraints, sum)?;
+        let mut store = Store::new(self.alloc, self.copied_domains()?);
+        post(&mut store, &posts)?;
         self.constraints.push(sum)?;
+        self.store = store;
         Ok(())
     }
 }
@@ -244,6 +248,19 @@ fn required_with(
 {
     let mut posts = required(alloc, constraints)?;
     posts.push(Post::Restrict(variable, allowed))?;
+    Ok(posts)
+}
+
+/// The posts that require some constraints, and then one more.
+fn required_and(
+    alloc: Global,
+    constraints: &[Constraint],
+    sum: Constraint,
+) -> Result<Vec<Post<i64>>, AllocError>
+    ensures { IfOk result (λ posts. posts.items ≡ required_by (constraints.now ++ sum ∷ [])) }
+{
+    let mut posts = required(alloc, constraints)?;
+    posts.push(Post::Require(sum))?;
     Ok(posts)
 }
 

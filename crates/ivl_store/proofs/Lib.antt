@@ -4,6 +4,7 @@ mod ExamplesPosts
 mod ExamplesRounds
 mod ExamplesStore
 pub mod Counting
+pub mod Counts
 pub mod Families
 pub mod Keeping
 pub mod Lists

@@ -1,7 +1,9 @@
 //! The laws of supported families. Each function here does nothing: its contract is the law.
 ghost use Rattle.ivl_store.specs.FamilyLaws.{LaterLiesWithin, LeftIsOne, ListOrderPlaysNoPart, OrderPlaysNoPart, SolutionIsFamily, SolutionsStay, UnionIsSupported};
+ghost use Rattle.ivl_store.specs.Measure.{TotalIsSumOfCounts};
 
 use super::{Constraint, Post};
+use intervallum::interval_set::IntervalSet;
 use intervallum::width::Width;
 
 /// The union, domain by domain, of two families that the constraints support is supported too.
@@ -39,4 +41,10 @@ pub fn solution_is_family()
 /// Domains that keep each supported family keep each point that solves all the constraints.
 pub fn solutions_stay()
     ensures { SolutionsStay }
+{}
+
+/// The measure that bounds the rounds of [`Store::propagate`](super::Store::propagate) is the sum of
+/// the counts of the members of the domains.
+pub fn total_is_sum_of_counts<B: Width>(domains: &[IntervalSet<B>])
+    ensures { TotalIsSumOfCounts domains.now }
 {}

@@ -1,5 +1,5 @@
-use Rattle.std.proofs.Common.{◌≡◌, ℕ, ℤ, List, [], ◌∷◌, Option, inl, inr, refl, sym, ap, ◌∙◌}
-use Rattle.std.specs.Prelude.{IsUtf8, Some, option_map}
+use Rattle.std.proofs.Common.{◌≡◌, ℕ, ℤ, List, [], ◌∷◌, Option, inl, inr, refl, subst, sym, ap, ◌∙◌}
+use Rattle.std.specs.Prelude.{IfErr, IfOk, IsUtf8, Some, option_map}
 use Rattle.std.specs.Str.{is_utf8}
 use Rattle.std.specs.Str.Lines.{strip_carriage_return}
 use Rattle.std.proofs.lemmas.Bool.{cases_Bool}
@@ -8,8 +8,9 @@ use Rattle.ivl_registers.specs.declared.command.Command.{Command}
 use Rattle.ivl_session.specs.Commands.{action_from}
 use Rattle.ivl_lines.specs.Words.{words_between}
 use Rattle.ivl_lines.specs.Lines.{words_of}
-use Rattle.ivl_session.specs.Reading.{bad, reading_from, reading_of_words, reading_of}
-use Rattle.ivl_session.specs.View.{action_of}
+use Rattle.ivl_session.specs.Reading.{Reading, bad, reading_from, reading_of_words, reading_of}
+use Rattle.ivl_session.specs.View.{action_of, view_of}
+use Rattle.ivl_session.specs.Unkept.{IsUnkept}
 use Rattle.ivl_session.proofs.lines.read_line.Goals as goal
 
 is_bad : (line : List ℕ) → (IsUtf8 line → ⊥) → bad ≡ reading_of line
@@ -24,16 +25,28 @@ is_read line text words utf8 same parts =
     let all : words ≡ words_of line = sym parts ∙ ap (λ (t : List ℕ). words_between t) same in
     rw (all, is_utf8-from_IsUtf8 line utf8) refl
 
-pub returns-in_default : goal.returns-in_default
-returns-in_default c = is_bad c.args.line.now c.in_default.ensures.none
+pub returns-in_default-clause-ok : goal.returns-in_default-clause-ok
+returns-in_default-clause-ok c = is_bad c.args.line.now c.in_default.ensures.none
 
-pub returns-in_default-next_word : goal.returns-in_default-next_word
-returns-in_default-next_word c =
+pub returns-in_default-next_word-clause-ok : goal.returns-in_default-next_word-clause-ok
+returns-in_default-next_word-clause-ok c =
     is_read _ _ [] c.in-Some.ensures.utf8 c.in-Some.ensures.some c.in_default-next_word.ensures.none
 
-pub returns-in-Some-2 : goal.returns-in-Some-2
-returns-in-Some-2 c =
-    let says : Some (action_of c.in-Some-2.command) ≡ action_from c.in-Some-next_word.name.now (words_between c.in-Some-next_word.words.now) =
-    ap (λ (o : Option (Command ℤ)). option_map action_of o) (sym c.in-Some-2.is) ∙ c.in_ok-command.ensures in
+pub returns-in-Some-command-clause-ok : goal.returns-in-Some-command-clause-ok
+returns-in-Some-command-clause-ok c =
+    let says : Some (action_of c.in-Some-command.command) ≡ action_from c.in-Some-next_word.name.now (words_between c.in-Some-next_word.words.now) =
+    ap (λ (o : Option (Command ℤ)). option_map action_of o) (sym c.in-Some-command.is) ∙ c.in-Ok.ensures.ok in
     ap reading_from says
     ∙ is_read _ _ (c.in-Some-next_word.name.now ∷ words_between c.in-Some-next_word.words.now) c.in-Some.ensures.utf8 c.in-Some.ensures.some c.in-Some-next_word.ensures.some
+
+pub returns-in_default-command_from-clause-ok : goal.returns-in_default-command_from-clause-ok
+returns-in_default-command_from-clause-ok c =
+    let same = ap reading_from (sym c.in_default-command_from.ensures.set)
+    ∙ is_read _ _ (c.in-Some-next_word.name.now ∷ words_between c.in-Some-next_word.words.now) c.in-Some.ensures.utf8 c.in-Some.ensures.some c.in-Some-next_word.ensures.some in
+    subst (λ (reading : Reading). IfOk c.read_unkept.result (λ read. view_of read ≡ reading)) same c.read_unkept.ensures.ok
+
+pub returns-in_default-command_from-clause-unkept : goal.returns-in_default-command_from-clause-unkept
+returns-in_default-command_from-clause-unkept c =
+    let same = ap reading_from (sym c.in_default-command_from.ensures.set)
+    ∙ is_read _ _ (c.in-Some-next_word.name.now ∷ words_between c.in-Some-next_word.words.now) c.in-Some.ensures.utf8 c.in-Some.ensures.some c.in-Some-next_word.ensures.some in
+    subst (λ (reading : Reading). IfErr c.read_unkept.result (λ unkept. IsUnkept unkept reading)) same c.read_unkept.ensures.unkept

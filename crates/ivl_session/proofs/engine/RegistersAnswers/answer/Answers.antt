@@ -1,4 +1,4 @@
-use Rattle.std.proofs.Common.{◌≡◌, ℕ, ℤ, List, false, Result, Ok, Err, sym, ◌∙◌}
+use Rattle.std.proofs.Common.{◌≡◌, ℕ, ℤ, List, false, Result, Ok, Err, refl, sym, ◌∙◌}
 use Rattle.std.specs.Prelude.{is_err, OnOk}
 use Rattle.std.proofs.lemmas.Bool.{true≢false}
 use Rattle.ivl_session.specs.Reading.{Reading}
@@ -15,6 +15,6 @@ read_as old other new said reading text e f h = rw (← e, ← f) h
 
 pub returns : goal.returns
 returns g c =
-    let fine : is_err c.write_answer.result ≡ false = sym c.is_err.ensures.value ∙ c.if-is_err.false in
-    let wrote = at_ok c.write_answer.result fine c.write_answer.ensures in
-    (wrote.0, read_as _ _ _ _ _ _ c.self.view_is c.in_ok-read.ensures wrote.1, wrote.2)
+    let fine : is_err c.answer_line.result ≡ false = sym c.is_err.ensures.value ∙ c.if-is_err.false in
+    let wrote = at_ok c.answer_line.result fine c.answer_line.ensures in
+    (wrote.0, read_as _ _ _ _ _ _ c.self.view_is refl wrote.1, wrote.2)

@@ -1,0 +1,147 @@
+#!/usr/bin/env python3
+"""The solver beside brute force: usage: tests/programs/ivl_solve.py [PROGRAM] [--seconds N] [--seed N]"""
+
+from ivl_run import LEAST, joined, number, text
+from lines import main
+
+FORMS = {
+    b"var": b"var x l u l u ..",
+    b"cut": b"cut x l u l u ..",
+    b"sum": b"sum x y z",
+    b"show": b"show",
+}
+
+
+def supported(domains, sums):
+    """The members that are left when those without support are taken out, until all have some."""
+    is_done = False
+    while not is_done:
+        is_done = True
+        for x, y, z in sums:
+            a, b, c = domains[x], domains[y], domains[z]
+            kept = {
+                x: {u for u in a if any(u + v in c for v in b)},
+                y: {v for v in b if any(u + v in c for u in a)},
+                z: {w for w in c if any(w - v in a for v in b)},
+            }
+            for name, members in kept.items():
+                is_done = is_done and members == domains[name]
+                domains[name] = members
+    return domains
+
+
+class Solver:
+    """Domains as sets of their members, in the order in which they were defined."""
+
+    def __init__(self):
+        self.domains = {}
+        self.sums = []
+
+    def answer(self, line):
+        try:
+            line.decode()
+        except UnicodeDecodeError:
+            return b"error: not UTF-8\n"
+        words = [word for word in line.split(b" ") if word]
+        if not words:
+            return b""
+        fault = self.fault(words[0], words[1:])
+        if fault:
+            return b"error: " + fault + b"\n"
+        return self.carried_out(words[0], words[1:])
+
+    def fault(self, name, words):
+        """Why the words are not carried out, or None."""
+        if name not in FORMS:
+            return b"unknown command " + name
+        if name == b"show":
+            return b"write show" if words else None
+        if name == b"sum":
+            return self.fault_of_sum(words)
+        if not words:
+            return b"write " + FORMS[name]
+        for word in words[1:]:
+            if number(word) is None:
+                return b"bad number " + word
+        if len(words) % 2 == 0:
+            return b"write " + FORMS[name]
+        return self.fault_of_pairs(name, words)
+
+    def fault_of_pairs(self, name, words):
+        if name == b"var" and words[0] in self.domains:
+            return words[0] + b" is defined already"
+        if name == b"cut" and words[0] not in self.domains:
+            return b"unknown variable " + words[0]
+        if any(number(lower) < LEAST for lower in words[1::2]):
+            return b"out of range"
+        return None
+
+    def fault_of_sum(self, words):
+        if len(words) != 3:
+            return b"write " + FORMS[b"sum"]
+        for word in words:
+            if word not in self.domains:
+                return b"unknown variable " + word
+        x, y, z = words
+        if x == y:
+            return x + b" is named twice"
+        if z in (x, y):
+            return z + b" is named twice"
+        return None
+
+    def carried_out(self, name, words):
+        if name == b"show":
+            lines = [name + b" " + self.text(members) + b"\n" for name, members in self.domains.items()]
+            return b"".join(lines) + self.state()
+        if name == b"sum":
+            self.sums.append(tuple(words))
+        else:
+            numbers = [number(word) for word in words[1:]]
+            members = {value for lower, upper in zip(numbers[::2], numbers[1::2]) for value in range(lower, upper + 1)}
+            self.domains[words[0]] = members if name == b"var" else self.domains[words[0]] & members
+        if name != b"var":
+            self.domains = supported(self.domains, self.sums)
+        return self.state()
+
+    def text(self, members):
+        return text(joined((value, value) for value in members)).encode()
+
+    def state(self):
+        return b"ok\n" if all(self.domains.values()) else b"no solution\n"
+
+
+def random_pairs(dice):
+    pairs = []
+    for _ in range(dice.choice([0, 1, 1, 2, 3])):
+        lower = dice.randrange(-10, 11)
+        pairs += [lower, lower + dice.randrange(-1, 6)]
+    words = [str(value) for value in pairs]
+    if words and dice.random() < 0.05:
+        words[dice.randrange(len(words))] = dice.choice(["+1", "x", "1.5", str(2**63), "-"])
+    if len(words) > 1 and dice.random() < 0.03:
+        words[1] = words[0] = str(-(2**63))
+    if dice.random() < 0.03:
+        words.append("4")
+    return words
+
+
+def random_line(dice):
+    variable = lambda: dice.choice(["x", "y", "z", "u", "v", "w"] if dice.random() < 0.95 else ["q", "\u00e9", "xx"])
+    name = dice.choice(["var", "cut", "cut", "sum", "sum", "show", "show"])
+    if name == "sum":
+        parts = dice.sample("xyzuvw", 3) if dice.random() < 0.8 else [variable() for _ in range(dice.choice([3, 3, 2, 4]))]
+    elif name == "show":
+        parts = [] if dice.random() < 0.95 else ["x"]
+    else:
+        parts = [variable()] + random_pairs(dice) if dice.random() < 0.98 else []
+    return dice.choice([" ", " ", "  "]).join([name] + parts).encode() + dice.choice([b"", b"", b"\r", b" "])
+
+
+def random_lines(dice, count):
+    # short sessions, so that many begin anew before their domains are empty
+    first = [b"var %s %d %d" % (name, lower, lower + dice.randrange(0, 12)) for name in (b"x", b"y", b"z", b"u") for lower in [dice.randrange(-6, 6)]]
+    return first + [random_line(dice) for _ in range(min(count, 40))]
+
+
+if __name__ == "__main__":
+    main("ivl_solve", Solver, random_lines, b"show")

@@ -1,0 +1,98 @@
+"""What the tests of the programs share: lines in random pieces, a full disk, and the comparison with a model.
+
+A test is a function `lines(random, count)` that returns random lines, and a class with `answer(line)`, which returns the text
+that the program has to write for a line. Everything here is plain Python; nothing of the library is used.
+"""
+
+import argparse
+import random
+import subprocess
+import threading
+import time
+
+# What a terminal, an editor or another program may do to a line.
+SPOILED = [b"", b" ", b"\r", b"\xff", b"show \xe9", b"\t", b"frob 1 2", b"show show", b"9"]
+
+
+def in_pieces(pipe, data, dice):
+    """Writes the data in pieces of random sizes, so that lines are cut anywhere."""
+    place = 0
+    while place < len(data):
+        size = dice.choice([1, 2, 7, 100, 5000, 65536, 100000])
+        pipe.write(data[place : place + size])
+        pipe.flush()
+        place += size
+    pipe.close()
+
+
+def run(program, data, dice):
+    """Returns the status of the program, and what it wrote."""
+    child = subprocess.Popen([program], stdin=subprocess.PIPE, stdout=subprocess.PIPE, stderr=subprocess.PIPE)
+    writer = threading.Thread(target=in_pieces, args=(child.stdin, data, dice))
+    writer.start()
+    written = child.stdout.read()
+    said = child.stderr.read()
+    writer.join()
+    return child.wait(), written, said
+
+
+def check_run(program, make_model, make_lines, dice):
+    """One session beside the model; returns how many lines it had."""
+    model = make_model()
+    lines = make_lines(dice, dice.choice([1, 5, 40, 300]))
+    for _ in range(len(lines) // 20):
+        lines.insert(dice.randrange(len(lines)), dice.choice(SPOILED))
+    expected = [model.answer(line[:-1] if line.endswith(b"\r") else line) for line in lines]
+    data = b"\n".join(lines) + dice.choice([b"", b"\n"])
+    status, written, said = run(program, data, dice)
+    if (status, written, said) == (0, b"".join(expected), b""):
+        return len(lines)
+    place = 0
+    for number, (line, text) in enumerate(zip(lines, expected), 1):
+        if written[place : place + len(text)] != text:
+            found = written[place : place + max(len(text), 80)]
+            raise SystemExit(f"line {number}, {line!r}: {found!r} was written where {text!r} should be")
+        place += len(text)
+    raise SystemExit(f"after {len(lines)} lines: status {status}, {said!r}, {written[place:]!r} at the end")
+
+
+def check_full_disk(program, name, line):
+    """A write that fails ends the program, and is told."""
+    with open("/dev/full", "wb") as full:
+        child = subprocess.run([program], input=line + b"\n", stdout=full, stderr=subprocess.PIPE, check=False)
+    told = f"{name}: write failed\n".encode()
+    if (child.returncode, child.stderr) != (1, told):
+        raise SystemExit(f"on a full disk: status {child.returncode}, {child.stderr!r}")
+
+
+def check_answers_are_seen(program, quick, slow):
+    """What is answered is seen while a line that takes long is carried out, though both came at once."""
+    child = subprocess.Popen([program], stdin=subprocess.PIPE, stdout=subprocess.PIPE)
+    child.stdin.write(quick + b"\n" + slow + b"\n")
+    child.stdin.flush()
+    began = time.monotonic()
+    first = child.stdout.readline()
+    seen = time.monotonic() - began
+    child.kill()
+    child.wait()
+    if not first or seen > 2:
+        raise SystemExit(f"the answer to {quick!r} was seen after {seen:.1f} s")
+
+
+def main(name, make_model, make_lines, full_disk_line):
+    """Compares the program with its model until the time is over."""
+    parser = argparse.ArgumentParser()
+    parser.add_argument("program", nargs="?", default=f"crates/{name}/out/{name}")
+    parser.add_argument("--seconds", type=float, default=30)
+    parser.add_argument("--seed", type=int, default=random.randrange(2**32))
+    options = parser.parse_args()
+    dice = random.Random(options.seed)
+    end = time.monotonic() + options.seconds
+    count = 0
+    try:
+        check_full_disk(options.program, name, full_disk_line)
+        while time.monotonic() < end:
+            count += check_run(options.program, make_model, make_lines, dice)
+    except SystemExit as fault:
+        raise SystemExit(f"{name}: seed {options.seed}: {fault}") from None
+    print(f"{name}: {count} lines, no difference")

@@ -1,0 +1,77 @@
+#!/usr/bin/env python3
+"""What `./run` says and does around a program: help, version, wrong words, a limit on memory, a terminal, a pipe.
+
+usage: tests/programs/start.py     wants crates/ivl_run/out/ivl_run as the gate builds it
+"""
+
+import os
+import pty
+import subprocess
+import sys
+
+TOP = os.path.dirname(os.path.dirname(os.path.dirname(os.path.realpath(__file__))))
+RUN = os.path.join(TOP, "run")
+OUT = os.path.join(TOP, "crates", "ivl_run", "out")
+
+# Sums of 64, of 4,096 and of 16,777,216 runs, which take 256 MB.
+LARGE = b"""set a 0 0 2 2 4 4 6 6 8 8 10 10 12 12 14 14
+timesv b a 100
+plus a a b
+timesv b a 10000
+plus a a b
+timesv b a 100000000
+plus c a b
+count c
+set d 1 5
+show d
+"""
+
+
+def said(arguments, data=b""):
+    """The status of `./run`, and what it writes to standard output and to standard error."""
+    ran = subprocess.run([RUN, *arguments], input=data, capture_output=True, check=False)
+    return ran.returncode, ran.stdout, ran.stderr
+
+
+def on_a_terminal(data):
+    """What `./run` writes where a terminal is its standard input."""
+    master, slave = pty.openpty()
+    child = subprocess.Popen([RUN], stdin=slave, stdout=subprocess.PIPE, stderr=subprocess.PIPE)
+    os.close(slave)
+    os.write(master, data)
+    written, told = child.communicate(timeout=60)
+    os.close(master)
+    return child.returncode, written, told
+
+
+def expect(what, found, expected):
+    if found != expected:
+        raise SystemExit(f"start: {what}: {found!r} where {expected!r} should be")
+
+
+def main():
+    if not os.access(os.path.join(OUT, "ivl_run"), os.X_OK):
+        raise SystemExit("start: crates/ivl_run/out/ivl_run is not built")
+    # it was proved just now: ./run need not look again
+    with open(os.path.join(OUT, "run.proved"), "w", encoding="utf-8"):
+        pass
+    version = open(os.path.join(TOP, "VERSION"), encoding="utf-8").read().strip().encode()
+    expect("--version", said(["--version"]), (0, b"ivl_run " + version + b"\n", b""))
+    expect("solve --version", said(["solve", "--version"]), (0, b"ivl_solve " + version + b"\n", b""))
+    for words in (["--help"], ["solve", "--help"], ["ports", "--help"], ["ranges", "--help"], ["calendar", "--help"]):
+        status, text, told = said(words)
+        expect(words, (status, told, text.startswith(b"usage: ./run"), text.count(b"\n") > 12), (0, b"", True, True))
+    for words in (["--frob"], ["frob"], ["--memory"], ["--memory", "much"], ["--memory=5X"]):
+        status, text, told = said(words)
+        expect(words, (status, text, bool(told)), (2, b"", True))
+    expect("a pipe", said([], b"set a 1 5\nquit\nshow a"), (0, b"ok\nbad line\n[1..5]\n", b""))
+    expect("a limit", said(["--memory", "200M"], LARGE), (0, b"ok\n" * 6 + b"refused 4 memory\n0\nok\n[1..5]\n", b""))
+    status, written, told = on_a_terminal(b"set a 1 5\nfrob\nfrob\nshow a\nquit\nshow a\n")
+    expect("a terminal", (status, written), (0, b"ok\nbad line\nbad line\n[1..5]\n"))
+    hint = b"run: one line at a time; ./run --help lists them; quit ends it\n"
+    expect("a terminal", told, hint + b"run: ./run --help lists the lines that are understood\n")
+    print("start: as it should be")
+
+
+if __name__ == "__main__":
+    sys.exit(main())
