@@ -11,7 +11,9 @@ ghost use Rattle.ivl_calendar.specs.Rooms.{Rooms};
 use crate::calendar::Calendar;
 use crate::replies::{write_line, write_spans};
 use crate::requests::{booking_from, gap_from, window_from};
-use ivl_lines::{Answers, LineFault, SessionFault, line_text, next_word, one_word, serve};
+use ivl_lines::{
+    Answers, LineFault, SessionFault, first_word, line_text, next_word, one_word, serve,
+};
 use std::alloc::Global;
 use std::io;
 use std::io::{Read, Write};
@@ -38,10 +40,7 @@ impl Answers for Calendar {
     ghost allowed = { AnswersLine };
 
     fn may_take_long(&self, line: &[u8]) -> bool {
-        match line_text(line) {
-            Some(text) => asks_for_free(text),
-            None => false,
-        }
+        first_word(line) == "free"
     }
 
     fn answer<W: Write>(&mut self, line: &[u8], writer: &mut W) -> Result<(), LineFault> {
@@ -50,11 +49,6 @@ impl Answers for Calendar {
         }
         Ok(())
     }
-}
-
-// Whether a line asks for the days on which all rooms are free.
-fn asks_for_free(text: &str) -> bool {
-    next_word(text).is_some_and(|(name, _)| name == "free")
 }
 
 /// Answers each line of the input, over a calendar that has no rooms at first. What is written is

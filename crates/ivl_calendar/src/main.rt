@@ -17,32 +17,37 @@ use std::process::ExitCode;
 use std::{env, io};
 
 const HELP: &str = "\
-room NAME                    adds a room, free on all days
-book NAME FIRST LAST         books it from the first date to the last, if it is free
-gap NAME DAYS FIRST LAST     the first so many days in a row on which it is free
-free FIRST LAST              the days on which all rooms are free
+Books rooms by the day: reads one line at a time from standard input, and answers each.
 
-Dates are written as 2026-03-01.
+  room NAME                    a new room, free on all days: ok
+  book NAME FIRST LAST         books it from the first date to the last: booked, or taken
+  gap NAME DAYS FIRST LAST     the first so many days in a row on which it is free, between two dates
+  free FIRST LAST              the days between two dates on which all rooms are free
+
+Dates are written as 2026-03-01. --version prints the version.
 ";
 
 fn main(rt: HostRuntime) -> io::Result<ExitCode> {
     let mut words = env::args(&rt)?;
     let (_, first) = (words.next(), words.next());
-    match start_of(first.as_ref().map(String::as_str), words.next().is_some()) {
-        Start::Lines => {}
+    match start_of(first.as_deref(), words.next().is_some()) {
+        Start::Lines => answer_lines(&rt),
         Start::Help => {
             print!(rt; "{HELP}")?;
-            return Ok(ExitCode::SUCCESS);
+            Ok(ExitCode::SUCCESS)
         }
         Start::Version => {
             println!(rt; "ivl_calendar {VERSION}")?;
-            return Ok(ExitCode::SUCCESS);
+            Ok(ExitCode::SUCCESS)
         }
         Start::Other => {
             eprint!(rt; "{HELP}")?;
-            return Ok(ExitCode::from(2));
+            Ok(ExitCode::from(2))
         }
     }
+}
+
+fn answer_lines(rt: &HostRuntime) -> io::Result<ExitCode> {
     let ended = match BufWriter::new(rt.alloc(), rt.stdout()) {
         Ok(mut writer) => session(rt.alloc(), &mut rt.stdin(), &mut writer),
         Err(_) => Err(SessionFault::Memory),
