@@ -197,5 +197,16 @@ def random_lines(dice, count):
     return [random_line(dice) for _ in range(count)]
 
 
+# Sums of 64 and of 4,096 runs, and then of 16,777,216, which take seconds.
+QUICK = [
+    b"set a 0 0 2 2 4 4 6 6 8 8 10 10 12 12 14 14",
+    b"timesv b a 100",
+    b"plus a a b",
+    b"timesv b a 10000",
+    b"plus a a b",
+    b"timesv b a 100000000",
+    b"count a",
+]
+
 if __name__ == "__main__":
-    main("ivl_run", Calculator, random_lines, b"show a")
+    main("ivl_run", Calculator, random_lines, b"show a", (QUICK, 7, b"plus c a b"))

@@ -143,5 +143,8 @@ def random_lines(dice, count):
     return first + [random_line(dice) for _ in range(min(count, 40))]
 
 
+# The last sum empties the domains one member a round, which takes seconds.
+QUICK = [b"var a 0 40000000", b"var b 0 40000000", b"var one 1 1", b"sum a one b", b"show"]
+
 if __name__ == "__main__":
-    main("ivl_solve", Solver, random_lines, b"show")
+    main("ivl_solve", Solver, random_lines, b"show", (QUICK, 8, b"sum b one a"))

@@ -65,22 +65,25 @@ def check_full_disk(program, name, line):
         raise SystemExit(f"on a full disk: status {child.returncode}, {child.stderr!r}")
 
 
-def check_answers_are_seen(program, quick, slow):
-    """What is answered is seen while a line that takes long is carried out, though both came at once."""
+def check_answers_are_seen(program, quick, count, slow):
+    """The answers to quick lines, so many lines of them, are seen while a line that takes long is carried out, though all came at once."""
     child = subprocess.Popen([program], stdin=subprocess.PIPE, stdout=subprocess.PIPE)
-    child.stdin.write(quick + b"\n" + slow + b"\n")
+    child.stdin.write(b"".join(line + b"\n" for line in [*quick, slow]))
     child.stdin.flush()
     began = time.monotonic()
-    first = child.stdout.readline()
+    for _ in range(count):
+        child.stdout.readline()
     seen = time.monotonic() - began
+    child.stdout.readline()
+    answered = time.monotonic() - began
     child.kill()
     child.wait()
-    if not first or seen > 2:
-        raise SystemExit(f"the answer to {quick!r} was seen after {seen:.1f} s")
+    if 2 * seen > answered:
+        raise SystemExit(f"{count} answers were seen after {seen:.1f} s, and that to {slow!r} after {answered:.1f} s")
 
 
-def main(name, make_model, make_lines, full_disk_line):
-    """Compares the program with its model until the time is over."""
+def main(name, make_model, make_lines, full_disk_line, slow=None):
+    """Compares the program with its model until the time is over. `slow` is for a program with lines that may take long."""
     parser = argparse.ArgumentParser()
     parser.add_argument("program", nargs="?", default=f"crates/{name}/out/{name}")
     parser.add_argument("--seconds", type=float, default=30)
@@ -91,6 +94,8 @@ def main(name, make_model, make_lines, full_disk_line):
     count = 0
     try:
         check_full_disk(options.program, name, full_disk_line)
+        if slow is not None:
+            check_answers_are_seen(options.program, *slow)
         while time.monotonic() < end:
             count += check_run(options.program, make_model, make_lines, dice)
     except SystemExit as fault:

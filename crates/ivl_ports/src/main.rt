@@ -9,28 +9,55 @@
 //! ```
 #![tactic(auto)]
 
+mod engine;
 mod ports;
+mod replies;
 mod requests;
 
-use anyhow::Result;
-use ivl_lines::VERSION;
-use ports::Ports;
-use requests::answer;
-use std::io::{BufRead, BufReader};
+use engine::{outcome, session};
+use ivl_lines::{SessionFault, Start, VERSION, start_of};
+use std::io::BufWriter;
+use std::process::ExitCode;
 use std::{env, io};
 
-fn main(rt: HostRuntime) -> Result<()> {
-    if env::args(&rt)?
-        .nth(1)
-        .is_some_and(|word| word.as_str() == "--version")
-    {
-        println!(rt; "ivl_ports {VERSION}")?;
-        return Ok(());
+const HELP: &str = "\
+Hands out the ports from 1024 to 65535: reads one line at a time from standard input, and answers each.
+
+  take COUNT         takes the lowest COUNT consecutive free ports: [1024..1031], or none
+  give FIRST LAST    gives ports back: ok, or some of them are free, and then nothing changes
+  free               how many ports are free, and which
+
+--version prints the version.
+";
+
+fn main(rt: HostRuntime) -> io::Result<ExitCode> {
+    let mut words = env::args(&rt)?;
+    let (_, first) = (words.next(), words.next());
+    match start_of(first.as_deref(), words.next().is_some()) {
+        Start::Lines => answer_lines(&rt),
+        Start::Help => {
+            print!(rt; "{HELP}")?;
+            Ok(ExitCode::SUCCESS)
+        }
+        Start::Version => {
+            println!(rt; "ivl_ports {VERSION}")?;
+            Ok(ExitCode::SUCCESS)
+        }
+        Start::Other => {
+            eprint!(rt; "{HELP}")?;
+            Ok(ExitCode::from(2))
+        }
     }
-    let mut ports = Ports::new(rt.alloc(), 1024, 65535)?;
-    for line in BufReader::new(rt.alloc(), rt.stdin())?.lines(rt.alloc()) {
-        let text = answer(rt.alloc(), &mut ports, line?.as_str())?;
-        println!(rt; "{text}")?;
+}
+
+fn answer_lines(rt: &HostRuntime) -> io::Result<ExitCode> {
+    let ended = match BufWriter::new(rt.alloc(), rt.stdout()) {
+        Ok(mut writer) => session(rt.alloc(), &mut rt.stdin(), &mut writer),
+        Err(_) => Err(SessionFault::Memory),
+    };
+    let (status, line) = outcome(&ended);
+    if !line.is_empty() {
+        eprintln!(rt; "{line}")?;
     }
-    Ok(())
+    Ok(ExitCode::from(status))
 }

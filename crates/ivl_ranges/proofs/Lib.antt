@@ -1,4 +1,4 @@
 pub mod Windows
-pub mod Sums
-pub mod Ranges
-pub mod Sets
+pub mod Dots
+pub mod Words
+pub mod Printing

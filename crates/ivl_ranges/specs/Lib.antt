@@ -1,2 +1,5 @@
 pub mod Indexes
-pub mod Lines
+pub mod Ranges
+pub mod Answering
+pub mod Printed
+pub mod Outcome

@@ -10,26 +10,56 @@
 #![tactic(auto)]
 
 mod access;
-mod requests;
+mod engine;
+mod reading;
+mod reply;
+mod state;
 
-use anyhow::Result;
-use ivl_lines::VERSION;
-use requests::Access;
-use std::io::{BufRead, BufReader};
+use engine::{outcome, session};
+use ivl_lines::{SessionFault, Start, VERSION, start_of};
+use std::io::BufWriter;
+use std::process::ExitCode;
 use std::{env, io};
 
-fn main(rt: HostRuntime) -> Result<()> {
-    if env::args(&rt)?
-        .nth(1)
-        .is_some_and(|word| word.as_str() == "--version")
-    {
-        println!(rt; "ivl_ranges {VERSION}")?;
-        return Ok(());
+const HELP: &str = "\
+Says whether every access a[i + k] is within bounds: reads one line at a time from standard input, and answers each.
+
+  i -1..1 5..5       the values that i may have: ranges, the lower end first, in any order
+  k -1..1 5..5       the values that k may have
+  length 10          the length of the array
+  check              safe; or the values of i that are safe for every k: safe for i in [1..7] alone, or safe for no i
+
+--version prints the version.
+";
+
+fn main(rt: HostRuntime) -> io::Result<ExitCode> {
+    let mut words = env::args(&rt)?;
+    let (_, first) = (words.next(), words.next());
+    match start_of(first.as_deref(), words.next().is_some()) {
+        Start::Lines => answer_lines(&rt),
+        Start::Help => {
+            print!(rt; "{HELP}")?;
+            Ok(ExitCode::SUCCESS)
+        }
+        Start::Version => {
+            println!(rt; "ivl_ranges {VERSION}")?;
+            Ok(ExitCode::SUCCESS)
+        }
+        Start::Other => {
+            eprint!(rt; "{HELP}")?;
+            Ok(ExitCode::from(2))
+        }
     }
-    let mut access = Access::new(rt.alloc());
-    for line in BufReader::new(rt.alloc(), rt.stdin())?.lines(rt.alloc()) {
-        let text = access.answer(rt.alloc(), line?.as_str())?;
-        println!(rt; "{text}")?;
+}
+
+fn answer_lines(rt: &HostRuntime) -> io::Result<ExitCode> {
+    let ended = match BufWriter::new(rt.alloc(), rt.stdout()) {
+        Ok(mut writer) => session(rt.alloc(), &mut rt.stdin(), &mut writer),
+        Err(_) => Err(SessionFault::Memory),
+    };
+    let (status, line) = outcome(&ended);
+    if !line.is_empty() {
+        eprintln!(rt; "{line}")?;
     }
-    Ok(())
+    Ok(ExitCode::from(status))
 }

@@ -1,6 +1,45 @@
-//! Words and numbers by example.
-use ivl_lines::{next_word, number_from, one_word, pairs_from, three_words, two_words};
+//! Words and numbers of a line, and what arguments ask for, by example.
+use ivl_lines::{
+    Start, first_word, line_text, next_word, number_from, one_word, pairs_from, start_of,
+    three_words, two_words,
+};
 use std::test::Fail;
+
+#[test]
+fn arguments_of_a_program(rt: HostRuntime) {
+    assert_eq!(rt;
+        [
+            start_of(None, false),
+            start_of(Some("--help"), false),
+            start_of(Some("--help"), true),
+            start_of(Some("--version"), false),
+            start_of(Some("--versions"), false)
+        ],
+        [
+            Start::Lines,
+            Start::Help,
+            Start::Other,
+            Start::Version,
+            Start::Other
+        ]
+    );
+}
+
+#[test]
+fn text_of_a_line(rt: HostRuntime) {
+    assert_eq!(rt;
+        [line_text(b"show a\r"), line_text(b"\xff")],
+        [Some("show a"), None]
+    );
+    assert_eq!(rt;
+        [
+            first_word(b"sum x y z"),
+            first_word(b"\r"),
+            first_word(b"sum \xff")
+        ],
+        ["sum", "", ""]
+    );
+}
 
 #[test]
 fn words_of_a_text(rt: HostRuntime) {

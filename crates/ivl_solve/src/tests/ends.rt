@@ -88,6 +88,46 @@ fn a_failed_write(rt: HostRuntime) {
     }
 }
 
+// Notes how many bytes were written at each of the first flushes.
+#[derive(Drop)]
+struct Noted {
+    written: usize,
+    flushes: [usize; 6],
+    count: usize,
+}
+
+impl Write for Noted {
+    fn write(&mut self, buf: &[u8]) -> io::Result<usize> {
+        self.written = self.written.saturating_add(buf.len());
+        Ok(buf.len())
+    }
+
+    fn flush(&mut self) -> io::Result<()> {
+        if let Some(noted) = self.flushes.get_mut(self.count) {
+            *noted = self.written;
+        }
+        self.count = self.count.saturating_add(1);
+        Ok(())
+    }
+}
+
+// What is answered is flushed before a line that narrows domains, though all lines come by one read; then before the
+// next read, and at the end.
+#[test]
+fn flushed_before_a_line_that_may_take_long(rt: HostRuntime) {
+    let mut input: &[u8] = b"var x 1 9\nvar y 1 9\ncut x 2 5\nshow\n";
+    let mut writer = Noted {
+        written: 0,
+        flushes: [0; 6],
+        count: 0,
+    };
+    let ended = session(rt.alloc(), &mut input, &mut writer);
+    assert_eq!(rt;
+        (ended, writer.count, writer.flushes),
+        (Ok(()), 4, [0, 6, 30, 30, 0, 0])
+    );
+}
+
 // If one allocation fails, as under `rt try --test --fail-alloc N`, either the session ends with `Memory`,
 // or one line is answered with out of memory and the lines after it are answered as usual.
 #[test]

@@ -1,0 +1,168 @@
+//! What answers the lines of a session, and how the session ends.
+ghost use Rattle.std.specs.Prelude.{◌≡◌, ℕ, ℤ, pos, [], ◌∷◌, ◌++◌, List, IfSome, IsErrOf, OnOk};
+ghost use Rattle.std.specs.Io.KnownBytes.{Appends, Consumes, IsAtEnd};
+ghost use Rattle.ivl_laws.specs.Runs.{Covers};
+ghost use Rattle.ivl_laws.specs.Sets.{IsSubset};
+ghost use Rattle.ivl_lines.specs.Answered.{IsAnswered};
+ghost use Rattle.ivl_lines.specs.Lines.{ended_lines_of, lines_of};
+ghost use Rattle.ivl_lines.specs.Words.{words_between};
+ghost use Rattle.ivl_ports.specs.Answering.{AnswersCommand, AnswersLine, AnswersWords, Gives, IsPortSet, Shows, Takes};
+ghost use Rattle.ivl_ports.specs.Lines.{count_of, given_of};
+ghost use Rattle.ivl_ports.specs.Outcome.{outcome_of};
+
+use crate::ports::Ports;
+use crate::replies::{write_free, write_run};
+use crate::requests::{count_from, given_from};
+use ivl_lines::{Answers, LineFault, SessionFault, line_text, next_word, serve};
+use std::alloc::Global;
+use std::io;
+use std::io::{Read, Write};
+
+impl Answers for Ports {
+    ghost use Rattle.ivl_ports.specs.Answering.{AnswersLine};
+
+    ghost allowed = { AnswersLine };
+
+    fn may_take_long(&self, _: &[u8]) -> bool {
+        false
+    }
+
+    fn answer<W: Write>(&mut self, line: &[u8], writer: &mut W) -> Result<(), LineFault> {
+        if answer_line(self, line, writer).is_err() {
+            return Err(LineFault::Write);
+        }
+        Ok(())
+    }
+}
+
+/// Answers each line of the input; the ports from 1024 to 65535 are free at first. What is written is flushed before
+/// each read and at the end.
+///
+/// # Errors
+///
+/// `Read` if a read failed, or the reader still returned bytes after 2^64 - 1 reads; an interrupted read is repeated.
+/// `Write` if a write or a flush failed. `Memory` if an allocation for the first ports or the bytes of a line failed. A
+/// line that runs out of memory when it is carried out is answered with that, and the session continues.
+pub fn session<R: Read, W: Write>(
+    alloc: Global,
+    reader: &mut R,
+    writer: &mut W,
+) -> Result<(), SessionFault>
+    // All bytes were read, and what is written answers their lines.
+    ensures end { OnOk result (IsAtEnd (R.remaining reader.new)) }
+    ensures ok { OnOk result (IfSome (R.remaining reader.old) (λ bytes. (text : List ℕ) × (end : List (ℤ × ℤ))
+        × IsAnswered AnswersLine ((pos 1024, pos 65535) ∷ []) (lines_of bytes) text end
+        × Appends (W.contents writer.old) (W.contents writer.new) text)) }
+    // What is written answers the ended lines of the bytes that the reader gave.
+    ensures read { IsErrOf result SessionFault.Read → (front : List ℕ) × (text : List ℕ) × (end : List (ℤ × ℤ))
+        × Consumes (R.remaining reader.old) (R.remaining reader.new) front
+        × IsAnswered AnswersLine ((pos 1024, pos 65535) ∷ []) (ended_lines_of front) text end
+        × Appends (W.contents writer.old) (W.contents writer.new) text }
+{
+    let mut ports = Ports::new(alloc, 1024, 65535)?;
+    serve(alloc, &mut ports, reader, writer)
+}
+
+/// Answers one line.
+fn answer_line<W: Write>(ports: &mut Ports, line: &[u8], writer: &mut W) -> io::Result<()>
+    ensures { OnOk result ((text : List ℕ)
+        × AnswersLine ports.old line.now text ports.new
+        × Appends (W.contents writer.old) (W.contents writer.new) text) }
+{
+    match line_text(line) {
+        Some(text) => answer_text(ports, text, writer),
+        None => writer.write_all(b"error: not UTF-8\n"),
+    }
+}
+
+/// Answers the words of a text. If there are none, there is no answer.
+fn answer_text<W: Write>(ports: &mut Ports, text: &str, writer: &mut W) -> io::Result<()>
+    ensures answer { OnOk result ((answer : List ℕ)
+        × AnswersWords ports.old (words_between text.now) answer ports.new
+        × Appends (W.contents writer.old) (W.contents writer.new) answer) }
+    ensures within { IsPortSet ports.old → IsPortSet ports.new }
+{
+    match next_word(text) {
+        Some((name, words)) => answer_command(ports, name, words, writer),
+        None => Ok(()),
+    }
+}
+
+/// Carries out a command with the words after it, and writes the answer.
+fn answer_command<W: Write>(
+    ports: &mut Ports,
+    name: &str,
+    words: &str,
+    writer: &mut W,
+) -> io::Result<()>
+    ensures answer { OnOk result ((text : List ℕ)
+        × AnswersCommand ports.old name.now (words_between words.now) text ports.new
+        × Appends (W.contents writer.old) (W.contents writer.new) text) }
+    ensures within { IsPortSet ports.old → IsPortSet ports.new }
+{
+    match name {
+        "take" => take(ports, words, writer),
+        "give" => give(ports, words, writer),
+        "free" => show(ports, words, writer),
+        _ => writer.write_all(b"error: write take COUNT, give FIRST LAST or free\n"),
+    }
+}
+
+fn take<W: Write>(ports: &mut Ports, words: &str, writer: &mut W) -> io::Result<()>
+    ensures answer { OnOk result ((text : List ℕ)
+        × Takes (count_of (words_between words.now)) ports.old text ports.new
+        × Appends (W.contents writer.old) (W.contents writer.new) text) }
+    ensures left { IsSubset (Covers ports.new) (Covers ports.old) }
+{
+    let Some(count) = count_from(words) else {
+        return writer.write_all(b"error: write take COUNT, with a count from 1 to 65535\n");
+    };
+    match ports.take(count) {
+        Ok(Some(taken)) => write_run(writer, &taken),
+        Ok(None) => writer.write_all(b"none\n"),
+        Err(_) => writer.write_all(b"error: out of memory\n"),
+    }
+}
+
+fn give<W: Write>(ports: &mut Ports, words: &str, writer: &mut W) -> io::Result<()>
+    ensures answer { OnOk result ((text : List ℕ)
+        × Gives (given_of (words_between words.now)) ports.old text ports.new
+        × Appends (W.contents writer.old) (W.contents writer.new) text) }
+    ensures within { IsPortSet ports.old → IsPortSet ports.new }
+{
+    let Some(given) = given_from(words) else {
+        return writer.write_all(
+            b"error: write give FIRST LAST, ports from 1024 to 65535 in order\n",
+        );
+    };
+    if !ports.are_taken(&given) {
+        return writer.write_all(b"some of them are free\n");
+    }
+    match ports.give_back(given) {
+        Ok(()) => writer.write_all(b"ok\n"),
+        Err(_) => writer.write_all(b"error: out of memory\n"),
+    }
+}
+
+fn show<W: Write>(ports: &Ports, words: &str, writer: &mut W) -> io::Result<()>
+    ensures { OnOk result ((text : List ℕ)
+        × Shows (words_between words.now) ports.now text ports.now
+        × Appends (W.contents writer.old) (W.contents writer.new) text) }
+{
+    match next_word(words) {
+        Some(_) => writer.write_all(b"error: write free\n"),
+        None => write_free(writer, ports),
+    }
+}
+
+/// Returns the exit status of the program, and what it writes to standard error.
+pub fn outcome(ended: &Result<(), SessionFault>) -> (u8, &'static str)
+    ensures { (result.0, result.1.now) ≡ outcome_of ended.now }
+{
+    match ended {
+        Ok(()) => (0, ""),
+        Err(SessionFault::Read) => (1, "ivl_ports: read failed"),
+        Err(SessionFault::Write) => (1, "ivl_ports: write failed"),
+        Err(SessionFault::Memory) => (1, "ivl_ports: out of memory"),
+    }
+}

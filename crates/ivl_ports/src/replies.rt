@@ -1,0 +1,31 @@
+//! The texts of ports.
+ghost use Rattle.std.specs.Prelude.{◌≡◌, ◌≤ℤ◌, ◌++◌, ℕ, pos, OnOk, codes, decimal};
+ghost use Rattle.std.specs.Io.KnownBytes.{Appends};
+ghost use Rattle.ivl_laws.specs.Counts.{IsCountOf};
+ghost use Rattle.ivl_laws.specs.Runs.{Covers};
+ghost use Rattle.ivl_lines.specs.Lines.{with_newline};
+ghost use Rattle.ivl_lines.specs.Sets.{run_text, runs_text};
+
+use crate::ports::Ports;
+use intervallum::interval::Interval;
+use std::io;
+use std::io::Write;
+
+/// Writes a run as `[l..u]`. The caller must ensure that its bounds are in order and not negative.
+pub fn write_run<W: Write>(writer: &mut W, run: &Interval<u32>) -> io::Result<()>
+    requires { run.now.0 ≤ℤ run.now.1 }
+    ensures { OnOk result (Appends (W.contents writer.old) (W.contents writer.new) (with_newline (run_text run.now))) }
+{
+    run.in_whole();
+    writeln!(writer, "{run}")
+}
+
+/// Writes how many ports are free, and their runs.
+pub fn write_free<W: Write>(writer: &mut W, ports: &Ports) -> io::Result<()>
+    ensures { OnOk result ((size : ℕ) × IsCountOf size (Covers ports.now)
+        × Appends (W.contents writer.old) (W.contents writer.new) (decimal size ++ (codes " free: " ++ with_newline (runs_text ports.now)))) }
+{
+    let free = ports.free();
+    free.in_whole();
+    writeln!(writer, "{} free: {free}", ports.free_count())
+}

@@ -1,0 +1,99 @@
+//! What answers the lines of a session, and how the session ends.
+ghost use Rattle.std.specs.Prelude.{◌≡◌, ℕ, List, [], IfSome, IsErrOf, OnOk};
+ghost use Rattle.std.specs.Io.KnownBytes.{Appends, Consumes, IsAtEnd};
+ghost use Rattle.ivl_lines.specs.Answered.{IsAnswered};
+ghost use Rattle.ivl_lines.specs.Lines.{ended_lines_of, lines_of};
+ghost use Rattle.ivl_lines.specs.Words.{words_between};
+ghost use Rattle.ivl_ranges.specs.Answering.{AnswersLine, AnswersWords, State};
+ghost use Rattle.ivl_ranges.specs.Outcome.{outcome_of};
+
+use crate::reply::{Fault, write_told};
+use crate::state::Access;
+use ivl_lines::{Answers, LineFault, SessionFault, first_word, line_text, next_word, serve};
+use std::alloc::Global;
+use std::io;
+use std::io::{Read, Write};
+
+impl Answers for Access {
+    ghost use Rattle.ivl_ranges.specs.Answering.{AnswersLine};
+
+    ghost allowed = { AnswersLine };
+
+    fn may_take_long(&self, line: &[u8]) -> bool {
+        match first_word(line) {
+            "i" | "k" | "check" => true,
+            _ => false,
+        }
+    }
+
+    fn answer<W: Write>(&mut self, line: &[u8], writer: &mut W) -> Result<(), LineFault> {
+        if answer_line(self, line, writer).is_err() {
+            return Err(LineFault::Write);
+        }
+        Ok(())
+    }
+}
+
+/// Answers each line of the input, about an empty array and no values of `i` and `k` at first. What
+/// is written is flushed before each read, before each line of ranges and each check, and at the
+/// end.
+///
+/// # Errors
+///
+/// `Read` if a read failed, or the reader still returned bytes after 2^64 - 1 reads; an interrupted
+/// read is repeated. `Write` if a write or a flush failed. `Memory` if an allocation for the bytes
+/// of a line failed. A line that runs out of memory when it is carried out is answered with that,
+/// and the session continues.
+pub fn session<R: Read, W: Write>(
+    alloc: Global,
+    reader: &mut R,
+    writer: &mut W,
+) -> Result<(), SessionFault>
+    // All bytes were read, and what is written answers their lines.
+    ensures end { OnOk result (IsAtEnd (R.remaining reader.new)) }
+    ensures ok { OnOk result (IfSome (R.remaining reader.old) (λ bytes. (text : List ℕ) × (end : State)
+        × IsAnswered AnswersLine (record { index = []; offset = []; length = 0 }) (lines_of bytes) text end
+        × Appends (W.contents writer.old) (W.contents writer.new) text)) }
+    // What is written answers the ended lines of the bytes that the reader gave.
+    ensures read { IsErrOf result SessionFault.Read → (front : List ℕ) × (text : List ℕ) × (end : State)
+        × Consumes (R.remaining reader.old) (R.remaining reader.new) front
+        × IsAnswered AnswersLine (record { index = []; offset = []; length = 0 }) (ended_lines_of front) text end
+        × Appends (W.contents writer.old) (W.contents writer.new) text }
+{
+    serve(alloc, &mut Access::new(alloc), reader, writer)
+}
+
+// Answers one line. A line without words has no answer.
+fn answer_line<W: Write>(access: &mut Access, line: &[u8], writer: &mut W) -> io::Result<()>
+    ensures { OnOk result ((text : List ℕ)
+        × AnswersLine access.old line.now text access.new
+        × Appends (W.contents writer.old) (W.contents writer.new) text) }
+{
+    match line_text(line) {
+        Some(text) => answer_text(access, text, writer),
+        None => write_told(writer, &Err(Fault::Bytes)),
+    }
+}
+
+fn answer_text<W: Write>(access: &mut Access, text: &str, writer: &mut W) -> io::Result<()>
+    ensures { OnOk result ((answer : List ℕ)
+        × AnswersWords access.old (words_between text.now) answer access.new
+        × Appends (W.contents writer.old) (W.contents writer.new) answer) }
+{
+    let Some((name, words)) = next_word(text) else {
+        return Ok(());
+    };
+    write_told(writer, &access.carry_out(name, words))
+}
+
+/// Returns the exit status of the program, and what it writes to standard error.
+pub fn outcome(ended: &Result<(), SessionFault>) -> (u8, &'static str)
+    ensures { (result.0, result.1.now) ≡ outcome_of ended.now }
+{
+    match ended {
+        Ok(()) => (0, ""),
+        Err(SessionFault::Read) => (1, "ivl_ranges: read failed"),
+        Err(SessionFault::Write) => (1, "ivl_ranges: write failed"),
+        Err(SessionFault::Memory) => (1, "ivl_ranges: out of memory"),
+    }
+}

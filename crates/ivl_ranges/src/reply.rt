@@ -1,0 +1,97 @@
+//! The answer to a line.
+ghost use Rattle.std.specs.Prelude.{◌≡◌, OnOk};
+ghost use Rattle.std.specs.Io.KnownBytes.{Appends};
+ghost use Rattle.ivl_ranges.specs.Printed.{fault_text as text_of, told_line};
+
+use intervallum::interval_set::IntervalSet;
+use intervallum::ops::IsEmpty;
+use std::alloc::AllocError;
+use std::io;
+use std::io::Write;
+
+/// The answer to a line that is carried out.
+#[derive(Drop)]
+pub enum Reply {
+    /// What the line gives is kept.
+    Done,
+    /// Every `i + k` is an index.
+    Safe,
+    /// Some `i + k` is not an index. These are the values of `i` that are safe for every `k`.
+    SafeFor(IntervalSet<i64>),
+}
+
+/// Why a line is not carried out.
+#[derive(Clone, Copy)]
+pub enum Fault {
+    /// The line is not UTF-8.
+    Bytes,
+    /// The first word is not a command.
+    Command,
+    /// A word after `i` or `k` is not a range, or there is none.
+    Ranges,
+    /// The words after `length` are not one length.
+    Length,
+    /// Words stand after `check`.
+    Check,
+    /// `i` has no range.
+    NoIndex,
+    /// `k` has no range.
+    NoOffset,
+    /// An allocation failed.
+    Memory,
+}
+
+impl From<AllocError> for Fault {
+    ghost use Rattle.std.specs.Prelude.{◌≡◌};
+    ghost use Rattle.ivl_ranges.specs.declared.reply.Fault.TheVariants.{Memory};
+
+    ghost from_gives = { λ _ fault. fault ≡ Memory };
+
+    fn from(_: AllocError) -> Fault {
+        Fault::Memory
+    }
+}
+
+/// Writes the answer to a line.
+pub fn write_told<W: Write>(writer: &mut W, told: &Result<Reply, Fault>) -> io::Result<()>
+    ensures { OnOk result (Appends (W.contents writer.old) (W.contents writer.new) (told_line told.now)) }
+{
+    match told {
+        Ok(Reply::Done) => writer.write_all(b"ok\n"),
+        Ok(Reply::Safe) => writer.write_all(b"safe\n"),
+        Ok(Reply::SafeFor(safe)) => write_safe_for(writer, safe),
+        Err(fault) => write_fault(writer, *fault),
+    }
+}
+
+fn write_safe_for<W: Write>(writer: &mut W, safe: &IntervalSet<i64>) -> io::Result<()>
+    ensures { OnOk result (Appends (W.contents writer.old) (W.contents writer.new)
+        (told_line (Ok (Reply.SafeFor safe.now)))) }
+{
+    if safe.is_empty() {
+        return writer.write_all(b"safe for no i\n");
+    }
+    safe.in_whole();
+    writeln!(writer, "safe for i in {safe} alone")
+}
+
+fn write_fault<W: Write>(writer: &mut W, fault: Fault) -> io::Result<()>
+    ensures { OnOk result (Appends (W.contents writer.old) (W.contents writer.new) (told_line (Err fault))) }
+{
+    writeln!(writer, "error: {}", fault_text(fault))
+}
+
+fn fault_text(fault: Fault) -> &'static str
+    ensures { result.now ≡ text_of fault }
+{
+    match fault {
+        Fault::Bytes => "not UTF-8",
+        Fault::Command => "write i RANGES, k RANGES, length NUMBER or check",
+        Fault::Ranges => "write ranges such as -1..1 5..5, with the lower end first",
+        Fault::Length => "write length NUMBER, from 0 to 4294967295",
+        Fault::Check => "write check",
+        Fault::NoIndex => "i has no range",
+        Fault::NoOffset => "k has no range",
+        Fault::Memory => "out of memory",
+    }
+}

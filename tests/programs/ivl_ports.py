@@ -1,0 +1,87 @@
+#!/usr/bin/env python3
+"""The allocator of ports beside a flag for each port: usage: tests/programs/ivl_ports.py [PROGRAM] [--seconds N] [--seed N]"""
+
+import re
+
+from ivl_run import number
+from lines import main
+
+TAKE = b"error: write take COUNT, with a count from 1 to 65535\n"
+GIVE = b"error: write give FIRST LAST, ports from 1024 to 65535 in order\n"
+COMMANDS = b"error: write take COUNT, give FIRST LAST or free\n"
+
+
+class Ports:
+    """A byte for each number from 0 to 65535, which is 1 if it is a free port."""
+
+    def __init__(self):
+        self.free = bytearray(1024) + bytearray(b"\1" * (65536 - 1024))
+
+    def answer(self, line):
+        try:
+            line.decode()
+        except UnicodeDecodeError:
+            return b"error: not UTF-8\n"
+        words = [word for word in line.split(b" ") if word]
+        if not words:
+            return b""
+        name, numbers = words[0], [number(word) for word in words[1:]]
+        if name == b"take":
+            return self.take(*numbers) if len(numbers) == 1 and self.are_in_range(numbers, 1) else TAKE
+        if name == b"give":
+            fits = len(numbers) == 2 and self.are_in_range(numbers, 1024) and numbers[0] <= numbers[1]
+            return self.give(*numbers) if fits else GIVE
+        if name == b"free":
+            return b"error: write free\n" if numbers else self.shown()
+        return COMMANDS
+
+    def are_in_range(self, numbers, least):
+        return all(value is not None and least <= value <= 65535 for value in numbers)
+
+    def take(self, count):
+        first = self.free.find(b"\1" * count)
+        if first < 0:
+            return b"none\n"
+        self.free[first : first + count] = bytes(count)
+        return b"[%d..%d]\n" % (first, first + count - 1)
+
+    def give(self, first, last):
+        if any(self.free[first : last + 1]):
+            return b"some of them are free\n"
+        self.free[first : last + 1] = b"\1" * (last + 1 - first)
+        return b"ok\n"
+
+    def shown(self):
+        runs = [b"[%d..%d]" % (run.start(), run.end() - 1) for run in re.finditer(b"\1+", self.free)]
+        text = b"".join(runs)
+        return b"%d free: %s\n" % (sum(self.free), text if len(runs) == 1 else b"{" + text + b"}")
+
+
+def random_count(dice):
+    if dice.random() < 0.1:
+        return dice.choice(["0", "-1", "-0", "+3", "007", "x", "1.5", "65535", "65536", "64512", "64511", str(2**63), str(2**64)])
+    return str(dice.choice([1, 1, 2, 3, 5, 8, 40, 700, 5000]) if dice.random() < 0.95 else dice.randrange(1, 65536))
+
+
+def random_run(dice):
+    first = dice.choice([1024, 1024, 1700, 6000, 65500]) + dice.randrange(40)
+    last = first + dice.choice([0, 0, 1, 2, 5, 9, 300])
+    if dice.random() < 0.08:
+        first = dice.choice([0, 80, 1000, 1023, 65536, last + 1, -first])
+    return [str(first), str(last)]
+
+
+def random_line(dice):
+    name = dice.choice(["take", "take", "take", "give", "give", "give", "free"])
+    words = {"take": lambda: [random_count(dice)], "give": lambda: random_run(dice), "free": lambda: []}[name]()
+    if dice.random() < 0.03:
+        words = dice.choice([words + ["1"], words[1:], words + ["free"]])
+    return dice.choice([" ", " ", "  "]).join([name] + words).encode() + dice.choice([b"", b"", b"\r", b" "])
+
+
+def random_lines(dice, count):
+    return [random_line(dice) for _ in range(count)]
+
+
+if __name__ == "__main__":
+    main("ivl_ports", Ports, random_lines, b"free")
