@@ -12,17 +12,30 @@ BOOK = b"error: write book NAME FIRST LAST, with a known room and dates in order
 GAP = b"error: write gap NAME DAYS FIRST LAST, with a known room, 1 to 4294967295 days and dates in order\n"
 FREE = b"error: write free FIRST LAST, with dates in order, such as 2026-03-01\n"
 COMMANDS = b"error: write room, book, gap or free\n"
-DATE = re.compile(rb"[0-9]{4}-[0-9]{2}-[0-9]{2}")
+DATE = re.compile(rb"(-00[0-9]{4}|[0-9]{4})-([0-9]{2})-([0-9]{2})")
+# The calendar repeats after 400 years. Python has the years from 1 to 9999.
+CYCLE = 146097
 
 
 def day(word):
-    """The number of the day whose date a word is, or None. Python has the years from 1 to 9999."""
-    if not DATE.fullmatch(word):
+    """The number of the day whose date a word is, or None."""
+    parts = DATE.fullmatch(word)
+    if not parts or parts[1] == b"-000000":
         return None
+    year, month, one = (int(part) for part in parts.groups())
+    cycles = 0 if year > 0 else -year // 400 + 1
     try:
-        return datetime.date(*(int(part) for part in word.split(b"-"))).toordinal()
+        return datetime.date(year + 400 * cycles, month, one).toordinal() - CYCLE * cycles
     except ValueError:
         return None
+
+
+def date_text(number):
+    """The date of a day, with a sign and six digits before the year 0."""
+    cycles = 0 if number > 0 else -number // CYCLE + 1
+    date = datetime.date.fromordinal(number + CYCLE * cycles)
+    year = date.year - 400 * cycles
+    return f"{year:04}{str(date)[4:]}" if year >= 0 else f"-{-year:06}{str(date)[4:]}"
 
 
 def window_of(words):
@@ -34,7 +47,7 @@ def window_of(words):
 
 
 def span(first, last):
-    return f"{datetime.date.fromordinal(first)} to {datetime.date.fromordinal(last)}".encode()
+    return f"{date_text(first)} to {date_text(last)}".encode()
 
 
 def runs_of(days):
@@ -113,7 +126,7 @@ def random_date(dice):
         one = dice.choice([datetime.date.min, datetime.date.max, datetime.date(1969, 12, 31), datetime.date(1970, 1, 1)])
     text = str(one)
     if dice.random() < 0.03:
-        bad = ["2023-02-29", "2100-02-29", "2024-13-01", "2024-00-10", "2024-04-31", "2024-1-01", "20240101", "2024-W01-1", "24-01-01", "day", "10000-01-01"]
+        bad = ["2023-02-29", "2100-02-29", "2024-13-01", "2024-00-10", "2024-04-31", "2024-1-01", "20240101", "2024-W01-1", "24-01-01", "day", "10000-01-01", "0000-02-29", "-000001-12-31", "-000000-01-01", "-009999-01-01", "-010000-12-31"]
         return dice.choice(bad + [text.replace("-", ""), text.replace("-", "/"), dice.choice(SPOILED_DATES).format(text)])
     return text
 
@@ -122,11 +135,8 @@ def random_window(dice):
     first = random_date(dice)
     if dice.random() < 0.1:
         return [first, random_date(dice)]
-    try:
-        last = datetime.date.fromisoformat(first) + datetime.timedelta(dice.choice([0, 0, 1, 2, 3, 6, 20]))
-    except (ValueError, OverflowError):
-        return [first, first]
-    return [first, str(last)]
+    number = day(first.encode())
+    return [first, first if number is None else date_text(min(number + dice.choice([0, 0, 1, 2, 3, 6, 20]), datetime.date.max.toordinal()))]
 
 
 def random_count(dice):
