@@ -1,20 +1,30 @@
--- Days on which rooms are free, from the lists of the runs of the days on which they are busy, and the days of dates.
---     IsFreeInAll rooms window z      day z lies in the window, and no room is busy on it
---     day_number_of text      the number of the day that a text is the date of; none if it is no date
---     days_between first last      the numbers of the first and the last day, from the texts of their dates; none if one is
---                                  no date, or the last lies before the first
-use Rattle.std.specs.Prelude.{ℕ, ℤ, int_le, if◌then◌else◌, List, All, Option, None, Some, option_and_then}
-use Rattle.std.specs.Result.{result_map_both, result_ok}
-use Rattle.jiff.specs.Words.{parse_date}
-use Rattle.jiff_core.specs.Calendar.{days_from_civil}
-use Rattle.ivl_laws.specs.Sets.{IsBetween}
-use Rattle.ivl_laws.specs.Runs.{Covers}
+-- Days by number, where 1970-01-01 is day 0, and their texts.
+--     IsDayText day text      the text is that of the date with this number, as `2026-03-01`
+--     IsWindow first last window      the texts of the first and the last day of the window, which has a day
+--     IsSpanText span text      the first day and the last, as `2026-03-05 to 2026-03-07`
+--     AreMoreSpans spans text      each span after a comma
+--     AreSpansText spans text      the spans with commas between, or `none`
+use Rattle.std.specs.Prelude.{◌≡◌, ℕ, ℤ, ◌≤ℤ◌, List, [], ◌∷◌, ◌++◌, codes}
+use Rattle.jiff.specs.Words.{epoch_day, date_text}
+use Rattle.jiff_core.specs.declared.civil.date.Date.{Date}
 
-abbrev pub IsFreeInAll : List (List (ℤ × ℤ)) → ℤ × ℤ → ℤ → Type 0
-IsFreeInAll rooms window z = IsBetween window z × All (λ busy. ¬ (Covers busy z)) rooms
+-- each `Date` is a date of the Gregorian calendar, of the years from -9999 to 9999
+abbrev pub IsDayText : ℤ → List ℕ → Type 0
+IsDayText day text = (date : Date) × (epoch_day date ≡ day) × (text ≡ date_text date)
 
-abbrev pub day_number_of : List ℕ → Option ℤ
-day_number_of text = result_ok (result_map_both (λ d. days_from_civil d.year d.month d.day) (λ e. e) (parse_date text))
+abbrev pub IsWindow : List ℕ → List ℕ → ℤ × ℤ → Type 0
+IsWindow first last window = IsDayText window.0 first × IsDayText window.1 last × (window.0 ≤ℤ window.1)
 
-abbrev pub days_between : List ℕ → List ℕ → Option (ℤ × ℤ)
-days_between first last = option_and_then (λ f. option_and_then (λ l. if int_le f l then Some (f, l) else None) (day_number_of last)) (day_number_of first)
+abbrev pub IsSpanText : ℤ × ℤ → List ℕ → Type 0
+IsSpanText span text =
+    (first last : List ℕ) × IsDayText span.0 first × IsDayText span.1 last × (text ≡ first ++ (codes " to " ++ last))
+
+abbrev pub AreMoreSpans : List (ℤ × ℤ) → List ℕ → Type 0
+AreMoreSpans [] text = text ≡ []
+AreMoreSpans (span ∷ spans) text =
+    (first rest : List ℕ) × IsSpanText span first × AreMoreSpans spans rest × (text ≡ codes ", " ++ (first ++ rest))
+
+abbrev pub AreSpansText : List (ℤ × ℤ) → List ℕ → Type 0
+AreSpansText [] text = text ≡ codes "none"
+AreSpansText (span ∷ spans) text =
+    (first rest : List ℕ) × IsSpanText span first × AreMoreSpans spans rest × (text ≡ first ++ rest)

@@ -1,13 +1,12 @@
-//! Days as numbers from 1970-01-01, which is day 0.
-ghost use Rattle.std.specs.Prelude.{◌≡◌, ◌↔◌, IfSome, IsSome};
-ghost use Rattle.jiff.specs.Words.{epoch_day, IsEpochDay};
-ghost use Rattle.ivl_calendar.specs.Days.{day_number_of, days_between};
+//! Days as numbers from 1970-01-01, which is day 0, and their texts.
+ghost use Rattle.std.specs.Prelude.{◌≡◌, ◌↔◌, ℤ, IfNone, IfSome, IsSome, IsTrue};
+ghost use Rattle.jiff.specs.Words.{date_text, epoch_day, IsEpochDay};
+ghost use Rattle.ivl_calendar.specs.Days.{IsDayText, IsWindow};
 
 use intervallum::interval::Interval;
-use intervallum::interval_set::IntervalSet;
-use intervallum::ops::{Bounded, IsEmpty, Range};
+use intervallum::ops::Range;
 use jiff::civil::Date;
-use std::alloc::{AllocError, Global};
+use jiff_fmt::temporal::DateTimePrinter;
 
 /// Returns the number of a day.
 pub fn day_of(date: Date) -> i32
@@ -17,8 +16,8 @@ pub fn day_of(date: Date) -> i32
     date.to_plain().to_unix_epoch_day()
 }
 
-/// Returns the date with this number, or `None` if it is outside the calendar of `jiff`, which spans the years -9999 to
-/// 9999.
+/// Returns the date with this number, or `None` if it is outside the calendar of `jiff`, which spans
+/// the years -9999 to 9999.
 pub fn date_of(day: i32) -> Option<Date>
     ensures value { IfSome result (λ date. epoch_day date ≡ day) }
     ensures within { IsSome result ↔ IsEpochDay day }
@@ -27,51 +26,46 @@ pub fn date_of(day: i32) -> Option<Date>
     Some(Date::from_plain(plain))
 }
 
-/// Returns the number of the day whose date a word is, or `None` if it is not a date.
+/// Returns the number of the day whose date a word is, or `None` if it is not the text of a date. A
+/// date with a time, an offset, a zone or a calendar is no date alone.
 pub fn day_from(word: &str) -> Option<i32>
-    ensures value { result ≡ day_number_of word.now }
+    ensures is_text { IfSome result (λ day. IsDayText day word.now) }
+    ensures none { IfNone result ((day : ℤ) → ¬ (IsDayText day word.now)) }
     ensures bound { IfSome result IsEpochDay }
 {
-    let date: Date = word.parse().ok()?;
-    Some(day_of(date))
-}
-
-/// Returns the days from one date to another, or `None` if a word is not a date or they are not in order.
-pub fn days_from(first: &str, last: &str) -> Option<Interval<i32>>
-    ensures { result ≡ days_between first.now last.now }
-{
-    let (first, last) = (day_from(first)?, day_from(last)?);
-    if first <= last {
-        Some(Interval::new(first, last))
+    let Ok(date) = word.parse::<Date>() else {
+        return None;
+    };
+    if has_text(date, word) {
+        Some(day_of(date))
     } else {
         None
     }
 }
 
-/// Returns the text of the days of an interval: `none` if it is empty, or if one of its ends is outside the calendar of
-/// `jiff`. Fails only if allocation fails.
-pub fn interval_text(alloc: Global, days: &Interval<i32>) -> Result<String, AllocError> {
-    if days.is_empty() {
-        return String::from_str(alloc, "none");
-    }
-    match (date_of(days.lower()), date_of(days.upper())) {
-        (Some(first), Some(last)) => format!(in alloc; "{first} to {last}"),
-        _ => String::from_str(alloc, "none"),
-    }
+// Whether a word is the text of a date.
+fn has_text(date: Date, word: &str) -> bool
+    ensures { IsTrue result ↔ word.now ≡ date_text date }
+{
+    DateTimePrinter::new().date_text(date.to_plain()).as_str() == word
 }
 
-/// Returns the text of the runs of a set, separated by commas, or `none` if the set is empty. Fails only if allocation
-/// fails.
-pub fn set_text(alloc: Global, days: &IntervalSet<i32>) -> Result<String, AllocError> {
-    let mut text = String::new(alloc);
-    for run in days.iter() {
-        if !text.is_empty() {
-            text.push_str(", ")?;
-        }
-        text.push_str(interval_text(alloc, run)?.as_str())?;
+/// Returns the days from one date to another, or `None` if a word is not a date or they are not in
+/// order.
+pub fn days_from(first: &str, last: &str) -> Option<Interval<i32>>
+    ensures is_window { IfSome result (IsWindow first.now last.now) }
+    ensures none { IfNone result ((window : ℤ × ℤ) → ¬ (IsWindow first.now last.now window)) }
+    ensures bound { IfSome result (λ window. IsEpochDay window.0 × IsEpochDay window.1) }
+{
+    let Some(first) = day_from(first) else {
+        return None;
+    };
+    let Some(last) = day_from(last) else {
+        return None;
+    };
+    if first <= last {
+        Some(Interval::new(first, last))
+    } else {
+        None
     }
-    if text.is_empty() {
-        text.push_str("none")?;
-    }
-    Ok(text)
 }

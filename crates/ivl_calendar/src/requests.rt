@@ -1,93 +1,83 @@
-//! The requests of the calendar and their answers, one line each.
+//! What a line asks for, by the words after its first.
+ghost use Rattle.std.specs.Prelude.{◌≡◌, ◌<◌, ◌^◌, ℕ, ℤ, List, IfNone, IfSome, Some, pos};
+ghost use Rattle.jiff.specs.Words.{IsEpochDay};
+ghost use Rattle.ivl_lines.specs.Words.{words_between};
+ghost use Rattle.ivl_lines.specs.Numbers.{number_of};
+ghost use Rattle.ivl_calendar.specs.Requests.{AsksForFree, AsksForGap, AsksToBook};
 
-use crate::dates::{days_from, interval_text, set_text};
-use crate::rooms::{Room, free_in_all};
-use ivl_lines::{next_word, number_from, one_word, three_words, two_words};
-use std::alloc::{AllocError, Global};
+use crate::dates::days_from;
+use intervallum::interval::Interval;
+use ivl_lines::{next_word, number_from, three_words, two_words};
 
-/// Rooms, each with its name at the same index.
+/// The room that is to be booked, and the days.
 #[derive(Drop)]
-pub struct Calendar {
-    names: Vec<String>,
-    rooms: Vec<Room>,
+pub struct Booking<'a> {
+    pub name: &'a str,
+    pub days: Interval<i32>,
 }
 
-impl Calendar {
-    /// Returns a calendar without rooms.
-    pub fn new(alloc: Global) -> Calendar {
-        Calendar {
-            names: Vec::new(alloc),
-            rooms: Vec::new(alloc),
-        }
-    }
+/// The room whose first gap is wanted, how many days it is to have, and the window.
+#[derive(Drop)]
+pub struct Gap<'a> {
+    pub name: &'a str,
+    pub count: u32,
+    pub window: Interval<i32>,
+}
 
-    /// Returns the answer to a line: the result, or an error message. A line with an error changes
-    /// nothing.
-    pub fn answer(&mut self, alloc: Global, line: &str) -> Result<String, AllocError> {
-        let (name, words) = next_word(line).unwrap_or(("", ""));
-        match name {
-            "room" => self.add(alloc, words),
-            "book" => self.book(alloc, words),
-            "gap" => self.gap(alloc, words),
-            "free" => self.free(alloc, words),
-            _ => String::from_str(alloc, "write room, book, gap or free"),
-        }
-    }
+/// Reads the words after `book`: the name of a room, and the days.
+pub fn booking_from(words: &str) -> Option<Booking<'_>>
+    ensures some { IfSome result (λ asked. AsksToBook (words_between words.entry.now) asked.name.now asked.days) }
+    ensures none { IfNone result ((name : List ℕ) (days : ℤ × ℤ) → ¬ (AsksToBook (words_between words.entry.now) name days)) }
+{
+    let (name, first, last) = three_words(words)?;
+    let Some(days) = days_from(first, last) else {
+        return None;
+    };
+    Some(Booking { name, days })
+}
 
-    fn add(&mut self, alloc: Global, words: &str) -> Result<String, AllocError> {
-        match one_word(words) {
-            Some(name) if self.place_of(name).is_none() => {
-                self.rooms.push(Room::new(alloc))?;
-                self.names.push(String::from_str(alloc, name)?)?;
-                String::from_str(alloc, "ok")
-            }
-            _ => String::from_str(alloc, "write room NAME, with a new name"),
-        }
-    }
+/// Reads the words after `gap`: the name of a room, how many days, and the window.
+pub fn gap_from(words: &str) -> Option<Gap<'_>>
+    ensures some { IfSome result (λ asked. AsksForGap (words_between words.entry.now) asked.name.now asked.count asked.window) }
+    ensures none { IfNone result ((name : List ℕ) (count : ℕ) (window : ℤ × ℤ) → ¬ (AsksForGap (words_between words.entry.now) name count window)) }
+    ensures bound { IfSome result (λ asked. IsEpochDay asked.window.0 × IsEpochDay asked.window.1) }
+{
+    let (name, rest) = next_word(words)?;
+    let (count, first, last) = three_words(rest)?;
+    let count = count_from(count)?;
+    let Some(window) = days_from(first, last) else {
+        return None;
+    };
+    Some(Gap {
+        name,
+        count,
+        window,
+    })
+}
 
-    fn book(&mut self, alloc: Global, words: &str) -> Result<String, AllocError> {
-        let usage = "write book NAME FIRST LAST, with dates such as 2026-03-01";
-        let Some((name, first, last)) = three_words(words) else {
-            return String::from_str(alloc, usage);
-        };
-        let (Some(place), Some(days)) = (self.place_of(name), days_from(first, last)) else {
-            return String::from_str(alloc, usage);
-        };
-        let Some(room) = self.rooms.get_mut(place) else {
-            return String::from_str(alloc, usage);
-        };
-        String::from_str(alloc, if room.book(days)? { "booked" } else { "taken" })
+/// Reads the words after `free`: the window.
+pub fn window_from(words: &str) -> Option<Interval<i32>>
+    ensures some { IfSome result (AsksForFree (words_between words.now)) }
+    ensures none { IfNone result ((window : ℤ × ℤ) → ¬ (AsksForFree (words_between words.now) window)) }
+    ensures bound { IfSome result (λ window. IsEpochDay window.0 × IsEpochDay window.1) }
+{
+    let (first, last) = two_words(words)?;
+    match days_from(first, last) {
+        Some(window) => Some(window),
+        None => None,
     }
+}
 
-    fn gap(&self, alloc: Global, words: &str) -> Result<String, AllocError> {
-        let usage = "write gap NAME DAYS FIRST LAST, with one day at least";
-        let Some((name, words)) = next_word(words) else {
-            return String::from_str(alloc, usage);
-        };
-        let Some((days, first, last)) = three_words(words) else {
-            return String::from_str(alloc, usage);
-        };
-        let room = self.place_of(name).and_then(|place| self.rooms.get(place));
-        let days = number_from(days).and_then(|days| u32::try_from(days).ok());
-        match (room, days, days_from(first, last)) {
-            (Some(room), Some(days), Some(window)) if days > 0 => {
-                match room.first_gap(window, days)? {
-                    Some(gap) => interval_text(alloc, &gap),
-                    None => String::from_str(alloc, "none"),
-                }
-            }
-            _ => String::from_str(alloc, usage),
-        }
-    }
-
-    fn free(&self, alloc: Global, words: &str) -> Result<String, AllocError> {
-        match two_words(words).and_then(|(first, last)| days_from(first, last)) {
-            Some(window) => set_text(alloc, &free_in_all(alloc, &self.rooms, window)?),
-            None => String::from_str(alloc, "write free FIRST LAST, with dates in order"),
-        }
-    }
-
-    fn place_of(&self, name: &str) -> Option<usize> {
-        self.names.iter().position(|other| other.as_str() == name)
+// A count of days above 0.
+fn count_from(word: &str) -> Option<u32>
+    ensures value { IfSome result (λ count. number_of word.now ≡ Some (pos count)) }
+    ensures above { IfSome result (λ count. 0 < count) }
+    ensures below { IfSome result (λ count. count < 2 ^ 32) }
+    ensures none { IfNone result ((count : ℕ) → number_of word.now ≡ Some (pos count) → 0 < count → ¬ (count < 2 ^ 32)) }
+{
+    let number = number_from(word)?;
+    match u32::try_from(number) {
+        Ok(count) if count > 0 => Some(count),
+        _ => None,
     }
 }

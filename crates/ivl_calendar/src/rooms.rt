@@ -3,12 +3,13 @@ ghost use Rattle.std.specs.Prelude.{◌≡◌, ◌<◌, ◌↔◌, ℤ, [], List
 ghost use Rattle.ivl_laws.specs.Sets.{HasNone, Intersection, IsBetween, Union, Without};
 ghost use Rattle.ivl_laws.specs.Runs.{Covers, IsRunsOf};
 ghost use Rattle.intervallum.specs.Rooms.{FitsAt, IsFirstFit};
-ghost use Rattle.ivl_calendar.specs.Days.{IsFreeInAll};
+ghost use Rattle.ivl_calendar.specs.Rooms.{IsFreeInAll, rooms_of};
 
 use intervallum::interval::Interval;
 use intervallum::interval_set::IntervalSet;
 use intervallum::ops::{Difference, Overlap};
 use std::alloc::{AllocError, Global};
+use std::collections::BTreeMap;
 use std::marker::Model;
 
 /// The days on which a room is busy, as numbers of days. A contract sees the list of their runs.
@@ -81,13 +82,13 @@ impl Room {
 /// Returns the days of a window on which all rooms are free. Fails only if allocation fails.
 pub fn free_in_all(
     alloc: Global,
-    rooms: &[Room],
+    rooms: &BTreeMap<String, Room>,
     window: Interval<i32>,
 ) -> Result<IntervalSet<i32>, AllocError>
-    ensures { IfOk result (λ L. IsRunsOf L (IsFreeInAll rooms.now window)) }
+    ensures { IfOk result (λ L. IsRunsOf L (IsFreeInAll (rooms_of rooms.now) window)) }
 {
     let mut free = IntervalSet::of(alloc, window)?;
-    for room in rooms {
+    for room in rooms.values() {
         free = free.difference(&room.busy)?;
     }
     Ok(free)

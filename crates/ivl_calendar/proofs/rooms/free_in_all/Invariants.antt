@@ -1,7 +1,10 @@
-use Rattle.std.specs.List.{AllWithin}
-use Rattle.ivl_laws.specs.Runs.{Covers, IsRunsOf}
-use Rattle.ivl_laws.specs.Sets.{IsBetween}
+use Rattle.std.proofs.Common.{◌≡◌, ℤ, List, ◌++◌}
+use Rattle.std.specs.BTreeMap.{values}
+use Rattle.ivl_laws.specs.Runs.{IsRunsOf}
+use Rattle.ivl_calendar.proofs.Free.{IsFreeOf}
 use Rattle.ivl_calendar.proofs.rooms.free_in_all.Given as goal
 
+-- the days are those on which the rooms before are free
 abbrev pub invariant-loop-room : goal.invariant-loop-room
-invariant-loop-room l = IsRunsOf l.free (λ z. IsBetween l.fn.window z × AllWithin (λ busy. ¬ (Covers busy z)) l.rooms 0 l.room-index)
+invariant-loop-room l =
+    (done : List (List (ℤ × ℤ))) × (done ++ l.room-iterator ≡ values l.rooms) × IsRunsOf l.free (IsFreeOf done l.fn.window)

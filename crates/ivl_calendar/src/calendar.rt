@@ -1,0 +1,91 @@
+//! Rooms by name.
+ghost use Rattle.std.specs.Prelude.{◌≡◌, [], IfNone, IfOk, IfSome, IsSome, IfErr, None, OnErr, OnOk, Some, List, ℤ};
+ghost use Rattle.std.specs.Option.{option_copied};
+ghost use Rattle.ivl_laws.specs.Runs.{IsRunsOf};
+ghost use Rattle.ivl_calendar.specs.Rooms.{Books, IsAdded, IsFreeInAll, busy_of};
+
+use crate::rooms::{Room, free_in_all};
+use intervallum::interval::Interval;
+use intervallum::interval_set::IntervalSet;
+use std::alloc::{AllocError, Global};
+use std::collections::BTreeMap;
+use std::marker::Model;
+
+/// Rooms by name. A contract sees the list of the names, each with the runs of the days on which the
+/// room is busy.
+#[derive(Drop)]
+pub struct Calendar {
+    alloc: Global,
+    rooms: BTreeMap<String, Room>,
+}
+
+impl Model for Calendar {
+    ghost use Rattle.ivl_calendar.specs.Rooms.{Rooms, rooms_of};
+
+    ghost Value = { Rooms };
+
+    ghost view = { λ c. rooms_of c.rooms };
+}
+
+impl Calendar {
+    /// Returns a calendar without rooms. Does not allocate.
+    pub fn new(alloc: Global) -> Calendar
+        ensures { result ≡ [] }
+    {
+        Calendar {
+            alloc,
+            rooms: BTreeMap::new(alloc),
+        }
+    }
+
+    /// Returns the room with this name, or `None` if there is no such room. `O(log n)` of `n` rooms.
+    pub fn room(&self, name: &str) -> Option<&Room>
+        ensures { option_copied result ≡ busy_of self.now name.now }
+    {
+        self.rooms.get(name)
+    }
+
+    /// Adds a room that is free on all days. The caller must ensure that no room has this name. Check
+    /// with `room`. `O(log n)` of `n` rooms.
+    ///
+    /// # Errors
+    ///
+    /// Fails only if allocation fails. Nothing is added after an error.
+    pub fn add(&mut self, name: &str) -> Result<(), AllocError>
+        requires { busy_of self.old name.now ≡ None }
+        ensures ok { OnOk result (IsAdded name.now self.old self.new) }
+        ensures err { OnErr result (self.new ≡ self.old) }
+    {
+        let key = String::from_str(self.alloc, name)?;
+        self.rooms.insert(key, Room::new(self.alloc))?;
+        Ok(())
+    }
+
+    /// Books a room if it is free on all of these days, and returns whether it was, or `None` if there
+    /// is no such room.
+    ///
+    /// # Errors
+    ///
+    /// Fails only if allocation fails. Nothing is booked after an error.
+    pub fn book(&mut self, name: &str, days: Interval<i32>) -> Result<Option<bool>, AllocError>
+        ensures known { IfOk result (λ o. IfSome o (λ done. (busy : List (ℤ × ℤ)) × (busy_of self.old name.now ≡ Some busy)
+            × Books done name.now busy days self.old self.new)) }
+        ensures unknown { IfOk result (λ o. IfNone o ((busy_of self.old name.now ≡ None) × (self.new ≡ self.old))) }
+        ensures err { OnErr result (IsSome (busy_of self.old name.now) × (self.new ≡ self.old)) }
+    {
+        let Some(room) = self.rooms.get_mut(name) else {
+            return Ok(None);
+        };
+        match room.book(days) {
+            Ok(done) => Ok(Some(done)),
+            Err(error) => Err(error),
+        }
+    }
+
+    /// Returns the days of a window on which all rooms are free. Fails only if allocation fails.
+    pub fn free_within(&self, window: Interval<i32>) -> Result<IntervalSet<i32>, AllocError>
+        ensures { IfOk result (λ L. IsRunsOf L (IsFreeInAll self.now window)) }
+    {
+        free_in_all(self.alloc, &self.rooms, window)
+    }
+}

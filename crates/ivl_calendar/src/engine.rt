@@ -1,0 +1,198 @@
+//! What answers the lines of a session, and how the session ends.
+ghost use Rattle.std.specs.Prelude.{◌≡◌, ℕ, ℤ, List, [], IfSome, IsErrOf, OnOk};
+ghost use Rattle.std.specs.Io.KnownBytes.{Appends, Consumes, IsAtEnd};
+ghost use Rattle.ivl_lines.specs.Answered.{IsAnswered};
+ghost use Rattle.ivl_lines.specs.Lines.{ended_lines_of, lines_of};
+ghost use Rattle.ivl_lines.specs.Words.{words_between};
+ghost use Rattle.ivl_calendar.specs.Answering.{AnswersBook, AnswersFree, AnswersGap, AnswersLine, AnswersRoom, AnswersWords};
+ghost use Rattle.ivl_calendar.specs.Outcome.{outcome_of};
+ghost use Rattle.ivl_calendar.specs.Rooms.{Rooms};
+
+use crate::calendar::Calendar;
+use crate::replies::{write_line, write_spans};
+use crate::requests::{booking_from, gap_from, window_from};
+use ivl_lines::{
+    Answers, LineFault, SessionFault, first_word, line_text, next_word, one_word, serve,
+};
+use std::alloc::Global;
+use std::io;
+use std::io::{Read, Write};
+
+const ROOM: &str = "error: write room NAME, with a new name";
+
+const BOOK: &str =
+    "error: write book NAME FIRST LAST, with a known room and dates in order, such as 2026-03-01";
+
+const GAP: &str =
+    "error: write gap NAME DAYS FIRST LAST, with a known room, 1 to 4294967295 days and dates in order";
+
+const FREE: &str = "error: write free FIRST LAST, with dates in order, such as 2026-03-01";
+
+const OTHER: &str = "error: write room, book, gap or free";
+
+const BYTES: &str = "error: not UTF-8";
+
+const MEMORY: &str = "error: out of memory";
+
+impl Answers for Calendar {
+    ghost use Rattle.ivl_calendar.specs.Answering.{AnswersLine};
+
+    ghost allowed = { AnswersLine };
+
+    fn may_take_long(&self, line: &[u8]) -> bool {
+        first_word(line) == "free"
+    }
+
+    fn answer<W: Write>(&mut self, line: &[u8], writer: &mut W) -> Result<(), LineFault> {
+        if answer_line(self, line, writer).is_err() {
+            return Err(LineFault::Write);
+        }
+        Ok(())
+    }
+}
+
+/// Answers each line of the input, over a calendar that has no rooms at first. What is written is
+/// flushed before each read, before a line that asks for the free days of all rooms, and at the end.
+///
+/// # Errors
+///
+/// `Read` if a read failed, or the reader still returned bytes after 2^64 - 1 reads; an interrupted
+/// read is repeated. `Write` if a write or a flush failed. `Memory` if an allocation for the bytes
+/// of a line failed. A line that runs out of memory when it is carried out is answered with that,
+/// and the session continues.
+///
+/// ```
+/// let mut input: &[u8] = b"room blue\nbook blue 2026-03-01 2026-03-04\nfree 2026-03-01 2026-03-07";
+/// let mut written = Vec::new(alloc);
+/// assert_eq!(rt; session(alloc, &mut input, &mut written), Ok(()));
+/// assert_eq!(rt; written.as_slice(), b"ok\nbooked\n2026-03-05 to 2026-03-07\n".as_slice());
+/// ```
+pub fn session<R: Read, W: Write>(
+    alloc: Global,
+    reader: &mut R,
+    writer: &mut W,
+) -> Result<(), SessionFault>
+    // All bytes were read, and what is written answers their lines.
+    ensures end { OnOk result (IsAtEnd (R.remaining reader.new)) }
+    ensures ok { OnOk result (IfSome (R.remaining reader.old) (λ bytes. (text : List ℕ) × (end : Rooms)
+        × IsAnswered AnswersLine [] (lines_of bytes) text end
+        × Appends (W.contents writer.old) (W.contents writer.new) text)) }
+    // What is written answers the ended lines of the bytes that the reader gave.
+    ensures read { IsErrOf result SessionFault.Read → (front : List ℕ) × (text : List ℕ) × (end : Rooms)
+        × Consumes (R.remaining reader.old) (R.remaining reader.new) front
+        × IsAnswered AnswersLine [] (ended_lines_of front) text end
+        × Appends (W.contents writer.old) (W.contents writer.new) text }
+{
+    serve(alloc, &mut Calendar::new(alloc), reader, writer)
+}
+
+// Answers one line. A line without words has no answer.
+fn answer_line<W: Write>(calendar: &mut Calendar, line: &[u8], writer: &mut W) -> io::Result<()>
+    ensures { OnOk result ((text : List ℕ)
+        × AnswersLine calendar.old line.now text calendar.new
+        × Appends (W.contents writer.old) (W.contents writer.new) text) }
+{
+    match line_text(line) {
+        Some(text) => answer_text(calendar, text, writer),
+        None => write_line(writer, BYTES),
+    }
+}
+
+fn answer_text<W: Write>(calendar: &mut Calendar, text: &str, writer: &mut W) -> io::Result<()>
+    ensures { OnOk result ((answer : List ℕ)
+        × AnswersWords calendar.old (words_between text.now) answer calendar.new
+        × Appends (W.contents writer.old) (W.contents writer.new) answer) }
+{
+    let Some((name, words)) = next_word(text) else {
+        return Ok(());
+    };
+    match name {
+        "room" => answer_room(calendar, words, writer),
+        "book" => answer_book(calendar, words, writer),
+        "gap" => answer_gap(calendar, words, writer),
+        "free" => answer_free(calendar, words, writer),
+        _ => write_line(writer, OTHER),
+    }
+}
+
+fn answer_room<W: Write>(calendar: &mut Calendar, words: &str, writer: &mut W) -> io::Result<()>
+    ensures { OnOk result ((text : List ℕ)
+        × AnswersRoom calendar.old (words_between words.now) text calendar.new
+        × Appends (W.contents writer.old) (W.contents writer.new) text) }
+{
+    let Some(name) = one_word(words) else {
+        return write_line(writer, ROOM);
+    };
+    if calendar.room(name).is_some() {
+        return write_line(writer, ROOM);
+    }
+    match calendar.add(name) {
+        Ok(()) => write_line(writer, "ok"),
+        Err(_) => write_line(writer, MEMORY),
+    }
+}
+
+fn answer_book<W: Write>(calendar: &mut Calendar, words: &str, writer: &mut W) -> io::Result<()>
+    ensures { OnOk result ((text : List ℕ)
+        × AnswersBook calendar.old (words_between words.now) text calendar.new
+        × Appends (W.contents writer.old) (W.contents writer.new) text) }
+{
+    let Some(asked) = booking_from(words) else {
+        return write_line(writer, BOOK);
+    };
+    match calendar.book(asked.name, asked.days) {
+        Ok(Some(true)) => write_line(writer, "booked"),
+        Ok(Some(false)) => write_line(writer, "taken"),
+        Ok(None) => write_line(writer, BOOK),
+        Err(_) => write_line(writer, MEMORY),
+    }
+}
+
+fn answer_gap<W: Write>(calendar: &mut Calendar, words: &str, writer: &mut W) -> io::Result<()>
+    ensures { OnOk result ((text : List ℕ)
+        × AnswersGap calendar.old (words_between words.now) text calendar.new
+        × Appends (W.contents writer.old) (W.contents writer.new) text) }
+{
+    let Some(asked) = gap_from(words) else {
+        return write_line(writer, GAP);
+    };
+    let Some(room) = calendar.room(asked.name) else {
+        return write_line(writer, GAP);
+    };
+    match room.first_gap(asked.window, asked.count) {
+        Ok(Some(run)) => write_spans(writer, &[run]),
+        Ok(None) => write_line(writer, "none"),
+        Err(_) => write_line(writer, MEMORY),
+    }
+}
+
+fn answer_free<W: Write>(calendar: &mut Calendar, words: &str, writer: &mut W) -> io::Result<()>
+    ensures { OnOk result ((text : List ℕ)
+        × AnswersFree calendar.old (words_between words.now) text calendar.new
+        × Appends (W.contents writer.old) (W.contents writer.new) text) }
+{
+    let Some(window) = window_from(words) else {
+        return write_line(writer, FREE);
+    };
+    match calendar.free_within(window) {
+        Ok(free) => write_spans(writer, free.runs()),
+        Err(_) => write_line(writer, MEMORY),
+    }
+}
+
+/// Returns the exit status of the program, and what it writes to standard error.
+///
+/// ```
+/// assert_eq!(rt; outcome(&Ok(())), (0, ""));
+/// assert_eq!(rt; outcome(&Err(SessionFault::Read)), (1, "ivl_calendar: read failed"));
+/// ```
+pub fn outcome(ended: &Result<(), SessionFault>) -> (u8, &'static str)
+    ensures { (result.0, result.1.now) ≡ outcome_of ended.now }
+{
+    match ended {
+        Ok(()) => (0, ""),
+        Err(SessionFault::Read) => (1, "ivl_calendar: read failed"),
+        Err(SessionFault::Write) => (1, "ivl_calendar: write failed"),
+        Err(SessionFault::Memory) => (1, "ivl_calendar: out of memory"),
+    }
+}
