@@ -33,7 +33,7 @@ none_more : (runs : List (ℤ × ℤ)) (low : ℤ) (n : ℕ) → ¬ (Covers runs
 none_more runs low n c z = (
   (λ w. (w.0, w.1, omega (arith, ints, w.2))),
   (λ w. by_lt_z z (low +ℤ pos n) (λ b. (w.0, w.1, b))
-    (λ b. let e : z ≡ low +ℤ pos n = omega (arith, ints, w.2, b) in absurd (c (subst (Covers runs) e w.0)))),
+      (λ b. let e : z ≡ low +ℤ pos n = omega (arith, ints, w.2, b) in absurd (c (subst (Covers runs) e w.0)))),
 )
 
 IsCountOf-count_from : (runs : List (ℤ × ℤ)) (low : ℤ) (n : ℕ) → IsCountOf (count_from runs low n) (Within runs low n)
@@ -44,20 +44,20 @@ IsCountOf-count_from runs low (suc n) =
     elim (cases_Bool (covers runs (low +ℤ pos n))) [
       | inl t ↦ (let c = (covers-is runs (low +ℤ pos n)).0 t in
           rw t (IsCountOf-same (Union (Only (low +ℤ pos n)) (Within runs low n)) (Within runs low (suc n)) (1 + count_from runs low n) (one_more runs low n c)
-              (IsCountOf-apart (Only (low +ℤ pos n)) (Within runs low n) 1 (count_from runs low n)
-                  (λ z e w. let a = w.2 in omega (arith, ints, e)) (IsCountOf-only (low +ℤ pos n)) before)))
+          (IsCountOf-apart (Only (low +ℤ pos n)) (Within runs low n) 1 (count_from runs low n)
+          (λ z e w. let a = w.2 in omega (arith, ints, e)) (IsCountOf-only (low +ℤ pos n)) before)))
       | inr f ↦ (let same : count_from runs low n ≡ 0 + count_from runs low n = omega arith in
           rw f (subst (λ (m : ℕ). IsCountOf m (Within runs low (suc n))) same
-              (IsCountOf-same (Within runs low n) (Within runs low (suc n)) (count_from runs low n)
-                  (none_more runs low n (λ c. both_ways (covers runs (low +ℤ pos n)) f ((covers-is runs (low +ℤ pos n)).1 c))) before)))
+          (IsCountOf-same (Within runs low n) (Within runs low (suc n)) (count_from runs low n)
+          (none_more runs low n (λ c. both_ways (covers runs (low +ℤ pos n)) f ((covers-is runs (low +ℤ pos n)).1 c))) before)))
     ]
 
 within_whole : (runs : List (ℤ × ℤ)) (whole : ℤ × ℤ) → SameMembers (Within runs whole.0 (width_of whole)) (Intersection (Covers runs) (IsBetween whole))
 within_whole runs whole z = by_lt_z whole.1 whole.0
     (λ c. let e = width_of-crossed whole c in
-        ((λ w. let a = w.1 in let b = w.2 in absurd (omega (arith, ints, e))), (λ i. let a = i.1.0 in let b = i.1.1 in absurd (omega (arith, ints)))))
+    ((λ w. let a = w.1 in let b = w.2 in absurd (omega (arith, ints, e))), (λ i. let a = i.1.0 in let b = i.1.1 in absurd (omega (arith, ints)))))
     (λ h. let e = width_of-filled whole h in
-        ((λ w. let a = w.1 in let b = w.2 in (w.0, (a, omega (arith, ints, e)))), (λ i. let a = i.1.0 in let b = i.1.1 in (i.0, a, omega (arith, ints, e)))))
+    ((λ w. let a = w.1 in let b = w.2 in (w.0, (a, omega (arith, ints, e)))), (λ i. let a = i.1.0 in let b = i.1.1 in (i.0, a, omega (arith, ints, e)))))
 
 together : (whole : ℤ × ℤ) (sets : List (List (ℤ × ℤ))) → HaveTogether whole (total_from whole.0 (width_of whole) sets) sets
 together whole [] = refl
