@@ -1,11 +1,9 @@
 -- The posts that require some constraints.
-use Rattle.std.proofs.Common.{◌≡◌, ◌∙◌, ℕ, ℤ, Bool, false, cond, not, leb, ◌+◌, ◌<◌, List, [], ◌∷◌, ◌++◌, length, get_or, take, take-suc, add-one, refl, sym, ap, map, position, arith}
+use Rattle.std.proofs.Common.{◌≡◌, ◌∙◌, ℕ, ℤ, false, leb, ◌+◌, ◌<◌, List, [], ◌∷◌, ◌++◌, length, get_or, take, take-suc, add-one, refl, sym, ap, map, arith}
 use Rattle.std.specs.Prelude.{All, IfSome, Option, Some, None, bytes_eq}
-use Rattle.std.specs.List.{position_or_len}
 use Rattle.std.proofs.lemmas.Bool.Decides.{nat_tests}
 use Rattle.std.proofs.lemmas.List.Elements.{All-head, All-tail, All-map, All-push}
 use Rattle.std.proofs.lemmas.List.Quantifiers.{position-Some}
-use Rattle.ivl_laws.proofs.Lengths.{length-map}
 use Rattle.ivl_store.specs.declared.store.constraint.Constraint.{Constraint}
 use Rattle.ivl_store.specs.declared.store.post.Post.{Post}
 use Rattle.ivl_store.specs.declared.store.post.Post.TheVariants.{Require, Restrict}
@@ -27,14 +25,6 @@ pub next_taken : (xs ys pushed : List (List (ℤ × ℤ))) (i : ℕ) (x y : List
 next_taken xs ys pushed i x y l is same so_far push =
     let next : take (i + 1) xs ≡ take i xs ++ get_or xs i x ∷ [] = rw (add-one, take-suc xs i x) refl in
     push ∙ ap (λ (front : List (List (ℤ × ℤ))). front ++ y ∷ []) so_far ∙ ap (λ (z : List (ℤ × ℤ)). take i xs ++ z ∷ []) (same ∙ is) ∙ sym next
-
--- a name stands where its text does
-position_or_len-map : {A B : Type 0} (f : A → B) (p : B → Bool) (xs : List A) → position_or_len p (map f xs) ≡ position_or_len (λ x. p (f x)) xs
-position_or_len-map f p [] = refl
-position_or_len-map f p (x ∷ xs) = ap (λ (n : ℕ). cond (not (p (f x))) (1 + n) 0) (position_or_len-map f p xs)
-
-pub position-map : {A B : Type 0} (f : A → B) (p : B → Bool) (xs : List A) → position p (map f xs) ≡ position (λ x. p (f x)) xs
-position-map f p xs = rw (position_or_len-map f p xs, length-map f xs) refl
 
 -- a pair is the pair of its parts
 pub same_pairs : (xs : List (ℤ × ℤ)) → map (λ (p : ℤ × ℤ). (p.0, p.1)) xs ≡ xs

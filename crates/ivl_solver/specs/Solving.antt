@@ -1,11 +1,11 @@
 -- What carrying out a request does to the variables, their domains, and the constraints between them.
 --     index_of names name      the index of the variable with this name
 --     required constraints      the posts that require some constraints, in their order
---     IsSound names domains constraints      as many names as domains, and sums of three variables that have one
+--     IsSound names domains some_empty constraints      as many names as domains, sums of three variables that have one, and whether a domain is empty
 --     Carries asked old new      the request takes the solver from old to new
 --     range_fault pairs      the fault of pairs that are not all in range; `None` if they are
 --     fault_of asked old      the fault of a request; `None` if it has none
-use Rattle.std.specs.Prelude.{◌≡◌, ◌^◌, ◌-◌, ◌&&◌, ◌||◌, ◌==◌, ℕ, ℤ, pos, negsuc, Bool, List, All, [], ◌∷◌, ◌++◌, bytes_eq, if◌then◌else◌, int_le, map, position, Option, Some, None}
+use Rattle.std.specs.Prelude.{◌≡◌, ◌^◌, ◌-◌, ◌&&◌, ◌||◌, ◌==◌, ◌↔◌, ℕ, ℤ, pos, negsuc, Bool, List, All, Any, [], ◌∷◌, ◌++◌, bytes_eq, if◌then◌else◌, int_le, length, map, position, Option, Some, None, IsTrue}
 use Rattle.std.specs.List.{list_all}
 use Rattle.ivl_laws.specs.Runs.{Covers, IsRunsOf}
 use Rattle.ivl_laws.specs.Families.{set_at}
@@ -30,11 +30,12 @@ index_of names name = position (λ known. bytes_eq known name) names
 abbrev pub required : List Constraint → List (Post ℤ ℕ)
 required constraints = map Require constraints
 
--- what holds of a solver's lists, by their lengths
-pub record IsSound (names domains : ℕ) (constraints : List Constraint) : Type 0 where
-  pub one_each : names ≡ domains
+-- what holds of a solver's lists, by the number of names, and of what it keeps on empty domains
+pub record IsSound (names : ℕ) (domains : List (List (ℤ × ℤ))) (some_empty : Bool) (constraints : List Constraint) : Type 0 where
+  pub one_each : names ≡ length domains
   pub distinct : All AreDistinct constraints
-  pub present : All (AllPresent domains) constraints
+  pub present : All (AllPresent (length domains)) constraints
+  pub emptiness : IsTrue some_empty ↔ Any (λ L. L ≡ []) domains
 
 -- one more variable, whose domain is the union of the pairs
 pub record Defines (name : List ℕ) (pairs : List (ℤ × ℤ)) (old new : State) : Type 0 where

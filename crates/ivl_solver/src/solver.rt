@@ -1,5 +1,5 @@
 //! The variables by name, their domains, and the sums that hold between them.
-ghost use Rattle.std.specs.Prelude.{◌≡◌, ◌∷◌, ◌++◌, ◌↔◌, ◌<◌, [], Some, All, Any, IfErr, IfOk, IfSome, IsSome, IsTrue, None, OnErr, OnOk, bytes_eq, length, map, position, string_bytes};
+ghost use Rattle.std.specs.Prelude.{◌≡◌, ◌∷◌, ◌++◌, ◌↔◌, ◌<◌, [], Some, All, Any, IfErr, IfOk, IfSome, IsSome, IsTrue, None, OnErr, OnOk, length, map, string_bytes};
 ghost use Rattle.ivl_laws.specs.Runs.{Covers, IsRunsOf};
 ghost use Rattle.ivl_laws.specs.Families.{set_at};
 ghost use Rattle.ivl_store.specs.Narrowing.{AllPresent};
@@ -12,6 +12,7 @@ ghost use Rattle.ivl_solver.specs.Solving.{Adds, Carries, Cuts, Defines, fault_o
 
 use crate::fault::Fault;
 use crate::request::Request;
+use indexmap::IndexSet;
 use intervallum::interval::Interval;
 use intervallum::interval_set::{IntervalSet, ToIntervalSet};
 use intervallum::ops::IsEmpty;
@@ -24,9 +25,11 @@ use std::marker::Model;
 #[derive(Drop)]
 pub struct Solver {
     alloc: Global,
-    names: Vec<String>,
+    names: IndexSet<String>,
     store: Store<i64>,
     constraints: Vec<Constraint>,
+    // Whether a domain is empty: kept, so that no line looks at all domains to tell it.
+    some_empty: bool,
 }
 
 impl Model for Solver {
@@ -35,9 +38,9 @@ impl Model for Solver {
 
     ghost Value = { State };
 
-    ghost view = { λ s. record { names = map string_bytes s.names.items; domains = s.store; constraints = s.constraints.items } };
+    ghost view = { λ s. record { names = map string_bytes s.names.keys; domains = s.store; constraints = s.constraints.items } };
 
-    ghost invariant = { λ s. IsSound (length s.names.items) (length s.store) s.constraints.items };
+    ghost invariant = { λ s. IsSound (length s.names.keys) s.store s.some_empty s.constraints.items };
 }
 
 impl Solver {
@@ -47,9 +50,10 @@ impl Solver {
     {
         Solver {
             alloc,
-            names: Vec::new(alloc),
+            names: IndexSet::new(alloc),
             store: Store::new(alloc, Vec::new(alloc)),
             constraints: Vec::new(alloc),
+            some_empty: false,
         }
     }
 
@@ -77,7 +81,7 @@ impl Solver {
     pub fn names(&self) -> &[String]
         ensures { map string_bytes result.now ≡ self.now.names }
     {
-        &self.names
+        self.names.as_slice()
     }
 
     /// Returns the domains, in the order of the names.
@@ -87,11 +91,11 @@ impl Solver {
         self.store.domains()
     }
 
-    /// Returns true exactly when some domain is empty.
+    /// Returns true exactly when some domain is empty. `O(1)`.
     pub fn has_empty(&self) -> bool
         ensures { IsTrue result ↔ Any (λ L. L ≡ []) self.now.domains }
     {
-        self.domains().iter().any(|domain| domain.is_empty())
+        self.some_empty
     }
 
     /// Adds a variable, whose domain is the union of the pairs.
@@ -111,21 +115,30 @@ impl Solver {
 
     /// Adds a variable. If allocation fails, nothing changes.
     fn add(&mut self, name: &str, domain: IntervalSet<i64>) -> Result<(), AllocError>
+        requires { index_in self.old.names name.now ≡ None }
         ensures ok { OnOk result (self.new ≡ record { names = self.old.names ++ name.now ∷ []; domains = self.old.domains ++ domain ∷ []; constraints = self.old.constraints }) }
         ensures err { OnErr result (self.new ≡ self.old) }
     {
-        let mut domains = self.copied_domains()?;
-        domains.push(domain)?;
-        self.names.push(String::from_str(self.alloc, name)?)?;
-        self.store = Store::new(self.alloc, domains);
-        Ok(())
+        let is_empty = domain.is_empty();
+        let count = self.names.len();
+        self.names.insert(String::from_str(self.alloc, name)?)?;
+        match self.store.add_variable(domain) {
+            Ok(_) => {
+                self.some_empty |= is_empty;
+                Ok(())
+            }
+            Err(error) => {
+                self.names.truncate(count);
+                Err(error)
+            }
+        }
     }
 
-    /// Copies the domains, with room for one more.
+    /// Copies the domains.
     fn copied_domains(&self) -> Result<Vec<IntervalSet<i64>>, AllocError>
         ensures { IfOk result (λ domains. domains.items ≡ self.now.domains) }
     {
-        let mut domains = Vec::with_capacity(self.alloc, self.domains().len().saturating_add(1))?;
+        let mut domains = Vec::with_capacity(self.alloc, self.domains().len())?;
         for old in self.store.domains() {
             domains.push(old.try_clone()?)?;
         }
@@ -179,7 +192,7 @@ impl Solver {
         ensures index { result ≡ index_in self.now.names name.now }
         ensures present { IfSome result (λ i. i < length self.now.domains) }
     {
-        place_of(&self.names, name)
+        self.names.get_index_of(name)
     }
 
     /// Posts all constraints, and then a cut, to a copy of the domains: a failed allocation leaves the
@@ -194,6 +207,7 @@ impl Solver {
         let posts = required_with(self.alloc, &self.constraints, variable, allowed)?;
         let mut store = Store::new(self.alloc, self.copied_domains()?);
         post(&mut store, &posts)?;
+        self.some_empty = store.has_empty();
         self.store = store;
         Ok(())
     }
@@ -211,16 +225,10 @@ impl Solver {
         let mut store = Store::new(self.alloc, self.copied_domains()?);
         post(&mut store, &posts)?;
         self.constraints.push(sum)?;
+        self.some_empty = store.has_empty();
         self.store = store;
         Ok(())
     }
-}
-
-/// The index of a name.
-fn place_of(names: &[String], name: &str) -> Option<usize>
-    ensures { result ≡ position (λ known. bytes_eq (string_bytes known) name.now) names.now }
-{
-    names.iter().position(|known| known.as_str() == name)
 }
 
 /// Posts to a store that has all their variables.

@@ -15,8 +15,10 @@
 //! assert!(rt; store.narrow(&sum)?);
 //! assert!(rt; store.domains()[0] == IntervalSet::new(alloc, 1, 3)?);
 //! ```
-ghost use Rattle.std.specs.Prelude.{◌≡◌, ℤ, List, All};
+ghost use Rattle.std.specs.Prelude.{◌≡◌, ◌↔◌, ◌++◌, ◌∷◌, [], ℤ, List, All, Any, IfOk, IsTrue, OnErr, OnOk, length};
+ghost use Rattle.ivl_laws.specs.Families.{set_at};
 ghost use Rattle.ivl_laws.specs.Runs.{IsRunListIn};
+ghost use Rattle.ivl_store.specs.Posts.{HasEmpty};
 
 pub mod callers;
 mod constraint;
@@ -29,16 +31,17 @@ mod posting;
 
 pub use constraint::{Constraint, StoreFault};
 use intervallum::interval_set::IntervalSet;
+use intervallum::ops::IsEmpty;
 use intervallum::width::Width;
 pub use post::Post;
-use std::alloc::Global;
+use std::alloc::{AllocError, Global};
 use std::marker::Model;
 
 /// The domains of some variables: a set of numbers for each. A contract sees the list of their run
 /// lists.
 ///
-/// The number of variables never changes, and domains only lose members. A call that fails with
-/// [`StoreFault::Variable`] leaves the store unchanged.
+/// Only [`Store::add_variable`] changes the number of variables, and domains only lose members. A
+/// call that fails with [`StoreFault::Variable`] leaves the store unchanged.
 #[derive(Drop)]
 pub struct Store<B: Width> {
     alloc: Global,
@@ -76,5 +79,48 @@ impl<B: Width> Store<B> {
         ensures runs { All (IsRunListIn B.whole) self.now }
     {
         self.domains.as_slice()
+    }
+
+    /// Adds a variable with this domain after the others, and returns its index. Amortized `O(1)`.
+    ///
+    /// # Errors
+    ///
+    /// Fails only if allocation fails. The store is unchanged after an error.
+    ///
+    /// ```
+    /// let mut store: Store<i32> = Store::new(alloc, vec![in alloc; IntervalSet::new(alloc, 0, 9)?]?);
+    /// assert_eq!(rt; store.add_variable(IntervalSet::new(alloc, 3, 4)?)?, 1);
+    /// assert!(rt; store.domains()[1] == IntervalSet::new(alloc, 3, 4)?);
+    /// ```
+    pub fn add_variable(&mut self, domain: IntervalSet<B>) -> Result<usize, AllocError>
+        ensures index { IfOk result (λ i. i ≡ length self.old) }
+        ensures added { OnOk result (self.new ≡ self.old ++ domain ∷ []) }
+        ensures err { OnErr result (self.new ≡ self.old) }
+    {
+        let index = self.domains.len();
+        domain.in_whole();
+        self.domains.push(domain)?;
+        Ok(index)
+    }
+
+    /// Returns true exactly when some domain is empty: then no point solves any constraints. `O(1)`
+    /// per domain, does not allocate.
+    ///
+    /// ```
+    /// let mut store: Store<i32> = Store::new(alloc, vec![in alloc; IntervalSet::new(alloc, 0, 9)?]?);
+    /// assert!(rt; !store.has_empty());
+    /// store.add_variable(IntervalSet::empty(alloc))?;
+    /// assert!(rt; store.has_empty());
+    /// ```
+    pub fn has_empty(&self) -> bool
+        ensures empty { IsTrue result ↔ Any (λ L. L ≡ []) self.now }
+        ensures variable { IsTrue result ↔ HasEmpty (length self.now) (set_at self.now) }
+    {
+        for domain in &self.domains {
+            if domain.is_empty() {
+                return true;
+            }
+        }
+        false
     }
 }

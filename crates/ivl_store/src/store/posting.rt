@@ -13,7 +13,6 @@ use super::marks::clear_marks;
 use super::post::first_unknown_post;
 use super::{Constraint, Post, Store, StoreFault};
 use intervallum::interval_set::IntervalSet;
-use intervallum::ops::IsEmpty;
 use intervallum::width::Width;
 use std::alloc::AllocError;
 
@@ -178,17 +177,5 @@ impl<B: Width> Store<B> {
     {
         while self.round(constraints, settled)? {}
         Ok(())
-    }
-
-    /// Whether some domain is empty.
-    fn has_empty(&self) -> bool
-        ensures { IsTrue result ↔ HasEmpty (length self.now) (set_at self.now) }
-    {
-        for domain in &self.domains {
-            if domain.is_empty() {
-                return true;
-            }
-        }
-        false
     }
 }
