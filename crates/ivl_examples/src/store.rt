@@ -6,6 +6,7 @@
 mod narrowing;
 mod posting;
 mod rounds;
+mod variables;
 
 use crate::compare::{check_printed, sets_of};
 use intervallum::width::Width;

@@ -67,11 +67,24 @@ const MANY: usize = 1000;
 /// such call.
 pub fn ending(alloc: Global, name: &str, refused: u32) -> Option<Result<&'static str, AllocError>> {
     match name {
+        "store_add_variable" => Some(added(alloc)),
         "store_narrow" => Some(narrowed(alloc)),
         "store_propagate" => Some(propagated(alloc)),
         "store_post_all" => Some(posted(alloc, refused)),
         "store_post_many" => Some(posted_many(alloc)),
         _ => None,
+    }
+}
+
+/// A fourth variable is added.
+fn added(alloc: Global) -> Result<&'static str, AllocError> {
+    let (three, fourth) = (&FRESH[..3], FRESH[3]);
+    let mut store = store_of(alloc, three)?;
+    match store.add_variable(set_of(alloc, fourth)?) {
+        Ok(3) if has_domains(&store, FRESH) => Ok("answered"),
+        Ok(_) => Ok("gave a wrong answer"),
+        Err(_) if has_domains(&store, three) => Ok("out of memory"),
+        Err(_) => Ok("left other domains"),
     }
 }
 
@@ -177,7 +190,7 @@ fn judged(
     between: &[&Family],
 ) -> &'static str {
     if is_refusal {
-        return if between.iter().any(|family| has_domains(store, family)) {
+        return if between.iter().any(|family| has_domains(store, *family)) {
             "out of memory"
         } else {
             "left other domains"
@@ -191,7 +204,7 @@ fn judged(
 }
 
 /// The domains have these runs.
-fn has_domains(store: &Store<i32>, family: &Family) -> bool {
+fn has_domains(store: &Store<i32>, family: &[Runs]) -> bool {
     for (domain, runs) in store.domains().iter().zip(family) {
         if !has_runs(domain, runs) {
             return false;
@@ -201,7 +214,7 @@ fn has_domains(store: &Store<i32>, family: &Family) -> bool {
 }
 
 /// The store of these domains.
-fn store_of(alloc: Global, family: &Family) -> Result<Store<i32>, AllocError> {
+fn store_of(alloc: Global, family: &[Runs]) -> Result<Store<i32>, AllocError> {
     let mut domains: Vec<IntervalSet<i32>> = Vec::with_capacity(alloc, family.len())?;
     for runs in family {
         domains.push(set_of(alloc, runs)?)?;

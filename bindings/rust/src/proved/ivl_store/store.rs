@@ -35,15 +35,16 @@ mod posting;
 
 pub use constraint::{Constraint, StoreFault};
 use crate::proved::intervallum::interval_set::IntervalSet;
+use crate::proved::intervallum::ops::IsEmpty;
 use crate::proved::intervallum::width::Width;
 pub use post::Post;
-use crate::rattle::std::alloc::Global;
+use crate::rattle::std::alloc::{AllocError, Global};
 
 /// The domains of some variables: a set of numbers for each. A contract sees the list of their run
 /// lists.
 ///
-/// The number of variables never changes, and domains only lose members. A call that fails with
-/// [`StoreFault::Variable`] leaves the store unchanged.
+/// Only [`Store::add_variable`] changes the number of variables, and domains only lose members. A
+/// call that fails with [`StoreFault::Variable`] leaves the store unchanged.
 pub struct Store<B: Width> {
     alloc: Global,
     domains: Vec<IntervalSet<B>>,
@@ -87,5 +88,68 @@ impl<B: Width> Store<B> {
     /// Words: [`IsRunListIn`](crate::definitions#IsRunListIn).
     pub fn domains(&self) -> &[IntervalSet<B>] {
         self.domains.as_slice()
+    }
+
+    /// Adds a variable with this domain after the others, and returns its index. Amortized `O(1)`.
+    ///
+    /// # Errors
+    ///
+    /// Fails only if allocation fails. The store is unchanged after an error.
+    ///
+    /// ```
+    /// # use intervallum::proved::examples::*;
+    /// # fn main() -> Result<(), std::boxed::Box<dyn std::error::Error>> {
+    /// # let alloc = Global;
+    /// let mut store: Store<i32> = Store::new(alloc, Vec::from_array(alloc, [ IntervalSet::new(alloc, 0, 9)?])?);
+    /// assert_eq!(store.add_variable(IntervalSet::new(alloc, 3, 4)?)?, 1);
+    /// assert!(store.domains()[1] == IntervalSet::new(alloc, 3, 4)?);
+    /// # Ok(())
+    /// # }
+    /// ```
+    ///
+    /// # Proved
+    ///
+    /// ```text
+    /// ensures index { IfOk result (λ i. i ≡ length self.old) }
+    /// ensures added { OnOk result (self.new ≡ self.old ++ domain ∷ []) }
+    /// ensures err { OnErr result (self.new ≡ self.old) }
+    /// ```
+    pub fn add_variable(&mut self, domain: IntervalSet<B>) -> Result<usize, AllocError> {
+        let index = self.domains.len();
+        domain.in_whole();
+        self.domains.push(domain)?;
+        Ok(index)
+    }
+
+    /// Returns true exactly when some domain is empty: then no point solves any constraints. `O(1)`
+    /// per domain, does not allocate.
+    ///
+    /// ```
+    /// # use intervallum::proved::examples::*;
+    /// # fn main() -> Result<(), std::boxed::Box<dyn std::error::Error>> {
+    /// # let alloc = Global;
+    /// let mut store: Store<i32> = Store::new(alloc, Vec::from_array(alloc, [ IntervalSet::new(alloc, 0, 9)?])?);
+    /// assert!(!store.has_empty());
+    /// store.add_variable(IntervalSet::empty(alloc))?;
+    /// assert!(store.has_empty());
+    /// # Ok(())
+    /// # }
+    /// ```
+    ///
+    /// # Proved
+    ///
+    /// ```text
+    /// ensures empty { IsTrue result ↔ Any (λ L. L ≡ []) self.now }
+    /// ensures variable { IsTrue result ↔ HasEmpty (length self.now) (set_at self.now) }
+    /// ```
+    ///
+    /// Words: [`HasEmpty`](crate::definitions#HasEmpty).
+    pub fn has_empty(&self) -> bool {
+        for domain in &self.domains {
+            if domain.is_empty() {
+                return true;
+            }
+        }
+        false
     }
 }

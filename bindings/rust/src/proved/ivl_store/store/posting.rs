@@ -7,7 +7,6 @@ use super::marks::clear_marks;
 use super::post::first_unknown_post;
 use super::{Constraint, Post, Store, StoreFault};
 use crate::proved::intervallum::interval_set::IntervalSet;
-use crate::proved::intervallum::ops::IsEmpty;
 use crate::proved::intervallum::width::Width;
 use crate::rattle::std::alloc::AllocError;
 
@@ -135,15 +134,5 @@ impl<B: Width> Store<B> {
     ) -> Result<(), AllocError> {
         while self.round(constraints, settled)? {}
         Ok(())
-    }
-
-    /// Whether some domain is empty.
-    fn has_empty(&self) -> bool {
-        for domain in &self.domains {
-            if domain.is_empty() {
-                return true;
-            }
-        }
-        false
     }
 }
