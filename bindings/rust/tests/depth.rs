@@ -1,7 +1,7 @@
 //! Expressions as deep as a stack of 8 MB bears with room to spare, and what is said of them.
 use intervallum::proved::examples::*;
-use intervallum::proved::ivl_expr::{EvalFault, Expr, eval};
 use intervallum::proved::intervallum::interval_set::IntervalSet;
+use intervallum::proved::ivl_expr::{EvalFault, Expr, eval};
 
 const LEVELS: usize = 4_000;
 
