@@ -6,6 +6,7 @@ import ctypes
 import ctypes.util
 import doctest
 import multiprocessing
+import operator
 import os
 import pickle
 import random
@@ -452,8 +453,10 @@ def misuse():
         raises(ValueError, lambda: IntervalSet(bounds=wrong), "bounds is 'i64' or 'u64', not %r" % (wrong,))
     big = IntervalSet([2**62])
     raises(intervallum.ProductOutOfRange, lambda: big.products([2]), "a product" + signed)
-    for sign, call in {"|": lambda: a | unsigned, "&": lambda: a & {3}, "-": lambda: {3} - a, "^": lambda: a ^ [3]}.items():
-        raises(TypeError, call, "unsupported operand type(s) for %s: " % sign)
+    signs = {"|": operator.or_, "&": operator.and_, "-": operator.sub, "^": operator.xor}
+    for sign, call in signs.items():
+        for two in ((a, unsigned), (a, {3}), ({3}, a), (a, [3]), ([3], a)):
+            raises(TypeError, lambda: call(*two), "unsupported operand type(s) for %s: " % sign)
     raises(TypeError, lambda: a < {1}, "'<' not supported between instances of 'IntervalSet' and 'set'")
     raises(OverflowError, lambda: len(~a), "the set has more members than len can return: use size")
     for call in (IntervalSet().min, IntervalSet().max):
@@ -465,6 +468,12 @@ def misuse():
     assert a != unsigned and a != [1, 2, 3, 4, 5] and a != {1, 2, 3, 4, 5} and a.nth(-1) is a.first_fit(-1) is a.first_fit(0) is None
     assert IntervalSet([(9, 4)]) == IntervalSet() != IntervalSet([0]) and IntervalSet([range(9, 2, -3)]) == IntervalSet([9, 6, 3])
     assert IntervalSet(range(10**15, 0, -1)).runs() == [(1, 10**15)] and IntervalSet([2**64 - 2], bounds="u64").max() == 2**64 - 2
+    # the ends of what the library takes: no number is cut to its type, and no list is without an address
+    assert IntervalSet([2**63 - 1]).next_from(2**63 - 1) == IntervalSet([2**63 - 1]).previous_to(2**70) == 2**63 - 1
+    whole = ~IntervalSet()
+    assert whole.first_fit(-1) is whole.first_fit(2**64) is None and whole.first_fit(2**64 - 1) == (-(2**63) + 1, 2**63 - 1)
+    many = IntervalSet(range(0, 1000, 2))
+    assert intervallum._pairs(a._type, [])[1] and IntervalSet()._at and (many - many)._at
     # a list of bounds that changes while it is read has no more bounds than the library is told of
     changing = [[Number(lambda: changing[1].clear()), 5], [7, 8]]
     raises(TypeError, lambda: IntervalSet(changing), "changed while it was read")

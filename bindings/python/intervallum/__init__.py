@@ -444,10 +444,10 @@ class IntervalSet(collections.abc.Set[int]):
         (3, 0)
         """
         number = operator.index(value)
-        at = self._upto(number - 1)
+        at = self._upto(number)
         if not at:
             return 0
-        # of the last run that starts below the value, what is not below it does not count
+        # what is not below the value is in the last run that starts there or below, or nowhere
         return self._size_of(at) - max(self._list[2 * at - 1] - number + 1, 0)
 
     def nth(self, index: SupportsIndex) -> int | None:
