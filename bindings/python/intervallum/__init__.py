@@ -22,6 +22,7 @@ from __future__ import annotations
 import bisect
 import collections.abc
 import ctypes
+import importlib
 import itertools
 import operator
 import os
@@ -32,11 +33,15 @@ from typing import Any, Callable, Iterable, Iterator, Literal, Sequence, Support
 __version__ = "1.0.0"
 __all__ = ["IntervalSet", "OutOfMemory", "OutOfRange", "ProductOutOfRange", "Runs"]
 
-numpy: Any
-try:
-    import numpy
-except ImportError:
-    numpy = None
+
+def _optional(name: str) -> Any:
+    try:
+        return importlib.import_module(name)
+    except ImportError:
+        return None
+
+
+numpy = _optional("numpy")
 
 Bounds = Literal["i64", "u64"]
 # a number, both bounds of a pair, or the members of a range or a set
@@ -72,7 +77,7 @@ def _load() -> ctypes.CDLL:
         raise ImportError("the shared library %s cannot be loaded (%s): %s" % (path, error, _HOW)) from None
 
 
-_ONE = [ctypes.c_void_p, ctypes.c_size_t]  # a list of pairs, or the buffer of an answer
+_ONE: list[Any] = [ctypes.c_void_p, ctypes.c_size_t]  # a list of pairs, or the buffer of an answer
 _SHAPES: dict[str, list[Any]] = {
     "normalize": _ONE * 2, "complement": _ONE * 2, "union": _ONE * 3, "intersection": _ONE * 3, "difference": _ONE * 3,
     "symmetric_difference": _ONE * 3, "sums": _ONE * 3, "differences": _ONE * 3, "products": _ONE * 3,
@@ -114,7 +119,8 @@ class _Bounds:
         self.is_signed = name == "i64"
         self.limits = (-(2**63), 2**63 - 1) if self.is_signed else (0, 2**64 - 1)
         self.range = (-(2**63) + 1, 2**63 - 1) if self.is_signed else (0, 2**64 - 2)
-        self.one_pair = Numbers("q" if self.is_signed else "Q", (0, 0))
+        self.code: Literal["q", "Q"] = "q" if self.is_signed else "Q"
+        self.one_pair = Numbers(self.code, (0, 0))
         for call, shape in _SHAPES.items():
             try:
                 found = getattr(library, "ivl_%s_%s" % (call, name))
@@ -187,8 +193,6 @@ class Runs(collections.abc.Sequence[tuple[int, int]]):
         if not isinstance(other, collections.abc.Sequence) or isinstance(other, (str, bytes)):
             return NotImplemented
         return len(self) == len(other) and all(mine == tuple(theirs) for mine, theirs in zip(self, other))
-
-    __hash__ = None  # type: ignore[assignment]
 
     def __repr__(self) -> str:
         return "Runs(%r)" % list(self)
@@ -269,19 +273,27 @@ class IntervalSet(collections.abc.Set[int]):
 
     def __or__(self, other: IntervalSet) -> IntervalSet:  # type: ignore[override]
         """Returns the members of either set."""
-        return self._with(self._type.union, other) if self._is_like(other) else NotImplemented
+        if not self._is_like(other):
+            return NotImplemented
+        return self._with(self._type.union, other)
 
     def __and__(self, other: IntervalSet) -> IntervalSet:  # type: ignore[override]
         """Returns the members of both sets."""
-        return self._with(self._type.intersection, other) if self._is_like(other) else NotImplemented
+        if not self._is_like(other):
+            return NotImplemented
+        return self._with(self._type.intersection, other)
 
     def __sub__(self, other: IntervalSet) -> IntervalSet:  # type: ignore[override]
         """Returns the members that are not in the other set."""
-        return self._with(self._type.difference, other) if self._is_like(other) else NotImplemented
+        if not self._is_like(other):
+            return NotImplemented
+        return self._with(self._type.difference, other)
 
     def __xor__(self, other: IntervalSet) -> IntervalSet:  # type: ignore[override]
         """Returns the members of exactly one set."""
-        return self._with(self._type.symmetric_difference, other) if self._is_like(other) else NotImplemented
+        if not self._is_like(other):
+            return NotImplemented
+        return self._with(self._type.symmetric_difference, other)
 
     __ror__, __rand__, __rxor__ = __or__, __and__, __xor__
 
@@ -354,19 +366,27 @@ class IntervalSet(collections.abc.Set[int]):
 
     def __le__(self, other: IntervalSet) -> bool:  # type: ignore[override]
         """Returns whether each member is in the other set."""
-        return self._is_within(other) if self._is_like(other) else NotImplemented
+        if not self._is_like(other):
+            return NotImplemented
+        return self._is_within(other)
 
     def __lt__(self, other: IntervalSet) -> bool:  # type: ignore[override]
         """Returns whether each member is in the other set, which has more."""
-        return self._is_within(other) and self != other if self._is_like(other) else NotImplemented
+        if not self._is_like(other):
+            return NotImplemented
+        return self._is_within(other) and self != other
 
     def __ge__(self, other: IntervalSet) -> bool:  # type: ignore[override]
         """Returns whether each member of the other set is in this one."""
-        return other._is_within(self) if self._is_like(other) else NotImplemented
+        if not self._is_like(other):
+            return NotImplemented
+        return other._is_within(self)
 
     def __gt__(self, other: IntervalSet) -> bool:  # type: ignore[override]
         """Returns whether each member of the other set is in this one, which has more."""
-        return other._is_within(self) and self != other if self._is_like(other) else NotImplemented
+        if not self._is_like(other):
+            return NotImplemented
+        return other._is_within(self) and self != other
 
     def _is_within(self, other: IntervalSet) -> bool:
         return bool(self._type.checked(self._type.is_subset(self._at, self._count, other._at, other._count)))
@@ -408,7 +428,8 @@ class IntervalSet(collections.abc.Set[int]):
             return None
         found = self._type.number()
         is_there = self._type.next_from_sorted(self._at, self._count, max(number, low), ctypes.addressof(found))
-        return found.value if is_there else None
+        least: int = found.value
+        return least if is_there else None
 
     def _upto(self, number: int) -> int:
         """How many runs start at the number or below."""
@@ -572,7 +593,7 @@ def _pairs(bounds: _Bounds, items: Iterable[Item]) -> tuple[Any, int, int]:
     elif not (kinds <= {tuple, list} and set(map(len, pairs)) <= {2}):
         pairs = [pair for item in pairs for pair in _pairs_of_item(item)]
     try:
-        flat = Numbers(bounds.one_pair.typecode, itertools.chain.from_iterable(pairs))
+        flat = Numbers(bounds.code, itertools.chain.from_iterable(pairs))
     except OverflowError:
         raise bounds.outside(next(n for pair in pairs for n in map(operator.index, pair) if not bounds.holds(n))) from None
     # reading a bound may run code of its type, which may change a list of bounds that has been counted
