@@ -337,8 +337,8 @@ def random_items(numbers, low):
     for lower, upper in runs_of(flags_of([(n, n) for n in numbers], low), low):
         cut = random.randrange(lower, upper + 1)
         whole = range(lower, upper + 1)
-        forms = [[(lower, cut), [cut, upper]], [whole], [whole[::-1]], list(whole), [set(whole)], [IntervalSet(whole)], [(lower, upper)]]
-        items += random.choice(forms)
+        forms = [[(lower, cut), [cut, upper]], [(lower, upper)], [whole], [whole[::-1]], list(whole), [set(whole)]]
+        items += random.choice(forms + [[IntervalSet(whole)]])
     random.shuffle(items)
     return random.choice([list, tuple, iter])(items)
 
@@ -351,7 +351,8 @@ def combined(kind, first, second, third):
         assert list(getattr(a, name)(b)) == list(getattr(a, method)(second)) == sorted(expected), (first, second, name)
     for method in ("union", "intersection", "difference"):
         expected = getattr(first, method)(second, third)
-        assert set(getattr(a, method)(b, third)) == set(getattr(a, method)(sorted(second), c)) == expected, (first, second, third, method)
+        made = set(getattr(a, method)(b, third)), set(getattr(a, method)(sorted(second), c))
+        assert made == (expected, expected), (first, second, third, method)
         assert getattr(a, method)() == a
     assert set(a.sums(b)) == {x + y for x in first for y in second}, (first, second)
     least = -COUNT if a.bounds == "i64" else 0
@@ -377,7 +378,8 @@ def asked(kind, low, first, second):
     below, above = [n for n in first if n <= value], [n for n in first if n >= value]
     assert a.previous_to(value) == max(below, default=None) and a.next_from(value) == min(above, default=None), (first, value)
     run = a.run_at(value)
-    assert run == next((run for run in runs if run[0] <= value <= run[1]), None) and (run is not None) == (value in a) == (value in first)
+    assert run == next((run for run in runs if run[0] <= value <= run[1]), None)
+    assert (run is not None) == (value in a) == (value in first)
     index = random.randrange(-1, COUNT)
     assert a.rank(value) == sum(n < value for n in first), (first, value)
     assert a.nth(index) == (ascending[index] if 0 <= index < len(ascending) else None), (first, index)
@@ -431,7 +433,8 @@ def misuse():
         raises(TypeError, lambda: IntervalSet(wrong), "a pair has two bounds: ")
     for wrong, kind in (("a", "str"), (1.5, "float"), (None, "NoneType")):
         told = "'%s' object cannot be interpreted as an integer" % kind
-        calls = [lambda: IntervalSet([wrong]), lambda: IntervalSet([(1, wrong)]), lambda: IntervalSet([[wrong, 1], 3]), lambda: IntervalSet([{wrong}])]
+        calls = [lambda: IntervalSet([wrong]), lambda: IntervalSet([(1, wrong)]), lambda: IntervalSet([[wrong, 1], 3])]
+        calls += [lambda: IntervalSet([{wrong}])]
         calls += [lambda: wrong in a, lambda: a.next_from(wrong), lambda: a.previous_to(wrong), lambda: a.run_at(wrong)]
         calls += [lambda: a.rank(wrong), lambda: a.nth(wrong), lambda: a.first_fit(wrong), lambda: a.union([wrong])]
         for call in calls:
@@ -440,7 +443,8 @@ def misuse():
         raises(TypeError, call, "'int' object is not iterable")
     signed = " is outside the range of i64, from -9223372036854775807 to 9223372036854775807"
     for outside in (2**63, -(2**63), 2**64, -(2**70)):
-        for wrong in ([outside], [(0, 1), (min(0, outside), max(0, outside))], [5, [outside, outside]], range(outside, outside + 1)):
+        wide = min(0, outside), max(0, outside)
+        for wrong in ([outside], [(0, 1), wide], [5, [outside, outside]], range(outside, outside + 1)):
             raises(OutOfRange, lambda: IntervalSet(wrong), str(outside) + signed)
         raises(OutOfRange, lambda: a.union([outside]), str(outside) + signed)
         assert outside not in a and a.run_at(outside) is None and a.rank(outside) == (5 if outside > 0 else 0)
@@ -465,9 +469,11 @@ def misuse():
     raises(TypeError, lambda: hash(a.runs()), "unhashable")
     # a code of the library, which no small set brings about
     raises(intervallum.OutOfMemory, lambda: a._type.checked(-2), "an allocation failed")
-    assert a != unsigned and a != [1, 2, 3, 4, 5] and a != {1, 2, 3, 4, 5} and a.nth(-1) is a.first_fit(-1) is a.first_fit(0) is None
-    assert IntervalSet([(9, 4)]) == IntervalSet() != IntervalSet([0]) and IntervalSet([range(9, 2, -3)]) == IntervalSet([9, 6, 3])
-    assert IntervalSet(range(10**15, 0, -1)).runs() == [(1, 10**15)] and IntervalSet([2**64 - 2], bounds="u64").max() == 2**64 - 2
+    assert a != unsigned and a != [1, 2, 3, 4, 5] and a != {1, 2, 3, 4, 5}
+    assert a.nth(-1) is a.first_fit(-1) is a.first_fit(0) is None
+    assert IntervalSet([(9, 4)]) == IntervalSet() != IntervalSet([0])
+    assert IntervalSet([range(9, 2, -3)]) == IntervalSet([9, 6, 3]) and IntervalSet(range(10**15, 0, -1)).runs() == [(1, 10**15)]
+    assert IntervalSet([2**64 - 2], bounds="u64").max() == 2**64 - 2
     # the ends of what the library takes: no number is cut to its type, and no list is without an address
     assert IntervalSet([2**63 - 1]).next_from(2**63 - 1) == IntervalSet([2**63 - 1]).previous_to(2**70) == 2**63 - 1
     whole = ~IntervalSet()
@@ -502,6 +508,21 @@ def imported_with(path):
     return subprocess.run([sys.executable, "-c", "import intervallum"], env=environment, capture_output=True, text=True).stderr
 
 
+def header():
+    """The types that the module gives to each call are those of the header."""
+    pointer, sizes = ctypes.c_void_p, {"size_t": ctypes.c_size_t, "bool": ctypes.c_bool}
+    sizes.update({"int64_t": ctypes.c_int64, "uint64_t": ctypes.c_uint64})
+    page = open(os.path.join(TOP, "bindings/c/intervallum.h"), encoding="utf-8").read()
+    text = re.sub(r"/\*.*?\*/", "", page, flags=re.S)
+    found = re.findall(r"(\w+) ivl_(\w+)_([iu]64)\(([^)]*)\);", text)
+    for answer, name, bounds, arguments in found:
+        call = getattr(intervallum._types[bounds], name)
+        expected = [pointer if "*" in one else sizes[one.split()[0]] for one in arguments.split(",")]
+        assert call.restype is sizes[answer] and list(call.argtypes) == expected, (name, bounds, call.argtypes)
+    assert len(found) == 2 * len(intervallum._SHAPES)
+    print("bindings: Python: the types of %d calls are those of the header" % len(found))
+
+
 # ---- threads and processes
 
 
@@ -509,15 +530,19 @@ def threads(count):
     """Two threads over the same sets, which a call of the library reads while the other thread runs."""
     pairs = [(10 * i, 10 * i + 5) for i in range(1000)]
     shared, other = IntervalSet(pairs), IntervalSet([(lower + 3, upper + 3) for lower, upper in pairs])
-    told = [shared | other, shared & other, shared - other, shared ^ other, ~shared, shared.size, hash(shared), list(shared.runs())]
     wrong = []
+
+    def answers():
+        return shared | other, shared & other, shared - other, shared ^ other, ~shared, shared.size, hash(shared), list(shared.runs())
+
+    told = answers()
 
     def work(seed):
         draw = random.Random(seed)
         for _ in range(count):
-            made = [shared | other, shared & other, shared - other, shared ^ other, ~shared, shared.size, hash(shared), list(shared.runs())]
             value = draw.randrange(10000)
-            if made != told or (value in shared) != (value % 10 <= 5) or shared.rank(value) != value // 10 * 6 + min(value % 10, 6):
+            rank = value // 10 * 6 + min(value % 10, 6)
+            if answers() != told or (value in shared) != (value % 10 <= 5) or shared.rank(value) != rank:
                 wrong.append(value)
 
     working = [threading.Thread(target=work, args=(seed,)) for seed in range(2)]
@@ -615,8 +640,8 @@ def speed():
     given = first._at, 10, second._at, 10, ctypes.addressof(room), 20
     united, called = least_time(lambda: first | second), least_time(lambda: calls.union(*given))
     made = least_time(lambda: IntervalSet(pairs[:10]))
-    told = "a list of 1,000,000 pairs to a set and back in %.2f s; of 10 in %.1f microseconds; a union of 10 runs with 10 in %.1f, the library's call in %.1f"
-    print("bindings: Python: " + told % (took, made, united, called))
+    print("bindings: Python: a list of 1,000,000 pairs to a set and back in %.2f s; of 10 to a set in %.1f microseconds;" % (took, made))
+    print("bindings: Python: a union of 10 runs with 10 in %.1f microseconds, the library's call in %.1f" % (united, called))
 
 
 def least_time(call):
@@ -633,5 +658,6 @@ if __name__ == "__main__":
     calls = {
         "facts": facts, "sets": sets, "fuzz": fuzz, "threads": threads, "arrays": arrays, "misuse": misuse,
         "processes": processes, "examples": examples, "speed": speed,
+        "header": header,
     }
     calls[sys.argv[1]](*(int(word) if word.isdigit() else word for word in sys.argv[2:]))
