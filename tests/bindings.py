@@ -609,6 +609,11 @@ def arrays():
         assert IntervalSet(numpy.asfortranarray(array), bounds=bounds) == made
         assert IntervalSet(array[:0], bounds=bounds).array().shape == (0, 2)
         assert IntervalSet(array.astype(numpy.int32), bounds=bounds) == made
+        # nor do one that is read from its end, one of another order of bytes, and one that begins at any byte
+        unaligned = numpy.frombuffer(b"x" + array.tobytes(), dtype=kind, offset=1).reshape(-1, 2)
+        assert not unaligned.flags.aligned
+        for other in (array[::-1], array.astype(array.dtype.newbyteorder(">")), unaligned):
+            assert IntervalSet(other, bounds=bounds) == made
         masked = numpy.ma.masked_array(array, mask=[[0, 0], [1, 1], [0, 0]])
         for wrong in (array[:, :1], array[0], array.astype(float), masked):
             raises(TypeError, lambda: IntervalSet(wrong, bounds=bounds))
