@@ -1,16 +1,26 @@
-"""What tests/bindings runs in Python: answers of the original crate, and random calls beside lists of flags."""
+"""What tests/bindings and tests/python run: answers of the original crate, random calls beside lists of flags, and the Python
+module beside `set`, with misuse, threads and processes."""
 
 import copy
 import ctypes
+import ctypes.util
+import doctest
+import multiprocessing
+import operator
+import os
 import pickle
 import random
+import re
+import subprocess
 import sys
+import threading
 import time
 
 import intervallum
 from intervallum import IntervalSet, OutOfRange
 
 numpy = intervallum.numpy
+TOP = os.path.dirname(os.path.dirname(os.path.abspath(__file__)))
 
 TWO = {
     "union": lambda a, b: a | b,
@@ -314,77 +324,274 @@ def fuzz(count):
     print("bindings: Python: %d random calls agree with lists of flags" % calls)
 
 
-# ---- sets of Python, and what is no set
+# ---- sets of Python, beside `set`
+
+
+OPERATORS = {"__or__": "union", "__and__": "intersection", "__sub__": "difference", "__xor__": "symmetric_difference"}
+COMPARED = ("__le__", "__lt__", "__ge__", "__gt__", "__eq__", "isdisjoint", "issubset", "issuperset")
+
+
+def random_items(numbers, low):
+    """The same set as numbers, ranges, pairs and sets in any order."""
+    items = []
+    for lower, upper in runs_of(flags_of([(n, n) for n in numbers], low), low):
+        cut = random.randrange(lower, upper + 1)
+        whole = range(lower, upper + 1)
+        forms = [[(lower, cut), [cut, upper]], [(lower, upper)], [whole], [whole[::-1]], list(whole), [set(whole)]]
+        items += random.choice(forms + [[IntervalSet(whole)]])
+    random.shuffle(items)
+    return random.choice([list, tuple, iter])(items)
+
+
+def combined(kind, first, second, third):
+    """The calls that make a set. Returns how many were compared."""
+    a, b, c = kind(first), kind(second), kind(third)
+    for name, method in OPERATORS.items():
+        expected = getattr(first, name)(second)
+        assert list(getattr(a, name)(b)) == list(getattr(a, method)(second)) == sorted(expected), (first, second, name)
+    for method in ("union", "intersection", "difference"):
+        expected = getattr(first, method)(second, third)
+        made = set(getattr(a, method)(b, third)), set(getattr(a, method)(sorted(second), c))
+        assert made == (expected, expected), (first, second, third, method)
+        assert getattr(a, method)() == a
+    assert set(a.sums(b)) == {x + y for x in first for y in second}, (first, second)
+    least = -COUNT if a.bounds == "i64" else 0
+    assert set(a.differences(b)) == {x - y for x in first for y in second if x - y >= least}, (first, second)
+    assert ~~a == a and set((~a).intersection(second)) == second - first and not a & ~a, (first, second)
+    return 2 * len(OPERATORS) + 9 + 2 + 3
+
+
+def asked(kind, low, first, second):
+    """The queries. Returns how many were compared."""
+    a, b, ascending = kind(first), kind(second), sorted(first)
+    for name in COMPARED:
+        assert getattr(a, name)(b) == getattr(first, name)(second), (first, second, name)
+    assert a.overlaps(second) != first.isdisjoint(second)
+    assert len(a) == a.size == len(first) and bool(a) == bool(first)
+    assert list(a) == ascending and list(reversed(a)) == ascending[::-1]
+    runs = list(a.runs())
+    assert runs == runs_of(flags_of([(n, n) for n in first], low), low) and len(a.runs()) == len(runs)
+    assert list(reversed(a.runs())) == runs[::-1] and a.runs()[:2] == runs[:2] and a.runs()[-1:] == runs[-1:]
+    if first:
+        assert (a.min(), a.max()) == (ascending[0], ascending[-1]) and a.runs()[0] == runs[0] and runs[-1] in a.runs()
+    value = random.randrange(low - 2, low + COUNT + 2)
+    below, above = [n for n in first if n <= value], [n for n in first if n >= value]
+    assert a.previous_to(value) == max(below, default=None) and a.next_from(value) == min(above, default=None), (first, value)
+    run = a.run_at(value)
+    assert run == next((run for run in runs if run[0] <= value <= run[1]), None)
+    assert (run is not None) == (value in a) == (value in first)
+    index = random.randrange(-1, COUNT)
+    assert a.rank(value) == sum(n < value for n in first), (first, value)
+    assert a.nth(index) == (ascending[index] if 0 <= index < len(ascending) else None), (first, index)
+    assert a == eval(repr(a)) == pickle.loads(pickle.dumps(a)) == copy.deepcopy(a) == a.copy() == kind(a)
+    assert hash(a) == hash(kind(random_items(first, low))) and (a == b) == ({a: 1}.get(b) == 1)
+    return len(COMPARED) + 26
+
+
+def sets(count):
+    """At least as many comparisons with sets of Python, or as many as a minute allows."""
+    random.seed(21)
+    started, compared = time.time(), 0
+    while compared < count and time.time() - started < 60:
+        bounds, low = random.choice([("i64", LOW), ("u64", 0)])
+        three = [{n for n in range(low, low + COUNT) if random.random() < share} for share in (0.4, random.random(), 0.6)]
+        if random.random() < 0.3:
+            three[1] = {n for n in three[0] if random.random() < 0.9}
+
+        def kind(items):
+            return IntervalSet(random_items(items, low) if isinstance(items, set) else items, bounds=bounds)
+
+        compared += combined(kind, *three) + asked(kind, low, *three[:2])
+    print("bindings: Python: %d comparisons with `set` agree" % compared)
+
+
+# ---- what is no set, and what the error says
+
+
+class Number:
+    """A number that runs code when it is read."""
+
+    def __init__(self, read):
+        self.read = read
+
+    def __index__(self):
+        return self.read() or 4
 
 
 def raises(kind, call, told=""):
     try:
         call()
     except kind as error:
-        assert told in str(error), (told, str(error))
+        assert type(error) is kind and told in str(error), (told, type(error), str(error))
         return
     raise AssertionError((kind, told))
 
 
-def random_items(numbers):
-    """The same set as numbers, ranges and pairs in any order."""
-    items = []
-    for lower, upper in runs_of(flags_of([(n, n) for n in numbers], LOW), LOW):
-        cut = random.randrange(lower, upper + 1)
-        form = random.randrange(3)
-        items += [(lower, cut), [cut, upper]] if form == 0 else [range(lower, upper + 1)] if form == 1 else list(range(lower, upper + 1))
-    random.shuffle(items)
-    return items
-
-
-def sets(count):
-    """The manners of a set, beside those of `set`."""
-    random.seed(21)
-    operators = {"__or__": "union", "__and__": "intersection", "__sub__": "difference", "__xor__": "symmetric_difference"}
-    for _ in range(count):
-        first, second = ({n for n in range(LOW, LOW + COUNT) if random.random() < share} for share in (0.4, random.random()))
-        if random.random() < 0.3:
-            second = {n for n in first if random.random() < 0.9}
-        a, b = IntervalSet(random_items(first)), IntervalSet(random_items(second))
-        for name, method in operators.items():
-            expected = getattr(first, name)(second)
-            assert list(getattr(a, name)(b)) == list(getattr(a, method)(second)) == sorted(expected), (first, second, name)
-        for name in ("__le__", "__lt__", "__ge__", "__gt__", "__eq__", "isdisjoint", "issubset", "issuperset"):
-            assert getattr(a, name)(b) == getattr(first, name)(second), (first, second, name)
-        assert len(a) == a.size == len(first) and bool(a) == bool(first)
-        assert list(reversed(a)) == sorted(first, reverse=True)
-        assert list(reversed(a.runs())) == list(a.runs())[::-1] and a.runs()[:2] == list(a.runs())[:2]
-        if first:
-            assert (a.min(), a.max()) == (min(first), max(first))
-        value = random.randrange(LOW - 2, LOW + COUNT + 2)
-        below = [n for n in first if n <= value]
-        assert a.previous_to(value) == (max(below) if below else None)
-        run = a.run_at(value)
-        assert (run is not None and run[0] <= value <= run[1]) == (value in first) == (value in a)
-        assert a == eval(repr(a)) == pickle.loads(pickle.dumps(a)) == copy.deepcopy(a) == IntervalSet(a)
-        assert hash(a) == hash(IntervalSet(random_items(first)))
-    misuse()
-    print("bindings: Python: %d pairs of sets agree with `set`; misuse is told" % count)
-
-
 def misuse():
     a, unsigned = IntervalSet([(1, 5)]), IntervalSet([3], bounds="u64")
-    for wrong in ([(5,)], [()], [(1, 2, 3)], [5, (1,)]):
-        raises(TypeError, lambda: IntervalSet(wrong), "a pair has two bounds")
-    for wrong in ([("a", "b")], ["ab"], [1.5], [(1, 2.0)], [None], 5):
-        raises(TypeError, lambda: IntervalSet(wrong))
-    raises(OutOfRange, lambda: IntervalSet([(0, 2**63)]), "9223372036854775808 is no value of i64")
-    raises(OutOfRange, lambda: IntervalSet([-1], bounds="u64"), "-1 is no value of u64")
-    raises(OutOfRange, lambda: IntervalSet([-(2**63)]), "outside the range")
-    raises(ValueError, lambda: IntervalSet(bounds="i32"), "bounds is 'i64' or 'u64'")
-    for call in (lambda: a | unsigned, lambda: a & {3}, lambda: {3} - a, lambda: a ^ [3], lambda: a < {1}):
-        raises(TypeError, call)
-    for call in (lambda: 1.5 in a, lambda: a.next_from("1"), lambda: a.first_fit(2.0), lambda: a.union(5)):
-        raises(TypeError, call)
-    raises(OverflowError, lambda: len(~a), "size")
-    raises(ValueError, lambda: IntervalSet().min(), "empty")
-    assert a != unsigned and a != [1, 2, 3, 4, 5] and 2**70 not in a and a.next_from(-(2**70)) == 1
-    assert IntervalSet([(9, 4)]) == IntervalSet() and IntervalSet([range(9, 2, -3)]) == IntervalSet([9, 6, 3])
+    for wrong in ([(5,)], [()], [(1, 2, 3)], [5, (1,)], [[1, 2], []]):
+        raises(TypeError, lambda: IntervalSet(wrong), "a pair has two bounds: ")
+    for wrong, kind in (("a", "str"), (1.5, "float"), (None, "NoneType")):
+        told = "'%s' object cannot be interpreted as an integer" % kind
+        calls = [lambda: IntervalSet([wrong]), lambda: IntervalSet([(1, wrong)]), lambda: IntervalSet([[wrong, 1], 3])]
+        calls += [lambda: IntervalSet([{wrong}])]
+        calls += [lambda: wrong in a, lambda: a.next_from(wrong), lambda: a.previous_to(wrong), lambda: a.run_at(wrong)]
+        calls += [lambda: a.rank(wrong), lambda: a.nth(wrong), lambda: a.first_fit(wrong), lambda: a.union([wrong])]
+        for call in calls:
+            raises(TypeError, call, told)
+    for call in (lambda: IntervalSet(5), lambda: a.union(5), lambda: a.issubset(5), lambda: a.sums(5)):
+        raises(TypeError, call, "'int' object is not iterable")
+    signed = " is outside the range of i64, from -9223372036854775807 to 9223372036854775807"
+    for outside in (2**63, -(2**63), 2**64, -(2**70)):
+        wide = min(0, outside), max(0, outside)
+        for wrong in ([outside], [(0, 1), wide], [5, [outside, outside]], range(outside, outside + 1)):
+            raises(OutOfRange, lambda: IntervalSet(wrong), str(outside) + signed)
+        raises(OutOfRange, lambda: a.union([outside]), str(outside) + signed)
+        assert outside not in a and a.run_at(outside) is None and a.rank(outside) == (5 if outside > 0 else 0)
+        assert a.next_from(outside) == (None if outside > 0 else 1) and a.previous_to(outside) == (5 if outside > 0 else None)
+    for outside in (-1, 2**64 - 1, 2**64):
+        told = "%d is outside the range of u64, from 0 to 18446744073709551614" % outside
+        raises(OutOfRange, lambda: IntervalSet([outside], bounds="u64"), told)
+        assert outside not in unsigned
+    for wrong in ("i32", 64, None, []):
+        raises(ValueError, lambda: IntervalSet(bounds=wrong), "bounds is 'i64' or 'u64', not %r" % (wrong,))
+    big = IntervalSet([2**62])
+    raises(intervallum.ProductOutOfRange, lambda: big.products([2]), "a product" + signed)
+    signs = {"|": operator.or_, "&": operator.and_, "-": operator.sub, "^": operator.xor}
+    for sign, call in signs.items():
+        for two in ((a, unsigned), (a, {3}), ({3}, a), (a, [3]), ([3], a)):
+            raises(TypeError, lambda: call(*two), "unsupported operand type(s) for %s: " % sign)
+    raises(TypeError, lambda: a < {1}, "'<' not supported between instances of 'IntervalSet' and 'set'")
+    raises(OverflowError, lambda: len(~a), "the set has more members than len can return: use size")
+    for call in (IntervalSet().min, IntervalSet().max):
+        raises(ValueError, call, "the set is empty")
+    raises(IndexError, lambda: a.runs()[1])
+    raises(TypeError, lambda: hash(a.runs()), "unhashable")
+    # a code of the library, which no small set brings about
+    raises(intervallum.OutOfMemory, lambda: a._type.checked(-2), "an allocation failed")
+    assert a != unsigned and a != [1, 2, 3, 4, 5] and a != {1, 2, 3, 4, 5}
+    assert a.nth(-1) is a.first_fit(-1) is a.first_fit(0) is None
+    assert IntervalSet([(9, 4)]) == IntervalSet() != IntervalSet([0])
+    assert IntervalSet([range(9, 2, -3)]) == IntervalSet([9, 6, 3]) and IntervalSet(range(10**15, 0, -1)).runs() == [(1, 10**15)]
+    assert IntervalSet([2**64 - 2], bounds="u64").max() == 2**64 - 2
+    # the ends of what the library takes: no number is cut to its type, and no list is without an address
+    assert IntervalSet([2**63 - 1]).next_from(2**63 - 1) == IntervalSet([2**63 - 1]).previous_to(2**70) == 2**63 - 1
+    whole = ~IntervalSet()
+    assert whole.first_fit(-1) is whole.first_fit(2**64) is None and whole.first_fit(2**64 - 1) == (-(2**63) + 1, 2**63 - 1)
+    many = IntervalSet(range(0, 1000, 2))
+    assert intervallum._pairs(a._type, [])[1] and IntervalSet()._at and (many - many)._at
+    # a list of bounds that changes while it is read has no more bounds than the library is told of
+    changing = [[Number(lambda: changing[1].clear()), 5], [7, 8]]
+    raises(TypeError, lambda: IntervalSet(changing), "changed while it was read")
+    # nothing changes a set
+    for name in ("size", "bounds", "other"):
+        raises(AttributeError, lambda: setattr(a, name, 1))
+    a.__init__([7])
+    assert a.runs() == [(1, 5)] and a is a.copy() is copy.copy(a)
+    without_library()
+    print("bindings: Python: misuse is told")
+
+
+def without_library():
+    """The errors of an import, which name what is missing and the command that makes it."""
+    wrong = {"/no/such/file.so": "there is no shared library /no/such/file.so: ", __file__: "%s cannot be loaded (" % __file__}
+    for path, told in wrong.items():
+        ended = imported_with(path)
+        assert "ImportError: " in ended and told in ended and "`pip install ./bindings/python`" in ended, ended
+    # a library without these calls
+    ended = imported_with(ctypes.util.find_library("m"))
+    assert "is none of this version" in ended and "ivl_normalize_i64" in ended, ended
+
+
+def imported_with(path):
+    environment = {**os.environ, "INTERVALLUM_LIBRARY": path}
+    return subprocess.run([sys.executable, "-c", "import intervallum"], env=environment, capture_output=True, text=True).stderr
+
+
+def header():
+    """The types that the module gives to each call are those of the header."""
+    pointer, sizes = ctypes.c_void_p, {"size_t": ctypes.c_size_t, "bool": ctypes.c_bool}
+    sizes.update({"int64_t": ctypes.c_int64, "uint64_t": ctypes.c_uint64})
+    page = open(os.path.join(TOP, "bindings/c/intervallum.h"), encoding="utf-8").read()
+    text = re.sub(r"/\*.*?\*/", "", page, flags=re.S)
+    found = re.findall(r"(\w+) ivl_(\w+)_([iu]64)\(([^)]*)\);", text)
+    for answer, name, bounds, arguments in found:
+        call = getattr(intervallum._types[bounds], name)
+        expected = [pointer if "*" in one else sizes[one.split()[0]] for one in arguments.split(",")]
+        assert call.restype is sizes[answer] and list(call.argtypes) == expected, (name, bounds, call.argtypes)
+    assert len(found) == 2 * len(intervallum._SHAPES)
+    print("bindings: Python: the types of %d calls are those of the header" % len(found))
+
+
+# ---- threads and processes
+
+
+def threads(count):
+    """Two threads over the same sets, which a call of the library reads while the other thread runs."""
+    pairs = [(10 * i, 10 * i + 5) for i in range(1000)]
+    shared, other = IntervalSet(pairs), IntervalSet([(lower + 3, upper + 3) for lower, upper in pairs])
+    wrong = []
+
+    def answers():
+        return shared | other, shared & other, shared - other, shared ^ other, ~shared, shared.size, hash(shared), list(shared.runs())
+
+    told = answers()
+
+    def work(seed):
+        draw = random.Random(seed)
+        for _ in range(count):
+            value = draw.randrange(10000)
+            rank = value // 10 * 6 + min(value % 10, 6)
+            if answers() != told or (value in shared) != (value % 10 <= 5) or shared.rank(value) != rank:
+                wrong.append(value)
+
+    working = [threading.Thread(target=work, args=(seed,)) for seed in range(2)]
+    for thread in working:
+        thread.start()
+    for thread in working:
+        thread.join()
+    assert not wrong, wrong
+    print("bindings: Python: two threads had %d right answers each" % (10 * count))
+
+
+def doubled(a):
+    return a.sums(a), a.bounds, hash(a)
+
+
+def processes():
+    """Sets that go to other processes and come back, in each form of pickle."""
+    given = [IntervalSet(), IntervalSet([(1, 5), 9]), ~IntervalSet([3]), IntervalSet([2**64 - 2, (0, 7)], bounds="u64")]
+    for protocol in range(pickle.HIGHEST_PROTOCOL + 1):
+        assert pickle.loads(pickle.dumps(given, protocol)) == given
+    with multiprocessing.get_context("spawn").Pool(2) as pool:
+        for a, (made, bounds, told) in zip(given, pool.map(doubled, given)):
+            assert made == a.sums(a) and bounds == a.bounds
+    print("bindings: Python: sets come back from another process")
+
+
+# ---- the examples of the module and of the pages
+
+
+def examples(*pages):
+    failed, tried = doctest.testmod(intervallum)
+    parser, run = doctest.DocTestParser(), doctest.DocTestRunner()
+    for page in pages:
+        text = open(page, encoding="utf-8").read()
+        blocks = re.findall(r"(?ms)^```python\n(.*?)^```$", text)
+        inline = [one for one in re.findall(r"`([^`\n]*)`", text) if one.startswith("IntervalSet([")]
+        assert blocks or inline, page
+        for block in blocks:
+            # a block without prompts is a program
+            if not block.startswith(">>>"):
+                exec(block, {})
+            run.run(parser.get_doctest(block, {}, page, page, 0))
+        for one in inline:
+            eval(one, {"IntervalSet": IntervalSet})
+    failed += run.failures
+    tried += run.tries
+    assert tried > 20 and not failed
+    assert intervallum.__version__ == open(os.path.join(TOP, "VERSION")).read().strip()
+    print("bindings: Python: %d examples in the docs pass" % tried)
 
 
 # ---- arrays of numpy
@@ -402,11 +609,16 @@ def arrays():
         assert IntervalSet(numpy.asfortranarray(array), bounds=bounds) == made
         assert IntervalSet(array[:0], bounds=bounds).array().shape == (0, 2)
         assert IntervalSet(array.astype(numpy.int32), bounds=bounds) == made
+        # nor do one that is read from its end, one of another order of bytes, and one that begins at any byte
+        unaligned = numpy.frombuffer(b"x" + array.tobytes(), dtype=kind, offset=1).reshape(-1, 2)
+        assert not unaligned.flags.aligned
+        for other in (array[::-1], array.astype(array.dtype.newbyteorder(">")), unaligned):
+            assert IntervalSet(other, bounds=bounds) == made
         masked = numpy.ma.masked_array(array, mask=[[0, 0], [1, 1], [0, 0]])
         for wrong in (array[:, :1], array[0], array.astype(float), masked):
             raises(TypeError, lambda: IntervalSet(wrong, bounds=bounds))
-    raises(OutOfRange, lambda: IntervalSet(numpy.array([[0, 2**63 + 5]], dtype=numpy.uint64)), "9223372036854775813")
-    raises(OutOfRange, lambda: IntervalSet(numpy.array([[-1, 5]]), bounds="u64"), "-1 is no value of u64")
+    raises(OutOfRange, lambda: IntervalSet(numpy.array([[0, 2**63 + 5]], dtype=numpy.uint64)), "9223372036854775813 is outside the range of i64")
+    raises(OutOfRange, lambda: IntervalSet(numpy.array([[-1, 5]]), bounds="u64"), "-1 is outside the range of u64")
     # a value that wraps in its own type is no member
     assert numpy.uint64(2**63 + 5) not in IntervalSet([(-(2**63) + 5, 0)]) and numpy.int32(3) in IntervalSet([3])
     # no array outlives its memory, and none can be written, also if one asks for it
@@ -415,21 +627,26 @@ def arrays():
     assert view.tolist() == [[1, 3], [5, 9]] and not view.flags.writeable
     raises(ValueError, lambda: setattr(view.flags, "writeable", True))
     assert made.runs() == [(1, 3), (5, 9)]
-    print("bindings: Python: arrays of numpy; a call took %s microseconds more than its library call" % overhead())
+    print("bindings: Python: arrays of numpy")
 
 
-def overhead():
-    """The least time beside the library call, of sets made of an array and of unions, at 10 runs."""
-    pairs = numpy.array([[10 * i, 10 * i + 5] for i in range(10)], dtype=numpy.int64)
-    first, second = IntervalSet(pairs), IntervalSet(pairs + 3)
+# ---- how long calls take, which is printed and not judged
+
+
+def speed():
+    pairs = [(10 * i, 10 * i + 5) for i in range(10**6)]
+    started = time.perf_counter()
+    runs = list(IntervalSet(pairs).runs())
+    took = time.perf_counter() - started
+    assert runs == pairs
+    first, second = IntervalSet(pairs[:10]), IntervalSet([(lower + 3, upper + 3) for lower, upper in pairs[:10]])
     calls = intervallum._types["i64"]
     room = array_of(calls, [(0, 0)] * 20)
-    one = (first._at(), 10)
-    two = one + (second._at(), 10)
-    out = (ctypes.addressof(room), 20)
-    made = least_time(lambda: IntervalSet(pairs)) - least_time(lambda: calls.normalize(*one, *out))
-    united = least_time(lambda: first | second) - least_time(lambda: calls.union(*two, *out))
-    return "%.1f and %.1f" % (made, united)
+    given = first._at, 10, second._at, 10, ctypes.addressof(room), 20
+    united, called = least_time(lambda: first | second), least_time(lambda: calls.union(*given))
+    made = least_time(lambda: IntervalSet(pairs[:10]))
+    print("bindings: Python: a list of 1,000,000 pairs to a set and back in %.2f s; of 10 to a set in %.1f microseconds;" % (took, made))
+    print("bindings: Python: a union of 10 runs with 10 in %.1f microseconds, the library's call in %.1f" % (united, called))
 
 
 def least_time(call):
@@ -443,11 +660,9 @@ def least_time(call):
 
 
 if __name__ == "__main__":
-    if sys.argv[1] == "facts":
-        facts(sys.argv[2])
-    elif sys.argv[1] == "arrays":
-        arrays()
-    elif sys.argv[1] == "sets":
-        sets(int(sys.argv[2]))
-    else:
-        fuzz(int(sys.argv[2]))
+    calls = {
+        "facts": facts, "sets": sets, "fuzz": fuzz, "threads": threads, "arrays": arrays, "misuse": misuse,
+        "processes": processes, "examples": examples, "speed": speed,
+        "header": header,
+    }
+    calls[sys.argv[1]](*(int(word) if word.isdigit() else word for word in sys.argv[2:]))

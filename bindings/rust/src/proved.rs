@@ -13,6 +13,7 @@
 //! | [`ivl_within`] | sums and differences that are cut to a window |
 //! | [`ivl_store`] | domains of variables, narrowed by constraints `x + y = z` |
 //! | [`ivl_expr`] | expressions over sets, for range analysis |
+//! | [`ivl_lists`] | sets as lists of pairs in the caller's memory, which the library for C has |
 //! | `ivl_json` | JSON, with the feature `json` of the package `intervallum-proved-serde` |
 //!
 //! ```
@@ -44,6 +45,9 @@ pub mod ivl_expr;
 pub mod ivl_interval;
 #[cfg(feature = "json")]
 pub mod ivl_json;
+// the source imports two traits for whose methods Rust does not ask
+#[allow(unused_imports)]
+pub mod ivl_lists;
 pub mod ivl_store;
 pub mod ivl_within;
 

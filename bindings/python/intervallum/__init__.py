@@ -1,0 +1,638 @@
+"""Sets of whole numbers, by `ctypes` over the calls of a library in which each answer is proved.
+
+A set is an immutable set of its members, as `frozenset` is, and keeps them as sorted runs.
+
+>>> free = IntervalSet([(8, 11), (12, 13)])
+>>> free
+IntervalSet([(8, 13)])
+>>> (free - IntervalSet([(9, 9)])).runs()
+Runs([(8, 8), (10, 13)])
+>>> 9 in free, len(free), free == IntervalSet([range(8, 14)]), list(free)[:3]
+(True, 6, True, [8, 9, 10])
+>>> IntervalSet([(-2**63, 0)])
+Traceback (most recent call last):
+intervallum.OutOfRange: -9223372036854775808 is outside the range of i64, from -9223372036854775807 to 9223372036854775807
+
+The shared library is `libintervallum.so` beside this file, where `pip install` puts it, or the path in the environment variable
+`INTERVALLUM_LIBRARY`.
+"""
+
+from __future__ import annotations
+
+import bisect
+import collections.abc
+import ctypes
+import importlib
+import itertools
+import operator
+import os
+import sys
+from array import array as Numbers
+from typing import Any, Callable, Iterable, Iterator, Literal, Sequence, SupportsIndex, Union, overload
+
+__version__ = "1.0.0"
+__all__ = ["IntervalSet", "OutOfMemory", "OutOfRange", "ProductOutOfRange", "Runs"]
+
+
+def _optional(name: str) -> Any:
+    try:
+        return importlib.import_module(name)
+    except ImportError:
+        return None
+
+
+numpy = _optional("numpy")
+
+Bounds = Literal["i64", "u64"]
+# a number, both bounds of a pair, or the members of a range or a set
+Item = Union[SupportsIndex, Sequence[SupportsIndex], range, collections.abc.Set[SupportsIndex]]
+
+
+class OutOfRange(ValueError):
+    """A member is outside the range: -2**63 of i64, 2**64 - 1 of u64, or no value of the type."""
+
+
+class ProductOutOfRange(OutOfRange):
+    """A product of members is outside the range."""
+
+
+class OutOfMemory(MemoryError):
+    """An allocation failed."""
+
+
+_HOW = (
+    "make one by `pip install ./bindings/python` in the repository, which needs cargo, or the Rattle kit and a C compiler; "
+    "or name one in the environment variable INTERVALLUM_LIBRARY"
+)
+
+
+def _load() -> ctypes.CDLL:
+    beside = os.path.join(os.path.dirname(os.path.abspath(__file__)), "libintervallum.so")
+    path = os.environ.get("INTERVALLUM_LIBRARY", beside)
+    try:
+        return ctypes.CDLL(path)
+    except OSError as error:
+        if not os.path.exists(path):
+            raise ImportError("there is no shared library %s: %s" % (path, _HOW)) from None
+        raise ImportError("the shared library %s cannot be loaded (%s): %s" % (path, error, _HOW)) from None
+
+
+_ONE: list[Any] = [ctypes.c_void_p, ctypes.c_size_t]  # a list of pairs, or the buffer of an answer
+_SHAPES: dict[str, list[Any]] = {
+    "normalize": _ONE * 2, "complement": _ONE * 2, "union": _ONE * 3, "intersection": _ONE * 3, "difference": _ONE * 3,
+    "symmetric_difference": _ONE * 3, "sums": _ONE * 3, "differences": _ONE * 3, "products": _ONE * 3,
+    "is_subset": _ONE * 2, "overlap": _ONE * 2, "equal": _ONE * 2, "size": _ONE + [ctypes.c_void_p],
+    "contains": _ONE + ["number"], "contains_sorted": _ONE + ["number"],
+    "next_from": _ONE + ["number", ctypes.c_void_p], "next_from_sorted": _ONE + ["number", ctypes.c_void_p],
+    "first_fit": _ONE + [ctypes.c_uint64, ctypes.c_void_p],
+}
+_Call = Callable[..., int]
+
+
+class _Bounds:
+    """The calls of one type of bounds."""
+
+    normalize: _Call
+    complement: _Call
+    union: _Call
+    intersection: _Call
+    difference: _Call
+    symmetric_difference: _Call
+    sums: _Call
+    differences: _Call
+    products: _Call
+    is_subset: _Call
+    overlap: _Call
+    equal: _Call
+    size: _Call
+    contains: _Call
+    contains_sorted: _Call
+    next_from: _Call
+    next_from_sorted: _Call
+    first_fit: _Call
+
+    def __init__(self, library: ctypes.CDLL, name: Bounds, number: type[Any]) -> None:
+        class Run(ctypes.Structure):
+            _fields_ = [("lower", number), ("upper", number)]
+
+        self.name, self.number, self.run = name, number, Run
+        self.is_signed = name == "i64"
+        self.limits = (-(2**63), 2**63 - 1) if self.is_signed else (0, 2**64 - 1)
+        self.range = (-(2**63) + 1, 2**63 - 1) if self.is_signed else (0, 2**64 - 2)
+        self.code: Literal["q", "Q"] = "q" if self.is_signed else "Q"
+        self.one_pair = Numbers(self.code, (0, 0))
+        for call, shape in _SHAPES.items():
+            try:
+                found = getattr(library, "ivl_%s_%s" % (call, name))
+            except AttributeError as error:
+                raise ImportError("the shared library %s is none of this version: %s" % (library._name, error)) from error
+            found.argtypes = [number if kind == "number" else kind for kind in shape]
+            found.restype = ctypes.c_bool if call.startswith(("contains", "next_from")) else ctypes.c_int64
+            setattr(self, call, found)
+
+    def holds(self, value: int) -> bool:
+        """Returns whether the number is a value of the type, even one outside the range of sets."""
+        low, high = self.limits
+        return low <= value <= high
+
+    def outside(self, value: int) -> OutOfRange:
+        return OutOfRange("%d is outside the range of %s, from %d to %d" % (value, self.name, *self.range))
+
+    def checked(self, told: int) -> int:
+        if told == -1:
+            # of all values of the type, one is outside the range
+            raise self.outside(self.limits[0] if self.is_signed else self.limits[1])
+        if told == -3:
+            raise ProductOutOfRange("a product is outside the range of %s, from %d to %d" % (self.name, *self.range))
+        if told < 0:
+            raise OutOfMemory("an allocation failed")
+        return told
+
+
+_library = _load()
+_types = {"i64": _Bounds(_library, "i64", ctypes.c_int64), "u64": _Bounds(_library, "u64", ctypes.c_uint64)}
+
+
+class Runs(collections.abc.Sequence[tuple[int, int]]):
+    """The runs of a set as pairs of bounds, ascending. It equals any sequence of the same pairs.
+
+    A pair is made when it is asked for.
+
+    >>> runs = IntervalSet([(5, 6), (1, 2)]).runs()
+    >>> len(runs), runs[0], runs[-1], list(reversed(runs)), runs == [(1, 2), (5, 6)]
+    (2, (1, 2), (5, 6), [(5, 6), (1, 2)], True)
+    """
+
+    __slots__ = ("_flat",)
+
+    def __init__(self, flat: Numbers[int]) -> None:
+        self._flat = flat
+
+    def __len__(self) -> int:
+        return len(self._flat) // 2
+
+    @overload
+    def __getitem__(self, at: SupportsIndex) -> tuple[int, int]: ...
+
+    @overload
+    def __getitem__(self, at: slice) -> list[tuple[int, int]]: ...
+
+    def __getitem__(self, at: Any) -> Any:
+        places = range(len(self))[at]
+        if isinstance(places, range):
+            return [(self._flat[2 * place], self._flat[2 * place + 1]) for place in places]
+        return self._flat[2 * places], self._flat[2 * places + 1]
+
+    def __iter__(self) -> Iterator[tuple[int, int]]:
+        return zip(self._flat[::2], self._flat[1::2])
+
+    def __reversed__(self) -> Iterator[tuple[int, int]]:
+        return zip(self._flat[-2::-2], self._flat[::-2])
+
+    def __eq__(self, other: object) -> bool:
+        if not isinstance(other, collections.abc.Sequence) or isinstance(other, (str, bytes)):
+            return NotImplemented
+        return len(self) == len(other) and all(mine == tuple(theirs) for mine, theirs in zip(self, other))
+
+    def __repr__(self) -> str:
+        return "Runs(%r)" % list(self)
+
+
+class IntervalSet(collections.abc.Set[int]):
+    """A set of whole numbers, made of numbers, ranges, pairs of bounds and sets, in any order.
+
+    A pair has two bounds, both members; a crossed pair adds nothing. `bounds` is "i64" or "u64".
+
+    >>> IntervalSet([(5, 6), (1, 2), (9, 4)]) | IntervalSet([3])
+    IntervalSet([(1, 3), (5, 6)])
+    >>> IntervalSet([(1, 5)]) & IntervalSet([range(4, 10)])
+    IntervalSet([(4, 5)])
+    >>> IntervalSet([(1, 5)]) ^ IntervalSet([(4, 9)])
+    IntervalSet([(1, 3), (6, 9)])
+    >>> ~IntervalSet([(0, 2**64 - 2)], bounds="u64")
+    IntervalSet([], bounds='u64')
+    >>> list(IntervalSet([(1, 2), (5, 6)])), len(IntervalSet([(1, 2), (5, 6)]))
+    ([1, 2, 5, 6], 4)
+    >>> (~IntervalSet()).size == 2**64 - 1
+    True
+    >>> IntervalSet([(1, 2, 3)])
+    Traceback (most recent call last):
+    TypeError: a pair has two bounds: (1, 2, 3)
+    """
+
+    # the bounds of the runs, or one pair that is no run where there is none, so that there is an address for the library
+    __slots__ = ("_type", "_list", "_count", "_at")
+    _type: _Bounds
+    _list: Numbers[int]
+    _count: int
+    _at: int
+
+    # a set is made here and not in __init__, which could be called again and would change it
+    def __new__(cls, items: Iterable[Item] = (), bounds: Bounds = "i64") -> IntervalSet:
+        if not isinstance(bounds, str) or bounds not in _types:
+            raise ValueError("bounds is 'i64' or 'u64', not %r" % (bounds,))
+        kind = _types[bounds]
+        held, address, count = _pairs(kind, items)
+        made = cls._of(kind, kind.normalize, address, count, room=count)
+        del held  # the list stays until the call has read it
+        return made
+
+    @classmethod
+    def _of(cls, bounds: _Bounds, call: _Call, *lists: int, room: int) -> IntervalSet:
+        while True:
+            out = bounds.one_pair * max(room, 1)
+            count = bounds.checked(call(*lists, out.buffer_info()[0], room))
+            if count <= room:
+                break
+            room = count
+        del out[2 * max(count, 1):]
+        made = super().__new__(cls)
+        made._type, made._list, made._count, made._at = bounds, out, count, out.buffer_info()[0]
+        return made
+
+    def _is_like(self, other: object) -> bool:
+        return isinstance(other, IntervalSet) and other._type is self._type
+
+    def _taken(self, other: Iterable[Item]) -> IntervalSet:
+        """The set of what a method takes: a set, or an iterable of numbers, ranges, pairs and sets."""
+        if isinstance(other, IntervalSet) and other._type is self._type:
+            return other
+        return IntervalSet(other, bounds=self._type.name)
+
+    def _with(self, call: _Call, other: IntervalSet) -> IntervalSet:
+        lists = self._at, self._count, other._at, other._count
+        return self._of(self._type, call, *lists, room=self._count + other._count)
+
+    def _merged(self, call: _Call, others: Iterable[Iterable[Item]]) -> IntervalSet:
+        made = self
+        for other in others:
+            made = made._with(call, self._taken(other))
+        return made
+
+    # an operator takes a set of the same bounds alone: what a method takes besides is no set
+
+    def __or__(self, other: IntervalSet) -> IntervalSet:  # type: ignore[override]
+        """Returns the members of either set."""
+        if not self._is_like(other):
+            return NotImplemented
+        return self._with(self._type.union, other)
+
+    def __and__(self, other: IntervalSet) -> IntervalSet:  # type: ignore[override]
+        """Returns the members of both sets."""
+        if not self._is_like(other):
+            return NotImplemented
+        return self._with(self._type.intersection, other)
+
+    def __sub__(self, other: IntervalSet) -> IntervalSet:  # type: ignore[override]
+        """Returns the members that are not in the other set."""
+        if not self._is_like(other):
+            return NotImplemented
+        return self._with(self._type.difference, other)
+
+    def __xor__(self, other: IntervalSet) -> IntervalSet:  # type: ignore[override]
+        """Returns the members of exactly one set."""
+        if not self._is_like(other):
+            return NotImplemented
+        return self._with(self._type.symmetric_difference, other)
+
+    __ror__, __rand__, __rxor__ = __or__, __and__, __xor__
+
+    def __rsub__(self, other: object) -> Any:
+        return NotImplemented
+
+    def union(self, *others: Iterable[Item]) -> IntervalSet:
+        """Returns the members of any of the sets.
+
+        >>> IntervalSet([(1, 2)]).union([5], range(7, 9))
+        IntervalSet([(1, 2), (5, 5), (7, 8)])
+        """
+        return self._merged(self._type.union, others)
+
+    def intersection(self, *others: Iterable[Item]) -> IntervalSet:
+        """Returns the members of all of the sets."""
+        return self._merged(self._type.intersection, others)
+
+    def difference(self, *others: Iterable[Item]) -> IntervalSet:
+        """Returns the members that are in none of the other sets."""
+        return self._merged(self._type.difference, others)
+
+    def symmetric_difference(self, other: Iterable[Item]) -> IntervalSet:
+        """Returns the members of exactly one set."""
+        return self._merged(self._type.symmetric_difference, [other])
+
+    def sums(self, other: Iterable[Item]) -> IntervalSet:
+        """Returns the sums of a member of each set that are in the range.
+
+        >>> IntervalSet([(1, 2), (9, 9)]).sums(IntervalSet([(10, 10)]))
+        IntervalSet([(11, 12), (19, 19)])
+        """
+        return self._with(self._type.sums, self._taken(other))
+
+    def differences(self, other: Iterable[Item]) -> IntervalSet:
+        """Returns the differences of a member of this set and one of the other that are in the range.
+
+        >>> IntervalSet([(0, 5)], bounds="u64").differences(IntervalSet([(3, 3)], bounds="u64"))
+        IntervalSet([(0, 2)], bounds='u64')
+        """
+        return self._with(self._type.differences, self._taken(other))
+
+    def products(self, other: Iterable[Item]) -> IntervalSet:
+        """Returns, for each pair of runs, the numbers from their least to their greatest product.
+
+        >>> IntervalSet([(1, 2)]).products(IntervalSet([(10, 10)]))
+        IntervalSet([(10, 20)])
+        >>> IntervalSet([3], bounds="u64").products(IntervalSet([2**63], bounds="u64"))
+        Traceback (most recent call last):
+        intervallum.ProductOutOfRange: a product is outside the range of u64, from 0 to 18446744073709551614
+        """
+        return self._with(self._type.products, self._taken(other))
+
+    def __invert__(self) -> IntervalSet:
+        """Returns the complement within the range."""
+        return self._of(self._type, self._type.complement, self._at, self._count, room=self._count + 1)
+
+    def __contains__(self, value: object) -> bool:
+        number = operator.index(value)  # type: ignore[arg-type]
+        return self._type.holds(number) and bool(self._type.contains_sorted(self._at, self._count, number))
+
+    def __eq__(self, other: object) -> bool:
+        # two sets with the same members have the same list of runs
+        if isinstance(other, IntervalSet) and other._type is self._type:
+            return self._count == other._count and self._list == other._list
+        return NotImplemented
+
+    def __hash__(self) -> int:
+        return hash((self._type.name, self._count, self._list.tobytes()))
+
+    def __le__(self, other: IntervalSet) -> bool:  # type: ignore[override]
+        """Returns whether each member is in the other set."""
+        if not self._is_like(other):
+            return NotImplemented
+        return self._is_within(other)
+
+    def __lt__(self, other: IntervalSet) -> bool:  # type: ignore[override]
+        """Returns whether each member is in the other set, which has more."""
+        if not self._is_like(other):
+            return NotImplemented
+        return self._is_within(other) and self != other
+
+    def __ge__(self, other: IntervalSet) -> bool:  # type: ignore[override]
+        """Returns whether each member of the other set is in this one."""
+        if not self._is_like(other):
+            return NotImplemented
+        return other._is_within(self)
+
+    def __gt__(self, other: IntervalSet) -> bool:  # type: ignore[override]
+        """Returns whether each member of the other set is in this one, which has more."""
+        if not self._is_like(other):
+            return NotImplemented
+        return other._is_within(self) and self != other
+
+    def _is_within(self, other: IntervalSet) -> bool:
+        return bool(self._type.checked(self._type.is_subset(self._at, self._count, other._at, other._count)))
+
+    def issubset(self, other: Iterable[Item]) -> bool:
+        """Returns whether each member is in the other set.
+
+        >>> IntervalSet([(1, 2)]).issubset(IntervalSet([(0, 5)])), IntervalSet([(1, 2)]).issubset(range(2))
+        (True, False)
+        """
+        return self._is_within(self._taken(other))
+
+    def issuperset(self, other: Iterable[Item]) -> bool:
+        """Returns whether each member of the other set is in this one."""
+        return self._taken(other)._is_within(self)
+
+    def overlaps(self, other: Iterable[Item]) -> bool:
+        """Returns whether some number is in both sets.
+
+        >>> IntervalSet([(1, 2)]).overlaps(IntervalSet([(3, 5)]))
+        False
+        """
+        taken = self._taken(other)
+        return bool(self._type.checked(self._type.overlap(self._at, self._count, taken._at, taken._count)))
+
+    def isdisjoint(self, other: Iterable[Item]) -> bool:
+        """Returns whether no number is in both sets."""
+        return not self.overlaps(other)
+
+    def next_from(self, value: SupportsIndex) -> int | None:
+        """Returns the least member that is at least the value, or None.
+
+        >>> IntervalSet([(1, 2), (5, 6)]).next_from(3), IntervalSet([(1, 2)]).next_from(3)
+        (5, None)
+        """
+        number = operator.index(value)
+        low, high = self._type.limits
+        if number > high:
+            return None
+        found = self._type.number()
+        is_there = self._type.next_from_sorted(self._at, self._count, max(number, low), ctypes.addressof(found))
+        least: int = found.value
+        return least if is_there else None
+
+    def _upto(self, number: int) -> int:
+        """How many runs start at the number or below."""
+        flat = self._list
+        return bisect.bisect_right(range(self._count), number, key=lambda at: flat[2 * at])
+
+    def previous_to(self, value: SupportsIndex) -> int | None:
+        """Returns the greatest member that is at most the value, or None.
+
+        >>> IntervalSet([(1, 2), (5, 6)]).previous_to(4), IntervalSet([(1, 2)]).previous_to(0)
+        (2, None)
+        """
+        number = operator.index(value)
+        at = self._upto(number)
+        return min(self._list[2 * at - 1], number) if at else None
+
+    def run_at(self, value: SupportsIndex) -> tuple[int, int] | None:
+        """Returns the run that holds the value as a pair, or None.
+
+        >>> IntervalSet([(1, 2), (5, 6)]).run_at(6), IntervalSet([(1, 2)]).run_at(3)
+        ((5, 6), None)
+        """
+        number = operator.index(value)
+        at = self._upto(number)
+        if not at or self._list[2 * at - 1] < number:
+            return None
+        return self._list[2 * at - 2], self._list[2 * at - 1]
+
+    def rank(self, value: SupportsIndex) -> int:
+        """Returns the number of members below the value. Linear in the runs below it.
+
+        >>> IntervalSet([(1, 2), (5, 6)]).rank(6), IntervalSet([(1, 2)]).rank(0)
+        (3, 0)
+        """
+        number = operator.index(value)
+        at = self._upto(number)
+        if not at:
+            return 0
+        # what is not below the value is in the last run that starts there or below, or nowhere
+        return self._size_of(at) - max(self._list[2 * at - 1] - number + 1, 0)
+
+    def nth(self, index: SupportsIndex) -> int | None:
+        """Returns the member with exactly `index` members below it, or None. Linear in the runs up to it.
+
+        >>> IntervalSet([(1, 2), (5, 6)]).nth(2), IntervalSet([(1, 2)]).nth(2)
+        (5, None)
+        """
+        left = operator.index(index)
+        if left < 0:
+            return None
+        for lower, upper in self.runs():
+            if left <= upper - lower:
+                return lower + left
+            left -= upper - lower + 1
+        return None
+
+    def first_fit(self, count: SupportsIndex) -> tuple[int, int] | None:
+        """Returns the lowest `count` consecutive members as a pair, or None.
+
+        >>> IntervalSet([(1, 2), (5, 9)]).first_fit(3), IntervalSet([(1, 2)]).first_fit(3)
+        ((5, 7), None)
+        """
+        number = operator.index(count)
+        if not 0 < number < 2**64:
+            return None
+        found = self._type.run()
+        told = self._type.checked(self._type.first_fit(self._at, self._count, number, ctypes.addressof(found)))
+        return (found.lower, found.upper) if told else None
+
+    def min(self) -> int:
+        """Returns the least member. `min(s)` is the same, but looks at each member.
+
+        >>> IntervalSet([(5, 6), (1, 2)]).min(), IntervalSet([(5, 6), (1, 2)]).max()
+        (1, 6)
+        """
+        return self._end(0)
+
+    def max(self) -> int:
+        """Returns the greatest member."""
+        return self._end(-1)
+
+    def _end(self, at: int) -> int:
+        if not self._count:
+            raise ValueError("the set is empty")
+        return self._list[at]
+
+    @property
+    def size(self) -> int:
+        """The number of members. `len` is the same, but fails above `sys.maxsize`."""
+        return self._size_of(self._count)
+
+    def _size_of(self, runs: int) -> int:
+        """How many members the first runs have."""
+        return sum(self._list[1:2 * runs:2]) - sum(self._list[:2 * runs:2]) + runs
+
+    @property
+    def bounds(self) -> Bounds:
+        """The type of the bounds: "i64" or "u64"."""
+        return self._type.name
+
+    def __len__(self) -> int:
+        size = self.size
+        if size > sys.maxsize:
+            raise OverflowError("the set has more members than len can return: use size")
+        return size
+
+    def __bool__(self) -> bool:
+        return self._count > 0
+
+    def __iter__(self) -> Iterator[int]:
+        """Yields the members, ascending."""
+        return itertools.chain.from_iterable(range(lower, upper + 1) for lower, upper in self.runs())
+
+    def __reversed__(self) -> Iterator[int]:
+        """Yields the members, descending."""
+        return itertools.chain.from_iterable(range(upper, lower - 1, -1) for lower, upper in reversed(self.runs()))
+
+    def runs(self) -> Runs:
+        """Returns the runs as a sequence of pairs, ascending."""
+        return Runs(self._list if self._count else self._list[:0])
+
+    def array(self) -> Any:
+        """Returns the runs as a numpy array of shape (n, 2). It is a copy, and cannot be written."""
+        if numpy is None:
+            raise ImportError("array() needs numpy, which is not installed")
+        kind = numpy.int64 if self._type.is_signed else numpy.uint64
+        return numpy.frombuffer(self._list.tobytes(), dtype=kind, count=2 * self._count).reshape(self._count, 2)
+
+    def copy(self) -> IntervalSet:
+        """Returns the set itself, which never changes."""
+        return self
+
+    __copy__ = copy
+
+    def __deepcopy__(self, memo: Any) -> IntervalSet:
+        return self
+
+    def __reduce__(self) -> tuple[Any, ...]:
+        return IntervalSet, (list(self.runs()), self._type.name)
+
+    def __repr__(self) -> str:
+        last = "" if self._type.is_signed else ", bounds=%r" % self._type.name
+        return "IntervalSet(%r%s)" % (list(self.runs()), last)
+
+
+def _pairs(bounds: _Bounds, items: Iterable[Item]) -> tuple[Any, int, int]:
+    """Returns what holds the pairs, its address and their number. A contiguous numpy array of the type is not copied."""
+    if numpy is not None and isinstance(items, numpy.ndarray):
+        return _pairs_of_array(bounds, items)
+    if isinstance(items, IntervalSet):
+        if items._type is bounds:
+            return items, items._at, items._count
+        items = items.runs()
+    elif isinstance(items, range):
+        items = [items]
+    pairs: list[Any] = list(items)
+    kinds = set(map(type, pairs))
+    # in the usual cases, no item is looked at by itself
+    if kinds == {int}:
+        pairs = list(zip(pairs, pairs))
+    elif not (kinds <= {tuple, list} and set(map(len, pairs)) <= {2}):
+        pairs = [pair for item in pairs for pair in _pairs_of_item(item)]
+    try:
+        flat = Numbers(bounds.code, itertools.chain.from_iterable(pairs))
+    except OverflowError:
+        raise bounds.outside(next(n for pair in pairs for n in map(operator.index, pair) if not bounds.holds(n))) from None
+    # reading a bound may run code of its type, which may change a list of bounds that has been counted
+    if len(flat) != 2 * len(pairs):
+        raise TypeError("a pair has two bounds: a list of bounds was changed while it was read")
+    # the library wants an address of a list of no pairs too
+    held = flat or bounds.one_pair
+    return held, held.buffer_info()[0], len(pairs)
+
+
+def _pairs_of_item(item: Any) -> Iterable[tuple[int, int]]:
+    """The pairs of a number, a range, a set or a pair of bounds."""
+    if isinstance(item, IntervalSet):
+        return item.runs()
+    if isinstance(item, range):
+        if item and abs(item.step) == 1:
+            return [(min(item[0], item[-1]), max(item[0], item[-1]))]
+        return ((number, number) for number in item)
+    if isinstance(item, (tuple, list)):
+        if len(item) != 2:
+            raise TypeError("a pair has two bounds: %r" % (item,))
+        return [(operator.index(item[0]), operator.index(item[1]))]
+    if isinstance(item, collections.abc.Set):
+        return [(number, number) for number in map(operator.index, item)]
+    if numpy is not None and isinstance(item, numpy.ndarray) and item.shape == (2,):
+        return [(operator.index(item[0]), operator.index(item[1]))]
+    number = operator.index(item)
+    return [(number, number)]
+
+
+def _pairs_of_array(bounds: _Bounds, items: Any) -> tuple[Any, int, int]:
+    if numpy.ma.isMaskedArray(items):
+        raise TypeError("a masked array has no set: say what its masked items are")
+    if items.dtype.kind not in "iu" or items.ndim != 2 or items.shape[1] != 2:
+        raise TypeError("an array of integers of shape (n, 2) is wanted")
+    kind = numpy.int64 if bounds.is_signed else numpy.uint64
+    if items.dtype != kind and items.size:
+        for bound in (int(items.min()), int(items.max())):
+            if not bounds.holds(bound):
+                raise bounds.outside(bound)
+    held = numpy.require(items, dtype=kind, requirements=["C", "A"])
+    return held, held.ctypes.data, len(held)
