@@ -5,7 +5,7 @@ mod meeting;
 
 use anyhow::Result;
 use intervallum::prelude::*;
-use meeting::{busy_hours, first_meeting};
+use meeting::{busy_hours, first_meeting, free_hours};
 
 fn main(rt: HostRuntime) -> Result<()> {
     let alloc = rt.alloc();
@@ -13,7 +13,8 @@ fn main(rt: HostRuntime) -> Result<()> {
     let ben = [(8, 8), (11, 11), (15, 17)].to_interval_set(alloc)?;
     let busy = busy_hours(&anna, &ben)?;
     println!(rt; "busy {busy}")?;
-    match first_meeting(Interval::new(8, 17), &busy, 1)? {
+    let free = free_hours(Interval::new(8, 17), &busy)?;
+    match first_meeting(&free, 1) {
         Some(hours) => println!(rt; "meet {hours}")?,
         None => println!(rt; "no hour is free for both")?,
     }

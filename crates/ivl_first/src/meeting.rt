@@ -27,18 +27,11 @@ pub fn free_hours(
     busy.gaps_within(&day)
 }
 
-/// Returns the first so many free hours of a day in a row, or `None` if there are not so many. The
-/// caller must ensure that `count` is above 0. Fails only if allocation fails.
-pub fn first_meeting(
-    day: Interval<u32>,
-    busy: &IntervalSet<u32>,
-    count: u32,
-) -> Result<Option<Interval<u32>>, AllocError>
+/// Returns the first so many free hours in a row, or `None` if there are not so many. The caller must
+/// ensure that `count` is above 0.
+pub fn first_meeting(free: &IntervalSet<u32>, count: u32) -> Option<Interval<u32>>
     requires { 0 < count }
-    ensures { IfOk result (λ o. MatchOption o
-        ((v : ℤ) → ¬ (FitsAt count (Without (IsBetween day) (Covers busy.now)) v))
-        (IsFirstFit count (Without (IsBetween day) (Covers busy.now)))) }
+    ensures { MatchOption result ((v : ℤ) → ¬ (FitsAt count (Covers free.now) v)) (IsFirstFit count (Covers free.now)) }
 {
-    let free = free_hours(day, busy)?;
-    Ok(free.first_fit(count))
+    free.first_fit(count)
 }
