@@ -66,8 +66,8 @@ impl Answers for Registers {
 ///
 /// `Read` if a read failed, or the reader still returned bytes after 2^64 - 1 reads; an interrupted
 /// read is repeated. `Write` if a write or a flush failed. `Memory` if an allocation for the
-/// registers or the bytes of a line failed. A command that runs out of memory is refused with that,
-/// and the session continues.
+/// registers or the bytes of a line failed. A command for which an allocation fails is refused, and
+/// the session continues.
 ///
 /// ```
 /// let mut input: &[u8] = b"set a 5 6\nshow a";
