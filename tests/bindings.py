@@ -223,6 +223,27 @@ def one_search(bounds, low, first):
             assert found.value in above if told else found.value == 5, (pairs, value, told, found.value)
 
 
+def one_beside(bounds, low, first):
+    """What lies beside a number: exact in a list that is in order, and the run itself in a list of runs."""
+    pairs = [pair for pair in first[1] if pair[0] <= pair[1]]
+    ordered = list(zip(sorted(lower for lower, upper in pairs), sorted(upper for lower, upper in pairs)))
+    value = low + random.randrange(-2 if bounds.is_signed else 0, COUNT + 2)
+    runs = runs_of(flags_of(first[1], low), low)
+    for pairs in (runs, ordered, first[1]):
+        array, found, run = array_of(bounds, pairs), bounds.number(5), bounds.run(5, 4)
+        flags = flags_of(pairs, low)
+        below = [low + i for i in range(COUNT) if flags >> i & 1 and low + i <= value]
+        told = bounds.previous_to_sorted(ctypes.addressof(array), len(pairs), value, ctypes.addressof(found))
+        has = bounds.run_at_sorted(ctypes.addressof(array), len(pairs), value, ctypes.addressof(run))
+        pair = run.lower, run.upper
+        if pairs is first[1]:
+            assert found.value in below if told else found.value == 5, (pairs, value, told, found.value)
+        else:
+            assert (told, found.value) == ((True, below[-1]) if below else (False, 5)), (pairs, value, told, found.value)
+            assert has == (value in below), (pairs, value, has)
+        assert pair in pairs and pair[0] <= value <= pair[1] if has else pair == (5, 4), (pairs, value, has, pair)
+
+
 def one_fit(bounds, low, first):
     count = random.randrange(12)
     found = bounds.run(5, 4)
@@ -318,9 +339,10 @@ def fuzz(count):
         product_outside(bounds, lists[0])
         one_next(bounds, low, lists[0])
         one_search(bounds, low, lists[0])
+        one_beside(bounds, low, lists[0])
         one_fit(bounds, low, lists[0])
         ends_of_the_range(bounds, random.choice(["union", "intersection", "difference", "symmetric_difference"]))
-        calls += 23
+        calls += 29
     print("bindings: Python: %d random calls agree with lists of flags" % calls)
 
 
@@ -474,12 +496,15 @@ def misuse():
     assert IntervalSet([(9, 4)]) == IntervalSet() != IntervalSet([0])
     assert IntervalSet([range(9, 2, -3)]) == IntervalSet([9, 6, 3]) and IntervalSet(range(10**15, 0, -1)).runs() == [(1, 10**15)]
     assert IntervalSet([2**64 - 2], bounds="u64").max() == 2**64 - 2
-    # the ends of what the library takes: no number is cut to its type, and no list is without an address
+    # the ends of what the library takes: no number is cut to its type, and a list of no pairs may have no address
     assert IntervalSet([2**63 - 1]).next_from(2**63 - 1) == IntervalSet([2**63 - 1]).previous_to(2**70) == 2**63 - 1
     whole = ~IntervalSet()
     assert whole.first_fit(-1) is whole.first_fit(2**64) is None and whole.first_fit(2**64 - 1) == (-(2**63) + 1, 2**63 - 1)
     many = IntervalSet(range(0, 1000, 2))
-    assert intervallum._pairs(a._type, [])[1] and IntervalSet()._at and (many - many)._at
+    none = many - many
+    assert none == IntervalSet() and not none.runs() and none | many == many and many - none == many and none <= none
+    assert 0 not in none and none.next_from(0) is none.previous_to(0) is none.run_at(0) is none.nth(0) is None and none.rank(1) == 0
+    assert hash(none) == hash(IntervalSet()) and ~~none == none and none.sums(many) == none and not none.overlaps(none)
     # a list of bounds that changes while it is read has no more bounds than the library is told of
     changing = [[Number(lambda: changing[1].clear()), 5], [7, 8]]
     raises(TypeError, lambda: IntervalSet(changing), "changed while it was read")

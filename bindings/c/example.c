@@ -53,6 +53,10 @@ static void signed_numbers(void) {
     expect(ivl_contains_sorted_i64(b, 2, 7) && !ivl_contains_sorted_i64(b, 2, 6), "7 is a member and 6 is not");
     expect(ivl_next_from_sorted_i64(b, 2, 6, &next) && next == 7, "the member after 6 is 7");
     expect(!ivl_next_from_sorted_i64(b, 2, 8, &next) && next == 7, "none is above 7");
+    expect(ivl_previous_to_sorted_i64(b, 2, 6, &next) && next == 5, "the member before 6 is 5");
+    expect(!ivl_previous_to_sorted_i64(b, 2, 2, &next) && next == 5, "none is below 3");
+    expect(ivl_run_at_sorted_i64(b, 2, 4, out) && out[0].lower == 3 && out[0].upper == 5, "the run that holds 4");
+    expect(!ivl_run_at_sorted_i64(b, 2, 6, out) && out[0].lower == 3, "none holds 6");
     expect(ivl_first_fit_i64(a, 3, 3, out) == 1 && out[0].lower == 6 && out[0].upper == 8, "three in a row");
     expect(ivl_first_fit_i64(a, 3, 6, out) == 0 && ivl_first_fit_i64(a, 3, 0, out) == 0, "no six in a row");
     expect(ivl_products_i64(a, 3, b, 2, out, 4) == 2 && out[0].upper == 14 && out[1].lower == 18, "products");
@@ -82,14 +86,47 @@ static void unsigned_numbers(void) {
     expect(!ivl_next_from_u64(all, 1, UINT64_MAX, &next), "none after it");
     expect(ivl_contains_sorted_u64(a, 2, 12) && !ivl_contains_sorted_u64(all, 1, UINT64_MAX), "12 is a member");
     expect(ivl_next_from_sorted_u64(a, 2, 0, &next) && next == 5, "the least member is 5");
+    expect(ivl_previous_to_sorted_u64(a, 2, UINT64_MAX, &next) && next == 12, "the greatest member is 12");
+    expect(ivl_run_at_sorted_u64(all, 1, 0, out) && out[0].upper == UINT64_MAX - 1, "the run that holds 0");
     expect(ivl_first_fit_u64(a, 2, 8, out) == 1 && out[0].upper == 12, "eight in a row");
     expect(ivl_products_u64(a, 2, a, 2, out, 2) == 1 && out[0].lower == 25 && out[0].upper == 144, "squares");
     expect(ivl_products_u64(a, 2, all, 1, out, 2) == IVL_PRODUCT_OUT_OF_RANGE, "a product is outside");
 }
 
+/* A pointer with a count may be null if the count is 0. */
+static void null_pointers(void) {
+    const ivl_run_i64 a[] = {{6, 10}};
+    ivl_run_i64 out[1] = {{0, 0}};
+    int64_t found = 5;
+
+    expect(ivl_union_i64(NULL, 0, a, 1, out, 1) == 1 && out[0].lower == 6, "a list of no pairs may have no address");
+    expect(ivl_union_i64(a, 1, NULL, 0, NULL, 0) == 1, "nor a buffer with no room");
+    expect(ivl_normalize_u64(NULL, 0, NULL, 0) == 0 && ivl_equal_u64(NULL, 0, NULL, 0) == 1, "nothing at all");
+    expect(ivl_complement_i64(NULL, 0, NULL, 0) == 1 && !ivl_contains_i64(NULL, 0, 6), "6 is no member");
+    expect(!ivl_next_from_sorted_i64(NULL, 0, 6, &found) && found == 5, "none is above 6");
+}
+
+#ifdef IVL_CHECKED
+static void overlapping_arrays(void) {
+    ivl_run_i64 a[] = {{6, 10}, {1, 2}, {77, 77}};
+    ivl_run_i64 out[2];
+    uint64_t sizes[] = {5, 9};
+
+    expect(ivl_union_i64(a, 2, a, 2, a + 1, 2) == IVL_OVERLAP && a[1].lower == 1, "the buffer overlaps a list");
+    expect(ivl_union_i64(a, 2, a, 3, a + 2, 1) == IVL_OVERLAP && a[2].lower == 77, "or the other one");
+    expect(ivl_normalize_i64(a, 2, a + 2, 1) == 2 && ivl_union_i64(a, 2, a, 2, out, 2) == 2, "the lists may be one");
+    expect(ivl_first_fit_i64(a, 2, 2, a + 1) == IVL_OVERLAP && ivl_first_fit_i64(a, 2, 2, a + 2) == 1, "so does a run");
+    expect(ivl_size_u64((const ivl_run_u64 *)sizes, 1, sizes + 1) == IVL_OVERLAP && sizes[1] == 9, "so does the size");
+}
+#endif
+
 int main(void) {
     signed_numbers();
     unsigned_numbers();
+    null_pointers();
+#ifdef IVL_CHECKED
+    overlapping_arrays();
+#endif
     printf("%d failed\n", failures);
     return failures != 0;
 }

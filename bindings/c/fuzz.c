@@ -71,7 +71,7 @@ typedef struct {
     uint64_t words[2 * MOST_RUNS]; /* the bounds, as they lie in memory */
     size_t count;
     flags members; /* bit i for the number base + i */
-    bool in_order;
+    bool in_order, is_runs;
     const uint64_t *at;
 } list;
 
@@ -110,6 +110,7 @@ static void runs(input *in, list *to) {
             add(to, start, i - 1);
     }
     to->in_order = true;
+    to->is_runs = true;
 }
 
 /* Pairs whose lower and upper bounds both ascend, and which may overlap and touch. */
@@ -134,6 +135,8 @@ static list draw(input *in, int which) {
         runs(in, &made);
     else
         ascending(in, &made);
+    if (made.count == 0 && form & 64)
+        return made; /* a null pointer */
     uint64_t *at = place(which, made.count, form & 128);
     memcpy(at, made.words, 16 * made.count);
     made.at = at;
@@ -286,6 +289,8 @@ CONTAINS(contains)
 CONTAINS(contains_sorted)
 NEXT(next_from)
 NEXT(next_from_sorted)
+NEXT(previous_to_sorted)
+NEXT(run_at_sorted)
 
 /* ---- the comparison */
 
@@ -311,10 +316,14 @@ static void check(bool holds, const char *call, const char *what, const list *a,
     abort();
 }
 
+static bool is_unchanged(const list *a) {
+    return a->count == 0 || memcmp(a->at, a->words, 16 * a->count) == 0;
+}
+
 static void check_inputs(const char *call, const list *a, const list *b) {
     calls++;
-    check(memcmp(a->at, a->words, 16 * a->count) == 0, call, "the first list was changed", a, b);
-    check(memcmp(b->at, b->words, 16 * b->count) == 0, call, "the second list was changed", a, b);
+    check(is_unchanged(a), call, "the first list was changed", a, b);
+    check(is_unchanged(b), call, "the second list was changed", a, b);
 }
 
 typedef int64_t making(const list *a, const list *b, void *out, size_t room);
@@ -322,7 +331,7 @@ typedef int64_t making(const list *a, const list *b, void *out, size_t room);
 /* A call that makes a set, beside what is expected, or a code. */
 static void check_set(const char *name, making *call, const list *a, const list *b, size_t room, int64_t code) {
     const uint64_t mark = 0x5a5a5a5a5a5a5a5a;
-    uint64_t *out = place(2, room, room & 1);
+    uint64_t *out = room == 0 && a->members & 1 ? NULL : place(2, room, room & 1);
     for (size_t i = 0; i < 2 * room; i++)
         out[i] = mark + i;
     int64_t told = call(a, b, out, room);
@@ -412,6 +421,41 @@ static void check_member(input *in, const list *a) {
     check_inputs("next_from_sorted", a, a);
 }
 
+static bool has(const list *a, wide number) {
+    return base <= number && number < base + 64 && (a->members >> (int)(number - base) & 1);
+}
+
+/* The greatest member up to a number, and the run that holds it. */
+static void check_beside(input *in, const list *a) {
+    unsigned drawn = byte(in);
+    uint64_t v = drawn < 192 ? (uint64_t)(base + drawn % 64) : (uint64_t)1 << drawn % 64;
+    wide number = is_signed ? (wide)(int64_t)v : (wide)v, previous = base + 63;
+    uint64_t *found = place(2, 1, 0), *one = found + 1;
+
+    while (base <= previous && (number < previous || !has(a, previous)))
+        previous--;
+    bool is_there = base <= previous;
+    *one = 77;
+    bool told = call_previous_to_sorted(a, v, one);
+    wide at = is_signed ? (wide)(int64_t)*one : (wide)*one;
+    bool is_exact = told == is_there && *one == (told ? (uint64_t)previous : 77);
+    bool is_member = told ? at <= number && has(a, at) : *one == 77;
+    check(a->in_order ? is_exact : is_member, "previous_to_sorted", "the answer", a, a);
+    check_inputs("previous_to_sorted", a, a);
+
+    found[0] = 77;
+    found[1] = 76;
+    told = call_run_at_sorted(a, v, found);
+    wide lower = is_signed ? (wide)(int64_t)found[0] : (wide)found[0], upper = is_signed ? (wide)(int64_t)found[1] : (wide)found[1];
+    bool is_pair = lower <= number && number <= upper && base <= lower && upper < base + 64;
+    for (wide z = lower; is_pair && z <= upper; z++)
+        is_pair = has(a, z);
+    check(told ? is_pair : found[0] == 77 && found[1] == 76, "run_at_sorted", "the run", a, a);
+    check(!a->in_order || told == has(a, number), "run_at_sorted", "the answer", a, a);
+    check(!told || !a->is_runs || (!has(a, lower - 1) && !has(a, upper + 1)), "run_at_sorted", "a longer run", a, a);
+    check_inputs("run_at_sorted", a, a);
+}
+
 static void check_fit(input *in, const list *a) {
     unsigned drawn = byte(in);
     uint64_t count = drawn < 192 ? drawn % 66 : (uint64_t)1 << drawn % 64;
@@ -454,6 +498,7 @@ int LLVMFuzzerTestOneInput(const uint8_t *data, size_t size) {
     check_queries(&a, &b);
     check_size(&a);
     check_member(&in, &a);
+    check_beside(&in, &a);
     check_fit(&in, &a);
     return 0;
 }

@@ -8,9 +8,12 @@
    unchanged. Otherwise nothing is written, and the call can be repeated with more room. A negative result is an
    error code; then nothing was written.
 
-   The caller must ensure that each pointer is valid for its count, and not null even if that is 0, and that
-   `out`, `size` and `found` overlap no input. There is no condition on values. Do not call from a signal
-   handler, or from the forked child of a process with threads. */
+   The caller must ensure that each pointer is valid for its count, and that `out`, `size` and `found` overlap no
+   input. A pointer with a count may be null if the count is 0. There is no condition on values. Do not call from a
+   signal handler, or from the forked child of a process with threads.
+
+   With IVL_CHECKED defined before this header is included, each call that returns a code compares the addresses
+   first: it returns IVL_OVERLAP, and writes nothing, if what it would write overlaps an input. */
 #ifndef INTERVALLUM_H
 #define INTERVALLUM_H
 
@@ -30,6 +33,17 @@ extern "C" {
 #define IVL_OUT_OF_MEMORY (-2)
 /* Some product is outside the range. */
 #define IVL_PRODUCT_OUT_OF_RANGE (-3)
+/* What a call would write overlaps an input. Returned only with IVL_CHECKED. */
+#define IVL_OVERLAP (-4)
+
+/* Marks what overlaps no other argument, for compilers that warn of it. */
+#if !defined(__cplusplus)
+#define IVL_RESTRICT restrict
+#elif defined(__GNUC__) || defined(_MSC_VER)
+#define IVL_RESTRICT __restrict
+#else
+#define IVL_RESTRICT
+#endif
 
 /* ---- int64_t: the members of a set lie from -INT64_MAX to INT64_MAX */
 
@@ -41,8 +55,8 @@ typedef struct {
 
 /* Make a set of one list. O(n log n).
    normalize: its members; complement: the other numbers of the range. */
-int64_t ivl_normalize_i64(const ivl_run_i64 *a, size_t n, ivl_run_i64 *out, size_t room);
-int64_t ivl_complement_i64(const ivl_run_i64 *a, size_t n, ivl_run_i64 *out, size_t room);
+int64_t ivl_normalize_i64(const ivl_run_i64 *a, size_t n, ivl_run_i64 *IVL_RESTRICT out, size_t room);
+int64_t ivl_complement_i64(const ivl_run_i64 *a, size_t n, ivl_run_i64 *IVL_RESTRICT out, size_t room);
 
 /* Make a set of two lists. O(n log n + m log m).
    union: the members of either; intersection: of both; difference: of `a` and not of `b`;
@@ -50,20 +64,20 @@ int64_t ivl_complement_i64(const ivl_run_i64 *a, size_t n, ivl_run_i64 *out, siz
    The first three are O(n + m) and do not allocate if both lists are lists of runs: no pair is crossed, the
    pairs ascend with at least one number missing between neighbours, and all are in the range, as in every list
    that a call has written. If `room` is less than n + m, they first count the runs of the answer. */
-int64_t ivl_union_i64(const ivl_run_i64 *a, size_t n, const ivl_run_i64 *b, size_t m, ivl_run_i64 *out, size_t room);
-int64_t ivl_intersection_i64(const ivl_run_i64 *a, size_t n, const ivl_run_i64 *b, size_t m, ivl_run_i64 *out, size_t room);
-int64_t ivl_difference_i64(const ivl_run_i64 *a, size_t n, const ivl_run_i64 *b, size_t m, ivl_run_i64 *out, size_t room);
-int64_t ivl_symmetric_difference_i64(const ivl_run_i64 *a, size_t n, const ivl_run_i64 *b, size_t m, ivl_run_i64 *out, size_t room);
+int64_t ivl_union_i64(const ivl_run_i64 *a, size_t n, const ivl_run_i64 *b, size_t m, ivl_run_i64 *IVL_RESTRICT out, size_t room);
+int64_t ivl_intersection_i64(const ivl_run_i64 *a, size_t n, const ivl_run_i64 *b, size_t m, ivl_run_i64 *IVL_RESTRICT out, size_t room);
+int64_t ivl_difference_i64(const ivl_run_i64 *a, size_t n, const ivl_run_i64 *b, size_t m, ivl_run_i64 *IVL_RESTRICT out, size_t room);
+int64_t ivl_symmetric_difference_i64(const ivl_run_i64 *a, size_t n, const ivl_run_i64 *b, size_t m, ivl_run_i64 *IVL_RESTRICT out, size_t room);
 
 /* Make the set of the sums or differences of a member of `a` and one of `b` that are in the range.
    O(n m log (n m)). */
-int64_t ivl_sums_i64(const ivl_run_i64 *a, size_t n, const ivl_run_i64 *b, size_t m, ivl_run_i64 *out, size_t room);
-int64_t ivl_differences_i64(const ivl_run_i64 *a, size_t n, const ivl_run_i64 *b, size_t m, ivl_run_i64 *out, size_t room);
+int64_t ivl_sums_i64(const ivl_run_i64 *a, size_t n, const ivl_run_i64 *b, size_t m, ivl_run_i64 *IVL_RESTRICT out, size_t room);
+int64_t ivl_differences_i64(const ivl_run_i64 *a, size_t n, const ivl_run_i64 *b, size_t m, ivl_run_i64 *IVL_RESTRICT out, size_t room);
 
 /* Makes the set that holds, for each pair of runs, the numbers from their least to their greatest product:
    {[1..2]} times {[10..10]} is {[10..20]}. IVL_PRODUCT_OUT_OF_RANGE if some product is outside the range.
    O(n m log (n m)). */
-int64_t ivl_products_i64(const ivl_run_i64 *a, size_t n, const ivl_run_i64 *b, size_t m, ivl_run_i64 *out, size_t room);
+int64_t ivl_products_i64(const ivl_run_i64 *a, size_t n, const ivl_run_i64 *b, size_t m, ivl_run_i64 *IVL_RESTRICT out, size_t room);
 
 /* Compare two lists: 1 for yes, 0 for no, or an error code. O(n log n + m log m).
    is_subset: each member of `a` is one of `b`; overlap: some number is a member of both;
@@ -74,7 +88,7 @@ int64_t ivl_equal_i64(const ivl_run_i64 *a, size_t n, const ivl_run_i64 *b, size
 
 /* Writes the number of members and returns 0, or returns an error code and writes nothing.
    O(n log n). */
-int64_t ivl_size_i64(const ivl_run_i64 *a, size_t n, uint64_t *size);
+int64_t ivl_size_i64(const ivl_run_i64 *a, size_t n, uint64_t *IVL_RESTRICT size);
 
 /* Returns true exactly when `v` is a member. The list may be in any order, and `v` may be outside the range.
    O(n), does not allocate, has no error code. */
@@ -88,16 +102,28 @@ bool ivl_contains_sorted_i64(const ivl_run_i64 *a, size_t n, int64_t v);
 /* Writes the least member that is at least `v` and returns true, or writes nothing and returns false if there is
    none. The list may be in any order, and `v` may be outside the range. O(n), does not allocate, has no error
    code. */
-bool ivl_next_from_i64(const ivl_run_i64 *a, size_t n, int64_t v, int64_t *found);
+bool ivl_next_from_i64(const ivl_run_i64 *a, size_t n, int64_t v, int64_t *IVL_RESTRICT found);
 
 /* The same by binary search, for a list that is sorted as for contains_sorted. For any other list, a number that
    is written is still a member that is at least `v`, but perhaps not the least one, and false means only that
    nothing is written. O(log n), does not allocate, has no error code. */
-bool ivl_next_from_sorted_i64(const ivl_run_i64 *a, size_t n, int64_t v, int64_t *found);
+bool ivl_next_from_sorted_i64(const ivl_run_i64 *a, size_t n, int64_t v, int64_t *IVL_RESTRICT found);
+
+/* Writes the greatest member that is at most `v` and returns true, or writes nothing and returns false if there is
+   none. Binary search in a list that is sorted as for contains_sorted; `v` may be outside the range. For any other
+   list, a number that is written is still a member that is at most `v`, but perhaps not the greatest one, and false
+   means only that nothing is written. O(log n), does not allocate, has no error code. */
+bool ivl_previous_to_sorted_i64(const ivl_run_i64 *a, size_t n, int64_t v, int64_t *IVL_RESTRICT found);
+
+/* Writes the run that holds `v`, the longest interval of members with `v` in it, and returns true, or writes nothing
+   and returns false if `v` is no member. Binary search in a list of runs. In a list that is only sorted, the run that
+   is written is a pair of the list that holds `v`, and perhaps not the longest; for any other list this holds of a pair
+   that is written, and false means only that nothing is written. O(log n), does not allocate, has no error code. */
+bool ivl_run_at_sorted_i64(const ivl_run_i64 *a, size_t n, int64_t v, ivl_run_i64 *IVL_RESTRICT found);
 
 /* Writes the lowest `count` consecutive members as one run and returns 1. Otherwise writes nothing, and returns 0
    if there is no such run or `count` is 0, or an error code. O(n log n). */
-int64_t ivl_first_fit_i64(const ivl_run_i64 *a, size_t n, uint64_t count, ivl_run_i64 *found);
+int64_t ivl_first_fit_i64(const ivl_run_i64 *a, size_t n, uint64_t count, ivl_run_i64 *IVL_RESTRICT found);
 
 /* ---- uint64_t: the members of a set lie from 0 to UINT64_MAX - 1 */
 
@@ -109,8 +135,8 @@ typedef struct {
 
 /* Make a set of one list. O(n log n).
    normalize: its members; complement: the other numbers of the range. */
-int64_t ivl_normalize_u64(const ivl_run_u64 *a, size_t n, ivl_run_u64 *out, size_t room);
-int64_t ivl_complement_u64(const ivl_run_u64 *a, size_t n, ivl_run_u64 *out, size_t room);
+int64_t ivl_normalize_u64(const ivl_run_u64 *a, size_t n, ivl_run_u64 *IVL_RESTRICT out, size_t room);
+int64_t ivl_complement_u64(const ivl_run_u64 *a, size_t n, ivl_run_u64 *IVL_RESTRICT out, size_t room);
 
 /* Make a set of two lists. O(n log n + m log m).
    union: the members of either; intersection: of both; difference: of `a` and not of `b`;
@@ -118,20 +144,20 @@ int64_t ivl_complement_u64(const ivl_run_u64 *a, size_t n, ivl_run_u64 *out, siz
    The first three are O(n + m) and do not allocate if both lists are lists of runs: no pair is crossed, the
    pairs ascend with at least one number missing between neighbours, and all are in the range, as in every list
    that a call has written. If `room` is less than n + m, they first count the runs of the answer. */
-int64_t ivl_union_u64(const ivl_run_u64 *a, size_t n, const ivl_run_u64 *b, size_t m, ivl_run_u64 *out, size_t room);
-int64_t ivl_intersection_u64(const ivl_run_u64 *a, size_t n, const ivl_run_u64 *b, size_t m, ivl_run_u64 *out, size_t room);
-int64_t ivl_difference_u64(const ivl_run_u64 *a, size_t n, const ivl_run_u64 *b, size_t m, ivl_run_u64 *out, size_t room);
-int64_t ivl_symmetric_difference_u64(const ivl_run_u64 *a, size_t n, const ivl_run_u64 *b, size_t m, ivl_run_u64 *out, size_t room);
+int64_t ivl_union_u64(const ivl_run_u64 *a, size_t n, const ivl_run_u64 *b, size_t m, ivl_run_u64 *IVL_RESTRICT out, size_t room);
+int64_t ivl_intersection_u64(const ivl_run_u64 *a, size_t n, const ivl_run_u64 *b, size_t m, ivl_run_u64 *IVL_RESTRICT out, size_t room);
+int64_t ivl_difference_u64(const ivl_run_u64 *a, size_t n, const ivl_run_u64 *b, size_t m, ivl_run_u64 *IVL_RESTRICT out, size_t room);
+int64_t ivl_symmetric_difference_u64(const ivl_run_u64 *a, size_t n, const ivl_run_u64 *b, size_t m, ivl_run_u64 *IVL_RESTRICT out, size_t room);
 
 /* Make the set of the sums or differences of a member of `a` and one of `b` that are in the range.
    O(n m log (n m)). */
-int64_t ivl_sums_u64(const ivl_run_u64 *a, size_t n, const ivl_run_u64 *b, size_t m, ivl_run_u64 *out, size_t room);
-int64_t ivl_differences_u64(const ivl_run_u64 *a, size_t n, const ivl_run_u64 *b, size_t m, ivl_run_u64 *out, size_t room);
+int64_t ivl_sums_u64(const ivl_run_u64 *a, size_t n, const ivl_run_u64 *b, size_t m, ivl_run_u64 *IVL_RESTRICT out, size_t room);
+int64_t ivl_differences_u64(const ivl_run_u64 *a, size_t n, const ivl_run_u64 *b, size_t m, ivl_run_u64 *IVL_RESTRICT out, size_t room);
 
 /* Makes the set that holds, for each pair of runs, the numbers from their least to their greatest product:
    {[1..2]} times {[10..10]} is {[10..20]}. IVL_PRODUCT_OUT_OF_RANGE if some product is outside the range.
    O(n m log (n m)). */
-int64_t ivl_products_u64(const ivl_run_u64 *a, size_t n, const ivl_run_u64 *b, size_t m, ivl_run_u64 *out, size_t room);
+int64_t ivl_products_u64(const ivl_run_u64 *a, size_t n, const ivl_run_u64 *b, size_t m, ivl_run_u64 *IVL_RESTRICT out, size_t room);
 
 /* Compare two lists: 1 for yes, 0 for no, or an error code. O(n log n + m log m).
    is_subset: each member of `a` is one of `b`; overlap: some number is a member of both;
@@ -142,7 +168,7 @@ int64_t ivl_equal_u64(const ivl_run_u64 *a, size_t n, const ivl_run_u64 *b, size
 
 /* Writes the number of members and returns 0, or returns an error code and writes nothing.
    O(n log n). */
-int64_t ivl_size_u64(const ivl_run_u64 *a, size_t n, uint64_t *size);
+int64_t ivl_size_u64(const ivl_run_u64 *a, size_t n, uint64_t *IVL_RESTRICT size);
 
 /* Returns true exactly when `v` is a member. The list may be in any order, and `v` may be outside the range.
    O(n), does not allocate, has no error code. */
@@ -156,16 +182,98 @@ bool ivl_contains_sorted_u64(const ivl_run_u64 *a, size_t n, uint64_t v);
 /* Writes the least member that is at least `v` and returns true, or writes nothing and returns false if there is
    none. The list may be in any order, and `v` may be outside the range. O(n), does not allocate, has no error
    code. */
-bool ivl_next_from_u64(const ivl_run_u64 *a, size_t n, uint64_t v, uint64_t *found);
+bool ivl_next_from_u64(const ivl_run_u64 *a, size_t n, uint64_t v, uint64_t *IVL_RESTRICT found);
 
 /* The same by binary search, for a list that is sorted as for contains_sorted. For any other list, a number that
    is written is still a member that is at least `v`, but perhaps not the least one, and false means only that
    nothing is written. O(log n), does not allocate, has no error code. */
-bool ivl_next_from_sorted_u64(const ivl_run_u64 *a, size_t n, uint64_t v, uint64_t *found);
+bool ivl_next_from_sorted_u64(const ivl_run_u64 *a, size_t n, uint64_t v, uint64_t *IVL_RESTRICT found);
+
+/* Writes the greatest member that is at most `v` and returns true, or writes nothing and returns false if there is
+   none. Binary search in a list that is sorted as for contains_sorted; `v` may be outside the range. For any other
+   list, a number that is written is still a member that is at most `v`, but perhaps not the greatest one, and false
+   means only that nothing is written. O(log n), does not allocate, has no error code. */
+bool ivl_previous_to_sorted_u64(const ivl_run_u64 *a, size_t n, uint64_t v, uint64_t *IVL_RESTRICT found);
+
+/* Writes the run that holds `v`, the longest interval of members with `v` in it, and returns true, or writes nothing
+   and returns false if `v` is no member. Binary search in a list of runs. In a list that is only sorted, the run that
+   is written is a pair of the list that holds `v`, and perhaps not the longest; for any other list this holds of a pair
+   that is written, and false means only that nothing is written. O(log n), does not allocate, has no error code. */
+bool ivl_run_at_sorted_u64(const ivl_run_u64 *a, size_t n, uint64_t v, ivl_run_u64 *IVL_RESTRICT found);
 
 /* Writes the lowest `count` consecutive members as one run and returns 1. Otherwise writes nothing, and returns 0
    if there is no such run or `count` is 0, or an error code. O(n log n). */
-int64_t ivl_first_fit_u64(const ivl_run_u64 *a, size_t n, uint64_t count, ivl_run_u64 *found);
+int64_t ivl_first_fit_u64(const ivl_run_u64 *a, size_t n, uint64_t count, ivl_run_u64 *IVL_RESTRICT found);
+
+#ifdef IVL_CHECKED
+/* Whether two arrays of so many bytes have one in common. */
+static inline bool ivl_has_common(const void *x, size_t x_size, const void *y, size_t y_size) {
+    uintptr_t a = (uintptr_t)x, b = (uintptr_t)y;
+    return x_size > 0 && y_size > 0 && (a <= b ? b - a < x_size : a - b < y_size);
+}
+
+#define IVL_CHECKED_ONE(name, type)                                                                                         \
+    static inline int64_t ivl_checked_##name##_##type(const ivl_run_##type *a, size_t n, ivl_run_##type *out, size_t room) { \
+        if (ivl_has_common(out, room * sizeof *out, a, n * sizeof *a))                                                      \
+            return IVL_OVERLAP;                                                                                             \
+        return ivl_##name##_##type(a, n, out, room);                                                                        \
+    }
+#define IVL_CHECKED_TWO(name, type)                                                                                         \
+    static inline int64_t ivl_checked_##name##_##type(const ivl_run_##type *a, size_t n, const ivl_run_##type *b, size_t m,  \
+                                                      ivl_run_##type *out, size_t room) {                                   \
+        if (ivl_has_common(out, room * sizeof *out, a, n * sizeof *a) ||                                                    \
+            ivl_has_common(out, room * sizeof *out, b, m * sizeof *b))                                                      \
+            return IVL_OVERLAP;                                                                                             \
+        return ivl_##name##_##type(a, n, b, m, out, room);                                                                  \
+    }
+#define IVL_CHECKED_SIZE(type)                                                                                              \
+    static inline int64_t ivl_checked_size_##type(const ivl_run_##type *a, size_t n, uint64_t *size) {                      \
+        return ivl_has_common(size, sizeof *size, a, n * sizeof *a) ? IVL_OVERLAP : ivl_size_##type(a, n, size);            \
+    }
+#define IVL_CHECKED_FIT(type)                                                                                               \
+    static inline int64_t ivl_checked_first_fit_##type(const ivl_run_##type *a, size_t n, uint64_t count,                   \
+                                                       ivl_run_##type *found) {                                             \
+        if (ivl_has_common(found, sizeof *found, a, n * sizeof *a))                                                         \
+            return IVL_OVERLAP;                                                                                             \
+        return ivl_first_fit_##type(a, n, count, found);                                                                    \
+    }
+#define IVL_CHECKED_ALL(type)                                                                                               \
+    IVL_CHECKED_ONE(normalize, type)                                                                                        \
+    IVL_CHECKED_ONE(complement, type)                                                                                       \
+    IVL_CHECKED_TWO(union, type)                                                                                            \
+    IVL_CHECKED_TWO(intersection, type)                                                                                     \
+    IVL_CHECKED_TWO(difference, type)                                                                                       \
+    IVL_CHECKED_TWO(symmetric_difference, type)                                                                             \
+    IVL_CHECKED_TWO(sums, type)                                                                                             \
+    IVL_CHECKED_TWO(differences, type)                                                                                      \
+    IVL_CHECKED_TWO(products, type)                                                                                         \
+    IVL_CHECKED_SIZE(type)                                                                                                  \
+    IVL_CHECKED_FIT(type)
+IVL_CHECKED_ALL(i64)
+IVL_CHECKED_ALL(u64)
+#define ivl_normalize_i64 ivl_checked_normalize_i64
+#define ivl_complement_i64 ivl_checked_complement_i64
+#define ivl_union_i64 ivl_checked_union_i64
+#define ivl_intersection_i64 ivl_checked_intersection_i64
+#define ivl_difference_i64 ivl_checked_difference_i64
+#define ivl_symmetric_difference_i64 ivl_checked_symmetric_difference_i64
+#define ivl_sums_i64 ivl_checked_sums_i64
+#define ivl_differences_i64 ivl_checked_differences_i64
+#define ivl_products_i64 ivl_checked_products_i64
+#define ivl_size_i64 ivl_checked_size_i64
+#define ivl_first_fit_i64 ivl_checked_first_fit_i64
+#define ivl_normalize_u64 ivl_checked_normalize_u64
+#define ivl_complement_u64 ivl_checked_complement_u64
+#define ivl_union_u64 ivl_checked_union_u64
+#define ivl_intersection_u64 ivl_checked_intersection_u64
+#define ivl_difference_u64 ivl_checked_difference_u64
+#define ivl_symmetric_difference_u64 ivl_checked_symmetric_difference_u64
+#define ivl_sums_u64 ivl_checked_sums_u64
+#define ivl_differences_u64 ivl_checked_differences_u64
+#define ivl_products_u64 ivl_checked_products_u64
+#define ivl_size_u64 ivl_checked_size_u64
+#define ivl_first_fit_u64 ivl_checked_first_fit_u64
+#endif
 
 #ifdef __cplusplus
 }

@@ -42,6 +42,8 @@ template <class T> struct calls;
         static constexpr auto overlap = ivl_overlap_##name;                                                                      \
         static constexpr auto contains = ivl_contains_sorted_##name;                                                             \
         static constexpr auto next_from = ivl_next_from_sorted_##name;                                                           \
+        static constexpr auto previous_to = ivl_previous_to_sorted_##name;                                                       \
+        static constexpr auto run_at = ivl_run_at_sorted_##name;                                                                 \
         static constexpr auto first_fit = ivl_first_fit_##name;                                                                  \
     }
 IVL_CALLS(std::int64_t, i64);
@@ -67,8 +69,7 @@ template <class T> class set {
     template <class F, class... Lists> static set made(std::size_t room, F f, Lists... lists) {
         set result;
         for (;;) {
-            // a pointer is not null even for no room
-            result.runs_.resize(room ? room : 1);
+            result.runs_.resize(room);
             auto count = static_cast<std::size_t>(checked(f(lists..., result.runs_.data(), room)));
             if (count <= room) {
                 result.runs_.resize(count);
@@ -77,10 +78,7 @@ template <class T> class set {
             room = count;
         }
     }
-    const typename call::run *at() const {
-        static const typename call::run none{1, 0};
-        return runs_.empty() ? &none : runs_.data();
-    }
+    const typename call::run *at() const { return runs_.data(); }
     template <class F> set with(F f, const set &other) const {
         return made(runs_.size() + other.runs_.size(), f, at(), runs_.size(), other.at(), other.runs_.size());
     }
@@ -92,10 +90,7 @@ template <class T> class set {
     set() = default;
     // The members of pairs in any order; a crossed pair adds nothing.
     set(std::initializer_list<run> pairs) : set(std::vector<run>(pairs)) {}
-    explicit set(const std::vector<run> &pairs) {
-        if (!pairs.empty())
-            *this = made(pairs.size(), call::normalize, pairs.data(), pairs.size());
-    }
+    explicit set(const std::vector<run> &pairs) : set(made(pairs.size(), call::normalize, pairs.data(), pairs.size())) {}
 
     // The runs, ascending.
     const_iterator begin() const { return runs_.begin(); }
@@ -136,6 +131,16 @@ template <class T> class set {
     std::optional<T> next_from(T v) const {
         T found{};
         return call::next_from(at(), runs_.size(), v, &found) ? std::optional<T>(found) : std::nullopt;
+    }
+    // The greatest member that is at most `v`.
+    std::optional<T> previous_to(T v) const {
+        T found{};
+        return call::previous_to(at(), runs_.size(), v, &found) ? std::optional<T>(found) : std::nullopt;
+    }
+    // The run that holds `v`.
+    std::optional<run> run_at(T v) const {
+        run found{};
+        return call::run_at(at(), runs_.size(), v, &found) ? std::optional<run>(found) : std::nullopt;
     }
     // The lowest `count` consecutive members.
     std::optional<run> first_fit(std::uint64_t count) const {

@@ -8,6 +8,8 @@ FORMS = {
     b"var": b"var x l u l u ..",
     b"cut": b"cut x l u l u ..",
     b"sum": b"sum x y z",
+    b"limit": b"limit n",
+    b"go": b"go on",
     b"show": b"show",
 }
 
@@ -31,11 +33,20 @@ def supported(domains, sums):
 
 
 class Solver:
-    """Domains as sets of their members, in the order in which they were defined."""
+    """Domains as sets of their members, in the order in which they were defined.
+
+    Narrowings are made in the order of the sums, round and round; a sum is passed over while nothing that it names has
+    changed since it narrowed. This tells which domains an unfinished line leaves; those of any other are compared with
+    `supported`.
+    """
 
     def __init__(self):
         self.domains = {}
         self.sums = []
+        self.is_settled = []
+        self.next = 0
+        self.limit = 10**6
+        self.progress = b"ok"
 
     def answer(self, line):
         try:
@@ -58,6 +69,10 @@ class Solver:
             return b"write show" if words else None
         if name == b"sum":
             return self.fault_of_sum(words)
+        if name == b"go":
+            return None if words == [b"on"] else b"write " + FORMS[name]
+        if name == b"limit":
+            return self.fault_of_limit(words)
         if not words:
             return b"write " + FORMS[name]
         for word in words[1:]:
@@ -74,6 +89,13 @@ class Solver:
             return b"unknown variable " + words[0]
         if any(number(lower) < LEAST for lower in words[1::2]):
             return b"out of range"
+        return None
+
+    def fault_of_limit(self, words):
+        if len(words) != 1:
+            return b"write " + FORMS[b"limit"]
+        if number(words[0]) is None or number(words[0]) < 0:
+            return b"bad number " + words[0]
         return None
 
     def fault_of_sum(self, words):
@@ -93,21 +115,54 @@ class Solver:
         if name == b"show":
             lines = [name + b" " + self.text(members) + b"\n" for name, members in self.domains.items()]
             return b"".join(lines) + self.state()
-        if name == b"sum":
+        if name == b"limit":
+            self.limit = number(words[0])
+            return self.state()
+        if name == b"sum" and tuple(words) not in self.sums:
             self.sums.append(tuple(words))
-        else:
+            self.is_settled.append(False)
+        if name in (b"var", b"cut"):
             numbers = [number(word) for word in words[1:]]
             members = {value for lower, upper in zip(numbers[::2], numbers[1::2]) for value in range(lower, upper + 1)}
-            self.domains[words[0]] = members if name == b"var" else self.domains[words[0]] & members
+            if name == b"var":
+                self.domains[words[0]] = members
+            else:
+                self.replace(words[0], self.domains[words[0]] & members)
         if name != b"var":
-            self.domains = supported(self.domains, self.sums)
+            self.settle()
         return self.state()
+
+    def replace(self, name, members):
+        if members != self.domains[name]:
+            self.domains[name] = members
+            self.is_settled = [settled and name not in names for settled, names in zip(self.is_settled, self.sums)]
+
+    def unsettled(self):
+        """The first sum from where the last search ended that is not settled, or None."""
+        places = [*range(self.next, len(self.sums)), *range(len(self.sums))]
+        return next((place for place in places if not self.is_settled[place]), None)
+
+    def settle(self):
+        left = supported(dict(self.domains), self.sums)
+        count = 0
+        while count < self.limit and (place := self.unsettled()) is not None:
+            x, y, z = self.sums[place]
+            a, b, c = self.domains[x], self.domains[y], self.domains[z]
+            self.replace(x, {u for u in a if any(u + v in c for v in b)})
+            self.replace(y, {v for v in b if any(u + v in c for u in a)})
+            self.replace(z, {w for w in c if any(w - v in a for v in b)})
+            self.is_settled[place] = True
+            self.next = place + 1
+            count += 1
+        self.progress = b"ok" if self.unsettled() is None else b"unfinished"
+        assert self.progress != b"ok" or self.domains == left
+        assert all(left[name] <= members for name, members in self.domains.items())
 
     def text(self, members):
         return text(joined((value, value) for value in members)).encode()
 
     def state(self):
-        return b"ok\n" if all(self.domains.values()) else b"no solution\n"
+        return self.progress + b"\n" if all(self.domains.values()) else b"no solution\n"
 
 
 def random_pairs(dice):
@@ -127,24 +182,45 @@ def random_pairs(dice):
 
 def random_line(dice):
     variable = lambda: dice.choice(["x", "y", "z", "u", "v", "w"] if dice.random() < 0.95 else ["q", "\u00e9", "xx"])
-    name = dice.choice(["var", "cut", "cut", "sum", "sum", "show", "show"])
+    name = dice.choice(["var", "cut", "cut", "sum", "sum", "show", "show", "limit", "go"])
     if name == "sum":
         parts = dice.sample("xyzuvw", 3) if dice.random() < 0.8 else [variable() for _ in range(dice.choice([3, 3, 2, 4]))]
     elif name == "show":
         parts = [] if dice.random() < 0.95 else ["x"]
+    elif name == "limit":
+        parts = [dice.choice(["0", "1", "2", "3", "5", "1000000", "1000000"])] if dice.random() < 0.9 else dice.choice([[], ["-1"], ["x"], ["1", "2"], [str(2**63 - 1)]])
+    elif name == "go":
+        parts = ["on"] if dice.random() < 0.95 else dice.choice([[], ["on", "on"], ["off"]])
     else:
         parts = [variable()] + random_pairs(dice) if dice.random() < 0.98 else []
     return dice.choice([" ", " ", "  "]).join([name] + parts).encode() + dice.choice([b"", b"", b"\r", b" "])
 
 
+def stopped_lines(dice, count):
+    """Wide domains and few narrowings a line, so that many lines are unfinished."""
+    names = "xyzuvw"
+    lines = [b"limit %d" % dice.randrange(4)]
+    for name in names:
+        lower = dice.randrange(-40, 10)
+        lines.append(b"var %s %d %d" % (name.encode(), lower, lower + dice.randrange(20, 80)))
+    for _ in range(count):
+        lower = dice.randrange(-60, 20)
+        cut = f"cut {dice.choice(names)} {lower} {lower + dice.randrange(20, 90)}"
+        line = dice.choice(["sum " + " ".join(dice.sample(names, 3)), cut, "go on", "show", "limit 1", f"limit {dice.randrange(5)}"])
+        lines.append(line.encode())
+    return lines
+
+
 def random_lines(dice, count):
+    if dice.random() < 0.3:
+        return stopped_lines(dice, min(count, 20))
     # short sessions, so that many begin anew before their domains are empty
     first = [b"var %s %d %d" % (name, lower, lower + dice.randrange(0, 12)) for name in (b"x", b"y", b"z", b"u") for lower in [dice.randrange(-6, 6)]]
     return first + [random_line(dice) for _ in range(min(count, 40))]
 
 
 # The last sum empties the domains one member a round, which takes seconds.
-QUICK = [b"var a 0 40000000", b"var b 0 40000000", b"var one 1 1", b"sum a one b", b"show"]
+QUICK = [b"limit 1000000000", b"var a 0 40000000", b"var b 0 40000000", b"var one 1 1", b"sum a one b", b"show"]
 
 if __name__ == "__main__":
-    main("ivl_solve", Solver, random_lines, b"show", (QUICK, 8, b"sum b one a"))
+    main("ivl_solve", Solver, random_lines, b"show", (QUICK, 9, b"sum b one a"))

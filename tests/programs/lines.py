@@ -90,12 +90,12 @@ def main(name, make_model, make_lines, full_disk_line, slow=None):
     parser.add_argument("--seed", type=int, default=random.randrange(2**32))
     options = parser.parse_args()
     dice = random.Random(options.seed)
-    end = time.monotonic() + options.seconds
     count = 0
     try:
         check_full_disk(options.program, name, full_disk_line)
         if slow is not None:
             check_answers_are_seen(options.program, *slow)
+        end = time.monotonic() + options.seconds
         while time.monotonic() < end:
             count += check_run(options.program, make_model, make_lines, dice)
     except SystemExit as fault:

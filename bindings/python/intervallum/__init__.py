@@ -84,6 +84,7 @@ _SHAPES: dict[str, list[Any]] = {
     "is_subset": _ONE * 2, "overlap": _ONE * 2, "equal": _ONE * 2, "size": _ONE + [ctypes.c_void_p],
     "contains": _ONE + ["number"], "contains_sorted": _ONE + ["number"],
     "next_from": _ONE + ["number", ctypes.c_void_p], "next_from_sorted": _ONE + ["number", ctypes.c_void_p],
+    "previous_to_sorted": _ONE + ["number", ctypes.c_void_p], "run_at_sorted": _ONE + ["number", ctypes.c_void_p],
     "first_fit": _ONE + [ctypes.c_uint64, ctypes.c_void_p],
 }
 _Call = Callable[..., int]
@@ -109,6 +110,8 @@ class _Bounds:
     contains_sorted: _Call
     next_from: _Call
     next_from_sorted: _Call
+    previous_to_sorted: _Call
+    run_at_sorted: _Call
     first_fit: _Call
 
     def __init__(self, library: ctypes.CDLL, name: Bounds, number: type[Any]) -> None:
@@ -127,7 +130,8 @@ class _Bounds:
             except AttributeError as error:
                 raise ImportError("the shared library %s is none of this version: %s" % (library._name, error)) from error
             found.argtypes = [number if kind == "number" else kind for kind in shape]
-            found.restype = ctypes.c_bool if call.startswith(("contains", "next_from")) else ctypes.c_int64
+            is_asked = call.startswith(("contains", "next_from", "previous_to", "run_at"))
+            found.restype = ctypes.c_bool if is_asked else ctypes.c_int64
             setattr(self, call, found)
 
     def holds(self, value: int) -> bool:
@@ -220,7 +224,7 @@ class IntervalSet(collections.abc.Set[int]):
     TypeError: a pair has two bounds: (1, 2, 3)
     """
 
-    # the bounds of the runs, or one pair that is no run where there is none, so that there is an address for the library
+    # the bounds of the runs, how many runs there are, and the address for the library, which may be 0 where there is none
     __slots__ = ("_type", "_list", "_count", "_at")
     _type: _Bounds
     _list: Numbers[int]
@@ -240,12 +244,12 @@ class IntervalSet(collections.abc.Set[int]):
     @classmethod
     def _of(cls, bounds: _Bounds, call: _Call, *lists: int, room: int) -> IntervalSet:
         while True:
-            out = bounds.one_pair * max(room, 1)
+            out = bounds.one_pair * room
             count = bounds.checked(call(*lists, out.buffer_info()[0], room))
             if count <= room:
                 break
             room = count
-        del out[2 * max(count, 1):]
+        del out[2 * count:]
         made = super().__new__(cls)
         made._type, made._list, made._count, made._at = bounds, out, count, out.buffer_info()[0]
         return made
@@ -358,11 +362,11 @@ class IntervalSet(collections.abc.Set[int]):
     def __eq__(self, other: object) -> bool:
         # two sets with the same members have the same list of runs
         if isinstance(other, IntervalSet) and other._type is self._type:
-            return self._count == other._count and self._list == other._list
+            return self._list == other._list
         return NotImplemented
 
     def __hash__(self) -> int:
-        return hash((self._type.name, self._count, self._list.tobytes()))
+        return hash((self._type.name, self._list.tobytes()))
 
     def __le__(self, other: IntervalSet) -> bool:  # type: ignore[override]
         """Returns whether each member is in the other set."""
@@ -431,11 +435,6 @@ class IntervalSet(collections.abc.Set[int]):
         least: int = found.value
         return least if is_there else None
 
-    def _upto(self, number: int) -> int:
-        """How many runs start at the number or below."""
-        flat = self._list
-        return bisect.bisect_right(range(self._count), number, key=lambda at: flat[2 * at])
-
     def previous_to(self, value: SupportsIndex) -> int | None:
         """Returns the greatest member that is at most the value, or None.
 
@@ -443,8 +442,13 @@ class IntervalSet(collections.abc.Set[int]):
         (2, None)
         """
         number = operator.index(value)
-        at = self._upto(number)
-        return min(self._list[2 * at - 1], number) if at else None
+        low, high = self._type.limits
+        if number < low:
+            return None
+        found = self._type.number()
+        is_there = self._type.previous_to_sorted(self._at, self._count, min(number, high), ctypes.addressof(found))
+        greatest: int = found.value
+        return greatest if is_there else None
 
     def run_at(self, value: SupportsIndex) -> tuple[int, int] | None:
         """Returns the run that holds the value as a pair, or None.
@@ -453,10 +457,15 @@ class IntervalSet(collections.abc.Set[int]):
         ((5, 6), None)
         """
         number = operator.index(value)
-        at = self._upto(number)
-        if not at or self._list[2 * at - 1] < number:
+        found = self._type.run()
+        if not self._type.holds(number) or not self._type.run_at_sorted(self._at, self._count, number, ctypes.addressof(found)):
             return None
-        return self._list[2 * at - 2], self._list[2 * at - 1]
+        return found.lower, found.upper
+
+    def _upto(self, number: int) -> int:
+        """How many runs start at the number or below."""
+        flat = self._list
+        return bisect.bisect_right(range(self._count), number, key=lambda at: flat[2 * at])
 
     def rank(self, value: SupportsIndex) -> int:
         """Returns the number of members below the value. Linear in the runs below it.
@@ -549,14 +558,15 @@ class IntervalSet(collections.abc.Set[int]):
 
     def runs(self) -> Runs:
         """Returns the runs as a sequence of pairs, ascending."""
-        return Runs(self._list if self._count else self._list[:0])
+        return Runs(self._list)
 
     def array(self) -> Any:
         """Returns the runs as a numpy array of shape (n, 2). It is a copy, and cannot be written."""
         if numpy is None:
             raise ImportError("array() needs numpy, which is not installed")
         kind = numpy.int64 if self._type.is_signed else numpy.uint64
-        return numpy.frombuffer(self._list.tobytes(), dtype=kind, count=2 * self._count).reshape(self._count, 2)
+        held = self._list.tobytes() or bytes(16)  # numpy wants a buffer that is not empty
+        return numpy.frombuffer(held, dtype=kind, count=2 * self._count).reshape(self._count, 2)
 
     def copy(self) -> IntervalSet:
         """Returns the set itself, which never changes."""
@@ -599,9 +609,7 @@ def _pairs(bounds: _Bounds, items: Iterable[Item]) -> tuple[Any, int, int]:
     # reading a bound may run code of its type, which may change a list of bounds that has been counted
     if len(flat) != 2 * len(pairs):
         raise TypeError("a pair has two bounds: a list of bounds was changed while it was read")
-    # the library wants an address of a list of no pairs too
-    held = flat or bounds.one_pair
-    return held, held.buffer_info()[0], len(pairs)
+    return flat, flat.buffer_info()[0], len(pairs)
 
 
 def _pairs_of_item(item: Any) -> Iterable[tuple[int, int]]:

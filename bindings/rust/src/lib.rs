@@ -17,11 +17,11 @@
 //! | Task | Calls of [`IntervalSet`] |
 //! |---|---|
 //! | make a set | [`new`](IntervalSet::new), [`singleton`](IntervalSet::singleton), [`empty`](IntervalSet::empty), [`whole`](IntervalSet::whole), `from` a range or an array of values, ranges or pairs, `collect` |
-//! | edit it | [`insert`](IntervalSet::insert), [`remove`](IntervalSet::remove), [`insert_interval`](IntervalSet::insert_interval), [`remove_interval`](IntervalSet::remove_interval), `extend`, [`pop_first`](IntervalSet::pop_first), [`pop_last`](IntervalSet::pop_last), [`clear`](IntervalSet::clear) |
+//! | edit it | [`insert`](IntervalSet::insert), [`remove`](IntervalSet::remove), [`insert_interval`](IntervalSet::insert_interval), [`remove_interval`](IntervalSet::remove_interval), `extend`, [`pop_first`](IntervalSet::pop_first), [`pop_last`](IntervalSet::pop_last), [`take_first_fit`](IntervalSet::take_first_fit), [`split_off`](IntervalSet::split_off), [`clear`](IntervalSet::clear) |
 //! | ask for members | [`contains`](IntervalSet::contains), [`includes`](IntervalSet::includes), [`overlaps`](IntervalSet::overlaps), [`lower`](IntervalSet::lower), [`upper`](IntervalSet::upper), [`first`](IntervalSet::first), [`last`](IntervalSet::last), [`hull`](IntervalSet::hull), [`next_from`](IntervalSet::next_from), [`previous_to`](IntervalSet::previous_to), [`nth`](IntervalSet::nth) |
-//! | count | [`len`](IntervalSet::len), [`size`](IntervalSet::size), [`rank`](IntervalSet::rank), [`interval_count`](IntervalSet::interval_count), [`is_empty`](IntervalSet::is_empty) |
-//! | iterate | [`iter`](IntervalSet::iter) over members, [`range`](IntervalSet::range) over those of a range, [`runs`](IntervalSet::runs) |
-//! | find room | [`first_fit`](IntervalSet::first_fit), [`first_fit_from`](IntervalSet::first_fit_from), [`gaps_within`](IntervalSet::gaps_within), [`run_at`](IntervalSet::run_at) |
+//! | count | [`len`](IntervalSet::len), [`size`](IntervalSet::size), [`rank`](IntervalSet::rank), [`size_within`](IntervalSet::size_within), [`intersection_size`](IntervalSet::intersection_size), [`union_size`](IntervalSet::union_size), [`difference_size`](IntervalSet::difference_size), [`interval_count`](IntervalSet::interval_count), [`is_empty`](IntervalSet::is_empty) |
+//! | iterate | [`iter`](IntervalSet::iter) over members, [`range`](IntervalSet::range) over those of a range, [`runs`](IntervalSet::runs), [`runs_within`](IntervalSet::runs_within) |
+//! | find room | [`first_fit`](IntervalSet::first_fit), [`first_fit_from`](IntervalSet::first_fit_from), [`best_fit`](IntervalSet::best_fit), [`gaps_within`](IntervalSet::gaps_within), [`run_at`](IntervalSet::run_at) |
 //! | combine sets | `\|`, `&`, `^`, `!`, [`difference`](IntervalSet::difference), [`within`](IntervalSet::within) |
 //! | compare sets | `==`, [`is_subset`](IntervalSet::is_subset), [`is_superset`](IntervalSet::is_superset), [`is_disjoint`](IntervalSet::is_disjoint), [`overlap`](IntervalSet::overlap) |
 //! | compute with members | `+`, `-`, `*`, [`checked_add`](IntervalSet::checked_add), [`fits_add`](IntervalSet::fits_add) and so on |

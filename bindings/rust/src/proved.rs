@@ -13,7 +13,7 @@
 //! | [`ivl_within`] | sums and differences that are cut to a window |
 //! | [`ivl_store`] | domains of variables, narrowed by constraints `x + y = z` |
 //! | [`ivl_expr`] | expressions over sets, for range analysis |
-//! | [`ivl_lists`] | sets as lists of pairs in the caller's memory, which the library for C has |
+//! | [`ivl_buffers`] | sets as lists of pairs in the caller's memory, which the library for C has |
 //! | `ivl_json` | JSON, with the feature `json` of the package `intervallum-proved-serde` |
 //!
 //! ```
@@ -47,7 +47,7 @@ pub mod ivl_interval;
 pub mod ivl_json;
 // the source imports two traits for whose methods Rust does not ask
 #[allow(unused_imports)]
-pub mod ivl_lists;
+pub mod ivl_buffers;
 pub mod ivl_store;
 pub mod ivl_within;
 
@@ -64,6 +64,7 @@ pub mod examples {
     pub use super::ivl_expr::{EvalFault, Expr, eval};
     #[cfg(feature = "json")]
     pub use super::ivl_json::{ItemFault, JsonFault, JsonForm};
+    pub use super::ivl_store::network::{Network, Settled};
     pub use super::ivl_store::store::{Constraint, Post, Store, StoreFault};
     pub use super::ivl_within::within::{
         Combined, add_within, differences_in_window, image, kept, sub_within, sums_in_window,

@@ -72,6 +72,13 @@ fn fit(model: &Model, from: i8, count: u8) -> Option<RangeInclusive<i8>> {
     Some(*run.start()..=(i16::from(*run.start()) + i16::from(count) - 1) as i8)
 }
 
+/// The lowest `count` numbers of the shortest run that has so many.
+fn best_fit(model: &Model, count: u8) -> Option<RangeInclusive<i8>> {
+    let width = |run: &RangeInclusive<i8>| run.end().abs_diff(*run.start());
+    let run = runs(model).into_iter().filter(|run| width(run) >= count - 1).min_by_key(width)?;
+    Some(*run.start()..=(i16::from(*run.start()) + i16::from(count) - 1) as i8)
+}
+
 fn assert_same(set: &Set, model: &Model, step: u32, what: &str) {
     let wanted = runs(model);
     let is_same = set.len() == model.len() && set.interval_count() == wanted.len() && set.runs().eq(wanted);
@@ -81,7 +88,7 @@ fn assert_same(set: &Set, model: &Model, step: u32, what: &str) {
 /// Edits the first pair; returns the name of the call.
 fn edit(random: &mut Random, set: &mut Set, model: &mut Model) -> &'static str {
     let (x, range) = (random.value(), random.member_range());
-    match random.below(12) {
+    match random.below(14) {
         0 | 1 => {
             let is_new = (x != -128).then(|| model.insert(x));
             assert_eq!(set.checked_insert(x), is_new);
@@ -125,6 +132,22 @@ fn edit(random: &mut Random, set: &mut Set, model: &mut Model) -> &'static str {
         10 => {
             assert_eq!((set.pop_first(), set.pop_last()), (model.pop_first(), model.pop_last()));
             "pop"
+        }
+        11 => {
+            let count = random.below(9) as u8 + 1;
+            let taken = fit(model, -128, count);
+            assert_eq!(set.take_first_fit(count), taken);
+            model.retain(|y| taken.as_ref().is_none_or(|run| !run.contains(y)));
+            "take_first_fit"
+        }
+        12 => {
+            let (mut above, wanted) = (set.split_off(x), model.split_off(&x));
+            assert_eq!(runs(&wanted), above.runs().collect::<Vec<_>>());
+            // most of the members come back
+            above.remove_interval(x..=x.saturating_add(3));
+            *set |= above;
+            model.extend(wanted.into_iter().filter(|y| *y > x.saturating_add(3)));
+            "split_off"
         }
         _ => {
             if random.below(20) == 0 {
@@ -192,6 +215,10 @@ fn ask(random: &mut Random, set: &Set, model: &Model) {
     assert_eq!(set.overlaps(range.clone()), range.clone().any(|y| model.contains(&y)));
     assert_eq!(set.checked_first_fit(count), (count > 0).then(|| fit(model, -128, count)));
     assert_eq!(set.checked_first_fit_from(x, count), (count > 0).then(|| fit(model, x, count)));
+    assert_eq!(set.checked_best_fit(count), (count > 0).then(|| best_fit(model, count)));
+    let met = runs(model).into_iter().filter(|run| run.clone().any(|y| range.contains(&y)));
+    assert!(set.runs_within(range.clone()).eq(met));
+    assert_eq!(usize::from(set.size_within(range.clone())), range.clone().filter(|y| model.contains(y)).count());
     assert_eq!((set.checked_lower(), set.checked_upper()), (model.first().copied(), model.last().copied()));
     assert_eq!((set.first(), set.last()), (model.first().copied(), model.last().copied()));
     assert_eq!(set.hull(), model.first().zip(model.last()).map(|(least, greatest)| *least..=*greatest));
@@ -228,6 +255,9 @@ fn compare(a: &Set, b: &Set, m: &Model, n: &Model) {
     assert_eq!(a.is_superset(b), m.is_superset(n));
     assert_eq!(a.is_proper_subset(b), m.is_subset(n) && m != n);
     assert_eq!(a.is_proper_superset(b), m.is_superset(n) && m != n);
+    assert_eq!(usize::from(a.intersection_size(b)), (m & n).len());
+    assert_eq!(usize::from(a.union_size(b)), (m | n).len());
+    assert_eq!(usize::from(a.difference_size(b)), (m - n).len());
     assert_eq!(a == b, m == n);
     assert_eq!(
         format!("{a:?}"),

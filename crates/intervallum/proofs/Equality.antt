@@ -104,15 +104,17 @@ counts_agree a b r e f = grind (arith, nat_tests)
 
 module _ {N : Type 0} {size : N → ℕ} {eq : N → N → Bool} {partial : N → N → Option Ordering} {total : N → N → Ordering}
     (o : OrdersByCount size eq partial total) (x y : N) (r : Bool) (S T : ℤ → Type 0) (e : r ≡ not (eq x y)) (a : IsCountOf (size x) S) (b : IsCountOf (size y) T) where
+  pub same_by_size : r ≡ false → IsSubset S T → SameMembers S T
+  same_by_size f h =
+      same_count_same_members S T (size x) h a
+      (subst (λ n. IsCountOf n T) (sym (counts_agree (size x) (size y) r (e ∙ ap not (o.equal x y)) f)) b)
+
+  pub differ_by_size : r ≡ true → ¬ (SameMembers S T)
+  differ_by_size f same =
+      counts_differ (size x) (size y) r (e ∙ ap not (o.equal x y)) f (count_is_unique T (size x) (size y) (IsCountOf-same S T (size x) same a) b)
+
   pub proper_by_size : (t : Bool) → r ≡ true → (IsTrue t ↔ IsSubset S T) → IsTrue t ↔ IsProperSubset S T
-  proper_by_size t f k = (
-    (λ h. (k.0 h, λ same. counts_differ (size x) (size y) r (e ∙ ap not (o.equal x y)) f (count_is_unique T (size x) (size y) (IsCountOf-same S T (size x) same a) b))),
-    (λ p. k.1 p.0),
-  )
+  proper_by_size t f k = ((λ h. (k.0 h, differ_by_size f)), (λ p. k.1 p.0))
 
   pub not_proper_by_size : r ≡ false → IsTrue r ↔ IsProperSubset S T
-  not_proper_by_size f = (
-    (λ h. absurd (true≢false (sym h ∙ f))),
-    (λ p. absurd (p.1 (same_count_same_members S T (size x) p.0 a
-        (subst (λ n. IsCountOf n T) (sym (counts_agree (size x) (size y) r (e ∙ ap not (o.equal x y)) f)) b)))),
-  )
+  not_proper_by_size f = ((λ h. absurd (true≢false (sym h ∙ f))), (λ p. absurd (p.1 (same_by_size f p.0))))

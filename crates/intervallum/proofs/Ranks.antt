@@ -24,7 +24,7 @@ before (p ∷ L) (suc i) d z m h (inl b) =
     omega (arith, ints)
 before (p ∷ L) (suc i) d z m h (inr c) = before L i d z m.2 (omega arith) c
 
-none_taken : (L : List (ℤ × ℤ)) (z : ℤ) → ¬ (Covers (take 0 L) z)
+pub none_taken : (L : List (ℤ × ℤ)) (z : ℤ) → ¬ (Covers (take 0 L) z)
 none_taken [] z c = c
 none_taken (p ∷ L) z c = c
 
@@ -32,10 +32,10 @@ pub ranks_none : (L : List (ℤ × ℤ)) (v : ℤ) (n : ℕ) → n ≡ 0 → IsC
 ranks_none L v n e = subst (λ (k : ℕ). IsCountOf k (Below v (Covers (take 0 L)))) (sym e) (IsCountOf-none _ (λ z c. none_taken L z c.0))
 
 module _ (L : List (ℤ × ℤ)) (i : ℕ) (d : ℤ × ℤ) (m : IsMaximal L) (h : i < length L) (is : d ≡ get_or L i d) where
-  more_is : take (i + 1) L ≡ take i L ++ d ∷ []
+  pub more_is : take (i + 1) L ≡ take i L ++ d ∷ []
   more_is = take_more L i d h ∙ ap (λ (p : ℤ × ℤ). take i L ++ p ∷ []) (sym is)
 
-  ahead : (z : ℤ) → Covers (take i L) z → z <ℤ d.0
+  pub ahead : (z : ℤ) → Covers (take i L) z → z <ℤ d.0
   ahead z c = subst (λ (p : ℤ × ℤ). z <ℤ p.0) (sym is) (before L i d z m h c)
 
   pub ranks_more : (part : ℤ × ℤ) (v : ℤ) (k n : ℕ) → SameMembers (IsBetween part) (Below v (IsBetween d)) → IsCountOf k (Below v (Covers (take i L))) → IsCountOf n (IsBetween part) →

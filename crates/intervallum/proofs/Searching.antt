@@ -10,12 +10,10 @@ use Rattle.ivl_laws.specs.Sets.{IsBetween}
 use Rattle.ivl_laws.specs.Runs.{Covers, IsMaximal, runs_below}
 use Rattle.ivl_laws.proofs.Adding.{untrue}
 use Rattle.intervallum.specs.Places.{EndBelow, StartAbove}
+use Rattle.ivl_laws.proofs.Orders.{int_lt_true}
 
 pub int_lt_false : (a b : ℤ) → b <ℤ a → int_lt a b ≡ false
 int_lt_false a b h = grind (arith, ints)
-
-pub int_lt_true : (a b : ℤ) → a <ℤ b → int_lt a b ≡ true
-int_lt_true a b h = grind (arith, ints)
 
 -- half as many numbers take one digit less
 pub shrink : (n s rest : ℕ) → 0 < n → n < 2 ^ rest → 2 * s ≤ n → (r : ℕ) × (rest ≡ r + 1) × (s < 2 ^ r)

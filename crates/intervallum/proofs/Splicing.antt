@@ -13,9 +13,10 @@ use Rattle.ivl_laws.proofs.Merging.{covers-append, covers-append_left, covers-ap
 use Rattle.ivl_laws.proofs.Places.{covers_at, covers-drop, covers-take, open_at, IsMaximal-drop, IsMaximal-take}
 use Rattle.ivl_laws.proofs.Widths.{count_is_total_width, total_width, total_width-le}
 use Rattle.intervallum.specs.Edits.{IsSpan, replaced}
-use Rattle.intervallum.specs.Led.{led_by}
+use Rattle.intervallum.specs.HeldRun.{led_by}
 use Rattle.intervallum.specs.Places.{EndBelow, EndsFrom, StartAbove}
-use Rattle.intervallum.specs.Sides.{IsBelow}
+use Rattle.intervallum.specs.Order.{IsBelow}
+use Rattle.intervallum.proofs.Windows.{above_all, below_all, covers_split}
 
 -- a write at the end of what is kept
 pub set_before : (L M : List (ℤ × ℤ)) (i : ℕ) (p : ℤ × ℤ) → i < length L → set (take (i + 1) L ++ M) i p ≡ take i L ++ p ∷ M
@@ -58,12 +59,6 @@ parts_below [] (suc i) j m o x y c d = absurd c
 parts_below (p ∷ L) (suc i) zero m o x y c d = absurd (omega arith)
 parts_below (p ∷ L) (suc i) (suc j) m o x y (inl b) d = let far = covered_after p.1 L y m.1 m.2 (covers-drop L j y d) in omega (arith, ints, far, b.1)
 parts_below (p ∷ L) (suc i) (suc j) m o x y (inr c) d = parts_below L i j m.2 (omega arith) x y c d
-
-pub covers_split : (L : List (ℤ × ℤ)) (i : ℕ) (z : ℤ) → Covers L z → Covers (take i L) z ⊎ Covers (drop i L) z
-covers_split [] i z c = absurd c
-covers_split (p ∷ L) zero z c = inr c
-covers_split (p ∷ L) (suc i) z (inl b) = inl (inl b)
-covers_split (p ∷ L) (suc i) z (inr c) = ⊎_elim (λ t. inl (inr t)) (λ d. inr d) (covers_split L i z c)
 
 -- ---- a list with M in the place of the runs from place i to before place j
 
@@ -140,16 +135,6 @@ is_resized whole L M i j o p n greatest same l c h made most =
     }
 
 -- ---- what lies on either side of the runs that go
-
-pub below_all : (v : ℤ) (L : List (ℤ × ℤ)) (z : ℤ) → EndBelow v L → Covers L z → z <ℤ v
-below_all v [] z e c = absurd c
-below_all v (p ∷ L) z e (inl b) = let x = b.1 in let y = e.0 in omega (arith, ints)
-below_all v (p ∷ L) z e (inr c) = below_all v L z e.1 c
-
-pub above_all : (v : ℤ) (L : List (ℤ × ℤ)) (z : ℤ) → StartAbove v L → Covers L z → v <ℤ z
-above_all v [] z s c = absurd c
-above_all v (p ∷ L) z s (inl b) = let x = b.0 in let y = s.0 in omega (arith, ints)
-above_all v (p ∷ L) z s (inr c) = above_all v L z s.1 c
 
 first_of_dropped : (L : List (ℤ × ℤ)) (i : ℕ) (d : ℤ × ℤ) (z : ℤ) → IsMaximal L → i < length L → Covers (drop i L) z → (get_or L i d).0 ≤ℤ z
 first_of_dropped [] i d z m h c = absurd (omega arith)

@@ -5,7 +5,7 @@ use Rattle.std.specs.Int.{from_bool}
 use Rattle.std.specs.Prelude.{not, slice_get}
 use Rattle.ivl_laws.specs.Runs.{IsMaximal}
 use Rattle.ivl_laws.specs.Walks.{StartsFrom, TakesFirst}
-use Rattle.intervallum.specs.Led.{IsTakenIf}
+use Rattle.intervallum.specs.HeldRun.{IsTakenIf}
 
 -- a list that has something left has a first thing left, and the rest
 pub left_more : (L : List (ℤ × ℤ)) (i : ℕ) → drop i L ≢ [] → (x : ℤ × ℤ) × (drop i L ≡ x ∷ drop (i + 1) L)

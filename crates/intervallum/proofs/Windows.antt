@@ -12,8 +12,9 @@ use Rattle.ivl_laws.proofs.Lengths.{length_of_union}
 use Rattle.ivl_laws.proofs.SetLaws.{IsRunsOf-same}
 use Rattle.ivl_laws.proofs.Ranges.{IsRunListIn-drop, IsRunListIn-take}
 use Rattle.intervallum.specs.Places.{EndBelow, EndsFrom, StartAbove}
-use Rattle.intervallum.proofs.Searching.{above_after, none_above, int_lt_true}
+use Rattle.intervallum.proofs.Searching.{above_after, none_above}
 use Rattle.intervallum.proofs.Finding.{covered_at_place}
+use Rattle.ivl_laws.proofs.Orders.{int_lt_true}
 
 -- ---- what the place of a number says of the runs on both sides of it
 

@@ -6,28 +6,35 @@ ghost use Rattle.ivl_laws.specs.Counts.{IsCountOf};
 ghost use Rattle.intervallum.specs.Equality.{same_runs};
 ghost use Rattle.intervallum.specs.EqualityLaws.{same_runs_equiv, same_runs_laws};
 
-mod algebra;
 mod arithmetic;
+mod best_fit;
 mod bounds;
+pub(crate) mod builder;
+mod clone;
+mod contains;
 mod conversions;
-mod copies;
-mod counting;
+mod disjoint;
 mod edits;
-mod few;
+mod first_fit;
 mod fits;
 mod inclusion;
+mod interval_operands;
+mod iter;
 mod lattice;
-mod listing;
+mod lopsided;
 mod members;
 mod neighbours;
-mod operands;
-mod reading;
-mod room;
-pub(crate) mod runs;
+mod operators;
+mod rank;
+pub(crate) mod run_lists;
+mod runs_within;
+mod set_operands;
 mod shrinks;
+mod sizes;
+mod split_off;
 mod text;
-mod values;
-mod with_intervals;
+mod value_operands;
+mod value_overlap;
 
 use crate::interval::Interval;
 use crate::ops::{Cardinality, Collection, IntervalKind, IsEmpty, Range};
@@ -200,7 +207,7 @@ impl<B: Width> PartialEq for IntervalSet<B> {
         ensures value { result ≡ same_runs self.now other.now }
         ensures members { IsTrue result ↔ SameMembers (Covers self.now) (Covers other.now) }
     {
-        self.size == other.size && runs::are_the_same(&self.intervals, &other.intervals)
+        self.size == other.size && run_lists::are_the_same(&self.intervals, &other.intervals)
     }
 }
 

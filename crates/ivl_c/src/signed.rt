@@ -1,23 +1,25 @@
 //! The calls over i64, whose sets range from `-INT64_MAX` to `INT64_MAX`.
 ghost use Rattle.std.specs.Prelude.{◌≡◌, ◌↔◌, false, IsTrue};
-ghost use Rattle.ivl_laws.specs.Sets.{AtLeast, Complement, Differences, HasSome, Intersection, IsBetween, IsSubset, SameMembers, Sums, SymmetricDifference, Union, Without};
-ghost use Rattle.ivl_lists.specs.Answers.{AnswersProducts, AnswersQuestion, AnswersSet, AnswersSize};
-ghost use Rattle.ivl_lists.specs.Finding.{AnswersFit, AnswersNext};
-ghost use Rattle.ivl_lists.specs.Lists.{IsInOrder, members_i64, pair_i64, pairs_i64, range_i64};
+ghost use Rattle.ivl_laws.specs.Sets.{AtLeast, AtMost, Complement, Differences, HasSome, Intersection, IsBetween, IsSubset, SameMembers, Sums, SymmetricDifference, Union, Without};
+ghost use Rattle.ivl_laws.specs.Runs.{IsMaximal};
+ghost use Rattle.ivl_buffers.specs.Answers.{AnswersProducts, AnswersQuestion, AnswersSet, AnswersSize};
+ghost use Rattle.ivl_buffers.specs.Beside.{AnswersPrevious, AnswersRun};
+ghost use Rattle.ivl_buffers.specs.Lookup.{AnswersFit, AnswersNext};
+ghost use Rattle.ivl_buffers.specs.Lists.{IsInOrder, members_i64, pair_i64, pairs_i64, whole_i64};
 
-use ivl_lists::adding::{Adding, of_members};
-use ivl_lists::asking::{Asking, ask, count};
-use ivl_lists::finding::{first_fit, next_from};
-use ivl_lists::making::{OfOne, OfTwo, of_one, of_two};
-use ivl_lists::multiplying::products;
-use ivl_lists::run::RunI64;
-use ivl_lists::{reading, searching};
+use ivl_buffers::comparisons::{Asking, ask, count};
+use ivl_buffers::lookup::{first_fit, next_from};
+use ivl_buffers::products::products;
+use ivl_buffers::run::RunI64;
+use ivl_buffers::set_calls::{OfOne, OfTwo, of_one, of_two};
+use ivl_buffers::sums::{Adding, of_members};
+use ivl_buffers::{beside, reading, sorted_lookup};
 use std::alloc::Global;
 
 /// Writes the members of a list as a list of runs. `O(n log n)`.
 #[unsafe(no_mangle)]
 pub extern "C" fn ivl_normalize_i64(alloc: Global, a: &[RunI64], out: &mut [RunI64]) -> i64
-    ensures { AnswersSet range_i64 (members_i64 a.now) (members_i64 a.now) (pairs_i64 out.old) (pairs_i64 out.new) result }
+    ensures { AnswersSet whole_i64 (members_i64 a.now) (members_i64 a.now) (pairs_i64 out.old) (pairs_i64 out.new) result }
 {
     of_one(alloc, OfOne::Same, a, out)
 }
@@ -25,7 +27,7 @@ pub extern "C" fn ivl_normalize_i64(alloc: Global, a: &[RunI64], out: &mut [RunI
 /// Writes the complement within the range. `O(n log n)`.
 #[unsafe(no_mangle)]
 pub extern "C" fn ivl_complement_i64(alloc: Global, a: &[RunI64], out: &mut [RunI64]) -> i64
-    ensures { AnswersSet range_i64 (members_i64 a.now) (Complement range_i64 (members_i64 a.now)) (pairs_i64 out.old) (pairs_i64 out.new) result }
+    ensures { AnswersSet whole_i64 (members_i64 a.now) (Complement whole_i64 (members_i64 a.now)) (pairs_i64 out.old) (pairs_i64 out.new) result }
 {
     of_one(alloc, OfOne::Rest, a, out)
 }
@@ -39,7 +41,7 @@ pub extern "C" fn ivl_union_i64(
     b: &[RunI64],
     out: &mut [RunI64],
 ) -> i64
-    ensures { AnswersSet range_i64 (Union (members_i64 a.now) (members_i64 b.now)) (Union (members_i64 a.now) (members_i64 b.now))
+    ensures { AnswersSet whole_i64 (Union (members_i64 a.now) (members_i64 b.now)) (Union (members_i64 a.now) (members_i64 b.now))
         (pairs_i64 out.old) (pairs_i64 out.new) result }
 {
     of_two(alloc, OfTwo::Either, a, b, out)
@@ -54,7 +56,7 @@ pub extern "C" fn ivl_intersection_i64(
     b: &[RunI64],
     out: &mut [RunI64],
 ) -> i64
-    ensures { AnswersSet range_i64 (Union (members_i64 a.now) (members_i64 b.now)) (Intersection (members_i64 a.now) (members_i64 b.now))
+    ensures { AnswersSet whole_i64 (Union (members_i64 a.now) (members_i64 b.now)) (Intersection (members_i64 a.now) (members_i64 b.now))
         (pairs_i64 out.old) (pairs_i64 out.new) result }
 {
     of_two(alloc, OfTwo::Both, a, b, out)
@@ -69,7 +71,7 @@ pub extern "C" fn ivl_difference_i64(
     b: &[RunI64],
     out: &mut [RunI64],
 ) -> i64
-    ensures { AnswersSet range_i64 (Union (members_i64 a.now) (members_i64 b.now)) (Without (members_i64 a.now) (members_i64 b.now))
+    ensures { AnswersSet whole_i64 (Union (members_i64 a.now) (members_i64 b.now)) (Without (members_i64 a.now) (members_i64 b.now))
         (pairs_i64 out.old) (pairs_i64 out.new) result }
 {
     of_two(alloc, OfTwo::FirstAlone, a, b, out)
@@ -83,7 +85,7 @@ pub extern "C" fn ivl_symmetric_difference_i64(
     b: &[RunI64],
     out: &mut [RunI64],
 ) -> i64
-    ensures { AnswersSet range_i64 (Union (members_i64 a.now) (members_i64 b.now)) (SymmetricDifference (members_i64 a.now) (members_i64 b.now))
+    ensures { AnswersSet whole_i64 (Union (members_i64 a.now) (members_i64 b.now)) (SymmetricDifference (members_i64 a.now) (members_i64 b.now))
         (pairs_i64 out.old) (pairs_i64 out.new) result }
 {
     of_two(alloc, OfTwo::OneAlone, a, b, out)
@@ -93,7 +95,7 @@ pub extern "C" fn ivl_symmetric_difference_i64(
 /// `O(n log n + m log m)`.
 #[unsafe(no_mangle)]
 pub extern "C" fn ivl_is_subset_i64(alloc: Global, a: &[RunI64], b: &[RunI64]) -> i64
-    ensures { AnswersQuestion range_i64 (Union (members_i64 a.now) (members_i64 b.now)) (IsSubset (members_i64 a.now) (members_i64 b.now)) result }
+    ensures { AnswersQuestion whole_i64 (Union (members_i64 a.now) (members_i64 b.now)) (IsSubset (members_i64 a.now) (members_i64 b.now)) result }
 {
     ask(alloc, Asking::Within, a, b)
 }
@@ -101,7 +103,7 @@ pub extern "C" fn ivl_is_subset_i64(alloc: Global, a: &[RunI64], b: &[RunI64]) -
 /// Returns 1 if some number is a member of both lists, and 0 if not. `O(n log n + m log m)`.
 #[unsafe(no_mangle)]
 pub extern "C" fn ivl_overlap_i64(alloc: Global, a: &[RunI64], b: &[RunI64]) -> i64
-    ensures { AnswersQuestion range_i64 (Union (members_i64 a.now) (members_i64 b.now)) (HasSome (Intersection (members_i64 a.now) (members_i64 b.now))) result }
+    ensures { AnswersQuestion whole_i64 (Union (members_i64 a.now) (members_i64 b.now)) (HasSome (Intersection (members_i64 a.now) (members_i64 b.now))) result }
 {
     ask(alloc, Asking::Meets, a, b)
 }
@@ -109,7 +111,7 @@ pub extern "C" fn ivl_overlap_i64(alloc: Global, a: &[RunI64], b: &[RunI64]) -> 
 /// Returns 1 if the lists have the same members, and 0 if not. `O(n log n + m log m)`.
 #[unsafe(no_mangle)]
 pub extern "C" fn ivl_equal_i64(alloc: Global, a: &[RunI64], b: &[RunI64]) -> i64
-    ensures { AnswersQuestion range_i64 (Union (members_i64 a.now) (members_i64 b.now)) (SameMembers (members_i64 a.now) (members_i64 b.now)) result }
+    ensures { AnswersQuestion whole_i64 (Union (members_i64 a.now) (members_i64 b.now)) (SameMembers (members_i64 a.now) (members_i64 b.now)) result }
 {
     ask(alloc, Asking::Alike, a, b)
 }
@@ -117,7 +119,7 @@ pub extern "C" fn ivl_equal_i64(alloc: Global, a: &[RunI64], b: &[RunI64]) -> i6
 /// Writes the number of members of a list, and returns 0. `O(n log n)`.
 #[unsafe(no_mangle)]
 pub extern "C" fn ivl_size_i64(alloc: Global, a: &[RunI64], size: &mut u64) -> i64
-    ensures { AnswersSize range_i64 (members_i64 a.now) size.old size.new result }
+    ensures { AnswersSize whole_i64 (members_i64 a.now) size.old size.new result }
 {
     count(alloc, a, size)
 }
@@ -137,14 +139,14 @@ pub extern "C" fn ivl_contains_sorted_i64(a: &[RunI64], v: i64) -> bool
     ensures member { IsTrue result → members_i64 a.now v }
     ensures in_order { IsInOrder (pairs_i64 a.now) → (IsTrue result ↔ members_i64 a.now v) }
 {
-    searching::contains(a, v)
+    sorted_lookup::contains(a, v)
 }
 
 /// Writes the sums of a member of each list that are in the range. `O(n m log (n m))`.
 #[unsafe(no_mangle)]
 pub extern "C" fn ivl_sums_i64(alloc: Global, a: &[RunI64], b: &[RunI64], out: &mut [RunI64]) -> i64
-    ensures { AnswersSet range_i64 (Union (members_i64 a.now) (members_i64 b.now))
-        (Intersection (Sums (members_i64 a.now) (members_i64 b.now)) (IsBetween range_i64))
+    ensures { AnswersSet whole_i64 (Union (members_i64 a.now) (members_i64 b.now))
+        (Intersection (Sums (members_i64 a.now) (members_i64 b.now)) (IsBetween whole_i64))
         (pairs_i64 out.old) (pairs_i64 out.new) result }
 {
     of_members(alloc, Adding::Sum, a, b, out)
@@ -159,8 +161,8 @@ pub extern "C" fn ivl_differences_i64(
     b: &[RunI64],
     out: &mut [RunI64],
 ) -> i64
-    ensures { AnswersSet range_i64 (Union (members_i64 a.now) (members_i64 b.now))
-        (Intersection (Differences (members_i64 a.now) (members_i64 b.now)) (IsBetween range_i64))
+    ensures { AnswersSet whole_i64 (Union (members_i64 a.now) (members_i64 b.now))
+        (Intersection (Differences (members_i64 a.now) (members_i64 b.now)) (IsBetween whole_i64))
         (pairs_i64 out.old) (pairs_i64 out.new) result }
 {
     of_members(alloc, Adding::Difference, a, b, out)
@@ -175,7 +177,7 @@ pub extern "C" fn ivl_products_i64(
     b: &[RunI64],
     out: &mut [RunI64],
 ) -> i64
-    ensures { AnswersProducts range_i64 (members_i64 a.now) (members_i64 b.now) (pairs_i64 out.old) (pairs_i64 out.new) result }
+    ensures { AnswersProducts whole_i64 (members_i64 a.now) (members_i64 b.now) (pairs_i64 out.old) (pairs_i64 out.new) result }
 {
     products(alloc, a, b, out)
 }
@@ -198,7 +200,32 @@ pub extern "C" fn ivl_next_from_sorted_i64(a: &[RunI64], v: i64, found: &mut i64
     ensures same { result ≡ false → found.new ≡ found.old }
     ensures in_order { IsInOrder (pairs_i64 a.now) → AnswersNext v (members_i64 a.now) found.old found.new result }
 {
-    searching::next_from(a, v, found)
+    sorted_lookup::next_from(a, v, found)
+}
+
+/// Writes the greatest member of a sorted list that is at most `v`. Returns true exactly when there
+/// is one. For any other list, what is written is a member that is at most `v`. `O(log n)`, does
+/// not allocate.
+#[unsafe(no_mangle)]
+pub extern "C" fn ivl_previous_to_sorted_i64(a: &[RunI64], v: i64, found: &mut i64) -> bool
+    ensures member { IsTrue result → AtMost v (members_i64 a.now) found.new }
+    ensures same { result ≡ false → found.new ≡ found.old }
+    ensures in_order { IsInOrder (pairs_i64 a.now) → AnswersPrevious v (members_i64 a.now) found.old found.new result }
+{
+    beside::previous_to(a, v, found)
+}
+
+/// Writes the run that holds `v` in a list of runs. Returns true exactly when there is one. For a
+/// list that is sorted, the same with a pair of the list that holds `v`. For any other list, what
+/// is written is a pair of the list that holds `v`. `O(log n)`, does not allocate.
+#[unsafe(no_mangle)]
+pub extern "C" fn ivl_run_at_sorted_i64(a: &[RunI64], v: i64, found: &mut RunI64) -> bool
+    ensures member { IsTrue result → IsBetween (pair_i64 found.new) v × IsSubset (IsBetween (pair_i64 found.new)) (members_i64 a.now) }
+    ensures same { result ≡ false → pair_i64 found.new ≡ pair_i64 found.old }
+    ensures in_order { IsInOrder (pairs_i64 a.now) → (IsTrue result ↔ members_i64 a.now v) }
+    ensures run { IsMaximal (pairs_i64 a.now) → AnswersRun v (members_i64 a.now) (pair_i64 found.old) (pair_i64 found.new) result }
+{
+    beside::run_at(a, v, found)
 }
 
 /// Writes the lowest `count` consecutive members as one run and returns 1, or returns 0 if there
@@ -210,7 +237,7 @@ pub extern "C" fn ivl_first_fit_i64(
     count: u64,
     found: &mut RunI64,
 ) -> i64
-    ensures { AnswersFit range_i64 count (members_i64 a.now) (pair_i64 found.old) (pair_i64 found.new) result }
+    ensures { AnswersFit whole_i64 count (members_i64 a.now) (pair_i64 found.old) (pair_i64 found.new) result }
 {
     first_fit(alloc, a, count, found)
 }

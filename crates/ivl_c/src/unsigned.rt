@@ -1,23 +1,25 @@
 //! The calls over u64, whose sets range from 0 to `UINT64_MAX - 1`.
 ghost use Rattle.std.specs.Prelude.{◌≡◌, ◌↔◌, false, IsTrue, pos};
-ghost use Rattle.ivl_laws.specs.Sets.{AtLeast, Complement, Differences, HasSome, Intersection, IsBetween, IsSubset, SameMembers, Sums, SymmetricDifference, Union, Without};
-ghost use Rattle.ivl_lists.specs.Answers.{AnswersProducts, AnswersQuestion, AnswersSet, AnswersSize};
-ghost use Rattle.ivl_lists.specs.Finding.{AnswersFit, AnswersNext};
-ghost use Rattle.ivl_lists.specs.Lists.{IsInOrder, members_u64, pair_u64, pairs_u64, range_u64};
+ghost use Rattle.ivl_laws.specs.Sets.{AtLeast, AtMost, Complement, Differences, HasSome, Intersection, IsBetween, IsSubset, SameMembers, Sums, SymmetricDifference, Union, Without};
+ghost use Rattle.ivl_laws.specs.Runs.{IsMaximal};
+ghost use Rattle.ivl_buffers.specs.Answers.{AnswersProducts, AnswersQuestion, AnswersSet, AnswersSize};
+ghost use Rattle.ivl_buffers.specs.Beside.{AnswersPrevious, AnswersRun};
+ghost use Rattle.ivl_buffers.specs.Lookup.{AnswersFit, AnswersNext};
+ghost use Rattle.ivl_buffers.specs.Lists.{IsInOrder, members_u64, pair_u64, pairs_u64, whole_u64};
 
-use ivl_lists::adding::{Adding, of_members};
-use ivl_lists::asking::{Asking, ask, count};
-use ivl_lists::finding::{first_fit, next_from};
-use ivl_lists::making::{OfOne, OfTwo, of_one, of_two};
-use ivl_lists::multiplying::products;
-use ivl_lists::run::RunU64;
-use ivl_lists::{reading, searching};
+use ivl_buffers::comparisons::{Asking, ask, count};
+use ivl_buffers::lookup::{first_fit, next_from};
+use ivl_buffers::products::products;
+use ivl_buffers::run::RunU64;
+use ivl_buffers::set_calls::{OfOne, OfTwo, of_one, of_two};
+use ivl_buffers::sums::{Adding, of_members};
+use ivl_buffers::{beside, reading, sorted_lookup};
 use std::alloc::Global;
 
 /// Writes the members of a list as a list of runs. `O(n log n)`.
 #[unsafe(no_mangle)]
 pub extern "C" fn ivl_normalize_u64(alloc: Global, a: &[RunU64], out: &mut [RunU64]) -> i64
-    ensures { AnswersSet range_u64 (members_u64 a.now) (members_u64 a.now) (pairs_u64 out.old) (pairs_u64 out.new) result }
+    ensures { AnswersSet whole_u64 (members_u64 a.now) (members_u64 a.now) (pairs_u64 out.old) (pairs_u64 out.new) result }
 {
     of_one(alloc, OfOne::Same, a, out)
 }
@@ -25,7 +27,7 @@ pub extern "C" fn ivl_normalize_u64(alloc: Global, a: &[RunU64], out: &mut [RunU
 /// Writes the complement within the range. `O(n log n)`.
 #[unsafe(no_mangle)]
 pub extern "C" fn ivl_complement_u64(alloc: Global, a: &[RunU64], out: &mut [RunU64]) -> i64
-    ensures { AnswersSet range_u64 (members_u64 a.now) (Complement range_u64 (members_u64 a.now)) (pairs_u64 out.old) (pairs_u64 out.new) result }
+    ensures { AnswersSet whole_u64 (members_u64 a.now) (Complement whole_u64 (members_u64 a.now)) (pairs_u64 out.old) (pairs_u64 out.new) result }
 {
     of_one(alloc, OfOne::Rest, a, out)
 }
@@ -39,7 +41,7 @@ pub extern "C" fn ivl_union_u64(
     b: &[RunU64],
     out: &mut [RunU64],
 ) -> i64
-    ensures { AnswersSet range_u64 (Union (members_u64 a.now) (members_u64 b.now)) (Union (members_u64 a.now) (members_u64 b.now))
+    ensures { AnswersSet whole_u64 (Union (members_u64 a.now) (members_u64 b.now)) (Union (members_u64 a.now) (members_u64 b.now))
         (pairs_u64 out.old) (pairs_u64 out.new) result }
 {
     of_two(alloc, OfTwo::Either, a, b, out)
@@ -54,7 +56,7 @@ pub extern "C" fn ivl_intersection_u64(
     b: &[RunU64],
     out: &mut [RunU64],
 ) -> i64
-    ensures { AnswersSet range_u64 (Union (members_u64 a.now) (members_u64 b.now)) (Intersection (members_u64 a.now) (members_u64 b.now))
+    ensures { AnswersSet whole_u64 (Union (members_u64 a.now) (members_u64 b.now)) (Intersection (members_u64 a.now) (members_u64 b.now))
         (pairs_u64 out.old) (pairs_u64 out.new) result }
 {
     of_two(alloc, OfTwo::Both, a, b, out)
@@ -69,7 +71,7 @@ pub extern "C" fn ivl_difference_u64(
     b: &[RunU64],
     out: &mut [RunU64],
 ) -> i64
-    ensures { AnswersSet range_u64 (Union (members_u64 a.now) (members_u64 b.now)) (Without (members_u64 a.now) (members_u64 b.now))
+    ensures { AnswersSet whole_u64 (Union (members_u64 a.now) (members_u64 b.now)) (Without (members_u64 a.now) (members_u64 b.now))
         (pairs_u64 out.old) (pairs_u64 out.new) result }
 {
     of_two(alloc, OfTwo::FirstAlone, a, b, out)
@@ -83,7 +85,7 @@ pub extern "C" fn ivl_symmetric_difference_u64(
     b: &[RunU64],
     out: &mut [RunU64],
 ) -> i64
-    ensures { AnswersSet range_u64 (Union (members_u64 a.now) (members_u64 b.now)) (SymmetricDifference (members_u64 a.now) (members_u64 b.now))
+    ensures { AnswersSet whole_u64 (Union (members_u64 a.now) (members_u64 b.now)) (SymmetricDifference (members_u64 a.now) (members_u64 b.now))
         (pairs_u64 out.old) (pairs_u64 out.new) result }
 {
     of_two(alloc, OfTwo::OneAlone, a, b, out)
@@ -93,7 +95,7 @@ pub extern "C" fn ivl_symmetric_difference_u64(
 /// `O(n log n + m log m)`.
 #[unsafe(no_mangle)]
 pub extern "C" fn ivl_is_subset_u64(alloc: Global, a: &[RunU64], b: &[RunU64]) -> i64
-    ensures { AnswersQuestion range_u64 (Union (members_u64 a.now) (members_u64 b.now)) (IsSubset (members_u64 a.now) (members_u64 b.now)) result }
+    ensures { AnswersQuestion whole_u64 (Union (members_u64 a.now) (members_u64 b.now)) (IsSubset (members_u64 a.now) (members_u64 b.now)) result }
 {
     ask(alloc, Asking::Within, a, b)
 }
@@ -101,7 +103,7 @@ pub extern "C" fn ivl_is_subset_u64(alloc: Global, a: &[RunU64], b: &[RunU64]) -
 /// Returns 1 if some number is a member of both lists, and 0 if not. `O(n log n + m log m)`.
 #[unsafe(no_mangle)]
 pub extern "C" fn ivl_overlap_u64(alloc: Global, a: &[RunU64], b: &[RunU64]) -> i64
-    ensures { AnswersQuestion range_u64 (Union (members_u64 a.now) (members_u64 b.now)) (HasSome (Intersection (members_u64 a.now) (members_u64 b.now))) result }
+    ensures { AnswersQuestion whole_u64 (Union (members_u64 a.now) (members_u64 b.now)) (HasSome (Intersection (members_u64 a.now) (members_u64 b.now))) result }
 {
     ask(alloc, Asking::Meets, a, b)
 }
@@ -109,7 +111,7 @@ pub extern "C" fn ivl_overlap_u64(alloc: Global, a: &[RunU64], b: &[RunU64]) -> 
 /// Returns 1 if the lists have the same members, and 0 if not. `O(n log n + m log m)`.
 #[unsafe(no_mangle)]
 pub extern "C" fn ivl_equal_u64(alloc: Global, a: &[RunU64], b: &[RunU64]) -> i64
-    ensures { AnswersQuestion range_u64 (Union (members_u64 a.now) (members_u64 b.now)) (SameMembers (members_u64 a.now) (members_u64 b.now)) result }
+    ensures { AnswersQuestion whole_u64 (Union (members_u64 a.now) (members_u64 b.now)) (SameMembers (members_u64 a.now) (members_u64 b.now)) result }
 {
     ask(alloc, Asking::Alike, a, b)
 }
@@ -117,7 +119,7 @@ pub extern "C" fn ivl_equal_u64(alloc: Global, a: &[RunU64], b: &[RunU64]) -> i6
 /// Writes the number of members of a list, and returns 0. `O(n log n)`.
 #[unsafe(no_mangle)]
 pub extern "C" fn ivl_size_u64(alloc: Global, a: &[RunU64], size: &mut u64) -> i64
-    ensures { AnswersSize range_u64 (members_u64 a.now) size.old size.new result }
+    ensures { AnswersSize whole_u64 (members_u64 a.now) size.old size.new result }
 {
     count(alloc, a, size)
 }
@@ -137,14 +139,14 @@ pub extern "C" fn ivl_contains_sorted_u64(a: &[RunU64], v: u64) -> bool
     ensures member { IsTrue result → members_u64 a.now (pos v) }
     ensures in_order { IsInOrder (pairs_u64 a.now) → (IsTrue result ↔ members_u64 a.now (pos v)) }
 {
-    searching::contains(a, v)
+    sorted_lookup::contains(a, v)
 }
 
 /// Writes the sums of a member of each list that are in the range. `O(n m log (n m))`.
 #[unsafe(no_mangle)]
 pub extern "C" fn ivl_sums_u64(alloc: Global, a: &[RunU64], b: &[RunU64], out: &mut [RunU64]) -> i64
-    ensures { AnswersSet range_u64 (Union (members_u64 a.now) (members_u64 b.now))
-        (Intersection (Sums (members_u64 a.now) (members_u64 b.now)) (IsBetween range_u64))
+    ensures { AnswersSet whole_u64 (Union (members_u64 a.now) (members_u64 b.now))
+        (Intersection (Sums (members_u64 a.now) (members_u64 b.now)) (IsBetween whole_u64))
         (pairs_u64 out.old) (pairs_u64 out.new) result }
 {
     of_members(alloc, Adding::Sum, a, b, out)
@@ -159,8 +161,8 @@ pub extern "C" fn ivl_differences_u64(
     b: &[RunU64],
     out: &mut [RunU64],
 ) -> i64
-    ensures { AnswersSet range_u64 (Union (members_u64 a.now) (members_u64 b.now))
-        (Intersection (Differences (members_u64 a.now) (members_u64 b.now)) (IsBetween range_u64))
+    ensures { AnswersSet whole_u64 (Union (members_u64 a.now) (members_u64 b.now))
+        (Intersection (Differences (members_u64 a.now) (members_u64 b.now)) (IsBetween whole_u64))
         (pairs_u64 out.old) (pairs_u64 out.new) result }
 {
     of_members(alloc, Adding::Difference, a, b, out)
@@ -175,7 +177,7 @@ pub extern "C" fn ivl_products_u64(
     b: &[RunU64],
     out: &mut [RunU64],
 ) -> i64
-    ensures { AnswersProducts range_u64 (members_u64 a.now) (members_u64 b.now) (pairs_u64 out.old) (pairs_u64 out.new) result }
+    ensures { AnswersProducts whole_u64 (members_u64 a.now) (members_u64 b.now) (pairs_u64 out.old) (pairs_u64 out.new) result }
 {
     products(alloc, a, b, out)
 }
@@ -198,7 +200,32 @@ pub extern "C" fn ivl_next_from_sorted_u64(a: &[RunU64], v: u64, found: &mut u64
     ensures same { result ≡ false → found.new ≡ found.old }
     ensures in_order { IsInOrder (pairs_u64 a.now) → AnswersNext (pos v) (members_u64 a.now) (pos found.old) (pos found.new) result }
 {
-    searching::next_from(a, v, found)
+    sorted_lookup::next_from(a, v, found)
+}
+
+/// Writes the greatest member of a sorted list that is at most `v`. Returns true exactly when there
+/// is one. For any other list, what is written is a member that is at most `v`. `O(log n)`, does
+/// not allocate.
+#[unsafe(no_mangle)]
+pub extern "C" fn ivl_previous_to_sorted_u64(a: &[RunU64], v: u64, found: &mut u64) -> bool
+    ensures member { IsTrue result → AtMost (pos v) (members_u64 a.now) (pos found.new) }
+    ensures same { result ≡ false → found.new ≡ found.old }
+    ensures in_order { IsInOrder (pairs_u64 a.now) → AnswersPrevious (pos v) (members_u64 a.now) (pos found.old) (pos found.new) result }
+{
+    beside::previous_to(a, v, found)
+}
+
+/// Writes the run that holds `v` in a list of runs. Returns true exactly when there is one. For a
+/// list that is sorted, the same with a pair of the list that holds `v`. For any other list, what
+/// is written is a pair of the list that holds `v`. `O(log n)`, does not allocate.
+#[unsafe(no_mangle)]
+pub extern "C" fn ivl_run_at_sorted_u64(a: &[RunU64], v: u64, found: &mut RunU64) -> bool
+    ensures member { IsTrue result → IsBetween (pair_u64 found.new) (pos v) × IsSubset (IsBetween (pair_u64 found.new)) (members_u64 a.now) }
+    ensures same { result ≡ false → pair_u64 found.new ≡ pair_u64 found.old }
+    ensures in_order { IsInOrder (pairs_u64 a.now) → (IsTrue result ↔ members_u64 a.now (pos v)) }
+    ensures run { IsMaximal (pairs_u64 a.now) → AnswersRun (pos v) (members_u64 a.now) (pair_u64 found.old) (pair_u64 found.new) result }
+{
+    beside::run_at(a, v, found)
 }
 
 /// Writes the lowest `count` consecutive members as one run and returns 1, or returns 0 if there
@@ -210,7 +237,7 @@ pub extern "C" fn ivl_first_fit_u64(
     count: u64,
     found: &mut RunU64,
 ) -> i64
-    ensures { AnswersFit range_u64 count (members_u64 a.now) (pair_u64 found.old) (pair_u64 found.new) result }
+    ensures { AnswersFit whole_u64 count (members_u64 a.now) (pair_u64 found.old) (pair_u64 found.new) result }
 {
     first_fit(alloc, a, count, found)
 }

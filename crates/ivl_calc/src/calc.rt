@@ -1,3 +1,3 @@
 //! The calculator: registers, commands and replies.
 
-pub use ivl_registers::{Calc, Command, Refusal, Reply, laws};
+pub use ivl_calculator::{Calc, Command, Refusal, Reply, laws};

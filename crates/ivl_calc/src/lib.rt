@@ -2,7 +2,7 @@
 //!
 //! [`Calc`], also in [`calc`], carries out commands over registers that hold interval sets. [`within`] has the sums
 //! and differences of sets, cut to the range or to a window, and [`store`] narrows domains by
-//! constraints `x + y = z`. A program that needs only the calculator depends on `ivl_registers`,
+//! constraints `x + y = z`. A program that needs only the calculator depends on `ivl_calculator`,
 //! and does not wait for the proof of the store.
 //!
 //! ```

@@ -7,7 +7,7 @@ use Rattle.std.specs.Prelude.{◌≡◌, ◌⊎◌, ℕ, ℤ, Bool, true, false,
 use Rattle.std.specs.Str.{is_utf8}
 use Rattle.ivl_laws.specs.Sets.{IsBetween, Without}
 use Rattle.ivl_laws.specs.Runs.{Covers, IsRunsOf}
-use Rattle.intervallum.specs.Rooms.{FitsAt, IsFirstFit}
+use Rattle.intervallum.specs.FirstFit.{FitsAt, IsFirstFit}
 use Rattle.ivl_lines.specs.Lines.{with_newline, words_of}
 use Rattle.ivl_calendar.specs.Days.{IsSpanText, AreSpansText}
 use Rattle.ivl_calendar.specs.Rooms.{Rooms, busy_of, IsAdded, Books, IsFreeInAll}

@@ -2,7 +2,7 @@
 ghost use Rattle.std.specs.Prelude.{◌≡◌, ◌<◌, ◌↔◌, ℤ, [], List, IfOk, IsTrue, MatchOption, OnErr};
 ghost use Rattle.ivl_laws.specs.Sets.{HasNone, Intersection, IsBetween, Union, Without};
 ghost use Rattle.ivl_laws.specs.Runs.{Covers, IsRunsOf};
-ghost use Rattle.intervallum.specs.Rooms.{FitsAt, IsFirstFit};
+ghost use Rattle.intervallum.specs.FirstFit.{FitsAt, IsFirstFit};
 ghost use Rattle.ivl_calendar.specs.Rooms.{IsFreeInAll, rooms_of};
 
 use intervallum::interval::Interval;

@@ -8,3 +8,4 @@ mod edits;
 mod large;
 mod readme;
 mod reads;
+mod windows;

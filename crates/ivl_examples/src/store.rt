@@ -4,6 +4,7 @@
 //! runs and texts, and share a few functions that have both.
 
 mod narrowing;
+mod network;
 mod posting;
 mod rounds;
 mod variables;

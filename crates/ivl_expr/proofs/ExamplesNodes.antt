@@ -8,7 +8,7 @@ use Rattle.ivl_laws.specs.Families.{set_at}
 use Rattle.ivl_laws.proofs.Products.{both_covered, run_ends}
 use Rattle.ivl_expr.specs.declared.expr.Expr.TheVariants.{Var, Const, Add', Sub', Mul'}
 use Rattle.ivl_expr.specs.Nodes.{AllNodesIn, HoldsNodes, JoinsProducts, Node, SomeNodeOutside, subexpressions}
-use Rattle.ivl_expr.specs.NodeSets.{AllPresent}
+use Rattle.ivl_expr.specs.NodeSets.{VariablesBelow}
 use Rattle.ivl_expr.proofs.Least.{nodes_are_held, products_are_joined}
 
 abbrev itself : ℤ → ℤ
@@ -88,15 +88,15 @@ no_node_outside_at_the_end_of_the_range (n, inl is, (z, (m, out))) =
     out (omega (arith, ints), omega (arith, ints))
 no_node_outside_at_the_end_of_the_range (n, inr i, out) = i
 
--- ---- AllPresent
+-- ---- VariablesBelow
 
-both_variables_have_sets : (p q : _) → AllPresent {B = ℤ} 2 (Add' p (Var 0) q (Var 1))
+both_variables_have_sets : (p q : _) → VariablesBelow {B = ℤ} 2 (Add' p (Var 0) q (Var 1))
 both_variables_have_sets p q = (omega arith, omega arith)
 
-constants_ask_for_none : AllPresent 0 (Const (pos 1))
+constants_ask_for_none : VariablesBelow 0 (Const (pos 1))
 constants_ask_for_none = tt
 
-the_count_itself_is_missing : ¬ (AllPresent {B = ℤ} 2 (Var 2))
+the_count_itself_is_missing : ¬ (VariablesBelow {B = ℤ} 2 (Var 2))
 the_count_itself_is_missing h = omega arith
 
 -- ---- JoinsProducts

@@ -10,7 +10,7 @@ use Rattle.ivl_expr.specs.declared.expr.Expr.{Expr}
 use Rattle.ivl_expr.specs.declared.expr.Expr.TheViews.{Add, Sub, Mul}
 use Rattle.ivl_expr.specs.declared.expr.Expr.TheVariants.{Var, Const, Add', Sub', Mul'}
 use Rattle.ivl_expr.specs.Nodes.{subexpressions}
-use Rattle.ivl_expr.specs.NodeSets.{AllPresent}
+use Rattle.ivl_expr.specs.NodeSets.{VariablesBelow}
 use Rattle.ivl_expr.specs.Variables.{variables, first_missing, occurrences, ReadOnce, ShareVariable}
 
 -- the variables of e are those of a and then those of b
@@ -93,7 +93,7 @@ module _ {B : Type 0} (count : ℕ) (e a b : Expr B) (p : IsPair e a b) where
   none_missing h = none_of_either _ _ (sym missing-pair ∙ h)
 
 -- where no variable is missing, each is present
-pub all_present : {B : Type 0} (count : ℕ) (e : Expr B) → first_missing count e ≡ None → AllPresent count e
+pub all_present : {B : Type 0} (count : ℕ) (e : Expr B) → first_missing count e ≡ None → VariablesBelow count e
 all_present count (Var i) h = present count i h
   where
     present : (count i : ℕ) → cond (leb count i) (Some i) None ≡ None → i < count

@@ -18,20 +18,12 @@ use Rattle.ivl_expr.specs.declared.expr.Expr.TheViews.{Add, Sub, Mul}
 use Rattle.ivl_expr.specs.Variables.{occurrences, ReadOnce}
 use Rattle.ivl_expr.specs.Values.{Values}
 use Rattle.ivl_expr.specs.Nodes.{AllNodesIn, Node, SomeNodeOutside, subexpressions}
-use Rattle.ivl_expr.specs.NodeSets.{AllPresent, IsNodeSet}
+use Rattle.ivl_expr.specs.NodeSets.{VariablesBelow, IsNodeSet}
 use Rattle.ivl_expr.proofs.Meanings.{value_of_sum, value_of_difference, value_of_product, value_of_variable, value_of_constant}
 use Rattle.ivl_expr.proofs.Pairs.{IsPair, IsPair-from}
+use Rattle.ivl_laws.proofs.Counts.{in-append_left, in-append_right}
 
 -- ---- lists
-
-in-append_left : {X : Type 0} (xs ys : List X) (x : X) → IsIn xs x → IsIn (xs ++ ys) x
-in-append_left [] ys x i = absurd i
-in-append_left (y ∷ xs) ys x (inl e) = inl e
-in-append_left (y ∷ xs) ys x (inr i) = inr (in-append_left xs ys x i)
-
-in-append_right : {X : Type 0} (xs ys : List X) (x : X) → IsIn ys x → IsIn (xs ++ ys) x
-in-append_right [] ys x i = i
-in-append_right (y ∷ xs) ys x i = inr (in-append_right xs ys x i)
 
 all_from_in : {X : Type 0} (P : X → Type 0) (xs : List X) → ((x : X) → IsIn xs x → P x) → All P xs
 all_from_in P [] h = All-nil P
@@ -168,9 +160,9 @@ module _ {B : Type 0} (whole : ℤ × ℤ) (number : B → ℤ) (sets : ℕ → 
 
 -- the set of a variable that is lent
 pub lent_node : {B : Type 0} (whole : ℤ × ℤ) (number : B → ℤ) (sets : List (List (ℤ × ℤ))) (e : Expr B) (i : ℕ) (L set : List (ℤ × ℤ)) →
-    e ≡ Var i → AllPresent (length sets) e → set ≡ get_or sets i set → L ≡ set → IsRunListIn whole set → IsNodeSet whole number e (set_at sets) L
+    e ≡ Var i → VariablesBelow (length sets) e → set ≡ get_or sets i set → L ≡ set → IsRunListIn whole set → IsNodeSet whole number e (set_at sets) L
 lent_node whole number sets e i L set is present seen lent runs =
-    let below : i < length sets = subst (AllPresent (length sets)) is present in
+    let below : i < length sets = subst (VariablesBelow (length sets)) is present in
     let same : set ≡ slice_index_or sets i [] = seen ∙ get_or_default sets i set [] below in
     variable_node whole number (set_at sets) e i L is
     (subst (λ l. IsRunsOf L (Covers l)) same (subst (λ l. IsRunsOf L (Covers l)) lent (IsRunsOf-covers L (subst IsMaximal (sym lent) runs.maximal))))

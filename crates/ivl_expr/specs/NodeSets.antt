@@ -1,6 +1,6 @@
 -- What the walk over the nodes makes.
 --     runs_of set      the runs of a set that is lent or made
---     AllPresent count e      each variable is below the count
+--     VariablesBelow count e      each variable is below the count
 --     IsNodeSet whole number e sets L      L is the set of the node e, the sets of e and of all below lie in the range, and
 --         where no variable occurs twice the ends of the runs are values
 use Rattle.std.specs.Prelude.{ℕ, ◌<◌, ℤ, List, All}
@@ -17,12 +17,12 @@ abbrev pub runs_of : {B O : Type 0} → NodeSet B O → List (ℤ × ℤ)
 runs_of (Lent set) = set.now
 runs_of (Made set) = set
 
-abbrev pub AllPresent : {B : Type 0} → ℕ → Expr B → Type 0
-AllPresent count (Var i) = i < count
-AllPresent count (Const c) = Unit {0}
-AllPresent count (Add' p a q b) = AllPresent count a × AllPresent count b
-AllPresent count (Sub' p a q b) = AllPresent count a × AllPresent count b
-AllPresent count (Mul' p a q b) = AllPresent count a × AllPresent count b
+abbrev pub VariablesBelow : {B : Type 0} → ℕ → Expr B → Type 0
+VariablesBelow count (Var i) = i < count
+VariablesBelow count (Const c) = Unit {0}
+VariablesBelow count (Add' p a q b) = VariablesBelow count a × VariablesBelow count b
+VariablesBelow count (Sub' p a q b) = VariablesBelow count a × VariablesBelow count b
+VariablesBelow count (Mul' p a q b) = VariablesBelow count a × VariablesBelow count b
 
 pub record IsNodeSet {B : Type 0} (whole : ℤ × ℤ) (number : B → ℤ) (e : Expr B) (sets : ℕ → ℤ → Type 0) (L : List (ℤ × ℤ)) : Type 0 where
   pub nodes : AllNodesIn whole number e sets

@@ -3,7 +3,7 @@ ghost use Rattle.std.specs.Prelude.{◌≡◌, ◌≢◌, ◌↔◌, ℕ, ℤ, A
 ghost use Rattle.ivl_laws.specs.Families.{set_at};
 ghost use Rattle.ivl_laws.specs.Runs.{Covers, IsRunListIn, IsRunsOf};
 ghost use Rattle.ivl_laws.specs.Sets.{Differences, HasSome, IsBetween, IsSubset, Only, Products, Sums, Without};
-ghost use Rattle.ivl_expr.specs.NodeSets.{AllPresent, IsNodeSet, runs_of};
+ghost use Rattle.ivl_expr.specs.NodeSets.{VariablesBelow, IsNodeSet, runs_of};
 ghost use Rattle.ivl_expr.specs.Nodes.{AllNodesIn, Node, SomeNodeOutside};
 ghost use Rattle.ivl_expr.specs.Values.{Values};
 ghost use Rattle.ivl_expr.specs.Variables.{NoProduct, ReadOnce, first_missing};
@@ -159,7 +159,7 @@ fn node_set<'a, B: Width>(
     expr: &Expr<B>,
     sets: &'a [IntervalSet<B>],
 ) -> Result<NodeSet<'a, B>, EvalFault>
-    requires { AllPresent (length sets.now) expr.now }
+    requires { VariablesBelow (length sets.now) expr.now }
     ensures present { (i : ℕ) → result ≢ Err (EvalFault.Missing i) }
     ensures range { result ≡ Err EvalFault.Range → SomeNodeOutside B.whole B.value expr.now (set_at sets.now) }
     ensures is { IfOk result (λ s. IsNodeSet B.whole B.value expr.now (set_at sets.now) (runs_of s)) }

@@ -2,7 +2,7 @@
 ghost use Rattle.std.specs.Prelude.{◌<◌, ℤ, IfOk, MatchOption};
 ghost use Rattle.ivl_laws.specs.Sets.{IsBetween, Union, Without};
 ghost use Rattle.ivl_laws.specs.Runs.{Covers, IsRunsOf};
-ghost use Rattle.intervallum.specs.Rooms.{FitsAt, IsFirstFit};
+ghost use Rattle.intervallum.specs.FirstFit.{FitsAt, IsFirstFit};
 
 use intervallum::prelude::*;
 use std::alloc::AllocError;

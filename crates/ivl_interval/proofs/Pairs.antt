@@ -123,9 +123,6 @@ not_that r e f h = let t = e.1 h in let u : ◌≡◌ {A = Bool} true false = sy
 pub not_below : (a b : ℤ) (r : Bool) → (IsTrue r ↔ (a <ℤ b)) → r ≡ false → b ≤ℤ a
 not_below a b r e f = by_lt_z a b (λ k. absurd (not_that r e f k)) (λ k. k)
 
-pub not_at_most : (a b : ℤ) (r : Bool) → (IsTrue r ↔ (a ≤ℤ b)) → r ≡ false → b <ℤ a
-not_at_most a b r e f = by_lt_z b a (λ k. k) (λ k. absurd (not_that r e f k))
-
 -- ---- cuts at a value
 
 pub above_none : (p r : ℤ × ℤ) (v : ℤ) → IsCrossed r → p.1 ≤ℤ v → SameMembers (IsBetween r) (Above v (IsBetween p))

@@ -5,18 +5,16 @@ use Rattle.std.specs.Fmt.{◌++?◌}
 use Rattle.std.proofs.lemmas.Int.{ints}
 use Rattle.ivl_laws.specs.Sets.{IsCrossed}
 use Rattle.ivl_interval.specs.Text.{interval_text, styled_interval_text}
-
-int_lt-true : (a b : ℤ) → a <ℤ b → int_lt a b ≡ true
-int_lt-true a b h = grind (arith, ints)
+use Rattle.ivl_laws.proofs.Orders.{int_lt_true}
 
 int_lt-false : (a b : ℤ) → ¬ (a <ℤ b) → int_lt a b ≡ false
 int_lt-false a b h = grind (arith, ints)
 
 pub crossed_text : (p : ℤ × ℤ) (lower upper : Option (List ℕ)) → IsCrossed p → Some (codes "{}") ≡ interval_text p lower upper
-crossed_text p lower upper c = rw (int_lt-true p.1 p.0 c)
+crossed_text p lower upper c = rw (int_lt_true p.1 p.0 c)
 
 pub crossed_styled_text : (p : ℤ × ℤ) → IsCrossed p → Some (codes "{}") ≡ styled_interval_text p
-crossed_styled_text p c = rw (int_lt-true p.1 p.0 c)
+crossed_styled_text p c = rw (int_lt_true p.1 p.0 c)
 
 -- the bounds are the values of the numbers
 pub open_text : {K : Type 0} (at : ℤ → K) (output : K → Option (List ℕ)) (p : ℤ × ℤ) (l u : ℤ) (x y : K) → (l, u) ≡ p → at l ≡ x → at u ≡ y → ¬ (IsCrossed p)

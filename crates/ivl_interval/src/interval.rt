@@ -1,6 +1,6 @@
 //! A closed interval between two bounds.
 ghost use Rattle.std.specs.Prelude.{◌≡◌, ◌↔◌, ℤ, IsTrue, ⊤};
-ghost use Rattle.ivl_laws.specs.Sets.{IsBetween, IsInRange, SameMembers};
+ghost use Rattle.ivl_laws.specs.Sets.{IsBetween, IsInRange, IsSubset, SameMembers};
 ghost use Rattle.ivl_interval.specs.SameInterval.{same_interval, same_interval_laws, same_interval_equiv};
 
 use crate::ops::IsEmpty;
@@ -44,6 +44,54 @@ impl<B: Width> Model for Interval<B> {
     ghost inverse = { λ p. record { lb = B.at p.0; ub = B.at p.1 } };
 
     ghost inverse_ok = { λ a h i. record { lb = h.1 i; ub = h.2 i } };
+}
+
+impl<B: Width> Interval<B> {
+    /// Returns true exactly when `new(lb, ub)` may be called: `lb` is not below the range and `ub`
+    /// is not above it. The two may cross, so `in_range(8, 3)` is true, and `new(8, 3)` is empty.
+    ///
+    /// ```
+    /// assert!(rt; Interval::in_range(8u8, 3) && !Interval::in_range(0u8, 255));
+    /// ```
+    pub fn in_range(lb: B, ub: B) -> bool
+        ensures { IsTrue result ↔ IsInRange B.whole (B.value lb, B.value ub) }
+    {
+        lb >= B::min_value() && ub <= B::max_value()
+    }
+
+    /// Returns the stored lower bound, even if the interval is empty. So intervals can be sorted by
+    /// it without a test for empty ones. For the least member, use `lower`.
+    ///
+    /// ```
+    /// assert_eq!(rt; Interval::new(8i32, 3).lower_bound(), 8);
+    /// ```
+    pub fn lower_bound(&self) -> B
+        ensures { B.value result ≡ self.now.0 }
+    {
+        self.lb
+    }
+
+    /// Returns the stored upper bound, even if the interval is empty. For the greatest member, use
+    /// `upper`.
+    ///
+    /// ```
+    /// assert_eq!(rt; Interval::new(8i32, 3).upper_bound(), 3);
+    /// ```
+    pub fn upper_bound(&self) -> B
+        ensures { B.value result ≡ self.now.1 }
+    {
+        self.ub
+    }
+
+    /// Does nothing: its contract states that each member is in the range.
+    ///
+    /// ```
+    /// let a = Interval::new(3i32, 8);
+    /// a.in_whole(); // a proof knows from here on that the members of `a` are in the range
+    /// ```
+    pub fn in_whole(self)
+        ensures { IsSubset (IsBetween self) (IsBetween B.whole) }
+    {}
 }
 
 impl<B: Width> Clone for Interval<B> {

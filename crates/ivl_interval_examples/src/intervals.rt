@@ -95,6 +95,11 @@ fn bounds_and_members(rt: HostRuntime) {
         &[a.lower(), a.upper(), Interval::new(8i32, 3).lower_bound()],
         &[3, 8, 8],
     );
+    check(
+        &rt,
+        &[a.upper_bound(), Interval::new(8i32, 3).upper_bound()],
+        &[8, 3],
+    );
     a.in_whole(); // a proof knows from here on that the members of `a` are in the range
     check(&rt, &[Interval::new(-3i32, 3).size()], &[7]);
     check(&rt, &[Interval::<u8>::whole().size()], &[255]);

@@ -5,7 +5,7 @@ use Rattle.serde_json.specs.Data.{null, boolean, number, string, array, object, 
 use Rattle.ivl_laws.specs.Sets.{IsBetween, Only}
 use Rattle.ivl_json.specs.declared.faults.ItemFault.{ItemFault}
 use Rattle.ivl_json.specs.declared.faults.JsonFault.{JsonFault}
-use Rattle.ivl_json.specs.Faults.{fault_of}
+use Rattle.ivl_json.specs.Faults.{json_fault}
 use Rattle.ivl_json.specs.Reading.{within, bound_read, both_read, count_of, elements_read, interval_read, Reads}
 
 abbrev bytes : ℤ × ℤ
@@ -14,15 +14,15 @@ bytes = (pos 0, pos 254)
 abbrev signed_bytes : ℤ × ℤ
 signed_bytes = (negsuc 126, pos 127)
 
--- ---- fault_of
+-- ---- json_fault
 
-shape_stays_shape : fault_of ItemFault.Shape ≡ JsonFault.Shape
+shape_stays_shape : json_fault ItemFault.Shape ≡ JsonFault.Shape
 shape_stays_shape = refl
 
-length_keeps_its_count : fault_of (ItemFault.Length 3) ≡ JsonFault.Length 3
+length_keeps_its_count : json_fault (ItemFault.Length 3) ≡ JsonFault.Length 3
 length_keeps_its_count = refl
 
-range_stays_range : fault_of ItemFault.Range ≡ JsonFault.Range
+range_stays_range : json_fault ItemFault.Range ≡ JsonFault.Range
 range_stays_range = refl
 
 -- ---- within

@@ -9,7 +9,7 @@ use Rattle.ivl_laws.proofs.Intervals.{in_range_is_within}
 use Rattle.ivl_laws.proofs.Runs.{runs_are_unique}
 use Rattle.ivl_json.specs.declared.faults.ItemFault.{ItemFault}
 use Rattle.ivl_json.specs.declared.faults.JsonFault.{JsonFault}
-use Rattle.ivl_json.specs.Faults.{fault_of}
+use Rattle.ivl_json.specs.Faults.{json_fault}
 use Rattle.ivl_json.specs.Reading.{within, bound_read, both_read, elements_read, interval_read, Reads}
 use Rattle.ivl_json.specs.SetReading.{item_then, items_read, set_read, SetReads}
 
@@ -100,7 +100,7 @@ set_reads-in_range S whole d (ps, e, m) z s = set-in_range whole d ps e z ((m z)
 pub intervals_read_alike : (whole : ℤ × ℤ) (d : Data) (p q : ℤ × ℤ) → Reads whole d (IsBetween p) → Reads whole d (IsBetween q) → SameMembers (IsBetween p) (IsBetween q)
 intervals_read_alike whole d p q = one_interval (IsBetween p) (IsBetween q) whole d
 
-pub interval_refused_alone : (whole : ℤ × ℤ) (d : Data) (p : ℤ × ℤ) (fault : JsonFault) → Reads whole d (IsBetween p) → (k : ItemFault) × (fault ≡ fault_of k) × (interval_read whole d ≡ Err k) → fault ≡ JsonFault.Memory
+pub interval_refused_alone : (whole : ℤ × ℤ) (d : Data) (p : ℤ × ℤ) (fault : JsonFault) → Reads whole d (IsBetween p) → (k : ItemFault) × (fault ≡ json_fault k) × (interval_read whole d ≡ Err k) → fault ≡ JsonFault.Memory
 interval_refused_alone whole d p fault r (k, same, refused) = absurd (interval_not_refused (IsBetween p) whole d k r refused)
 
 pub sets_read_alike : (whole : ℤ × ℤ) (d : Data) (L M : List (ℤ × ℤ)) → IsRunListIn whole L × SetReads whole d (Covers L) → IsRunListIn whole M × SetReads whole d (Covers M) → L ≡ M

@@ -53,9 +53,9 @@ pub enum JsonFault {
 
 impl From<ItemFault> for JsonFault {
     ghost use Rattle.std.specs.Prelude.{◌≡◌};
-    ghost use Rattle.ivl_json.specs.Faults.{fault_of};
+    ghost use Rattle.ivl_json.specs.Faults.{json_fault};
 
-    ghost from_gives = { λ fault same. same ≡ fault_of fault };
+    ghost from_gives = { λ fault same. same ≡ json_fault fault };
 
     /// Returns the same fault, for an interval that is not an item of a set.
     ///

@@ -4,7 +4,7 @@ ghost use Rattle.serde_json.specs.View.{view, items_view};
 ghost use Rattle.ivl_laws.specs.Sets.{IsBetween, SameMembers};
 ghost use Rattle.ivl_json.specs.Reading.{Reads, elements_read, interval_read};
 ghost use Rattle.ivl_json.specs.Writing.{interval_json};
-ghost use Rattle.ivl_json.specs.Faults.{fault_of};
+ghost use Rattle.ivl_json.specs.Faults.{json_fault};
 ghost use Rattle.ivl_json.specs.OneWay.{interval_refused_alone, intervals_read_alike};
 ghost use Rattle.ivl_json.specs.declared.faults.ItemFault.{ItemFault};
 
@@ -20,7 +20,7 @@ use std::alloc::{AllocError, Global};
 impl<B: Width> JsonForm for Interval<B> {
     ghost reads = { λ d p. Reads B.whole d (IsBetween p) };
 
-    ghost faults = { λ d f. (k : ItemFault) × (f ≡ fault_of k) × (interval_read B.whole d ≡ Err k) };
+    ghost faults = { λ d f. (k : ItemFault) × (f ≡ json_fault k) × (interval_read B.whole d ≡ Err k) };
 
     ghost json = { interval_json };
 

@@ -1,6 +1,6 @@
 -- What the tests of a bound type say of the numbers of its values.
 use Rattle.std.proofs.Common.{◌≡◌, ℤ, ◌≤ℤ◌, ◌<ℤ◌, ◌↔◌, IsTrue, Bool, true, false, arith, refl, ap, ◌∙◌, sym}
-use Rattle.std.specs.Prelude.{Option, cond}
+use Rattle.std.specs.Prelude.{Option, cond, int_le, int_lt}
 use Rattle.std.specs.Int.{int_max, int_min}
 use Rattle.std.specs.declared.cmp.Ordering.{Ordering}
 use Rattle.std.specs.Ordering.{int_cmp, int_eq, partial_lt, partial_le, partial_gt, partial_ge, ord_max, ord_min, is_some_and, is_le, is_lt, is_gt, is_ge}
@@ -66,3 +66,15 @@ module _ {K : Type 0} {number : K → ℤ} {eq : K → K → Bool} {partial : K 
     (o : OrdersByNumber number eq partial total) (x y : K) (r : Bool) where
   pub not_le_number : r ≡ partial_le partial x y → r ≡ false → number y <ℤ number x
   not_le_number e = not_le (number x) (number y) r (le_number o x y r e)
+
+pub le_true : (a b : ℤ) → int_le a b ≡ true → a ≤ℤ b
+le_true a b h = grind (arith, ints)
+
+pub true_le : (a b : ℤ) → a ≤ℤ b → int_le a b ≡ true
+true_le a b h = grind (arith, ints)
+
+pub int_lt_true : (a b : ℤ) → a <ℤ b → int_lt a b ≡ true
+int_lt_true a b h = grind (arith, ints)
+
+pub int_lt_false : (a b : ℤ) → b ≤ℤ a → int_lt a b ≡ false
+int_lt_false a b h = grind (arith, ints)

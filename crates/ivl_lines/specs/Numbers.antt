@@ -1,7 +1,9 @@
 -- The numbers on a line.
 --     number_of word      an optional minus sign and one or more digits, of a value of i64
 --     pairs_of words      the numbers two by two; none where one is no number, or their count is odd
-use Rattle.std.specs.Prelude.{ℕ, ℤ, pos, neg_ℤ, ◌^◌, ◌&&◌, List, [], ◌∷◌, length, drop, nat_lt, nat_le, ◌==◌, if◌then◌else◌, slice_index, Option, None, Some, option_map, option_and_then}
+--     up_to most n      the number, if it is from 0 to `most`
+--     is_in_range pair      both bounds are those of a set over i64
+use Rattle.std.specs.Prelude.{ℕ, ℤ, pos, neg_ℤ, ◌^◌, ◌&&◌, List, [], ◌∷◌, length, drop, nat_lt, nat_le, ◌==◌, if◌then◌else◌, slice_index, Option, None, Some, option_map, option_and_then, negsuc, int_le, Bool, ◌-◌}
 use Rattle.std.specs.Str.{all_ascii_digits}
 use Rattle.std.specs.Str.Parse.{digits_value}
 
@@ -31,3 +33,10 @@ abbrev pub pairs_of : List (List ℕ) → Option (List (ℤ × ℤ))
 pairs_of [] = Some []
 pairs_of (l ∷ []) = None
 pairs_of (l ∷ u ∷ words) = option_and_then (λ p. option_map (λ more. p ∷ more) (pairs_of words)) (pair_of l u)
+
+abbrev pub up_to : ℕ → ℤ → Option ℕ
+up_to most (pos n) = if nat_le n most then Some n else None
+up_to most (negsuc n) = None
+
+abbrev pub is_in_range : ℤ × ℤ → Bool
+is_in_range pair = int_le (negsuc (2 ^ 63 - 2)) pair.0 && int_le pair.1 (pos (2 ^ 63 - 1))

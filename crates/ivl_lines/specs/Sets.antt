@@ -7,6 +7,6 @@ abbrev pub run_text : ℤ × ℤ → List ℕ
 run_text p = codes "[" ++ signed_decimal p.0 ++ codes ".." ++ signed_decimal p.1 ++ codes "]"
 
 -- the runs one after the other, in braces unless there is just one
-abbrev pub runs_text : List (ℤ × ℤ) → List ℕ
-runs_text (p ∷ []) = run_text p
-runs_text list = codes "{" ++ flat_map run_text list ++ codes "}"
+abbrev pub pairs_text : List (ℤ × ℤ) → List ℕ
+pairs_text (p ∷ []) = run_text p
+pairs_text list = codes "{" ++ flat_map run_text list ++ codes "}"

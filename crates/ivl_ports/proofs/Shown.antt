@@ -8,7 +8,8 @@ use Rattle.ivl_laws.specs.Runs.{Covers, IsMaximal}
 use Rattle.ivl_laws.specs.Sets.{IsBetween, IsSubset}
 use Rattle.ivl_interval.specs.Text.{interval_text}
 use Rattle.intervallum.specs.Text as whole
-use Rattle.ivl_lines.specs.Sets.{run_text, runs_text}
+use Rattle.ivl_lines.specs.Sets.{run_text, pairs_text}
+use Rattle.ivl_laws.proofs.Orders.{int_lt_false}
 
 -- the text of a run of u32, as `Display` writes it
 abbrev pub shown : ℤ × ℤ → Option (List ℕ)
@@ -18,14 +19,11 @@ from_0 : (z : ℤ) → pos 0 ≤ℤ z → decimal (unsigned_abs z) ≡ signed_de
 from_0 (pos n) h = refl
 from_0 (negsuc n) h = grind (arith, ints)
 
-not_crossed : (a b : ℤ) → b ≤ℤ a → int_lt a b ≡ false
-not_crossed a b h = grind (arith, ints)
-
 also_from_0 : (a b : ℤ) → pos 0 ≤ℤ a → a ≤ℤ b → pos 0 ≤ℤ b
 also_from_0 a b h k = grind (arith, ints)
 
 shown_is : (p : ℤ × ℤ) → pos 0 ≤ℤ p.0 → p.0 ≤ℤ p.1 → shown p ≡ Some (run_text p)
-shown_is p h k = rw (not_crossed p.1 p.0 k, from_0 p.0 h, from_0 p.1 (also_from_0 p.0 p.1 h k), append_assoc, append_assoc) refl
+shown_is p h k = rw (int_lt_false p.1 p.0 k, from_0 p.0 h, from_0 p.1 (also_from_0 p.0 p.1 h k), append_assoc, append_assoc) refl
 
 first_from_0 : (top : ℤ) (p : ℤ × ℤ) (L : List (ℤ × ℤ)) → p.0 ≤ℤ p.1 → IsSubset (Covers (p ∷ L)) (IsBetween (pos 0, top)) → pos 0 ≤ℤ p.0
 first_from_0 top p L h k = (k p.0 (inl (≤ℤ_refl p.0, h))).0
@@ -38,7 +36,7 @@ shown_are top [] h k = refl
 shown_are top (p ∷ L) h k = rw (shown_is p (first_from_0 top p L h.0 k) h.0, shown_are top L h.2 (rest_in top p L k)) refl
 
 -- the text of a set of u32, as `Display` writes it
-pub set_shown : (top : ℤ) (L : List (ℤ × ℤ)) → IsMaximal L → IsSubset (Covers L) (IsBetween (pos 0, top)) → whole.set_text shown L ≡ Some (runs_text L)
+pub set_shown : (top : ℤ) (L : List (ℤ × ℤ)) → IsMaximal L → IsSubset (Covers L) (IsBetween (pos 0, top)) → whole.set_text shown L ≡ Some (pairs_text L)
 set_shown top [] h k = refl
 set_shown top (p ∷ []) h k = shown_is p (first_from_0 top p [] h.0 k) h.0
 set_shown top (p ∷ q ∷ L) h k =

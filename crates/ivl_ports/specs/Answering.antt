@@ -11,49 +11,49 @@ use Rattle.ivl_laws.specs.Counts.{IsCountOf}
 use Rattle.ivl_laws.specs.Runs.{Covers, IsRunsOf}
 use Rattle.ivl_laws.specs.Sets.{HasNone, Intersection, IsBetween, IsSubset, Union, Without}
 use Rattle.ivl_lines.specs.Lines.{with_newline, words_of}
-use Rattle.ivl_lines.specs.Sets.{run_text, runs_text}
-use Rattle.intervallum.specs.Rooms.{FitsAt, IsFirstFit}
-use Rattle.ivl_ports.specs.Lines.{count_of, given_of}
+use Rattle.ivl_lines.specs.Sets.{run_text, pairs_text}
+use Rattle.intervallum.specs.FirstFit.{FitsAt, IsFirstFit}
+use Rattle.ivl_ports.specs.Lines.{asked_count, given_of}
 
 abbrev pub IsPortSet : List (ℤ × ℤ) → Type 0
 IsPortSet L = IsSubset (Covers L) (IsBetween (pos 1024, pos 65535))
 
 -- this text, and the ports as they were
-abbrev pub Refuses : List ℕ → List (ℤ × ℤ) → List ℕ → List (ℤ × ℤ) → Type 0
-Refuses why old text new = (text ≡ with_newline why) × (new ≡ old)
+abbrev pub RefusesCommand : List ℕ → List (ℤ × ℤ) → List ℕ → List (ℤ × ℤ) → Type 0
+RefusesCommand why old text new = (text ≡ with_newline why) × (new ≡ old)
 
-abbrev pub LacksMemory : List (ℤ × ℤ) → List ℕ → List (ℤ × ℤ) → Type 0
-LacksMemory old text new = Refuses (codes "error: out of memory") old text new
+abbrev pub FindsNoMemory : List (ℤ × ℤ) → List ℕ → List (ℤ × ℤ) → Type 0
+FindsNoMemory old text new = RefusesCommand (codes "error: out of memory") old text new
 
 -- `none` if no so many ports in a row are free
 abbrev pub Takes : Option ℕ → List (ℤ × ℤ) → List ℕ → List (ℤ × ℤ) → Type 0
-Takes None old text new = Refuses (codes "error: write take COUNT, with a count from 1 to 65535") old text new
+Takes None old text new = RefusesCommand (codes "error: write take COUNT, with a count from 1 to 65535") old text new
 Takes (Some n) old text new =
-    (((v : ℤ) → ¬ (FitsAt n (Covers old) v)) × Refuses (codes "none") old text new)
+    (((v : ℤ) → ¬ (FitsAt n (Covers old) v)) × RefusesCommand (codes "none") old text new)
     ⊎ ((run : ℤ × ℤ) × IsFirstFit n (Covers old) run × (text ≡ with_newline (run_text run)) × IsRunsOf new (Without (Covers old) (IsBetween run)))
-    ⊎ LacksMemory old text new
+    ⊎ FindsNoMemory old text new
 
 abbrev pub GivesBack : ℤ × ℤ → List (ℤ × ℤ) → List ℕ → List (ℤ × ℤ) → Type 0
 GivesBack run old text new = (text ≡ with_newline (codes "ok")) × IsRunsOf new (Union (Covers old) (IsBetween run))
 
 abbrev pub Gives : Option (ℤ × ℤ) → List (ℤ × ℤ) → List ℕ → List (ℤ × ℤ) → Type 0
-Gives None old text new = Refuses (codes "error: write give FIRST LAST, ports from 1024 to 65535 in order") old text new
+Gives None old text new = RefusesCommand (codes "error: write give FIRST LAST, ports from 1024 to 65535 in order") old text new
 Gives (Some run) old text new =
-    (HasNone (Intersection (Covers old) (IsBetween run)) × (GivesBack run old text new ⊎ LacksMemory old text new))
-    ⊎ ((¬ (HasNone (Intersection (Covers old) (IsBetween run)))) × Refuses (codes "some of them are free") old text new)
+    (HasNone (Intersection (Covers old) (IsBetween run)) × (GivesBack run old text new ⊎ FindsNoMemory old text new))
+    ⊎ ((¬ (HasNone (Intersection (Covers old) (IsBetween run)))) × RefusesCommand (codes "some of them are free") old text new)
 
 abbrev pub Shows : List (List ℕ) → List (ℤ × ℤ) → List ℕ → List (ℤ × ℤ) → Type 0
 Shows [] old text new =
-    ((size : ℕ) × IsCountOf size (Covers old) × (text ≡ decimal size ++ (codes " free: " ++ with_newline (runs_text old)))) × (new ≡ old)
-Shows (word ∷ words) old text new = Refuses (codes "error: write free") old text new
+    ((size : ℕ) × IsCountOf size (Covers old) × (text ≡ decimal size ++ (codes " free: " ++ with_newline (pairs_text old)))) × (new ≡ old)
+Shows (word ∷ words) old text new = RefusesCommand (codes "error: write free") old text new
 
 -- by the command and the words after it
 abbrev pub AnswersCommand : List (ℤ × ℤ) → List ℕ → List (List ℕ) → List ℕ → List (ℤ × ℤ) → Type 0
 AnswersCommand old name words text new =
-    MatchBool (bytes_eq name (codes "take")) (Takes (count_of words) old text new)
+    MatchBool (bytes_eq name (codes "take")) (Takes (asked_count words) old text new)
     (MatchBool (bytes_eq name (codes "give")) (Gives (given_of words) old text new)
     (MatchBool (bytes_eq name (codes "free")) (Shows words old text new)
-    (Refuses (codes "error: write take COUNT, give FIRST LAST or free") old text new)))
+    (RefusesCommand (codes "error: write take COUNT, give FIRST LAST or free") old text new)))
 
 abbrev pub AnswersWords : List (ℤ × ℤ) → List (List ℕ) → List ℕ → List (ℤ × ℤ) → Type 0
 AnswersWords old [] text new = (text ≡ []) × (new ≡ old)
@@ -62,7 +62,7 @@ AnswersWords old (name ∷ words) text new = AnswersCommand old name words text 
 -- by whether the line is UTF-8
 abbrev pub AnswersBytes : List (ℤ × ℤ) → List ℕ → Bool → List ℕ → List (ℤ × ℤ) → Type 0
 AnswersBytes old line true text new = AnswersWords old (words_of line) text new
-AnswersBytes old line false text new = Refuses (codes "error: not UTF-8") old text new
+AnswersBytes old line false text new = RefusesCommand (codes "error: not UTF-8") old text new
 
 abbrev pub AnswersLine : List (ℤ × ℤ) → List ℕ → List ℕ → List (ℤ × ℤ) → Type 0
 AnswersLine old line text new = AnswersBytes old line (is_utf8 line) text new × (IsPortSet old → IsPortSet new)

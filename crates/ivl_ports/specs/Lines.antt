@@ -1,20 +1,16 @@
 -- What the words after a command ask for.
 --     port_of word      the number that a word is, from 0 to 65535; none if it is no such number
---     count_of words      how many ports `take` asks for; none if the words after it do not tell
+--     asked_count words      how many ports `take` asks for; none if the words after it do not tell
 --     given_of words      the ports that `give` names; none if the words after it do not tell
-use Rattle.std.specs.Prelude.{ℕ, ℤ, pos, negsuc, ◌&&◌, nat_le, nat_lt, if◌then◌else◌, List, [], ◌∷◌, Option, None, Some, option_and_then}
-use Rattle.ivl_lines.specs.Numbers.{number_of}
-
-abbrev pub up_to : ℕ → ℤ → Option ℕ
-up_to most (pos n) = if nat_le n most then Some n else None
-up_to most (negsuc n) = None
+use Rattle.std.specs.Prelude.{ℕ, ℤ, pos, ◌&&◌, nat_le, nat_lt, if◌then◌else◌, List, [], ◌∷◌, Option, None, Some, option_and_then}
+use Rattle.ivl_lines.specs.Numbers.{number_of, up_to}
 
 abbrev pub port_of : List ℕ → Option ℕ
 port_of word = option_and_then (up_to 65535) (number_of word)
 
-abbrev pub count_of : List (List ℕ) → Option ℕ
-count_of (word ∷ []) = option_and_then (λ n. if nat_lt 0 n then Some n else None) (port_of word)
-count_of _ = None
+abbrev pub asked_count : List (List ℕ) → Option ℕ
+asked_count (word ∷ []) = option_and_then (λ n. if nat_lt 0 n then Some n else None) (port_of word)
+asked_count _ = None
 
 abbrev pub given_of : List (List ℕ) → Option (ℤ × ℤ)
 given_of (first ∷ last ∷ []) =

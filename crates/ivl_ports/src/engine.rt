@@ -7,7 +7,7 @@ ghost use Rattle.ivl_lines.specs.Answered.{IsAnswered};
 ghost use Rattle.ivl_lines.specs.Lines.{ended_lines_of, lines_of};
 ghost use Rattle.ivl_lines.specs.Words.{words_between};
 ghost use Rattle.ivl_ports.specs.Answering.{AnswersCommand, AnswersLine, AnswersWords, Gives, IsPortSet, Shows, Takes};
-ghost use Rattle.ivl_ports.specs.Lines.{count_of, given_of};
+ghost use Rattle.ivl_ports.specs.Lines.{asked_count, given_of};
 ghost use Rattle.ivl_ports.specs.Outcome.{outcome_of};
 
 use crate::ports::Ports;
@@ -110,7 +110,7 @@ fn answer_command<W: Write>(
 
 fn take<W: Write>(ports: &mut Ports, words: &str, writer: &mut W) -> io::Result<()>
     ensures answer { OnOk result ((text : List ℕ)
-        × Takes (count_of (words_between words.now)) ports.old text ports.new
+        × Takes (asked_count (words_between words.now)) ports.old text ports.new
         × Appends (W.contents writer.old) (W.contents writer.new) text) }
     ensures left { IsSubset (Covers ports.new) (Covers ports.old) }
 {

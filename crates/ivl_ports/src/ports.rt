@@ -3,7 +3,7 @@ ghost use Rattle.std.specs.Prelude.{◌≡◌, ◌↔◌, ◌<◌, ◌≤◌, �
 ghost use Rattle.ivl_laws.specs.Counts.{IsCountOf};
 ghost use Rattle.ivl_laws.specs.Sets.{HasNone, Intersection, IsBetween, Union, Without};
 ghost use Rattle.ivl_laws.specs.Runs.{Covers, IsRunsOf};
-ghost use Rattle.intervallum.specs.Rooms.{FitsAt, IsFirstFit};
+ghost use Rattle.intervallum.specs.FirstFit.{FitsAt, IsFirstFit};
 
 use intervallum::interval::Interval;
 use intervallum::interval_set::IntervalSet;

@@ -4,7 +4,7 @@ ghost use Rattle.std.specs.Io.KnownBytes.{Appends};
 ghost use Rattle.ivl_laws.specs.Counts.{IsCountOf};
 ghost use Rattle.ivl_laws.specs.Runs.{Covers};
 ghost use Rattle.ivl_lines.specs.Lines.{with_newline};
-ghost use Rattle.ivl_lines.specs.Sets.{run_text, runs_text};
+ghost use Rattle.ivl_lines.specs.Sets.{run_text, pairs_text};
 
 use crate::ports::Ports;
 use intervallum::interval::Interval;
@@ -23,7 +23,7 @@ pub fn write_run<W: Write>(writer: &mut W, run: &Interval<u32>) -> io::Result<()
 /// Writes how many ports are free, and their runs.
 pub fn write_free<W: Write>(writer: &mut W, ports: &Ports) -> io::Result<()>
     ensures { OnOk result ((size : ℕ) × IsCountOf size (Covers ports.now)
-        × Appends (W.contents writer.old) (W.contents writer.new) (decimal size ++ (codes " free: " ++ with_newline (runs_text ports.now)))) }
+        × Appends (W.contents writer.old) (W.contents writer.new) (decimal size ++ (codes " free: " ++ with_newline (pairs_text ports.now)))) }
 {
     let free = ports.free();
     free.in_whole();

@@ -2,7 +2,7 @@
 ghost use Rattle.std.specs.Prelude.{◌≡◌, ◌≤◌, pos, IfSome};
 ghost use Rattle.ivl_laws.specs.Sets.{IsBetween, IsSubset};
 ghost use Rattle.ivl_lines.specs.Words.{words_between};
-ghost use Rattle.ivl_ports.specs.Lines.{count_of, given_of, port_of};
+ghost use Rattle.ivl_ports.specs.Lines.{asked_count, given_of, port_of};
 
 use intervallum::interval::Interval;
 use intervallum::ops::Range;
@@ -10,7 +10,7 @@ use ivl_lines::{number_from, one_word, two_words};
 
 /// Returns how many ports `take` asks for, or `None` if the words after it are not one number from 1 to 65535.
 pub fn count_from(words: &str) -> Option<u32>
-    ensures value { result ≡ count_of (words_between words.now) }
+    ensures value { result ≡ asked_count (words_between words.now) }
     ensures above { IfSome result (λ count. 1 ≤ count) }
 {
     let count = port_from(one_word(words)?)?;

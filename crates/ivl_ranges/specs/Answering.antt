@@ -15,7 +15,7 @@ use Rattle.ivl_ranges.specs.declared.reply.Fault.TheVariants.{Bytes, Command, Ra
 use Rattle.ivl_ranges.specs.declared.reply.Reply.{Reply}
 use Rattle.ivl_ranges.specs.declared.reply.Reply.TheVariants.{Done, Safe, SafeFor}
 use Rattle.ivl_ranges.specs.Indexes.{IsIndexOf, SafeIn}
-use Rattle.ivl_ranges.specs.Printed.{told_line}
+use Rattle.ivl_ranges.specs.Printed.{reply_line}
 use Rattle.ivl_ranges.specs.Ranges.{length_in, IsNoSet, IsSetOf}
 
 pub record State : Type 0 where
@@ -67,12 +67,12 @@ Replies old name words told new =
 -- a line without words has no answer
 abbrev pub AnswersWords : State → List (List ℕ) → List ℕ → State → Type 0
 AnswersWords old [] text new = (text ≡ []) × (new ≡ old)
-AnswersWords old (name ∷ words) text new = (told : Result Reply Fault) × Replies old name words told new × (text ≡ told_line told)
+AnswersWords old (name ∷ words) text new = (told : Result Reply Fault) × Replies old name words told new × (text ≡ reply_line told)
 
 -- by whether the line is UTF-8
 abbrev pub AnswersBytes : State → List ℕ → Bool → List ℕ → State → Type 0
 AnswersBytes old line true text new = AnswersWords old (words_of line) text new
-AnswersBytes old line false text new = (text ≡ told_line (Err Bytes)) × (new ≡ old)
+AnswersBytes old line false text new = (text ≡ reply_line (Err Bytes)) × (new ≡ old)
 
 abbrev pub AnswersLine : State → List ℕ → List ℕ → State → Type 0
 AnswersLine old line text new = AnswersBytes old line (is_utf8 line) text new

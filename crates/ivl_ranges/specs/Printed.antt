@@ -1,9 +1,9 @@
 -- The text of an answer.
 --     fault_text fault      why a line is not carried out
---     told_line told      the answer to a line that is carried out, or why it is not
+--     reply_line told      the answer to a line that is carried out, or why it is not
 use Rattle.std.specs.Prelude.{ℕ, List, [], ◌∷◌, ◌++◌, codes, Result, Ok, Err}
 use Rattle.ivl_lines.specs.Lines.{with_newline}
-use Rattle.ivl_lines.specs.Sets.{runs_text}
+use Rattle.ivl_lines.specs.Sets.{pairs_text}
 use Rattle.ivl_ranges.specs.declared.reply.Fault.{Fault}
 use Rattle.ivl_ranges.specs.declared.reply.Fault.TheVariants.{Bytes, Command, Ranges, Length, Check, NoIndex, NoOffset, Memory}
 use Rattle.ivl_ranges.specs.declared.reply.Reply.{Reply}
@@ -19,9 +19,9 @@ fault_text NoIndex = codes "i has no range"
 fault_text NoOffset = codes "k has no range"
 fault_text Memory = codes "out of memory"
 
-abbrev pub told_line : Result Reply Fault → List ℕ
-told_line (Ok Done) = with_newline (codes "ok")
-told_line (Ok Safe) = with_newline (codes "safe")
-told_line (Ok (SafeFor [])) = with_newline (codes "safe for no i")
-told_line (Ok (SafeFor (run ∷ runs))) = codes "safe for i in " ++ (runs_text (run ∷ runs) ++ with_newline (codes " alone"))
-told_line (Err fault) = codes "error: " ++ with_newline (fault_text fault)
+abbrev pub reply_line : Result Reply Fault → List ℕ
+reply_line (Ok Done) = with_newline (codes "ok")
+reply_line (Ok Safe) = with_newline (codes "safe")
+reply_line (Ok (SafeFor [])) = with_newline (codes "safe for no i")
+reply_line (Ok (SafeFor (run ∷ runs))) = codes "safe for i in " ++ (pairs_text (run ∷ runs) ++ with_newline (codes " alone"))
+reply_line (Err fault) = codes "error: " ++ with_newline (fault_text fault)

@@ -4,10 +4,10 @@
 --     IsSetOf words L      there are words, each is a range, and L is the list of the runs of their union
 --     IsNoSet words      there is no word, or one that is no range
 --     length_in words      the number from 0 to 4294967295 that the only word is; none if it is no such number, or there are more words or none
-use Rattle.std.specs.Prelude.{◌≡◌, ◌≢◌, ◌-◌, ◌^◌, ◌++◌, ℕ, ℤ, pos, negsuc, ◌≤ℤ◌, nat_le, if◌then◌else◌, List, [], ◌∷◌, codes, Option, None, Some, option_and_then}
+use Rattle.std.specs.Prelude.{◌≡◌, ◌≢◌, ◌-◌, ◌^◌, ◌++◌, ℕ, ℤ, pos, negsuc, ◌≤ℤ◌, List, [], ◌∷◌, codes, Option, None, Some, option_and_then}
 use Rattle.ivl_laws.specs.Runs.{Covers, IsRunsOf}
 use Rattle.ivl_laws.specs.Sets.{IsInRange}
-use Rattle.ivl_lines.specs.Numbers.{number_of}
+use Rattle.ivl_lines.specs.Numbers.{number_of, up_to}
 
 pub record IsRange (word : List ℕ) (p : ℤ × ℤ) : Type 0 where
   pub lower : List ℕ
@@ -29,10 +29,6 @@ IsSetOf words L = (words ≢ []) × ((ranges : List (ℤ × ℤ)) × AreRanges w
 
 abbrev pub IsNoSet : List (List ℕ) → Type 0
 IsNoSet words = (ranges : List (ℤ × ℤ)) → AreRanges words ranges → words ≡ []
-
-abbrev pub up_to : ℕ → ℤ → Option ℕ
-up_to most (pos n) = if nat_le n most then Some n else None
-up_to most (negsuc n) = None
 
 abbrev pub length_in : List (List ℕ) → Option ℕ
 length_in (word ∷ []) = option_and_then (up_to (2 ^ 32 - 1)) (number_of word)

@@ -1,7 +1,7 @@
 //! The answer to a line.
 ghost use Rattle.std.specs.Prelude.{◌≡◌, OnOk};
 ghost use Rattle.std.specs.Io.KnownBytes.{Appends};
-ghost use Rattle.ivl_ranges.specs.Printed.{fault_text as text_of, told_line};
+ghost use Rattle.ivl_ranges.specs.Printed.{fault_text as text_of, reply_line};
 
 use intervallum::interval_set::IntervalSet;
 use intervallum::ops::IsEmpty;
@@ -54,7 +54,7 @@ impl From<AllocError> for Fault {
 
 /// Writes the answer to a line.
 pub fn write_told<W: Write>(writer: &mut W, told: &Result<Reply, Fault>) -> io::Result<()>
-    ensures { OnOk result (Appends (W.contents writer.old) (W.contents writer.new) (told_line told.now)) }
+    ensures { OnOk result (Appends (W.contents writer.old) (W.contents writer.new) (reply_line told.now)) }
 {
     match told {
         Ok(Reply::Done) => writer.write_all(b"ok\n"),
@@ -66,7 +66,7 @@ pub fn write_told<W: Write>(writer: &mut W, told: &Result<Reply, Fault>) -> io::
 
 fn write_safe_for<W: Write>(writer: &mut W, safe: &IntervalSet<i64>) -> io::Result<()>
     ensures { OnOk result (Appends (W.contents writer.old) (W.contents writer.new)
-        (told_line (Ok (Reply.SafeFor safe.now)))) }
+        (reply_line (Ok (Reply.SafeFor safe.now)))) }
 {
     if safe.is_empty() {
         return writer.write_all(b"safe for no i\n");
@@ -76,7 +76,7 @@ fn write_safe_for<W: Write>(writer: &mut W, safe: &IntervalSet<i64>) -> io::Resu
 }
 
 fn write_fault<W: Write>(writer: &mut W, fault: Fault) -> io::Result<()>
-    ensures { OnOk result (Appends (W.contents writer.old) (W.contents writer.new) (told_line (Err fault))) }
+    ensures { OnOk result (Appends (W.contents writer.old) (W.contents writer.new) (reply_line (Err fault))) }
 {
     writeln!(writer, "error: {}", fault_text(fault))
 }

@@ -5,7 +5,7 @@
 #[cfg(test)]
 mod tests;
 
-use ivl_session::{SessionFault, outcome, session};
+use ivl_calculator_lines::{SessionFault, outcome, session};
 use std::io;
 use std::io::BufWriter;
 use std::process::ExitCode;

@@ -7,7 +7,7 @@ mod memory;
 mod tables;
 mod words;
 
-use ivl_session::{SessionFault, outcome, session};
+use ivl_calculator_lines::{SessionFault, outcome, session};
 use std::alloc::{AllocError, Global};
 use std::process::Abort;
 use std::test::Fail;

@@ -6,7 +6,7 @@
 mod tests;
 
 use ivl_lines::{Start, VERSION, start_of};
-use ivl_solver::{SessionFault, outcome, session};
+use ivl_store_lines::{SessionFault, outcome, session};
 use std::io::BufWriter;
 use std::process::ExitCode;
 use std::{env, io};
@@ -17,9 +17,12 @@ Narrows the domains of variables by sums: reads one line at a time from standard
   var x l u l u ..     a new variable, whose domain is the union of the pairs
   cut x l u l u ..     x keeps the members of its domain that are in the union of the pairs
   sum x y z            x + y = z, from now on
+  limit n              each later line narrows domains at most n times; 1000000 at the start
+  go on                narrows further
   show                 the domain of each variable
 
-Each is answered `ok`, or `no solution` once a domain is empty. --version prints the version.
+Each is answered `ok`, `unfinished` if the limit stopped it, or `no solution` once a domain is empty.
+--version prints the version.
 ";
 
 fn main(rt: HostRuntime) -> io::Result<ExitCode> {

@@ -3,7 +3,7 @@
 //! The proof of a test pays for each assertion and for each `?`, so that the tests share a few functions that have them.
 mod ends;
 
-use ivl_solver::{SessionFault, outcome, session};
+use ivl_store_lines::{SessionFault, outcome, session};
 use std::alloc::Global;
 use std::process::Abort;
 use std::test::Fail;
@@ -46,6 +46,30 @@ fn a_loop_has_no_solution(rt: HostRuntime) {
     check_session(&rt, lines, answers);
 }
 
+// The same over numbers of which there are too many: each line ends, and the domains are sound.
+#[test]
+fn a_limit_ends_a_line(rt: HostRuntime) {
+    let lines =
+        "var x 0 9999999999999\nvar y 0 9999999999999\nvar c 1 1\nlimit 100\nsum x c y\nsum y c x\n\
+        show\nvar z 1 2\ngo on\nlimit 0\ncut z 2 2\nshow\n";
+    let answers = "ok\nok\nok\nok\nok\nunfinished\n\
+        x [100..9999999999898]\ny [101..9999999999899]\nc [1..1]\nunfinished\n\
+        unfinished\nunfinished\nunfinished\nunfinished\n\
+        x [200..9999999999798]\ny [201..9999999999799]\nc [1..1]\nz [2..2]\nunfinished\n";
+    check_session(&rt, lines, answers);
+}
+
+// What a line leaves, the next goes on with; the answer is the same as that of one line.
+#[test]
+fn a_line_goes_on(rt: HostRuntime) {
+    let lines =
+        "var a 0 9\nvar b 0 9\nvar one 1 1\nlimit 1\nsum a one b\nsum b one a\nlimit 3\ngo on\n\
+        limit 1000\ngo on\nsum a one b\n";
+    let answers = "ok\nok\nok\nok\nok\nunfinished\nunfinished\nunfinished\nunfinished\n\
+        no solution\nno solution\n";
+    check_session(&rt, lines, answers);
+}
+
 // A variable may come after the sums, and its domain may be empty or at the ends of the range.
 #[test]
 fn domains_as_they_are_given(rt: HostRuntime) {
@@ -58,7 +82,7 @@ fn domains_as_they_are_given(rt: HostRuntime) {
 }
 
 // A line that cannot be carried out, and its answer. `x` and `y` are [1..9] before it and after it.
-const BAD_LINES: [(&str, &str); 20] = [
+const BAD_LINES: [(&str, &str); 28] = [
     ("frob", "unknown command frob"),
     ("Var z", "unknown command Var"),
     ("var", "write var x l u l u .."),
@@ -82,6 +106,17 @@ const BAD_LINES: [(&str, &str); 20] = [
     ("sum x y z", "unknown variable z"),
     ("sum x y x", "x is named twice"),
     ("show x", "write show"),
+    ("limit", "write limit n"),
+    ("limit 1 2", "write limit n"),
+    ("limit -1", "bad number -1"),
+    ("limit many", "bad number many"),
+    (
+        "limit 9223372036854775808",
+        "bad number 9223372036854775808",
+    ),
+    ("go", "write go on"),
+    ("go off", "write go on"),
+    ("go on on", "write go on"),
 ];
 
 #[test]

@@ -5,15 +5,10 @@ use Rattle.std.proofs.lemmas.Int.{ints, by_lt_z}
 use Rattle.std.proofs.lemmas.Bool.{cases_Bool, or_cases, and_parts, both_ways}
 use Rattle.ivl_laws.specs.Runs.{Covers}
 use Rattle.ivl_store.specs.Measure.{covers, count_from}
+use Rattle.ivl_laws.proofs.Orders.{le_true, true_le}
 
 is_below : (a b : ℤ) → (a <ℤ b) ⊎ (b ≤ℤ a)
 is_below a b = by_lt_z a b inl inr
-
-le_true : (a b : ℤ) → int_le a b ≡ true → a ≤ℤ b
-le_true a b h = grind (arith, ints)
-
-true_le : (a b : ℤ) → a ≤ℤ b → int_le a b ≡ true
-true_le a b h = grind (arith, ints)
 
 or_left : (x y : Bool) → x ≡ true → (x || y) ≡ true
 or_left true y h = refl

@@ -11,7 +11,7 @@ use Rattle.ivl_store.specs.declared.store.constraint.Constraint.{Constraint}
 use Rattle.ivl_store.specs.declared.store.post.Post.{Post}
 use Rattle.ivl_store.specs.declared.store.post.Post.TheVariants.{Restrict, Require}
 use Rattle.ivl_store.specs.Solutions.{IsSolution, IsCommonSolution, Supports, SupportedBy, LiesWithin}
-use Rattle.ivl_store.specs.Posts.{Cut, IsLeftBy}
+use Rattle.ivl_store.specs.Posts.{CutBy, IsLeftBy}
 use Rattle.ivl_store.specs.FamilyLaws.{UnionIsSupported, LaterLiesWithin, LeftIsOne, OrderPlaysNoPart, IsFamilyOf, SolutionIsFamily, SolutionsStay}
 use Rattle.ivl_store.proofs.Lists.{All-head}
 
@@ -54,12 +54,12 @@ no_post_leaves_all sets = record { within = (λ i v h. (h, tt)); supported = All
 the_cut_leaves_one_to_two : IsLeftBy (the_cut ∷ []) (set_at one_to_three) (set_at one_to_two)
 the_cut_leaves_one_to_two = record { within = within; supported = All-nil (λ c. Supports c (set_at one_to_two)); greatest = (λ other w s. greatest (set_at other) w) }
   where
-    within : (i : ℕ) (v : ℤ) → set_at one_to_two i v → Cut (the_cut ∷ []) (set_at one_to_three) i v
+    within : (i : ℕ) (v : ℤ) → set_at one_to_two i v → CutBy (the_cut ∷ []) (set_at one_to_three) i v
     within zero v (inl b) = let l = b.0 in let u = b.1 in (inl (omega (arith, ints), omega (arith, ints)), ((λ _. inl (omega (arith, ints), omega (arith, ints))), tt))
     within zero v (inr n) = absurd n
     within (suc i) v n = absurd n
 
-    greatest : (other : ℕ → ℤ → Type 0) → LiesWithin other (Cut (the_cut ∷ []) (set_at one_to_three)) → LiesWithin other (set_at one_to_two)
+    greatest : (other : ℕ → ℤ → Type 0) → LiesWithin other (CutBy (the_cut ∷ []) (set_at one_to_three)) → LiesWithin other (set_at one_to_two)
     greatest other w zero v h = (w 0 v h).1.0 refl
     greatest other w (suc i) v h = absurd ((w (suc i) v h).0)
 

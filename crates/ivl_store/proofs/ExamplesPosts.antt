@@ -9,7 +9,7 @@ use Rattle.ivl_store.specs.declared.store.constraint.Constraint.{Constraint}
 use Rattle.ivl_store.specs.declared.store.post.Post.{Post}
 use Rattle.ivl_store.specs.declared.store.post.Post.TheVariants.{Restrict, Require}
 use Rattle.ivl_store.specs.Solutions.{Supports}
-use Rattle.ivl_store.specs.Posts.{constraints_of, OfConstraint, AllAllow, Cut, IsLeftBy, HasEmpty, AnswersPost, AnswersPosts, IsKnown, unknown_in, first_unknown_post, CutKeeps}
+use Rattle.ivl_store.specs.Posts.{constraints_of, OfConstraint, AllAllow, CutBy, IsLeftBy, HasEmpty, AnswersPost, AnswersPosts, IsKnown, unknown_in, first_unknown_post, CutKeeps}
 
 -- posts for sets with bounds and sizes that are natural numbers
 abbrev Posted : Type 0
@@ -46,7 +46,7 @@ of_a_constraint_it_is_asked e = omega arith
 of_the_sum_its_first_is_zero : OfConstraint (λ c. c.x ≡ 0) the_requirement
 of_the_sum_its_first_is_zero = refl
 
--- ---- AllAllow, Cut
+-- ---- AllAllow, CutBy
 
 the_cut_allows_two : AllAllow (the_cut ∷ Require the_sum ∷ []) 0 (pos 2)
 the_cut_allows_two = ((λ _. inl (omega (arith, ints), omega (arith, ints))), tt)
@@ -61,7 +61,7 @@ the_cut_forbids_three a = apart (a.0 refl)
 the_cut_allows_another_variable_all : (z : ℤ) → AllAllow (the_cut ∷ []) 1 z
 the_cut_allows_another_variable_all z = ((λ e. absurd (omega arith)), tt)
 
-three_is_cut : ¬ (Cut (the_cut ∷ []) (set_at one_to_three) 0 (pos 3))
+three_is_cut : ¬ (CutBy (the_cut ∷ []) (set_at one_to_three) 0 (pos 3))
 three_is_cut c = the_cut_forbids_three c.1
 
 -- ---- IsLeftBy
@@ -69,8 +69,8 @@ three_is_cut c = the_cut_forbids_three c.1
 no_post_leaves_all : (sets : List (List (ℤ × ℤ))) → IsLeftBy {B = ℕ} {O = ℕ} [] (set_at sets) (set_at sets)
 no_post_leaves_all sets = record { within = (λ i v h. (h, tt)); supported = All-nil (λ c. Supports c (set_at sets)); greatest = (λ other w s i v h. (w i v h).0) }
 
-the_cut_leaves_what_is_cut : IsLeftBy (the_cut ∷ []) (set_at one_to_three) (Cut (the_cut ∷ []) (set_at one_to_three))
-the_cut_leaves_what_is_cut = record { within = (λ i v h. h); supported = All-nil (λ c. Supports c (Cut (the_cut ∷ []) (set_at one_to_three))); greatest = (λ other w s. w) }
+the_cut_leaves_what_is_cut : IsLeftBy (the_cut ∷ []) (set_at one_to_three) (CutBy (the_cut ∷ []) (set_at one_to_three))
+the_cut_leaves_what_is_cut = record { within = (λ i v h. h); supported = All-nil (λ c. Supports c (CutBy (the_cut ∷ []) (set_at one_to_three))); greatest = (λ other w s. w) }
 
 the_cut_does_not_leave_all : ¬ (IsLeftBy (the_cut ∷ []) (set_at one_to_three) (set_at one_to_three))
 the_cut_does_not_leave_all l = three_is_cut (l.within 0 (pos 3) (inl (omega (arith, ints), omega (arith, ints))))
@@ -100,7 +100,7 @@ true_for_a_cut_that_leaves_none = record {
   reply_is = ((λ _. a_missing_set_is_empty), (λ _. refl));
 }
   where
-    none_is_left : (other : ℕ → ℤ → Type 0) → ((i : ℕ) (v : ℤ) → other i v → Cut {B = ℕ} {O = ℕ} (Restrict 0 [] ∷ []) (set_at one_to_three) i v)
+    none_is_left : (other : ℕ → ℤ → Type 0) → ((i : ℕ) (v : ℤ) → other i v → CutBy {B = ℕ} {O = ℕ} (Restrict 0 [] ∷ []) (set_at one_to_three) i v)
         → (i : ℕ) (v : ℤ) → other i v → set_at [] i v
     none_is_left other w zero v h = absurd ((w 0 v h).1.0 refl)
     none_is_left other w (suc i) v h = absurd ((w (suc i) v h).0)

@@ -10,7 +10,7 @@ use Rattle.ivl_store.specs.Solutions.{LostMember, Supports}
 use Rattle.ivl_store.specs.Narrowing.{Narrowed, IsFixed, Keeps, AllPresent, first_unknown_of}
 use Rattle.ivl_store.specs.Rounds.{narrowed_by, rounds_of, IsNarrowedBy, IsPartlyNarrowedBy, After, AfterSome, EachLost}
 use Rattle.ivl_store.specs.Settled.{any_lost, AreLost, AreSettled, AreCleared}
-use Rattle.ivl_store.specs.Keeping.{IsLeftOf, AreLeftAt, replaced}
+use Rattle.ivl_store.specs.Keeping.{IsLeftOf, AreLeftAt, narrowed_at}
 use Rattle.ivl_store.specs.Measure.{covers, count_from}
 
 -- x + y = z for variables 0, 1 and 2
@@ -263,5 +263,5 @@ none_of_no_numbers : count_from ((pos 1, pos 2) ∷ []) (pos 1) 0 ≡ 0
 unfolding count_from
 none_of_no_numbers = refl
 
-the_first_is_replaced : replaced ([] ∷ [] ∷ []) 0 (Some ((pos 3, pos 3) ∷ [])) ≡ ((pos 3, pos 3) ∷ []) ∷ [] ∷ []
+the_first_is_replaced : narrowed_at ([] ∷ [] ∷ []) 0 (Some ((pos 3, pos 3) ∷ [])) ≡ ((pos 3, pos 3) ∷ []) ∷ [] ∷ []
 the_first_is_replaced = refl

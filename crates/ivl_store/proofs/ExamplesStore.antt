@@ -7,9 +7,9 @@ use Rattle.ivl_store.specs.declared.store.constraint.Constraint.{Constraint}
 use Rattle.ivl_store.specs.declared.store.post.Post.TheVariants.{Restrict, Require}
 use Rattle.ivl_store.specs.Solutions.{AreDistinct, Names, IsSolution, LostMember}
 use Rattle.ivl_store.specs.Narrowing.{Narrowed, first_unknown, first_unknown_of}
-use Rattle.ivl_store.specs.Keeping.{replaced}
+use Rattle.ivl_store.specs.Keeping.{narrowed_at}
 use Rattle.ivl_store.specs.Measure.{total, count_from}
-use Rattle.ivl_store.specs.Posts.{constraints_of, Cut, HasEmpty, first_unknown_post}
+use Rattle.ivl_store.specs.Posts.{constraints_of, CutBy, HasEmpty, first_unknown_post}
 use Rattle.ivl_store.specs.Settled.{any_lost}
 
 -- x + y = z for variables 0, 1 and 2, over [0..10], [3..4] and [5..6]
@@ -97,7 +97,7 @@ none_in_an_empty_list = refl
 a_cut_may_be_the_first : first_unknown_post {B = ℕ} {O = ℕ} 3 (Require the_sum ∷ Restrict 3 [] ∷ Require (record { x = 9; y = 0; z = 0 }) ∷ []) ≡ Some 3
 a_cut_may_be_the_first = refl
 
--- ---- total, replaced, any_lost, constraints_of
+-- ---- total, narrowed_at, any_lost, constraints_of
 
 two_and_one_are_three : total (pos 0, pos 9) (((pos 1, pos 2) ∷ []) ∷ ((pos 4, pos 4) ∷ []) ∷ []) ≡ 3
 unfolding count_from
@@ -110,10 +110,10 @@ what_lies_outside_is_not_counted = refl
 no_set_has_no_member : total (pos 0, pos 9) [] ≡ 0
 no_set_has_no_member = refl
 
-the_second_is_replaced : replaced ([] ∷ [] ∷ []) 1 (Some ((pos 1, pos 2) ∷ [])) ≡ [] ∷ ((pos 1, pos 2) ∷ []) ∷ []
+the_second_is_replaced : narrowed_at ([] ∷ [] ∷ []) 1 (Some ((pos 1, pos 2) ∷ [])) ≡ [] ∷ ((pos 1, pos 2) ∷ []) ∷ []
 the_second_is_replaced = refl
 
-nothing_is_replaced : replaced the_sets 1 None ≡ the_sets
+nothing_is_replaced : narrowed_at the_sets 1 None ≡ the_sets
 nothing_is_replaced = refl
 
 one_mark_is_enough : any_lost (record { x = false; y = false; z = true }) ≡ true
@@ -122,12 +122,12 @@ one_mark_is_enough = refl
 cuts_are_no_constraints : constraints_of {B = ℕ} {O = ℕ} (Restrict 0 [] ∷ Require the_sum ∷ Restrict 1 [] ∷ Require same_twice ∷ []) ≡ the_sum ∷ same_twice ∷ []
 cuts_are_no_constraints = refl
 
--- ---- Cut, HasEmpty
+-- ---- CutBy, HasEmpty
 
-five_is_left_by_the_cut : Cut {B = ℕ} {O = ℕ} (Restrict 0 ((pos 5, pos 20) ∷ []) ∷ []) (set_at the_sets) 0 (pos 5)
+five_is_left_by_the_cut : CutBy {B = ℕ} {O = ℕ} (Restrict 0 ((pos 5, pos 20) ∷ []) ∷ []) (set_at the_sets) 0 (pos 5)
 five_is_left_by_the_cut = (inl (omega (arith, ints), omega (arith, ints)), ((λ _. inl (omega (arith, ints), omega (arith, ints))), tt))
 
-another_domain_is_not_cut : Cut {B = ℕ} {O = ℕ} (Restrict 0 [] ∷ []) (set_at the_sets) 1 (pos 3)
+another_domain_is_not_cut : CutBy {B = ℕ} {O = ℕ} (Restrict 0 [] ∷ []) (set_at the_sets) 1 (pos 3)
 another_domain_is_not_cut = (inl (omega (arith, ints), omega (arith, ints)), ((λ e. absurd (omega arith)), tt))
 
 the_second_is_empty : HasEmpty 2 (set_at (((pos 1, pos 1) ∷ []) ∷ [] ∷ []))

@@ -7,7 +7,7 @@ use Rattle.ivl_laws.proofs.Products.{sums_of_intervals, differences_of_intervals
 use Rattle.ivl_laws.proofs.SetLaws.{sums_are_monotone, differences_are_monotone}
 use Rattle.ivl_within.specs.declared.within.Combined.{Combined}
 use Rattle.ivl_within.specs.declared.within.Combined.TheVariants.{Sum, Difference}
-use Rattle.ivl_within.specs.Within.{Clipped, SumsBy, sum_by}
+use Rattle.ivl_within.specs.Within.{Clipped, SumsBy, pair_by}
 use Rattle.ivl_store.specs.Keeping.{IsLeftOf}
 
 -- ---- by a set that is given
@@ -46,7 +46,7 @@ one_run (q ∷ r ∷ L) M p e n is = absurd (omega arith)
 covers_one : (L : List (ℤ × ℤ)) (p : ℤ × ℤ) → L ≡ p ∷ [] → SameMembers (Covers L) (IsBetween p)
 covers_one L p e = subst (λ M. SameMembers (Covers M) (IsBetween p)) (sym e) (λ z. ((λ h. elim h [ inl b ↦ b | inr n ↦ absurd n ]), (λ b. inl b)))
 
-sums_of_runs : (op : Combined) (p q : ℤ × ℤ) → p.0 ≤ℤ p.1 → q.0 ≤ℤ q.1 → SameMembers (IsBetween (sum_by op p q)) (SumsBy op (IsBetween p) (IsBetween q))
+sums_of_runs : (op : Combined) (p q : ℤ × ℤ) → p.0 ≤ℤ p.1 → q.0 ≤ℤ q.1 → SameMembers (IsBetween (pair_by op p q)) (SumsBy op (IsBetween p) (IsBetween q))
 sums_of_runs Sum p q h k = sums_of_intervals p q h k
 sums_of_runs Difference p q h k = differences_of_intervals p q h k
 
@@ -56,7 +56,7 @@ sums_by_same Difference S S' T T' h k = differences_are_monotone S S' T T' h k
 
 -- what two runs make within the run of a list
 pub runs_keep : (op : Combined) (L M N : List (ℤ × ℤ)) (run p q kept : ℤ × ℤ) → N ≡ run ∷ [] → L ≡ p ∷ [] → M ≡ q ∷ [] → p.0 ≤ℤ p.1 → q.0 ≤ℤ q.1
-    → SameMembers (IsBetween kept) (Clipped run (IsBetween (sum_by op p q))) → (z : ℤ) → Covers N z → IsBetween kept z ↔ SumsBy op (Covers L) (Covers M) z
+    → SameMembers (IsBetween kept) (Clipped run (IsBetween (pair_by op p q))) → (z : ℤ) → Covers N z → IsBetween kept z ↔ SumsBy op (Covers L) (Covers M) z
 runs_keep op L M N run p q kept n e f h k same z m =
     let s = sums_of_runs op p q h k z in
     let l = covers_one L p e in

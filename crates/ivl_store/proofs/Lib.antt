@@ -6,8 +6,10 @@ mod ExamplesStore
 pub mod Counting
 pub mod Counts
 pub mod Families
+pub mod Histories
 pub mod Keeping
 pub mod Lists
+pub mod Narrowings
 pub mod Orders
 pub mod Partly
 pub mod Places

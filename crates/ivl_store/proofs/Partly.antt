@@ -5,7 +5,7 @@ use Rattle.ivl_laws.specs.Families.{set_at}
 use Rattle.ivl_store.specs.declared.store.constraint.Constraint.{Constraint}
 use Rattle.ivl_store.specs.declared.store.post.Post.{Post}
 use Rattle.ivl_store.specs.Rounds.{narrowed_by, rounds_of, IsPartlyNarrowedBy, IsPartlySettled}
-use Rattle.ivl_store.specs.Posts.{constraints_of, AllAllow, Cut, IsPartlyPosted}
+use Rattle.ivl_store.specs.Posts.{constraints_of, AllAllow, CutBy, IsPartlyPosted}
 use Rattle.ivl_store.proofs.Steps.{RoundsSoFar, LostMember-same, narrowed_by-mono, after_some}
 use Rattle.ivl_store.proofs.Posting.{PostedSoFar, AllAllow-parts, AllAllow-append, left_none, next_post, next_constraints}
 
@@ -61,14 +61,14 @@ nothing_posted posts old new e = record { done = 0; in_list = omega arith; famil
 -- the posts so far, and a part of what one more does
 pub partly_posted : {B O : Type 0} (posts : List (Post B O)) (old mid new : List (List (ℤ × ℤ))) (constraints : List Constraint) (replies : List Bool) (k : ℕ) (p : Post B O)
     → k < length posts → p ≡ get_or posts k p → PostedSoFar posts old mid constraints replies k
-    → (new ≡ mid) ⊎ IsPartlySettled (constraints ++ constraints_of (p ∷ [])) (Cut (p ∷ []) (set_at mid)) (set_at new)
+    → (new ≡ mid) ⊎ IsPartlySettled (constraints ++ constraints_of (p ∷ [])) (CutBy (p ∷ []) (set_at mid)) (set_at new)
     → IsPartlyPosted posts old new
 partly_posted posts old mid new constraints replies k p lt e so_far (inl same) =
     record { done = k; in_list = omega arith; family = mid; left = so_far.left; next = inl same }
 partly_posted posts old mid new constraints replies k p lt e so_far (inr part) =
     let taken = next_post posts k p lt e in
     let all = next_constraints posts constraints k p lt e so_far.constraints_are ∙ ap constraints_of (sym taken) in
-    let same : (i : ℕ) (v : ℤ) → Cut (p ∷ []) (set_at mid) i v ↔ Cut (take (k + 1) posts) (set_at mid) i v = (λ i v. (
+    let same : (i : ℕ) (v : ℤ) → CutBy (p ∷ []) (set_at mid) i v ↔ CutBy (take (k + 1) posts) (set_at mid) i v = (λ i v. (
       (λ h. (h.0, subst (λ ps. AllAllow ps i v) (sym taken) (AllAllow-append (take k posts) (p ∷ []) i v (so_far.left.within i v h.0).1 h.1))),
       (λ h. (h.0, (AllAllow-parts (take k posts) (p ∷ []) i v (subst (λ ps. AllAllow ps i v) taken h.1)).1)),
     )) in

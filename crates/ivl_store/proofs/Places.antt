@@ -16,7 +16,7 @@ use Rattle.ivl_store.specs.declared.store.constraint.Constraint.{Constraint}
 use Rattle.ivl_store.specs.declared.store.marks.Lost.{Lost}
 use Rattle.ivl_store.specs.Solutions.{AreDistinct, Names, HasSolutionAt, IsSolution, Supports, LiesWithin, LostMember}
 use Rattle.ivl_store.specs.Narrowing.{Narrowed, AllPresent, first_unknown, first_unknown_of}
-use Rattle.ivl_store.specs.Keeping.{IsLeftOf, AreLeftAt, replaced}
+use Rattle.ivl_store.specs.Keeping.{IsLeftOf, AreLeftAt, narrowed_at}
 use Rattle.ivl_store.specs.Settled.{AreLost}
 use Rattle.ivl_store.proofs.Families.{narrowing_keeps, narrowed_has_solution, has_solution_narrowed}
 
@@ -53,20 +53,20 @@ lacks inner outer m within differ =
       | inr found ↦ (found.0, ((count.2 found.0).1 found.1, found.2))
     ]
 
--- ---- one set replaced
+-- ---- one set narrowed_at
 
-length-replaced : (sets : List (List (ℤ × ℤ))) (i : ℕ) (left : Option (List (ℤ × ℤ))) → length (replaced sets i left) ≡ length sets
+length-replaced : (sets : List (List (ℤ × ℤ))) (i : ℕ) (left : Option (List (ℤ × ℤ))) → length (narrowed_at sets i left) ≡ length sets
 length-replaced sets i None = refl
 length-replaced sets i (Some left) = length-set sets i left
 
 replaced-same : (sets : List (List (ℤ × ℤ))) (i : ℕ) (left : Option (List (ℤ × ℤ))) → i < length sets
-    → get_or (replaced sets i left) i [] ≡ kept_or left (get_or sets i [])
+    → get_or (narrowed_at sets i left) i [] ≡ kept_or left (get_or sets i [])
 replaced-same sets i None h = refl
 replaced-same sets i (Some left) h = get_or-set_same sets i left [] h
 
 -- a place that is another, or one where all members stay
 replaced-other : (sets : List (List (ℤ × ℤ))) (i j : ℕ) (left : Option (List (ℤ × ℤ))) → (j ≡ i → left ≡ None)
-    → get_or (replaced sets i left) j [] ≡ get_or sets j []
+    → get_or (narrowed_at sets i left) j [] ≡ get_or sets j []
 replaced-other sets i j None h = refl
 replaced-other sets i j (Some left) h = elim (cases_eq j i) [
   | inl e ↦ absurd (not_none (h e))
@@ -77,16 +77,16 @@ replaced-other sets i j (Some left) h = elim (cases_eq j i) [
     not_none e = cc
 
 pub replaced_in_range : (whole : ℤ × ℤ) (sets : List (List (ℤ × ℤ))) (i : ℕ) (left : Option (List (ℤ × ℤ))) → All (IsRunListIn whole) sets
-    → ((s : List (ℤ × ℤ)) → left ≡ Some s → IsRunListIn whole s) → All (IsRunListIn whole) (replaced sets i left)
+    → ((s : List (ℤ × ℤ)) → left ≡ Some s → IsRunListIn whole s) → All (IsRunListIn whole) (narrowed_at sets i left)
 replaced_in_range whole sets i None h k = h
 replaced_in_range whole sets i (Some s) h k = All-set (IsRunListIn whole) sets i s (k s refl) h
 
 -- one domain cut by a set
 pub cut_after : (whole : ℤ × ℤ) (old : List (List (ℤ × ℤ))) (i : ℕ) (S : ℤ → Type 0) (left : Option (List (ℤ × ℤ))) → i < length old
-    → IsLeftOf whole (get_or old i []) S left → (j : ℕ) (v : ℤ) → set_at (replaced old i left) j v ↔ (set_at old j v × (j ≡ i → S v))
+    → IsLeftOf whole (get_or old i []) S left → (j : ℕ) (v : ℤ) → set_at (narrowed_at old i left) j v ↔ (set_at old j v × (j ≡ i → S v))
 cut_after whole old i S left lt h j v =
     elim (cases_eq j i) [
-      | inl e ↦ (let here : get_or (replaced old i left) j [] ≡ kept_or left (get_or old i []) = ap (λ k. get_or (replaced old i left) k []) e ∙ replaced-same old i left lt in
+      | inl e ↦ (let here : get_or (narrowed_at old i left) j [] ≡ kept_or left (get_or old i []) = ap (λ k. get_or (narrowed_at old i left) k []) e ∙ replaced-same old i left lt in
           let m = member_left whole _ S left h v in (
             (λ k. let u = m.0 (subst (λ s. Covers s v) here k) in (subst (λ n. set_at old n v) (sym e) u.0, λ _. u.1)),
             (λ u. subst (λ s. Covers s v) (sym here) (m.1 (subst (λ n. set_at old n v) e u.0, u.1 e))),
@@ -98,14 +98,14 @@ cut_after whole old i S left lt h j v =
     ]
 
 -- nothing was lost
-pub unchanged : (old : List (List (ℤ × ℤ))) (i : ℕ) (left : Option (List (ℤ × ℤ))) → is_some left ≡ false → replaced old i left ≡ old
+pub unchanged : (old : List (List (ℤ × ℤ))) (i : ℕ) (left : Option (List (ℤ × ℤ))) → is_some left ≡ false → narrowed_at old i left ≡ old
 unchanged old i None e = refl
 unchanged old i (Some left) e = absurd (cc)
 
--- ---- three sets replaced
+-- ---- three sets narrowed_at
 
 abbrev pub after : Constraint → List (List (ℤ × ℤ)) → Option (List (ℤ × ℤ)) → Option (List (ℤ × ℤ)) → Option (List (ℤ × ℤ)) → List (List (ℤ × ℤ))
-after c old x y z = replaced (replaced (replaced old c.x x) c.y y) c.z z
+after c old x y z = narrowed_at (narrowed_at (narrowed_at old c.x x) c.y y) c.z z
 
 pub length-after : (c : Constraint) (old : List (List (ℤ × ℤ))) (x y z : Option (List (ℤ × ℤ))) → length (after c old x y z) ≡ length old
 length-after c old x y z = length-replaced _ c.z z ∙ length-replaced _ c.y y ∙ length-replaced old c.x x
@@ -115,7 +115,7 @@ at_z : (whole : ℤ × ℤ) (c : Constraint) (old : List (List (ℤ × ℤ))) (x
     → get_or (after c old x y z) c.z [] ≡ kept_or z (get_or old c.z [])
 at_z whole c old x y z p left =
     let lx = length-replaced old c.x x in
-    let ly = length-replaced (replaced old c.x x) c.y y in
+    let ly = length-replaced (narrowed_at old c.x x) c.y y in
     let pz = p.2 in
     replaced-same _ c.z z (omega arith)
     ∙ ap (kept_or z) (replaced-other _ c.y c.z y (λ e. left.y_is_later (sym e)) ∙ replaced-other old c.x c.z x (λ e. left.x_is_later (inr (sym e))))

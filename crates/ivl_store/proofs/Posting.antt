@@ -14,7 +14,7 @@ use Rattle.ivl_store.specs.declared.store.post.Post.TheVariants.{Restrict, Requi
 use Rattle.ivl_laws.specs.Families.{set_at}
 use Rattle.ivl_store.specs.Solutions.{AreDistinct, Supports, LiesWithin, IsGreatestFamily}
 use Rattle.ivl_store.specs.Narrowing.{IsFixed, Keeps, AllPresent}
-use Rattle.ivl_store.specs.Posts.{constraints_of, AllAllow, Cut, IsLeftBy, HasEmpty, AnswersPost, AnswersPosts, CutKeeps, IsKnown, unknown_in, first_unknown_post}
+use Rattle.ivl_store.specs.Posts.{constraints_of, AllAllow, CutBy, IsLeftBy, HasEmpty, AnswersPost, AnswersPosts, CutKeeps, IsKnown, unknown_in, first_unknown_post}
 use Rattle.ivl_store.proofs.Places.{all_present, or_none}
 use Rattle.ivl_store.proofs.Rounds.{fixed_greatest}
 
@@ -73,7 +73,7 @@ left_none posts old e = subst (λ ps. IsLeftBy ps (set_at old) (set_at old)) (sy
 -- The step from post to post: what some posts leave, cut by more posts and then the greatest for the
 -- constraints of all, is what all the posts leave.
 pub left_more : {B O : Type 0} (ps qs : List (Post B O)) (old mid new : List (List (ℤ × ℤ))) → IsLeftBy ps (set_at old) (set_at mid)
-    → IsGreatestFamily (constraints_of (ps ++ qs)) (Cut qs (set_at mid)) (set_at new) → IsLeftBy (ps ++ qs) (set_at old) (set_at new)
+    → IsGreatestFamily (constraints_of (ps ++ qs)) (CutBy qs (set_at mid)) (set_at new) → IsLeftBy (ps ++ qs) (set_at old) (set_at new)
 left_more ps qs old mid new g h = record {
   within = (λ i v m. let u = h.within i v m in let w = g.within i v u.0 in (w.0, AllAllow-append ps qs i v w.1 u.1));
   supported = h.supported;
@@ -106,7 +106,7 @@ CutKeeps-same constraints posts old new e = subst (λ s. CutKeeps constraints po
 -- a cut and then narrowings keep it
 pub CutKeeps-narrowed : {B O : Type 0} (constraints more : List Constraint) (posts : List (Post B O)) (old mid new : List (List (ℤ × ℤ)))
     → more ≡ constraints
-    → ((i : ℕ) (v : ℤ) → set_at mid i v ↔ Cut posts (set_at old) i v) → Keeps more mid new → CutKeeps constraints posts old new
+    → ((i : ℕ) (v : ℤ) → set_at mid i v ↔ CutBy posts (set_at old) i v) → Keeps more mid new → CutKeeps constraints posts old new
 CutKeeps-narrowed constraints more posts old mid new e m k = subst (λ cs. CutKeeps cs posts old new) e (record {
   within = (λ i v h. ((m i v).0 (k.within i v h)).0);
   families = (λ f s w. k.families f s (λ i v h. (m i v).1 (w i v h)));
@@ -114,8 +114,8 @@ CutKeeps-narrowed constraints more posts old mid new e m k = subst (λ cs. CutKe
 
 -- a cut and then narrowings to the fixed point give the greatest family for the cut
 pub cut_greatest : {B O : Type 0} (constraints : List Constraint) (posts : List (Post B O)) (old mid new : List (List (ℤ × ℤ)))
-    → ((i : ℕ) (v : ℤ) → set_at mid i v ↔ Cut posts (set_at old) i v) → Keeps constraints mid new
-    → All (IsFixed (set_at new)) constraints → All AreDistinct constraints → IsGreatestFamily constraints (Cut posts (set_at old)) (set_at new)
+    → ((i : ℕ) (v : ℤ) → set_at mid i v ↔ CutBy posts (set_at old) i v) → Keeps constraints mid new
+    → All (IsFixed (set_at new)) constraints → All AreDistinct constraints → IsGreatestFamily constraints (CutBy posts (set_at old)) (set_at new)
 cut_greatest constraints posts old mid new m k fixed distinct =
     let g = fixed_greatest constraints mid new k distinct fixed in
     record {
@@ -186,7 +186,7 @@ pub posted_step : {B O : Type 0} (posts : List (Post B O)) (old mid new : List (
     → k < length posts → p ≡ get_or posts k p → All AreDistinct (constraints_of posts)
     → PostedSoFar posts old mid constraints replies k → length new ≡ length mid
     → constraints' ≡ constraints ++ constraints_of (p ∷ [])
-    → (All AreDistinct constraints' → IsGreatestFamily constraints' (Cut (p ∷ []) (set_at mid)) (set_at new))
+    → (All AreDistinct constraints' → IsGreatestFamily constraints' (CutBy (p ∷ []) (set_at mid)) (set_at new))
     → (IsTrue reply ↔ HasEmpty (length new) (set_at new))
     → replies' ≡ replies ++ reply ∷ []
     → PostedSoFar posts old new constraints' replies' (k + 1)
@@ -196,8 +196,8 @@ posted_step posts old mid new constraints constraints' replies replies' reply k 
     let distinct' : All AreDistinct (constraints_of (take k posts ++ p ∷ [])) =
     subst (λ ps. All AreDistinct (constraints_of ps)) taken
     (All-first_posts AreDistinct (take (k + 1) posts) (drop (k + 1) posts) (subst (λ ps. All AreDistinct (constraints_of ps)) (sym (take-append-drop (k + 1) posts)) distinct)) in
-    let g : IsGreatestFamily (constraints_of (take k posts ++ p ∷ [])) (Cut (p ∷ []) (set_at mid)) (set_at new) =
-    subst (λ cs. IsGreatestFamily cs (Cut (p ∷ []) (set_at mid)) (set_at new)) all (greatest (subst (All AreDistinct) (sym all) distinct')) in
+    let g : IsGreatestFamily (constraints_of (take k posts ++ p ∷ [])) (CutBy (p ∷ []) (set_at mid)) (set_at new) =
+    subst (λ cs. IsGreatestFamily cs (CutBy (p ∷ []) (set_at mid)) (set_at new)) all (greatest (subst (All AreDistinct) (sym all) distinct')) in
     let l : IsLeftBy (take (k + 1) posts) (set_at old) (set_at new) =
     subst (λ ps. IsLeftBy ps (set_at old) (set_at new)) (sym taken) (left_more (take k posts) (p ∷ []) old mid new so_far.left g) in
     let same : length new ≡ length old = count ∙ so_far.same_count in

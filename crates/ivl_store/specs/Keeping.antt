@@ -1,7 +1,7 @@
 -- What stands in place of the sets at x, y and z once a constraint has narrowed them. `None` means that all members stay.
 --     IsLeftOf whole L S left      what is left of the members of L where only those in S are kept
 --     AreLeftAt whole c sets x y z      what is left at x, y and z; a variable in two places has it at its last
---     replaced sets i left      the list of sets with what is left in place of set i
+--     narrowed_at sets i left      the list of sets with what is left in place of set i
 use Rattle.std.specs.Prelude.{◌≡◌, ◌≢◌, ◌⊎◌, ℕ, ℤ, List, Option, Some, None, slice_set, slice_index_or, []}
 use Rattle.ivl_laws.specs.Sets.{IsSubset, SameMembers, Intersection, Sums, Differences}
 use Rattle.ivl_laws.specs.Runs.{Covers, IsRunListIn}
@@ -21,6 +21,6 @@ pub record AreLeftAt (whole : ℤ × ℤ) (c : Constraint) (sets : List (List (�
   pub x_is_later : (c.x ≡ c.y) ⊎ (c.x ≡ c.z) → x ≡ None
   pub y_is_later : c.y ≡ c.z → y ≡ None
 
-abbrev pub replaced : List (List (ℤ × ℤ)) → ℕ → Option (List (ℤ × ℤ)) → List (List (ℤ × ℤ))
-replaced sets i None = sets
-replaced sets i (Some left) = slice_set sets i left
+abbrev pub narrowed_at : List (List (ℤ × ℤ)) → ℕ → Option (List (ℤ × ℤ)) → List (List (ℤ × ℤ))
+narrowed_at sets i None = sets
+narrowed_at sets i (Some left) = slice_set sets i left

@@ -2,6 +2,8 @@ pub mod FamilyLaws
 pub mod Keeping
 pub mod Measure
 pub mod Narrowing
+pub mod Network
+pub mod NetworkLaws
 pub mod Posts
 pub mod Rounds
 pub mod Settled

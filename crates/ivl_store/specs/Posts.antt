@@ -2,7 +2,7 @@
 --     constraints_of posts      the constraints among the posts, in their order
 --     OfConstraint P post      P holds of the post's constraint, if it has one
 --     AllAllow posts i v      the sets of all posts on variable i have the number
---     Cut posts sets      the family cut by the sets of all posts
+--     CutBy posts sets      the family cut by the sets of all posts
 --     IsLeftBy posts given family      the greatest family that all the posts leave
 --     HasEmpty count sets      one of the first `count` sets is empty
 --     AnswersPosts posts old replies      one reply a post, which says whether what the posts up to it leave has an empty set
@@ -35,11 +35,11 @@ AllAllow [] i v = Unit {0}
 AllAllow (Restrict j s ∷ posts) i v = (i ≡ j → Covers s v) × AllAllow posts i v
 AllAllow (Require c ∷ posts) i v = AllAllow posts i v
 
-abbrev pub Cut : {B O : Type 0} → List (Post B O) → (ℕ → ℤ → Type 0) → ℕ → ℤ → Type 0
-Cut posts sets i v = sets i v × AllAllow posts i v
+abbrev pub CutBy : {B O : Type 0} → List (Post B O) → (ℕ → ℤ → Type 0) → ℕ → ℤ → Type 0
+CutBy posts sets i v = sets i v × AllAllow posts i v
 
 abbrev pub IsLeftBy : {B O : Type 0} → List (Post B O) → (ℕ → ℤ → Type 0) → (ℕ → ℤ → Type 0) → Type 0
-IsLeftBy posts given family = IsGreatestFamily (constraints_of posts) (Cut posts given) family
+IsLeftBy posts given family = IsGreatestFamily (constraints_of posts) (CutBy posts given) family
 
 pub record HasEmpty (count : ℕ) (sets : ℕ → ℤ → Type 0) : Type 0 where
   pub variable : ℕ
@@ -69,11 +69,11 @@ first_unknown_post count (post ∷ posts) = option_or (unknown_in count post) (f
 
 pub record CutKeeps {B O : Type 0} (constraints : List Constraint) (posts : List (Post B O)) (old new : List (List (ℤ × ℤ))) : Type 0 where
   pub within : LiesWithin (set_at new) (set_at old)
-  pub families : (family : List (List (ℤ × ℤ))) → SupportedBy constraints (set_at family) → LiesWithin (set_at family) (Cut posts (set_at old)) → LiesWithin (set_at family) (set_at new)
+  pub families : (family : List (List (ℤ × ℤ))) → SupportedBy constraints (set_at family) → LiesWithin (set_at family) (CutBy posts (set_at old)) → LiesWithin (set_at family) (set_at new)
 
 pub record IsPartlyPosted {B O : Type 0} (posts : List (Post B O)) (old new : List (List (ℤ × ℤ))) : Type 0 where
   pub done : ℕ
   pub in_list : done ≤ length posts
   pub family : List (List (ℤ × ℤ))
   pub left : IsLeftBy (take done posts) (set_at old) (set_at family)
-  pub next : (new ≡ family) ⊎ ((done < length posts) × IsPartlySettled (constraints_of (take (done + 1) posts)) (Cut (take (done + 1) posts) (set_at family)) (set_at new))
+  pub next : (new ≡ family) ⊎ ((done < length posts) × IsPartlySettled (constraints_of (take (done + 1) posts)) (CutBy (take (done + 1) posts) (set_at family)) (set_at new))

@@ -14,4 +14,5 @@
 //! ```
 #![tactic(auto)]
 
+pub mod network;
 pub mod store;

@@ -15,7 +15,7 @@ use Rattle.ivl_laws.proofs.Products.{sums_of_runs, differences_of_runs}
 use Rattle.ivl_laws.proofs.Intervals.{none_is_crossed, in_range_is_within}
 use Rattle.ivl_laws.proofs.Ranges.{IsRunsOf-one}
 use Rattle.ivl_laws.proofs.Runs.{lower_end, upper_end}
-use Rattle.ivl_within.specs.Within.{Clipped, SumsBy, sum_by}
+use Rattle.ivl_within.specs.Within.{Clipped, SumsBy, pair_by}
 use Rattle.ivl_within.specs.declared.within.Combined.{Combined}
 use Rattle.ivl_within.specs.declared.within.Combined.TheVariants.{Sum, Difference}
 
@@ -73,21 +73,21 @@ rows_grow w f entries new L M i p l is k h =
 
 -- ---- all rows
 
-sums_of_both : (op : Combined) (L M : List (ℤ × ℤ)) → IsMaximal L → IsMaximal M → SameMembers (Covers (pairwise (sum_by op) L M)) (SumsBy op (Covers L) (Covers M))
+sums_of_both : (op : Combined) (L M : List (ℤ × ℤ)) → IsMaximal L → IsMaximal M → SameMembers (Covers (pairwise (pair_by op) L M)) (SumsBy op (Covers L) (Covers M))
 sums_of_both Sum L M l m z = let e = sums_of_runs L M z l m in (e.1, e.0)
 sums_of_both Difference L M l m z = let e = differences_of_runs L M z l m in (e.1, e.0)
 
 pub clipped_sums : (w : ℤ × ℤ) (op : Combined) (L M entries : List (ℤ × ℤ)) (i : ℕ) → IsMaximal L → IsMaximal M → length L ≤ i
-    → SameMembers (Covers entries) (Clipped w (Covers (pairwise (sum_by op) (take i L) M)))
+    → SameMembers (Covers entries) (Clipped w (Covers (pairwise (pair_by op) (take i L) M)))
     → SameMembers (Covers entries) (Clipped w (SumsBy op (Covers L) (Covers M)))
 clipped_sums w op L M entries i l m h k =
-    let all = subst (λ (N : List (ℤ × ℤ)). SameMembers (Covers entries) (Clipped w (Covers (pairwise (sum_by op) N M)))) (take_all i L h) k in
+    let all = subst (λ (N : List (ℤ × ℤ)). SameMembers (Covers entries) (Clipped w (Covers (pairwise (pair_by op) N M)))) (take_all i L h) k in
     let both = sums_of_both op L M l m in
     λ z. ((λ c. let a = (all z).0 c in ((both z).0 a.0, a.1)), (λ s. (all z).1 ((both z).1 s.0, s.1)))
 
 -- the results of two sets of one run each
 pub clipped_pair : (w : ℤ × ℤ) (op : Combined) (L M : List (ℤ × ℤ)) (p q r : ℤ × ℤ) → L ≡ p ∷ [] → M ≡ q ∷ [] → p.0 ≤ℤ p.1 → q.0 ≤ℤ q.1
-    → SameMembers (IsBetween r) (Clipped w (IsBetween (sum_by op p q))) → SameMembers (IsBetween r) (Clipped w (SumsBy op (Covers L) (Covers M)))
+    → SameMembers (IsBetween r) (Clipped w (IsBetween (pair_by op p q))) → SameMembers (IsBetween r) (Clipped w (SumsBy op (Covers L) (Covers M)))
 clipped_pair w op L M p q r e f filled filled' h =
     let both = sums_of_both op (p ∷ []) (q ∷ []) (filled, tt, tt) (filled', tt, tt) in
     rw (e, f) (λ z. (
@@ -125,7 +125,7 @@ tells_cut w op L M false l m h =
       (λ _. ⊎_elim
           (λ within. absurd (true≢false (sym (h.1 (λ z s. within z ((both z).1 s))))))
           (λ (z, (c, n)). (z, ((both z).0 c, n)))
-          (cut_or_within w (pairwise (sum_by op) L M))),
+          (cut_or_within w (pairwise (pair_by op) L M))),
       (λ _. refl),
     )
 

@@ -8,12 +8,12 @@ use Rattle.ivl_laws.proofs.Places.{IsMaximal-take, IsMaximal-drop, covers-take, 
 use Rattle.ivl_laws.proofs.SetLaws.{IsRunsOf-same}
 use Rattle.intervallum.specs.Places.{EndBelow, StartAbove}
 use Rattle.intervallum.proofs.Searching.{above_from, below_to}
-use Rattle.ivl_within.specs.Within.{Clipped, sum_by, reach_by}
+use Rattle.ivl_within.specs.Within.{Clipped, pair_by, reach_by}
 use Rattle.ivl_within.specs.declared.within.Combined.{Combined}
 use Rattle.ivl_within.specs.declared.within.Combined.TheVariants.{Sum, Difference}
 
 -- a result of two runs that is in the window is that of a number which reaches it
-reached_by_run : (op : Combined) (w p q : ℤ × ℤ) (z : ℤ) → p.0 ≤ℤ p.1 → q.0 ≤ℤ q.1 → IsBetween (sum_by op p q) z → IsBetween w z
+reached_by_run : (op : Combined) (w p q : ℤ × ℤ) (z : ℤ) → p.0 ≤ℤ p.1 → q.0 ≤ℤ q.1 → IsBetween (pair_by op p q) z → IsBetween w z
     → (y : ℤ) × IsBetween q y × IsBetween (reach_by op w p) y
 reached_by_run Sum w p q z f g (b0, b1) (c0, c1) =
     (int_max q.0 (z -ℤ p.1), (omega (arith, ints, clamps), omega (arith, ints, clamps)), (omega (arith, ints, clamps), omega (arith, ints, clamps)))
@@ -21,7 +21,7 @@ reached_by_run Difference w p q z f g (b0, b1) (c0, c1) =
     (int_max q.0 (p.0 -ℤ z), (omega (arith, ints, clamps), omega (arith, ints, clamps)), (omega (arith, ints, clamps), omega (arith, ints, clamps)))
 
 -- the same for a list of runs
-reached : (op : Combined) (w p : ℤ × ℤ) (L : List (ℤ × ℤ)) (z : ℤ) → p.0 ≤ℤ p.1 → IsMaximal L → Covers (map (sum_by op p) L) z → IsBetween w z
+reached : (op : Combined) (w p : ℤ × ℤ) (L : List (ℤ × ℤ)) (z : ℤ) → p.0 ≤ℤ p.1 → IsMaximal L → Covers (map (pair_by op p) L) z → IsBetween w z
     → (y : ℤ) × Covers L y × IsBetween (reach_by op w p) y
 reached op w p [] z f g c i = absurd c
 reached op w p (q ∷ L) z f g c i = ⊎_elim
@@ -55,7 +55,7 @@ module _ (op : Combined) (whole w p r : ℤ × ℤ) (right : List (ℤ × ℤ)) 
     (reach : SameMembers (IsBetween r) (Clipped whole (IsBetween (reach_by op w p)))) where
   -- where nothing of the range reaches the window, a row adds nothing
   pub row_misses : (old : List (ℤ × ℤ)) → HasNone (IsBetween r)
-      → SameMembers (Covers old) (Union (Covers old) (Clipped w (Covers (map (sum_by op p) right))))
+      → SameMembers (Covers old) (Union (Covers old) (Clipped w (Covers (map (pair_by op p) right))))
   row_misses old none z = (
     inl,
     ⊎_elim (λ o. o) (λ n.
@@ -65,7 +65,7 @@ module _ (op : Combined) (whole w p r : ℤ × ℤ) (right : List (ℤ × ℤ)) 
 
   -- a row begins at the first run that reaches the window
   pub row_starts : (old : List (ℤ × ℤ)) (k : ℕ) (v : ℤ) → v ≡ r.0 → EndBelow v (take k right)
-      → SameMembers (Covers old) (Union (Covers old) (Clipped w (Covers (map (sum_by op p) (take k right)))))
+      → SameMembers (Covers old) (Union (Covers old) (Clipped w (Covers (map (pair_by op p) (take k right)))))
   row_starts old k v e below z = (
     inl,
     ⊎_elim (λ o. o) (λ n.
@@ -77,10 +77,10 @@ module _ (op : Combined) (whole w p r : ℤ × ℤ) (right : List (ℤ × ℤ)) 
 
   -- and ends at the first that starts above what reaches it
   pub row_ends : (old entries : List (ℤ × ℤ)) (k : ℕ) (v : ℤ) → v ≡ r.1 → StartAbove v (drop k right)
-      → SameMembers (Covers entries) (Union (Covers old) (Clipped w (Covers (map (sum_by op p) (take k right)))))
-      → SameMembers (Covers entries) (Union (Covers old) (Clipped w (Covers (map (sum_by op p) right))))
+      → SameMembers (Covers entries) (Union (Covers old) (Clipped w (Covers (map (pair_by op p) (take k right)))))
+      → SameMembers (Covers entries) (Union (Covers old) (Clipped w (Covers (map (pair_by op p) right))))
   row_ends old entries k v e above h z = (
-    (λ c. ⊎_elim inl (λ n. inr (map-covers-take (sum_by op p) right k z n.0, n.1)) ((h z).0 c)),
+    (λ c. ⊎_elim inl (λ n. inr (map-covers-take (pair_by op p) right k z n.0, n.1)) ((h z).0 c)),
     ⊎_elim (λ o. (h z).1 (inl o))
         (λ n. ⊎_elim (λ a. (h z).1 (inr (a, n.1)))
         (λ a.
@@ -88,7 +88,7 @@ module _ (op : Combined) (whole w p r : ℤ × ℤ) (right : List (ℤ × ℤ)) 
         let (low, high) = (reach y).1 (b, runs.within y (covers-drop right k y c)) in
         let l = start_above v (drop k right) y above c in
         absurd (omega (arith, ints, l, high, e)))
-        (split_map (sum_by op p) right k z n.0)),
+        (split_map (pair_by op p) right k z n.0)),
   )
 
 -- runs up to one that ends below a value do too

@@ -1,7 +1,7 @@
 -- Sums and differences as far as they lie in a window, which may be the range.
 --     Clipped window S      the members of S in the window
 --     SumsBy op S T      the sums, or the differences, of a member of each
---     sum_by op p q      the pair that holds those of two intervals that are not crossed
+--     pair_by op p q      the pair that holds those of two intervals that are not crossed
 --     reach_by op w p      from the least to the greatest number whose result with one of p is in w
 use Rattle.std.specs.Prelude.{ℤ}
 use Rattle.ivl_laws.specs.Sets.{IsBetween, Intersection, Sums, Differences}
@@ -16,9 +16,9 @@ abbrev pub SumsBy : Combined → (ℤ → Type 0) → (ℤ → Type 0) → ℤ �
 SumsBy Sum = Sums
 SumsBy Difference = Differences
 
-abbrev pub sum_by : Combined → ℤ × ℤ → ℤ × ℤ → ℤ × ℤ
-sum_by Sum = interval_sum
-sum_by Difference = interval_difference
+abbrev pub pair_by : Combined → ℤ × ℤ → ℤ × ℤ → ℤ × ℤ
+pair_by Sum = interval_sum
+pair_by Difference = interval_difference
 
 abbrev pub reach_by : Combined → ℤ × ℤ → ℤ × ℤ → ℤ × ℤ
 reach_by Sum w p = interval_difference w p

@@ -1,16 +1,16 @@
 //! The calls of `bindings/c/intervallum.h` over the proved source as plain Rust, for machines that have Cargo and not the
 //! library that the proved source itself gives.
 //!
-//! Each function makes slices of the caller's pointers and makes one call of [`intervallum::proved::ivl_lists`], the same call
+//! Each function makes slices of the caller's pointers and makes one call of [`intervallum::proved::ivl_buffers`], the same call
 //! as the exported function of that name in `crates/ivl_c`. A null pointer with count 0 is an empty list.
 #![deny(unsafe_op_in_unsafe_fn)]
 
 use intervallum::proved::Global;
-use intervallum::proved::ivl_lists::adding::{Adding, of_members};
-use intervallum::proved::ivl_lists::asking::{Asking, ask, count};
-use intervallum::proved::ivl_lists::making::{OfOne, OfTwo, of_one, of_two};
-use intervallum::proved::ivl_lists::multiplying::products;
-use intervallum::proved::ivl_lists::{finding, reading, searching};
+use intervallum::proved::ivl_buffers::comparisons::{Asking, ask, count};
+use intervallum::proved::ivl_buffers::products::products;
+use intervallum::proved::ivl_buffers::set_calls::{OfOne, OfTwo, of_one, of_two};
+use intervallum::proved::ivl_buffers::sums::{Adding, of_members};
+use intervallum::proved::ivl_buffers::{beside, lookup, reading, sorted_lookup};
 use std::slice;
 
 /// The caller's list.
@@ -36,7 +36,7 @@ macro_rules! calls {
     ($module:ident, $run:ident, $bound:ty, $suffix:literal) => {
         mod $module {
             use super::*;
-            use intervallum::proved::ivl_lists::run::$run as Run;
+            use intervallum::proved::ivl_buffers::run::$run as Run;
 
             // a set of one list
             calls!(set $suffix, normalize, "normalize", (a n), of_one, OfOne::Same);
@@ -58,9 +58,11 @@ macro_rules! calls {
 
             // a query on a list and a number
             calls!(has $suffix, $bound, contains, "contains", reading::contains);
-            calls!(has $suffix, $bound, contains_sorted, "contains_sorted", searching::contains);
-            calls!(next $suffix, $bound, next_from, "next_from", finding::next_from);
-            calls!(next $suffix, $bound, next_from_sorted, "next_from_sorted", searching::next_from);
+            calls!(has $suffix, $bound, contains_sorted, "contains_sorted", sorted_lookup::contains);
+            calls!(next $suffix, $bound, next_from, "next_from", lookup::next_from);
+            calls!(next $suffix, $bound, next_from_sorted, "next_from_sorted", sorted_lookup::next_from);
+            calls!(next $suffix, $bound, previous_to_sorted, "previous_to_sorted", beside::previous_to);
+            calls!(run $suffix, $bound, run_at_sorted, "run_at_sorted", beside::run_at);
 
             #[unsafe(export_name = concat!("ivl_size_", $suffix))]
             unsafe extern "C" fn size(a: *const Run, n: usize, size: *mut u64) -> i64 {
@@ -71,7 +73,7 @@ macro_rules! calls {
             #[unsafe(export_name = concat!("ivl_first_fit_", $suffix))]
             unsafe extern "C" fn first_fit(a: *const Run, n: usize, count: u64, found: *mut Run) -> i64 {
                 let (a, found) = unsafe { (list(a, n), &mut *found) };
-                finding::first_fit(Global, a, count, found)
+                lookup::first_fit(Global, a, count, found)
             }
         }
     };
@@ -99,6 +101,13 @@ macro_rules! calls {
     (next $suffix:literal, $bound:ty, $name:ident, $text:literal, $call:path) => {
         #[unsafe(export_name = concat!("ivl_", $text, "_", $suffix))]
         unsafe extern "C" fn $name(a: *const Run, n: usize, v: $bound, found: *mut $bound) -> bool {
+            let (a, found) = unsafe { (list(a, n), &mut *found) };
+            $call(a, v, found)
+        }
+    };
+    (run $suffix:literal, $bound:ty, $name:ident, $text:literal, $call:path) => {
+        #[unsafe(export_name = concat!("ivl_", $text, "_", $suffix))]
+        unsafe extern "C" fn $name(a: *const Run, n: usize, v: $bound, found: *mut Run) -> bool {
             let (a, found) = unsafe { (list(a, n), &mut *found) };
             $call(a, v, found)
         }

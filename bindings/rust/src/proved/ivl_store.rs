@@ -21,4 +21,5 @@
 #[allow(unused_imports)]
 use crate::rattle::prelude::*;
 
+pub mod network;
 pub mod store;

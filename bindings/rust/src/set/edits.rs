@@ -1,9 +1,11 @@
 //! Edits in place.
 use super::conditions::{broken, memory, unless_broken, within_range};
+use super::reads::{ABOVE_0, as_range};
 use super::{IntervalSet, Piece, iterators::interval_of};
-use crate::proved::{Global, Interval, sweep::coalesce, width::Width};
+use crate::proved::width::{SizeNumber, Width};
+use crate::proved::{Global, Interval, sweep::coalesce};
 use alloc::vec::Vec;
-use core::borrow::Borrow;
+use core::{borrow::Borrow, ops::RangeInclusive};
 
 impl<T: Width> IntervalSet<T> {
     /// Adds a value, which must be in the range. Returns true exactly when it was not a member before. `O(log n)`, or `O(n)`
@@ -73,6 +75,38 @@ impl<T: Width> IntervalSet<T> {
     /// Removes and returns the greatest member, or returns `None` if the set is empty. `O(1)`.
     pub fn pop_last(&mut self) -> Option<T> {
         self.0.pop_last()
+    }
+
+    /// Removes and returns the lowest `count` consecutive members, or returns `None` and changes nothing if there are none.
+    /// `count` must be above 0. `O(n)`.
+    ///
+    /// ```
+    /// # use intervallum::IntervalSet;
+    /// let mut free = IntervalSet::from([1..=2, 5..=9u8]);
+    /// assert_eq!((free.take_first_fit(3), free.take_first_fit(3)), (Some(5..=7), None));
+    /// assert_eq!(free, IntervalSet::from([1..=2, 8..=9]));
+    /// ```
+    #[track_caller]
+    pub fn take_first_fit(&mut self, count: T::Output) -> Option<RangeInclusive<T>> {
+        unless_broken!(self.checked_take_first_fit(count), ABOVE_0, "take_first_fit(0)")
+    }
+
+    /// Does what [`take_first_fit`](Self::take_first_fit) does, or returns `None` if its condition does not hold.
+    pub fn checked_take_first_fit(&mut self, count: T::Output) -> Option<Option<RangeInclusive<T>>> {
+        (count.number() > 0).then(|| self.0.take_first_fit(count).as_ref().map(as_range))
+    }
+
+    /// Removes the members that are at least `value` and returns them as a set of their own, as that of a `BTreeSet`.
+    /// `O(log n + k)` for the `k` runs that are returned.
+    ///
+    /// ```
+    /// # use intervallum::IntervalSet;
+    /// let mut a = IntervalSet::from([1..=5, 8..=9]);
+    /// assert_eq!(a.split_off(3), IntervalSet::from([3..=5, 8..=9]));
+    /// assert_eq!(a, IntervalSet::from([1..=2]));
+    /// ```
+    pub fn split_off(&mut self, value: T) -> Self {
+        Self(memory(self.0.split_off(value)))
     }
 
     /// Adds every piece that an iterator yields, as `extend` does, or returns `None` and changes nothing if some number is

@@ -9,7 +9,7 @@ use crate::proved::width::{SizeNumber, Width};
 use core::{borrow::Borrow, ops::RangeInclusive};
 
 const FILLED: &str = "the set must not be empty, but is {}";
-const ABOVE_0: &str = "the count must be above 0";
+pub(super) const ABOVE_0: &str = "the count must be above 0";
 
 /// Returns a proved interval, which is not empty, as a range of std.
 pub fn as_range<T: Width>(run: &Interval<T>) -> RangeInclusive<T> {
@@ -146,6 +146,27 @@ impl<T: Width> IntervalSet<T> {
         self.0.runs().iter().map(as_range)
     }
 
+    /// Returns a double-ended iterator over the whole runs that overlap a range, in ascending order. `O(log n)`; each step is
+    /// `O(1)`.
+    ///
+    /// ```
+    /// # use intervallum::IntervalSet;
+    /// let a = IntervalSet::from([1..=2, 5..=6, 9..=9]);
+    /// assert_eq!(a.runs_within(2..=5).collect::<Vec<_>>(), [1..=2, 5..=6]);
+    /// assert_eq!(a.size_within(2..=5), 2u32);
+    /// ```
+    pub fn runs_within(
+        &self,
+        range: impl Piece<T>,
+    ) -> impl ExactSizeIterator<Item = RangeInclusive<T>> + DoubleEndedIterator + Clone {
+        self.0.runs_within(&range.clamped()).iter().map(as_range)
+    }
+
+    /// Returns the number of members that lie in a range. `O(log n + k)` for the `k` runs that overlap it.
+    pub fn size_within(&self, range: impl Piece<T>) -> T::Output {
+        self.0.size_within(&range.clamped())
+    }
+
     /// Returns the run that holds a value, the longest range of members with the value in it, or `None` if the value is not a
     /// member. `O(log n)`.
     pub fn run_at(&self, value: T) -> Option<RangeInclusive<T>> {
@@ -215,6 +236,24 @@ impl<T: Width> IntervalSet<T> {
     pub fn checked_first_fit_from(&self, value: T, count: T::Output) -> Option<Option<RangeInclusive<T>>> {
         (count.number() > 0).then(|| self.0.first_fit_from(value, count).as_ref().map(as_range))
     }
+
+    /// Returns the lowest `count` numbers of the shortest run that has so many, and of the lowest of these, or `None` if no run
+    /// has so many. `count` must be above 0. `O(n)`.
+    ///
+    /// ```
+    /// # use intervallum::IntervalSet;
+    /// let a = IntervalSet::from([1..=9, 12..=14u8]);
+    /// assert_eq!((a.best_fit(2), a.best_fit(4)), (Some(12..=13), Some(1..=4)));
+    /// ```
+    #[track_caller]
+    pub fn best_fit(&self, count: T::Output) -> Option<RangeInclusive<T>> {
+        unless_broken!(self.checked_best_fit(count), ABOVE_0, "best_fit(0)")
+    }
+
+    /// Returns [`best_fit`](Self::best_fit), or `None` if its condition does not hold.
+    pub fn checked_best_fit(&self, count: T::Output) -> Option<Option<RangeInclusive<T>>> {
+        (count.number() > 0).then(|| self.0.best_fit(count).as_ref().map(as_range))
+    }
 }
 
 /// Comparisons of two sets.
@@ -247,5 +286,26 @@ impl<T: Width> IntervalSet<T> {
     /// Returns true exactly when each member of `other` is a member, and this set has more. `O(m log (n / m + 2))`.
     pub fn is_proper_superset(&self, other: &Self) -> bool {
         self.0.is_proper_superset(&other.0)
+    }
+
+    /// Returns the number of members of both sets. `O(n + m)`.
+    ///
+    /// ```
+    /// # use intervallum::IntervalSet;
+    /// let (a, b) = (IntervalSet::from([1..=5u8]), IntervalSet::from([4..=9]));
+    /// assert_eq!((a.intersection_size(&b), a.union_size(&b), a.difference_size(&b)), (2, 9, 3));
+    /// ```
+    pub fn intersection_size(&self, other: &Self) -> T::Output {
+        self.0.intersection_size(&other.0)
+    }
+
+    /// Returns the number of members of either set. `O(n + m)`.
+    pub fn union_size(&self, other: &Self) -> T::Output {
+        self.0.union_size(&other.0)
+    }
+
+    /// Returns the number of members that are not in `other`. `O(n + m)`.
+    pub fn difference_size(&self, other: &Self) -> T::Output {
+        self.0.difference_size(&other.0)
     }
 }

@@ -69,7 +69,7 @@ impl<'a> Fact<'a> {
 }
 
 fn replay(file: &str, at_least: usize) {
-    let path = format!("{}/../../crates/ivl_facts/data/{file}", env!("CARGO_MANIFEST_DIR"));
+    let path = format!("{}/../../crates/ivl_replay/data/{file}", env!("CARGO_MANIFEST_DIR"));
     let path = path.replace("/serde/../../crates", "/../../crates");
     let text = std::fs::read_to_string(&path).unwrap_or_else(|error| panic!("{path}: {error}"));
     let (mut agreeing, mut skipped, mut failing) = (0, 0, Vec::new());

@@ -8,7 +8,7 @@ mod spans;
 mod splices;
 
 use super::IntervalSet;
-use super::runs::grown;
+use super::builder::grown;
 use crate::interval::Interval;
 use crate::ops::{Bounded, Contains, IsEmpty, Singleton, StrictShrinkLeft, StrictShrinkRight};
 use crate::width::{SizeNumber, Width};

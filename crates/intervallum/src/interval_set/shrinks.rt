@@ -3,10 +3,11 @@ ghost use Rattle.std.specs.Prelude.{◌≡◌, ◌+◌, ◌≤◌, pos, ◌≤�
 ghost use Rattle.ivl_laws.specs.Sets.{Above, AtLeast, AtMost, Below, Intersection, IsBetween, Union};
 ghost use Rattle.ivl_laws.specs.Runs.{Covers, IsRunListIn, IsRunsOf, StartsBy};
 ghost use Rattle.intervallum.specs.Places.{EndBelow, EndsFrom, StartAbove};
-ghost use Rattle.intervallum.specs.Sides.{IsBelow};
+ghost use Rattle.intervallum.specs.Order.{IsBelow};
 
 use super::IntervalSet;
-use super::runs::{grown, size_of_runs};
+use super::builder::grown;
+use super::run_lists::size_of_runs;
 use crate::interval::Interval;
 use crate::ops::{
     Bounded, IsEmpty, ShrinkLeft, ShrinkRight, StrictShrinkLeft, StrictShrinkRight, Whole,

@@ -2,10 +2,10 @@
 ghost use Rattle.std.specs.Prelude.{◌≡◌, ◌+◌, ◌≤◌, ◌≤ℤ◌, [], IfOk, None, OnOk, length, pos};
 ghost use Rattle.ivl_laws.specs.Sets.{Below, IsBetween, SameMembers, SymmetricDifference, Union, Without};
 ghost use Rattle.ivl_laws.specs.Runs.{Covers, IsMaximal, IsRunsOf};
-ghost use Rattle.intervallum.specs.Led.{led_by};
-ghost use Rattle.intervallum.specs.Sides.{IsBelow};
+ghost use Rattle.intervallum.specs.HeldRun.{led_by};
+ghost use Rattle.intervallum.specs.Order.{IsBelow};
 
-use super::merge::room_for;
+use super::union::room_for;
 use super::walk::Walk;
 use crate::interval::Interval;
 use crate::interval_set::IntervalSet;

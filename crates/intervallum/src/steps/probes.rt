@@ -24,7 +24,7 @@ pub struct Probes<'a, B: Width> {
 
 impl<'a, B: Width> Model for Probes<'a, B> {
     ghost use Rattle.ivl_laws.specs.Runs.{IsRunListIn};
-    ghost use Rattle.intervallum.specs.Counted.{Search};
+    ghost use Rattle.intervallum.specs.Cursors.{Search};
 
     ghost Value = { Search };
 

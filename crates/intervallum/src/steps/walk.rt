@@ -3,7 +3,7 @@ ghost use Rattle.std.specs.Prelude.{◌≡◌, ◌≢◌, ℕ, ◌+◌, ◌≤�
 ghost use Rattle.std.specs.Int.{from_bool};
 ghost use Rattle.ivl_laws.specs.Sets.{HasSome, IsBetween};
 ghost use Rattle.ivl_laws.specs.Runs.{IsRunListIn};
-ghost use Rattle.intervallum.specs.Led.{IsTakenIf, led_by};
+ghost use Rattle.intervallum.specs.HeldRun.{IsTakenIf, led_by};
 
 use crate::interval::Interval;
 use crate::interval_set::IntervalSet;
@@ -31,7 +31,7 @@ pub struct Walk<'a, B: Width> {
 impl<'a, B: Width> Model for Walk<'a, B> {
     ghost use Rattle.std.specs.Prelude.{◌≤◌, length, drop};
     ghost use Rattle.ivl_laws.specs.Runs.{IsRunListIn};
-    ghost use Rattle.intervallum.specs.Counted.{Position};
+    ghost use Rattle.intervallum.specs.Cursors.{Position};
 
     ghost Value = { Position };
 

@@ -1,7 +1,7 @@
 //! Intervals from bounds, and queries of their bounds: the least and the greatest member, the size,
 //! and membership.
 ghost use Rattle.std.specs.Prelude.{◌≡◌, ◌↔◌, ◌≤ℤ◌, ℤ, IsTrue};
-ghost use Rattle.ivl_laws.specs.Sets.{HasNone, HasSome, IsBetween, IsCrossed, IsInRange, IsSubset, Only, SameMembers};
+ghost use Rattle.ivl_laws.specs.Sets.{HasNone, HasSome, IsBetween, IsCrossed, IsInRange, Only, SameMembers};
 ghost use Rattle.ivl_laws.specs.Counts.{IsCountOf};
 ghost use Rattle.ivl_laws.specs.Bounds.{width_of};
 
@@ -11,42 +11,6 @@ use crate::ops::{
     Range, Singleton, Top, Whole,
 };
 use crate::width::{SizeNumber, Width};
-
-impl<B: Width> Interval<B> {
-    /// Returns true exactly when `new(lb, ub)` may be called: `lb` is not below the range and `ub`
-    /// is not above it. The two may cross, so `in_range(8, 3)` is true, and `new(8, 3)` is empty.
-    ///
-    /// ```
-    /// assert!(rt; Interval::in_range(8u8, 3) && !Interval::in_range(0u8, 255));
-    /// ```
-    pub fn in_range(lb: B, ub: B) -> bool
-        ensures { IsTrue result ↔ IsInRange B.whole (B.value lb, B.value ub) }
-    {
-        lb >= B::min_value() && ub <= B::max_value()
-    }
-
-    /// Returns the stored lower bound, even if the interval is empty. So intervals can be sorted by
-    /// it without a test for empty ones. For the least member, use `lower`.
-    ///
-    /// ```
-    /// assert_eq!(rt; Interval::new(8i32, 3).lower_bound(), 8);
-    /// ```
-    pub fn lower_bound(&self) -> B
-        ensures { B.value result ≡ self.now.0 }
-    {
-        self.lb
-    }
-
-    /// Does nothing: its contract states that each member is in the range.
-    ///
-    /// ```
-    /// let a = Interval::new(3i32, 8);
-    /// a.in_whole(); // a proof knows from here on that the members of `a` are in the range
-    /// ```
-    pub fn in_whole(self)
-        ensures { IsSubset (IsBetween self) (IsBetween B.whole) }
-    {}
-}
 
 impl<B: Width> Collection for Interval<B> {
     type Item = B;

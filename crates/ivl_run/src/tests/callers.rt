@@ -1,9 +1,9 @@
 //! A caller of a session, with a reader and a writer whose contracts name their bytes.
 ghost use Rattle.std.specs.Prelude.{IfOk};
 ghost use Rattle.ivl_lines.specs.Lines.{lines_of};
-ghost use Rattle.ivl_session.specs.Session.{IsSessionText};
+ghost use Rattle.ivl_calculator_lines.specs.Session.{IsSessionText};
 
-use ivl_session::{SessionFault, session};
+use ivl_calculator_lines::{SessionFault, session};
 use std::alloc::Global;
 use std::test::Fail;
 

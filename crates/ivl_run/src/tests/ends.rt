@@ -1,7 +1,7 @@
 //! Sessions over readers and writers that fail, wait or take little.
 ghost use Rattle.std.specs.Prelude.{Some};
 
-use ivl_session::{SessionFault, outcome, session};
+use ivl_calculator_lines::{SessionFault, outcome, session};
 use std::alloc::Global;
 use std::cell::Cell;
 use std::io;

@@ -1,7 +1,7 @@
 //! Sessions in which one request for memory is refused, as `rt try --test --fail-alloc N` does.
 use crate::tests::tables::EVERY_COMMAND;
 use crate::tests::{assert_written, write_line};
-use ivl_session::{SessionFault, session};
+use ivl_calculator_lines::{SessionFault, session};
 use std::alloc::Global;
 use std::test::Fail;
 

@@ -1,6 +1,6 @@
 //! Sessions as tables: each line, and the answer to it.
 use crate::tests::{assert_written, write_line};
-use ivl_session::session;
+use ivl_calculator_lines::session;
 use std::alloc::Global;
 use std::process::Abort;
 use std::test::Fail;

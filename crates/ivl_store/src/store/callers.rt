@@ -1,7 +1,7 @@
 //! Tests of the condition of [`Store::post_all`].
 ghost use Rattle.std.specs.Prelude.{◌≡◌, ◌↔◌, ℕ, ℤ, List, All, Err, IfOk, IsNone, IsSome, IsTrue, MatchOption, None, Some, length, ⊤};
 ghost use Rattle.ivl_laws.specs.Families.{set_at};
-ghost use Rattle.ivl_store.specs.Posts.{AnswersPosts, Cut, IsLeftBy, IsPartlyPosted, OfConstraint, constraints_of, first_unknown_post as first_unknown_in_posts};
+ghost use Rattle.ivl_store.specs.Posts.{AnswersPosts, CutBy, IsLeftBy, IsPartlyPosted, OfConstraint, constraints_of, first_unknown_post as first_unknown_in_posts};
 ghost use Rattle.ivl_store.specs.Solutions.{AreDistinct, LiesWithin, SupportedBy};
 
 use super::{Post, Store, StoreFault};
@@ -51,7 +51,7 @@ pub fn post_if_distinct<B: Width>(
     // Whatever is returned, domains only lose members, and no family loses one that the posts leave it.
     ensures kept_count { length store.new ≡ length store.old }
     ensures only_lost { LiesWithin (set_at store.new) (set_at store.old) }
-    ensures families { (family : List (List (ℤ × ℤ))) → SupportedBy (constraints_of posts.now) (set_at family) → LiesWithin (set_at family) (Cut posts.now (set_at store.old)) → LiesWithin (set_at family) (set_at store.new) }
+    ensures families { (family : List (List (ℤ × ℤ))) → SupportedBy (constraints_of posts.now) (set_at family) → LiesWithin (set_at family) (CutBy posts.now (set_at store.old)) → LiesWithin (set_at family) (set_at store.new) }
 {
     if !all_distinct(posts) {
         return Ok(None);

@@ -45,7 +45,7 @@ impl Constraint {
     }
 
     /// Returns the first of `x`, `y` and `z` that is not below `count`, or `None` if all are.
-    pub(super) fn first_unknown(&self, count: usize) -> Option<usize>
+    pub(crate) fn first_unknown(&self, count: usize) -> Option<usize>
         ensures { result ≡ first_unknown count self.now }
     {
         if self.x >= count {

@@ -9,7 +9,7 @@ ghost use Rattle.ivl_within.specs.Within.{SumsBy};
 use super::Constraint;
 use intervallum::interval::Interval;
 use intervallum::interval_set::IntervalSet;
-use intervallum::ops::{Bounded, Intersection, IsEmpty};
+use intervallum::ops::{Bounded, Cardinality, Intersection, IsEmpty};
 use intervallum::steps::Walk;
 use intervallum::width::Width;
 use ivl_within::within::{Combined, image, kept};
@@ -85,7 +85,12 @@ fn keep<B: Width>(
         return keep_run(x, run, image(left[0], right[0], op, run));
     }
     let kept = kept(x, a, b, op)?;
-    Ok(if kept == *x { None } else { Some(kept) })
+    // a subset, so the sizes decide
+    Ok(if kept.size() != x.size() {
+        Some(kept)
+    } else {
+        None
+    })
 }
 
 /// Returns the set of `kept` in place of a set of one run, or `None` if that is the same run.
@@ -120,5 +125,10 @@ pub(super) fn keep_within<B: Width>(
 {
     x.in_whole();
     let kept = x.intersection(allowed)?;
-    Ok(if kept == *x { None } else { Some(kept) })
+    // a subset, so the sizes decide
+    Ok(if kept.size() != x.size() {
+        Some(kept)
+    } else {
+        None
+    })
 }

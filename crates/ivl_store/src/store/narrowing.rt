@@ -2,7 +2,7 @@
 ghost use Rattle.std.specs.Prelude.{◌≡◌, ◌↔◌, ◌<◌, ◌≤◌, ◌+◌, ℕ, ℤ, List, All, Bool, Err, HoldsAt, IfOk, IsTrue, None, OnErr, OnOk, Option, Some, false, length, true};
 ghost use Rattle.ivl_laws.specs.Families.{set_at};
 ghost use Rattle.ivl_laws.specs.Runs.{IsRunListIn};
-ghost use Rattle.ivl_store.specs.Keeping.{replaced};
+ghost use Rattle.ivl_store.specs.Keeping.{narrowed_at};
 ghost use Rattle.ivl_store.specs.Measure.{total};
 ghost use Rattle.ivl_store.specs.Narrowing.{AllPresent, IsFixed, Keeps, Narrowed, first_unknown, first_unknown_of as first_unknown_in};
 ghost use Rattle.ivl_store.specs.Rounds.{After, AfterSome, EachLost, IsNarrowedBy, IsPartlyNarrowedBy};
@@ -85,7 +85,7 @@ impl<B: Width> Store<B> {
     pub(super) fn put(&mut self, i: usize, left: Option<IntervalSet<B>>)
         requires known { i < length self.old }
         requires range { (s : List (ℤ × ℤ)) → left ≡ Some s → IsRunListIn B.whole s }
-        ensures { self.new ≡ replaced self.old i left }
+        ensures { self.new ≡ narrowed_at self.old i left }
     {
         if let Some(set) = left {
             self.domains[i] = set;
@@ -93,7 +93,7 @@ impl<B: Width> Store<B> {
     }
 
     /// Narrows by constraint `i`, unless it is marked as settled.
-    pub(super) fn narrow_next(
+    pub(crate) fn narrow_next(
         &mut self,
         constraints: &[Constraint],
         i: usize,
@@ -108,6 +108,7 @@ impl<B: Width> Store<B> {
         ensures lost { IfOk result (λ b. IsTrue b ↔ LostMember (set_at self.old) (set_at self.new)) }
         ensures fewer { IfOk result (λ b. IsTrue b → total B.whole self.new < total B.whole self.old) }
         ensures settled { OnOk result (AreSettled constraints.now settled.new.items (set_at self.new)) }
+        ensures kept_marks { OnErr result (settled.new ≡ settled.old) }
     {
         if settled[i] {
             return Ok(false);

@@ -3,7 +3,7 @@ ghost use Rattle.std.specs.Prelude.{◌≡◌, ◌↔◌, ◌<◌, ◌⊎◌, �
 ghost use Rattle.ivl_laws.specs.Runs.{Covers};
 ghost use Rattle.ivl_laws.specs.Families.{set_at};
 ghost use Rattle.ivl_store.specs.Narrowing.{AllPresent, IsFixed, Keeps};
-ghost use Rattle.ivl_store.specs.Posts.{AnswersPosts, Cut, CutKeeps, HasEmpty, IsKnown, IsLeftBy, IsPartlyPosted, constraints_of, first_unknown_post as first_unknown_in_posts};
+ghost use Rattle.ivl_store.specs.Posts.{AnswersPosts, CutBy, CutKeeps, HasEmpty, IsKnown, IsLeftBy, IsPartlyPosted, constraints_of, first_unknown_post as first_unknown_in_posts};
 ghost use Rattle.ivl_store.specs.Rounds.{IsPartlySettled};
 ghost use Rattle.ivl_store.specs.Settled.{AreSettled};
 ghost use Rattle.ivl_store.specs.Solutions.{AreDistinct, IsCommonSolution, IsGreatestFamily, LiesWithin, SupportedBy};
@@ -54,10 +54,10 @@ impl<B: Width> Store<B> {
         // Domains only lose members, and no family loses one that the posts leave it.
         ensures kept_count { length self.new ≡ length self.old }
         ensures only_lost { LiesWithin (set_at self.new) (set_at self.old) }
-        ensures families { (family : List (List (ℤ × ℤ))) → SupportedBy (constraints_of posts.now) (set_at family) → LiesWithin (set_at family) (Cut posts.now (set_at self.old)) → LiesWithin (set_at family) (set_at self.new) }
+        ensures families { (family : List (List (ℤ × ℤ))) → SupportedBy (constraints_of posts.now) (set_at family) → LiesWithin (set_at family) (CutBy posts.now (set_at self.old)) → LiesWithin (set_at family) (set_at self.new) }
 
         // So no point that solves all the constraints is lost.
-        ensures solutions { (point : ℕ → ℤ) → IsCommonSolution (constraints_of posts.now) (Cut posts.now (set_at self.old)) point → IsCommonSolution (constraints_of posts.now) (set_at self.new) point }
+        ensures solutions { (point : ℕ → ℤ) → IsCommonSolution (constraints_of posts.now) (CutBy posts.now (set_at self.old)) point → IsCommonSolution (constraints_of posts.now) (set_at self.new) point }
 
         // Each reply speaks of the greatest family for the posts up to its own; the domains are that for all of them.
         ensures replies { IfOk result (λ replies. AnswersPosts posts.now self.old replies.items) }
@@ -109,10 +109,10 @@ impl<B: Width> Store<B> {
         ensures kept_count { length self.new ≡ length self.old }
         ensures keeps { CutKeeps (constraints.old.items ++ constraints_of (post.now ∷ [])) (post.now ∷ []) self.old self.new }
         ensures added { OnOk result (constraints.new.items ≡ constraints.old.items ++ constraints_of (post.now ∷ [])) }
-        ensures left { OnOk result (All AreDistinct constraints.new.items → IsGreatestFamily constraints.new.items (Cut (post.now ∷ []) (set_at self.old)) (set_at self.new)) }
+        ensures left { OnOk result (All AreDistinct constraints.new.items → IsGreatestFamily constraints.new.items (CutBy (post.now ∷ []) (set_at self.old)) (set_at self.new)) }
         ensures reply { IfOk result (λ b. IsTrue b ↔ HasEmpty (length self.new) (set_at self.new)) }
         ensures settled { OnOk result (AreSettled constraints.new.items settled.new.items (set_at self.new)) }
-        ensures memory { OnErr result ((self.new ≡ self.old) ⊎ IsPartlySettled (constraints.old.items ++ constraints_of (post.now ∷ [])) (Cut (post.now ∷ []) (set_at self.old)) (set_at self.new)) }
+        ensures memory { OnErr result ((self.new ≡ self.old) ⊎ IsPartlySettled (constraints.old.items ++ constraints_of (post.now ∷ [])) (CutBy (post.now ∷ []) (set_at self.old)) (set_at self.new)) }
     {
         self.admit(post, constraints, settled)?;
         self.settle(constraints, settled)?;
@@ -130,20 +130,41 @@ impl<B: Width> Store<B> {
         requires settled { AreSettled constraints.old.items settled.old.items (set_at self.old) }
         ensures refused { OnErr result (self.new ≡ self.old) }
         ensures kept_count { length self.new ≡ length self.old }
-        ensures cut { OnOk result ((i : ℕ) (v : ℤ) → set_at self.new i v ↔ Cut (post.now ∷ []) (set_at self.old) i v) }
+        ensures cut { OnOk result ((i : ℕ) (v : ℤ) → set_at self.new i v ↔ CutBy (post.now ∷ []) (set_at self.old) i v) }
         ensures added { OnOk result (constraints.new.items ≡ constraints.old.items ++ constraints_of (post.now ∷ [])) }
         ensures settled { OnOk result (AreSettled constraints.new.items settled.new.items (set_at self.new)) }
     {
         match post {
             Post::Restrict(i, allowed) => {
-                let lost = self.restrict(*i, allowed)?;
-                clear_marks(lost, constraints, *i, settled);
+                self.restrict_marked(*i, allowed, constraints, settled)?;
             }
             Post::Require(c) => {
                 constraints.push(*c)?;
                 settled.push(false)?;
             }
         }
+        Ok(())
+    }
+
+    /// Keeps the members of one domain that are allowed, and clears the marks of the constraints
+    /// that name the variable if it lost a member.
+    pub(crate) fn restrict_marked(
+        &mut self,
+        i: usize,
+        allowed: &IntervalSet<B>,
+        constraints: &[Constraint],
+        settled: &mut Vec<bool>,
+    ) -> Result<(), AllocError>
+        requires known { i < length self.old }
+        requires settled { AreSettled constraints.now settled.old.items (set_at self.old) }
+        ensures refused { OnErr result (self.new ≡ self.old) }
+        ensures kept_count { length self.new ≡ length self.old }
+        ensures cut { OnOk result ((j : ℕ) (v : ℤ) → set_at self.new j v ↔ (set_at self.old j v × (j ≡ i → Covers allowed.now v))) }
+        ensures settled { OnOk result (AreSettled constraints.now settled.new.items (set_at self.new)) }
+        ensures kept_marks { OnErr result (settled.new ≡ settled.old) }
+    {
+        let lost = self.restrict(i, allowed)?;
+        clear_marks(lost, constraints, i, settled);
         Ok(())
     }
 

@@ -1,7 +1,7 @@
 //! The results of two runs in a window.
 ghost use Rattle.std.specs.Prelude.{◌≤ℤ◌};
 ghost use Rattle.ivl_laws.specs.Sets.{IsBetween, SameMembers};
-ghost use Rattle.ivl_within.specs.Within.{Clipped, sum_by};
+ghost use Rattle.ivl_within.specs.Within.{Clipped, pair_by};
 
 use super::Combined;
 use intervallum::interval::Interval;
@@ -27,7 +27,7 @@ pub fn image<B: Width>(
     requires left { a.0 ≤ℤ a.1 }
     requires right { b.0 ≤ℤ b.1 }
     requires window { window.0 ≤ℤ window.1 }
-    ensures { SameMembers (IsBetween result) (Clipped window (IsBetween (sum_by op a b))) }
+    ensures { SameMembers (IsBetween result) (Clipped window (IsBetween (pair_by op a b))) }
 {
     let (lower, upper) = (b.lower().number(), b.upper().number());
     match op {

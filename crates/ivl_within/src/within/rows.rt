@@ -3,7 +3,7 @@ ghost use Rattle.std.specs.Prelude.{◌≤◌, ◌≤ℤ◌, OnOk, length, map, 
 ghost use Rattle.ivl_laws.specs.Sets.{IsBetween, SameMembers, Union};
 ghost use Rattle.ivl_laws.specs.Runs.{Covers, IsMaximal, IsRunListIn};
 ghost use Rattle.intervallum.specs.Places.{EndBelow};
-ghost use Rattle.ivl_within.specs.Within.{Clipped, reach_by, sum_by};
+ghost use Rattle.ivl_within.specs.Within.{Clipped, reach_by, pair_by};
 
 use super::Combined;
 use super::images::image;
@@ -25,7 +25,7 @@ pub fn push_row<B: Width>(
     requires filled { run.0 ≤ℤ run.1 }
     requires window { window.0 ≤ℤ window.1 }
     requires right { IsRunListIn B.whole right.now }
-    ensures { OnOk result (SameMembers (Covers entries.new.items) (Union (Covers entries.old.items) (Clipped window (Covers (map (sum_by op run) right.now))))) }
+    ensures { OnOk result (SameMembers (Covers entries.new.items) (Union (Covers entries.old.items) (Clipped window (Covers (map (pair_by op run) right.now))))) }
 {
     let reach = reach(run, op, window);
     if reach.is_empty() {

@@ -3,28 +3,35 @@
 #[allow(unused_imports)]
 use crate::rattle::prelude::*;
 
-mod algebra;
 mod arithmetic;
+mod best_fit;
 mod bounds;
+pub(crate) mod builder;
+mod clone;
+mod contains;
 mod conversions;
-mod copies;
-mod counting;
+mod disjoint;
 mod edits;
-mod few;
+mod first_fit;
 mod fits;
 mod inclusion;
+mod interval_operands;
+mod iter;
 mod lattice;
-mod listing;
+mod lopsided;
 mod members;
 mod neighbours;
-mod operands;
-mod reading;
-mod room;
-pub(crate) mod runs;
+mod operators;
+mod rank;
+pub(crate) mod run_lists;
+mod runs_within;
+mod set_operands;
 mod shrinks;
+mod sizes;
+mod split_off;
 mod text;
-mod values;
-mod with_intervals;
+mod value_operands;
+mod value_overlap;
 
 use crate::proved::intervallum::interval::Interval;
 use crate::proved::intervallum::ops::{Cardinality, Collection, IntervalKind, IsEmpty, Range};
@@ -283,7 +290,7 @@ impl<B: Width> PartialEq for IntervalSet<B> {
     ///
     /// Words: [`same_runs`](crate::definitions#same_runs), [`SameMembers`](crate::definitions#SameMembers), [`Covers`](crate::definitions#Covers).
     fn eq(&self, other: &IntervalSet<B>) -> bool {
-        self.size == other.size && runs::are_the_same(&self.intervals, &other.intervals)
+        self.size == other.size && run_lists::are_the_same(&self.intervals, &other.intervals)
     }
 }
 

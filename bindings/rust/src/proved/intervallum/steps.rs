@@ -4,23 +4,25 @@
 #[allow(unused_imports)]
 use crate::rattle::prelude::*;
 
-mod combine;
+mod complement;
 mod differences;
+mod intersection;
 mod looks;
-mod merge;
-mod outside;
 mod places;
 mod probes;
 mod search;
+mod sizes;
+mod union;
 mod walk;
 
-pub use combine::common;
-pub(crate) use combine::have_common;
+pub(crate) use complement::gaps;
 pub(crate) use differences::{one_alone, without};
-pub use merge::unite;
-pub(crate) use outside::gaps;
+pub use intersection::common;
+pub(crate) use intersection::have_common;
 pub(crate) use places::{first_from, last_up_to, runs_before, runs_up_to};
 pub use probes::Probes;
 pub(crate) use search::find_from;
 pub use search::{Place, find};
+pub(crate) use sizes::common_size;
+pub use union::unite;
 pub use walk::Walk;

@@ -36,6 +36,94 @@ pub struct Interval<B: Width> {
     ub: B,
 }
 
+impl<B: Width> Interval<B> {
+    /// Returns true exactly when `new(lb, ub)` may be called: `lb` is not below the range and `ub`
+    /// is not above it. The two may cross, so `in_range(8, 3)` is true, and `new(8, 3)` is empty.
+    ///
+    /// ```
+    /// # use intervallum::proved::examples::*;
+    /// # fn main() -> Result<(), std::boxed::Box<dyn std::error::Error>> {
+    /// # let alloc = Global;
+    /// assert!(Interval::in_range(8u8, 3) && !Interval::in_range(0u8, 255));
+    /// # Ok(())
+    /// # }
+    /// ```
+    ///
+    /// # Proved
+    ///
+    /// ```text
+    /// ensures { IsTrue result ↔ IsInRange B.whole (B.value lb, B.value ub) }
+    /// ```
+    ///
+    /// Words: [`IsInRange`](crate::definitions#IsInRange).
+    pub fn in_range(lb: B, ub: B) -> bool {
+        lb >= B::min_value() && ub <= B::max_value()
+    }
+
+    /// Returns the stored lower bound, even if the interval is empty. So intervals can be sorted by
+    /// it without a test for empty ones. For the least member, use `lower`.
+    ///
+    /// ```
+    /// # use intervallum::proved::examples::*;
+    /// # fn main() -> Result<(), std::boxed::Box<dyn std::error::Error>> {
+    /// # let alloc = Global;
+    /// assert_eq!(Interval::new(8i32, 3).lower_bound(), 8);
+    /// # Ok(())
+    /// # }
+    /// ```
+    ///
+    /// # Proved
+    ///
+    /// ```text
+    /// ensures { B.value result ≡ self.now.0 }
+    /// ```
+    pub fn lower_bound(&self) -> B {
+        self.lb
+    }
+
+    /// Returns the stored upper bound, even if the interval is empty. For the greatest member, use
+    /// `upper`.
+    ///
+    /// ```
+    /// # use intervallum::proved::examples::*;
+    /// # fn main() -> Result<(), std::boxed::Box<dyn std::error::Error>> {
+    /// # let alloc = Global;
+    /// assert_eq!(Interval::new(8i32, 3).upper_bound(), 3);
+    /// # Ok(())
+    /// # }
+    /// ```
+    ///
+    /// # Proved
+    ///
+    /// ```text
+    /// ensures { B.value result ≡ self.now.1 }
+    /// ```
+    pub fn upper_bound(&self) -> B {
+        self.ub
+    }
+
+    /// Does nothing: its contract states that each member is in the range.
+    ///
+    /// ```
+    /// # use intervallum::proved::examples::*;
+    /// # fn main() -> Result<(), std::boxed::Box<dyn std::error::Error>> {
+    /// # let alloc = Global;
+    /// let a = Interval::new(3i32, 8);
+    /// a.in_whole(); // a proof knows from here on that the members of `a` are in the range
+    /// # Ok(())
+    /// # }
+    /// ```
+    ///
+    /// # Proved
+    ///
+    /// ```text
+    /// ensures { IsSubset (IsBetween self) (IsBetween B.whole) }
+    /// ```
+    ///
+    /// Words: [`IsSubset`](crate::definitions#IsSubset), [`IsBetween`](crate::definitions#IsBetween).
+    pub fn in_whole(self) {}
+}
+
 /// Proved, with these words of the trait:
 ///
 /// ```text

@@ -94,10 +94,10 @@ impl core::error::Error for JsonFault {}
 /// Proved, with these words of the trait:
 ///
 /// ```text
-/// from_gives = { λ fault same. same ≡ fault_of fault }
+/// from_gives = { λ fault same. same ≡ json_fault fault }
 /// ```
 ///
-/// Words: [`fault_of`](crate::definitions#fault_of).
+/// Words: [`json_fault`](crate::definitions#json_fault).
 impl From<ItemFault> for JsonFault {
     /// Returns the same fault, for an interval that is not an item of a set.
     ///

@@ -15,12 +15,12 @@ use crate::rattle::std::alloc::{AllocError, Global};
 ///
 /// ```text
 /// reads = { λ d p. Reads B.whole d (IsBetween p) }
-/// faults = { λ d f. (k : ItemFault) × (f ≡ fault_of k) × (interval_read B.whole d ≡ Err k) }
+/// faults = { λ d f. (k : ItemFault) × (f ≡ json_fault k) × (interval_read B.whole d ≡ Err k) }
 /// json = { interval_json }
 /// same = { λ p q. SameMembers (IsBetween p) (IsBetween q) }
 /// ```
 ///
-/// Words: [`Reads`](crate::definitions#Reads), [`IsBetween`](crate::definitions#IsBetween), [`fault_of`](crate::definitions#fault_of), [`interval_read`](crate::definitions#interval_read), [`interval_json`](crate::definitions#interval_json), [`SameMembers`](crate::definitions#SameMembers).
+/// Words: [`Reads`](crate::definitions#Reads), [`IsBetween`](crate::definitions#IsBetween), [`json_fault`](crate::definitions#json_fault), [`interval_read`](crate::definitions#interval_read), [`interval_json`](crate::definitions#interval_json), [`SameMembers`](crate::definitions#SameMembers).
 impl<B: Width> JsonForm for Interval<B> {
     /// Returns `null` if the interval is empty, and else the array of the two bounds. `O(1)`, with
     /// at most one allocation. Fails only if allocation fails.

@@ -2,7 +2,7 @@ use Rattle.std.proofs.lemmas.Result.{IfOk-weaker}
 use Rattle.intervallum.proofs.Images.{open_here}
 use Rattle.ivl_laws.specs.Runs.{Covers}
 use Rattle.ivl_laws.proofs.SetLaws.{IsRunsOf-same}
-use Rattle.ivl_within.specs.Within.{Clipped, SumsBy, sum_by}
+use Rattle.ivl_within.specs.Within.{Clipped, SumsBy, pair_by}
 use Rattle.ivl_within.proofs.Clipping.{clipped_sums, rows_grow}
 use Rattle.ivl_within.proofs.within.combine_runs.Goals as goal
 
@@ -11,7 +11,7 @@ push_row-requires-clause-filled g c = open_here c.args.left.now c.loop-run.run-i
 
 pub loop-run-preserved : goal.loop-run-preserved
 loop-run-preserved g c =
-    rows_grow c.args.window (sum_by c.args.op) c.loop-run.entries.items c.push_row.new.entries.items c.args.left.now c.args.right.now c.loop-run.run-index c.run-item.result
+    rows_grow c.args.window (pair_by c.args.op) c.loop-run.entries.items c.push_row.new.entries.items c.args.left.now c.args.right.now c.loop-run.run-index c.run-item.result
     c.loop-run-test.true c.run-item.is c.in_ok-push_row.ensures c.loop-run.invariant
 
 pub returns : goal.returns

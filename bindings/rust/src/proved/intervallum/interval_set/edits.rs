@@ -7,7 +7,7 @@ mod spans;
 mod splices;
 
 use super::IntervalSet;
-use super::runs::grown;
+use super::builder::grown;
 use crate::proved::intervallum::interval::Interval;
 use crate::proved::intervallum::ops::{Bounded, Contains, IsEmpty, Singleton, StrictShrinkLeft, StrictShrinkRight};
 use crate::proved::intervallum::width::{SizeNumber, Width};

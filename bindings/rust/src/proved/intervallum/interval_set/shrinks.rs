@@ -3,7 +3,8 @@
 #[allow(unused_imports)]
 use crate::rattle::prelude::*;
 use super::IntervalSet;
-use super::runs::{grown, size_of_runs};
+use super::builder::grown;
+use super::run_lists::size_of_runs;
 use crate::proved::intervallum::interval::Interval;
 use crate::proved::intervallum::ops::{
     Bounded, IsEmpty, ShrinkLeft, ShrinkRight, StrictShrinkLeft, StrictShrinkRight, Whole,

@@ -2,7 +2,7 @@
 
 #[allow(unused_imports)]
 use crate::rattle::prelude::*;
-use super::merge::room_for;
+use super::union::room_for;
 use super::walk::Walk;
 use crate::proved::intervallum::interval::Interval;
 use crate::proved::intervallum::interval_set::IntervalSet;

@@ -51,10 +51,10 @@ fn is_distinct<B: Width>(post: &Post<B>) -> bool {
 /// ensures partly { result ≡ Err StoreFault.Memory → IsPartlyPosted posts.now store.old store.new }
 /// ensures kept_count { length store.new ≡ length store.old }
 /// ensures only_lost { LiesWithin (set_at store.new) (set_at store.old) }
-/// ensures families { (family : List (List (ℤ × ℤ))) → SupportedBy (constraints_of posts.now) (set_at family) → LiesWithin (set_at family) (Cut posts.now (set_at store.old)) → LiesWithin (set_at family) (set_at store.new) }
+/// ensures families { (family : List (List (ℤ × ℤ))) → SupportedBy (constraints_of posts.now) (set_at family) → LiesWithin (set_at family) (CutBy posts.now (set_at store.old)) → LiesWithin (set_at family) (set_at store.new) }
 /// ```
 ///
-/// Words: [`AreDistinct`](crate::definitions#AreDistinct), [`constraints_of`](crate::definitions#constraints_of), [`AnswersPosts`](crate::definitions#AnswersPosts), [`IsLeftBy`](crate::definitions#IsLeftBy), [`first_unknown_in_posts`](crate::definitions#first_unknown_post), [`IsPartlyPosted`](crate::definitions#IsPartlyPosted), [`LiesWithin`](crate::definitions#LiesWithin), [`SupportedBy`](crate::definitions#SupportedBy), [`Cut`](crate::definitions#Cut).
+/// Words: [`AreDistinct`](crate::definitions#AreDistinct), [`constraints_of`](crate::definitions#constraints_of), [`AnswersPosts`](crate::definitions#AnswersPosts), [`IsLeftBy`](crate::definitions#IsLeftBy), [`first_unknown_in_posts`](crate::definitions#first_unknown_post), [`IsPartlyPosted`](crate::definitions#IsPartlyPosted), [`LiesWithin`](crate::definitions#LiesWithin), [`SupportedBy`](crate::definitions#SupportedBy), [`CutBy`](crate::definitions#CutBy).
 pub fn post_if_distinct<B: Width>(
     store: &mut Store<B>,
     posts: &[Post<B>],

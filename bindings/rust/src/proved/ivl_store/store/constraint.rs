@@ -50,7 +50,7 @@ impl Constraint {
     }
 
     /// Returns the first of `x`, `y` and `z` that is not below `count`, or `None` if all are.
-    pub(super) fn first_unknown(&self, count: usize) -> Option<usize> {
+    pub(crate) fn first_unknown(&self, count: usize) -> Option<usize> {
         if self.x >= count {
             Some(self.x)
         } else if self.y >= count {

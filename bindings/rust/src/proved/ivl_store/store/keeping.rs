@@ -5,7 +5,7 @@ use crate::rattle::prelude::*;
 use super::Constraint;
 use crate::proved::intervallum::interval::Interval;
 use crate::proved::intervallum::interval_set::IntervalSet;
-use crate::proved::intervallum::ops::{Bounded, Intersection, IsEmpty};
+use crate::proved::intervallum::ops::{Bounded, Cardinality, Intersection, IsEmpty};
 use crate::proved::intervallum::steps::Walk;
 use crate::proved::intervallum::width::Width;
 use crate::proved::ivl_within::within::{Combined, image, kept};
@@ -72,7 +72,12 @@ fn keep<B: Width>(
         return keep_run(x, run, image(left[0], right[0], op, run));
     }
     let kept = kept(x, a, b, op)?;
-    Ok(if kept == *x { None } else { Some(kept) })
+    // a subset, so the sizes decide
+    Ok(if kept.size() != x.size() {
+        Some(kept)
+    } else {
+        None
+    })
 }
 
 /// Returns the set of `kept` in place of a set of one run, or `None` if that is the same run.
@@ -101,5 +106,10 @@ pub(super) fn keep_within<B: Width>(
 ) -> Result<Option<IntervalSet<B>>, AllocError> {
     x.in_whole();
     let kept = x.intersection(allowed)?;
-    Ok(if kept == *x { None } else { Some(kept) })
+    // a subset, so the sizes decide
+    Ok(if kept.size() != x.size() {
+        Some(kept)
+    } else {
+        None
+    })
 }

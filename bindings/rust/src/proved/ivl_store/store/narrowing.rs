@@ -83,7 +83,7 @@ impl<B: Width> Store<B> {
     }
 
     /// Narrows by constraint `i`, unless it is marked as settled.
-    pub(super) fn narrow_next(
+    pub(crate) fn narrow_next(
         &mut self,
         constraints: &[Constraint],
         i: usize,

@@ -54,14 +54,14 @@ impl<B: Width> Store<B> {
     /// ensures unchanged { (i : ℕ) → result ≡ Err (StoreFault.Variable i) → self.new ≡ self.old }
     /// ensures kept_count { length self.new ≡ length self.old }
     /// ensures only_lost { LiesWithin (set_at self.new) (set_at self.old) }
-    /// ensures families { (family : List (List (ℤ × ℤ))) → SupportedBy (constraints_of posts.now) (set_at family) → LiesWithin (set_at family) (Cut posts.now (set_at self.old)) → LiesWithin (set_at family) (set_at self.new) }
-    /// ensures solutions { (point : ℕ → ℤ) → IsCommonSolution (constraints_of posts.now) (Cut posts.now (set_at self.old)) point → IsCommonSolution (constraints_of posts.now) (set_at self.new) point }
+    /// ensures families { (family : List (List (ℤ × ℤ))) → SupportedBy (constraints_of posts.now) (set_at family) → LiesWithin (set_at family) (CutBy posts.now (set_at self.old)) → LiesWithin (set_at family) (set_at self.new) }
+    /// ensures solutions { (point : ℕ → ℤ) → IsCommonSolution (constraints_of posts.now) (CutBy posts.now (set_at self.old)) point → IsCommonSolution (constraints_of posts.now) (set_at self.new) point }
     /// ensures replies { IfOk result (λ replies. AnswersPosts posts.now self.old replies.items) }
     /// ensures left { OnOk result (IsLeftBy posts.now (set_at self.old) (set_at self.new)) }
     /// ensures memory { result ≡ Err StoreFault.Memory → IsPartlyPosted posts.now self.old self.new }
     /// ```
     ///
-    /// Words: [`AreDistinct`](crate::definitions#AreDistinct), [`constraints_of`](crate::definitions#constraints_of), [`first_unknown_in_posts`](crate::definitions#first_unknown_post), [`LiesWithin`](crate::definitions#LiesWithin), [`SupportedBy`](crate::definitions#SupportedBy), [`Cut`](crate::definitions#Cut), [`IsCommonSolution`](crate::definitions#IsCommonSolution), [`AnswersPosts`](crate::definitions#AnswersPosts), [`IsLeftBy`](crate::definitions#IsLeftBy), [`IsPartlyPosted`](crate::definitions#IsPartlyPosted).
+    /// Words: [`AreDistinct`](crate::definitions#AreDistinct), [`constraints_of`](crate::definitions#constraints_of), [`first_unknown_in_posts`](crate::definitions#first_unknown_post), [`LiesWithin`](crate::definitions#LiesWithin), [`SupportedBy`](crate::definitions#SupportedBy), [`CutBy`](crate::definitions#CutBy), [`IsCommonSolution`](crate::definitions#IsCommonSolution), [`AnswersPosts`](crate::definitions#AnswersPosts), [`IsLeftBy`](crate::definitions#IsLeftBy), [`IsPartlyPosted`](crate::definitions#IsPartlyPosted).
     pub fn post_all(&mut self, posts: &[Post<B>]) -> Result<Vec<bool>, StoreFault> {
         debug_assert!({ #[allow(unused_imports)] use crate::proved::ivl_interval::ops::*; posts.iter().all(|post| match post { Post::Require(c) => c.distinct(), Post::Restrict(..) => true }) }, "{}", "the condition of `post_all` is broken: posts.iter().all(|post| match post { Post::Require(c) => c.distinct(), Post::Restrict(..) => true })");
         if let Some(i) = first_unknown_post(posts, self.domains.len()) {
@@ -107,14 +107,27 @@ impl<B: Width> Store<B> {
     ) -> Result<(), AllocError> {
         match post {
             Post::Restrict(i, allowed) => {
-                let lost = self.restrict(*i, allowed)?;
-                clear_marks(lost, constraints, *i, settled);
+                self.restrict_marked(*i, allowed, constraints, settled)?;
             }
             Post::Require(c) => {
                 constraints.push(*c)?;
                 settled.push(false)?;
             }
         }
+        Ok(())
+    }
+
+    /// Keeps the members of one domain that are allowed, and clears the marks of the constraints
+    /// that name the variable if it lost a member.
+    pub(crate) fn restrict_marked(
+        &mut self,
+        i: usize,
+        allowed: &IntervalSet<B>,
+        constraints: &[Constraint],
+        settled: &mut Vec<bool>,
+    ) -> Result<(), AllocError> {
+        let lost = self.restrict(i, allowed)?;
+        clear_marks(lost, constraints, i, settled);
         Ok(())
     }
 

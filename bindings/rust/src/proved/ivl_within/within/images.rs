@@ -29,10 +29,10 @@ use crate::proved::intervallum::width::Width;
 /// requires left { a.0 ≤ℤ a.1 }
 /// requires right { b.0 ≤ℤ b.1 }
 /// requires window { window.0 ≤ℤ window.1 }
-/// ensures { SameMembers (IsBetween result) (Clipped window (IsBetween (sum_by op a b))) }
+/// ensures { SameMembers (IsBetween result) (Clipped window (IsBetween (pair_by op a b))) }
 /// ```
 ///
-/// Words: [`SameMembers`](crate::definitions#SameMembers), [`IsBetween`](crate::definitions#IsBetween), [`Clipped`](crate::definitions#Clipped), [`sum_by`](crate::definitions#sum_by).
+/// Words: [`SameMembers`](crate::definitions#SameMembers), [`IsBetween`](crate::definitions#IsBetween), [`Clipped`](crate::definitions#Clipped), [`pair_by`](crate::definitions#pair_by).
 pub fn image<B: Width>(
     a: Interval<B>,
     b: Interval<B>,

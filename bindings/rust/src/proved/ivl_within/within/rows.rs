@@ -19,10 +19,10 @@ use crate::rattle::std::alloc::AllocError;
 /// requires filled { run.0 ≤ℤ run.1 }
 /// requires window { window.0 ≤ℤ window.1 }
 /// requires right { IsRunListIn B.whole right.now }
-/// ensures { OnOk result (SameMembers (Covers entries.new.items) (Union (Covers entries.old.items) (Clipped window (Covers (map (sum_by op run) right.now))))) }
+/// ensures { OnOk result (SameMembers (Covers entries.new.items) (Union (Covers entries.old.items) (Clipped window (Covers (map (pair_by op run) right.now))))) }
 /// ```
 ///
-/// Words: [`IsRunListIn`](crate::definitions#IsRunListIn), [`SameMembers`](crate::definitions#SameMembers), [`Covers`](crate::definitions#Covers), [`Union`](crate::definitions#Union), [`Clipped`](crate::definitions#Clipped), [`sum_by`](crate::definitions#sum_by).
+/// Words: [`IsRunListIn`](crate::definitions#IsRunListIn), [`SameMembers`](crate::definitions#SameMembers), [`Covers`](crate::definitions#Covers), [`Union`](crate::definitions#Union), [`Clipped`](crate::definitions#Clipped), [`pair_by`](crate::definitions#pair_by).
 pub fn push_row<B: Width>(
     entries: &mut Vec<Interval<B>>,
     run: Interval<B>,

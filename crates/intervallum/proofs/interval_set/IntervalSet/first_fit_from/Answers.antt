@@ -3,7 +3,7 @@ use Rattle.std.specs.Prelude.{IsSomeAnd, slice_get}
 use Rattle.ivl_laws.specs.Sets.{AtLeast, IsBetween}
 use Rattle.ivl_laws.specs.Runs.{Covers, IsRunListIn}
 use Rattle.intervallum.specs.Neighbours.{IsGapAt}
-use Rattle.intervallum.proofs.Rooms.{IsFitOf, fit_from_gap, rest_whole}
+use Rattle.intervallum.proofs.FirstFit.{IsFitOf, fit_from_gap, rest_whole}
 use Rattle.intervallum.proofs.Finding.{place_is_less}
 use Rattle.intervallum.proofs.Windows.{part_is_run_list}
 use Rattle.intervallum.proofs.interval_set.IntervalSet.first_fit_from.Goals as goal

@@ -1,7 +1,7 @@
 use Rattle.ivl_laws.proofs.Orders.{lt_number}
 use Rattle.ivl_interval.proofs.Pairs.{not_below}
-use Rattle.intervallum.proofs.Alternating.{lower_part_first, lower_part_second}
-use Rattle.intervallum.proofs.Meeting.{ends_by, starts_before}
+use Rattle.intervallum.proofs.SymmetricDifferences.{lower_part_first, lower_part_second}
+use Rattle.intervallum.proofs.Intersections.{ends_by, starts_before}
 use Rattle.intervallum.proofs.steps.differences.lower_part.Goals as goal
 
 pub returns-then-lt : goal.returns-then-lt

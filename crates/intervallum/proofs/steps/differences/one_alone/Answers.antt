@@ -5,13 +5,13 @@ use Rattle.ivl_laws.proofs.Intervals.{some_is_not_crossed}
 use Rattle.ivl_laws.proofs.Orders.{lt_number}
 use Rattle.ivl_laws.proofs.Runs.{≤ℤ_antisymm}
 use Rattle.ivl_interval.proofs.Pairs.{not_below}
-use Rattle.intervallum.proofs.Alternating.{alone_at_end, alone_both, alone_first, alone_second, apart_at_end, lower_part_is_above}
-use Rattle.intervallum.proofs.Building.{building_done, building_same, building_starts, building_takes}
-use Rattle.intervallum.proofs.Leading.{led_by_next, open_held, zip_none, zip_some}
-use Rattle.intervallum.proofs.Meeting.{ends_before, ends_by}
-use Rattle.intervallum.proofs.Parting.{cut_above, led_by_cut}
+use Rattle.intervallum.proofs.SymmetricDifferences.{alone_at_end, alone_both, alone_first, alone_second, apart_at_end, lower_part_is_above}
+use Rattle.intervallum.proofs.MergeState.{building_done, building_same, building_starts, building_takes}
+use Rattle.intervallum.proofs.HeldRun.{led_by_next, open_held, zip_none, zip_some}
+use Rattle.intervallum.proofs.Intersections.{ends_before, ends_by}
+use Rattle.intervallum.proofs.Differences.{cut_above, led_by_cut}
 use Rattle.intervallum.proofs.RunBounds.{length_of_one_alone}
-use Rattle.intervallum.proofs.Shortening.{length_cut, length_taken}
+use Rattle.intervallum.proofs.HeldRunLengths.{length_cut, length_taken}
 use Rattle.intervallum.proofs.steps.differences.one_alone.Goals as goal
 
 pub push_above-requires : goal.push_above-requires

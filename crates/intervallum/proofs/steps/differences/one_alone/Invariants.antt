@@ -1,10 +1,10 @@
 use Rattle.std.proofs.Common.{length, pos, ◌+◌}
 use Rattle.ivl_laws.specs.Sets.{SymmetricDifference}
 use Rattle.ivl_laws.specs.Runs.{Covers}
-use Rattle.intervallum.specs.Led.{led_by}
-use Rattle.intervallum.proofs.Building.{IsBuilding}
-use Rattle.intervallum.proofs.Leading.{IsLed}
-use Rattle.intervallum.proofs.Alternating.{rest_alone}
+use Rattle.intervallum.specs.HeldRun.{led_by}
+use Rattle.intervallum.proofs.MergeState.{IsBuilding}
+use Rattle.intervallum.proofs.HeldRun.{IsLed}
+use Rattle.intervallum.proofs.SymmetricDifferences.{rest_alone}
 use Rattle.intervallum.proofs.steps.differences.one_alone.Given as goal
 
 -- what is written, and what one of the two lists has alone from the held runs on, make up the answer

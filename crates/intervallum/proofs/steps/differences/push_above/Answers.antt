@@ -1,7 +1,7 @@
 use Rattle.std.proofs.lemmas.Result.{on_ok_weaker}
 use Rattle.ivl_laws.proofs.Adding.{untrue}
 use Rattle.ivl_laws.proofs.Intervals.{not_crossed}
-use Rattle.intervallum.proofs.Building.{adds_none, starts_by}
+use Rattle.intervallum.proofs.MergeState.{adds_none, starts_by}
 use Rattle.intervallum.proofs.steps.differences.push_above.Goals as goal
 
 pub push_run-requires-clause-in_order : goal.push_run-requires-clause-in_order

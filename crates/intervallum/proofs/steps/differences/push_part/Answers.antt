@@ -1,6 +1,6 @@
 use Rattle.ivl_laws.proofs.Adding.{untrue}
 use Rattle.ivl_laws.proofs.Intervals.{not_crossed}
-use Rattle.intervallum.proofs.Building.{adds_above, adds_none}
+use Rattle.intervallum.proofs.MergeState.{adds_above, adds_none}
 use Rattle.intervallum.proofs.steps.differences.push_part.Goals as goal
 
 pub returns-then-is_empty : goal.returns-then-is_empty

@@ -1,11 +1,11 @@
 use Rattle.std.proofs.Common.{ℤ, pos, List, subst, arith}
 use Rattle.ivl_laws.specs.Sets.{Union}
 use Rattle.ivl_laws.specs.Runs.{Covers}
-use Rattle.intervallum.specs.Led.{led_by}
-use Rattle.intervallum.proofs.Building.{building_ends}
-use Rattle.intervallum.proofs.Leading.{led_by_next, leads_none}
-use Rattle.intervallum.proofs.Parting.{rest_goes_on}
-use Rattle.intervallum.proofs.Shortening.{length_taken}
+use Rattle.intervallum.specs.HeldRun.{led_by}
+use Rattle.intervallum.proofs.MergeState.{building_ends}
+use Rattle.intervallum.proofs.HeldRun.{led_by_next, leads_none}
+use Rattle.intervallum.proofs.Differences.{rest_goes_on}
+use Rattle.intervallum.proofs.HeldRunLengths.{length_taken}
 use Rattle.intervallum.proofs.steps.differences.push_rest.Goals as goal
 
 pub walk-preserved : goal.walk-preserved

@@ -1,9 +1,9 @@
 use Rattle.std.proofs.Common.{length, pos}
 use Rattle.ivl_laws.specs.Sets.{Union}
 use Rattle.ivl_laws.specs.Runs.{Covers}
-use Rattle.intervallum.specs.Led.{led_by}
-use Rattle.intervallum.proofs.Building.{IsBuilding}
-use Rattle.intervallum.proofs.Leading.{IsLed}
+use Rattle.intervallum.specs.HeldRun.{led_by}
+use Rattle.intervallum.proofs.MergeState.{IsBuilding}
+use Rattle.intervallum.proofs.HeldRun.{IsLed}
 use Rattle.intervallum.proofs.steps.differences.push_rest.Given as goal
 
 -- what is written, and the runs from the held one on, make up the answer

@@ -4,13 +4,13 @@ use Rattle.ivl_laws.specs.Runs.{Covers}
 use Rattle.ivl_laws.proofs.Intervals.{some_is_not_crossed}
 use Rattle.ivl_laws.proofs.Orders.{lt_number}
 use Rattle.ivl_interval.proofs.Pairs.{not_below}
-use Rattle.intervallum.specs.Led.{led_by}
-use Rattle.intervallum.proofs.Building.{building_done, building_same, building_starts, nearer}
-use Rattle.intervallum.proofs.Leading.{led_by_next, open_held, zip_none, zip_some}
-use Rattle.intervallum.proofs.Meeting.{ends_before, ends_by}
-use Rattle.intervallum.proofs.Parting.{cut_above, cut_below, led_by_cut, left_alone, part_is_above, parts_first, parts_second}
+use Rattle.intervallum.specs.HeldRun.{led_by}
+use Rattle.intervallum.proofs.MergeState.{building_done, building_same, building_starts, nearer}
+use Rattle.intervallum.proofs.HeldRun.{led_by_next, open_held, zip_none, zip_some}
+use Rattle.intervallum.proofs.Intersections.{ends_before, ends_by}
+use Rattle.intervallum.proofs.Differences.{cut_above, cut_below, led_by_cut, left_alone, part_is_above, parts_first, parts_second}
 use Rattle.intervallum.proofs.RunBounds.{length_of_without}
-use Rattle.intervallum.proofs.Shortening.{length_cut, length_taken}
+use Rattle.intervallum.proofs.HeldRunLengths.{length_cut, length_taken}
 use Rattle.intervallum.proofs.steps.differences.without.Goals as goal
 
 pub lower-requires : goal.lower-requires

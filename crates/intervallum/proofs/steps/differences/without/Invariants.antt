@@ -1,10 +1,10 @@
 use Rattle.std.proofs.Common.{length, pos, ◌+◌}
 use Rattle.ivl_laws.specs.Sets.{Without}
 use Rattle.ivl_laws.specs.Runs.{Covers}
-use Rattle.intervallum.specs.Led.{led_by}
-use Rattle.intervallum.proofs.Building.{IsBuilding}
-use Rattle.intervallum.proofs.Leading.{IsLed}
-use Rattle.intervallum.proofs.Parting.{rest_without}
+use Rattle.intervallum.specs.HeldRun.{led_by}
+use Rattle.intervallum.proofs.MergeState.{IsBuilding}
+use Rattle.intervallum.proofs.HeldRun.{IsLed}
+use Rattle.intervallum.proofs.Differences.{rest_without}
 use Rattle.intervallum.proofs.steps.differences.without.Given as goal
 
 -- what is written, and what the second list leaves of the first from the held runs on, make up the answer

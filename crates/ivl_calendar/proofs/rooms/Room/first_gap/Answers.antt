@@ -1,7 +1,7 @@
 use Rattle.std.proofs.Common.{ℕ, ℤ, List, Option, Some, None, MatchOption}
 use Rattle.ivl_laws.specs.Runs.{Covers, IsRunsOf}
 use Rattle.ivl_laws.specs.Sets.{IsBetween, Without}
-use Rattle.intervallum.specs.Rooms.{FitsAt, IsFirstFit}
+use Rattle.intervallum.specs.FirstFit.{FitsAt, IsFirstFit}
 use Rattle.ivl_calendar.proofs.rooms.Room.first_gap.Goals as goal
 
 -- what fits first in the members of a list of runs fits first in the set of which they are the runs

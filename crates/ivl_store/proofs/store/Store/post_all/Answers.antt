@@ -1,5 +1,5 @@
 use Rattle.std.proofs.Common.{◌≡◌, length, All, sym, subst, ◌∙◌, None, rules}
-use Rattle.ivl_store.specs.Posts.{IsKnown, Cut, constraints_of, first_unknown_post}
+use Rattle.ivl_store.specs.Posts.{IsKnown, CutBy, constraints_of, first_unknown_post}
 use Rattle.ivl_store.proofs.Posting.{posts_known}
 use Rattle.ivl_store.proofs.Points.{solutions_kept}
 use Rattle.ivl_laws.specs.Families.{set_at}
@@ -13,11 +13,11 @@ post_known-requires-clause-known g c =
 
 pub returns-in_err-post_known-clause-solutions : goal.returns-in_err-post_known-clause-solutions
 returns-in_err-post_known-clause-solutions g c =
-    solutions_kept (constraints_of c.args.posts.now) (Cut c.args.posts.now (set_at c.args.self.now)) (set_at c.post_known.new.self) c.post_known.ensures.keeps.families
+    solutions_kept (constraints_of c.args.posts.now) (CutBy c.args.posts.now (set_at c.args.self.now)) (set_at c.post_known.new.self) c.post_known.ensures.keeps.families
 
 pub returns-clause-solutions : goal.returns-clause-solutions
 returns-clause-solutions g c =
-    solutions_kept (constraints_of c.args.posts.now) (Cut c.args.posts.now (set_at c.args.self.now)) (set_at c.post_known.new.self) c.post_known.ensures.keeps.families
+    solutions_kept (constraints_of c.args.posts.now) (CutBy c.args.posts.now (set_at c.args.self.now)) (set_at c.post_known.new.self) c.post_known.ensures.keeps.families
 
 pub returns-in_err-post_known-clause-memory : goal.returns-in_err-post_known-clause-memory
 returns-in_err-post_known-clause-memory g c = λ _. c.in_err-post_known.ensures.memory

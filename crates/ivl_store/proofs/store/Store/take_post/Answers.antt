@@ -1,5 +1,5 @@
 use Rattle.std.proofs.Common.{◌++◌, ◌∷◌, [], All, inl, inr, subst, ◌∙◌}
-use Rattle.ivl_store.specs.Posts.{constraints_of, Cut}
+use Rattle.ivl_store.specs.Posts.{constraints_of, CutBy}
 use Rattle.ivl_store.proofs.Partly.{partly_taken}
 use Rattle.ivl_store.proofs.Steps.{on_err}
 use Rattle.ivl_laws.specs.Families.{set_at}
@@ -30,5 +30,5 @@ returns-in_err-admit-clause-memory g c = on_err c.from_residual.result _ (inl c.
 pub returns-in_err-settle-clause-memory : goal.returns-in_err-settle-clause-memory
 returns-in_err-settle-clause-memory g c =
     on_err c.from_residual-in_err-settle.result _ (inr (partly_taken (c.args.constraints.now.items ++ constraints_of (c.args.post.now ∷ [])) c.deref.result.now
-    (Cut (c.args.post.now ∷ []) (set_at c.args.self.now)) (set_at c.admit.new.self) (set_at c.settle.new.self)
+    (CutBy (c.args.post.now ∷ []) (set_at c.args.self.now)) (set_at c.admit.new.self) (set_at c.settle.new.self)
     (c.deref.ensures.value ∙ c.in_ok-admit.ensures.added) c.in_ok-admit.ensures.cut c.in_err-settle.ensures.memory))

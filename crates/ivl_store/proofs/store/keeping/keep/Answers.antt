@@ -1,12 +1,12 @@
 use Rattle.std.proofs.Common.{◌≡◌, ◌∷◌, [], ◌∙◌, subst}
-use Rattle.std.proofs.lemmas.Bool.{iff_false}
 use Rattle.std.proofs.lemmas.Result.{IfOk-weaker}
 use Rattle.ivl_laws.specs.Sets.{IsBetween}
 use Rattle.ivl_laws.specs.Runs.{Covers, IsMaximal}
 use Rattle.ivl_within.specs.Within.{SumsBy}
+use Rattle.intervallum.proofs.Equality.{differ_by_size, same_by_size}
 use Rattle.ivl_store.proofs.Keeping.{keeps_all_within, keeps_some_within, left_same, one_run, runs_keep}
 use Rattle.ivl_store.proofs.store.keeping.keep.Goals as goal
-use Rattle.ivl_store.proofs.store.keeping.keep.Goals.{then-eq, else-eq}
+use Rattle.ivl_store.proofs.store.keeping.keep.Goals.{then-ne, else-ne}
 
 pub keep_run-requires-clause-one_run : goal.keep_run-requires-clause-one_run
 keep_run-requires-clause-one_run g c = one_run _ _ _ (c.as_slice-runs.ensures.value ∙ c.iter.ensures.rest) c.if-runs-eq1.true c.index-runs-0.is
@@ -29,7 +29,12 @@ returns-then-right-eq1 g c =
 pub returns : goal.returns
 returns g c =
     let w = g.B.Width.whole in
-    elim c.if-eq.branch [
-      | then-eq b ↦ rw b.result-is (keeps_all_within w _ c.in_ok-kept.kept _ c.iter.ensures.runs c.in_ok-kept.ensures (c.eq.ensures.members.0 b.if-eq.true))
-      | else-eq b ↦ rw b.result-is (keeps_some_within w _ c.in_ok-kept.kept _ c.iter.ensures.runs c.in_ok-kept.ensures (iff_false c.eq.ensures.members b.if-eq.false))
+    let kept = Covers c.in_ok-kept.kept in
+    let x = Covers c.args.x.now in
+    elim c.if-ne.branch [
+      | then-ne b ↦ rw b.result-is (keeps_some_within w _ c.in_ok-kept.kept _ c.iter.ensures.runs c.in_ok-kept.ensures
+          (differ_by_size g.met.B.Output.SizeNumber.ordered _ _ c.ne.result kept x c.ne.ensures c.size.ensures c.size-2.ensures b.if-ne.true))
+      | else-ne b ↦ rw b.result-is (keeps_all_within w _ c.in_ok-kept.kept _ c.iter.ensures.runs c.in_ok-kept.ensures
+          (same_by_size g.met.B.Output.SizeNumber.ordered _ _ c.ne.result kept x c.ne.ensures c.size.ensures c.size-2.ensures b.if-ne.false
+          (λ z h. ((c.in_ok-kept.ensures.members z).0 h).0)))
     ]

@@ -4,7 +4,7 @@ use Rattle.ivl_laws.specs.Runs.{Covers}
 use Rattle.ivl_laws.proofs.Runs.{lower_end}
 use Rattle.ivl_laws.proofs.Orders.{lt_number}
 use Rattle.intervallum.proofs.Images.{open_here}
-use Rattle.ivl_within.specs.Within.{Clipped, sum_by}
+use Rattle.ivl_within.specs.Within.{Clipped, pair_by}
 use Rattle.ivl_within.proofs.Clipping.{row_grows}
 use Rattle.ivl_within.proofs.Reaching.{row_misses, row_starts, row_ends, starts_above_here}
 use Rattle.ivl_within.proofs.within.rows.push_row.Goals as goal
@@ -33,10 +33,10 @@ returns-then-lt g c =
     c.loop-i.invariant
 
 pub loop-i-preserved : goal.loop-i-preserved
-loop-i-preserved g c = row_grows c.args.window (sum_by c.args.op c.args.run) _ _ _ c.args.right.now c.loop-i.i c.index-right-i.result c.image.result
+loop-i-preserved g c = row_grows c.args.window (pair_by c.args.op c.args.run) _ _ _ c.args.right.now c.loop-i.i c.index-right-i.result c.image.result
     c.loop-i-test.true c.index-right-i.is c.in_ok-push.ensures.items c.image.ensures c.loop-i.invariant
 
 pub returns : goal.returns
 returns g c =
-    let P : List (ℤ × ℤ) → Type 0 = λ N. SameMembers (Covers c.loop-i.entries.items) (Union (Covers c.args.entries.now.items) (Clipped c.args.window (Covers (map (sum_by c.args.op c.args.run) N)))) in
+    let P : List (ℤ × ℤ) → Type 0 = λ N. SameMembers (Covers c.loop-i.entries.items) (Union (Covers c.args.entries.now.items) (Clipped c.args.window (Covers (map (pair_by c.args.op c.args.run) N)))) in
     subst P (take_all c.loop-i.i c.args.right.now c.loop-i-test.false) c.loop-i.invariant

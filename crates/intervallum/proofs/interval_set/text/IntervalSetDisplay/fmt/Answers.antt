@@ -1,7 +1,7 @@
 use Rattle.std.proofs.Common.{ℤ, Some, Ok, refl}
 use Rattle.std.specs.Prelude.{codes}
 use Rattle.ivl_interval.specs.Text.{interval_text}
-use Rattle.intervallum.proofs.Writing.{next_run, closed}
+use Rattle.intervallum.proofs.Text.{next_run, closed}
 use Rattle.intervallum.proofs.interval_set.text.IntervalSetDisplay.fmt.Goals as goal
 
 pub loop-run-preserved : goal.loop-run-preserved

@@ -1,5 +1,5 @@
 use Rattle.std.proofs.Common.{◌∙◌, ◌+◌, ℤ, List, drop, ap, sym, subst, arith}
-use Rattle.intervallum.specs.Led.{IsTakenIf}
+use Rattle.intervallum.specs.HeldRun.{IsTakenIf}
 use Rattle.intervallum.proofs.Walking.{place_if, taken_if}
 use Rattle.intervallum.proofs.steps.walk.Walk.advance_if.Goals as goal
 

@@ -1,6 +1,6 @@
-use Rattle.ivl_laws.proofs.Orders.{lt_number, ge_number}
+use Rattle.ivl_laws.proofs.Orders.{lt_number, ge_number, not_le}
 use Rattle.ivl_interval.proofs.Ends.{above_all, above_by_ends, next_at_least, next_in_range}
-use Rattle.ivl_interval.proofs.Pairs.{above_none, not_at_most, not_below}
+use Rattle.ivl_interval.proofs.Pairs.{above_none, not_below}
 use Rattle.ivl_interval.proofs.interval.shrinks.IntervalStrictShrinkLeft.strict_shrink_left.Goals as goal
 
 pub returns-then-lt : goal.returns-then-lt
@@ -14,7 +14,7 @@ pub successor-requires : goal.successor-requires
 successor-requires g c =
     next_in_range _ _ _ _ c.self.invariant.0
     (not_below _ _ _ (lt_number g.met.B.Width.ordered _ _ _ c.lt.ensures) c.if-lt.false)
-    (not_at_most _ _ _ (ge_number g.met.B.Width.ordered _ _ _ c.ge.ensures) c.if-ge.false)
+    (not_le _ _ _ (ge_number g.met.B.Width.ordered _ _ _ c.ge.ensures) c.if-ge.false)
 
 pub new-requires : goal.new-requires
 new-requires g c = (

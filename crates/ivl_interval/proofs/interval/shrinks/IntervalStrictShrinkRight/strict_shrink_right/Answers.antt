@@ -1,6 +1,6 @@
-use Rattle.ivl_laws.proofs.Orders.{gt_number, le_number}
+use Rattle.ivl_laws.proofs.Orders.{gt_number, le_number, not_le}
 use Rattle.ivl_interval.proofs.Ends.{below_all, below_by_ends, previous_at_most, previous_in_range}
-use Rattle.ivl_interval.proofs.Pairs.{below_none, not_at_most, not_below}
+use Rattle.ivl_interval.proofs.Pairs.{below_none, not_below}
 use Rattle.ivl_interval.proofs.interval.shrinks.IntervalStrictShrinkRight.strict_shrink_right.Goals as goal
 
 pub returns-then-gt : goal.returns-then-gt
@@ -13,7 +13,7 @@ returns-then-le g c =
 pub predecessor-requires : goal.predecessor-requires
 predecessor-requires g c =
     previous_in_range _ _ _ _ c.self.invariant.0
-    (not_at_most _ _ _ (le_number g.met.B.Width.ordered _ _ _ c.le.ensures) c.if-le.false)
+    (not_le _ _ _ (le_number g.met.B.Width.ordered _ _ _ c.le.ensures) c.if-le.false)
     (not_below _ _ _ (gt_number g.met.B.Width.ordered _ _ _ c.gt.ensures) c.if-gt.false)
 
 pub new-requires : goal.new-requires

@@ -1,0 +1,110 @@
+//! How a set is built: from a list of runs and its size, or by pushing runs at its end.
+
+#[allow(unused_imports)]
+use crate::rattle::prelude::*;
+use super::IntervalSet;
+use super::run_lists::joins;
+use crate::proved::intervallum::interval::Interval;
+use crate::proved::intervallum::ops::{Bounded, Cardinality, Range, StrictShrinkLeft};
+use crate::proved::intervallum::width::{SizeNumber, Width};
+use crate::rattle::std::alloc::{AllocError, Global};
+use crate::rattle::std::hint::select_unpredictable;
+
+impl<B: Width> IntervalSet<B> {
+    /// The runs as a slice.
+    pub(crate) fn as_runs(&self) -> &[Interval<B>] {
+        &self.intervals
+    }
+
+    /// The runs by value.
+    pub(crate) fn into_runs(self) -> Vec<Interval<B>> {
+        self.intervals
+    }
+
+    /// Returns the allocator that the set uses. `O(1)`. Does not allocate.
+    ///
+    /// ```
+    /// # use intervallum::proved::examples::*;
+    /// # fn main() -> Result<(), std::boxed::Box<dyn std::error::Error>> {
+    /// # let alloc = Global;
+    /// let a = IntervalSet::new(alloc, 1, 2)?;
+    /// let b = IntervalSet::singleton(a.allocator(), 3)?;
+    /// assert!(!a.overlap(&b));
+    /// # Ok(())
+    /// # }
+    /// ```
+    pub fn allocator(&self) -> Global {
+        *self.intervals.allocator()
+    }
+
+    /// Returns the empty set, with room for a number of runs.
+    pub(crate) fn with_room(alloc: Global, runs: usize) -> Result<Self, AllocError> {
+        Ok(IntervalSet {
+            intervals: Vec::with_capacity(alloc, runs)?,
+            size: <B::Output as SizeNumber>::zero(),
+        })
+    }
+
+    /// The set of a list of runs, and of how many numbers they cover.
+    pub(crate) fn of_runs(intervals: Vec<Interval<B>>, size: B::Output) -> Self {
+        IntervalSet { intervals, size }
+    }
+
+    /// The same set, shrunk if less than half of its capacity, rounded down, is used. If shrinking
+    /// fails, it keeps its capacity.
+    pub(crate) fn fitted(mut self) -> Self {
+        if self.intervals.capacity() / 2 > self.intervals.len() {
+            self.intervals.shrink_to_fit();
+        }
+        self
+    }
+
+    /// Adds the members of a run that starts no lower than the last run does, joined with that one
+    /// if the two overlap or touch.
+    pub(crate) fn push_run(&mut self, run: Interval<B>) -> Result<(), AllocError> {
+        let count = self.intervals.len();
+        if count > 0 {
+            let last = self.intervals[count - 1];
+            if joins(&last, &run) {
+                let upper = last.upper().max(run.upper());
+                self.size = grown::<B>(self.size, numbers_past(&last, &run));
+                self.intervals[count - 1] = Interval::new(last.lower(), upper);
+                return Ok(());
+            }
+        }
+        self.push_apart(run)
+    }
+
+    /// Adds a run at the end, where it joins with no other.
+    pub(crate) fn push_apart(&mut self, run: Interval<B>) -> Result<(), AllocError> {
+        self.intervals.push(run)?;
+        self.size = grown::<B>(self.size, run.size());
+        Ok(())
+    }
+}
+
+/// Adds a run that starts no lower than the last one, in room that is reserved, and returns the run
+/// that is then the last. The last run is written again unless the new one is apart from it, so that
+/// no branch hangs on their values.
+pub(crate) fn add_reserved<B: Width>(
+    runs: &mut Vec<Interval<B>>,
+    last: Interval<B>,
+    run: Interval<B>,
+) -> Interval<B> {
+    let is_joined = joins(&last, &run);
+    let lower = select_unpredictable(is_joined, last.lower(), run.lower());
+    let next = Interval::new(lower, last.upper().max(run.upper()));
+    runs.truncate(runs.len() - usize::from(is_joined));
+    runs.push_reserved(next);
+    next
+}
+
+/// How many numbers of a run lie above another run's end.
+fn numbers_past<B: Width>(last: &Interval<B>, run: &Interval<B>) -> B::Output {
+    run.strict_shrink_left(last.upper()).size()
+}
+
+/// A size and some more. The sum is a size again.
+pub(crate) fn grown<B: Width>(size: B::Output, more: B::Output) -> B::Output {
+    size.add_in_range(more)
+}

@@ -1,0 +1,86 @@
+//! How many members two sets have together, in common, and apart, without making a set.
+
+#[allow(unused_imports)]
+use crate::rattle::prelude::*;
+use super::IntervalSet;
+use super::builder::grown;
+use crate::proved::intervallum::ops::Cardinality;
+use crate::proved::intervallum::steps::{Walk, common_size};
+use crate::proved::intervallum::width::{SizeNumber, Width};
+
+impl<B: Width> IntervalSet<B> {
+    /// Returns the number of members of both sets. `O(n + m)`. Never overflows. Does not allocate.
+    ///
+    /// ```
+    /// # use intervallum::proved::examples::*;
+    /// # fn main() -> Result<(), std::boxed::Box<dyn std::error::Error>> {
+    /// # let alloc = Global;
+    /// let (a, b) = (IntervalSet::new(alloc, 1, 5)?, IntervalSet::new(alloc, 4, 9)?);
+    /// assert_eq!(a.intersection_size(&b), 2u32);
+    /// # Ok(())
+    /// # }
+    /// ```
+    ///
+    /// # Proved
+    ///
+    /// ```text
+    /// ensures { IsCountOf (B.Output.size result) (Intersection (Covers self.now) (Covers other.now)) }
+    /// ```
+    ///
+    /// Words: [`IsCountOf`](crate::definitions#IsCountOf), [`Intersection`](crate::definitions#Intersection), [`Covers`](crate::definitions#Covers).
+    pub fn intersection_size(&self, other: &IntervalSet<B>) -> B::Output {
+        common_size(Walk::new(self), Walk::new(other))
+    }
+
+    /// Returns the number of members that are not in `other`. `O(n + m)`. Never overflows. Does not
+    /// allocate.
+    ///
+    /// ```
+    /// # use intervallum::proved::examples::*;
+    /// # fn main() -> Result<(), std::boxed::Box<dyn std::error::Error>> {
+    /// # let alloc = Global;
+    /// let (a, b) = (IntervalSet::new(alloc, 1, 5)?, IntervalSet::new(alloc, 4, 9)?);
+    /// assert_eq!(a.difference_size(&b), 3u32);
+    /// # Ok(())
+    /// # }
+    /// ```
+    ///
+    /// # Proved
+    ///
+    /// ```text
+    /// ensures { IsCountOf (B.Output.size result) (Without (Covers self.now) (Covers other.now)) }
+    /// ```
+    ///
+    /// Words: [`IsCountOf`](crate::definitions#IsCountOf), [`Without`](crate::definitions#Without), [`Covers`](crate::definitions#Covers).
+    pub fn difference_size(&self, other: &IntervalSet<B>) -> B::Output {
+        let shared = self.intersection_size(other);
+        self.size().checked_sub(shared).unwrap()
+    }
+
+    /// Returns the number of members of either set. `O(n + m)`. Never overflows. Does not allocate.
+    ///
+    /// ```
+    /// # use intervallum::proved::examples::*;
+    /// # fn main() -> Result<(), std::boxed::Box<dyn std::error::Error>> {
+    /// # let alloc = Global;
+    /// let (a, b) = (IntervalSet::new(alloc, 1, 5)?, IntervalSet::new(alloc, 4, 9)?);
+    /// assert_eq!(a.union_size(&b), 9u32);
+    /// # Ok(())
+    /// # }
+    /// ```
+    ///
+    /// # Proved
+    ///
+    /// ```text
+    /// ensures { IsCountOf (B.Output.size result) (Union (Covers self.now) (Covers other.now)) }
+    /// ```
+    ///
+    /// Words: [`IsCountOf`](crate::definitions#IsCountOf), [`Union`](crate::definitions#Union), [`Covers`](crate::definitions#Covers).
+    pub fn union_size(&self, other: &IntervalSet<B>) -> B::Output {
+        // members are in the range, so their number is a size
+        self.in_whole();
+        other.in_whole();
+        let more = self.difference_size(other);
+        grown::<B>(other.size(), more)
+    }
+}

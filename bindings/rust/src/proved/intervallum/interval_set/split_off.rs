@@ -1,0 +1,51 @@
+//! A set divided in two at a value.
+
+#[allow(unused_imports)]
+use crate::rattle::prelude::*;
+use super::IntervalSet;
+use crate::proved::intervallum::interval::Interval;
+use crate::proved::intervallum::ops::{ShrinkLeft, Whole};
+use crate::proved::intervallum::width::Width;
+use crate::rattle::std::alloc::AllocError;
+
+impl<B: Width> IntervalSet<B> {
+    /// Removes the members that are at least `v`, which may be any value of its type, and returns
+    /// them as a set of their own. The members below `v` stay.
+    ///
+    /// Binary searches, and a copy of the `k` runs that are returned: `O(log n + k)`. Reserves `k`
+    /// runs once; the capacity of this set is kept.
+    ///
+    /// # Errors
+    ///
+    /// Fails only if allocation fails. The set is then unchanged.
+    ///
+    /// ```
+    /// # use intervallum::proved::examples::*;
+    /// # fn main() -> Result<(), std::boxed::Box<dyn std::error::Error>> {
+    /// # let alloc = Global;
+    /// let mut a: IntervalSet<i32> = [(1, 5), (8, 9)].to_interval_set(alloc)?;
+    /// let above = a.split_off(3)?;
+    /// assert!(a == IntervalSet::new(alloc, 1, 2)?);
+    /// assert!(above == [(3, 5), (8, 9)].to_interval_set(alloc)?);
+    /// # Ok(())
+    /// # }
+    /// ```
+    ///
+    /// # Proved
+    ///
+    /// ```text
+    /// ensures above { IfOk result (λ L. IsRunsOf L (AtLeast (B.value v) (Covers self.old))) }
+    /// ensures below { OnOk result (IsRunsOf self.new (Below (B.value v) (Covers self.old))) }
+    /// ensures err { OnErr result (self.new ≡ self.old) }
+    /// ```
+    ///
+    /// Words: [`IsRunsOf`](crate::definitions#IsRunsOf), [`AtLeast`](crate::definitions#AtLeast), [`Covers`](crate::definitions#Covers), [`Below`](crate::definitions#Below).
+    pub fn split_off(&mut self, v: B) -> Result<IntervalSet<B>, AllocError> {
+        // members are in the range, so the cut goes up to its end and splits no run in two
+        self.in_whole();
+        let above = self.shrink_left(v)?;
+        self.remove_interval(Interval::whole().shrink_left(v))
+            .unwrap();
+        Ok(above)
+    }
+}

@@ -1,0 +1,96 @@
+//! The common members of two walks.
+
+#[allow(unused_imports)]
+use crate::rattle::prelude::*;
+use super::walk::Walk;
+use crate::proved::intervallum::interval::Interval;
+use crate::proved::intervallum::interval_set::IntervalSet;
+use crate::proved::intervallum::interval_set::run_lists::size_of_runs;
+use crate::proved::intervallum::ops::{Bounded, Intersection, IsEmpty};
+use crate::proved::intervallum::width::Width;
+use crate::rattle::std::alloc::AllocError;
+
+/// Returns the common members of the runs left in two walks. Advances at most once for each of
+/// these runs, and reserves as many runs once. The result has the allocator of the first walk.
+/// Fails only if allocation fails.
+///
+/// ```
+/// # use intervallum::proved::examples::*;
+/// # fn main() -> Result<(), std::boxed::Box<dyn std::error::Error>> {
+/// # let alloc = Global;
+/// let (a, b) = (IntervalSet::new(alloc, 1, 5)?, IntervalSet::new(alloc, 4, 9)?);
+/// let both = common(Walk::new(&a), Walk::new(&b))?;
+/// assert!(both == IntervalSet::new(alloc, 4, 5)?);
+/// # Ok(())
+/// # }
+/// ```
+///
+/// # Proved
+///
+/// ```text
+/// ensures members { IfOk result (λ L. IsRunsOf L (Intersection (Covers first.entry.left) (Covers second.entry.left))) }
+/// ensures runs_at_most { IfOk result (λ L. length L ≤ length first.entry.left + length second.entry.left) }
+/// ```
+///
+/// Words: [`IsRunsOf`](crate::definitions#IsRunsOf), [`Intersection`](crate::definitions#Intersection), [`Covers`](crate::definitions#Covers).
+pub fn common<B: Width>(
+    first: Walk<'_, B>,
+    second: Walk<'_, B>,
+) -> Result<IntervalSet<B>, AllocError> {
+    let runs = common_runs(first, second)?;
+    let size = size_of_runs(&runs);
+    Ok(IntervalSet::of_runs(runs, size).fitted())
+}
+
+/// The runs of the common members of the runs left in two walks.
+fn common_runs<B: Width>(
+    mut first: Walk<'_, B>,
+    mut second: Walk<'_, B>,
+) -> Result<Vec<Interval<B>>, AllocError> {
+    // no memory holds more runs than a `usize` counts
+    let room = first.left().checked_add(second.left()).ok_or(AllocError)?;
+    let mut runs = Vec::with_capacity(first.alloc(), room)?;
+    'walk: while let Some(heads) = heads(&first, &second) {
+        let (run, other) = heads;
+        push_reserved_part(&mut runs, run.intersection(&other));
+        let ends_first = run.upper() <= other.upper();
+        first.advance_if(ends_first);
+        second.advance_if(!ends_first);
+    }
+    Ok(runs)
+}
+
+/// The first runs of two walks, if both have one.
+pub(super) fn heads<B: Width>(
+    first: &Walk<'_, B>,
+    second: &Walk<'_, B>,
+) -> Option<(Interval<B>, Interval<B>)> {
+    second.in_whole();
+    let a = first.peek()?;
+    let b = second.peek()?;
+    Some((a, b))
+}
+
+/// Adds the members of an interval, if it has any, at least two above those that are there, in room
+/// that is reserved.
+pub(super) fn push_reserved_part<B: Width>(runs: &mut Vec<Interval<B>>, part: Interval<B>) {
+    // written, and dropped again if it has none: no branch hangs on the values
+    runs.push_reserved(part);
+    runs.truncate(runs.len() - usize::from(part.is_empty()));
+}
+
+/// Whether the runs left in two walks have a member in common. Advances at most once for each of
+/// these runs: `O(n + m)`. Stops at the first common member. Does not allocate.
+pub(crate) fn have_common<B: Width>(mut first: Walk<'_, B>, mut second: Walk<'_, B>) -> bool {
+    'walk: while let Some(runs) = heads(&first, &second) {
+        let (a, b) = runs;
+        if a.upper() < b.lower() {
+            first.advance();
+        } else if b.upper() < a.lower() {
+            second.advance();
+        } else {
+            return true;
+        }
+    }
+    false
+}

@@ -1,0 +1,80 @@
+//! The greatest member up to a number, and the run that holds a number, by binary search in sorted
+//! lists.
+
+#[allow(unused_imports)]
+use crate::rattle::prelude::*;
+use crate::proved::ivl_buffers::run::Run;
+use crate::proved::ivl_buffers::sorted_lookup::{pair_at, search};
+
+/// Writes a member that is at most `v`, and the greatest one if the list is sorted. Returns whether
+/// it found one. `O(log n)`, does not allocate.
+///
+/// # Proved
+///
+/// ```text
+/// ensures member { IsTrue result → AtMost (R.Bound.value v) (Covers (map R.pair runs.now)) (R.Bound.value found.new) }
+/// ensures same { result ≡ false → R.Bound.value found.new ≡ R.Bound.value found.old }
+/// ensures in_order { IsInOrder (map R.pair runs.now)
+///     → AnswersPrevious (R.Bound.value v) (Covers (map R.pair runs.now)) (R.Bound.value found.old) (R.Bound.value found.new) result }
+/// ```
+///
+/// Words: [`AtMost`](crate::definitions#AtMost), [`Covers`](crate::definitions#Covers), [`IsInOrder`](crate::definitions#IsInOrder), [`AnswersPrevious`](crate::definitions#AnswersPrevious).
+pub fn previous_to<R: Run>(runs: &[R], v: R::Bound, found: &mut R::Bound) -> bool {
+    match greatest_to(runs, v) {
+        Some(greatest) => {
+            *found = greatest;
+            true
+        }
+        None => false,
+    }
+}
+
+/// A member that is at most `v`, and the greatest one if the list is sorted.
+fn greatest_to<R: Run>(runs: &[R], v: R::Bound) -> Option<R::Bound> {
+    let (place, is_in) = search(runs, v);
+    if is_in {
+        return Some(v);
+    }
+    if place == 0 {
+        return None;
+    }
+    greatest_in(runs[place - 1], v)
+}
+
+/// The greatest number of a pair that is at most `v`.
+fn greatest_in<R: Run>(run: R, v: R::Bound) -> Option<R::Bound> {
+    let upper = run.upper();
+    let end = if v < upper { v } else { upper };
+    if run.lower() <= end { Some(end) } else { None }
+}
+
+/// Writes a pair of the list that has `v`, and the run that holds it if the list is one of runs.
+/// Returns whether it found one: exactly when `v` is a member, if the list is sorted. `O(log n)`,
+/// does not allocate.
+///
+/// # Proved
+///
+/// ```text
+/// ensures member { IsTrue result → IsBetween (R.pair found.new) (R.Bound.value v) × IsSubset (IsBetween (R.pair found.new)) (Covers (map R.pair runs.now)) }
+/// ensures same { result ≡ false → R.pair found.new ≡ R.pair found.old }
+/// ensures in_order { IsInOrder (map R.pair runs.now) → (IsTrue result ↔ Covers (map R.pair runs.now) (R.Bound.value v)) }
+/// ensures run { IsMaximal (map R.pair runs.now)
+///     → AnswersRun (R.Bound.value v) (Covers (map R.pair runs.now)) (R.pair found.old) (R.pair found.new) result }
+/// ```
+///
+/// Words: [`IsBetween`](crate::definitions#IsBetween), [`IsSubset`](crate::definitions#IsSubset), [`Covers`](crate::definitions#Covers), [`IsInOrder`](crate::definitions#IsInOrder), [`IsMaximal`](crate::definitions#IsMaximal), [`AnswersRun`](crate::definitions#AnswersRun).
+pub fn run_at<R: Run>(runs: &[R], v: R::Bound, found: &mut R) -> bool {
+    match pair_with(runs, v) {
+        Some(run) => {
+            *found = run;
+            true
+        }
+        None => false,
+    }
+}
+
+/// A pair of the list that has `v`, and the run that holds it if the list is one of runs.
+fn pair_with<R: Run>(runs: &[R], v: R::Bound) -> Option<R> {
+    let (place, is_in) = search(runs, v);
+    if is_in { pair_at(runs, place) } else { None }
+}

@@ -1,0 +1,75 @@
+//! Queries on lists, which make the sets of their members.
+
+#[allow(unused_imports)]
+use crate::rattle::prelude::*;
+use crate::proved::ivl_buffers::reading::{are_inside, set_of};
+use crate::proved::ivl_buffers::run::Run;
+use crate::proved::ivl_buffers::writing::{OUT_OF_MEMORY, OUT_OF_RANGE};
+use crate::proved::intervallum::ops::{Cardinality, Overlap, Subset};
+use crate::proved::intervallum::width::Width;
+use crate::rattle::std::alloc::{AllocError, Global};
+
+/// What is asked of two lists.
+#[derive(Clone, Copy)]
+pub enum Asking {
+    /// Whether each member of the first is one of the second.
+    Within,
+    /// Whether some number is a member of both.
+    Meets,
+    /// Whether the two have the same members.
+    Alike,
+}
+
+/// Returns 1 for yes, 0 for no, or an error code.
+///
+/// # Proved
+///
+/// ```text
+/// ensures { AnswersQuestion R.Bound.whole (Union (Covers (map R.pair a.now)) (Covers (map R.pair b.now)))
+///     (HoldsOf asking (Covers (map R.pair a.now)) (Covers (map R.pair b.now))) result }
+/// ```
+///
+/// Words: [`AnswersQuestion`](crate::definitions#AnswersQuestion), [`Union`](crate::definitions#Union), [`Covers`](crate::definitions#Covers), [`HoldsOf`](crate::definitions#HoldsOf).
+pub fn ask<R: Run>(alloc: Global, asking: Asking, a: &[R], b: &[R]) -> i64 {
+    if !are_inside(a) || !are_inside(b) {
+        return OUT_OF_RANGE;
+    }
+    match asked(alloc, asking, a, b) {
+        Ok(true) => 1,
+        Ok(false) => 0,
+        Err(_) => OUT_OF_MEMORY,
+    }
+}
+
+fn asked<R: Run>(alloc: Global, asking: Asking, a: &[R], b: &[R]) -> Result<bool, AllocError> {
+    let left = set_of(alloc, a)?;
+    let right = set_of(alloc, b)?;
+    Ok(match asking {
+        Asking::Within => left.is_subset(&right),
+        Asking::Meets => left.overlap(&right),
+        Asking::Alike => left == right,
+    })
+}
+
+/// Writes the number of members and returns 0, or returns an error code.
+///
+/// # Proved
+///
+/// ```text
+/// ensures { AnswersSize R.Bound.whole (Covers (map R.pair a.now))
+///     (R.Bound.Output.size size.old) (R.Bound.Output.size size.new) result }
+/// ```
+///
+/// Words: [`AnswersSize`](crate::definitions#AnswersSize), [`Covers`](crate::definitions#Covers).
+pub fn count<R: Run>(alloc: Global, a: &[R], size: &mut <R::Bound as Width>::Output) -> i64 {
+    if !are_inside(a) {
+        return OUT_OF_RANGE;
+    }
+    match set_of(alloc, a) {
+        Ok(set) => {
+            *size = set.size();
+            0
+        }
+        Err(_) => OUT_OF_MEMORY,
+    }
+}

@@ -1,0 +1,89 @@
+//! The set of the members of a list of pairs.
+
+#[allow(unused_imports)]
+use crate::rattle::prelude::*;
+use crate::proved::ivl_buffers::run::Run;
+use crate::proved::intervallum::interval::Interval;
+use crate::proved::intervallum::interval_set::IntervalSet;
+use crate::proved::intervallum::ops::Range;
+use crate::proved::intervallum::sweep::coalesce;
+use crate::proved::intervallum::width::Width;
+use crate::rattle::std::alloc::{AllocError, Global};
+
+/// Returns true exactly when each member of the pairs is in the range.
+///
+/// # Proved
+///
+/// ```text
+/// ensures { IsTrue result ↔ IsSubset (Covers (map R.pair runs.now)) (IsBetween R.Bound.whole) }
+/// ```
+///
+/// Words: [`IsSubset`](crate::definitions#IsSubset), [`Covers`](crate::definitions#Covers), [`IsBetween`](crate::definitions#IsBetween).
+pub fn are_inside<R: Run>(runs: &[R]) -> bool {
+    for run in runs {
+        if !is_inside(*run) {
+            return false;
+        }
+    }
+    true
+}
+
+/// True exactly when each member of the pair is in the range.
+fn is_inside<R: Run>(run: R) -> bool {
+    is_crossed(run) || Interval::in_range(run.lower(), run.upper())
+}
+
+/// True exactly when the pair is crossed.
+fn is_crossed<R: Run>(run: R) -> bool {
+    run.upper() < run.lower()
+}
+
+/// Returns the set of the members of the pairs.
+///
+/// # Proved
+///
+/// ```text
+/// requires { IsSubset (Covers (map R.pair runs.now)) (IsBetween R.Bound.whole) }
+/// ensures { IfOk result (λ L. IsRunsOf L (Covers (map R.pair runs.now))) }
+/// ```
+///
+/// Words: [`IsSubset`](crate::definitions#IsSubset), [`Covers`](crate::definitions#Covers), [`IsBetween`](crate::definitions#IsBetween), [`IsRunsOf`](crate::definitions#IsRunsOf).
+pub fn set_of<R: Run>(alloc: Global, runs: &[R]) -> Result<IntervalSet<R::Bound>, AllocError> {
+    let mut list = Vec::with_capacity(alloc, runs.len())?;
+    for run in runs {
+        list.push(interval_of(*run))?;
+    }
+    coalesce(alloc, list)
+}
+
+/// The interval with the members of the pair.
+fn interval_of<R: Run>(run: R) -> Interval<R::Bound> {
+    if is_crossed(run) {
+        Interval::new(R::Bound::one(), R::Bound::zero())
+    } else {
+        Interval::new(run.lower(), run.upper())
+    }
+}
+
+/// Returns true exactly when some pair of the list has the number. `O(n)`, does not allocate.
+///
+/// # Proved
+///
+/// ```text
+/// ensures { IsTrue result ↔ Covers (map R.pair runs.now) (R.Bound.value v) }
+/// ```
+///
+/// Words: [`Covers`](crate::definitions#Covers).
+pub fn contains<R: Run>(runs: &[R], v: R::Bound) -> bool {
+    for run in runs {
+        if has(*run, v) {
+            return true;
+        }
+    }
+    false
+}
+
+/// True exactly when the pair has the number.
+fn has<R: Run>(run: R, v: R::Bound) -> bool {
+    run.lower() <= v && v <= run.upper()
+}

@@ -1,0 +1,91 @@
+//! Binary search in sorted lists.
+
+#[allow(unused_imports)]
+use crate::rattle::prelude::*;
+use crate::proved::ivl_buffers::lookup::least_in;
+use crate::proved::ivl_buffers::run::Run;
+
+/// Returns true only if some pair of the list has the number, and exactly then if the list is
+/// sorted. `O(log n)`, does not allocate.
+///
+/// # Proved
+///
+/// ```text
+/// ensures member { IsTrue result → Covers (map R.pair runs.now) (R.Bound.value v) }
+/// ensures in_order { IsInOrder (map R.pair runs.now) → (IsTrue result ↔ Covers (map R.pair runs.now) (R.Bound.value v)) }
+/// ```
+///
+/// Words: [`Covers`](crate::definitions#Covers), [`IsInOrder`](crate::definitions#IsInOrder).
+pub fn contains<R: Run>(runs: &[R], v: R::Bound) -> bool {
+    let (_, is_in) = search(runs, v);
+    is_in
+}
+
+/// Writes a member that is at least `v`, and the least one if the list is sorted. Returns whether
+/// it found one. `O(log n)`, does not allocate.
+///
+/// # Proved
+///
+/// ```text
+/// ensures member { IsTrue result → AtLeast (R.Bound.value v) (Covers (map R.pair runs.now)) (R.Bound.value found.new) }
+/// ensures same { result ≡ false → R.Bound.value found.new ≡ R.Bound.value found.old }
+/// ensures in_order { IsInOrder (map R.pair runs.now)
+///     → AnswersNext (R.Bound.value v) (Covers (map R.pair runs.now)) (R.Bound.value found.old) (R.Bound.value found.new) result }
+/// ```
+///
+/// Words: [`AtLeast`](crate::definitions#AtLeast), [`Covers`](crate::definitions#Covers), [`IsInOrder`](crate::definitions#IsInOrder), [`AnswersNext`](crate::definitions#AnswersNext).
+pub fn next_from<R: Run>(runs: &[R], v: R::Bound, found: &mut R::Bound) -> bool {
+    match least_from(runs, v) {
+        Some(least) => {
+            *found = least;
+            true
+        }
+        None => false,
+    }
+}
+
+/// A member that is at least `v`, and the least one if the list is sorted.
+fn least_from<R: Run>(runs: &[R], v: R::Bound) -> Option<R::Bound> {
+    let run = first_from(runs, v)?;
+    least_in(run, v)
+}
+
+/// A pair of the list, and the first that ends at `v` or above if the list is sorted.
+fn first_from<R: Run>(runs: &[R], v: R::Bound) -> Option<R> {
+    let (place, _) = search(runs, v);
+    pair_at(runs, place)
+}
+
+/// The place of the first pair that ends at `v` or above, or the number of pairs, if the list is
+/// sorted; and whether the pair at that place has `v`.
+pub(crate) fn search<R: Run>(runs: &[R], v: R::Bound) -> (usize, bool) {
+    let mut low = 0;
+    // how many are left does not depend on what is seen, so the next look need not wait for it; both
+    // bounds are read at each, so that no branch chooses the half: a processor would guess it wrong
+    // as often as not
+    let mut left = runs.len();
+    // the last pair seen that does not end below `v` has it
+    let mut is_in = false;
+    'search: while 0 < left {
+        let half = left - left / 2;
+        left -= half;
+        let run = runs[low + half - 1];
+        if run.upper() < v {
+            low += half;
+        } else {
+            is_in = run.lower() <= v;
+        }
+    }
+    (low, is_in)
+}
+
+/// Returns the pair at a place, if there is one.
+///
+/// # Proved
+///
+/// ```text
+/// ensures { result ≡ slice_get runs.now i }
+/// ```
+pub fn pair_at<R: Run>(runs: &[R], i: usize) -> Option<R> {
+    runs.get(i).copied()
+}

@@ -1,0 +1,347 @@
+//! Domains and constraints that are added one by one, and narrowing that stops when told.
+//!
+//! A [`Network`] keeps the constraints `x + y = z` that were required so far, and which of them have
+//! to be looked at again. [`Network::settle`] narrows the domains by these, until nothing changes or
+//! a budget is used up; another call goes on.
+//!
+//! ```
+//! # use intervallum::proved::examples::*;
+//! # fn main() -> Result<(), std::boxed::Box<dyn std::error::Error>> {
+//! # let alloc = Global;
+//! // x + one = y and y + one = x, for x and y from 0 to 9: no solution
+//! let mut network: Network<i32> = Network::new(alloc);
+//! let x = network.add_variable(IntervalSet::new(alloc, 0, 9)?)?;
+//! let y = network.add_variable(IntervalSet::new(alloc, 0, 9)?)?;
+//! let one = network.add_variable(IntervalSet::new(alloc, 1, 1)?)?;
+//! network.require(Constraint { x, y: one, z: y })?;
+//! network.require(Constraint { x: y, y: one, z: x })?;
+//! assert_eq!(network.settle(3)?, Settled::Unfinished);
+//! assert_eq!(network.settle(100)?, Settled::All);
+//! assert!(network.has_empty());
+//! # Ok(())
+//! # }
+//! ```
+
+#[allow(unused_imports)]
+use crate::rattle::prelude::*;
+use crate::proved::ivl_store::store::{Constraint, Store, StoreFault};
+use crate::proved::intervallum::interval_set::IntervalSet;
+use crate::proved::intervallum::width::Width;
+use crate::rattle::std::alloc::{AllocError, Global};
+
+mod marks;
+
+use marks::unmarked_between;
+
+/// What [`Network::settle`] reached.
+#[derive(Clone, Copy, Debug, PartialEq, Eq)]
+pub enum Settled {
+    /// No constraint narrows a domain any further.
+    All,
+    /// The budget is used up, and some constraint may narrow a domain further.
+    Unfinished,
+}
+
+/// Variables with a domain each, and the constraints between them so far. A contract sees the two
+/// lists.
+///
+/// Variables are named by their indexes from 0. Domains only lose members. A call that fails with
+/// [`StoreFault::Variable`] leaves the network unchanged.
+pub struct Network<B: Width> {
+    store: Store<B>,
+    constraints: Vec<Constraint>,
+    // One mark per constraint: narrowing by a marked one would change nothing.
+    settled: Vec<bool>,
+    // Where the search for a constraint without a mark begins.
+    next: usize,
+}
+
+impl<B: Width> Network<B> {
+    /// Creates a network without variables. Does not allocate.
+    ///
+    /// ```
+    /// # use intervallum::proved::examples::*;
+    /// # fn main() -> Result<(), std::boxed::Box<dyn std::error::Error>> {
+    /// # let alloc = Global;
+    /// let network: Network<i32> = Network::new(alloc);
+    /// assert!(network.domains().is_empty() && network.constraints().is_empty());
+    /// # Ok(())
+    /// # }
+    /// ```
+    ///
+    /// # Proved
+    ///
+    /// ```text
+    /// ensures { result ≡ record { domains = []; constraints = [] } }
+    /// ```
+    pub fn new(alloc: Global) -> Network<B> {
+        Network {
+            store: Store::new(alloc, Vec::new(alloc)),
+            constraints: Vec::new(alloc),
+            settled: Vec::new(alloc),
+            next: 0,
+        }
+    }
+
+    /// Returns the domains, in the order of the variables. `O(1)`, does not allocate.
+    ///
+    /// # Proved
+    ///
+    /// ```text
+    /// ensures same { result.now ≡ self.now.domains }
+    /// ensures runs { All (IsRunListIn B.whole) self.now.domains }
+    /// ```
+    ///
+    /// Words: [`IsRunListIn`](crate::definitions#IsRunListIn).
+    pub fn domains(&self) -> &[IntervalSet<B>] {
+        self.store.domains()
+    }
+
+    /// Returns the constraints so far, in the order in which they were first required. `O(1)`, does
+    /// not allocate.
+    ///
+    /// # Proved
+    ///
+    /// ```text
+    /// ensures same { result.now ≡ self.now.constraints }
+    /// ensures distinct { All AreDistinct self.now.constraints }
+    /// ensures present { All (AllPresent (length self.now.domains)) self.now.constraints }
+    /// ```
+    ///
+    /// Words: [`AreDistinct`](crate::definitions#AreDistinct), [`AllPresent`](crate::definitions#AllPresent).
+    pub fn constraints(&self) -> &[Constraint] {
+        self.constraints.as_slice()
+    }
+
+    /// Returns true exactly when some domain is empty: then no point solves the constraints. `O(1)`
+    /// per domain, does not allocate.
+    ///
+    /// # Proved
+    ///
+    /// ```text
+    /// ensures empty { IsTrue result ↔ Any (λ L. L ≡ []) self.now.domains }
+    /// ensures variable { IsTrue result ↔ HasEmpty (length self.now.domains) (set_at self.now.domains) }
+    /// ```
+    ///
+    /// Words: [`HasEmpty`](crate::definitions#HasEmpty).
+    pub fn has_empty(&self) -> bool {
+        self.store.has_empty()
+    }
+
+    /// Adds a variable with this domain after the others, and returns its index. Amortized `O(1)`.
+    ///
+    /// # Errors
+    ///
+    /// Fails only if allocation fails. The network is unchanged after an error.
+    ///
+    /// ```
+    /// # use intervallum::proved::examples::*;
+    /// # fn main() -> Result<(), std::boxed::Box<dyn std::error::Error>> {
+    /// # let alloc = Global;
+    /// let mut network: Network<i32> = Network::new(alloc);
+    /// assert_eq!(network.add_variable(IntervalSet::new(alloc, 3, 4)?)?, 0);
+    /// assert!(network.domains()[0] == IntervalSet::new(alloc, 3, 4)?);
+    /// # Ok(())
+    /// # }
+    /// ```
+    ///
+    /// # Proved
+    ///
+    /// ```text
+    /// ensures index { IfOk result (λ i. i ≡ length self.old.domains) }
+    /// ensures added { OnOk result (self.new ≡ record { domains = self.old.domains ++ domain ∷ []; constraints = self.old.constraints }) }
+    /// ensures err { OnErr result (self.new ≡ self.old) }
+    /// ```
+    pub fn add_variable(&mut self, domain: IntervalSet<B>) -> Result<usize, AllocError> {
+        self.store.add_variable(domain)
+    }
+
+    /// Requires that a constraint holds, together with those required before it. One that was
+    /// required before changes nothing. No domain is narrowed before [`Network::settle`].
+    ///
+    /// The caller must ensure that it has three different variables. Check with
+    /// [`Constraint::distinct`].
+    ///
+    /// Linear in the constraints, which are compared with it.
+    ///
+    /// # Errors
+    ///
+    /// [`StoreFault::Variable`] for an unknown index, and [`StoreFault::Memory`] if allocation
+    /// fails. The network is then unchanged.
+    ///
+    /// ```
+    /// # use intervallum::proved::examples::*;
+    /// # fn main() -> Result<(), std::boxed::Box<dyn std::error::Error>> {
+    /// # let alloc = Global;
+    /// let mut network: Network<i32> = Network::new(alloc);
+    /// network.add_variable(IntervalSet::new(alloc, 0, 9)?)?;
+    /// network.add_variable(IntervalSet::new(alloc, 0, 9)?)?;
+    /// network.add_variable(IntervalSet::new(alloc, 0, 9)?)?;
+    /// network.require(Constraint { x: 0, y: 1, z: 2 })?;
+    /// network.require(Constraint { x: 0, y: 1, z: 2 })?;
+    /// assert_eq!(network.constraints().len(), 1);
+    /// # Ok(())
+    /// # }
+    /// ```
+    ///
+    /// # Proved
+    ///
+    /// ```text
+    /// requires { AreDistinct constraint }
+    /// ensures unknown { (i : ℕ) → (result ≡ Err (StoreFault.Variable i)) ↔ (first_unknown (length self.old.domains) constraint ≡ Some i) }
+    /// ensures domains { self.new.domains ≡ self.old.domains }
+    /// ensures required { OnOk result (IsRequired constraint self.old.constraints self.new.constraints) }
+    /// ensures refused { OnErr result (self.new ≡ self.old) }
+    /// ```
+    ///
+    /// Words: [`AreDistinct`](crate::definitions#AreDistinct), [`first_unknown`](crate::definitions#first_unknown), [`IsRequired`](crate::definitions#IsRequired).
+    pub fn require(&mut self, constraint: Constraint) -> Result<(), StoreFault> {
+        debug_assert!({ #[allow(unused_imports)] use crate::proved::ivl_interval::ops::*; constraint.distinct() }, "{}", "the condition of `require` is broken: constraint.distinct()");
+        if let Some(i) = constraint.first_unknown(self.store.domains().len()) {
+            return Err(StoreFault::Variable(i));
+        }
+        if !self.constraints.contains(&constraint) {
+            self.push(constraint)?;
+        }
+        Ok(())
+    }
+
+    /// Adds a constraint at the end, without a mark.
+    fn push(&mut self, constraint: Constraint) -> Result<(), AllocError> {
+        let count = self.constraints.len();
+        self.constraints.push(constraint)?;
+        match self.settled.push(false) {
+            Ok(()) => Ok(()),
+            Err(_) => {
+                self.constraints.truncate(count);
+                Err(AllocError)
+            }
+        }
+    }
+
+    /// Cuts a domain to its members in this set. Other domains are not narrowed before
+    /// [`Network::settle`]. Costs an intersection and a pass over the constraints.
+    ///
+    /// # Errors
+    ///
+    /// [`StoreFault::Variable`] for an unknown index, and [`StoreFault::Memory`] if allocation
+    /// fails. The network is then unchanged.
+    ///
+    /// ```
+    /// # use intervallum::proved::examples::*;
+    /// # fn main() -> Result<(), std::boxed::Box<dyn std::error::Error>> {
+    /// # let alloc = Global;
+    /// let mut network: Network<i32> = Network::new(alloc);
+    /// network.add_variable(IntervalSet::new(alloc, 0, 9)?)?;
+    /// network.restrict(0, &IntervalSet::new(alloc, 5, 20)?)?;
+    /// assert!(network.domains()[0] == IntervalSet::new(alloc, 5, 9)?);
+    /// # Ok(())
+    /// # }
+    /// ```
+    ///
+    /// # Proved
+    ///
+    /// ```text
+    /// ensures unknown { (i : ℕ) → (result ≡ Err (StoreFault.Variable i)) ↔ ((i ≡ variable) × (length self.old.domains ≤ variable)) }
+    /// ensures constraints { self.new.constraints ≡ self.old.constraints }
+    /// ensures kept_count { length self.new.domains ≡ length self.old.domains }
+    /// ensures cut { OnOk result (IsCutAt variable (Covers allowed.now) (set_at self.old.domains) (set_at self.new.domains)) }
+    /// ensures refused { OnErr result (self.new ≡ self.old) }
+    /// ```
+    ///
+    /// Words: [`IsCutAt`](crate::definitions#IsCutAt), [`Covers`](crate::definitions#Covers).
+    pub fn restrict(&mut self, variable: usize, allowed: &IntervalSet<B>) -> Result<(), StoreFault> {
+        if variable >= self.store.domains().len() {
+            return Err(StoreFault::Variable(variable));
+        }
+        self.store
+            .restrict_marked(variable, allowed, &self.constraints, &mut self.settled)?;
+        Ok(())
+    }
+
+    /// Narrows the domains by the constraints until nothing changes, or `budget` narrowings are
+    /// made. Returns [`Settled::All`] exactly if no constraint is left that has to be looked at.
+    ///
+    /// Domains lose no member that is in a common solution of the constraints. After
+    /// [`Settled::All`] they are the greatest ones, within those before the call, in which each
+    /// constraint supports every member. After [`Settled::Unfinished`] another call goes on.
+    ///
+    /// A constraint whose domains did not change since it narrowed them is not counted.
+    ///
+    /// # Errors
+    ///
+    /// Fails only if allocation fails, with [`StoreFault::Memory`]. The network is then as the last
+    /// completed narrowing left it, and another call goes on.
+    ///
+    /// ```
+    /// # use intervallum::proved::examples::*;
+    /// # fn main() -> Result<(), std::boxed::Box<dyn std::error::Error>> {
+    /// # let alloc = Global;
+    /// // x + y = z, and z is 0 or 1
+    /// let mut network: Network<i32> = Network::new(alloc);
+    /// network.add_variable(IntervalSet::new(alloc, 0, 9)?)?;
+    /// network.add_variable(IntervalSet::new(alloc, 0, 9)?)?;
+    /// network.add_variable(IntervalSet::new(alloc, 0, 1)?)?;
+    /// network.require(Constraint { x: 0, y: 1, z: 2 })?;
+    /// assert_eq!(network.settle(0)?, Settled::Unfinished);
+    /// assert_eq!(network.settle(10)?, Settled::All);
+    /// assert!(network.domains()[0] == IntervalSet::new(alloc, 0, 1)?);
+    /// # Ok(())
+    /// # }
+    /// ```
+    ///
+    /// # Proved
+    ///
+    /// ```text
+    /// ensures memory { IfErr result (λ fault. fault ≡ StoreFault.Memory) }
+    /// ensures constraints { self.new.constraints ≡ self.old.constraints }
+    /// ensures kept_count { length self.new.domains ≡ length self.old.domains }
+    /// ensures keeps { Keeps self.old.constraints self.old.domains self.new.domains }
+    /// ensures solutions { (point : ℕ → ℤ) → IsCommonSolution self.old.constraints (set_at self.old.domains) point → IsCommonSolution self.old.constraints (set_at self.new.domains) point }
+    /// ensures greatest { IfOk result (λ s. s ≡ Settled.All → IsGreatestFamily self.old.constraints (set_at self.old.domains) (set_at self.new.domains)) }
+    /// ensures made { IfOk result (λ s. (count : ℕ) × (count ≤ budget) × (s ≡ Settled.Unfinished → count ≡ budget)
+    ///     × AreNarrowings self.old.constraints count (set_at self.old.domains) (set_at self.new.domains)) }
+    /// ensures made_before { OnErr result ((count : ℕ) × (count < budget) × AreNarrowings self.old.constraints count (set_at self.old.domains) (set_at self.new.domains)) }
+    /// ```
+    ///
+    /// Words: [`Keeps`](crate::definitions#Keeps), [`IsCommonSolution`](crate::definitions#IsCommonSolution), [`IsGreatestFamily`](crate::definitions#IsGreatestFamily), [`AreNarrowings`](crate::definitions#AreNarrowings).
+    pub fn settle(&mut self, budget: u64) -> Result<Settled, StoreFault> {
+        for _ in 0..budget {
+            if !self.narrow_next()? {
+                return Ok(Settled::All);
+            }
+        }
+        Ok(self.reached())
+    }
+
+    /// Narrows by one constraint without a mark. Returns false, and changes nothing, if all are
+    /// marked.
+    fn narrow_next(&mut self) -> Result<bool, AllocError> {
+        let Some(i) = self.next_unmarked() else {
+            return Ok(false);
+        };
+        self.store
+            .narrow_next(&self.constraints, i, &mut self.settled)?;
+        self.next = i + 1;
+        Ok(true)
+    }
+
+    /// Returns a constraint without a mark, from where the last search ended; `None` if all are
+    /// marked.
+    fn next_unmarked(&self) -> Option<usize> {
+        let count = self.settled.len();
+        match unmarked_between(&self.settled, self.next, count) {
+            Some(i) => Some(i),
+            None => unmarked_between(&self.settled, 0, count),
+        }
+    }
+
+    /// Whether all constraints are marked.
+    fn reached(&self) -> Settled {
+        if self.next_unmarked().is_some() {
+            Settled::Unfinished
+        } else {
+            Settled::All
+        }
+    }
+}

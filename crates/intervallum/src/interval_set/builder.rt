@@ -1,0 +1,150 @@
+//! How a set is built: from a list of runs and its size, or by pushing runs at its end.
+ghost use Rattle.std.specs.Prelude.{◌≡◌, ◌+◌, ◌<◌, ◌≤◌, pos, ◌+ℤ◌, ◌≤ℤ◌, [], ◌∷◌, ◌++◌, ◌-◌, IfOk, OnOk, OnErr, Some, length, slice_get, vec_capacity, vec_len};
+ghost use Rattle.ivl_laws.specs.Sets.{IsBetween, IsSubset};
+ghost use Rattle.ivl_laws.specs.Runs.{AddsRun, Covers, IsMaximal, IsRunListIn, StartsBy};
+ghost use Rattle.ivl_laws.specs.Counts.{IsCountOf};
+ghost use Rattle.ivl_laws.specs.Bounds.{width_of};
+
+use super::IntervalSet;
+use super::run_lists::joins;
+use crate::interval::Interval;
+use crate::ops::{Bounded, Cardinality, Range, StrictShrinkLeft};
+use crate::width::{SizeNumber, Width};
+use std::alloc::{AllocError, Global};
+use std::hint::select_unpredictable;
+
+impl<B: Width> IntervalSet<B> {
+    /// The runs as a slice.
+    pub(crate) fn as_runs(&self) -> &[Interval<B>]
+        ensures same { result.now ≡ self.now }
+        ensures runs { IsRunListIn B.whole self.now }
+    {
+        &self.intervals
+    }
+
+    /// The runs by value.
+    pub(crate) fn into_runs(self) -> Vec<Interval<B>>
+        ensures { result.items ≡ self }
+    {
+        self.intervals
+    }
+
+    /// Returns the allocator that the set uses. `O(1)`. Does not allocate.
+    ///
+    /// ```
+    /// let a = IntervalSet::new(alloc, 1, 2)?;
+    /// let b = IntervalSet::singleton(a.allocator(), 3)?;
+    /// assert!(rt; !a.overlap(&b));
+    /// ```
+    pub fn allocator(&self) -> Global {
+        *self.intervals.allocator()
+    }
+
+    /// Returns the empty set, with room for a number of runs.
+    pub(crate) fn with_room(alloc: Global, runs: usize) -> Result<Self, AllocError>
+        ensures { IfOk result (λ L. L ≡ []) }
+    {
+        Ok(IntervalSet {
+            intervals: Vec::with_capacity(alloc, runs)?,
+            size: <B::Output as SizeNumber>::zero(),
+        })
+    }
+
+    /// The set of a list of runs, and of how many numbers they cover.
+    pub(crate) fn of_runs(intervals: Vec<Interval<B>>, size: B::Output) -> Self
+        requires runs { IsRunListIn B.whole intervals.items }
+        requires size { IsCountOf (B.Output.size size) (Covers intervals.items) }
+        ensures { result ≡ intervals.items }
+    {
+        IntervalSet { intervals, size }
+    }
+
+    /// The same set, shrunk if less than half of its capacity, rounded down, is used. If shrinking
+    /// fails, it keeps its capacity.
+    pub(crate) fn fitted(mut self) -> Self
+        ensures { result ≡ self }
+    {
+        if self.intervals.capacity() / 2 > self.intervals.len() {
+            self.intervals.shrink_to_fit();
+        }
+        self
+    }
+
+    /// Adds the members of a run that starts no lower than the last run does, joined with that one
+    /// if the two overlap or touch.
+    pub(crate) fn push_run(&mut self, run: Interval<B>) -> Result<(), AllocError>
+        requires filled { run.0 ≤ℤ run.1 }
+        requires within { IsSubset (IsBetween run) (IsBetween B.whole) }
+        requires in_order { StartsBy run.0 self.old }
+        ensures ok { OnOk result (AddsRun self.old run self.new) }
+        ensures err { OnErr result (self.new ≡ self.old) }
+    {
+        let count = self.intervals.len();
+        if count > 0 {
+            let last = self.intervals[count - 1];
+            if joins(&last, &run) {
+                let upper = last.upper().max(run.upper());
+                self.size = grown::<B>(self.size, numbers_past(&last, &run));
+                self.intervals[count - 1] = Interval::new(last.lower(), upper);
+                return Ok(());
+            }
+        }
+        self.push_apart(run)
+    }
+
+    /// Adds a run at the end, where it joins with no other.
+    pub(crate) fn push_apart(&mut self, run: Interval<B>) -> Result<(), AllocError>
+        requires within { IsSubset (IsBetween run) (IsBetween B.whole) }
+        requires apart { AddsRun self.old run (self.old ++ run ∷ []) }
+        ensures ok { OnOk result (AddsRun self.old run self.new) }
+        ensures err { OnErr result (self.new ≡ self.old) }
+    {
+        self.intervals.push(run)?;
+        self.size = grown::<B>(self.size, run.size());
+        Ok(())
+    }
+}
+
+/// Adds a run that starts no lower than the last one, in room that is reserved, and returns the run
+/// that is then the last. The last run is written again unless the new one is apart from it, so that
+/// no branch hangs on their values.
+pub(crate) fn add_reserved<B: Width>(
+    runs: &mut Vec<Interval<B>>,
+    last: Interval<B>,
+    run: Interval<B>,
+) -> Interval<B>
+    requires room { vec_len runs.old < vec_capacity runs.old }
+    requires maximal { IsMaximal runs.old.items }
+    requires last { Some last ≡ slice_get runs.old.items (length runs.old.items - 1) }
+    requires filled { run.0 ≤ℤ run.1 }
+    requires in_order { StartsBy run.0 runs.old.items }
+    ensures adds { AddsRun runs.old.items run runs.new.items }
+    ensures last { Some result ≡ slice_get runs.new.items (length runs.new.items - 1) }
+    ensures count { vec_len runs.new ≤ vec_len runs.old + 1 }
+    ensures capacity { vec_capacity runs.new ≡ vec_capacity runs.old }
+{
+    let is_joined = joins(&last, &run);
+    let lower = select_unpredictable(is_joined, last.lower(), run.lower());
+    let next = Interval::new(lower, last.upper().max(run.upper()));
+    runs.truncate(runs.len() - usize::from(is_joined));
+    runs.push_reserved(next);
+    next
+}
+
+/// How many numbers of a run lie above another run's end.
+fn numbers_past<B: Width>(last: &Interval<B>, run: &Interval<B>) -> B::Output
+    requires last { last.now.0 ≤ℤ last.now.1 }
+    requires run { run.now.0 ≤ℤ run.now.1 }
+    requires near { run.now.0 ≤ℤ (last.now.1 +ℤ pos 1) }
+    ensures { B.Output.size result ≡ width_of (last.now.1 +ℤ pos 1, run.now.1) }
+{
+    run.strict_shrink_left(last.upper()).size()
+}
+
+/// A size and some more. The sum is a size again.
+pub(crate) fn grown<B: Width>(size: B::Output, more: B::Output) -> B::Output
+    requires { B.Output.size size + B.Output.size more ≤ B.Output.greatest }
+    ensures { B.Output.size result ≡ B.Output.size size + B.Output.size more }
+{
+    size.add_in_range(more)
+}

@@ -1,0 +1,116 @@
+-- What two run lists have in common, from two places on: of the pairs at these places, the one that ends first is done.
+use Rattle.std.proofs.Common.{◌≡◌, ◌⊎◌, inl, inr, ℕ, ◌+◌, true, ℤ, pos, ◌≤ℤ◌, ◌<ℤ◌, arith, List, ◌∷◌, Some, None, ◌∙◌, map, drop, refl, sym, subst}
+use Rattle.std.specs.Prelude.{Option, slice_get}
+use Rattle.std.specs.Int.{int_max, int_min}
+use Rattle.std.specs.Option.{option_zip}
+use Rattle.std.proofs.lemmas.Int.{ints}
+use Rattle.std.proofs.lemmas.Option.{get_or_from_slice_get, slice_get_within}
+use Rattle.ivl_laws.specs.Sets.{HasNone, IsBetween, Intersection, SameMembers, Union}
+use Rattle.ivl_laws.specs.Runs.{Covers, IsMaximal}
+use Rattle.ivl_laws.proofs.Merging.{overlap_between}
+use Rattle.ivl_laws.proofs.Runs.{pair_same}
+use Rattle.intervallum.proofs.MergeState.{building_same}
+use Rattle.intervallum.proofs.HeldRun.{IsLed, zip_none}
+use Rattle.intervallum.proofs.Intersections.{common_next, shared_is_above, turned}
+use Rattle.ivl_buffers.specs.Merging.{IsLaid, LaysNext}
+use Rattle.ivl_buffers.proofs.Output.{IsLaying, laying_begins, laying_ends, lays}
+use Rattle.ivl_buffers.proofs.Suffixes.{none_from, rest_all, rest_at, rest_maximal}
+
+pub both_starts : {a b m n : ℤ} → a ≡ m → b ≡ n → int_min a b ≡ int_min m n
+both_starts e f = cc
+
+-- two values whose numbers are ends of two runs
+pub ends_past : (x y a b : ℤ) → x ≡ a → y ≡ b → y <ℤ x → b ≤ℤ a
+ends_past x y a b e f h = omega (arith, ints)
+
+-- a run before its list is led by itself
+pub led : (p : ℤ × ℤ) (A : List (ℤ × ℤ)) → IsMaximal (p ∷ A) → IsLed (Some p) A
+led p A m = record { maximal = m; ended = λ t. absurd (cc) }
+
+module _ (A B : List (ℤ × ℤ)) (p q r : ℤ × ℤ) (S : ℤ → Type 0) (old room room' : List (ℤ × ℤ)) (told told' : ℕ) (m : IsMaximal (p ∷ A)) (n : IsMaximal (q ∷ B))
+    (shared : SameMembers (IsBetween r) (Intersection (IsBetween p) (IsBetween q))) (l : LaysNext r room room' told told')
+    (W : List (ℤ × ℤ)) (u : IsLaying (Intersection (Covers (p ∷ A)) (Covers (q ∷ B))) S old room told W) where
+  laid_next : (W' : List (ℤ × ℤ)) × IsLaid (Union (Covers W) (IsBetween r)) old room' told' W'
+  laid_next = lays W r old room room' told told' u.state.maximal
+      (shared_is_above W (p ∷ A) (q ∷ B) p q r S refl refl u.state shared) u.count u.room l
+
+  pub meets_first : p.1 ≤ℤ q.1 → (W' : List (ℤ × ℤ)) × IsLaying (Intersection (Covers A) (Covers (q ∷ B))) S old room' told' W'
+  meets_first h = let (W', v) = laid_next in (
+    W',
+    record {
+      state = common_next true W W' (p ∷ A) (q ∷ B) A (q ∷ B) p q r S refl refl m n u.state shared v.runs ((λ t. h), (λ le. refl)) (p, refl) refl;
+      count = v.count;
+      room = v.room;
+    },
+  )
+
+  pub meets_second : q.1 ≤ℤ p.1 → (W' : List (ℤ × ℤ)) × IsLaying (Intersection (Covers (p ∷ A)) (Covers B)) S old room' told' W'
+  meets_second h = let (W', v) = laid_next in (
+    W',
+    record {
+      state = building_same (pos 2) W' _ _ S (turned (Covers B) (Covers (p ∷ A)))
+          (common_next true W W' (q ∷ B) (p ∷ A) B (p ∷ A) q p r S refl refl n m (building_same (pos 2) W _ _ S (turned (Covers (p ∷ A)) (Covers (q ∷ B))) u.state)
+          (λ z. ((λ i. let (x, y) = (shared z).0 i in (y, x)), (λ (y, x). (shared z).1 (x, y)))) v.runs ((λ t. h), (λ le. refl)) (q, refl) refl);
+      count = v.count;
+      room = v.room;
+    },
+  )
+
+-- ---- the same, by the places in two lists
+
+module _ {X : Type 0} (pair : X → ℤ × ℤ) (a b : List X) where
+  abbrev pub common_from : ℕ → ℕ → ℤ → Type 0
+  common_from i j = Intersection (Covers (map pair (drop i a))) (Covers (map pair (drop j b)))
+
+  abbrev pub common_of : ℤ → Type 0
+  common_of = Intersection (Covers (map pair a)) (Covers (map pair b))
+
+  pub meeting_begins : (old : List (ℤ × ℤ)) → (W : List (ℤ × ℤ)) × IsLaying (common_from 0 0) common_of old old 0 W
+  meeting_begins old = rw (rest_all pair a, rest_all pair b) (laying_begins common_of old)
+
+  pub meeting_ends : (i j : ℕ) (held other : Option X) (old new : List (ℤ × ℤ)) (told : ℕ) → held ≡ slice_get a i → other ≡ slice_get b j → option_zip held other ≡ None →
+      (W : List (ℤ × ℤ)) × IsLaying (common_from i j) common_of old new told W → (L : List (ℤ × ℤ)) × IsLaid common_of old new told L
+  meeting_ends i j held other old new told e f z = laying_ends (common_from i j) common_of old new told (none (zip_none held other z))
+    where
+      none : (held ≡ None) ⊎ (other ≡ None) → HasNone (common_from i j)
+      none (inl h) z c = subst (λ (L : List (ℤ × ℤ)). Covers L z) (none_from pair a i (sym e ∙ h)) c.0
+      none (inr h) z c = subst (λ (L : List (ℤ × ℤ)). Covers L z) (none_from pair b j (sym f ∙ h)) c.1
+
+  module _ (i j : ℕ) (x y : X) (r : ℤ × ℤ) (old room room' : List (ℤ × ℤ)) (told told' : ℕ) (m : IsMaximal (map pair a)) (n : IsMaximal (map pair b))
+      (at : slice_get a i ≡ Some x) (by : slice_get b j ≡ Some y)
+      (starts : r.0 ≡ int_max (pair x).0 (pair y).0) (ends : r.1 ≡ int_min (pair x).1 (pair y).1) (l : LaysNext r room room' told told')
+      (u : (W : List (ℤ × ℤ)) × IsLaying (common_from i j) common_of old room told W) where
+    abbrev A : List (ℤ × ℤ)
+    A = map pair (drop (i + 1) a)
+
+    abbrev B : List (ℤ × ℤ)
+    B = map pair (drop (j + 1) b)
+
+    first_open : map pair (drop i a) ≡ pair x ∷ A
+    first_open = rest_at pair a i x (slice_get_within a i x at) (sym (get_or_from_slice_get a i x x at))
+
+    second_open : map pair (drop j b) ≡ pair y ∷ B
+    second_open = rest_at pair b j y (slice_get_within b j y by) (sym (get_or_from_slice_get b j y y by))
+
+    first_is : IsMaximal (pair x ∷ A)
+    first_is = subst IsMaximal first_open (rest_maximal pair a i m)
+
+    second_is : IsMaximal (pair y ∷ B)
+    second_is = subst IsMaximal second_open (rest_maximal pair b j n)
+
+    shared : SameMembers (IsBetween r) (Intersection (IsBetween (pair x)) (IsBetween (pair y)))
+    shared = subst (λ (t : ℤ × ℤ). SameMembers (IsBetween t) (Intersection (IsBetween (pair x)) (IsBetween (pair y)))) (sym (pair_same r _ starts ends)) (overlap_between (pair x) (pair y))
+
+    state : (W : List (ℤ × ℤ)) × IsLaying (Intersection (Covers (pair x ∷ A)) (Covers (pair y ∷ B))) common_of old room told W
+    state = subst (λ (M : List (ℤ × ℤ)). (W : List (ℤ × ℤ)) × IsLaying (Intersection (Covers (pair x ∷ A)) (Covers M)) common_of old room told W) second_open
+        (subst (λ (M : List (ℤ × ℤ)). (W : List (ℤ × ℤ)) × IsLaying (Intersection (Covers M) (Covers (map pair (drop j b)))) common_of old room told W) first_open u)
+
+    pub meeting_first : (pair x).1 ≤ℤ (pair y).1 → (W : List (ℤ × ℤ)) × IsLaying (common_from (i + 1) j) common_of old room' told' W
+    meeting_first le = let (W, v) = state in
+        subst (λ (M : List (ℤ × ℤ)). (V : List (ℤ × ℤ)) × IsLaying (Intersection (Covers A) (Covers M)) common_of old room' told' V) (sym second_open)
+        (meets_first A B (pair x) (pair y) r common_of old room room' told told' first_is second_is shared l W v le)
+
+    pub meeting_second : (pair y).1 ≤ℤ (pair x).1 → (W : List (ℤ × ℤ)) × IsLaying (common_from i (j + 1)) common_of old room' told' W
+    meeting_second le = let (W, v) = state in
+        subst (λ (M : List (ℤ × ℤ)). (V : List (ℤ × ℤ)) × IsLaying (Intersection (Covers M) (Covers B)) common_of old room' told' V) (sym first_open)
+        (meets_second A B (pair x) (pair y) r common_of old room room' told told' first_is second_is shared l W v le)

@@ -1,0 +1,13 @@
+pub mod Pairs
+pub mod Buffers
+pub mod SumLists
+pub mod ProductLists
+pub mod LeastMember
+pub mod InOrder
+pub mod Suffixes
+pub mod RunLists
+pub mod Output
+pub mod Intersections
+pub mod Differences
+pub mod Unions
+pub mod Previous

@@ -1,0 +1,91 @@
+-- What is left to look at decides whether a list is one of runs.
+use Rattle.std.proofs.Common.{◌≡◌, ◌↔◌, inl, inr, ℕ, ◌+◌, ◌<◌, ◌≤◌, ℤ, pos, ◌+ℤ◌, ◌≤ℤ◌, Bool, true, false, IsTrue, List, [], ◌∷◌, length, get_or, map, drop, refl, sym, subst, arith}
+use Rattle.std.proofs.lemmas.Int.{ints}
+use lib.Signed.{≤ℤ_refl}
+use Rattle.ivl_laws.specs.Sets.{IsBetween, IsInRange}
+use Rattle.ivl_laws.specs.Runs.{Covers, IsRunListIn}
+use Rattle.ivl_buffers.specs.Merging.{IsRunIn}
+use Rattle.ivl_buffers.proofs.Suffixes.{rest_all, rest_at, rest_list, rest_none}
+
+-- ---- tests of one pair, and of two
+
+pub run_by_bounds : (whole p : ℤ × ℤ) (x y : ℤ) (t : Bool) → x ≡ p.0 → y ≡ p.1 → x ≤ℤ y → (IsTrue t ↔ IsInRange whole (x, y)) → IsTrue t ↔ IsRunIn whole p
+run_by_bounds whole p x y t e f o h = (
+  λ u. let r = h.0 u in (omega (arith, ints, e, f, o), (omega (arith, ints, e, r.0), omega (arith, ints, f, r.1))),
+  λ r. h.1 (let a = r.1.0 in omega (arith, ints, e, a), let b = r.1.1 in omega (arith, ints, f, b)),
+)
+
+pub no_run_by_bounds : (whole p : ℤ × ℤ) (x y : ℤ) → x ≡ p.0 → y ≡ p.1 → ¬ (x ≤ℤ y) → ¬ (IsRunIn whole p)
+no_run_by_bounds whole p x y e f n r = n (let o = r.0 in omega (arith, ints, e, f, o))
+
+-- ---- the first pair
+
+pub first_is_run : (whole p : ℤ × ℤ) (M : List (ℤ × ℤ)) → IsRunListIn whole (p ∷ M) → IsRunIn whole p
+first_is_run whole p M r = (
+  r.maximal.0,
+  ((r.within p.0 (inl (≤ℤ_refl p.0, r.maximal.0))).0, (r.within p.1 (inl (r.maximal.0, ≤ℤ_refl p.1))).1),
+)
+
+pub one_is_list : (whole p : ℤ × ℤ) → IsRunIn whole p → IsRunListIn whole (p ∷ [])
+one_is_list whole p o = record { maximal = (o.0, tt, tt); within = within }
+  where
+    within : (z : ℤ) → Covers (p ∷ []) z → IsBetween whole z
+    within z (inl b) = let r = o.1 in (omega (arith, ints, b.0, r.0), omega (arith, ints, b.1, r.1))
+    within z (inr c) = absurd c
+
+-- a run in the range before a list of which it leaves a number free
+pub more_is_list : (whole p q : ℤ × ℤ) (M : List (ℤ × ℤ)) → IsRunIn whole p → (p.1 +ℤ pos 2) ≤ℤ q.0 → IsRunListIn whole (p ∷ q ∷ M) ↔ IsRunListIn whole (q ∷ M)
+more_is_list whole p q M o far = (
+  λ r. record { maximal = r.maximal.2; within = λ z c. r.within z (inr c) },
+  λ r. record { maximal = (o.0, far, r.maximal); within = within r },
+)
+  where
+    within : IsRunListIn whole (q ∷ M) → (z : ℤ) → Covers (p ∷ q ∷ M) z → IsBetween whole z
+    within r z (inl b) = let i = o.1 in (omega (arith, ints, b.0, i.0), omega (arith, ints, b.1, i.1))
+    within r z (inr c) = r.within z c
+
+-- ---- where the walk over a list stands
+
+-- the last pair is a run, and whether it and what is left are a run list decides of the whole list
+pub record IsReadTo (whole : ℤ × ℤ) (L : List (ℤ × ℤ)) (p : ℤ × ℤ) (M : List (ℤ × ℤ)) : Type 0 where
+  pub last : IsRunIn whole p
+  pub decides : IsRunListIn whole (p ∷ M) ↔ IsRunListIn whole L
+
+module _ {X : Type 0} (pair : X → ℤ × ℤ) (whole : ℤ × ℤ) (L : List (ℤ × ℤ)) (rest : List X) where
+  pub read_first : (first : X) → L ≡ pair first ∷ map pair rest → IsRunIn whole (pair first) → IsReadTo whole L (pair first) (map pair (drop 0 rest))
+  read_first first e o = subst (IsReadTo whole L (pair first)) (sym (rest_all pair rest)) (record {
+    last = o;
+    decides = subst (λ (N : List (ℤ × ℤ)). IsRunListIn whole (pair first ∷ map pair rest) ↔ IsRunListIn whole N) (sym e) ((λ r. r), (λ r. r));
+  })
+
+  module _ (last d : X) (k : ℕ) (h : k < length rest) (is : d ≡ get_or rest k d) (r : IsReadTo whole L (pair last) (map pair (drop k rest))) where
+    opened : IsReadTo whole L (pair last) (pair d ∷ map pair (drop (k + 1) rest))
+    opened = subst (IsReadTo whole L (pair last)) (rest_at pair rest k d h is) r
+
+    pub read_next : IsRunIn whole (pair d) → ((pair last).1 +ℤ pos 2) ≤ℤ (pair d).0 → IsReadTo whole L (pair d) (map pair (drop (k + 1) rest))
+    read_next o far =
+        let more = more_is_list whole (pair last) (pair d) (map pair (drop (k + 1) rest)) r.last far in
+        record { last = o; decides = ((λ n. opened.decides.0 (more.1 n)), (λ n. more.0 (opened.decides.1 n))) }
+
+    pub no_run : ¬ (IsRunIn whole (pair d)) → ¬ (IsRunListIn whole L)
+    no_run n list =
+        let all = opened.decides.1 list in
+        n (first_is_run whole (pair d) (map pair (drop (k + 1) rest)) (record { maximal = all.maximal.2; within = λ z c. all.within z (inr c) }))
+
+    pub no_gap : ¬ (((pair last).1 +ℤ pos 2) ≤ℤ (pair d).0) → ¬ (IsRunListIn whole L)
+    no_gap n list = let all = opened.decides.1 list in n all.maximal.1
+
+  pub read_all : (last : X) (k : ℕ) → length rest ≤ k → IsReadTo whole L (pair last) (map pair (drop k rest)) → IsRunListIn whole L
+  read_all last k h r =
+      let s = subst (IsReadTo whole L (pair last)) (rest_none pair rest k h) r in
+      s.decides.0 (one_is_list whole (pair last) s.last)
+
+pub refused : {P : Type 0} → ¬ P → IsTrue false ↔ P
+refused n = ((λ u. absurd (cc)), (λ p. absurd (n p)))
+
+pub granted : {P : Type 0} → P → IsTrue true ↔ P
+granted p = ((λ _. p), (λ _. refl))
+
+-- the pair at a place of a run list
+pub run_at : {X : Type 0} (pair : X → ℤ × ℤ) (whole : ℤ × ℤ) (L : List X) (k : ℕ) (d : X) → k < length L → d ≡ get_or L k d → IsRunListIn whole (map pair L) → IsRunIn whole (pair d)
+run_at pair whole L k d h is r = first_is_run whole (pair d) (map pair (drop (k + 1) L)) (subst (IsRunListIn whole) (rest_at pair L k d h is) (rest_list pair whole L k r))

@@ -1,0 +1,60 @@
+-- The pairs of a list from a place on.
+use Rattle.std.proofs.Common.{◌≡◌, inr, ℕ, zero, suc, ◌+◌, ◌<◌, ◌≤◌, ℤ, List, [], ◌∷◌, None, length, get_or, map, drop, option_map, refl, ap, ap₂, sym, subst, arith}
+use Rattle.std.specs.Prelude.{slice_get}
+use Rattle.ivl_laws.specs.Sets.{IsSubset}
+use Rattle.ivl_laws.specs.Runs.{Covers, IsMaximal, IsRunListIn}
+use Rattle.intervallum.specs.HeldRun.{led_by}
+
+pub rest_all : {X : Type 0} (pair : X → ℤ × ℤ) (L : List X) → map pair (drop 0 L) ≡ map pair L
+rest_all pair [] = refl
+rest_all pair (x ∷ L) = refl
+
+rest_suc : {X : Type 0} (pair : X → ℤ × ℤ) (L : List X) (k : ℕ) (d : X) → k < length L → d ≡ get_or L k d → map pair (drop k L) ≡ pair d ∷ map pair (drop (suc k) L)
+rest_suc pair [] k d h is = absurd (omega arith)
+rest_suc pair (x ∷ L) zero d h is = ap₂ (λ (p : ℤ × ℤ) (M : List (ℤ × ℤ)). p ∷ M) (ap pair (sym is)) (sym (rest_all pair L))
+rest_suc pair (x ∷ L) (suc k) d h is = rest_suc pair L k d (omega arith) is
+
+pub rest_at : {X : Type 0} (pair : X → ℤ × ℤ) (L : List X) (k : ℕ) (d : X) → k < length L → d ≡ get_or L k d → map pair (drop k L) ≡ pair d ∷ map pair (drop (k + 1) L)
+rest_at pair L k d h is =
+    let more : suc k ≡ k + 1 = omega arith in
+    subst (λ (n : ℕ). map pair (drop k L) ≡ pair d ∷ map pair (drop n L)) more (rest_suc pair L k d h is)
+
+pub rest_none : {X : Type 0} (pair : X → ℤ × ℤ) (L : List X) (k : ℕ) → length L ≤ k → map pair (drop k L) ≡ []
+rest_none pair [] zero h = refl
+rest_none pair [] (suc k) h = refl
+rest_none pair (x ∷ L) zero h = absurd (omega arith)
+rest_none pair (x ∷ L) (suc k) h = rest_none pair L k (omega arith)
+
+pub rest_maximal : {X : Type 0} (pair : X → ℤ × ℤ) (L : List X) (k : ℕ) → IsMaximal (map pair L) → IsMaximal (map pair (drop k L))
+rest_maximal pair [] zero m = tt
+rest_maximal pair [] (suc k) m = tt
+rest_maximal pair (x ∷ L) zero m = m
+rest_maximal pair (x ∷ L) (suc k) m = rest_maximal pair L k m.2
+
+pub rest_list : {X : Type 0} (pair : X → ℤ × ℤ) (whole : ℤ × ℤ) (L : List X) (k : ℕ) → IsRunListIn whole (map pair L) → IsRunListIn whole (map pair (drop k L))
+rest_list pair whole L k r = record { maximal = rest_maximal pair L k r.maximal; within = λ z c. r.within z (rest_covers pair L k z c) }
+  where
+    rest_covers : {X : Type 0} (pair : X → ℤ × ℤ) (L : List X) (k : ℕ) → IsSubset (Covers (map pair (drop k L))) (Covers (map pair L))
+    rest_covers pair [] zero z c = c
+    rest_covers pair [] (suc k) z c = c
+    rest_covers pair (x ∷ L) zero z c = c
+    rest_covers pair (x ∷ L) (suc k) z c = inr (rest_covers pair L k z c)
+
+-- ---- the pair at a place, if there is one, beside those after it
+
+led_suc : {X : Type 0} (pair : X → ℤ × ℤ) (L : List X) (k : ℕ) → map pair (drop k L) ≡ led_by (option_map pair (slice_get L k)) (map pair (drop (suc k) L))
+led_suc pair [] zero = refl
+led_suc pair [] (suc k) = refl
+led_suc pair (x ∷ L) zero = ap (λ (M : List (ℤ × ℤ)). pair x ∷ M) (sym (rest_all pair L))
+led_suc pair (x ∷ L) (suc k) = led_suc pair L k
+
+pub led_at : {X : Type 0} (pair : X → ℤ × ℤ) (L : List X) (k : ℕ) → map pair (drop k L) ≡ led_by (option_map pair (slice_get L k)) (map pair (drop (k + 1) L))
+led_at pair L k =
+    let more : suc k ≡ k + 1 = omega arith in
+    subst (λ (n : ℕ). map pair (drop k L) ≡ led_by (option_map pair (slice_get L k)) (map pair (drop n L))) more (led_suc pair L k)
+
+pub none_from : {X : Type 0} (pair : X → ℤ × ℤ) (L : List X) (k : ℕ) → slice_get L k ≡ None → map pair (drop k L) ≡ []
+none_from pair [] zero e = refl
+none_from pair [] (suc k) e = refl
+none_from pair (y ∷ L) zero e = absurd (cc)
+none_from pair (y ∷ L) (suc k) e = none_from pair L k e

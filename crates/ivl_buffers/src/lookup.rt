@@ -1,0 +1,102 @@
+//! The least member from a number on, and the lowest consecutive members.
+ghost use Rattle.std.specs.Prelude.{ℤ, List, IfOk, map, option_map};
+ghost use Rattle.ivl_laws.specs.Sets.{IsBetween, IsSubset, Union};
+ghost use Rattle.ivl_laws.specs.Runs.{Covers};
+ghost use Rattle.ivl_buffers.specs.Lookup.{AnswersFit, AnswersNext, IsFitIn, IsNextIn};
+
+use crate::reading::{are_inside, set_of};
+use crate::run::Run;
+use crate::writing::{OUT_OF_MEMORY, OUT_OF_RANGE};
+use intervallum::interval::Interval;
+use intervallum::ops::Bounded;
+use intervallum::width::{SizeNumber, Width};
+use std::alloc::{AllocError, Global};
+
+/// Writes the least member that is at least `v`. Returns true exactly when there is one. `O(n)`,
+/// does not allocate.
+pub fn next_from<R: Run>(runs: &[R], v: R::Bound, found: &mut R::Bound) -> bool
+    ensures { AnswersNext (R.Bound.value v) (Covers (map R.pair runs.now)) (R.Bound.value found.old) (R.Bound.value found.new) result }
+{
+    match least_from(runs, v) {
+        Some(least) => {
+            *found = least;
+            true
+        }
+        None => false,
+    }
+}
+
+/// The least number in some pair of the list that is at least `v`.
+fn least_from<R: Run>(runs: &[R], v: R::Bound) -> Option<R::Bound>
+    ensures { IsNextIn (R.Bound.value v) (Covers (map R.pair runs.now)) (option_map R.Bound.value result) }
+{
+    let mut least = None;
+    for run in runs {
+        least = lesser(least, least_in(*run, v));
+    }
+    least
+}
+
+/// Returns the least number of a pair that is at least `v`.
+pub fn least_in<R: Run>(run: R, v: R::Bound) -> Option<R::Bound>
+    ensures { IsNextIn (R.Bound.value v) (IsBetween (R.pair run)) (option_map R.Bound.value result) }
+{
+    let lower = run.lower();
+    let start = if lower < v { v } else { lower };
+    if start <= run.upper() {
+        Some(start)
+    } else {
+        None
+    }
+}
+
+/// The lesser of two numbers, or the only one.
+fn lesser<B: Width>(a: Option<B>, b: Option<B>) -> Option<B>
+    ensures { (v : ℤ) (L : List (ℤ × ℤ)) (p : ℤ × ℤ) → IsNextIn v (Covers L) (option_map B.value a) → IsNextIn v (IsBetween p) (option_map B.value b)
+        → IsNextIn v (Union (Covers L) (IsBetween p)) (option_map B.value result) }
+{
+    match (a, b) {
+        (Some(x), Some(y)) => { if x <= y { Some(x) } else { Some(y) } }
+        (Some(x), None) => Some(x),
+        (None, other) => other,
+    }
+}
+
+/// Writes the lowest `count` consecutive members and returns 1, or returns 0 if there are none, or
+/// an error code.
+pub fn first_fit<R: Run>(
+    alloc: Global,
+    a: &[R],
+    count: <R::Bound as Width>::Output,
+    found: &mut R,
+) -> i64
+    ensures { AnswersFit R.Bound.whole (R.Bound.Output.size count) (Covers (map R.pair a.now)) (R.pair found.old) (R.pair found.new) result }
+{
+    if !are_inside(a) {
+        return OUT_OF_RANGE;
+    }
+    match lowest_fit(alloc, a, count) {
+        Ok(Some(run)) => {
+            *found = R::of(run.lower(), run.upper());
+            1
+        }
+        Ok(None) => 0,
+        Err(_) => OUT_OF_MEMORY,
+    }
+}
+
+/// The lowest `count` consecutive members; `None` if there are none or `count` is 0.
+fn lowest_fit<R: Run>(
+    alloc: Global,
+    a: &[R],
+    count: <R::Bound as Width>::Output,
+) -> Result<Option<Interval<R::Bound>>, AllocError>
+    requires { IsSubset (Covers (map R.pair a.now)) (IsBetween R.Bound.whole) }
+    ensures { IfOk result (IsFitIn (R.Bound.Output.size count) (Covers (map R.pair a.now))) }
+{
+    if count.number() == 0 {
+        return Ok(None);
+    }
+    let set = set_of(alloc, a)?;
+    Ok(set.first_fit(count))
+}

@@ -1,0 +1,191 @@
+//! What is made of two run lists by one walk over both, in the caller's buffer.
+//!
+//! A walk writes the runs of its answer to the first places of the buffer, as many as there are
+//! places, and returns the number of all of them. It is linear in the runs of both lists, and does
+//! not allocate.
+ghost use Rattle.std.specs.Prelude.{◌≡◌, ◌+◌, ◌^◌, ◌<◌, ◌≤◌, ℤ, ◌+ℤ◌, ◌-ℤ◌, ◌<ℤ◌, pos, IfSome, List, [], MatchOption, None, drop, length, map, slice_set};
+ghost use Rattle.std.specs.Int.{int_max, int_min};
+ghost use Rattle.ivl_laws.specs.Sets.{Intersection, Union, Without};
+ghost use Rattle.ivl_laws.specs.Runs.{Covers, IsRunListIn};
+ghost use Rattle.ivl_laws.specs.Walks.{TakesFirst};
+ghost use Rattle.ivl_buffers.specs.Merging.{IsLaid, IsRunIn, LaysNext};
+
+use crate::run::Run;
+use crate::run_lists::leaves_free;
+use crate::sorted_lookup::pair_at;
+use intervallum::width::Width;
+
+/// Writes the members of both run lists.
+pub fn intersection<R: Run>(a: &[R], b: &[R], out: &mut [R]) -> usize
+    requires first { IsRunListIn R.Bound.whole (map R.pair a.now) }
+    requires second { IsRunListIn R.Bound.whole (map R.pair b.now) }
+    requires counted { length a.now + length b.now < 2 ^ 63 }
+    ensures runs { (L : List (ℤ × ℤ)) × IsLaid (Intersection (Covers (map R.pair a.now)) (Covers (map R.pair b.now)))
+        (map R.pair out.old) (map R.pair out.new) result L }
+    ensures at_most { result ≤ length a.now + length b.now }
+{
+    let mut count = 0;
+    let mut i = 0;
+    let mut j = 0;
+    let mut first = pair_at(a, 0);
+    let mut second = pair_at(b, 0);
+    'walk: while let Some(runs) = first.zip(second) {
+        let (run, other) = runs;
+        let start = run.lower().max(other.lower());
+        let end = run.upper().min(other.upper());
+        count = lay(out, count, R::of(start, end));
+        if run.upper() <= other.upper() {
+            i += 1;
+            first = pair_at(a, i);
+        } else {
+            j += 1;
+            second = pair_at(b, j);
+        }
+    }
+    count
+}
+
+/// Writes the members of the first run list that are not in the second.
+pub fn difference<R: Run>(a: &[R], b: &[R], out: &mut [R]) -> usize
+    requires first { IsRunListIn R.Bound.whole (map R.pair a.now) }
+    requires second { IsRunListIn R.Bound.whole (map R.pair b.now) }
+    requires counted { length a.now + length b.now < 2 ^ 63 }
+    ensures runs { (L : List (ℤ × ℤ)) × IsLaid (Without (Covers (map R.pair a.now)) (Covers (map R.pair b.now)))
+        (map R.pair out.old) (map R.pair out.new) result L }
+    ensures at_most { result ≤ length a.now + length b.now }
+{
+    let mut count = 0;
+    let mut i = 0;
+    let mut j = 0;
+    let mut held = pair_at(a, 0);
+    'walk: while let Some(run) = held {
+        if j < b.len() {
+            let other = b[j];
+            count = lay_below(out, count, run, other);
+            if other.upper() < run.upper() {
+                held = Some(above(run, other));
+                j += 1;
+            } else {
+                i += 1;
+                held = pair_at(a, i);
+            }
+        } else {
+            count = lay(out, count, run);
+            i += 1;
+            held = pair_at(a, i);
+        }
+    }
+    count
+}
+
+/// Writes the members of either run list.
+pub fn union<R: Run>(a: &[R], b: &[R], out: &mut [R]) -> usize
+    requires first { IsRunListIn R.Bound.whole (map R.pair a.now) }
+    requires second { IsRunListIn R.Bound.whole (map R.pair b.now) }
+    requires counted { length a.now + length b.now < 2 ^ 63 }
+    ensures runs { (L : List (ℤ × ℤ)) × IsLaid (Union (Covers (map R.pair a.now)) (Covers (map R.pair b.now)))
+        (map R.pair out.old) (map R.pair out.new) result L }
+    ensures at_most { result ≤ length a.now + length b.now }
+{
+    let mut count = 0;
+    let mut i = 0;
+    let mut j = 0;
+    let Some(mut held) = take_first(a, &mut i, b, &mut j) else {
+        return 0;
+    };
+    'walk: while let Some(run) = take_first(a, &mut i, b, &mut j) {
+        if leaves_free(held, run) {
+            put(out, count, held);
+            count += 1;
+            held = run;
+        } else {
+            held = R::of(held.lower(), held.upper().max(run.upper()));
+        }
+    }
+    put(out, count, held);
+    count + 1
+}
+
+/// Takes the pair that starts first of those at two places, if there is one, and advances its
+/// place.
+fn take_first<R: Run>(a: &[R], i: &mut usize, b: &[R], j: &mut usize) -> Option<R>
+    requires first { i.old ≤ length a.now }
+    requires second { j.old ≤ length b.now }
+    ensures taken { MatchOption result
+        ((map R.pair (drop i.old a.now) ≡ []) × (map R.pair (drop j.old b.now) ≡ []))
+        (λ run. TakesFirst (map R.pair (drop i.old a.now)) (map R.pair (drop j.old b.now)) (map R.pair (drop i.new a.now)) (map R.pair (drop j.new b.now)) (R.pair run)) }
+    ensures first { i.new ≤ length a.now }
+    ensures second { j.new ≤ length b.now }
+    ensures one { IfSome result (λ _. i.new + j.new ≡ i.old + j.old + 1) }
+    ensures none { (result ≡ None) → (i.new ≡ i.old) × (j.new ≡ j.old) }
+{
+    match (pair_at(a, *i), pair_at(b, *j)) {
+        (Some(run), Some(other)) => {
+            if run.lower() <= other.lower() {
+                *i += 1;
+                Some(run)
+            } else {
+                *j += 1;
+                Some(other)
+            }
+        }
+        (Some(run), None) => {
+            *i += 1;
+            Some(run)
+        }
+        (None, Some(other)) => {
+            *j += 1;
+            Some(other)
+        }
+        (None, None) => None,
+    }
+}
+
+/// The part of a run above another one that ends below its end.
+fn above<R: Run>(run: R, other: R) -> R
+    requires run { IsRunIn R.Bound.whole (R.pair run) }
+    requires other { IsRunIn R.Bound.whole (R.pair other) }
+    requires ends { (R.pair other).1 <ℤ (R.pair run).1 }
+    ensures { R.pair result ≡ (int_max (R.pair run).0 ((R.pair other).1 +ℤ pos 1), (R.pair run).1) }
+{
+    let next = other.upper().add_in_range(R::Bound::one());
+    R::of(run.lower().max(next), run.upper())
+}
+
+/// Writes the part of a run below the start of another one, if there is any. Returns the new number
+/// of runs.
+fn lay_below<R: Run>(out: &mut [R], count: usize, run: R, other: R) -> usize
+    requires run { IsRunIn R.Bound.whole (R.pair run) }
+    requires other { IsRunIn R.Bound.whole (R.pair other) }
+    requires counted { count < 2 ^ 63 }
+    ensures { LaysNext ((R.pair run).0, int_min (R.pair run).1 ((R.pair other).0 -ℤ pos 1)) (map R.pair out.old) (map R.pair out.new) count result }
+{
+    let (start, next) = (run.lower(), other.lower());
+    if next <= start {
+        return count;
+    }
+    let end = run.upper().min(next.sub_in_range(R::Bound::one()));
+    put(out, count, R::of(start, end));
+    count + 1
+}
+
+/// Writes a pair unless it is crossed. Returns the new number of runs.
+fn lay<R: Run>(out: &mut [R], count: usize, run: R) -> usize
+    requires { count < 2 ^ 63 }
+    ensures { LaysNext (R.pair run) (map R.pair out.old) (map R.pair out.new) count result }
+{
+    if run.upper() < run.lower() {
+        return count;
+    }
+    put(out, count, run);
+    count + 1
+}
+
+/// Writes a pair at a place of the buffer, if there is such a place.
+fn put<R: Run>(out: &mut [R], place: usize, run: R)
+    ensures { map R.pair out.new ≡ slice_set (map R.pair out.old) place (R.pair run) }
+{
+    if place < out.len() {
+        out[place] = run;
+    }
+}

@@ -1,0 +1,47 @@
+//! Lists that are already the runs of a set.
+ghost use Rattle.std.specs.Prelude.{◌↔◌, ◌+ℤ◌, ◌≤ℤ◌, IsTrue, map, pos};
+ghost use Rattle.ivl_laws.specs.Runs.{IsRunListIn};
+ghost use Rattle.ivl_buffers.specs.Merging.{IsRunIn};
+
+use crate::run::Run;
+use intervallum::interval::Interval;
+use intervallum::ops::Range;
+use intervallum::width::Width;
+
+/// Returns true exactly when no pair is crossed, the pairs ascend with at least one number missing
+/// between neighbours, and all are in the range. `O(n)`, does not allocate.
+pub fn is_run_list<R: Run>(runs: &[R]) -> bool
+    ensures { IsTrue result ↔ IsRunListIn R.Bound.whole (map R.pair runs.now) }
+{
+    let Some((first, rest)) = runs.split_first() else {
+        return true;
+    };
+    if !is_run(*first) {
+        return false;
+    }
+    let mut last = *first;
+    for run in rest {
+        if !is_run(*run) || !leaves_free(last, *run) {
+            return false;
+        }
+        last = *run;
+    }
+    true
+}
+
+/// True exactly when the pair is not crossed and its bounds are in the range.
+fn is_run<R: Run>(run: R) -> bool
+    ensures { IsTrue result ↔ IsRunIn R.Bound.whole (R.pair run) }
+{
+    run.lower() <= run.upper() && Interval::in_range(run.lower(), run.upper())
+}
+
+/// Returns true exactly when some number lies above one run and below another.
+pub fn leaves_free<R: Run>(last: R, run: R) -> bool
+    requires last { IsRunIn R.Bound.whole (R.pair last) }
+    requires run { IsRunIn R.Bound.whole (R.pair run) }
+    ensures { IsTrue result ↔ (((R.pair last).1 +ℤ pos 2) ≤ℤ (R.pair run).0) }
+{
+    let (end, start) = (last.upper(), run.lower());
+    end < start && end.add_in_range(R::Bound::one()) < start
+}

@@ -1,0 +1,154 @@
+//! Sets made of lists.
+ghost use Rattle.std.specs.Prelude.{◌+◌, ◌^◌, ◌<◌, ◌≤◌, ℤ, IfOk, IsTrue, List, length, map};
+ghost use Rattle.ivl_laws.specs.Sets.{IsBetween, IsSubset, Union};
+ghost use Rattle.ivl_laws.specs.Runs.{Covers, IsRunListIn, IsRunsOf};
+ghost use Rattle.ivl_buffers.specs.Answers.{AnswersSet, IsWritten};
+ghost use Rattle.ivl_buffers.specs.Operations.{IsOneWalk, MadeOfOne, MadeOfTwo};
+ghost use Rattle.ivl_buffers.specs.Merging.{IsLaid};
+
+use crate::merging::{difference, intersection, union};
+use crate::reading::{are_inside, set_of};
+use crate::run::Run;
+use crate::run_lists::is_run_list;
+use crate::writing::{OUT_OF_RANGE, tell};
+use intervallum::interval_set::IntervalSet;
+use intervallum::ops::{Complement, Difference, Intersection, SymmetricDifference, Union};
+use std::alloc::{AllocError, Global};
+
+/// What is made of one list.
+#[derive(Clone, Copy)]
+pub enum OfOne {
+    /// Its members.
+    Same,
+    /// The complement within the range.
+    Rest,
+}
+
+/// What is made of two lists.
+#[derive(Clone, Copy)]
+pub enum OfTwo {
+    /// The members of either.
+    Either,
+    /// The members of both.
+    Both,
+    /// The members of the first that are not in the second.
+    FirstAlone,
+    /// The members of exactly one.
+    OneAlone,
+}
+
+/// Makes a set of one list, and writes its runs. Returns their number or an error code.
+pub fn of_one<R: Run>(alloc: Global, making: OfOne, a: &[R], out: &mut [R]) -> i64
+    ensures { AnswersSet R.Bound.whole (Covers (map R.pair a.now))
+        (MadeOfOne R.Bound.whole making (Covers (map R.pair a.now))) (map R.pair out.old) (map R.pair out.new) result }
+{
+    if !are_inside(a) {
+        return OUT_OF_RANGE;
+    }
+    tell(made_of_one(alloc, making, a), out)
+}
+
+/// Makes a set of two lists, and writes its runs. Returns their number or an error code.
+pub fn of_two<R: Run>(alloc: Global, making: OfTwo, a: &[R], b: &[R], out: &mut [R]) -> i64
+    ensures { AnswersSet R.Bound.whole (Union (Covers (map R.pair a.now)) (Covers (map R.pair b.now)))
+        (MadeOfTwo making (Covers (map R.pair a.now)) (Covers (map R.pair b.now))) (map R.pair out.old) (map R.pair out.new) result }
+{
+    if is_merged(making, a, b) {
+        return merge(making, a, b, out);
+    }
+    if !are_inside(a) || !are_inside(b) {
+        return OUT_OF_RANGE;
+    }
+    tell(made_of_two(alloc, making, a, b), out)
+}
+
+fn made_of_one<R: Run>(
+    alloc: Global,
+    making: OfOne,
+    a: &[R],
+) -> Result<IntervalSet<R::Bound>, AllocError>
+    requires { IsSubset (Covers (map R.pair a.now)) (IsBetween R.Bound.whole) }
+    ensures { IfOk result (λ L. IsRunsOf L (MadeOfOne R.Bound.whole making (Covers (map R.pair a.now)))) }
+{
+    let set = set_of(alloc, a)?;
+    match making {
+        OfOne::Same => Ok(set),
+        OfOne::Rest => set.complement(),
+    }
+}
+
+fn made_of_two<R: Run>(
+    alloc: Global,
+    making: OfTwo,
+    a: &[R],
+    b: &[R],
+) -> Result<IntervalSet<R::Bound>, AllocError>
+    requires first { IsSubset (Covers (map R.pair a.now)) (IsBetween R.Bound.whole) }
+    requires second { IsSubset (Covers (map R.pair b.now)) (IsBetween R.Bound.whole) }
+    ensures { IfOk result (λ L. IsRunsOf L (MadeOfTwo making (Covers (map R.pair a.now)) (Covers (map R.pair b.now)))) }
+{
+    let left = set_of(alloc, a)?;
+    let right = set_of(alloc, b)?;
+    match making {
+        OfTwo::Either => left.union(&right),
+        OfTwo::Both => left.intersection(&right),
+        OfTwo::FirstAlone => left.difference(&right),
+        OfTwo::OneAlone => left.symmetric_difference(&right),
+    }
+}
+
+/// The most runs of a list that is merged, so that the number of runs of an answer fits `i64`.
+const MOST_RUNS: usize = 1 << 61;
+
+/// True only if both lists are lists of runs, and one walk over both makes the answer.
+fn is_merged<R: Run>(making: OfTwo, a: &[R], b: &[R]) -> bool
+    ensures making { IsTrue result → IsOneWalk making }
+    ensures first { IsTrue result → IsRunListIn R.Bound.whole (map R.pair a.now) }
+    ensures second { IsTrue result → IsRunListIn R.Bound.whole (map R.pair b.now) }
+    ensures counted { IsTrue result → length a.now + length b.now < 2 ^ 63 }
+{
+    !matches!(making, OfTwo::OneAlone)
+        && a.len() <= MOST_RUNS
+        && b.len() <= MOST_RUNS
+        && is_run_list(a)
+        && is_run_list(b)
+}
+
+/// Writes what is made of two run lists, and returns its number of runs. If there may be too little
+/// room, counts them first.
+fn merge<R: Run>(making: OfTwo, a: &[R], b: &[R], out: &mut [R]) -> i64
+    requires making { IsOneWalk making }
+    requires first { IsRunListIn R.Bound.whole (map R.pair a.now) }
+    requires second { IsRunListIn R.Bound.whole (map R.pair b.now) }
+    requires counted { length a.now + length b.now < 2 ^ 63 }
+    ensures { (L : List (ℤ × ℤ)) × IsWritten (MadeOfTwo making (Covers (map R.pair a.now)) (Covers (map R.pair b.now)))
+        (map R.pair out.old) (map R.pair out.new) result L }
+{
+    if a.len() + b.len() <= out.len() {
+        return walk(making, a, b, out) as i64;
+    }
+    let count = walk(making, a, b, &mut out[..0]);
+    if out.len() < count {
+        return count as i64;
+    }
+    walk(making, a, b, out) as i64
+}
+
+/// Writes as many runs of what is made of two run lists as there is room for, and returns the
+/// number of all of them.
+fn walk<R: Run>(making: OfTwo, a: &[R], b: &[R], out: &mut [R]) -> usize
+    requires making { IsOneWalk making }
+    requires first { IsRunListIn R.Bound.whole (map R.pair a.now) }
+    requires second { IsRunListIn R.Bound.whole (map R.pair b.now) }
+    requires counted { length a.now + length b.now < 2 ^ 63 }
+    ensures runs { (L : List (ℤ × ℤ)) × IsLaid (MadeOfTwo making (Covers (map R.pair a.now)) (Covers (map R.pair b.now)))
+        (map R.pair out.old) (map R.pair out.new) result L }
+    ensures at_most { result ≤ length a.now + length b.now }
+{
+    match making {
+        OfTwo::Either => union(a, b, out),
+        OfTwo::Both => intersection(a, b, out),
+        OfTwo::FirstAlone => difference(a, b, out),
+        OfTwo::OneAlone => unreachable!(),
+    }
+}

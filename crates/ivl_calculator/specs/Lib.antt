@@ -1,0 +1,4 @@
+pub mod Actions
+pub mod Operations
+pub mod Step
+pub mod View

@@ -1,0 +1,23 @@
+-- What a line says: nothing, no command, or a command.
+use Rattle.std.specs.Prelude.{ℕ, List, [], ◌∷◌, if◌then◌else◌, Option, None, Some}
+use Rattle.std.specs.Str.{is_utf8}
+use Rattle.ivl_calculator.specs.Actions.{Action}
+use Rattle.ivl_lines.specs.Lines.{words_of}
+use Rattle.ivl_calculator_lines.specs.Commands.{action_from}
+
+pub data Reading : Type 0 where
+  blank : Reading
+  bad : Reading
+  command : Action → Reading
+
+abbrev pub reading_from : Option Action → Reading
+reading_from None = bad
+reading_from (Some action) = command action
+
+abbrev pub reading_of_words : List (List ℕ) → Reading
+reading_of_words [] = blank
+reading_of_words (name ∷ words) = reading_from (action_from name words)
+
+-- a line that is not UTF-8 is no command
+abbrev pub reading_of : List ℕ → Reading
+reading_of line = if is_utf8 line then reading_of_words (words_of line) else bad

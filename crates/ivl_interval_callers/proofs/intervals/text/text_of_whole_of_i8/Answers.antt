@@ -1,6 +1,0 @@
-use Rattle.std.specs.Fmt.{digits}
-use Rattle.ivl_interval_callers.proofs.intervals.text.text_of_whole_of_i8.Goals as goal
-
-pub returns : goal.returns
-unfolding digits
-returns c = rw c.whole_of_i8-whole.ensures at c.format.ensures.ok

@@ -1,9 +1,0 @@
-use Rattle.std.proofs.Common.{map, take}
-use Rattle.std.specs.Prelude.{option_map}
-use Rattle.ivl_laws.specs.Runs.{Covers}
-use Rattle.ivl_lists.specs.Finding.{IsNextIn}
-use Rattle.ivl_lists.proofs.finding.least_from.Given as goal
-
--- the least of the pairs so far
-abbrev pub invariant-loop-run : goal.invariant-loop-run
-invariant-loop-run g l = IsNextIn (g.R.Bound.Width.value l.fn.v) (Covers (map g.R.Run.pair (take l.run-index l.runs))) (option_map g.R.Bound.Width.value l.least)

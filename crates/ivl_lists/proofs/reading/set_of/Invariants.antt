@@ -1,6 +1,0 @@
-use Rattle.std.proofs.Common.{◌≡◌, map, take}
-use Rattle.ivl_interval.specs.SameInterval.{normal_pair}
-use Rattle.ivl_lists.proofs.reading.set_of.Given as goal
-
-abbrev pub invariant-loop-run : goal.invariant-loop-run
-invariant-loop-run g l = l.list.items ≡ map (λ r. normal_pair (g.R.Run.pair r)) (take l.run-index l.runs)

@@ -1,0 +1,25 @@
+-- A list of runs in pages, each a part of the list.
+--     flattened P      the runs of each page in turn
+--     StartsUpTo P v n      the first n pages have a number up to v, and the others none
+--     IsPageSpan P u v i j      the pages before i lie below u, those from j on above v, and those between i and the last within
+use Rattle.std.specs.Prelude.{ℕ, ◌+◌, ◌-◌, ◌<◌, ◌≤◌, ℤ, pos, ◌+ℤ◌, ◌≤ℤ◌, ◌<ℤ◌, List, [], ◌∷◌, ◌++◌, length}
+use Rattle.ivl_laws.specs.Families.{set_at}
+
+abbrev pub flattened : List (List (ℤ × ℤ)) → List (ℤ × ℤ)
+flattened [] = []
+flattened (L ∷ P) = L ++ flattened P
+
+-- the page before place n starts at v or below, and those from there on lie above v
+pub record StartsUpTo (P : List (List (ℤ × ℤ))) (v : ℤ) (n : ℕ) : Type 0 where
+  pub at_most : n ≤ length P
+  pub starts : 0 < n → (z : ℤ) × set_at P (n - 1) z × (z ≤ℤ v)
+  pub above : (k : ℕ) (z : ℤ) → n ≤ k → set_at P k z → v <ℤ z
+
+-- from place i to before place j are the pages that a change of the numbers from u to v may touch
+pub record IsPageSpan (P : List (List (ℤ × ℤ))) (u v : ℤ) (i j : ℕ) : Type 0 where
+  pub in_order : i < j
+  pub at_most : j ≤ length P
+  pub below : (k : ℕ) (z : ℤ) → k < i → set_at P k z → (z +ℤ pos 2) ≤ℤ u
+  pub from : (k : ℕ) (z : ℤ) → i < k → set_at P k z → u <ℤ z
+  pub to : (k : ℕ) (z : ℤ) → k + 1 < j → set_at P k z → (z +ℤ pos 2) ≤ℤ v
+  pub above : (k : ℕ) (z : ℤ) → j ≤ k → set_at P k z → v <ℤ z

@@ -1,0 +1,24 @@
+//! Sets of integers for many runs that change: [`PagedSet`], whose runs stand in short pages.
+//!
+//! An `IntervalSet` keeps its runs in one vector. This is the fastest to read and to merge, but an
+//! edit that changes the number of runs moves all those above it. A [`PagedSet`] moves the runs of
+//! one page. To contracts both are the same list of maximal runs.
+//!
+//! A [`PagedSet`] has membership and edits. For anything else, such as a union, the size or the
+//! runs, convert by `to_set`, and back by `of_set`. Pages are split when they are full and removed
+//! when they are empty; pages that have become short are not joined.
+//!
+//! ```
+//! let mut free = PagedSet::new(alloc);
+//! free.insert_interval(Interval::new(0i64, 999))?;
+//! assert!(rt; free.remove(500)? && !free.contains(&500) && free.contains(&501));
+//! ```
+#![tactic(auto)]
+
+mod page;
+pub mod paged_set;
+mod pages;
+#[cfg(test)]
+mod tests;
+
+pub use paged_set::PagedSet;

@@ -1,0 +1,82 @@
+//! One page: a few of the runs of a set.
+ghost use Rattle.std.specs.Prelude.{◌≡◌, ℤ, ◌≤ℤ◌, IsTrue, List, OnErr, OnOk};
+ghost use Rattle.ivl_laws.specs.Sets.{HasSome, IsBetween, IsSubset, Union, Without};
+ghost use Rattle.ivl_laws.specs.Runs.{Covers, IsRunsOf};
+ghost use Rattle.intervallum.specs.Neighbours.{IsLeast};
+
+use intervallum::interval::Interval;
+use intervallum::interval_set::IntervalSet;
+use intervallum::ops::Bounded;
+use intervallum::width::Width;
+use std::alloc::AllocError;
+use std::marker::Model;
+
+/// A set that is not empty, beside its least member, so that a search reads no run.
+#[derive(Drop)]
+pub(crate) struct Page<B: Width> {
+    head: B,
+    set: IntervalSet<B>,
+}
+
+impl<B: Width> Model for Page<B> {
+    ghost Value = { List (ℤ × ℤ) };
+
+    ghost view = { λ p. p.set };
+
+    ghost invariant = { λ p. IsLeast (B.value p.head) (Covers p.set) };
+}
+
+impl<B: Width> Page<B> {
+    /// The page of the runs of a set.
+    pub(crate) fn of(set: IntervalSet<B>) -> Self
+        requires { HasSome (Covers set) }
+        ensures { result ≡ set }
+    {
+        let head = set.lower();
+        Page { head, set }
+    }
+
+    /// The least member.
+    pub(crate) fn head(&self) -> B
+        ensures { IsLeast (B.value result) (Covers self.now) }
+    {
+        self.head
+    }
+
+    /// The runs, as a set.
+    pub(crate) fn set(&self) -> &IntervalSet<B>
+        ensures { result.now ≡ self.now }
+    {
+        &self.set
+    }
+
+    /// Returns true exactly when each member lies in an interval.
+    pub(crate) fn lies_within(&self, interval: &Interval<B>) -> bool
+        requires { interval.now.0 ≤ℤ interval.now.1 }
+        ensures all { IsTrue result → IsSubset (Covers self.now) (IsBetween interval.now) }
+        ensures rest { ¬ (IsTrue result) → HasSome (Without (Covers self.now) (IsBetween interval.now)) }
+    {
+        interval.lower() <= self.head && self.set.upper() <= interval.upper()
+    }
+
+    /// Adds the members of an interval.
+    pub(crate) fn insert_interval(&mut self, interval: Interval<B>) -> Result<(), AllocError>
+        ensures ok { OnOk result (IsRunsOf self.new (Union (Covers self.old) (IsBetween interval))) }
+        ensures err { OnErr result (self.new ≡ self.old) }
+    {
+        self.set.insert_interval(interval)?;
+        self.head = self.set.lower();
+        Ok(())
+    }
+
+    /// Removes the members of an interval, which leaves some.
+    pub(crate) fn remove_interval(&mut self, interval: Interval<B>) -> Result<(), AllocError>
+        requires { HasSome (Without (Covers self.old) (IsBetween interval)) }
+        ensures ok { OnOk result (IsRunsOf self.new (Without (Covers self.old) (IsBetween interval))) }
+        ensures err { OnErr result (self.new ≡ self.old) }
+    {
+        self.set.remove_interval(interval)?;
+        self.head = self.set.lower();
+        Ok(())
+    }
+}

@@ -1,0 +1,275 @@
+//! A set of integers whose runs stand in pages.
+ghost use Rattle.std.specs.Prelude.{◌≡◌, ◌↔◌, ℤ, List, [], IfOk, IsOk, IsTrue, OnErr, OnOk, length};
+ghost use Rattle.ivl_laws.specs.Sets.{HasNone, IsBetween, Only, Union, Without};
+ghost use Rattle.ivl_laws.specs.Runs.{Covers, IsRunListIn, IsRunsOf};
+ghost use Rattle.ivl_paged.specs.Pages.{flattened};
+
+use crate::page::Page;
+use crate::pages;
+use intervallum::interval::Interval;
+use intervallum::interval_set::IntervalSet;
+use intervallum::ops::{Contains, IsEmpty, Singleton};
+use intervallum::sweep::coalesce;
+use intervallum::width::Width;
+use std::alloc::{AllocError, Global};
+use std::marker::Model;
+
+/// A set of integers for many runs that change. A contract sees the list of its runs, each a pair
+/// of numbers, as it does of an `IntervalSet`.
+///
+/// The runs stand in pages of at most 128, each with its least member in the list of pages, where
+/// a search begins. An edit in one page moves the runs of that page. A page that gets more is split
+/// in two, which moves the list of pages; if there is no memory for that, the page grows. A page is
+/// removed when it is empty, and short pages are not joined.
+///
+/// If an allocation fails, the set is unchanged.
+///
+/// ```
+/// let mut a = PagedSet::new(alloc);
+/// a.insert_interval(Interval::new(1, 5))?;
+/// assert!(rt; a.remove(3)? && a.insert(9)?);
+/// assert!(rt; a.to_set()? == [(1, 2), (4, 5), (9, 9)].to_interval_set(alloc)?);
+/// ```
+#[derive(Drop)]
+pub struct PagedSet<B: Width> {
+    alloc: Global,
+    pages: Vec<Page<B>>,
+}
+
+impl<B: Width> Model for PagedSet<B> {
+    ghost Value = { List (ℤ × ℤ) };
+
+    ghost view = { λ s. flattened s.pages.items };
+
+    ghost invariant = { λ s. IsRunListIn B.whole (flattened s.pages.items) };
+}
+
+impl<B: Width> PagedSet<B> {
+    /// Returns the empty set. `O(1)`. Does not allocate.
+    ///
+    /// ```
+    /// assert!(rt; PagedSet::<i64>::new(alloc).is_empty());
+    /// ```
+    pub fn new(alloc: Global) -> Self
+        ensures { result ≡ [] }
+    {
+        PagedSet {
+            alloc,
+            pages: Vec::new(alloc),
+        }
+    }
+
+    /// Returns the set with the members of another, whose runs are copied into pages of 96 runs.
+    /// `O(n)`. Fails only if allocation fails.
+    ///
+    /// ```
+    /// let list: IntervalSet<i32> = [(1, 2), (5, 6)].to_interval_set(alloc)?;
+    /// assert!(rt; PagedSet::of_set(&list)?.to_set()? == list);
+    /// ```
+    pub fn of_set(set: &IntervalSet<B>) -> Result<Self, AllocError>
+        ensures { IfOk result (λ L. L ≡ set.now) }
+    {
+        set.in_whole();
+        let alloc = set.allocator();
+        let pages = pages::pages_of(alloc, set.iter().as_slice())?;
+        Ok(PagedSet { alloc, pages })
+    }
+
+    /// Returns true exactly when the set has no members. `O(1)`. Does not allocate.
+    ///
+    /// ```
+    /// let mut a = PagedSet::new(alloc);
+    /// assert!(rt; a.is_empty());
+    /// a.insert(5)?;
+    /// assert!(rt; !a.is_empty());
+    /// ```
+    pub fn is_empty(&self) -> bool
+        ensures members { IsTrue result ↔ HasNone (Covers self.now) }
+        ensures none { IsTrue result ↔ (self.now ≡ []) }
+    {
+        if self.pages.is_empty() {
+            return true;
+        }
+        // a page has a member
+        self.pages[0].head();
+        false
+    }
+
+    /// Returns true exactly when `value`, which may be any value of its type, is a member. Binary
+    /// search: `O(log n)`. Does not allocate.
+    ///
+    /// ```
+    /// let mut a = PagedSet::new(alloc);
+    /// a.insert(5)?;
+    /// assert!(rt; a.contains(&5) && !a.contains(&3));
+    /// ```
+    pub fn contains(&self, value: &B) -> bool
+        ensures { IsTrue result ↔ Covers self.now (B.value value.now) }
+    {
+        let count = pages::starts_up_to(&self.pages, *value);
+        if count == 0 {
+            return false;
+        }
+        self.pages[count - 1].set().contains(value)
+    }
+
+    /// Adds a value. Returns true exactly when it was not a member before.
+    ///
+    /// The caller must ensure that the value is in the range. Check with
+    /// `Interval::in_range(value, value)`.
+    ///
+    /// Binary search, and moves the runs of one page: `O(log n)`. Once in about as many edits as a
+    /// page has runs, a page is split and the list of pages moves.
+    ///
+    /// # Errors
+    ///
+    /// Fails only if allocation fails. The set is then unchanged.
+    ///
+    /// ```
+    /// let mut a = PagedSet::new(alloc);
+    /// assert!(rt; Interval::in_range(3, 3), "it is in the range");
+    /// assert!(rt; a.insert(3)? && !a.insert(3)?);
+    /// ```
+    pub fn insert(&mut self, value: B) -> Result<bool, AllocError>
+        requires { IsBetween B.whole (B.value value) }
+        ensures members { OnOk result (IsRunsOf self.new (Union (Covers self.old) (Only (B.value value)))) }
+        ensures is_new { IfOk result (λ is_new. IsTrue is_new ↔ ¬ (Covers self.old (B.value value))) }
+        ensures err { OnErr result (self.new ≡ self.old) }
+    {
+        self.in_whole();
+        if self.contains(&value) {
+            return Ok(false);
+        }
+        self.insert_interval(Interval::singleton(value))?;
+        Ok(true)
+    }
+
+    /// Removes a value, which may be any value of its type. Returns true exactly when it was a
+    /// member.
+    ///
+    /// Costs as much as [`PagedSet::insert`].
+    ///
+    /// # Errors
+    ///
+    /// Fails only if allocation fails. The set is then unchanged.
+    ///
+    /// ```
+    /// let mut a = PagedSet::new(alloc);
+    /// a.insert(3)?;
+    /// assert!(rt; a.remove(3)? && !a.remove(3)?);
+    /// ```
+    pub fn remove(&mut self, value: B) -> Result<bool, AllocError>
+        ensures members { OnOk result (IsRunsOf self.new (Without (Covers self.old) (Only (B.value value)))) }
+        ensures was_member { IfOk result (λ was_member. IsTrue was_member ↔ Covers self.old (B.value value)) }
+        ensures err { OnErr result (self.new ≡ self.old) }
+    {
+        self.in_whole();
+        if !self.contains(&value) {
+            return Ok(false);
+        }
+        self.remove_interval(Interval::singleton(value))?;
+        Ok(true)
+    }
+
+    /// Adds the members of an interval, which may be empty.
+    ///
+    /// Binary search for the `k` pages that the interval overlaps or touches. In one page, moves
+    /// its runs; of several pages only the first and the last are read, and one page takes the
+    /// place of all: `O(log n)`, and the list of pages moves.
+    ///
+    /// # Errors
+    ///
+    /// Fails only if allocation fails. The set is then unchanged.
+    ///
+    /// ```
+    /// let mut a = PagedSet::new(alloc);
+    /// a.insert_interval(Interval::new(3, 8))?;
+    /// assert!(rt; a.contains(&3) && a.contains(&8) && !a.contains(&9));
+    /// ```
+    pub fn insert_interval(&mut self, interval: Interval<B>) -> Result<(), AllocError>
+        ensures ok { OnOk result (IsRunsOf self.new (Union (Covers self.old) (IsBetween interval))) }
+        ensures err { OnErr result (self.new ≡ self.old) }
+        ensures empty { HasNone (IsBetween interval) → IsOk result }
+    {
+        self.in_whole();
+        if interval.is_empty() {
+            return Ok(());
+        }
+        interval.in_whole();
+        if self.pages.is_empty() {
+            return pages::push_first(self.alloc, &mut self.pages, interval);
+        }
+        pages::insert_interval(&mut self.pages, interval)
+    }
+
+    /// Removes the members of an interval, which may be empty.
+    ///
+    /// Costs as much as [`PagedSet::insert_interval`].
+    ///
+    /// # Errors
+    ///
+    /// Fails only if allocation fails. The set is then unchanged.
+    ///
+    /// ```
+    /// let mut a = PagedSet::new(alloc);
+    /// a.insert_interval(Interval::new(1, 9))?;
+    /// a.remove_interval(Interval::new(3, 8))?;
+    /// assert!(rt; a.contains(&2) && !a.contains(&3) && a.contains(&9));
+    /// ```
+    pub fn remove_interval(&mut self, interval: Interval<B>) -> Result<(), AllocError>
+        ensures ok { OnOk result (IsRunsOf self.new (Without (Covers self.old) (IsBetween interval))) }
+        ensures err { OnErr result (self.new ≡ self.old) }
+        ensures empty { HasNone (IsBetween interval) → IsOk result }
+    {
+        if interval.is_empty() || self.pages.is_empty() {
+            return Ok(());
+        }
+        pages::remove_interval(&mut self.pages, interval)
+    }
+
+    /// Removes all members. Keeps the capacity of the list of pages. `O(n / page)`: drops each page.
+    /// Does not allocate.
+    ///
+    /// ```
+    /// let mut a = PagedSet::new(alloc);
+    /// a.insert_interval(Interval::new(1, 9))?;
+    /// a.clear();
+    /// assert!(rt; a.is_empty());
+    /// ```
+    pub fn clear(&mut self)
+        ensures { self.new ≡ [] }
+    {
+        self.pages.clear();
+    }
+
+    /// Does nothing: its contract states that the runs are maximal and in the range.
+    ///
+    /// ```
+    /// let a = PagedSet::<i32>::new(alloc);
+    /// a.in_whole(); // a proof knows from here on that the members of `a` are in the range
+    /// assert!(rt; !a.contains(&i32::MIN));
+    /// ```
+    pub fn in_whole(&self)
+        ensures { IsRunListIn B.whole self.now }
+    {
+        let _pages = &self.pages;
+    }
+
+    /// Returns the set with its runs in one vector, which grows as it is filled. `O(n)`. Fails only
+    /// if allocation fails.
+    ///
+    /// ```
+    /// let mut a = PagedSet::new(alloc);
+    /// a.insert_interval(Interval::new(1, 9))?;
+    /// assert!(rt; a.to_set()? == IntervalSet::new(alloc, 1, 9)?);
+    /// ```
+    pub fn to_set(&self) -> Result<IntervalSet<B>, AllocError>
+        ensures { IfOk result (λ L. L ≡ self.now) }
+    {
+        let mut runs = Vec::new(self.alloc);
+        for page in &self.pages {
+            runs.extend_from_slice(page.set().iter().as_slice())?;
+        }
+        coalesce(self.alloc, runs)
+    }
+}

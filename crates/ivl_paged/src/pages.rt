@@ -1,0 +1,272 @@
+//! Searches and edits in a list of pages, which together hold one list of runs.
+ghost use Rattle.std.specs.Prelude.{◌≡◌, ◌⊎◌, ◌++◌, ◌+◌, ◌<◌, ◌≤◌, ℤ, pos, ◌+ℤ◌, ◌≤ℤ◌, [], drop, length, set, take, slice_index_or, IfOk, OnErr, OnOk};
+ghost use Rattle.ivl_laws.specs.Families.{set_at};
+ghost use Rattle.ivl_laws.specs.Sets.{IsBetween, Union, Without};
+ghost use Rattle.ivl_laws.specs.Runs.{Covers, IsMaximal, IsRunListIn, IsRunsOf};
+ghost use Rattle.ivl_paged.specs.Pages.{IsPageSpan, StartsUpTo, flattened};
+
+use crate::page::Page;
+use intervallum::interval::Interval;
+use intervallum::interval_set::IntervalSet;
+use intervallum::ops::{Bounded, IsEmpty, ShrinkLeft, StrictShrinkRight, Union};
+use intervallum::sweep::coalesce;
+use intervallum::width::Width;
+use std::alloc::{AllocError, Global};
+use std::hint::select_unpredictable;
+
+/// How many runs a page has at most, unless an allocation failed that would have split it.
+const MOST_RUNS: usize = 128;
+
+/// How many runs a page has where a list of runs is put into pages.
+const FIRST_RUNS: usize = 96;
+
+/// The runs of a list in pages that have room for more.
+pub(crate) fn pages_of<B: Width>(
+    alloc: Global,
+    runs: &[Interval<B>],
+) -> Result<Vec<Page<B>>, AllocError>
+    requires { IsMaximal runs.now }
+    ensures { IfOk result (λ pages. flattened pages.items ≡ runs.now) }
+{
+    let mut pages = Vec::new(alloc);
+    let mut start = 0;
+    'parts: while start < runs.len() {
+        let end = start.saturating_add(FIRST_RUNS).min(runs.len());
+        pages.push(page_of(alloc, &runs[start..end])?)?;
+        start = end;
+    }
+    Ok(pages)
+}
+
+/// A page of some runs, of which there is one at least.
+fn page_of<B: Width>(alloc: Global, runs: &[Interval<B>]) -> Result<Page<B>, AllocError>
+    requires runs { IsMaximal runs.now }
+    requires some { 0 < length runs.now }
+    ensures { IfOk result (λ L. L ≡ runs.now) }
+{
+    let set = coalesce(alloc, Vec::from_slice(alloc, runs)?)?;
+    Ok(Page::of(set))
+}
+
+/// How many pages start at a value or below. Binary search.
+pub(crate) fn starts_up_to<B: Width>(pages: &[Page<B>], value: B) -> usize
+    requires { IsMaximal (flattened pages.now) }
+    ensures { StartsUpTo pages.now (B.value value) result }
+{
+    let mut first = 0;
+    let mut left = pages.len();
+    'search: while 0 < left {
+        let half = left - left / 2;
+        left -= half;
+        let is_up_to = pages[first + half - 1].head() <= value;
+        first = select_unpredictable(is_up_to, first + half, first);
+    }
+    first
+}
+
+/// The places of the pages that a change of the numbers from `lower` to `upper` may touch: the
+/// first, and the one after the last. It is one page at least.
+fn span<B: Width>(pages: &[Page<B>], lower: B, upper: B) -> (usize, usize)
+    requires some { 0 < length pages.now }
+    requires runs { IsMaximal (flattened pages.now) }
+    requires in_order { B.value lower ≤ℤ B.value upper }
+    ensures { IsPageSpan pages.now (B.value lower) (B.value upper) result.0 result.1 }
+{
+    let start = starts_up_to(pages, lower);
+    let end = starts_up_to(pages, upper);
+    (start.saturating_sub(1), end.max(1))
+}
+
+/// The number after, or the number itself if it is the greatest of the range.
+fn one_above<B: Width>(value: B) -> B
+    requires { IsBetween B.whole (B.value value) }
+    ensures { (B.value result ≡ B.value value +ℤ pos 1) ⊎ ((B.value result ≡ B.value value) × (B.value value ≡ B.whole.1)) }
+{
+    match value.checked_add(B::one()) {
+        Some(above) => above,
+        None => value,
+    }
+}
+
+/// Puts an interval into the first page of a list that has none.
+pub(crate) fn push_first<B: Width>(
+    alloc: Global,
+    pages: &mut Vec<Page<B>>,
+    interval: Interval<B>,
+) -> Result<(), AllocError>
+    requires filled { interval.0 ≤ℤ interval.1 }
+    requires none { pages.old.items ≡ [] }
+    ensures ok { OnOk result (IsRunsOf (flattened pages.new.items) (IsBetween interval)) }
+    ensures err { OnErr result (flattened pages.new.items ≡ flattened pages.old.items) }
+{
+    let first = IntervalSet::of(alloc, interval)?;
+    pages.push(Page::of(first))?;
+    Ok(())
+}
+
+/// Adds the members of an interval to pages of which there is one at least.
+pub(crate) fn insert_interval<B: Width>(
+    pages: &mut Vec<Page<B>>,
+    interval: Interval<B>,
+) -> Result<(), AllocError>
+    requires filled { interval.0 ≤ℤ interval.1 }
+    requires some { 0 < length pages.old.items }
+    requires runs { IsRunListIn B.whole (flattened pages.old.items) }
+    ensures ok { OnOk result (IsRunsOf (flattened pages.new.items) (Union (Covers (flattened pages.old.items)) (IsBetween interval))) }
+    ensures err { OnErr result (flattened pages.new.items ≡ flattened pages.old.items) }
+{
+    interval.in_whole();
+    let upper = one_above(interval.upper());
+    let (start, end) = span(pages, interval.lower(), upper);
+    insert_between(pages, start, end, interval)?;
+    split_if_full(pages, start);
+    Ok(())
+}
+
+/// Adds the members of an interval to the pages from `start` to before `end`.
+fn insert_between<B: Width>(
+    pages: &mut Vec<Page<B>>,
+    start: usize,
+    end: usize,
+    interval: Interval<B>,
+) -> Result<(), AllocError>
+    requires filled { interval.0 ≤ℤ interval.1 }
+    requires runs { IsRunListIn B.whole (flattened pages.old.items) }
+    requires span { (v : ℤ) × ((v ≡ interval.1 +ℤ pos 1) ⊎ ((v ≡ interval.1) × (interval.1 ≡ B.whole.1))) × IsPageSpan pages.old.items interval.0 v start end }
+    ensures ok { OnOk result (IsRunsOf (flattened pages.new.items) (Union (Covers (flattened pages.old.items)) (IsBetween interval))) }
+    ensures err { OnErr result (flattened pages.new.items ≡ flattened pages.old.items) }
+{
+    if end - start == 1 {
+        let page = &mut pages[start];
+        return page.insert_interval(interval);
+    }
+    let mut joined = pages[start].set().union(pages[end - 1].set())?;
+    joined.insert_interval(interval)?;
+    replace(pages, start, end, joined);
+    Ok(())
+}
+
+/// Removes the members of an interval from pages of which there is one at least.
+pub(crate) fn remove_interval<B: Width>(
+    pages: &mut Vec<Page<B>>,
+    interval: Interval<B>,
+) -> Result<(), AllocError>
+    requires filled { interval.0 ≤ℤ interval.1 }
+    requires some { 0 < length pages.old.items }
+    requires runs { IsRunListIn B.whole (flattened pages.old.items) }
+    ensures ok { OnOk result (IsRunsOf (flattened pages.new.items) (Without (Covers (flattened pages.old.items)) (IsBetween interval))) }
+    ensures err { OnErr result (flattened pages.new.items ≡ flattened pages.old.items) }
+{
+    let (start, end) = span(pages, interval.lower(), interval.upper());
+    remove_between(pages, start, end, interval)?;
+    split_if_full(pages, start);
+    Ok(())
+}
+
+/// Removes the members of an interval from the pages from `start` to before `end`.
+fn remove_between<B: Width>(
+    pages: &mut Vec<Page<B>>,
+    start: usize,
+    end: usize,
+    interval: Interval<B>,
+) -> Result<(), AllocError>
+    requires filled { interval.0 ≤ℤ interval.1 }
+    requires runs { IsRunListIn B.whole (flattened pages.old.items) }
+    requires span { IsPageSpan pages.old.items interval.0 interval.1 start end }
+    ensures ok { OnOk result (IsRunsOf (flattened pages.new.items) (Without (Covers (flattened pages.old.items)) (IsBetween interval))) }
+    ensures err { OnErr result (flattened pages.new.items ≡ flattened pages.old.items) }
+{
+    if end - start == 1 {
+        return remove_from_one(pages, start, interval);
+    }
+    let mut rest = pages[start].set().union(pages[end - 1].set())?;
+    rest.remove_interval(interval)?;
+    replace(pages, start, end, rest);
+    Ok(())
+}
+
+/// Removes the members of an interval from the page at `start`.
+fn remove_from_one<B: Width>(
+    pages: &mut Vec<Page<B>>,
+    start: usize,
+    interval: Interval<B>,
+) -> Result<(), AllocError>
+    requires filled { interval.0 ≤ℤ interval.1 }
+    requires runs { IsRunListIn B.whole (flattened pages.old.items) }
+    requires span { IsPageSpan pages.old.items interval.0 interval.1 start (start + 1) }
+    ensures ok { OnOk result (IsRunsOf (flattened pages.new.items) (Without (Covers (flattened pages.old.items)) (IsBetween interval))) }
+    ensures err { OnErr result (flattened pages.new.items ≡ flattened pages.old.items) }
+{
+    let page = &mut pages[start];
+    if page.lies_within(&interval) {
+        pages.remove(start);
+        return Ok(());
+    }
+    page.remove_interval(interval)
+}
+
+/// Puts one page, or none if the set is empty, in the place of those from `start` to before `end`.
+fn replace<B: Width>(pages: &mut Vec<Page<B>>, start: usize, end: usize, set: IntervalSet<B>)
+    requires in_order { start < end }
+    requires at_most { end ≤ length pages.old.items }
+    ensures { flattened pages.new.items ≡ flattened (take start pages.old.items) ++ (set ++ flattened (drop end pages.old.items)) }
+{
+    if set.is_empty() {
+        take_out(pages, start, end);
+    } else {
+        take_out(pages, start + 1, end);
+        put(pages, start, Page::of(set));
+    }
+}
+
+/// Takes out the pages from `start` to before `end`.
+fn take_out<B: Width>(pages: &mut Vec<Page<B>>, start: usize, end: usize)
+    requires in_order { start ≤ end }
+    requires at_most { end ≤ length pages.old.items }
+    ensures { pages.new.items ≡ take start pages.old.items ++ drop end pages.old.items }
+{
+    drop(pages.drain(start..end));
+}
+
+/// Puts a page in the place of another.
+fn put<B: Width>(pages: &mut Vec<Page<B>>, i: usize, page: Page<B>)
+    requires { i < length pages.old.items }
+    ensures { pages.new.items ≡ set pages.old.items i page }
+{
+    pages[i] = page;
+}
+
+/// Splits page `i`, if there is one and it is full. If allocation fails, the page stays as it is.
+fn split_if_full<B: Width>(pages: &mut Vec<Page<B>>, i: usize)
+    ensures { flattened pages.new.items ≡ flattened pages.old.items }
+{
+    if pages.len() <= i || pages[i].set().interval_count() <= MOST_RUNS {
+        return;
+    }
+    // without memory the page grows beyond its measure
+    let _split = split(pages, i);
+}
+
+/// Splits page `i`, which has two runs at least, in the middle.
+fn split<B: Width>(pages: &mut Vec<Page<B>>, i: usize) -> Result<(), AllocError>
+    requires less { i < length pages.old.items }
+    requires runs { 1 < length (slice_index_or pages.old.items i []) }
+    ensures { flattened pages.new.items ≡ flattened pages.old.items }
+{
+    let (low, high) = halves(pages[i].set())?;
+    pages.insert(i + 1, high)?;
+    put(pages, i, low);
+    Ok(())
+}
+
+/// The pages of the first and of the second half of the runs of a set, which has two at least.
+fn halves<B: Width>(set: &IntervalSet<B>) -> Result<(Page<B>, Page<B>), AllocError>
+    requires { 1 < length set.now }
+    ensures { IfOk result (λ h. h.0 ++ h.1 ≡ set.now) }
+{
+    let runs = set.iter().as_slice();
+    let middle = runs[runs.len() / 2].lower();
+    let low = set.strict_shrink_right(middle)?;
+    let high = set.shrink_left(middle)?;
+    Ok((Page::of(low), Page::of(high)))
+}

@@ -1,5 +1,0 @@
-use Rattle.ivl_registers.proofs.Determined.{steps_agree}
-use Rattle.ivl_registers.proofs.laws.steps_are_determined.Goals as goal
-
-pub returns : goal.returns
-returns c = steps_agree

@@ -1,4 +1,0 @@
-pub mod Actions
-pub mod Makings
-pub mod Step
-pub mod View

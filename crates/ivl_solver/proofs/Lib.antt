@@ -1,6 +1,0 @@
-pub mod Ranges
-pub mod Requiring
-pub mod Printing
-pub mod Answering
-pub mod Names
-pub mod Adding

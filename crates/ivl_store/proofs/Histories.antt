@@ -1,0 +1,106 @@
+-- What the calls of a network keep.
+use Rattle.std.proofs.Common.{◌≡◌, ◌∙◌, ℕ, ◌<◌, ◌≤◌, ◌⊎◌, inl, inr, refl, sym, subst, arith, List, [], ◌∷◌, ◌++◌, length, get_or, take}
+use Rattle.std.specs.Prelude.{ℤ, All}
+use Rattle.std.proofs.Math.ListN.{get_or-append, get_or-eq_default}
+use Rattle.std.proofs.Math.Nat.{min-le_left}
+use Rattle.std.proofs.lemmas.Bool.{cases_lt}
+use Rattle.std.proofs.lemmas.List.{get_or-append_right, get_or-take, length-take}
+use Rattle.ivl_laws.specs.Families.{set_at}
+use Rattle.ivl_laws.specs.Runs.{Covers}
+use Rattle.ivl_store.specs.declared.store.constraint.Constraint.{Constraint}
+use Rattle.ivl_store.specs.Narrowing.{AllPresent, Keeps}
+use Rattle.ivl_store.specs.Network.{IsCutAt, IsRequired}
+use Rattle.ivl_store.specs.Solutions.{HasSolutionAt, IsGreatestFamily, LiesWithin, Names, Supports, SupportedBy}
+use Rattle.ivl_store.proofs.Lists.{All-first}
+
+-- a cut of the posted sets and of the domains
+pub cut_keeps : (constraints : List Constraint) (posted posted' domains domains' : List (List (ℤ × ℤ))) (variable : ℕ) (allowed : List (ℤ × ℤ))
+    → IsCutAt variable (Covers allowed) (set_at posted) (set_at posted') → IsCutAt variable (Covers allowed) (set_at domains) (set_at domains')
+    → Keeps constraints posted domains → Keeps constraints posted' domains'
+cut_keeps constraints posted posted' domains domains' variable allowed p d k = record {
+  within = (λ i v h. let was = (d i v).0 h in (p i v).1 (k.within i v was.0, was.1));
+  families = (λ f s w i v h. (d i v).1 (k.families f s (λ j u m. ((p j u).0 (w j u m)).0) i v h, ((p i v).0 (w i v h)).1));
+}
+
+-- more constraints support fewer families
+pub requiring_keeps : (c : Constraint) (constraints constraints' : List Constraint) (posted domains : List (List (ℤ × ℤ)))
+    → IsRequired c constraints constraints' → Keeps constraints posted domains → Keeps constraints' posted domains
+requiring_keeps c constraints constraints' posted domains (inl again) k = subst (λ cs. Keeps cs posted domains) (sym again.1) k
+requiring_keeps c constraints constraints' posted domains (inr first) k = subst (λ cs. Keeps cs posted domains) (sym first.1) (record {
+  within = k.within;
+  families = (λ f s w. k.families f (All-first (λ d. Supports d (set_at f)) constraints (c ∷ []) s) w);
+})
+
+-- what all is settled from
+pub all_greatest : (constraints : List Constraint) (posted domains domains' : List (List (ℤ × ℤ))) → Keeps constraints posted domains
+    → IsGreatestFamily constraints (set_at domains) (set_at domains') → IsGreatestFamily constraints (set_at posted) (set_at domains')
+all_greatest constraints posted domains domains' k g = record {
+  within = (λ i v h. k.within i v (g.within i v h));
+  supported = g.supported;
+  greatest = (λ other w s. g.greatest other (k.families other s w) s);
+}
+
+-- ---- one more variable
+
+-- a family is cut off after the first variables
+cut_off : (family : List (List (ℤ × ℤ))) (count i : ℕ) → i < count → get_or (take count family) i [] ≡ get_or family i []
+cut_off family count i lt = get_or-take count family i [] lt
+
+none_beyond : (family : List (List (ℤ × ℤ))) (count i : ℕ) (v : ℤ) → count ≤ i → set_at (take count family) i v → ⊥
+none_beyond family count i v le h =
+    subst (λ L. Covers L v) (get_or-eq_default (take count family) [] (let m = length-take count family in let n = min-le_left count (length family) in omega arith)) h
+
+cut_within : (family : List (List (ℤ × ℤ))) (count : ℕ) → LiesWithin (set_at (take count family)) (set_at family)
+cut_within family count i v h = elim (cases_lt i count) [
+  | inl lt ↦ subst (λ L. Covers L v) (cut_off family count i lt) h
+  | inr le ↦ absurd (none_beyond family count i v le h)
+]
+
+cut_has : (family : List (List (ℤ × ℤ))) (count i : ℕ) (v : ℤ) → i < count → set_at family i v → set_at (take count family) i v
+cut_has family count i v lt h = subst (λ L. Covers L v) (sym (cut_off family count i lt)) h
+
+-- and is supported where all constraints name these
+cut_supported : (constraints : List Constraint) (count : ℕ) (family : List (List (ℤ × ℤ))) → All (AllPresent count) constraints
+    → SupportedBy constraints (set_at family) → SupportedBy constraints (set_at (take count family))
+cut_supported constraints count family present s k d lt i names v h =
+    let p = present k d lt in
+    let u : HasSolutionAt (get_or constraints k d) (set_at family) i v = s k d lt i names v (cut_within family count i v h) in
+    record {
+      point = u.point;
+      at = u.at;
+      solution = record {
+        in_x = cut_has family count _ _ p.0 u.solution.in_x;
+        in_y = cut_has family count _ _ p.1 u.solution.in_y;
+        in_z = cut_has family count _ _ p.2 u.solution.in_z;
+        sum = u.solution.sum;
+      };
+    }
+
+-- a list with one more at the end
+at_first : (sets : List (List (ℤ × ℤ))) (domain : List (ℤ × ℤ)) (i : ℕ) → i < length sets → get_or (sets ++ domain ∷ []) i [] ≡ get_or sets i []
+at_first sets domain i lt = get_or-append sets (domain ∷ []) [] i lt
+
+at_rest : (sets others : List (List (ℤ × ℤ))) (domain : List (ℤ × ℤ)) (i : ℕ) → length sets ≡ length others → length sets ≤ i
+    → get_or (sets ++ domain ∷ []) i [] ≡ get_or (others ++ domain ∷ []) i []
+at_rest sets others domain i same le =
+    get_or-append_right sets (domain ∷ []) (length others) i [] same (omega arith) ∙ sym (get_or-append_right others (domain ∷ []) (length others) i [] refl (omega arith))
+
+pub adding_keeps : (constraints : List Constraint) (posted domains : List (List (ℤ × ℤ))) (domain : List (ℤ × ℤ)) → length posted ≡ length domains
+    → All (AllPresent (length domains)) constraints → Keeps constraints posted domains → Keeps constraints (posted ++ domain ∷ []) (domains ++ domain ∷ [])
+adding_keeps constraints posted domains domain same present k = record {
+  within = (λ i v h. elim (cases_lt i (length domains)) [
+    | inl lt ↦ subst (λ L. Covers L v) (sym (at_first posted domain i (omega arith))) (k.within i v (subst (λ L. Covers L v) (at_first domains domain i lt) h))
+    | inr le ↦ subst (λ L. Covers L v) (at_rest domains posted domain i (sym same) le) h
+  ]);
+  families = (λ f s w i v h. elim (cases_lt i (length domains)) [
+    | inl lt ↦ subst (λ L. Covers L v) (sym (at_first domains domain i lt))
+        (k.families (take (length domains) f) (cut_supported constraints (length domains) f present s) (first_within f w) i v (cut_has f (length domains) i v lt h))
+    | inr le ↦ subst (λ L. Covers L v) (at_rest posted domains domain i same (omega arith)) (w i v h)
+  ]);
+}
+  where
+    first_within : (f : List (List (ℤ × ℤ))) → LiesWithin (set_at f) (set_at (posted ++ domain ∷ [])) → LiesWithin (set_at (take (length domains) f)) (set_at posted)
+    first_within f w i v h = elim (cases_lt i (length domains)) [
+      | inl lt ↦ subst (λ L. Covers L v) (at_first posted domain i (omega arith)) (w i v (cut_within f (length domains) i v h))
+      | inr le ↦ absurd (none_beyond f (length domains) i v le h)
+    ]

@@ -1,0 +1,61 @@
+use Rattle.std.proofs.Common.{◌≡◌, ◌∙◌, All, ap, arith, length, subst, sym}
+use Rattle.ivl_laws.specs.Families.{set_at}
+use Rattle.ivl_store.specs.Narrowing.{IsFixed, Keeps}
+use Rattle.ivl_store.specs.Network.{AreNarrowings, NetworkState}
+use Rattle.ivl_store.specs.Solutions.{AreDistinct}
+use Rattle.ivl_store.proofs.Narrowings.{more_narrowings, narrowings_greatest, narrowings_keep, narrowings_solve}
+use Rattle.ivl_store.proofs.network.Network.settle.Goals as goal
+
+pub returns-in_err-narrow_next-clause-keeps : goal.returns-in_err-narrow_next-clause-keeps
+returns-in_err-narrow_next-clause-keeps g c =
+    narrowings_keep c.args.self.now.constraints c.loop.counter c.args.self.now.domains c.narrow_next.new.self.domains
+    (subst (λ (s : NetworkState). AreNarrowings c.args.self.now.constraints c.loop.counter (set_at c.args.self.now.domains) (set_at s.domains)) (sym c.in_err-narrow_next.ensures.refused) c.loop.invariant.3)
+
+pub returns-in_err-narrow_next-clause-solutions : goal.returns-in_err-narrow_next-clause-solutions
+returns-in_err-narrow_next-clause-solutions g c =
+    narrowings_solve c.args.self.now.constraints c.loop.counter c.args.self.now.domains c.narrow_next.new.self.domains
+    (subst (λ (s : NetworkState). AreNarrowings c.args.self.now.constraints c.loop.counter (set_at c.args.self.now.domains) (set_at s.domains)) (sym c.in_err-narrow_next.ensures.refused) c.loop.invariant.3)
+
+pub returns-then-not-branch-clause-keeps : goal.returns-then-not-branch-clause-keeps
+returns-then-not-branch-clause-keeps g c =
+    let none = c.in_ok-narrow_next.ensures.none c.if-not-branch.true in
+    narrowings_keep c.args.self.now.constraints c.loop.counter c.args.self.now.domains c.narrow_next.new.self.domains
+    (subst (λ (s : NetworkState). AreNarrowings c.args.self.now.constraints c.loop.counter (set_at c.args.self.now.domains) (set_at s.domains)) (sym none.0) c.loop.invariant.3)
+
+pub returns-then-not-branch-clause-solutions : goal.returns-then-not-branch-clause-solutions
+returns-then-not-branch-clause-solutions g c =
+    let none = c.in_ok-narrow_next.ensures.none c.if-not-branch.true in
+    narrowings_solve c.args.self.now.constraints c.loop.counter c.args.self.now.domains c.narrow_next.new.self.domains
+    (subst (λ (s : NetworkState). AreNarrowings c.args.self.now.constraints c.loop.counter (set_at c.args.self.now.domains) (set_at s.domains)) (sym none.0) c.loop.invariant.3)
+
+pub returns-then-not-branch-clause-greatest : goal.returns-then-not-branch-clause-greatest
+returns-then-not-branch-clause-greatest g c = λ _.
+    let none = c.in_ok-narrow_next.ensures.none c.if-not-branch.true in
+    narrowings_greatest c.args.self.now.constraints c.loop.counter c.args.self.now.domains c.narrow_next.new.self.domains
+    (subst (λ (s : NetworkState). AreNarrowings c.args.self.now.constraints c.loop.counter (set_at c.args.self.now.domains) (set_at s.domains)) (sym none.0) c.loop.invariant.3)
+    (subst (All AreDistinct) c.loop.invariant.0 none.1)
+    (subst (λ (s : NetworkState). All (IsFixed (set_at s.domains)) c.args.self.now.constraints) (sym none.0)
+    (subst (λ cs. All (IsFixed (set_at c.loop.self.domains)) cs) c.loop.invariant.0 none.2))
+
+pub loop-preserved : goal.loop-preserved
+loop-preserved g c = (
+  c.narrow_next.ensures.constraints ∙ c.loop.invariant.0,
+  c.narrow_next.ensures.kept_count ∙ c.loop.invariant.1,
+  (let b = c.loop-test.true in omega arith),
+  more_narrowings c.args.self.now.constraints c.loop.counter 1 (set_at c.args.self.now.domains) (set_at c.loop.self.domains) (set_at c.narrow_next.new.self.domains) c.loop.invariant.3
+      (subst (λ cs. AreNarrowings cs 1 (set_at c.loop.self.domains) (set_at c.narrow_next.new.self.domains)) c.loop.invariant.0
+      (c.in_ok-narrow_next.ensures.narrowed c.if-not-branch.false)),
+)
+
+pub returns-clause-keeps : goal.returns-clause-keeps
+returns-clause-keeps g c = narrowings_keep c.args.self.now.constraints c.loop.counter c.args.self.now.domains c.loop.self.domains c.loop.invariant.3
+
+pub returns-clause-solutions : goal.returns-clause-solutions
+returns-clause-solutions g c = narrowings_solve c.args.self.now.constraints c.loop.counter c.args.self.now.domains c.loop.self.domains c.loop.invariant.3
+
+pub returns-clause-greatest : goal.returns-clause-greatest
+returns-clause-greatest g c = λ all.
+    let reached = c.reached.ensures all in
+    narrowings_greatest c.args.self.now.constraints c.loop.counter c.args.self.now.domains c.loop.self.domains c.loop.invariant.3
+    (subst (All AreDistinct) c.loop.invariant.0 reached.0)
+    (subst (λ cs. All (IsFixed (set_at c.loop.self.domains)) cs) c.loop.invariant.0 reached.1)

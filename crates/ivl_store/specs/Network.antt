@@ -1,0 +1,34 @@
+-- What a network of constraints keeps, and what its calls do to that.
+--     NetworkState      the domain of each variable, and the constraints so far
+--     IsSoundNetwork domains cs marks      the constraints name three different variables each, which have a domain; narrowing by a marked one changes nothing
+--     IsRequired c old new      the new constraints are the old ones if the constraint is one of them, and else these with it at the end
+--     IsCutAt i S before after      variable i keeps its members that are in S, and the others keep all
+--     AreNarrowings cs count before after      so many narrowings, each by one of the constraints, leave these members
+use Rattle.std.specs.Prelude.{◌≡◌, ◌↔◌, ◌⊎◌, ◌++◌, ◌∷◌, [], ℕ, ℤ, Bool, List, All, Contains, length}
+use Rattle.ivl_laws.specs.Families.{set_at}
+use Rattle.ivl_store.specs.declared.store.constraint.Constraint.{Constraint}
+use Rattle.ivl_store.specs.Narrowing.{AllPresent}
+use Rattle.ivl_store.specs.Rounds.{IsNarrowedBy}
+use Rattle.ivl_store.specs.Settled.{AreSettled}
+use Rattle.ivl_store.specs.Solutions.{AreDistinct}
+
+pub record NetworkState : Type 0 where
+  pub domains : List (List (ℤ × ℤ))
+  pub constraints : List Constraint
+
+pub record IsSoundNetwork (domains : List (List (ℤ × ℤ))) (constraints : List Constraint) (marks : List Bool) : Type 0 where
+  pub distinct : All AreDistinct constraints
+  pub present : All (AllPresent (length domains)) constraints
+  pub settled : AreSettled constraints marks (set_at domains)
+
+abbrev pub IsRequired : Constraint → List Constraint → List Constraint → Type 0
+IsRequired c old new = (Contains old c × (new ≡ old)) ⊎ ((¬ (Contains old c)) × (new ≡ old ++ c ∷ []))
+
+abbrev pub IsCutAt : ℕ → (ℤ → Type 0) → (ℕ → ℤ → Type 0) → (ℕ → ℤ → Type 0) → Type 0
+IsCutAt variable S before after = (i : ℕ) (v : ℤ) → after i v ↔ (before i v × (i ≡ variable → S v))
+
+pub record AreNarrowings (constraints : List Constraint) (count : ℕ) (before after : ℕ → ℤ → Type 0) : Type 0 where
+  pub by : List Constraint
+  pub as_many : length by ≡ count
+  pub each : All (Contains constraints) by
+  pub left : IsNarrowedBy by before after

@@ -1,0 +1,34 @@
+-- One variable more.
+use Rattle.std.proofs.Common.{◌≡◌, ◌∙◌, ℕ, ℤ, ◌+◌, Bool, ◌||◌, List, [], ◌∷◌, ◌++◌, length, refl, ap, sym, subst}
+use Rattle.std.specs.Prelude.{Any, IsTrue, ◌↔◌, String}
+use Rattle.std.specs.Global.{Global}
+use Rattle.std.proofs.lemmas.List.{length_push}
+use Rattle.ivl_store.specs.declared.store.constraint.Constraint.{Constraint}
+use Rattle.ivl_store.specs.Network.{NetworkState}
+use Rattle.ivl_store_lines.specs.declared.progress.Progress.{Progress}
+use Rattle.ivl_store_lines.specs.Solving.{IsSound, State}
+use Rattle.ivl_store_lines.proofs.Printing.{empty_added}
+
+module _ (names pushed : List (String Global)) (key : String Global) (before after : NetworkState) (domain : List (ℤ × ℤ))
+    (named : pushed ≡ names ++ key ∷ []) (added : after ≡ record { domains = before.domains ++ domain ∷ []; constraints = before.constraints }) where
+  domains_after : after.domains ≡ before.domains ++ domain ∷ []
+  domains_after = ap (λ (n : NetworkState). n.domains) added
+
+  pub sound_added : (some_empty is_empty : Bool) → IsSound (length names) before.domains some_empty → (IsTrue is_empty ↔ domain ≡ []) → IsSound (length pushed) after.domains (some_empty || is_empty)
+  sound_added some_empty is_empty old empty =
+      record {
+        one_each = ap (λ (keys : List (String Global)). length keys) named ∙ length_push names key ∙ ap (λ (n : ℕ). n + 1) old.one_each
+            ∙ sym (ap (λ (Ls : List (List (ℤ × ℤ))). length Ls) domains_after ∙ length_push before.domains domain);
+        emptiness = subst (λ (Ls : List (List (ℤ × ℤ))). IsTrue (some_empty || is_empty) ↔ Any (λ L. L ≡ []) Ls) (sym domains_after) (empty_added some_empty is_empty before.domains domain old.emptiness empty);
+      }
+
+abbrev state : List (List ℕ) → NetworkState → ℕ → Progress → State
+state names network limit progress = record { names = names; domains = network.domains; constraints = network.constraints; limit = limit; progress = progress }
+
+-- the state that a contract sees
+pub state_added : (names named : List (List ℕ)) (name : List ℕ) (before after : NetworkState) (domain : List (ℤ × ℤ)) (limit : ℕ) (progress : Progress) (old : State)
+    → state names before limit progress ≡ old → named ≡ names ++ name ∷ [] → after ≡ record { domains = before.domains ++ domain ∷ []; constraints = before.constraints }
+    → state named after limit progress ≡ record { names = old.names ++ name ∷ []; domains = old.domains ++ domain ∷ []; constraints = old.constraints; limit = old.limit; progress = old.progress }
+state_added names named name before after domain limit progress old is named_is added_is =
+    subst (λ (s : State). state named after limit progress ≡ record { names = s.names ++ name ∷ []; domains = s.domains ++ domain ∷ []; constraints = s.constraints; limit = s.limit; progress = s.progress }) is
+    (rw (named_is, added_is) refl)

@@ -1,0 +1,73 @@
+-- The texts of a domain and of a state.
+use Rattle.std.proofs.Common.{◌≡◌, ℕ, ℤ, ◌≤ℤ◌, true, false, Bool, List, [], ◌∷◌, ◌++◌, ◌||◌, Option, Some, inl, inr, refl, sym, ap, ◌∙◌, append_assoc, arith}
+use Rattle.std.specs.Prelude.{Any, IsTrue, ◌↔◌, flat_map, int_lt}
+use Rattle.std.specs.Fmt.{signed_decimal}
+use Rattle.std.specs.List.{list_any}
+use Rattle.std.proofs.lemmas.Int.{ints}
+use Rattle.std.proofs.lemmas.Bool.{cases_Bool, true≢false}
+use Rattle.std.proofs.lemmas.List.Folds.{Any-from_list_any, list_any-append, list_any-from_Any}
+use Rattle.ivl_laws.specs.Runs.{IsMaximal}
+use Rattle.ivl_interval.specs.Text.{interval_text}
+use Rattle.intervallum.specs.Text as whole
+use Rattle.ivl_lines.specs.Sets.{run_text, pairs_text}
+use Rattle.ivl_store_lines.specs.Printed.{has_no_run}
+use Rattle.ivl_laws.proofs.Orders.{int_lt_false}
+
+no_run_from : (L : List (ℤ × ℤ)) → has_no_run L ≡ true → L ≡ []
+no_run_from [] e = refl
+no_run_from (p ∷ L) e = absurd (true≢false (sym e))
+
+-- whether some list has no run, by its test
+pub some_empty : (b : Bool) (Ls : List (List (ℤ × ℤ))) → (IsTrue b ↔ Any (λ L. L ≡ []) Ls) → list_any has_no_run Ls ≡ b
+some_empty b Ls same =
+    elim (cases_Bool (list_any has_no_run Ls)) [
+      | inl some ↦
+          let found = Any-from_list_any has_no_run Ls some in
+          some ∙ sym (same.1 (found.0, found.1, found.2, found.3, no_run_from found.1 found.4))
+      | inr none ↦ elim (cases_Bool b) [
+        | inl holds ↦
+            let found = same.0 holds in
+            let some : list_any has_no_run Ls ≡ true = list_any-from_Any has_no_run Ls (found.0, found.1, found.2, found.3, ap (λ (L : List (ℤ × ℤ)). has_no_run L) found.4) in
+            absurd (true≢false (sym some ∙ none))
+        | inr fails ↦ none ∙ sym fails
+      ]
+    ]
+
+has_no_run-is : (L : List (ℤ × ℤ)) (e : Bool) → (IsTrue e ↔ L ≡ []) → has_no_run L ≡ e
+has_no_run-is [] e h = sym (h.1 refl)
+has_no_run-is (p ∷ L) true h = absurd (true≢false (sym (ap (λ (runs : List (ℤ × ℤ)). has_no_run runs) (h.0 refl))))
+has_no_run-is (p ∷ L) false h = refl
+
+or_one : (b e : Bool) → (b || (e || false)) ≡ (b || e)
+or_one true e = refl
+or_one false true = refl
+or_one false false = refl
+
+empty_by_test : (b : Bool) (Ls : List (List (ℤ × ℤ))) → list_any has_no_run Ls ≡ b → IsTrue b ↔ Any (λ L. L ≡ []) Ls
+empty_by_test b Ls test = (
+  (λ holds. let some = Any-from_list_any has_no_run Ls (test ∙ holds) in (some.0, some.1, some.2, some.3, no_run_from some.1 some.4)),
+  (λ some. sym test ∙ list_any-from_Any has_no_run Ls (some.0, some.1, some.2, some.3, ap (λ (L : List (ℤ × ℤ)). has_no_run L) some.4)),
+)
+
+-- one domain more
+pub empty_added : (b e : Bool) (Ls : List (List (ℤ × ℤ))) (L : List (ℤ × ℤ)) → (IsTrue b ↔ Any (λ L. L ≡ []) Ls) → (IsTrue e ↔ L ≡ []) → IsTrue (b || e) ↔ Any (λ L. L ≡ []) (Ls ++ L ∷ [])
+empty_added b e Ls L all one =
+    let test : list_any has_no_run (Ls ++ L ∷ []) ≡ (b || e) = list_any-append has_no_run Ls (L ∷ []) ∙ rw (some_empty b Ls all, has_no_run-is L e one) (or_one b e) in
+    empty_by_test (b || e) (Ls ++ L ∷ []) test
+
+-- the text of a run of i64, as `Display` writes it
+abbrev pub shown : ℤ × ℤ → Option (List ℕ)
+shown p = interval_text p (Some (signed_decimal p.0)) (Some (signed_decimal p.1))
+
+shown_is : (p : ℤ × ℤ) → p.0 ≤ℤ p.1 → shown p ≡ Some (run_text p)
+shown_is p h = rw (int_lt_false p.1 p.0 h, append_assoc, append_assoc) refl
+
+shown_are : (L : List (ℤ × ℤ)) → IsMaximal L → whole.runs_text shown L ≡ Some (flat_map run_text L)
+shown_are [] h = refl
+shown_are (p ∷ L) h = rw (shown_is p h.0, shown_are L h.2) refl
+
+-- the text of a set of i64, as `Display` writes it
+pub domain_text : (L : List (ℤ × ℤ)) → IsMaximal L → whole.set_text shown L ≡ Some (pairs_text L)
+domain_text [] h = refl
+domain_text (p ∷ []) h = shown_is p h.0
+domain_text (p ∷ q ∷ L) h = rw (shown_is p h.0, shown_is q h.2.0, shown_are L h.2.2) refl

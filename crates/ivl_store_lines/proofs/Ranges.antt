@@ -1,0 +1,29 @@
+-- How `Interval::in_range` answers.
+use Rattle.std.proofs.Common.{inl, inr, ◌≡◌, ◌↔◌, ◌∙◌, ℤ, ◌≤ℤ◌, List, Bool, true, false, None, Some, IsTrue, refl, sym, arith}
+use Rattle.std.specs.Prelude.{int_le, ◌&&◌}
+use Rattle.std.specs.List.{list_all}
+use Rattle.std.proofs.lemmas.Bool.{and_parts, cases_Bool, false≢true}
+use Rattle.std.proofs.lemmas.Int.{ints}
+use Rattle.ivl_laws.specs.Sets.{IsInRange}
+use Rattle.ivl_store_lines.specs.Faults.{out_of_range}
+use Rattle.ivl_store_lines.specs.Solving.{range_fault}
+use Rattle.ivl_lines.specs.Numbers.{is_in_range}
+use Rattle.ivl_laws.proofs.Orders.{le_true, true_le}
+
+pub in_range_is : (whole p : ℤ × ℤ) (b : Bool) → (IsTrue b ↔ IsInRange whole p) → b ≡ (int_le whole.0 p.0 && int_le p.1 whole.1)
+in_range_is whole p true h =
+    let within = h.0 refl in
+    rw (true_le whole.0 p.0 within.0, true_le p.1 whole.1 within.1) refl
+in_range_is whole p false h =
+    elim (cases_Bool (int_le whole.0 p.0 && int_le p.1 whole.1)) [
+      | inr fails ↦ sym fails
+      | inl holds ↦
+          let parts = and_parts (int_le whole.0 p.0) (int_le p.1 whole.1) holds in
+          absurd (false≢true (h.1 (le_true whole.0 p.0 parts.0, le_true p.1 whole.1 parts.1)))
+    ]
+
+pub no_range_fault : (pairs : List (ℤ × ℤ)) (b : Bool) → b ≡ list_all is_in_range pairs → b ≡ true → range_fault pairs ≡ None
+no_range_fault pairs b all is = rw (sym all ∙ is) refl
+
+pub some_range_fault : (pairs : List (ℤ × ℤ)) (b : Bool) → b ≡ list_all is_in_range pairs → b ≡ false → range_fault pairs ≡ Some out_of_range
+some_range_fault pairs b all is = rw (sym all ∙ is) refl

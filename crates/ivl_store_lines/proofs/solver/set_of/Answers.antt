@@ -1,0 +1,31 @@
+use Rattle.std.proofs.Common.{◌≡◌, ◌^◌, ◌-◌, ℤ, pos, negsuc, List, None, sym, subst, rules}
+use Rattle.std.specs.List.{list_all}
+use borrow.Author.Tests.{tests}
+use Rattle.std.proofs.lemmas.Iterator.{YieldsList-from_slice}
+use Rattle.std.proofs.lemmas.Iterator.Search.{all_from_yields_List}
+use Rattle.ivl_laws.specs.Runs.{Covers, IsRunsOf}
+use Rattle.ivl_store_lines.specs.Solving.{range_fault}
+use Rattle.ivl_lines.specs.Numbers.{is_in_range}
+use Rattle.ivl_store_lines.proofs.Ranges.{in_range_is, no_range_fault, some_range_fault}
+use Rattle.ivl_store_lines.proofs.Requiring.{same_pairs}
+use Rattle.ivl_store_lines.proofs.solver.set_of.Goals as goal
+
+pub returns-clause-union : goal.returns-clause-union
+returns-clause-union c =
+    let P : List (ℤ × ℤ) → Type 0 = λ pairs. IsRunsOf c.in_ok-to_interval_set.field-0 (Covers pairs) in
+    subst P (same_pairs c.args.pairs.now) c.in_ok-to_interval_set.ensures
+
+pub returns-clause-no_fault : goal.returns-clause-no_fault
+returns-clause-no_fault c =
+    let all : c.all.result ≡ list_all is_in_range c.args.pairs.now = all_from_yields_List is_in_range _ _ c.all.result c.all.ensures.ran (YieldsList-from_slice c.args.pairs.now c.iter.ensures.rest) (λ x b q k. (search (rules, tests), in_range_is (negsuc (2 ^ 63 - 2), pos (2 ^ 63 - 1)) x.now b (search (rules, tests)))) in
+    no_range_fault c.args.pairs.now c.all.result all c.if-not-all.false
+
+pub returns-then-not-all-clause-fault : goal.returns-then-not-all-clause-fault
+returns-then-not-all-clause-fault c =
+    let all : c.all.result ≡ list_all is_in_range c.args.pairs.now = all_from_yields_List is_in_range _ _ c.all.result c.all.ensures.ran (YieldsList-from_slice c.args.pairs.now c.iter.ensures.rest) (λ x b q k. (search (rules, tests), in_range_is (negsuc (2 ^ 63 - 2), pos (2 ^ 63 - 1)) x.now b (search (rules, tests)))) in
+    sym (some_range_fault c.args.pairs.now c.all.result all c.if-not-all.true)
+
+pub returns-in_err-to_interval_set-clause-fault : goal.returns-in_err-to_interval_set-clause-fault
+returns-in_err-to_interval_set-clause-fault c =
+    let all : c.all.result ≡ list_all is_in_range c.args.pairs.now = all_from_yields_List is_in_range _ _ c.all.result c.all.ensures.ran (YieldsList-from_slice c.args.pairs.now c.iter.ensures.rest) (λ x b q k. (search (rules, tests), in_range_is (negsuc (2 ^ 63 - 2), pos (2 ^ 63 - 1)) x.now b (search (rules, tests)))) in
+    let none : range_fault c.args.pairs.now ≡ None = no_range_fault c.args.pairs.now c.all.result all c.if-not-all.false in rw none (search rules)

@@ -1,0 +1,104 @@
+-- What a line asks for, by its words.
+--     name_and_pairs, with_pairs, three_names, limit_of, only_on, nothing_else words      the words after a command, by its form; `None` if they do not have it
+--     natural_of word      the number of i64 from 0 up that a word is; `None` if it is no such number
+--     request_of name words      what a command and the words after it ask for; `None` if they are no request
+--     asked_of request      the request as the program keeps it
+--     first_bad_number_of words      the first word that is no number; `None` if all are
+--     why_no_request name words      the fault of a command and the words after it that are no request
+--     needs_list name words      whether pairs may stand there, for which memory is needed
+use Rattle.std.specs.Prelude.{◌^◌, ◌-◌, ℕ, ℤ, pos, nat_le, negsuc, Bool, true, false, not, ◌&&◌, ◌||◌, List, [], ◌∷◌, bytes_eq, codes, find, if◌then◌else◌, is_none, Option, None, Some, option_and_then, option_map}
+use Rattle.ivl_lines.specs.Numbers.{number_of, pairs_of}
+use Rattle.ivl_store_lines.specs.Faults.{Told, no_command, no_form, no_number}
+use Rattle.ivl_store_lines.specs.declared.request.Request.{Request}
+use Rattle.ivl_store_lines.specs.declared.request.Request.TheVariants as kept
+
+pub data Asked : Type 0 where
+  var : List ℕ → List (ℤ × ℤ) → Asked
+  cut : List ℕ → List (ℤ × ℤ) → Asked
+  sum : List ℕ → List ℕ → List ℕ → Asked
+  limit : ℕ → Asked
+  go_on : Asked
+  show : Asked
+
+-- a name, and numbers two by two
+abbrev pub name_and_pairs : List (List ℕ) → Option (List ℕ × List (ℤ × ℤ))
+name_and_pairs [] = None
+name_and_pairs (name ∷ words) = option_map (λ pairs. (name, pairs)) (pairs_of words)
+
+abbrev pub with_pairs : (List ℕ → List (ℤ × ℤ) → Asked) → List (List ℕ) → Option Asked
+with_pairs asked words = option_map (λ read. asked read.0 read.1) (name_and_pairs words)
+
+abbrev pub three_names : List (List ℕ) → Option Asked
+three_names (x ∷ y ∷ z ∷ []) = Some (sum x y z)
+three_names _ = None
+
+-- a number from 0 up
+abbrev pub natural : ℤ → Option ℕ
+natural (pos n) = if nat_le n (2 ^ 64 - 1) then Some n else None
+natural (negsuc n) = None
+
+abbrev pub natural_of : List ℕ → Option ℕ
+natural_of word = option_and_then natural (number_of word)
+
+abbrev pub limit_of : List (List ℕ) → Option ℕ
+limit_of (word ∷ []) = natural_of word
+limit_of _ = None
+
+abbrev pub only_on : List (List ℕ) → Option Asked
+only_on (word ∷ []) = if bytes_eq word (codes "on") then Some go_on else None
+only_on _ = None
+
+abbrev pub nothing_else : List (List ℕ) → Option Asked
+nothing_else [] = Some show
+nothing_else (word ∷ words) = None
+
+abbrev pub request_of : List ℕ → List (List ℕ) → Option Asked
+request_of name words =
+    if bytes_eq name (codes "var") then with_pairs var words
+    else if bytes_eq name (codes "cut") then with_pairs cut words
+    else if bytes_eq name (codes "sum") then three_names words
+    else if bytes_eq name (codes "limit") then option_map limit (limit_of words)
+    else if bytes_eq name (codes "go") then only_on words
+    else if bytes_eq name (codes "show") then nothing_else words
+    else None
+
+abbrev pub asked_of : Request → Asked
+asked_of (kept.Var name pairs) = var name.now pairs.items
+asked_of (kept.Cut name pairs) = cut name.now pairs.items
+asked_of (kept.Sum x y z) = sum x.now y.now z.now
+asked_of (kept.Limit n) = limit n
+asked_of kept.GoOn = go_on
+asked_of kept.Show = show
+
+abbrev pub first_bad_number_of : List (List ℕ) → Option (List ℕ)
+first_bad_number_of words = find (λ word. is_none (number_of word)) words
+
+-- the first bad number, or else the form
+abbrev pub bad_number_or_form : List ℕ → Option (List ℕ) → Told
+bad_number_or_form form None = no_form form
+bad_number_or_form form (Some word) = no_number word
+
+abbrev pub why_no_pairs : List ℕ → List (List ℕ) → Told
+why_no_pairs form [] = no_form form
+why_no_pairs form (name ∷ words) = bad_number_or_form form (first_bad_number_of words)
+
+abbrev pub why_no_limit : List (List ℕ) → Told
+why_no_limit (word ∷ []) = no_number word
+why_no_limit _ = no_form (codes "limit n")
+
+abbrev pub why_no_request : List ℕ → List (List ℕ) → Told
+why_no_request name words =
+    if bytes_eq name (codes "var") then why_no_pairs (codes "var x l u l u ..") words
+    else if bytes_eq name (codes "cut") then why_no_pairs (codes "cut x l u l u ..") words
+    else if bytes_eq name (codes "sum") then no_form (codes "sum x y z")
+    else if bytes_eq name (codes "limit") then why_no_limit words
+    else if bytes_eq name (codes "go") then no_form (codes "go on")
+    else if bytes_eq name (codes "show") then no_form (codes "show")
+    else no_command name
+
+abbrev pub is_no_word : List (List ℕ) → Bool
+is_no_word [] = true
+is_no_word (word ∷ words) = false
+
+abbrev pub needs_list : List ℕ → List (List ℕ) → Bool
+needs_list name words = not (is_no_word words) && (bytes_eq name (codes "var") || bytes_eq name (codes "cut"))

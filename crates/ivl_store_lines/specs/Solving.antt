@@ -1,0 +1,124 @@
+-- What carrying out a request does to the variables, their domains, and the constraints between them.
+--     State      the names, the domains, the constraints, how many narrowings a line may make, and how far the domains are narrowed
+--     variable_named names name      the index of the variable with this name
+--     IsSound names domains some_empty      as many names as domains, and whether a domain is empty
+--     Settles limit cs before after progress      at most so many narrowings by the constraints lead from the one domains to the others
+--     Carries asked old new      the request takes the solver from old to new
+--     range_fault pairs      the fault of pairs that are not all in range; `None` if they are
+--     fault_of asked old      the fault of a request; `None` if it has none
+use Rattle.std.specs.Prelude.{◌≡◌, ◌≤◌, ◌||◌, ◌==◌, ◌↔◌, ℕ, ℤ, pos, Bool, List, Any, [], ◌∷◌, ◌++◌, bytes_eq, if◌then◌else◌, length, position, Option, Some, None, IsTrue}
+use Rattle.std.specs.List.{list_all}
+use Rattle.ivl_lines.specs.Numbers.{is_in_range}
+use Rattle.ivl_laws.specs.Runs.{Covers, IsRunsOf}
+use Rattle.ivl_laws.specs.Families.{set_at}
+use Rattle.ivl_store.specs.declared.store.constraint.Constraint.{Constraint}
+use Rattle.ivl_store.specs.Narrowing.{Keeps}
+use Rattle.ivl_store.specs.Network.{AreNarrowings, IsCutAt, IsRequired}
+use Rattle.ivl_store.specs.Solutions.{IsGreatestFamily}
+use Rattle.ivl_store_lines.specs.declared.progress.Progress.{Progress}
+use Rattle.ivl_store_lines.specs.declared.progress.Progress.TheVariants.{Complete, Budget}
+use Rattle.ivl_store_lines.specs.Faults.{Told, out_of_range, unknown, defined, repeated}
+use Rattle.ivl_store_lines.specs.Requests.{Asked, var, cut, sum, limit, go_on, show}
+
+-- one name and one domain for each variable
+pub record State : Type 0 where
+  pub names : List (List ℕ)
+  pub domains : List (List (ℤ × ℤ))
+  pub constraints : List Constraint
+  pub limit : ℕ
+  pub progress : Progress
+
+abbrev pub variable_named : List (List ℕ) → List ℕ → Option ℕ
+variable_named names name = position (λ known. bytes_eq known name) names
+
+-- what holds of a solver's lists, by the number of names, and of what it keeps on empty domains
+pub record IsSound (names : ℕ) (domains : List (List (ℤ × ℤ))) (some_empty : Bool) : Type 0 where
+  pub one_each : names ≡ length domains
+  pub emptiness : IsTrue some_empty ↔ Any (λ L. L ≡ []) domains
+
+-- at most so many narrowings: all of them if the limit stopped it; no supported family loses a member
+pub record Settles (limit : ℕ) (constraints : List Constraint) (before after : List (List (ℤ × ℤ))) (progress : Progress) : Type 0 where
+  pub count : ℕ
+  pub within_limit : count ≤ limit
+  pub narrowed : AreNarrowings constraints count (set_at before) (set_at after)
+  pub keeps : Keeps constraints before after
+  pub complete : progress ≡ Complete → IsGreatestFamily constraints (set_at before) (set_at after)
+  pub used_up : progress ≡ Budget → count ≡ limit
+
+-- one more variable, whose domain is the union of the pairs
+pub record Defines (name : List ℕ) (pairs : List (ℤ × ℤ)) (old new : State) : Type 0 where
+  pub is_new : variable_named old.names name ≡ None
+  pub domain : List (ℤ × ℤ)
+  pub is_union : IsRunsOf domain (Covers pairs)
+  pub added : new ≡ record { names = old.names ++ name ∷ []; domains = old.domains ++ domain ∷ []; constraints = old.constraints; limit = old.limit; progress = old.progress }
+
+-- the domain is cut, and then the constraints narrow all domains
+pub record Cuts (name : List ℕ) (pairs : List (ℤ × ℤ)) (old new : State) : Type 0 where
+  pub variable : ℕ
+  pub named : variable_named old.names name ≡ Some variable
+  pub allowed : List (ℤ × ℤ)
+  pub is_union : IsRunsOf allowed (Covers pairs)
+  pub cut : List (List (ℤ × ℤ))
+  pub is_cut : IsCutAt variable (Covers allowed) (set_at old.domains) (set_at cut)
+  pub settled : Settles new.limit new.constraints cut new.domains new.progress
+  pub names : new.names ≡ old.names
+  pub constraints : new.constraints ≡ old.constraints
+  pub limit : new.limit ≡ old.limit
+
+-- the sum is one of the constraints from now on, and they narrow all domains
+pub record Adds (x y z : List ℕ) (old new : State) : Type 0 where
+  pub sum : Constraint
+  pub named_x : variable_named old.names x ≡ Some sum.x
+  pub named_y : variable_named old.names y ≡ Some sum.y
+  pub named_z : variable_named old.names z ≡ Some sum.z
+  pub required : IsRequired sum old.constraints new.constraints
+  pub settled : Settles new.limit new.constraints old.domains new.domains new.progress
+  pub names : new.names ≡ old.names
+  pub limit : new.limit ≡ old.limit
+
+-- the constraints narrow all domains further
+pub record GoesOn (old new : State) : Type 0 where
+  pub settled : Settles new.limit new.constraints old.domains new.domains new.progress
+  pub names : new.names ≡ old.names
+  pub constraints : new.constraints ≡ old.constraints
+  pub limit : new.limit ≡ old.limit
+
+abbrev pub Limits : ℕ → State → State → Type 0
+Limits n old new = new ≡ record { names = old.names; domains = old.domains; constraints = old.constraints; limit = n; progress = old.progress }
+
+abbrev pub Carries : Asked → State → State → Type 0
+Carries (var name pairs) old new = Defines name pairs old new
+Carries (cut name pairs) old new = Cuts name pairs old new
+Carries (sum x y z) old new = Adds x y z old new
+Carries (limit n) old new = Limits n old new
+Carries go_on old new = GoesOn old new
+Carries show old new = new ≡ old
+
+-- no bound of a set over i64 is its least number
+abbrev pub range_fault : List (ℤ × ℤ) → Option Told
+range_fault pairs = if list_all is_in_range pairs then None else Some out_of_range
+
+-- by the variable that has the name
+abbrev pub var_fault : List ℕ → List (ℤ × ℤ) → Option ℕ → Option Told
+var_fault name pairs (Some i) = Some (defined name)
+var_fault name pairs None = range_fault pairs
+
+abbrev pub cut_fault : List ℕ → List (ℤ × ℤ) → Option ℕ → Option Told
+cut_fault name pairs None = Some (unknown name)
+cut_fault name pairs (Some i) = range_fault pairs
+
+-- by the variables that have the names, which have to be three
+abbrev pub sum_fault : List ℕ → List ℕ → List ℕ → Option ℕ → Option ℕ → Option ℕ → Option Told
+sum_fault x y z None _ _ = Some (unknown x)
+sum_fault x y z (Some i) None _ = Some (unknown y)
+sum_fault x y z (Some i) (Some j) None = Some (unknown z)
+sum_fault x y z (Some i) (Some j) (Some k) =
+    if i == j then Some (repeated x) else if i == k || j == k then Some (repeated z) else None
+
+abbrev pub fault_of : Asked → State → Option Told
+fault_of (var name pairs) old = var_fault name pairs (variable_named old.names name)
+fault_of (cut name pairs) old = cut_fault name pairs (variable_named old.names name)
+fault_of (sum x y z) old = sum_fault x y z (variable_named old.names x) (variable_named old.names y) (variable_named old.names z)
+fault_of (limit n) old = None
+fault_of go_on old = None
+fault_of show old = None

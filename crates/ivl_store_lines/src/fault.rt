@@ -1,0 +1,36 @@
+//! Why a line is not carried out.
+use std::alloc::AllocError;
+
+/// Why a line is not carried out. The texts are words of the line, except that of `Form`.
+#[derive(Drop)]
+pub enum Fault<'a> {
+    /// The line is not UTF-8.
+    Bytes,
+    /// The first word is not a command.
+    Command(&'a str),
+    /// The words after the command do not have its form, which is this.
+    Form(&'static str),
+    /// The word is not a number of `i64`.
+    Number(&'a str),
+    /// A bound is outside the range, which is that of `i64` without its least number.
+    Range,
+    /// No variable has this name.
+    Unknown(&'a str),
+    /// A variable has this name already.
+    Defined(&'a str),
+    /// The variable is named twice in a sum.
+    Repeated(&'a str),
+    /// An allocation failed.
+    Memory,
+}
+
+impl<'a> From<AllocError> for Fault<'a> {
+    ghost use Rattle.std.specs.Prelude.{◌≡◌};
+    ghost use Rattle.ivl_store_lines.specs.declared.fault.Fault.TheVariants.{Memory};
+
+    ghost from_gives = { λ _ fault. fault ≡ Memory };
+
+    fn from(_: AllocError) -> Fault<'a> {
+        Fault::Memory
+    }
+}

@@ -1,0 +1,12 @@
+//! Narrows the domains of variables by sums `x + y = z`: reads lines and writes the answer to each.
+#![tactic(auto)]
+
+mod engine;
+mod fault;
+mod progress;
+mod replies;
+mod request;
+mod solver;
+
+pub use engine::{outcome, session};
+pub use ivl_lines::SessionFault;

@@ -1,0 +1,12 @@
+//! How far domains are narrowed.
+
+/// How far the lines so far have narrowed the domains.
+#[derive(Clone, Copy)]
+pub enum Progress {
+    /// No constraint narrows a domain any further.
+    Complete,
+    /// The last line that narrows used up its narrowings.
+    Budget,
+    /// The last line that narrows ran out of memory.
+    Memory,
+}

@@ -1,0 +1,153 @@
+//! What a line asks for.
+ghost use Rattle.std.specs.Prelude.{◌≡◌, ◌≢◌, ◌∷◌, [], IfErr, IfOk, IsSome, IsTrue, None, Some, codes, option_map};
+ghost use Rattle.ivl_lines.specs.Words.{words_between};
+ghost use Rattle.ivl_store_lines.specs.Faults.{no_form, told_of};
+ghost use Rattle.ivl_store_lines.specs.Requests.{asked_of, first_bad_number_of, limit_of, name_and_pairs, natural_of, needs_list, only_on, request_of, why_no_limit, why_no_pairs, why_no_request};
+
+use crate::fault::Fault;
+use ivl_lines::{next_word, number_from, one_word, pairs_from, three_words};
+use std::alloc::Global;
+
+/// What a line asks for. Variables are named by words.
+#[derive(Drop)]
+pub enum Request<'a> {
+    /// `var x l u l u ..`: a new variable, whose domain is the union of the pairs.
+    Var(&'a str, Vec<(i64, i64)>),
+    /// `cut x l u l u ..`: the variable keeps the members of its domain that are in the union of
+    /// the pairs.
+    Cut(&'a str, Vec<(i64, i64)>),
+    /// `sum x y z`: the first and the second variable add to the third.
+    Sum(&'a str, &'a str, &'a str),
+    /// `limit n`: how many narrowings each later line may make.
+    Limit(u64),
+    /// `go on`: narrows further.
+    GoOn,
+    /// `show`: the domain of each variable.
+    Show,
+}
+
+const VAR: &str = "var x l u l u ..";
+
+const CUT: &str = "cut x l u l u ..";
+
+const SUM: &str = "sum x y z";
+
+const LIMIT: &str = "limit n";
+
+const GO_ON: &str = "go on";
+
+const SHOW: &str = "show";
+
+/// Reads the request of a command and the words after it. Linear in the line; allocates the list
+/// of the pairs.
+///
+/// # Errors
+///
+/// `Command`, `Form`, `Number` or `Memory`: see [`Fault`].
+pub fn request_from<'a>(
+    alloc: Global,
+    name: &'a str,
+    words: &'a str,
+) -> Result<Request<'a>, Fault<'a>>
+    ensures ok { IfOk result (λ request. request_of name.entry.now (words_between words.entry.now) ≡ Some (asked_of request)) }
+    ensures refused { IfErr result (λ fault. IsSome (told_of fault) → request_of name.entry.now (words_between words.entry.now) ≡ None) }
+    ensures fault { IfErr result (λ fault. IsSome (told_of fault) → told_of fault ≡ Some (why_no_request name.entry.now (words_between words.entry.now))) }
+    ensures memory { IfErr result (λ fault. told_of fault ≡ None → IsTrue (needs_list name.entry.now (words_between words.entry.now))) }
+{
+    match name {
+        "var" => {
+            let (variable, pairs) = variable_and_pairs(alloc, words, VAR)?;
+            Ok(Request::Var(variable, pairs))
+        }
+        "cut" => {
+            let (variable, pairs) = variable_and_pairs(alloc, words, CUT)?;
+            Ok(Request::Cut(variable, pairs))
+        }
+        "sum" => match three_words(words) {
+            Some((x, y, z)) => Ok(Request::Sum(x, y, z)),
+            None => Err(Fault::Form(SUM)),
+        },
+        "limit" => Ok(Request::Limit(limit_from(words)?)),
+        "go" => match one_word(words) {
+            Some(word) => go_on_from(word),
+            None => Err(Fault::Form(GO_ON)),
+        },
+        "show" => match next_word(words) {
+            Some(_) => Err(Fault::Form(SHOW)),
+            None => Ok(Request::Show),
+        },
+        _ => Err(Fault::Command(name)),
+    }
+}
+
+/// The first word, and the numbers after it two by two.
+fn variable_and_pairs<'a>(
+    alloc: Global,
+    words: &'a str,
+    form: &'static str,
+) -> Result<(&'a str, Vec<(i64, i64)>), Fault<'a>>
+    ensures ok { IfOk result (λ read. name_and_pairs (words_between words.entry.now) ≡ Some (read.0.now, read.1.items)) }
+    ensures refused { IfErr result (λ fault. IsSome (told_of fault) → name_and_pairs (words_between words.entry.now) ≡ None) }
+    ensures fault { IfErr result (λ fault. IsSome (told_of fault) → told_of fault ≡ Some (why_no_pairs form.entry.now (words_between words.entry.now))) }
+    ensures memory { IfErr result (λ fault. told_of fault ≡ None → words_between words.entry.now ≢ []) }
+{
+    let Some((variable, bounds)) = next_word(words) else {
+        return Err(Fault::Form(form));
+    };
+    if let Some(pairs) = pairs_from(alloc, bounds)? {
+        return Ok((variable, pairs));
+    }
+    match first_bad_number(bounds) {
+        Some(word) => Err(Fault::Number(word)),
+        None => Err(Fault::Form(form)),
+    }
+}
+
+/// The request of `go` and one word.
+fn go_on_from<'a>(word: &'a str) -> Result<Request<'a>, Fault<'a>>
+    ensures ok { IfOk result (λ request. only_on (word.now ∷ []) ≡ Some (asked_of request)) }
+    ensures refused { IfErr result (λ fault. only_on (word.now ∷ []) ≡ None) }
+    ensures fault { IfErr result (λ fault. told_of fault ≡ Some (no_form (codes "go on"))) }
+{
+    if word == "on" {
+        Ok(Request::GoOn)
+    } else {
+        Err(Fault::Form(GO_ON))
+    }
+}
+
+/// The number of narrowings, which is the only word.
+fn limit_from<'a>(words: &'a str) -> Result<u64, Fault<'a>>
+    ensures ok { IfOk result (λ n. limit_of (words_between words.entry.now) ≡ Some n) }
+    ensures refused { IfErr result (λ fault. limit_of (words_between words.entry.now) ≡ None) }
+    ensures fault { IfErr result (λ fault. told_of fault ≡ Some (why_no_limit (words_between words.entry.now))) }
+{
+    let Some(word) = one_word(words) else {
+        return Err(Fault::Form(LIMIT));
+    };
+    match natural_from(word) {
+        Some(limit) => Ok(limit),
+        None => Err(Fault::Number(word)),
+    }
+}
+
+/// The number that a word is, or `None` if it is not a number of `i64` from 0 up.
+fn natural_from(word: &str) -> Option<u64>
+    ensures { result ≡ natural_of word.now }
+{
+    u64::try_from(number_from(word)?).ok()
+}
+
+/// The first word that is not a number.
+fn first_bad_number(words: &str) -> Option<&str>
+    ensures { option_map (λ word. word.now) result ≡ first_bad_number_of (words_between words.entry.now) }
+{
+    let mut rest = words;
+    while let Some((word, after)) = next_word(rest) {
+        if number_from(word).is_none() {
+            return Some(word);
+        }
+        rest = after;
+    }
+    None
+}

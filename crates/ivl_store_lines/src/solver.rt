@@ -1,0 +1,272 @@
+//! The variables by name, their domains, and the sums that hold between them.
+ghost use Rattle.std.specs.Prelude.{◌≡◌, ◌∷◌, ◌++◌, ◌↔◌, ◌<◌, [], Some, All, Any, IfErr, IfOk, IfSome, IsSome, IsTrue, None, Ok, OnErr, OnOk, length, map, string_bytes};
+ghost use Rattle.ivl_laws.specs.Runs.{Covers, IsRunsOf};
+ghost use Rattle.ivl_laws.specs.Families.{set_at};
+ghost use Rattle.ivl_store.specs.Network.{IsCutAt, IsRequired};
+ghost use Rattle.ivl_store.specs.Solutions.{AreDistinct};
+ghost use Rattle.ivl_store_lines.specs.Faults.{told_of, unknown};
+ghost use Rattle.ivl_store_lines.specs.Requests.{asked_of, cut as cut_of, sum as sum_of, var as var_of};
+ghost use Rattle.ivl_store_lines.specs.Solving.{Adds, Carries, Cuts, Defines, Settles, fault_of, variable_named as index_in, range_fault};
+
+use crate::fault::Fault;
+use crate::progress::Progress;
+use crate::request::Request;
+use indexmap::IndexSet;
+use intervallum::interval::Interval;
+use intervallum::interval_set::{IntervalSet, ToIntervalSet};
+use intervallum::ops::IsEmpty;
+use ivl_store::network::{Network, Settled};
+use ivl_store::store::{Constraint, StoreFault};
+use std::alloc::{AllocError, Global};
+use std::marker::Model;
+
+/// The variables by name, their domains, and the sums that hold between them. A contract sees the
+/// three lists.
+#[derive(Drop)]
+pub struct Solver {
+    alloc: Global,
+    names: IndexSet<String>,
+    network: Network<i64>,
+    // Whether a domain is empty: kept, so that a new variable looks at its own domain alone.
+    some_empty: bool,
+    limit: u64,
+    progress: Progress,
+}
+
+impl Model for Solver {
+    ghost use Rattle.std.specs.Prelude.{length, map, string_bytes};
+    ghost use Rattle.ivl_store_lines.specs.Solving.{IsSound, State};
+
+    ghost Value = { State };
+
+    ghost view = { λ s. record { names = map string_bytes s.names.keys; domains = s.network.domains; constraints = s.network.constraints; limit = s.limit; progress = s.progress } };
+
+    ghost invariant = { λ s. IsSound (length s.names.keys) s.network.domains s.some_empty };
+}
+
+impl Solver {
+    /// Creates a solver without variables, whose lines may make a million narrowings each. Does not
+    /// allocate.
+    pub fn new(alloc: Global) -> Solver
+        ensures { result ≡ record { names = []; domains = []; constraints = []; limit = 1000000; progress = Progress.Complete } }
+    {
+        Solver {
+            alloc,
+            names: IndexSet::new(alloc),
+            network: Network::new(alloc),
+            some_empty: false,
+            limit: 1_000_000,
+            progress: Progress::Complete,
+        }
+    }
+
+    /// Returns the allocator.
+    pub fn allocator(&self) -> Global {
+        self.alloc
+    }
+
+    /// Carries out what a line asks for. A fault changes nothing.
+    pub fn carry_out<'a>(&mut self, request: Request<'a>) -> Result<(), Fault<'a>>
+        ensures carried { OnOk result (Carries (asked_of request.entry) self.old self.new) }
+        ensures no_fault { OnOk result (fault_of (asked_of request.entry) self.old ≡ None) }
+        ensures fault { IfErr result (λ fault. told_of fault ≡ fault_of (asked_of request.entry) self.old) }
+        ensures refused { OnErr result (self.new ≡ self.old) }
+    {
+        match request {
+            Request::Var(name, pairs) => self.define(name, &pairs),
+            Request::Cut(name, pairs) => self.cut(name, &pairs),
+            Request::Sum(x, y, z) => self.sum(x, y, z),
+            Request::Limit(limit) => {
+                self.limit = limit;
+                Ok(())
+            }
+            Request::GoOn => {
+                self.settle();
+                Ok(())
+            }
+            Request::Show => Ok(()),
+        }
+    }
+
+    /// Returns the names, in the order in which they were defined.
+    pub fn names(&self) -> &[String]
+        ensures { map string_bytes result.now ≡ self.now.names }
+    {
+        self.names.as_slice()
+    }
+
+    /// Returns the domains, in the order of the names.
+    pub fn domains(&self) -> &[IntervalSet<i64>]
+        ensures { result.now ≡ self.now.domains }
+    {
+        self.network.domains()
+    }
+
+    /// Returns true exactly when some domain is empty. `O(1)`.
+    pub fn has_empty(&self) -> bool
+        ensures { IsTrue result ↔ Any (λ L. L ≡ []) self.now.domains }
+    {
+        self.some_empty
+    }
+
+    /// Returns how far the domains are narrowed. `O(1)`.
+    pub fn progress(&self) -> Progress
+        ensures { result ≡ self.now.progress }
+    {
+        self.progress
+    }
+
+    /// Adds a variable, whose domain is the union of the pairs.
+    fn define<'a>(&mut self, name: &'a str, pairs: &[(i64, i64)]) -> Result<(), Fault<'a>>
+        ensures ok { OnOk result (Defines name.now pairs.now self.old self.new) }
+        ensures no_fault { OnOk result (fault_of (var_of name.now pairs.now) self.old ≡ None) }
+        ensures fault { IfErr result (λ fault. told_of fault ≡ fault_of (var_of name.now pairs.now) self.old) }
+        ensures err { OnErr result (self.new ≡ self.old) }
+    {
+        if self.index_of(name).is_some() {
+            return Err(Fault::Defined(name));
+        }
+        let domain = set_of(self.alloc, pairs)?;
+        self.add(name, domain)?;
+        Ok(())
+    }
+
+    /// Adds a variable. If allocation fails, nothing changes.
+    fn add(&mut self, name: &str, domain: IntervalSet<i64>) -> Result<(), AllocError>
+        requires { index_in self.old.names name.now ≡ None }
+        ensures ok { OnOk result (self.new ≡ record { names = self.old.names ++ name.now ∷ []; domains = self.old.domains ++ domain ∷ []; constraints = self.old.constraints; limit = self.old.limit; progress = self.old.progress }) }
+        ensures err { OnErr result (self.new ≡ self.old) }
+    {
+        let is_empty = domain.is_empty();
+        let count = self.names.len();
+        self.names.insert(String::from_str(self.alloc, name)?)?;
+        match self.network.add_variable(domain) {
+            Ok(_) => {
+                self.some_empty |= is_empty;
+                Ok(())
+            }
+            Err(error) => {
+                self.names.truncate(count);
+                Err(error)
+            }
+        }
+    }
+
+    /// Keeps the members of a domain that are in the union of the pairs.
+    fn cut<'a>(&mut self, name: &'a str, pairs: &[(i64, i64)]) -> Result<(), Fault<'a>>
+        ensures ok { OnOk result (Cuts name.now pairs.now self.old self.new) }
+        ensures no_fault { OnOk result (fault_of (cut_of name.now pairs.now) self.old ≡ None) }
+        ensures fault { IfErr result (λ fault. told_of fault ≡ fault_of (cut_of name.now pairs.now) self.old) }
+        ensures refused { OnErr result (self.new ≡ self.old) }
+    {
+        let variable = self.known(name)?;
+        let allowed = set_of(self.alloc, pairs)?;
+        self.restrict(variable, &allowed)?;
+        self.settle();
+        Ok(())
+    }
+
+    /// Requires that two variables add to a third.
+    fn sum<'a>(&mut self, x: &'a str, y: &'a str, z: &'a str) -> Result<(), Fault<'a>>
+        ensures ok { OnOk result (Adds x.now y.now z.now self.old self.new) }
+        ensures no_fault { OnOk result (fault_of (sum_of x.now y.now z.now) self.old ≡ None) }
+        ensures fault { IfErr result (λ fault. told_of fault ≡ fault_of (sum_of x.now y.now z.now) self.old) }
+        ensures refused { OnErr result (self.new ≡ self.old) }
+    {
+        let sum = Constraint {
+            x: self.known(x)?,
+            y: self.known(y)?,
+            z: self.known(z)?,
+        };
+        if !sum.distinct() {
+            return Err(Fault::Repeated(if sum.x == sum.y { x } else { z }));
+        }
+        self.require(sum)?;
+        self.settle();
+        Ok(())
+    }
+
+    /// The variable of a name.
+    fn known<'a>(&self, name: &'a str) -> Result<usize, Fault<'a>>
+        ensures ok { IfOk result (λ i. index_in self.now.names name.now ≡ Some i) }
+        ensures present { IfOk result (λ i. i < length self.now.domains) }
+        ensures none { IfErr result (λ fault. index_in self.now.names name.now ≡ None) }
+        ensures fault { IfErr result (λ fault. told_of fault ≡ Some (unknown name.now)) }
+    {
+        self.index_of(name).ok_or(Fault::Unknown(name))
+    }
+
+    /// The index of the variable that has this name, and so of its domain.
+    fn index_of(&self, name: &str) -> Option<usize>
+        ensures index { result ≡ index_in self.now.names name.now }
+        ensures present { IfSome result (λ i. i < length self.now.domains) }
+    {
+        self.names.get_index_of(name)
+    }
+
+    /// Cuts a domain. Others are not narrowed.
+    fn restrict(&mut self, variable: usize, allowed: &IntervalSet<i64>) -> Result<(), AllocError>
+        requires { variable < length self.old.domains }
+        ensures cut { OnOk result (IsCutAt variable (Covers allowed.now) (set_at self.old.domains) (set_at self.new.domains)) }
+        ensures others { (self.new.names ≡ self.old.names) × (self.new.constraints ≡ self.old.constraints) × (self.new.limit ≡ self.old.limit) }
+        ensures err { OnErr result (self.new ≡ self.old) }
+    {
+        match self.network.restrict(variable, allowed) {
+            Ok(()) => {
+                self.some_empty = self.network.has_empty();
+                Ok(())
+            }
+            Err(_) => Err(AllocError),
+        }
+    }
+
+    /// Adds a constraint. No domain is narrowed.
+    fn require(&mut self, sum: Constraint) -> Result<(), AllocError>
+        requires distinct { AreDistinct sum }
+        ensures required { OnOk result (IsRequired sum self.old.constraints self.new.constraints) }
+        ensures others { (self.new.names ≡ self.old.names) × (self.new.domains ≡ self.old.domains) × (self.new.limit ≡ self.old.limit) }
+        ensures err { OnErr result (self.new ≡ self.old) }
+    {
+        match self.network.require(sum) {
+            Ok(()) => Ok(()),
+            Err(_) => Err(AllocError),
+        }
+    }
+
+    /// Narrows the domains by the constraints, within the limit.
+    fn settle(&mut self)
+        ensures settled { Settles self.new.limit self.new.constraints self.old.domains self.new.domains self.new.progress }
+        ensures others { (self.new.names ≡ self.old.names) × (self.new.constraints ≡ self.old.constraints) × (self.new.limit ≡ self.old.limit) }
+    {
+        let reached = self.network.settle(self.limit);
+        self.progress = progress_of(reached);
+        self.some_empty = self.network.has_empty();
+    }
+}
+
+/// How far the domains are narrowed, by what a call reached.
+fn progress_of(reached: Result<Settled, StoreFault>) -> Progress
+    ensures complete { result ≡ Progress.Complete → reached ≡ Ok Settled.All }
+    ensures used_up { result ≡ Progress.Budget → reached ≡ Ok Settled.Unfinished }
+{
+    match reached {
+        Ok(Settled::All) => Progress::Complete,
+        Ok(Settled::Unfinished) => Progress::Budget,
+        Err(_) => Progress::Memory,
+    }
+}
+
+/// The union of the pairs; a reversed pair adds nothing.
+fn set_of<'a>(alloc: Global, pairs: &[(i64, i64)]) -> Result<IntervalSet<i64>, Fault<'a>>
+    ensures union { IfOk result (λ L. IsRunsOf L (Covers pairs.now)) }
+    ensures no_fault { OnOk result (range_fault pairs.now ≡ None) }
+    ensures fault { IfErr result (λ fault. told_of fault ≡ range_fault pairs.now) }
+{
+    if !pairs
+        .iter()
+        .all(|&(lower, upper)| Interval::in_range(lower, upper))
+    {
+        return Err(Fault::Range);
+    }
+    Ok(pairs.to_interval_set(alloc)?)
+}
