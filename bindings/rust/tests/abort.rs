@@ -1,16 +1,19 @@
 //! At the root a failed allocation aborts, as in std. The call is made in a process of its own.
 use intervallum::IntervalSet;
 use std::alloc::{GlobalAlloc, Layout, System};
+use std::cell::Cell;
 use std::process::Command;
-use std::sync::atomic::{AtomicBool, Ordering::SeqCst};
 
 struct Failing;
 
-static FAILS: AtomicBool = AtomicBool::new(false);
+// One for every thread: the harness allocates on its own thread while the test runs, and must not be refused.
+thread_local! {
+    static FAILS: Cell<bool> = const { Cell::new(false) };
+}
 
 unsafe impl GlobalAlloc for Failing {
     unsafe fn alloc(&self, layout: Layout) -> *mut u8 {
-        if FAILS.load(SeqCst) { std::ptr::null_mut() } else { unsafe { System.alloc(layout) } }
+        if FAILS.get() { std::ptr::null_mut() } else { unsafe { System.alloc(layout) } }
     }
 
     unsafe fn dealloc(&self, at: *mut u8, layout: Layout) {
@@ -24,9 +27,9 @@ static ALLOCATOR: Failing = Failing;
 #[test]
 fn the_root_aborts() {
     if std::env::var_os("FAIL_AT_THE_ROOT").is_some() {
-        FAILS.store(true, SeqCst);
+        FAILS.set(true);
         let set = IntervalSet::new(1, 2);
-        FAILS.store(false, SeqCst);
+        FAILS.set(false);
         panic!("made {set}");
     }
     let mut child = Command::new(std::env::current_exe().unwrap());

@@ -3,18 +3,26 @@
 use intervallum::proved::prelude::*;
 use intervallum::proved::{AllocError, Global};
 use std::alloc::{GlobalAlloc, Layout, System};
-use std::sync::atomic::{AtomicIsize, Ordering::SeqCst};
+use std::cell::Cell;
 
 struct Failing;
 
-static LEFT: AtomicIsize = AtomicIsize::new(-1);
-static FAILED: AtomicIsize = AtomicIsize::new(0);
+// One of each for every thread: the harness allocates on its own thread while a test runs, and must not be refused.
+thread_local! {
+    static LEFT: Cell<isize> = const { Cell::new(-1) };
+    static FAILED: Cell<isize> = const { Cell::new(0) };
+}
 
 fn fails() -> bool {
-    if LEFT.load(SeqCst) < 0 || LEFT.fetch_sub(1, SeqCst) > 0 {
+    let left = LEFT.get();
+    if left < 0 {
         return false;
     }
-    FAILED.fetch_add(1, SeqCst);
+    LEFT.set(left - 1);
+    if left > 0 {
+        return false;
+    }
+    FAILED.set(FAILED.get() + 1);
     true
 }
 
@@ -84,12 +92,12 @@ fn each_allocation_fails_in_turn() {
             let want = call(&mut old.try_clone().unwrap(), &b).unwrap();
             for at in 0.. {
                 let mut a = old.try_clone().unwrap();
-                FAILED.store(0, SeqCst);
-                LEFT.store(at, SeqCst);
+                FAILED.set(0);
+                LEFT.set(at);
                 let got = call(&mut a, &b);
-                LEFT.store(-1, SeqCst);
+                LEFT.set(-1);
                 calls += 1;
-                if FAILED.load(SeqCst) == 0 {
+                if FAILED.get() == 0 {
                     assert!(got == Ok(want), "{name}");
                     break;
                 }
