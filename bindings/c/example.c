@@ -59,10 +59,32 @@ static void signed_numbers(void) {
     expect(!ivl_run_at_sorted_i64(b, 2, 6, out) && out[0].lower == 3, "none holds 6");
     expect(ivl_first_fit_i64(a, 3, 3, out) == 1 && out[0].lower == 6 && out[0].upper == 8, "three in a row");
     expect(ivl_first_fit_i64(a, 3, 6, out) == 0 && ivl_first_fit_i64(a, 3, 0, out) == 0, "no six in a row");
+    expect(ivl_rank_i64(a, 3, 8, &size) == 0 && size == 4 && ivl_rank_i64(a, 3, INT64_MIN, &size) == 0 && size == 0, "four below 8");
+    expect(ivl_nth_i64(a, 3, 2, &next) == 1 && next == 6 && ivl_nth_i64(a, 3, 7, &next) == 0 && next == 6, "two below 6");
+    expect(ivl_rank_i64(low, 1, 8, &size) == IVL_OUT_OF_RANGE && size == 0, "the least value is outside");
+    expect(ivl_nth_i64(low, 1, 0, &next) == IVL_OUT_OF_RANGE && next == 6, "and nothing is written");
     expect(ivl_products_i64(a, 3, b, 2, out, 4) == 2 && out[0].upper == 14 && out[1].lower == 18, "products");
     expect(ivl_products_i64(a, 3, all, 1, out, 4) == IVL_PRODUCT_OUT_OF_RANGE, "a product is outside");
     expect(out[0].upper == 14, "nothing is written with it");
     expect(ivl_overlap_i64(a, 3, b, 2) == 1 && ivl_is_subset_i64(b, 2, a, 3) == 0, "they overlap");
+}
+
+/* Edits of a list in its own buffer. */
+static void edits(void) {
+    ivl_run_i64 runs[3] = {{1, 2}, {8, 9}, {77, 77}};
+    ivl_run_u64 ports[2] = {{5, 9}, {8, 12}};
+
+    expect(ivl_insert_i64(runs, 3, 2, 3, 5) == 2 && runs[0].upper == 5 && runs[1].lower == 8, "the first run is longer");
+    expect(runs[2].lower == 77, "the places after the runs stay");
+    expect(ivl_remove_i64(runs, 3, 2, 4, 4) == 3 && runs[0].upper == 3 && runs[1].lower == 5, "a run is split");
+    expect(ivl_remove_i64(runs, 3, 3, 2, 2) == 4 && runs[0].upper == 3, "what has no room is told, and not written");
+    expect(ivl_insert_i64(runs, 3, 3, INT64_MIN, 0) == IVL_OUT_OF_RANGE && runs[0].lower == 1, "the least value is outside");
+    expect(ivl_remove_i64(runs, 3, 3, INT64_MIN, 0) == IVL_OUT_OF_RANGE, "when it is removed, too");
+    expect(ivl_insert_i64(runs, 3, 3, 7, 6) == 3 && ivl_remove_i64(runs, 3, 3, 9, 1) == 3, "a crossed pair has no number");
+    expect(ivl_insert_i64(runs, 3, 9, 4, 7) == 1 && runs[0].lower == 1 && runs[0].upper == 9, "all pairs of the buffer");
+    expect(ivl_insert_i64(NULL, 0, 0, 1, 2) == 1 && ivl_remove_i64(NULL, 0, 0, 1, 2) == 0, "no buffer has no room");
+    expect(ivl_insert_u64(ports, 2, 2, 20, 20) == 2 && ports[0].upper == 12 && ports[1].lower == 20, "pairs that overlap are joined");
+    expect(ivl_remove_u64(ports, 2, 2, 0, UINT64_MAX - 1) == 0, "all are removed");
 }
 
 static void unsigned_numbers(void) {
@@ -82,6 +104,8 @@ static void unsigned_numbers(void) {
     expect(ivl_intersection_u64(a, 2, all, 1, out, 2) == 1, "all of it");
 
     uint64_t next = 0;
+    expect(ivl_rank_u64(a, 2, UINT64_MAX, &next) == 0 && next == 8, "eight members");
+    expect(ivl_nth_u64(all, 1, UINT64_MAX - 1, &next) == 1 && next == UINT64_MAX - 1, "the last one by its place");
     expect(ivl_next_from_u64(all, 1, UINT64_MAX - 1, &next) && next == UINT64_MAX - 1, "the last one");
     expect(!ivl_next_from_u64(all, 1, UINT64_MAX, &next), "none after it");
     expect(ivl_contains_sorted_u64(a, 2, 12) && !ivl_contains_sorted_u64(all, 1, UINT64_MAX), "12 is a member");
@@ -115,6 +139,7 @@ static void overlapping_arrays(void) {
     expect(ivl_union_i64(a, 2, a, 2, a + 1, 2) == IVL_OVERLAP && a[1].lower == 1, "the buffer overlaps a list");
     expect(ivl_union_i64(a, 2, a, 3, a + 2, 1) == IVL_OVERLAP && a[2].lower == 77, "or the other one");
     expect(ivl_normalize_i64(a, 2, a + 2, 1) == 2 && ivl_union_i64(a, 2, a, 2, out, 2) == 2, "the lists may be one");
+    expect(ivl_rank_i64(a, 2, 5, (uint64_t *)a) == IVL_OVERLAP && ivl_nth_i64(a, 2, 0, &a[1].upper) == IVL_OVERLAP, "so does a number");
     expect(ivl_first_fit_i64(a, 2, 2, a + 1) == IVL_OVERLAP && ivl_first_fit_i64(a, 2, 2, a + 2) == 1, "so does a run");
     expect(ivl_size_u64((const ivl_run_u64 *)sizes, 1, sizes + 1) == IVL_OVERLAP && sizes[1] == 9, "so does the size");
 }
@@ -122,6 +147,7 @@ static void overlapping_arrays(void) {
 
 int main(void) {
     signed_numbers();
+    edits();
     unsigned_numbers();
     null_pointers();
 #ifdef IVL_CHECKED

@@ -26,6 +26,7 @@ int main() {
     assert((none | a) == a && (none & a) == none && none.is_subset(a) && !a.overlaps(none));
     assert(a.contains(2) && !a.contains(3) && a.next_from(3) == 6 && !a.next_from(11));
     assert(a.previous_to(5) == 2 && !a.previous_to(0) && a.run_at(7)->upper == 10 && !a.run_at(3) && !none.run_at(0));
+    assert(a.rank(8) == 4 && a.nth(2) == 6 && !a.nth(99));
     assert(a.first_fit(3)->lower == 6 && !a.first_fit(6) && a.overlaps(signed_set{{10, 20}}));
     assert(signed_set({{1, 2}}).sums(signed_set{{10, 10}}) == signed_set({{11, 12}}));
     assert(signed_set({{1, 2}}).products(signed_set{{10, 10}}) == signed_set({{10, 20}}));

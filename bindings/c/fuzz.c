@@ -478,6 +478,62 @@ static void check_fit(input *in, const list *a) {
     check_inputs("first_fit", a, a);
 }
 
+/* How many members lie below a number, and the member with so many below it. */
+static void check_rank(input *in, const list *a) {
+    unsigned drawn = byte(in);
+    uint64_t v = drawn < 192 ? (uint64_t)(base + drawn % 64) : (uint64_t)1 << drawn % 64, below = 0, left = byte(in) % 66, i = left;
+    wide number = is_signed ? (wide)(int64_t)v : (wide)v, member = base;
+    uint64_t *found = place(2, 1, 0) + 1;
+    int64_t code = is_outside(a) ? IVL_OUT_OF_RANGE : 0;
+    const void *p = a->at;
+    void *to = found;
+
+    for (wide z = base; z < base + 64; z++)
+        below += z < number && has(a, z);
+    *found = 77;
+    int64_t told = is_signed ? ivl_rank_i64(p, a->count, (int64_t)v, found) : ivl_rank_u64(p, a->count, v, found);
+    check(told == code && *found == (code ? 77 : below), "rank", "the answer", a, a);
+    check_inputs("rank", a, a);
+
+    while (member < base + 64 && (!has(a, member) || left-- > 0))
+        member++;
+    bool is_there = !code && member < base + 64;
+    *found = 77;
+    told = is_signed ? ivl_nth_i64(p, a->count, i, to) : ivl_nth_u64(p, a->count, i, to);
+    check(told == (code ? code : is_there) && *found == (is_there ? (uint64_t)member : 77), "nth", "the answer", a, a);
+    check_inputs("nth", a, a);
+}
+
+/* A run is added to a list in its own buffer, or removed from it. */
+static void check_edit(input *in, const list *a, bool removes) {
+    const char *name = removes ? "remove" : "insert";
+    unsigned lower = byte(in) % 64, upper = byte(in) % 64, drawn = byte(in);
+    size_t room = a->count + drawn % 4, n = a->count + (drawn % 4 == 0 ? drawn / 4 : 0);
+    uint64_t *buffer = place(2, room, drawn & 128), before[2 * (MOST_RUNS + 4)];
+    list run = {.count = 0};
+    add(&run, lower, upper);
+
+    memset(before, 0x5a, sizeof before);
+    memcpy(before, a->words, 16 * a->count);
+    memcpy(buffer, before, 16 * room);
+    uint64_t low = run.words[0], high = run.words[1];
+    void *at = buffer;
+    int64_t told;
+    if (is_signed)
+        told = (removes ? ivl_remove_i64 : ivl_insert_i64)(at, room, n, (int64_t)low, (int64_t)high);
+    else
+        told = (removes ? ivl_remove_u64 : ivl_insert_u64)(at, room, n, low, high);
+    int64_t code = is_outside(a) || is_outside(&run) ? IVL_OUT_OF_RANGE : 0;
+    expect_spans(removes ? a->members & ~run.members : a->members | run.members, base);
+    check(told == (code ? code : (int64_t)count_expected), name, "the number of runs, or the code", a, &run);
+    for (size_t i = 0; !code && count_expected <= room && i < count_expected; i++) {
+        before[2 * i] = (uint64_t)expected[i].lower;
+        before[2 * i + 1] = (uint64_t)expected[i].upper;
+    }
+    check(memcmp(buffer, before, 16 * room) == 0, name, "the buffer", a, &run);
+    calls++;
+}
+
 /* Where the numbers of the flags begin. */
 static void choose(unsigned drawn) {
     const wide two_32 = (wide)1 << 32, two_62 = (wide)1 << 62, two_63 = (wide)1 << 63;
@@ -500,6 +556,9 @@ int LLVMFuzzerTestOneInput(const uint8_t *data, size_t size) {
     check_member(&in, &a);
     check_beside(&in, &a);
     check_fit(&in, &a);
+    check_rank(&in, &a);
+    check_edit(&in, &a, false);
+    check_edit(&in, &b, true);
     return 0;
 }
 

@@ -121,6 +121,22 @@ bool ivl_previous_to_sorted_i64(const ivl_run_i64 *a, size_t n, int64_t v, int64
    that is written, and false means only that nothing is written. O(log n), does not allocate, has no error code. */
 bool ivl_run_at_sorted_i64(const ivl_run_i64 *a, size_t n, int64_t v, ivl_run_i64 *IVL_RESTRICT found);
 
+/* Writes the number of members below `v` and returns 0, or returns an error code and writes nothing. `v` may be outside
+   the range. O(n log n). */
+int64_t ivl_rank_i64(const ivl_run_i64 *a, size_t n, int64_t v, uint64_t *IVL_RESTRICT found);
+
+/* Writes the member with exactly `i` members below it and returns 1. Otherwise writes nothing, and returns 0 if there
+   are no more than `i` members, or an error code. O(n log n). */
+int64_t ivl_nth_i64(const ivl_run_i64 *a, size_t n, uint64_t i, int64_t *IVL_RESTRICT found);
+
+/* Edit a list in its own buffer, which has room for `room` pairs. The list is the first `n` of them, or all if `n` is
+   greater. insert adds the numbers from `lower` to `upper` to its members, remove removes them; if `lower` is above
+   `upper` there are none. As a call that makes a set does, they return the number of runs of the result, and write
+   these to the start of the buffer if it has room for all. Numbers outside the range are IVL_OUT_OF_RANGE, for remove
+   too. O(n log n). */
+int64_t ivl_insert_i64(ivl_run_i64 *runs, size_t room, size_t n, int64_t lower, int64_t upper);
+int64_t ivl_remove_i64(ivl_run_i64 *runs, size_t room, size_t n, int64_t lower, int64_t upper);
+
 /* Writes the lowest `count` consecutive members as one run and returns 1. Otherwise writes nothing, and returns 0
    if there is no such run or `count` is 0, or an error code. O(n log n). */
 int64_t ivl_first_fit_i64(const ivl_run_i64 *a, size_t n, uint64_t count, ivl_run_i64 *IVL_RESTRICT found);
@@ -201,6 +217,22 @@ bool ivl_previous_to_sorted_u64(const ivl_run_u64 *a, size_t n, uint64_t v, uint
    that is written, and false means only that nothing is written. O(log n), does not allocate, has no error code. */
 bool ivl_run_at_sorted_u64(const ivl_run_u64 *a, size_t n, uint64_t v, ivl_run_u64 *IVL_RESTRICT found);
 
+/* Writes the number of members below `v` and returns 0, or returns an error code and writes nothing. `v` may be outside
+   the range. O(n log n). */
+int64_t ivl_rank_u64(const ivl_run_u64 *a, size_t n, uint64_t v, uint64_t *IVL_RESTRICT found);
+
+/* Writes the member with exactly `i` members below it and returns 1. Otherwise writes nothing, and returns 0 if there
+   are no more than `i` members, or an error code. O(n log n). */
+int64_t ivl_nth_u64(const ivl_run_u64 *a, size_t n, uint64_t i, uint64_t *IVL_RESTRICT found);
+
+/* Edit a list in its own buffer, which has room for `room` pairs. The list is the first `n` of them, or all if `n` is
+   greater. insert adds the numbers from `lower` to `upper` to its members, remove removes them; if `lower` is above
+   `upper` there are none. As a call that makes a set does, they return the number of runs of the result, and write
+   these to the start of the buffer if it has room for all. Numbers outside the range are IVL_OUT_OF_RANGE, for remove
+   too. O(n log n). */
+int64_t ivl_insert_u64(ivl_run_u64 *runs, size_t room, size_t n, uint64_t lower, uint64_t upper);
+int64_t ivl_remove_u64(ivl_run_u64 *runs, size_t room, size_t n, uint64_t lower, uint64_t upper);
+
 /* Writes the lowest `count` consecutive members as one run and returns 1. Otherwise writes nothing, and returns 0
    if there is no such run or `count` is 0, or an error code. O(n log n). */
 int64_t ivl_first_fit_u64(const ivl_run_u64 *a, size_t n, uint64_t count, ivl_run_u64 *IVL_RESTRICT found);
@@ -237,7 +269,11 @@ static inline bool ivl_has_common(const void *x, size_t x_size, const void *y, s
             return IVL_OVERLAP;                                                                                             \
         return ivl_first_fit_##type(a, n, count, found);                                                                    \
     }
-#define IVL_CHECKED_ALL(type)                                                                                               \
+#define IVL_CHECKED_FOUND(name, type, by, written)                                                                          \
+    static inline int64_t ivl_checked_##name##_##type(const ivl_run_##type *a, size_t n, by key, written *found) {          \
+        return ivl_has_common(found, sizeof *found, a, n * sizeof *a) ? IVL_OVERLAP : ivl_##name##_##type(a, n, key, found); \
+    }
+#define IVL_CHECKED_ALL(type, number)                                                                                       \
     IVL_CHECKED_ONE(normalize, type)                                                                                        \
     IVL_CHECKED_ONE(complement, type)                                                                                       \
     IVL_CHECKED_TWO(union, type)                                                                                            \
@@ -248,9 +284,11 @@ static inline bool ivl_has_common(const void *x, size_t x_size, const void *y, s
     IVL_CHECKED_TWO(differences, type)                                                                                      \
     IVL_CHECKED_TWO(products, type)                                                                                         \
     IVL_CHECKED_SIZE(type)                                                                                                  \
-    IVL_CHECKED_FIT(type)
-IVL_CHECKED_ALL(i64)
-IVL_CHECKED_ALL(u64)
+    IVL_CHECKED_FIT(type)                                                                                                   \
+    IVL_CHECKED_FOUND(rank, type, number, uint64_t)                                                                         \
+    IVL_CHECKED_FOUND(nth, type, uint64_t, number)
+IVL_CHECKED_ALL(i64, int64_t)
+IVL_CHECKED_ALL(u64, uint64_t)
 #define ivl_normalize_i64 ivl_checked_normalize_i64
 #define ivl_complement_i64 ivl_checked_complement_i64
 #define ivl_union_i64 ivl_checked_union_i64
@@ -262,6 +300,8 @@ IVL_CHECKED_ALL(u64)
 #define ivl_products_i64 ivl_checked_products_i64
 #define ivl_size_i64 ivl_checked_size_i64
 #define ivl_first_fit_i64 ivl_checked_first_fit_i64
+#define ivl_rank_i64 ivl_checked_rank_i64
+#define ivl_nth_i64 ivl_checked_nth_i64
 #define ivl_normalize_u64 ivl_checked_normalize_u64
 #define ivl_complement_u64 ivl_checked_complement_u64
 #define ivl_union_u64 ivl_checked_union_u64
@@ -273,6 +313,8 @@ IVL_CHECKED_ALL(u64)
 #define ivl_products_u64 ivl_checked_products_u64
 #define ivl_size_u64 ivl_checked_size_u64
 #define ivl_first_fit_u64 ivl_checked_first_fit_u64
+#define ivl_rank_u64 ivl_checked_rank_u64
+#define ivl_nth_u64 ivl_checked_nth_u64
 #endif
 
 #ifdef __cplusplus

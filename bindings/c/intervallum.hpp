@@ -44,6 +44,8 @@ template <class T> struct calls;
         static constexpr auto next_from = ivl_next_from_sorted_##name;                                                           \
         static constexpr auto previous_to = ivl_previous_to_sorted_##name;                                                       \
         static constexpr auto run_at = ivl_run_at_sorted_##name;                                                                 \
+        static constexpr auto rank = ivl_rank_##name;                                                                            \
+        static constexpr auto nth = ivl_nth_##name;                                                                              \
         static constexpr auto first_fit = ivl_first_fit_##name;                                                                  \
     }
 IVL_CALLS(std::int64_t, i64);
@@ -141,6 +143,17 @@ template <class T> class set {
     std::optional<run> run_at(T v) const {
         run found{};
         return call::run_at(at(), runs_.size(), v, &found) ? std::optional<run>(found) : std::nullopt;
+    }
+    // The number of members below `v`.
+    std::uint64_t rank(T v) const {
+        std::uint64_t found = 0;
+        checked(call::rank(at(), runs_.size(), v, &found));
+        return found;
+    }
+    // The member with exactly `i` members below it.
+    std::optional<T> nth(std::uint64_t i) const {
+        T found{};
+        return checked(call::nth(at(), runs_.size(), i, &found)) ? std::optional<T>(found) : std::nullopt;
     }
     // The lowest `count` consecutive members.
     std::optional<run> first_fit(std::uint64_t count) const {

@@ -75,6 +75,42 @@ static int64_t first_fit(const ivl_run_i64 *a, size_t n, const ivl_run_i64 *b, s
     return ivl_first_fit_i64(a, n, 2, out);
 }
 
+static int64_t rank(const ivl_run_i64 *a, size_t n, const ivl_run_i64 *b, size_t m, ivl_run_i64 *out, size_t room) {
+    (void)b, (void)m, (void)room;
+    uint64_t found = (uint64_t)out[0].lower;
+    int64_t told = ivl_rank_i64(a, n, 40, &found);
+    out[0].lower = (int64_t)found;
+    return told;
+}
+
+static int64_t nth(const ivl_run_i64 *a, size_t n, const ivl_run_i64 *b, size_t m, ivl_run_i64 *out, size_t room) {
+    (void)b, (void)m, (void)room;
+    return ivl_nth_i64(a, n, 3, &out[0].lower);
+}
+
+/* The list in the buffer is changed only by a call that answers; what it had is put back for the comparison. */
+static int64_t edited(int64_t edit(ivl_run_i64 *, size_t, size_t, int64_t, int64_t), const ivl_run_i64 *a, size_t n, ivl_run_i64 *out) {
+    ivl_run_i64 runs[ROOM];
+    memcpy(runs, out, sizeof runs);
+    memcpy(runs, a, n * sizeof *a);
+    int64_t told = edit(runs, ROOM, n, 33, 34);
+    if (told >= 0)
+        memcpy(out, runs, sizeof runs);
+    else if (memcmp(runs, a, n * sizeof *a) != 0)
+        out[0].lower = 0;
+    return told;
+}
+
+static int64_t insert(const ivl_run_i64 *a, size_t n, const ivl_run_i64 *b, size_t m, ivl_run_i64 *out, size_t room) {
+    (void)b, (void)m, (void)room;
+    return edited(ivl_insert_i64, a, n, out);
+}
+
+static int64_t remove_run(const ivl_run_i64 *a, size_t n, const ivl_run_i64 *b, size_t m, ivl_run_i64 *out, size_t room) {
+    (void)b, (void)m, (void)room;
+    return edited(ivl_remove_i64, a, n, out);
+}
+
 static const struct {
     const char *name;
     call *made;
@@ -83,6 +119,7 @@ static const struct {
     {"symmetric_difference", ivl_symmetric_difference_i64}, {"sums", ivl_sums_i64}, {"differences", ivl_differences_i64},
     {"products", ivl_products_i64}, {"normalize", normalize}, {"complement", complement}, {"is_subset", is_subset},
     {"overlap", overlap}, {"equal", equal}, {"size", size_of}, {"first_fit", first_fit},
+    {"rank", rank}, {"nth", nth}, {"insert", insert}, {"remove", remove_run},
 };
 
 /* No list is in order, so that each has to be sorted. */

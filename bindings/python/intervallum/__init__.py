@@ -85,7 +85,9 @@ _SHAPES: dict[str, list[Any]] = {
     "contains": _ONE + ["number"], "contains_sorted": _ONE + ["number"],
     "next_from": _ONE + ["number", ctypes.c_void_p], "next_from_sorted": _ONE + ["number", ctypes.c_void_p],
     "previous_to_sorted": _ONE + ["number", ctypes.c_void_p], "run_at_sorted": _ONE + ["number", ctypes.c_void_p],
-    "first_fit": _ONE + [ctypes.c_uint64, ctypes.c_void_p],
+    "first_fit": _ONE + [ctypes.c_uint64, ctypes.c_void_p], "rank": _ONE + ["number", ctypes.c_void_p],
+    "nth": _ONE + [ctypes.c_uint64, ctypes.c_void_p], "insert": _ONE + [ctypes.c_size_t, "number", "number"],
+    "remove": _ONE + [ctypes.c_size_t, "number", "number"],
 }
 _Call = Callable[..., int]
 
@@ -113,6 +115,10 @@ class _Bounds:
     previous_to_sorted: _Call
     run_at_sorted: _Call
     first_fit: _Call
+    rank: _Call
+    nth: _Call
+    insert: _Call
+    remove: _Call
 
     def __init__(self, library: ctypes.CDLL, name: Bounds, number: type[Any]) -> None:
         class Run(ctypes.Structure):

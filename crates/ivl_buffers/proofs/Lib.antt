@@ -11,3 +11,5 @@ pub mod Intersections
 pub mod Differences
 pub mod Unions
 pub mod Previous
+pub mod SameRanks
+pub mod EditedSets

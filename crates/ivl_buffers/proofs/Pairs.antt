@@ -35,7 +35,7 @@ normal_open p o = let e : int_lt p.1 p.0 ≡ false = no p.1 p.0 o in rw e refl
     no : (a b : ℤ) → b ≤ℤ a → int_lt a b ≡ false
     no a b h = grind (arith, ints)
 
-normal_members : (p : ℤ × ℤ) → SameMembers (IsBetween (normal_pair p)) (IsBetween p)
+pub normal_members : (p : ℤ × ℤ) → SameMembers (IsBetween (normal_pair p)) (IsBetween p)
 normal_members p =
     let P : ℤ × ℤ → Type 0 = λ q. SameMembers (IsBetween q) (IsBetween p) in
     by_lt_z p.1 p.0 (λ lt. subst P (sym (normal_crossed p lt)) (none_in lt)) (λ le. subst P (sym (normal_open p le)) (λ z. ((λ b. b), (λ b. b))))

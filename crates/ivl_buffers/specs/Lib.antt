@@ -6,3 +6,5 @@ pub mod Products
 pub mod Lookup
 pub mod Merging
 pub mod Beside
+pub mod Rank
+pub mod Edits

@@ -11,9 +11,11 @@
 
 pub mod beside;
 pub mod comparisons;
+pub mod edits;
 pub mod lookup;
 pub mod merging;
 pub mod products;
+pub mod rank;
 pub mod reading;
 pub mod run;
 pub mod run_lists;

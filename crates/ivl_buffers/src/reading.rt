@@ -25,7 +25,7 @@ pub fn are_inside<R: Run>(runs: &[R]) -> bool
 }
 
 /// True exactly when each member of the pair is in the range.
-fn is_inside<R: Run>(run: R) -> bool
+pub(crate) fn is_inside<R: Run>(run: R) -> bool
     ensures { IsTrue result ↔ IsSubset (IsBetween (R.pair run)) (IsBetween R.Bound.whole) }
 {
     is_crossed(run) || Interval::in_range(run.lower(), run.upper())
@@ -51,7 +51,7 @@ pub fn set_of<R: Run>(alloc: Global, runs: &[R]) -> Result<IntervalSet<R::Bound>
 }
 
 /// The interval with the members of the pair.
-fn interval_of<R: Run>(run: R) -> Interval<R::Bound>
+pub(crate) fn interval_of<R: Run>(run: R) -> Interval<R::Bound>
     requires { IsSubset (IsBetween (R.pair run)) (IsBetween R.Bound.whole) }
     ensures { result ≡ normal_pair (R.pair run) }
 {

@@ -1,15 +1,18 @@
 //! The calls over i64, whose sets range from `-INT64_MAX` to `INT64_MAX`.
-ghost use Rattle.std.specs.Prelude.{◌≡◌, ◌↔◌, false, IsTrue};
+ghost use Rattle.std.specs.Prelude.{◌≡◌, ◌↔◌, false, IsTrue, take};
 ghost use Rattle.ivl_laws.specs.Sets.{AtLeast, AtMost, Complement, Differences, HasSome, Intersection, IsBetween, IsSubset, SameMembers, Sums, SymmetricDifference, Union, Without};
-ghost use Rattle.ivl_laws.specs.Runs.{IsMaximal};
+ghost use Rattle.ivl_laws.specs.Runs.{Covers, IsMaximal};
 ghost use Rattle.ivl_buffers.specs.Answers.{AnswersProducts, AnswersQuestion, AnswersSet, AnswersSize};
 ghost use Rattle.ivl_buffers.specs.Beside.{AnswersPrevious, AnswersRun};
 ghost use Rattle.ivl_buffers.specs.Lookup.{AnswersFit, AnswersNext};
+ghost use Rattle.ivl_buffers.specs.Rank.{AnswersNth, AnswersRank};
 ghost use Rattle.ivl_buffers.specs.Lists.{IsInOrder, members_i64, pair_i64, pairs_i64, whole_i64};
 
 use ivl_buffers::comparisons::{Asking, ask, count};
+use ivl_buffers::edits::{Editing, edit};
 use ivl_buffers::lookup::{first_fit, next_from};
 use ivl_buffers::products::products;
+use ivl_buffers::rank::{nth, rank};
 use ivl_buffers::run::RunI64;
 use ivl_buffers::set_calls::{OfOne, OfTwo, of_one, of_two};
 use ivl_buffers::sums::{Adding, of_members};
@@ -240,4 +243,53 @@ pub extern "C" fn ivl_first_fit_i64(
     ensures { AnswersFit whole_i64 count (members_i64 a.now) (pair_i64 found.old) (pair_i64 found.new) result }
 {
     first_fit(alloc, a, count, found)
+}
+
+/// Writes the number of members below `v`, and returns 0. `O(n log n)`.
+#[unsafe(no_mangle)]
+pub extern "C" fn ivl_rank_i64(alloc: Global, a: &[RunI64], v: i64, found: &mut u64) -> i64
+    ensures { AnswersRank whole_i64 v (members_i64 a.now) found.old found.new result }
+{
+    rank(alloc, a, v, found)
+}
+
+/// Writes the member with exactly `i` members below it and returns 1, or returns 0 if there is none.
+/// `O(n log n)`.
+#[unsafe(no_mangle)]
+pub extern "C" fn ivl_nth_i64(alloc: Global, a: &[RunI64], i: u64, found: &mut i64) -> i64
+    ensures { AnswersNth whole_i64 i (members_i64 a.now) found.old found.new result }
+{
+    nth(alloc, a, i, found)
+}
+
+/// Adds the numbers from `lower` to `upper` to the first `n` pairs of a buffer, and writes the runs
+/// to the same buffer. `O(n log n)`.
+#[unsafe(no_mangle)]
+pub extern "C" fn ivl_insert_i64(
+    alloc: Global,
+    runs: &mut [RunI64],
+    n: usize,
+    lower: i64,
+    upper: i64,
+) -> i64
+    ensures { AnswersSet whole_i64 (Union (Covers (take n (pairs_i64 runs.old))) (IsBetween (lower, upper)))
+        (Union (Covers (take n (pairs_i64 runs.old))) (IsBetween (lower, upper))) (pairs_i64 runs.old) (pairs_i64 runs.new) result }
+{
+    edit(alloc, Editing::Insert, runs, n, RunI64 { lower, upper })
+}
+
+/// Removes the numbers from `lower` to `upper` from the first `n` pairs of a buffer, and writes the
+/// runs to the same buffer. `O(n log n)`.
+#[unsafe(no_mangle)]
+pub extern "C" fn ivl_remove_i64(
+    alloc: Global,
+    runs: &mut [RunI64],
+    n: usize,
+    lower: i64,
+    upper: i64,
+) -> i64
+    ensures { AnswersSet whole_i64 (Union (Covers (take n (pairs_i64 runs.old))) (IsBetween (lower, upper)))
+        (Without (Covers (take n (pairs_i64 runs.old))) (IsBetween (lower, upper))) (pairs_i64 runs.old) (pairs_i64 runs.new) result }
+{
+    edit(alloc, Editing::Remove, runs, n, RunI64 { lower, upper })
 }

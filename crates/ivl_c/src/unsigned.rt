@@ -1,15 +1,18 @@
 //! The calls over u64, whose sets range from 0 to `UINT64_MAX - 1`.
-ghost use Rattle.std.specs.Prelude.{◌≡◌, ◌↔◌, false, IsTrue, pos};
+ghost use Rattle.std.specs.Prelude.{◌≡◌, ◌↔◌, false, IsTrue, pos, take};
 ghost use Rattle.ivl_laws.specs.Sets.{AtLeast, AtMost, Complement, Differences, HasSome, Intersection, IsBetween, IsSubset, SameMembers, Sums, SymmetricDifference, Union, Without};
-ghost use Rattle.ivl_laws.specs.Runs.{IsMaximal};
+ghost use Rattle.ivl_laws.specs.Runs.{Covers, IsMaximal};
 ghost use Rattle.ivl_buffers.specs.Answers.{AnswersProducts, AnswersQuestion, AnswersSet, AnswersSize};
 ghost use Rattle.ivl_buffers.specs.Beside.{AnswersPrevious, AnswersRun};
 ghost use Rattle.ivl_buffers.specs.Lookup.{AnswersFit, AnswersNext};
+ghost use Rattle.ivl_buffers.specs.Rank.{AnswersNth, AnswersRank};
 ghost use Rattle.ivl_buffers.specs.Lists.{IsInOrder, members_u64, pair_u64, pairs_u64, whole_u64};
 
 use ivl_buffers::comparisons::{Asking, ask, count};
+use ivl_buffers::edits::{Editing, edit};
 use ivl_buffers::lookup::{first_fit, next_from};
 use ivl_buffers::products::products;
+use ivl_buffers::rank::{nth, rank};
 use ivl_buffers::run::RunU64;
 use ivl_buffers::set_calls::{OfOne, OfTwo, of_one, of_two};
 use ivl_buffers::sums::{Adding, of_members};
@@ -240,4 +243,53 @@ pub extern "C" fn ivl_first_fit_u64(
     ensures { AnswersFit whole_u64 count (members_u64 a.now) (pair_u64 found.old) (pair_u64 found.new) result }
 {
     first_fit(alloc, a, count, found)
+}
+
+/// Writes the number of members below `v`, and returns 0. `O(n log n)`.
+#[unsafe(no_mangle)]
+pub extern "C" fn ivl_rank_u64(alloc: Global, a: &[RunU64], v: u64, found: &mut u64) -> i64
+    ensures { AnswersRank whole_u64 (pos v) (members_u64 a.now) found.old found.new result }
+{
+    rank(alloc, a, v, found)
+}
+
+/// Writes the member with exactly `i` members below it and returns 1, or returns 0 if there is none.
+/// `O(n log n)`.
+#[unsafe(no_mangle)]
+pub extern "C" fn ivl_nth_u64(alloc: Global, a: &[RunU64], i: u64, found: &mut u64) -> i64
+    ensures { AnswersNth whole_u64 i (members_u64 a.now) (pos found.old) (pos found.new) result }
+{
+    nth(alloc, a, i, found)
+}
+
+/// Adds the numbers from `lower` to `upper` to the first `n` pairs of a buffer, and writes the runs
+/// to the same buffer. `O(n log n)`.
+#[unsafe(no_mangle)]
+pub extern "C" fn ivl_insert_u64(
+    alloc: Global,
+    runs: &mut [RunU64],
+    n: usize,
+    lower: u64,
+    upper: u64,
+) -> i64
+    ensures { AnswersSet whole_u64 (Union (Covers (take n (pairs_u64 runs.old))) (IsBetween (pos lower, pos upper)))
+        (Union (Covers (take n (pairs_u64 runs.old))) (IsBetween (pos lower, pos upper))) (pairs_u64 runs.old) (pairs_u64 runs.new) result }
+{
+    edit(alloc, Editing::Insert, runs, n, RunU64 { lower, upper })
+}
+
+/// Removes the numbers from `lower` to `upper` from the first `n` pairs of a buffer, and writes the
+/// runs to the same buffer. `O(n log n)`.
+#[unsafe(no_mangle)]
+pub extern "C" fn ivl_remove_u64(
+    alloc: Global,
+    runs: &mut [RunU64],
+    n: usize,
+    lower: u64,
+    upper: u64,
+) -> i64
+    ensures { AnswersSet whole_u64 (Union (Covers (take n (pairs_u64 runs.old))) (IsBetween (pos lower, pos upper)))
+        (Without (Covers (take n (pairs_u64 runs.old))) (IsBetween (pos lower, pos upper))) (pairs_u64 runs.old) (pairs_u64 runs.new) result }
+{
+    edit(alloc, Editing::Remove, runs, n, RunU64 { lower, upper })
 }

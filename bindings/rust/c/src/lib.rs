@@ -7,10 +7,11 @@
 
 use intervallum::proved::Global;
 use intervallum::proved::ivl_buffers::comparisons::{Asking, ask, count};
+use intervallum::proved::ivl_buffers::edits::{Editing, edit};
 use intervallum::proved::ivl_buffers::products::products;
 use intervallum::proved::ivl_buffers::set_calls::{OfOne, OfTwo, of_one, of_two};
 use intervallum::proved::ivl_buffers::sums::{Adding, of_members};
-use intervallum::proved::ivl_buffers::{beside, lookup, reading, sorted_lookup};
+use intervallum::proved::ivl_buffers::{beside, lookup, rank as by_rank, reading, sorted_lookup};
 use std::slice;
 
 /// The caller's list.
@@ -68,6 +69,30 @@ macro_rules! calls {
             unsafe extern "C" fn size(a: *const Run, n: usize, size: *mut u64) -> i64 {
                 let (a, size) = unsafe { (list(a, n), &mut *size) };
                 count(Global, a, size)
+            }
+
+            #[unsafe(export_name = concat!("ivl_rank_", $suffix))]
+            unsafe extern "C" fn rank(a: *const Run, n: usize, v: $bound, found: *mut u64) -> i64 {
+                let (a, found) = unsafe { (list(a, n), &mut *found) };
+                by_rank::rank(Global, a, v, found)
+            }
+
+            #[unsafe(export_name = concat!("ivl_nth_", $suffix))]
+            unsafe extern "C" fn nth(a: *const Run, n: usize, i: u64, found: *mut $bound) -> i64 {
+                let (a, found) = unsafe { (list(a, n), &mut *found) };
+                by_rank::nth(Global, a, i, found)
+            }
+
+            #[unsafe(export_name = concat!("ivl_insert_", $suffix))]
+            unsafe extern "C" fn insert(runs: *mut Run, room: usize, n: usize, lower: $bound, upper: $bound) -> i64 {
+                let runs = unsafe { buffer(runs, room) };
+                edit(Global, Editing::Insert, runs, n, Run { lower, upper })
+            }
+
+            #[unsafe(export_name = concat!("ivl_remove_", $suffix))]
+            unsafe extern "C" fn remove(runs: *mut Run, room: usize, n: usize, lower: $bound, upper: $bound) -> i64 {
+                let runs = unsafe { buffer(runs, room) };
+                edit(Global, Editing::Remove, runs, n, Run { lower, upper })
             }
 
             #[unsafe(export_name = concat!("ivl_first_fit_", $suffix))]

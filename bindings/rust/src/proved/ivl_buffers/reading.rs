@@ -29,7 +29,7 @@ pub fn are_inside<R: Run>(runs: &[R]) -> bool {
 }
 
 /// True exactly when each member of the pair is in the range.
-fn is_inside<R: Run>(run: R) -> bool {
+pub(crate) fn is_inside<R: Run>(run: R) -> bool {
     is_crossed(run) || Interval::in_range(run.lower(), run.upper())
 }
 
@@ -57,7 +57,7 @@ pub fn set_of<R: Run>(alloc: Global, runs: &[R]) -> Result<IntervalSet<R::Bound>
 }
 
 /// The interval with the members of the pair.
-fn interval_of<R: Run>(run: R) -> Interval<R::Bound> {
+pub(crate) fn interval_of<R: Run>(run: R) -> Interval<R::Bound> {
     if is_crossed(run) {
         Interval::new(R::Bound::one(), R::Bound::zero())
     } else {
