@@ -13,3 +13,4 @@ pub mod Unions
 pub mod Previous
 pub mod SameRanks
 pub mod EditedSets
+pub mod Counted

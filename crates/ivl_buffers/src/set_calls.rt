@@ -9,7 +9,7 @@ ghost use Rattle.ivl_buffers.specs.Merging.{IsLaid};
 use crate::merging::{difference, intersection, union};
 use crate::reading::{are_inside, set_of};
 use crate::run::Run;
-use crate::run_lists::is_run_list;
+use crate::run_lists::can_walk;
 use crate::writing::{OUT_OF_RANGE, tell};
 use intervallum::interval_set::IntervalSet;
 use intervallum::ops::{Complement, Difference, Intersection, SymmetricDifference, Union};
@@ -97,9 +97,6 @@ fn made_of_two<R: Run>(
     }
 }
 
-/// The most runs of a list that is merged, so that the number of runs of an answer fits `i64`.
-const MOST_RUNS: usize = 1 << 61;
-
 /// True only if both lists are lists of runs, and one walk over both makes the answer.
 fn is_merged<R: Run>(making: OfTwo, a: &[R], b: &[R]) -> bool
     ensures making { IsTrue result → IsOneWalk making }
@@ -107,11 +104,7 @@ fn is_merged<R: Run>(making: OfTwo, a: &[R], b: &[R]) -> bool
     ensures second { IsTrue result → IsRunListIn R.Bound.whole (map R.pair b.now) }
     ensures counted { IsTrue result → length a.now + length b.now < 2 ^ 63 }
 {
-    !matches!(making, OfTwo::OneAlone)
-        && a.len() <= MOST_RUNS
-        && b.len() <= MOST_RUNS
-        && is_run_list(a)
-        && is_run_list(b)
+    !matches!(making, OfTwo::OneAlone) && can_walk(a) && can_walk(b)
 }
 
 /// Writes what is made of two run lists, and returns its number of runs. If there may be too little
