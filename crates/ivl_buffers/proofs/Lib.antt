@@ -14,3 +14,4 @@ pub mod Previous
 pub mod SameRanks
 pub mod EditedSets
 pub mod Counted
+pub mod Complements
