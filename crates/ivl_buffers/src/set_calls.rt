@@ -89,9 +89,9 @@ fn walk_rest<R: Run>(a: &[R], out: &mut [R]) -> i64
     if a.len() < out.len() {
         return complement(a, out) as i64;
     }
-    let count = complement(a, &mut out[..0]);
-    if out.len() < count {
-        return count as i64;
+    let total = complement(a, &mut out[..0]);
+    if out.len() < total {
+        return total as i64;
     }
     complement(a, out) as i64
 }

@@ -18,11 +18,11 @@ pub returns : goal.returns
 returns g c =
     let pair = g.R.Run.pair in
     let S = Complement g.R.Bound.Width.whole (Covers (map pair c.args.a.now)) in
-    let old = same_room pair S _ c.complement-count.new.out c.args.out.now c.complement-count.result refl c.complement-count.ensures.runs in
+    let old = same_room pair S _ c.complement-total.new.out c.args.out.now c.complement-total.result refl c.complement-total.ensures.runs in
     let same = length-map c.args.out.now pair in
-    let h = c.if-out-count.false in
+    let h = c.if-out-total.false in
     let longer = ap length old in
     let most = c.complement-2.ensures.at_most in
-    let again = counts_agree S _ _ _ _ c.complement-count.result c.complement-2.result c.complement-count.ensures.runs c.complement-2.ensures.runs in
+    let again = counts_agree S _ _ _ _ c.complement-total.result c.complement-2.result c.complement-total.ensures.runs c.complement-2.ensures.runs in
     laid_is_written S _ _ c.complement-2.result _ (to_z_pos w64 c.complement-2.result (let few = c.requires.counted in omega (arith, few, most))) (omega (arith, same, h, longer, again))
     (subst (λ room. (L : List (ℤ × ℤ)) × IsLaid S (map pair room) (map pair c.complement-2.new.out) c.complement-2.result L) old c.complement-2.ensures.runs)
