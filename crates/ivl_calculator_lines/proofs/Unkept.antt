@@ -2,7 +2,7 @@
 use Rattle.std.proofs.Common.{◌≡◌, ◌∙◌, ℕ, ℤ, Bool, true, false, List, [], ◌∷◌, Option, None, Some, inl, inr, refl, sym, ap, arith, length, ◌<◌, rules}
 use Rattle.std.specs.Prelude.{◌&&◌, ◌≤ℤ◌, All, int_le, nat_lt, option_map}
 use Rattle.std.specs.List.{list_all}
-use Rattle.std.proofs.lemmas.Bool.{and_parts, cases_Bool, both_ways}
+use Rattle.std.proofs.lemmas.Bool.{and_from, and_parts, cases_Bool, both_ways}
 use Rattle.std.proofs.lemmas.Bool.Decides.{nat_tests}
 use Rattle.std.proofs.lemmas.Int.{ints}
 use Rattle.std.proofs.lemmas.List.Elements.{All-cons, All-head, All-nil, All-tail}
@@ -74,17 +74,13 @@ read_no_pairs words rest first named r told at_first read_name some_name read_re
 
 -- ---- why it is refused
 
-both_true : (a b : Bool) → a ≡ true → b ≡ true → (a && b) ≡ true
-both_true true b h k = k
-both_true false b h k = absurd (cc)
-
 in_range_from : (p : ℤ × ℤ) → is_in_range p ≡ true → IsInRange i64_range p
 in_range_from p h =
     let parts = and_parts (int_le i64_range.0 p.0) (int_le p.1 i64_range.1) h in
     (le_true _ _ parts.0, le_true _ _ parts.1)
 
 to_in_range : (p : ℤ × ℤ) → IsInRange i64_range p → is_in_range p ≡ true
-to_in_range p h = both_true _ _ (true_le _ _ h.0) (true_le _ _ h.1)
+to_in_range p h = and_from _ _ (true_le _ _ h.0) (true_le _ _ h.1)
 
 all_in : (list : List (ℤ × ℤ)) → list_all is_in_range list ≡ true → All (IsInRange i64_range) list
 all_in [] h = All-nil (IsInRange i64_range)
@@ -92,7 +88,7 @@ all_in (p ∷ list) h = let parts = and_parts _ _ h in All-cons (IsInRange i64_r
 
 all_from : (list : List (ℤ × ℤ)) → All (IsInRange i64_range) list → list_all is_in_range list ≡ true
 all_from [] h = refl
-all_from (p ∷ list) h = both_true _ _ (to_in_range p (All-head (IsInRange i64_range) p list h)) (all_from list (All-tail (IsInRange i64_range) p list h))
+all_from (p ∷ list) h = and_from _ _ (to_in_range p (All-head (IsInRange i64_range) p list h)) (all_from list (All-tail (IsInRange i64_range) p list h))
 
 not_below : (r count : ℕ) → nat_lt r count ≡ false → r < count → ⊥
 not_below r count h k = both_ways (nat_lt r count) h (grind (arith, nat_tests))

@@ -2,7 +2,7 @@
 use Rattle.std.proofs.Common.{◌≡◌, ◌↔◌, ◌⊎◌, ℕ, zero, suc, ◌≤◌, ◌<◌, inl, inr, refl, sym, subst, arith, cond, Bool, true, false, List, [], ◌∷◌}
 use Rattle.std.specs.Prelude.{ℤ, pos, ◌+ℤ◌, ◌≤ℤ◌, ◌<ℤ◌, int_le, ◌&&◌, ◌||◌}
 use Rattle.std.proofs.lemmas.Int.{ints, by_lt_z}
-use Rattle.std.proofs.lemmas.Bool.{cases_Bool, or_cases, and_parts, both_ways}
+use Rattle.std.proofs.lemmas.Bool.{and_from, cases_Bool, or_cases, and_parts, both_ways}
 use Rattle.ivl_laws.specs.Runs.{Covers}
 use Rattle.ivl_store.specs.Measure.{covers, count_from}
 use Rattle.ivl_laws.proofs.Orders.{le_true, true_le}
@@ -18,10 +18,6 @@ or_right : (x y : Bool) → y ≡ true → (x || y) ≡ true
 or_right true y h = refl
 or_right false y h = h
 
-and_both : (x y : Bool) → x ≡ true → y ≡ true → (x && y) ≡ true
-and_both true y h k = k
-and_both false y h k = absurd (cc)
-
 pub covers-is : (runs : List (ℤ × ℤ)) (z : ℤ) → covers runs z ≡ true ↔ Covers runs z
 covers-is [] z = ((λ h. absurd (both_ways false refl h)), (λ h. absurd h))
 covers-is (run ∷ runs) z = (
@@ -30,7 +26,7 @@ covers-is (run ∷ runs) z = (
     | inr k ↦ inr ((covers-is runs z).0 k)
   ]),
   (λ h. elim h [
-    | inl k ↦ or_left _ _ (and_both _ _ (true_le _ _ k.0) (true_le _ _ k.1))
+    | inl k ↦ or_left _ _ (and_from _ _ (true_le _ _ k.0) (true_le _ _ k.1))
     | inr k ↦ or_right (int_le run.0 z && int_le z run.1) _ ((covers-is runs z).1 k)
   ]),
 )

@@ -1,0 +1,5 @@
+use Rattle.std.proofs.Common.{rules}
+use Rattle.ivl_c.proofs.signed.ivl_remove_i64.Goals as goal
+
+pub returns : goal.returns
+returns c = search rules
