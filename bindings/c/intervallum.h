@@ -54,7 +54,8 @@ typedef struct {
 } ivl_run_i64;
 
 /* Make a set of one list. O(n log n).
-   normalize: its members; complement: the other numbers of the range. */
+   normalize: its members; complement: the other numbers of the range, O(n) and without an allocation if the list is
+   one of runs, as for union. */
 int64_t ivl_normalize_i64(const ivl_run_i64 *a, size_t n, ivl_run_i64 *IVL_RESTRICT out, size_t room);
 int64_t ivl_complement_i64(const ivl_run_i64 *a, size_t n, ivl_run_i64 *IVL_RESTRICT out, size_t room);
 
@@ -79,7 +80,8 @@ int64_t ivl_differences_i64(const ivl_run_i64 *a, size_t n, const ivl_run_i64 *b
    O(n m log (n m)). */
 int64_t ivl_products_i64(const ivl_run_i64 *a, size_t n, const ivl_run_i64 *b, size_t m, ivl_run_i64 *IVL_RESTRICT out, size_t room);
 
-/* Compare two lists: 1 for yes, 0 for no, or an error code. O(n log n + m log m).
+/* Compare two lists: 1 for yes, 0 for no, or an error code. O(n log n + m log m); O(n + m), and without an allocation,
+   if both lists are lists of runs, as for union.
    is_subset: each member of `a` is one of `b`; overlap: some number is a member of both;
    equal: the members are the same. */
 int64_t ivl_is_subset_i64(const ivl_run_i64 *a, size_t n, const ivl_run_i64 *b, size_t m);
@@ -150,7 +152,8 @@ typedef struct {
 } ivl_run_u64;
 
 /* Make a set of one list. O(n log n).
-   normalize: its members; complement: the other numbers of the range. */
+   normalize: its members; complement: the other numbers of the range, O(n) and without an allocation if the list is
+   one of runs, as for union. */
 int64_t ivl_normalize_u64(const ivl_run_u64 *a, size_t n, ivl_run_u64 *IVL_RESTRICT out, size_t room);
 int64_t ivl_complement_u64(const ivl_run_u64 *a, size_t n, ivl_run_u64 *IVL_RESTRICT out, size_t room);
 
@@ -175,7 +178,8 @@ int64_t ivl_differences_u64(const ivl_run_u64 *a, size_t n, const ivl_run_u64 *b
    O(n m log (n m)). */
 int64_t ivl_products_u64(const ivl_run_u64 *a, size_t n, const ivl_run_u64 *b, size_t m, ivl_run_u64 *IVL_RESTRICT out, size_t room);
 
-/* Compare two lists: 1 for yes, 0 for no, or an error code. O(n log n + m log m).
+/* Compare two lists: 1 for yes, 0 for no, or an error code. O(n log n + m log m); O(n + m), and without an allocation,
+   if both lists are lists of runs, as for union.
    is_subset: each member of `a` is one of `b`; overlap: some number is a member of both;
    equal: the members are the same. */
 int64_t ivl_is_subset_u64(const ivl_run_u64 *a, size_t n, const ivl_run_u64 *b, size_t m);

@@ -31,7 +31,7 @@ below_is p q z = (
   (λ b. let l = b.0.0 in let h = b.0.1 in let k = b.1 in (l, omega (arith, ints, clamps))),
 )
 
-above_is : (p q : ℤ × ℤ) → SameMembers (IsBetween (above_part p q)) (Above q.1 (IsBetween p))
+pub above_is : (p q : ℤ × ℤ) → SameMembers (IsBetween (above_part p q)) (Above q.1 (IsBetween p))
 above_is p q z = (
   (λ b. let l = b.0 in let h = b.1 in ((omega (arith, ints, clamps), h), omega (arith, ints, clamps))),
   (λ b. let l = b.0.0 in let h = b.0.1 in let k = b.1 in (omega (arith, ints, clamps), h)),

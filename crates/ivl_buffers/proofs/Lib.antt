@@ -13,3 +13,5 @@ pub mod Unions
 pub mod Previous
 pub mod SameRanks
 pub mod EditedSets
+pub mod Counted
+pub mod Complements

@@ -10,6 +10,7 @@ use Rattle.ivl_laws.specs.Walks.{StartsFrom, TakesFirst}
 use Rattle.ivl_laws.proofs.Merging.{StartsBy-push, first_run, run_apart, run_joined}
 use Rattle.ivl_laws.proofs.Walks.{IsUniting, StartsBefore, uniting_begins, uniting_ends, uniting_next}
 use Rattle.intervallum.specs.HeldRun.{led_by}
+use Rattle.intervallum.proofs.Unions.{all_united, taken_starts}
 use Rattle.ivl_buffers.specs.Merging.{IsLaid, IsRunIn, laid}
 use Rattle.ivl_buffers.proofs.Output.{laid_more, length_more}
 use Rattle.ivl_buffers.proofs.Suffixes.{led_at, none_from, rest_all, rest_list}
@@ -47,10 +48,6 @@ pub record IsJoining (A B : List (ℤ × ℤ)) (S : ℤ → Type 0) (old new : L
   pub count : told ≡ length W
   pub room : new ≡ laid W old
 
-starts_by : (W A B A' B' : List (ℤ × ℤ)) (q : ℤ × ℤ) (S : ℤ → Type 0) → IsUniting W A B S → TakesFirst A B A' B' q → StartsBy q.0 W
-starts_by W A B A' B' q S u (inl (e, f, h)) = subst (StartsBefore W) e u.before_first
-starts_by W A B A' B' q S u (inr (e, f, h)) = subst (StartsBefore W) e u.before_second
-
 taken_is_open : (W A B A' B' : List (ℤ × ℤ)) (q : ℤ × ℤ) (S : ℤ → Type 0) → IsUniting W A B S → TakesFirst A B A' B' q → q.0 ≤ℤ q.1
 taken_is_open W A B A' B' q S u (inl (e, f, h)) = (subst IsMaximal e u.first).0
 taken_is_open W A B A' B' q S u (inr (e, f, h)) = (subst IsMaximal e u.second).0
@@ -66,7 +63,7 @@ starts_joined (q ∷ W) p r v e s = (s.0, starts_joined W p r v e s.1)
 module _ (A B A' B' : List (ℤ × ℤ)) (p q : ℤ × ℤ) (S : ℤ → Type 0) (old room : List (ℤ × ℤ)) (told : ℕ) (W : List (ℤ × ℤ))
     (u : IsJoining A B S old room told p W) (t : TakesFirst A B A' B' q) where
   by : StartsBy q.0 (W ++ p ∷ [])
-  by = starts_by (W ++ p ∷ []) A B A' B' q S u.state t
+  by = taken_starts (W ++ p ∷ []) A B A' B' q S u.state t
 
   -- the held pair is laid, and the other one is held
   pub joins_none : (room' : List (ℤ × ℤ)) → (p.1 +ℤ pos 2) ≤ℤ q.0 → room' ≡ set room told p → (V : List (ℤ × ℤ)) × IsJoining A' B' S old room' (told + 1) q V
@@ -107,18 +104,15 @@ joining_begins A B A' B' p old m n t =
     let o = taken_is_open [] A B A' B' p (Union (Covers A) (Covers B)) u t in
     ([], record { state = uniting_next [] (p ∷ []) A B A' B' p (Union (Covers A) (Covers B)) u t (first_run p o) (≤ℤ_refl p.0, tt); count = refl; room = refl })
 
-done : (L A B : List (ℤ × ℤ)) (S : ℤ → Type 0) → A ≡ [] → B ≡ [] → IsUniting L A B S → IsRunsOf L S
-done L A B S e f u = uniting_ends L S (subst (λ (M : List (ℤ × ℤ)). IsUniting L [] M S) f (subst (λ (M : List (ℤ × ℤ)). IsUniting L M B S) e u))
-
 pub joining_none : (A B old : List (ℤ × ℤ)) → IsMaximal A → IsMaximal B → A ≡ [] → B ≡ [] → (L : List (ℤ × ℤ)) × IsLaid (Union (Covers A) (Covers B)) old old 0 L
-joining_none A B old m n e f = ([], record { runs = done [] A B (Union (Covers A) (Covers B)) e f (uniting_begins A B m n); count = refl; room = refl })
+joining_none A B old m n e f = ([], record { runs = all_united [] A B (Union (Covers A) (Covers B)) e f (uniting_begins A B m n); count = refl; room = refl })
 
 pub joining_ends : (A B : List (ℤ × ℤ)) (p : ℤ × ℤ) (S : ℤ → Type 0) (old room room' : List (ℤ × ℤ)) (told : ℕ) → A ≡ [] → B ≡ [] → (W : List (ℤ × ℤ)) × IsJoining A B S old room told p W →
     room' ≡ set room told p → (L : List (ℤ × ℤ)) × IsLaid S old room' (told + 1) L
 joining_ends A B p S old room room' told e f (W, u) h = (
   W ++ p ∷ [],
   record {
-    runs = done (W ++ p ∷ []) A B S e f u.state;
+    runs = all_united (W ++ p ∷ []) A B S e f u.state;
     count = length_more W p told u.count;
     room = h ∙ put;
   },

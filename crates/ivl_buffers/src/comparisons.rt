@@ -1,12 +1,14 @@
 //! Queries on lists, which make the sets of their members.
-ghost use Rattle.std.specs.Prelude.{◌↔◌, IfOk, IsTrue, map};
-ghost use Rattle.ivl_laws.specs.Sets.{IsBetween, IsSubset, Union};
-ghost use Rattle.ivl_laws.specs.Runs.{Covers};
+ghost use Rattle.std.specs.Prelude.{◌↔◌, ◌+◌, ◌^◌, ◌<◌, IfOk, IsTrue, length, map};
+ghost use Rattle.ivl_laws.specs.Sets.{HasSome, Intersection, IsBetween, IsSubset, Union};
+ghost use Rattle.ivl_laws.specs.Runs.{Covers, IsRunListIn};
 ghost use Rattle.ivl_buffers.specs.Answers.{AnswersQuestion, AnswersSize};
 ghost use Rattle.ivl_buffers.specs.Operations.{HoldsOf};
 
+use crate::merging::{difference, intersection};
 use crate::reading::{are_inside, set_of};
 use crate::run::Run;
+use crate::run_lists::can_walk;
 use crate::writing::{OUT_OF_MEMORY, OUT_OF_RANGE};
 use intervallum::ops::{Cardinality, Overlap, Subset};
 use intervallum::width::Width;
@@ -28,6 +30,9 @@ pub fn ask<R: Run>(alloc: Global, asking: Asking, a: &[R], b: &[R]) -> i64
     ensures { AnswersQuestion R.Bound.whole (Union (Covers (map R.pair a.now)) (Covers (map R.pair b.now)))
         (HoldsOf asking (Covers (map R.pair a.now)) (Covers (map R.pair b.now))) result }
 {
+    if can_walk(a) && can_walk(b) {
+        return if holds(asking, a, b) { 1 } else { 0 };
+    }
     if !are_inside(a) || !are_inside(b) {
         return OUT_OF_RANGE;
     }
@@ -36,6 +41,40 @@ pub fn ask<R: Run>(alloc: Global, asking: Asking, a: &[R], b: &[R]) -> i64
         Ok(false) => 0,
         Err(_) => OUT_OF_MEMORY,
     }
+}
+
+/// What is asked of two lists of runs.
+fn holds<R: Run>(asking: Asking, a: &[R], b: &[R]) -> bool
+    requires first { IsRunListIn R.Bound.whole (map R.pair a.now) }
+    requires second { IsRunListIn R.Bound.whole (map R.pair b.now) }
+    requires counted { length a.now + length b.now < 2 ^ 63 }
+    ensures { IsTrue result ↔ HoldsOf asking (Covers (map R.pair a.now)) (Covers (map R.pair b.now)) }
+{
+    match asking {
+        Asking::Within => is_within(a, b),
+        Asking::Meets => meets(a, b),
+        Asking::Alike => is_within(a, b) && is_within(b, a),
+    }
+}
+
+/// True exactly when the difference of two lists of runs, which is only counted, has no run.
+fn is_within<R: Run>(a: &[R], b: &[R]) -> bool
+    requires first { IsRunListIn R.Bound.whole (map R.pair a.now) }
+    requires second { IsRunListIn R.Bound.whole (map R.pair b.now) }
+    requires counted { length a.now + length b.now < 2 ^ 63 }
+    ensures { IsTrue result ↔ IsSubset (Covers (map R.pair a.now)) (Covers (map R.pair b.now)) }
+{
+    difference(a, b, &mut []) == 0
+}
+
+/// True exactly when the intersection of two lists of runs, which is only counted, has a run.
+fn meets<R: Run>(a: &[R], b: &[R]) -> bool
+    requires first { IsRunListIn R.Bound.whole (map R.pair a.now) }
+    requires second { IsRunListIn R.Bound.whole (map R.pair b.now) }
+    requires counted { length a.now + length b.now < 2 ^ 63 }
+    ensures { IsTrue result ↔ HasSome (Intersection (Covers (map R.pair a.now)) (Covers (map R.pair b.now))) }
+{
+    intersection(a, b, &mut []) > 0
 }
 
 fn asked<R: Run>(alloc: Global, asking: Asking, a: &[R], b: &[R]) -> Result<bool, AllocError>

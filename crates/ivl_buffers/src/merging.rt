@@ -5,7 +5,7 @@
 //! not allocate.
 ghost use Rattle.std.specs.Prelude.{◌≡◌, ◌+◌, ◌^◌, ◌<◌, ◌≤◌, ℤ, ◌+ℤ◌, ◌-ℤ◌, ◌<ℤ◌, pos, IfSome, List, [], MatchOption, None, drop, length, map, slice_set};
 ghost use Rattle.std.specs.Int.{int_max, int_min};
-ghost use Rattle.ivl_laws.specs.Sets.{Intersection, Union, Without};
+ghost use Rattle.ivl_laws.specs.Sets.{Complement, Intersection, Union, Without};
 ghost use Rattle.ivl_laws.specs.Runs.{Covers, IsRunListIn};
 ghost use Rattle.ivl_laws.specs.Walks.{TakesFirst};
 ghost use Rattle.ivl_buffers.specs.Merging.{IsLaid, IsRunIn, LaysNext};
@@ -13,6 +13,8 @@ ghost use Rattle.ivl_buffers.specs.Merging.{IsLaid, IsRunIn, LaysNext};
 use crate::run::Run;
 use crate::run_lists::leaves_free;
 use crate::sorted_lookup::pair_at;
+use intervallum::interval::Interval;
+use intervallum::ops::Whole;
 use intervallum::width::Width;
 
 /// Writes the members of both run lists.
@@ -76,6 +78,26 @@ pub fn difference<R: Run>(a: &[R], b: &[R], out: &mut [R]) -> usize
         }
     }
     count
+}
+
+/// Writes the numbers of the range that are in no run of the list.
+pub fn complement<R: Run>(runs: &[R], out: &mut [R]) -> usize
+    requires runs { IsRunListIn R.Bound.whole (map R.pair runs.now) }
+    requires counted { length runs.now < 2 ^ 62 }
+    ensures runs { (L : List (ℤ × ℤ)) × IsLaid (Complement R.Bound.whole (Covers (map R.pair runs.now))) (map R.pair out.old) (map R.pair out.new) result L }
+    ensures at_most { result ≤ length runs.now + 1 }
+{
+    let whole = Interval::<R::Bound>::whole();
+    let mut left = R::of(whole.lower_bound(), whole.upper_bound());
+    let mut count = 0;
+    for run in runs {
+        count = lay_below(out, count, left, *run);
+        if left.upper() <= run.upper() {
+            return count;
+        }
+        left = above(left, *run);
+    }
+    lay(out, count, left)
 }
 
 /// Writes the members of either run list.

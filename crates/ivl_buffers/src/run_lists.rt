@@ -1,5 +1,5 @@
 //! Lists that are already the runs of a set.
-ghost use Rattle.std.specs.Prelude.{◌↔◌, ◌+ℤ◌, ◌≤ℤ◌, IsTrue, map, pos};
+ghost use Rattle.std.specs.Prelude.{◌↔◌, ◌+◌, ◌^◌, ◌<◌, ◌≤◌, ◌+ℤ◌, ◌≤ℤ◌, IsTrue, length, map, pos};
 ghost use Rattle.ivl_laws.specs.Runs.{IsRunListIn};
 ghost use Rattle.ivl_buffers.specs.Merging.{IsRunIn};
 
@@ -27,6 +27,17 @@ pub fn is_run_list<R: Run>(runs: &[R]) -> bool
         last = *run;
     }
     true
+}
+
+/// The most runs of a list that is walked, so that the number of runs of an answer fits `i64`.
+const MOST_RUNS: usize = 1 << 61;
+
+/// Returns true only if the pairs are a list of runs, and their number leaves room to count with.
+pub(crate) fn can_walk<R: Run>(runs: &[R]) -> bool
+    ensures runs { IsTrue result → IsRunListIn R.Bound.whole (map R.pair runs.now) }
+    ensures counted { IsTrue result → length runs.now ≤ 2 ^ 61 }
+{
+    runs.len() <= MOST_RUNS && is_run_list(runs)
 }
 
 /// True exactly when the pair is not crossed and its bounds are in the range.

@@ -1,15 +1,15 @@
 //! Sets made of lists.
 ghost use Rattle.std.specs.Prelude.{◌+◌, ◌^◌, ◌<◌, ◌≤◌, ℤ, IfOk, IsTrue, List, length, map};
-ghost use Rattle.ivl_laws.specs.Sets.{IsBetween, IsSubset, Union};
+ghost use Rattle.ivl_laws.specs.Sets.{Complement, IsBetween, IsSubset, Union};
 ghost use Rattle.ivl_laws.specs.Runs.{Covers, IsRunListIn, IsRunsOf};
 ghost use Rattle.ivl_buffers.specs.Answers.{AnswersSet, IsWritten};
 ghost use Rattle.ivl_buffers.specs.Operations.{IsOneWalk, MadeOfOne, MadeOfTwo};
 ghost use Rattle.ivl_buffers.specs.Merging.{IsLaid};
 
-use crate::merging::{difference, intersection, union};
+use crate::merging::{complement, difference, intersection, union};
 use crate::reading::{are_inside, set_of};
 use crate::run::Run;
-use crate::run_lists::is_run_list;
+use crate::run_lists::can_walk;
 use crate::writing::{OUT_OF_RANGE, tell};
 use intervallum::interval_set::IntervalSet;
 use intervallum::ops::{Complement, Difference, Intersection, SymmetricDifference, Union};
@@ -42,10 +42,58 @@ pub fn of_one<R: Run>(alloc: Global, making: OfOne, a: &[R], out: &mut [R]) -> i
     ensures { AnswersSet R.Bound.whole (Covers (map R.pair a.now))
         (MadeOfOne R.Bound.whole making (Covers (map R.pair a.now))) (map R.pair out.old) (map R.pair out.new) result }
 {
+    match making {
+        OfOne::Same => normalized(alloc, a, out),
+        OfOne::Rest => rest(alloc, a, out),
+    }
+}
+
+fn normalized<R: Run>(alloc: Global, a: &[R], out: &mut [R]) -> i64
+    ensures { AnswersSet R.Bound.whole (Covers (map R.pair a.now)) (Covers (map R.pair a.now)) (map R.pair out.old) (map R.pair out.new) result }
+{
     if !are_inside(a) {
         return OUT_OF_RANGE;
     }
-    tell(made_of_one(alloc, making, a), out)
+    tell(set_of(alloc, a), out)
+}
+
+fn rest<R: Run>(alloc: Global, a: &[R], out: &mut [R]) -> i64
+    ensures { AnswersSet R.Bound.whole (Covers (map R.pair a.now)) (Complement R.Bound.whole (Covers (map R.pair a.now)))
+        (map R.pair out.old) (map R.pair out.new) result }
+{
+    if can_walk(a) {
+        return walk_rest(a, out);
+    }
+    if !are_inside(a) {
+        return OUT_OF_RANGE;
+    }
+    tell(rest_of(alloc, a), out)
+}
+
+/// The complement of the members of a list.
+fn rest_of<R: Run>(alloc: Global, a: &[R]) -> Result<IntervalSet<R::Bound>, AllocError>
+    requires { IsSubset (Covers (map R.pair a.now)) (IsBetween R.Bound.whole) }
+    ensures { IfOk result (λ L. IsRunsOf L (Complement R.Bound.whole (Covers (map R.pair a.now)))) }
+{
+    let set = set_of(alloc, a)?;
+    set.complement()
+}
+
+/// Writes the complement of a run list, and returns its number of runs. If there may be too little
+/// room, counts them first.
+fn walk_rest<R: Run>(a: &[R], out: &mut [R]) -> i64
+    requires runs { IsRunListIn R.Bound.whole (map R.pair a.now) }
+    requires counted { length a.now ≤ 2 ^ 61 }
+    ensures { (L : List (ℤ × ℤ)) × IsWritten (Complement R.Bound.whole (Covers (map R.pair a.now))) (map R.pair out.old) (map R.pair out.new) result L }
+{
+    if a.len() < out.len() {
+        return complement(a, out) as i64;
+    }
+    let total = complement(a, &mut out[..0]);
+    if out.len() < total {
+        return total as i64;
+    }
+    complement(a, out) as i64
 }
 
 /// Makes a set of two lists, and writes its runs. Returns their number or an error code.
@@ -60,21 +108,6 @@ pub fn of_two<R: Run>(alloc: Global, making: OfTwo, a: &[R], b: &[R], out: &mut 
         return OUT_OF_RANGE;
     }
     tell(made_of_two(alloc, making, a, b), out)
-}
-
-fn made_of_one<R: Run>(
-    alloc: Global,
-    making: OfOne,
-    a: &[R],
-) -> Result<IntervalSet<R::Bound>, AllocError>
-    requires { IsSubset (Covers (map R.pair a.now)) (IsBetween R.Bound.whole) }
-    ensures { IfOk result (λ L. IsRunsOf L (MadeOfOne R.Bound.whole making (Covers (map R.pair a.now)))) }
-{
-    let set = set_of(alloc, a)?;
-    match making {
-        OfOne::Same => Ok(set),
-        OfOne::Rest => set.complement(),
-    }
 }
 
 fn made_of_two<R: Run>(
@@ -97,9 +130,6 @@ fn made_of_two<R: Run>(
     }
 }
 
-/// The most runs of a list that is merged, so that the number of runs of an answer fits `i64`.
-const MOST_RUNS: usize = 1 << 61;
-
 /// True only if both lists are lists of runs, and one walk over both makes the answer.
 fn is_merged<R: Run>(making: OfTwo, a: &[R], b: &[R]) -> bool
     ensures making { IsTrue result → IsOneWalk making }
@@ -107,11 +137,7 @@ fn is_merged<R: Run>(making: OfTwo, a: &[R], b: &[R]) -> bool
     ensures second { IsTrue result → IsRunListIn R.Bound.whole (map R.pair b.now) }
     ensures counted { IsTrue result → length a.now + length b.now < 2 ^ 63 }
 {
-    !matches!(making, OfTwo::OneAlone)
-        && a.len() <= MOST_RUNS
-        && b.len() <= MOST_RUNS
-        && is_run_list(a)
-        && is_run_list(b)
+    !matches!(making, OfTwo::OneAlone) && can_walk(a) && can_walk(b)
 }
 
 /// Writes what is made of two run lists, and returns its number of runs. If there may be too little

@@ -27,7 +27,8 @@ pub extern "C" fn ivl_normalize_i64(alloc: Global, a: &[RunI64], out: &mut [RunI
     of_one(alloc, OfOne::Same, a, out)
 }
 
-/// Writes the complement within the range. `O(n log n)`.
+/// Writes the complement within the range. `O(n log n)`; if the list is one of runs, `O(n)`, and does
+/// not allocate.
 #[unsafe(no_mangle)]
 pub extern "C" fn ivl_complement_i64(alloc: Global, a: &[RunI64], out: &mut [RunI64]) -> i64
     ensures { AnswersSet whole_i64 (members_i64 a.now) (Complement whole_i64 (members_i64 a.now)) (pairs_i64 out.old) (pairs_i64 out.new) result }
@@ -95,7 +96,7 @@ pub extern "C" fn ivl_symmetric_difference_i64(
 }
 
 /// Returns 1 if each member of the first list is one of the second, and 0 if not.
-/// `O(n log n + m log m)`.
+/// `O(n log n + m log m)`; if both are lists of runs, `O(n + m)`, and does not allocate.
 #[unsafe(no_mangle)]
 pub extern "C" fn ivl_is_subset_i64(alloc: Global, a: &[RunI64], b: &[RunI64]) -> i64
     ensures { AnswersQuestion whole_i64 (Union (members_i64 a.now) (members_i64 b.now)) (IsSubset (members_i64 a.now) (members_i64 b.now)) result }
@@ -103,7 +104,8 @@ pub extern "C" fn ivl_is_subset_i64(alloc: Global, a: &[RunI64], b: &[RunI64]) -
     ask(alloc, Asking::Within, a, b)
 }
 
-/// Returns 1 if some number is a member of both lists, and 0 if not. `O(n log n + m log m)`.
+/// Returns 1 if some number is a member of both lists, and 0 if not. `O(n log n + m log m)`; if both
+/// are lists of runs, `O(n + m)`, and does not allocate.
 #[unsafe(no_mangle)]
 pub extern "C" fn ivl_overlap_i64(alloc: Global, a: &[RunI64], b: &[RunI64]) -> i64
     ensures { AnswersQuestion whole_i64 (Union (members_i64 a.now) (members_i64 b.now)) (HasSome (Intersection (members_i64 a.now) (members_i64 b.now))) result }
@@ -111,7 +113,8 @@ pub extern "C" fn ivl_overlap_i64(alloc: Global, a: &[RunI64], b: &[RunI64]) -> 
     ask(alloc, Asking::Meets, a, b)
 }
 
-/// Returns 1 if the lists have the same members, and 0 if not. `O(n log n + m log m)`.
+/// Returns 1 if the lists have the same members, and 0 if not. `O(n log n + m log m)`; if both are
+/// lists of runs, `O(n + m)`, and does not allocate.
 #[unsafe(no_mangle)]
 pub extern "C" fn ivl_equal_i64(alloc: Global, a: &[RunI64], b: &[RunI64]) -> i64
     ensures { AnswersQuestion whole_i64 (Union (members_i64 a.now) (members_i64 b.now)) (SameMembers (members_i64 a.now) (members_i64 b.now)) result }

@@ -27,7 +27,8 @@ pub extern "C" fn ivl_normalize_u64(alloc: Global, a: &[RunU64], out: &mut [RunU
     of_one(alloc, OfOne::Same, a, out)
 }
 
-/// Writes the complement within the range. `O(n log n)`.
+/// Writes the complement within the range. `O(n log n)`; if the list is one of runs, `O(n)`, and does
+/// not allocate.
 #[unsafe(no_mangle)]
 pub extern "C" fn ivl_complement_u64(alloc: Global, a: &[RunU64], out: &mut [RunU64]) -> i64
     ensures { AnswersSet whole_u64 (members_u64 a.now) (Complement whole_u64 (members_u64 a.now)) (pairs_u64 out.old) (pairs_u64 out.new) result }
@@ -95,7 +96,7 @@ pub extern "C" fn ivl_symmetric_difference_u64(
 }
 
 /// Returns 1 if each member of the first list is one of the second, and 0 if not.
-/// `O(n log n + m log m)`.
+/// `O(n log n + m log m)`; if both are lists of runs, `O(n + m)`, and does not allocate.
 #[unsafe(no_mangle)]
 pub extern "C" fn ivl_is_subset_u64(alloc: Global, a: &[RunU64], b: &[RunU64]) -> i64
     ensures { AnswersQuestion whole_u64 (Union (members_u64 a.now) (members_u64 b.now)) (IsSubset (members_u64 a.now) (members_u64 b.now)) result }
@@ -103,7 +104,8 @@ pub extern "C" fn ivl_is_subset_u64(alloc: Global, a: &[RunU64], b: &[RunU64]) -
     ask(alloc, Asking::Within, a, b)
 }
 
-/// Returns 1 if some number is a member of both lists, and 0 if not. `O(n log n + m log m)`.
+/// Returns 1 if some number is a member of both lists, and 0 if not. `O(n log n + m log m)`; if both
+/// are lists of runs, `O(n + m)`, and does not allocate.
 #[unsafe(no_mangle)]
 pub extern "C" fn ivl_overlap_u64(alloc: Global, a: &[RunU64], b: &[RunU64]) -> i64
     ensures { AnswersQuestion whole_u64 (Union (members_u64 a.now) (members_u64 b.now)) (HasSome (Intersection (members_u64 a.now) (members_u64 b.now))) result }
@@ -111,7 +113,8 @@ pub extern "C" fn ivl_overlap_u64(alloc: Global, a: &[RunU64], b: &[RunU64]) -> 
     ask(alloc, Asking::Meets, a, b)
 }
 
-/// Returns 1 if the lists have the same members, and 0 if not. `O(n log n + m log m)`.
+/// Returns 1 if the lists have the same members, and 0 if not. `O(n log n + m log m)`; if both are
+/// lists of runs, `O(n + m)`, and does not allocate.
 #[unsafe(no_mangle)]
 pub extern "C" fn ivl_equal_u64(alloc: Global, a: &[RunU64], b: &[RunU64]) -> i64
     ensures { AnswersQuestion whole_u64 (Union (members_u64 a.now) (members_u64 b.now)) (SameMembers (members_u64 a.now) (members_u64 b.now)) result }

@@ -2,8 +2,10 @@
 
 #[allow(unused_imports)]
 use crate::rattle::prelude::*;
+use crate::proved::ivl_buffers::merging::{difference, intersection};
 use crate::proved::ivl_buffers::reading::{are_inside, set_of};
 use crate::proved::ivl_buffers::run::Run;
+use crate::proved::ivl_buffers::run_lists::can_walk;
 use crate::proved::ivl_buffers::writing::{OUT_OF_MEMORY, OUT_OF_RANGE};
 use crate::proved::intervallum::ops::{Cardinality, Overlap, Subset};
 use crate::proved::intervallum::width::Width;
@@ -31,6 +33,9 @@ pub enum Asking {
 ///
 /// Words: [`AnswersQuestion`](crate::definitions#AnswersQuestion), [`Union`](crate::definitions#Union), [`Covers`](crate::definitions#Covers), [`HoldsOf`](crate::definitions#HoldsOf).
 pub fn ask<R: Run>(alloc: Global, asking: Asking, a: &[R], b: &[R]) -> i64 {
+    if can_walk(a) && can_walk(b) {
+        return if holds(asking, a, b) { 1 } else { 0 };
+    }
     if !are_inside(a) || !are_inside(b) {
         return OUT_OF_RANGE;
     }
@@ -39,6 +44,25 @@ pub fn ask<R: Run>(alloc: Global, asking: Asking, a: &[R], b: &[R]) -> i64 {
         Ok(false) => 0,
         Err(_) => OUT_OF_MEMORY,
     }
+}
+
+/// What is asked of two lists of runs.
+fn holds<R: Run>(asking: Asking, a: &[R], b: &[R]) -> bool {
+    match asking {
+        Asking::Within => is_within(a, b),
+        Asking::Meets => meets(a, b),
+        Asking::Alike => is_within(a, b) && is_within(b, a),
+    }
+}
+
+/// True exactly when the difference of two lists of runs, which is only counted, has no run.
+fn is_within<R: Run>(a: &[R], b: &[R]) -> bool {
+    difference(a, b, &mut []) == 0
+}
+
+/// True exactly when the intersection of two lists of runs, which is only counted, has a run.
+fn meets<R: Run>(a: &[R], b: &[R]) -> bool {
+    intersection(a, b, &mut []) > 0
 }
 
 fn asked<R: Run>(alloc: Global, asking: Asking, a: &[R], b: &[R]) -> Result<bool, AllocError> {

@@ -9,6 +9,8 @@ use crate::rattle::prelude::*;
 use crate::proved::ivl_buffers::run::Run;
 use crate::proved::ivl_buffers::run_lists::leaves_free;
 use crate::proved::ivl_buffers::sorted_lookup::pair_at;
+use crate::proved::intervallum::interval::Interval;
+use crate::proved::intervallum::ops::Whole;
 use crate::proved::intervallum::width::Width;
 
 /// Writes the members of both run lists.
@@ -84,6 +86,32 @@ pub fn difference<R: Run>(a: &[R], b: &[R], out: &mut [R]) -> usize {
         }
     }
     count
+}
+
+/// Writes the numbers of the range that are in no run of the list.
+///
+/// # Proved
+///
+/// ```text
+/// requires runs { IsRunListIn R.Bound.whole (map R.pair runs.now) }
+/// requires counted { length runs.now < 2 ^ 62 }
+/// ensures runs { (L : List (ℤ × ℤ)) × IsLaid (Complement R.Bound.whole (Covers (map R.pair runs.now))) (map R.pair out.old) (map R.pair out.new) result L }
+/// ensures at_most { result ≤ length runs.now + 1 }
+/// ```
+///
+/// Words: [`IsRunListIn`](crate::definitions#IsRunListIn), [`IsLaid`](crate::definitions#IsLaid), [`Complement`](crate::definitions#Complement), [`Covers`](crate::definitions#Covers).
+pub fn complement<R: Run>(runs: &[R], out: &mut [R]) -> usize {
+    let whole = Interval::<R::Bound>::whole();
+    let mut left = R::of(whole.lower_bound(), whole.upper_bound());
+    let mut count = 0;
+    for run in runs {
+        count = lay_below(out, count, left, *run);
+        if left.upper() <= run.upper() {
+            return count;
+        }
+        left = above(left, *run);
+    }
+    lay(out, count, left)
 }
 
 /// Writes the members of either run list.

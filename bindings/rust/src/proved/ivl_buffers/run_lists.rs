@@ -34,6 +34,14 @@ pub fn is_run_list<R: Run>(runs: &[R]) -> bool {
     true
 }
 
+/// The most runs of a list that is walked, so that the number of runs of an answer fits `i64`.
+const MOST_RUNS: usize = 1 << 61;
+
+/// Returns true only if the pairs are a list of runs, and their number leaves room to count with.
+pub(crate) fn can_walk<R: Run>(runs: &[R]) -> bool {
+    runs.len() <= MOST_RUNS && is_run_list(runs)
+}
+
 /// True exactly when the pair is not crossed and its bounds are in the range.
 fn is_run<R: Run>(run: R) -> bool {
     run.lower() <= run.upper() && Interval::in_range(run.lower(), run.upper())

@@ -2,10 +2,10 @@
 
 #[allow(unused_imports)]
 use crate::rattle::prelude::*;
-use crate::proved::ivl_buffers::merging::{difference, intersection, union};
+use crate::proved::ivl_buffers::merging::{complement, difference, intersection, union};
 use crate::proved::ivl_buffers::reading::{are_inside, set_of};
 use crate::proved::ivl_buffers::run::Run;
-use crate::proved::ivl_buffers::run_lists::is_run_list;
+use crate::proved::ivl_buffers::run_lists::can_walk;
 use crate::proved::ivl_buffers::writing::{OUT_OF_RANGE, tell};
 use crate::proved::intervallum::interval_set::IntervalSet;
 use crate::proved::intervallum::ops::{Complement, Difference, Intersection, SymmetricDifference, Union};
@@ -44,10 +44,46 @@ pub enum OfTwo {
 ///
 /// Words: [`AnswersSet`](crate::definitions#AnswersSet), [`Covers`](crate::definitions#Covers), [`MadeOfOne`](crate::definitions#MadeOfOne).
 pub fn of_one<R: Run>(alloc: Global, making: OfOne, a: &[R], out: &mut [R]) -> i64 {
+    match making {
+        OfOne::Same => normalized(alloc, a, out),
+        OfOne::Rest => rest(alloc, a, out),
+    }
+}
+
+fn normalized<R: Run>(alloc: Global, a: &[R], out: &mut [R]) -> i64 {
     if !are_inside(a) {
         return OUT_OF_RANGE;
     }
-    tell(made_of_one(alloc, making, a), out)
+    tell(set_of(alloc, a), out)
+}
+
+fn rest<R: Run>(alloc: Global, a: &[R], out: &mut [R]) -> i64 {
+    if can_walk(a) {
+        return walk_rest(a, out);
+    }
+    if !are_inside(a) {
+        return OUT_OF_RANGE;
+    }
+    tell(rest_of(alloc, a), out)
+}
+
+/// The complement of the members of a list.
+fn rest_of<R: Run>(alloc: Global, a: &[R]) -> Result<IntervalSet<R::Bound>, AllocError> {
+    let set = set_of(alloc, a)?;
+    set.complement()
+}
+
+/// Writes the complement of a run list, and returns its number of runs. If there may be too little
+/// room, counts them first.
+fn walk_rest<R: Run>(a: &[R], out: &mut [R]) -> i64 {
+    if a.len() < out.len() {
+        return complement(a, out) as i64;
+    }
+    let total = complement(a, &mut out[..0]);
+    if out.len() < total {
+        return total as i64;
+    }
+    complement(a, out) as i64
 }
 
 /// Makes a set of two lists, and writes its runs. Returns their number or an error code.
@@ -70,18 +106,6 @@ pub fn of_two<R: Run>(alloc: Global, making: OfTwo, a: &[R], b: &[R], out: &mut 
     tell(made_of_two(alloc, making, a, b), out)
 }
 
-fn made_of_one<R: Run>(
-    alloc: Global,
-    making: OfOne,
-    a: &[R],
-) -> Result<IntervalSet<R::Bound>, AllocError> {
-    let set = set_of(alloc, a)?;
-    match making {
-        OfOne::Same => Ok(set),
-        OfOne::Rest => set.complement(),
-    }
-}
-
 fn made_of_two<R: Run>(
     alloc: Global,
     making: OfTwo,
@@ -98,16 +122,9 @@ fn made_of_two<R: Run>(
     }
 }
 
-/// The most runs of a list that is merged, so that the number of runs of an answer fits `i64`.
-const MOST_RUNS: usize = 1 << 61;
-
 /// True only if both lists are lists of runs, and one walk over both makes the answer.
 fn is_merged<R: Run>(making: OfTwo, a: &[R], b: &[R]) -> bool {
-    !matches!(making, OfTwo::OneAlone)
-        && a.len() <= MOST_RUNS
-        && b.len() <= MOST_RUNS
-        && is_run_list(a)
-        && is_run_list(b)
+    !matches!(making, OfTwo::OneAlone) && can_walk(a) && can_walk(b)
 }
 
 /// Writes what is made of two run lists, and returns its number of runs. If there may be too little
