@@ -1,4 +1,4 @@
-//! Merges of many pairs of sets in turn, so that no processor has learned their branches.
+//! Merges of many pairs of sets in turn, so that no branch predictor has learned them.
 
 use crate::inputs::{Inputs, Pair, dense_pair};
 use crate::measures::Answer;

@@ -1,4 +1,4 @@
-//! The operands, the same at each run: numbers of a linear congruential generator.
+//! The operands, the same in each run, from a linear congruential generator.
 
 use crate::expressions::Expressions;
 use crate::fresh;

@@ -1,9 +1,9 @@
 //! Times the public calls on sets of `i64`.
 //!
-//! Without arguments, prints what each call answers at two sizes of its inputs, and no time. With the
-//! arguments `time SECONDS GREATEST_N`, prints for each call a line `name n ns_per_operation runs size`.
-//! With the argument `million`, prints how long one union of two sets of a million runs takes, and the
-//! peak of memory. With the arguments `store FILE`, prints how long an instance of the domain store takes.
+//! Without arguments, prints the result of each call at two input sizes, and no times. With the arguments
+//! `time SECONDS GREATEST_N`, prints one line per call: `name n ns_per_operation runs size`. With the argument
+//! `million`, prints the time of one union of two sets of a million runs, and the peak memory. With the
+//! arguments `store FILE`, prints the time of an instance of the domain store.
 #![tactic(auto)]
 
 mod calls;

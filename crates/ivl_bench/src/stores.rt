@@ -1,7 +1,7 @@
 //! Instances of the domain store, from fresh domains to the fixed point.
 //!
-//! A file has a line `domain l u l u ..` for each variable and then a line `sum x y z` for each
-//! constraint; the file of the same name that ends in `.fixed` has the greatest supported domains.
+//! A file has a line `domain l u l u ..` for each variable, and then a line `sum x y z` for each
+//! constraint. The file of the same name that ends in `.fixed` has the greatest supported domains.
 
 use crate::inputs::set_of;
 use anyhow::{Context, Result, bail};

@@ -1,4 +1,4 @@
-//! How long calls take.
+//! Timing of calls.
 
 use crate::inputs::Inputs;
 use crate::measures::{Answer, Measure};

@@ -1,5 +1,5 @@
-//! The calls of the calculator that take memory, and the sums and differences within the range. Each ends in its answer,
-//! or is out of memory with what it was given as before.
+//! The calls of the calculator that allocate, and the sums and differences within the range. Each returns its result, or
+//! runs out of memory and leaves its operands unchanged.
 
 use crate::runs::{
     DIFFERENCES, FIRST, FIRST_RUNS, Runs, SECOND, SECOND_RUNS, SUMS, UNITED, has_runs,

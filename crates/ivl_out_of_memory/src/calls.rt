@@ -1,4 +1,4 @@
-//! The calls of sets that take memory. Each is right where it answers the set of these runs.
+//! The calls of sets that allocate, each with the runs of the expected set.
 
 use crate::runs::{
     APART, BETWEEN, DIFFERENCES, FIRST, FIRST_RUNS, MINUS_THREE, PLUS_THREE, PRODUCTS, Runs,

@@ -1,4 +1,4 @@
-//! The edits of a set in place that take memory, each on a copy, with the runs that it is to leave.
+//! The edits in place that allocate, each on a copy, with the runs that are expected afterwards.
 
 use crate::runs::{Runs, is_of};
 use intervallum::interval::Interval;

@@ -1,4 +1,4 @@
-//! Evaluation, which takes memory for each set that it makes.
+//! Evaluation, which allocates for each set that it makes.
 
 use crate::runs::{DIFFERENCES, FIRST_RUNS, Runs, SUMS, is_of};
 use intervallum::interval_set::IntervalSet;

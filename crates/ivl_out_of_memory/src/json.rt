@@ -1,4 +1,4 @@
-//! The JSON calls, each with the answer that was worked out by hand.
+//! The JSON calls, each with a result that was worked out by hand.
 
 use crate::runs::{FIRST_RUNS, has_runs};
 use intervallum::interval::Interval;

@@ -1,9 +1,9 @@
-//! Makes each call of a set or a store that takes memory, by its name, and tells how it ended.
+//! Makes each call that allocates, by its name, and prints how it ended.
 //!
-//! Standard input has a name a line. The answer to each is `answered` where the call gave the answer that it gives
-//! with ample memory, `out of memory` where it was refused and its operands are as they were, and else what is wrong.
-//! A number behind a name asks for memory so many times before the call. So a script that refuses one request of
-//! each run, always the same one, refuses each request of each call: it needs to build this program but once.
+//! Reads one name per line. Prints `answered` if the call returned the expected result, `out of memory` if an
+//! allocation failed and the operands are unchanged, and otherwise what is wrong. A number after a name makes the
+//! program allocate that many times before the call. A script that lets one allocation of each run fail, always the
+//! same one, can so make each allocation of each call fail, and builds this program only once.
 #![tactic(auto)]
 
 mod calculator;

@@ -1,4 +1,4 @@
-//! The runs of the operands and of the answers, which were worked out by hand.
+//! The runs of the operands, and of the results, which were worked out by hand.
 
 use intervallum::prelude::{Bounded, Interval, IntervalSet, IsEmpty};
 use std::alloc::AllocError;

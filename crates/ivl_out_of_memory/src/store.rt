@@ -1,5 +1,5 @@
-//! The calls of a store that take memory. Each ends in its answer, or is out of memory with the
-//! domains as the call says they are then.
+//! The calls of a store that allocate. Each returns its result, or runs out of memory and leaves
+//! the domains that its docs promise.
 
 use crate::runs::{Runs, has_runs};
 use intervallum::prelude::{Interval, IntervalSet, ToIntervalSet};

@@ -1,4 +1,4 @@
-//! What a call answers, and how the files write it.
+//! The result of a call, and its form in the files.
 
 use intervallum::interval::Interval;
 use intervallum::interval_set::IntervalSet;

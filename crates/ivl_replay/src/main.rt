@@ -1,6 +1,6 @@
-//! Replays answers that were not taken from this library: each line of a file is a call, its operands, and the answer
-//! that is right. Prints each line that has another answer here, and how many lines of each file agree. Then makes the
-//! calls that no line can name.
+//! Replays results that do not come from this library: each line of a file is a call, its operands and its expected
+//! result. Prints each line with another result, and for each file how many lines agree. Then makes the calls that no
+//! line can express.
 #![tactic(auto)]
 
 mod answer;

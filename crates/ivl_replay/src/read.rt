@@ -1,4 +1,4 @@
-//! Operands as the files write them.
+//! Parses operands in the form of the files.
 
 use crate::unanswered::Unanswered;
 use intervallum::interval::Interval;

@@ -1,4 +1,4 @@
-//! What is printed of an interval and of a set: width, fill and sign have no effect.
+//! The text of an interval and of a set: width, fill and sign have no effect.
 
 use crate::fact::Fact;
 use crate::read::{interval, set};

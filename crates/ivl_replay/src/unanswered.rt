@@ -1,4 +1,4 @@
-//! Why there is no answer here.
+//! Why a line has no result here.
 
 use std::alloc::{AllocError, AllocFailed};
 

@@ -1,5 +1,5 @@
-//! Calls that no line can name, with values that were worked out by hand: the forms of an operand, laws of unions, sets
-//! from arrays and iterators, runs from both ends, values beside the range, and the texts of `Debug`.
+//! Calls that no line can express, with values that were worked out by hand: the forms of an operand, laws of unions, sets
+//! from arrays and iterators, runs from both ends, values outside the range, and the texts of `Debug`.
 
 use intervallum::interval::Interval;
 use intervallum::interval_set::{IntervalSet, ToIntervalSet};

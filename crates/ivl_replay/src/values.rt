@@ -1,4 +1,4 @@
-//! The calls of values, and of values that may be absent, that the files name.
+//! The calls of values and of `Optional` values that the files name.
 
 use crate::answer::Answer;
 use crate::fact::Fact;

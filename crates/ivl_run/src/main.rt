@@ -1,5 +1,5 @@
-//! Reads command lines from standard input, over 26 registers that hold sets of whole numbers, and prints one answer
-//! line for each.
+//! A calculator of sets of whole numbers, with 26 registers: reads one command per line from standard input, and prints
+//! one answer line for each.
 #![tactic(auto)]
 
 #[cfg(test)]

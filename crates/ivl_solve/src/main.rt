@@ -1,5 +1,5 @@
-//! Narrows the domains of variables by sums `x + y = z`: reads lines from standard input and answers
-//! each on standard output.
+//! Narrows the domains of variables by sums `x + y = z`: reads one request per line from standard input,
+//! and answers each on standard output.
 #![tactic(auto)]
 
 #[cfg(test)]
