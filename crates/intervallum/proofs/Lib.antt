@@ -41,3 +41,4 @@ pub mod Lopsided
 pub mod HeldRunLengths
 pub mod Members
 pub mod Unions
+pub mod Options

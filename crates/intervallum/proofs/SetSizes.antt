@@ -14,17 +14,6 @@ use Rattle.intervallum.specs.Order.{IsBelow}
 use Rattle.intervallum.proofs.MergeState.{IsBuilding, building_ends, building_starts, written_if_filled}
 use Rattle.intervallum.proofs.Intersections.{common_next, first_covers, shared_is_above}
 
--- ---- a number is covered or not
-
-pub decide_between : (p : ℤ × ℤ) (z : ℤ) → IsBetween p z ⊎ (¬ (IsBetween p z))
-decide_between p z = by_lt_z z p.0
-    (λ h. inr (λ b. let low = b.0 in omega (arith, ints)))
-    (λ h. by_lt_z p.1 z (λ k. inr (λ b. let high = b.1 in omega (arith, ints))) (λ k. inl (h, k)))
-
-pub decide_covers : (L : List (ℤ × ℤ)) (z : ℤ) → Covers L z ⊎ (¬ (Covers L z))
-decide_covers [] z = inr (λ c. c)
-decide_covers (p ∷ L) z = ⊎_elim (λ b. inl (inl b)) (λ n. ⊎_elim (λ c. inl (inr c)) (λ m. inr (⊎_elim n m)) (decide_covers L z)) (decide_between p z)
-
 -- ---- the numbers of a list that are in T, and the others
 
 pub record IsParted (xs : List ℤ) (T : ℤ → Type 0) : Type 0 where
