@@ -1,6 +1,6 @@
 -- Room that is taken from the start of a run, and the shortest run that has it.
-use Rattle.std.proofs.Common.{◌≡◌, ◌≤◌, ◌<◌, ◌+◌, ◌⊎◌, inl, inr, ⊎_elim, ℕ, ℤ, pos, ◌+ℤ◌, ◌-ℤ◌, ◌≤ℤ◌, List, [], ◌∷◌, ◌++◌, length, take, take_all, get_or, Some, None, arith, refl, sym, subst}
-use Rattle.std.specs.Prelude.{◌<ℤ◌, Option, MatchOption}
+use Rattle.std.proofs.Common.{◌≡◌, ◌≤◌, ◌<◌, ◌+◌, inl, inr, ⊎_elim, ℕ, ℤ, pos, ◌+ℤ◌, ◌-ℤ◌, ◌≤ℤ◌, List, [], ◌∷◌, ◌++◌, length, take, take_all, get_or, Some, None, arith, refl, sym, subst}
+use Rattle.std.specs.Prelude.{Option, MatchOption}
 use Rattle.std.proofs.lemmas.Bool.{cases_lt}
 use Rattle.std.proofs.lemmas.Int.{ints, by_lt_z}
 use Rattle.ivl_laws.specs.Bounds.{width_of}
@@ -12,7 +12,7 @@ use Rattle.ivl_laws.proofs.Intervals.{width_of-filled}
 use Rattle.ivl_laws.proofs.Lengths.{free_below}
 use Rattle.ivl_laws.proofs.Places.{free_above_end, start_in}
 use Rattle.ivl_laws.proofs.Products.{one_covers, open_in}
-use Rattle.ivl_laws.proofs.Runs.{lower_end, pair_same, upper_end, ≤ℤ_antisymm}
+use Rattle.ivl_laws.proofs.Runs.{lower_end, pair_same, ≤ℤ_antisymm}
 use Rattle.intervallum.specs.Edits.{widened}
 use Rattle.intervallum.specs.Fits.{IsBestFit, IsBetterRun, IsNoBetter}
 use Rattle.intervallum.specs.Neighbours.{IsRunWith}
