@@ -22,7 +22,7 @@
 //! | count | [`len`](IntervalSet::len), [`size`](IntervalSet::size), [`rank`](IntervalSet::rank), [`size_within`](IntervalSet::size_within), [`intersection_size`](IntervalSet::intersection_size), [`union_size`](IntervalSet::union_size), [`difference_size`](IntervalSet::difference_size), [`interval_count`](IntervalSet::interval_count), [`is_empty`](IntervalSet::is_empty) |
 //! | iterate | [`iter`](IntervalSet::iter) over members, [`range`](IntervalSet::range) over those of a range, [`runs`](IntervalSet::runs), [`runs_within`](IntervalSet::runs_within) |
 //! | find room | [`first_fit`](IntervalSet::first_fit), [`first_fit_from`](IntervalSet::first_fit_from), [`best_fit`](IntervalSet::best_fit), [`gaps_within`](IntervalSet::gaps_within), [`run_at`](IntervalSet::run_at) |
-//! | combine sets | `\|`, `&`, `^`, `!`, [`difference`](IntervalSet::difference), [`within`](IntervalSet::within) |
+//! | combine sets | `\|`, `&`, `^`, `!`, [`difference`](IntervalSet::difference), [`within`](IntervalSet::within), [`union_of`](IntervalSet::union_of), [`intersection_of`](IntervalSet::intersection_of) |
 //! | compare sets | `==`, [`is_subset`](IntervalSet::is_subset), [`is_superset`](IntervalSet::is_superset), [`is_disjoint`](IntervalSet::is_disjoint), [`overlap`](IntervalSet::overlap) |
 //! | compute with members | `+`, `-`, `*`, [`checked_add`](IntervalSet::checked_add), [`fits_add`](IntervalSet::fits_add) and so on |
 //!

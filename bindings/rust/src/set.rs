@@ -14,6 +14,7 @@ pub use pieces::Piece;
 
 use crate::proved::ops::{Complement, Difference, Intersection, SymmetricDifference, Union};
 use crate::proved::{self, Global, Interval, width::Width};
+use alloc::vec::Vec;
 use conditions::{broken, memory, unless_broken, within_range};
 
 /// A set of integers, stored as ascending runs that neither overlap nor touch.
@@ -120,6 +121,38 @@ impl<T: Width> IntervalSet<T> {
     /// Returns the members of exactly one of the sets, as `^` does. `O(n + m)`.
     pub fn symmetric_difference(&self, other: &Self) -> Self {
         Self(memory(self.0.symmetric_difference(&other.0)))
+    }
+
+    /// Returns the members of any of the sets: none if there is no set. `O(n log k)` for `k` sets of `n` runs in all.
+    ///
+    /// ```
+    /// # use intervallum::IntervalSet;
+    /// let (a, b, c) = (IntervalSet::new(1, 2), IntervalSet::new(8, 9), IntervalSet::new(3, 5));
+    /// assert_eq!(IntervalSet::union_of([&a, &b, &c]), IntervalSet::from([1..=5, 8..=9]));
+    /// ```
+    pub fn union_of<'a>(sets: impl IntoIterator<Item = &'a Self>) -> Self
+    where
+        T: 'a,
+    {
+        let sets: Vec<_> = sets.into_iter().map(Self::as_proved).collect();
+        Self(memory(proved::IntervalSet::union_of(Global, &sets)))
+    }
+
+    /// Returns the members of each of the sets: the whole range of the type if there is no set. `O(n log k)` for `k` sets of
+    /// `n` runs in all.
+    ///
+    /// ```
+    /// # use intervallum::IntervalSet;
+    /// let (a, b, c) = (IntervalSet::new(1, 9), IntervalSet::new(3, 20), IntervalSet::new(0, 5));
+    /// assert_eq!(IntervalSet::intersection_of([&a, &b, &c]), IntervalSet::new(3, 5));
+    /// assert_eq!(IntervalSet::<u8>::intersection_of([]), IntervalSet::whole());
+    /// ```
+    pub fn intersection_of<'a>(sets: impl IntoIterator<Item = &'a Self>) -> Self
+    where
+        T: 'a,
+    {
+        let sets: Vec<_> = sets.into_iter().map(Self::as_proved).collect();
+        Self(memory(proved::IntervalSet::intersection_of(Global, &sets)))
     }
 
     /// Returns the complement within the type's range, as `!` does. `O(n)`.

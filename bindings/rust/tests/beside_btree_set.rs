@@ -171,7 +171,10 @@ fn make(random: &mut Random, a: &Set, b: &Set, m: &Model, n: &Model) -> (&'stati
         assert_eq!(set.is_some(), model.is_some(), "{what}");
         set.zip(model)
     };
-    match random.below(14) {
+    let count = random.below(6) as usize;
+    let (sets, models) = ([a, b, &p, &q, a], [m, n, &u, &v, m]);
+    let many = (sets.into_iter().take(count), models.into_iter().take(count));
+    match random.below(16) {
         0 => ("union", Some((a.union(b), m | n))),
         1 => ("|", Some((a | b, m | n))),
         2 => ("intersection", Some((a.intersection(b), m & n))),
@@ -188,6 +191,11 @@ fn make(random: &mut Random, a: &Set, b: &Set, m: &Model, n: &Model) -> (&'stati
         10 => ("+", both(p.checked_add(&q), arithmetic(&u, &v, |x, y| x + y), "+")),
         11 => ("-", both(p.checked_sub(&q), arithmetic(&u, &v, |x, y| x - y), "-")),
         12 => ("*", both(p.checked_mul(&q), arithmetic(&u, &v, |x, y| x * y), "*")),
+        13 => ("union_of", Some((Set::union_of(many.0), many.1.fold(Model::new(), |all, one| &all | one)))),
+        14 => (
+            "intersection_of",
+            Some((Set::intersection_of(many.0), many.1.fold(WHOLE.collect(), |all: Model, one| &all & one))),
+        ),
         _ => match random.below(3) {
             0 => ("+ value", both(p.checked_add_value(small), arithmetic(&u, &only(small), |x, y| x + y), "+ value")),
             1 => ("- value", both(p.checked_sub_value(small), arithmetic(&u, &only(small), |x, y| x - y), "- value")),

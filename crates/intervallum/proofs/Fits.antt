@@ -1,6 +1,6 @@
 -- Room that is taken from the start of a run, and the shortest run that has it.
-use Rattle.std.proofs.Common.{◌≡◌, ◌≤◌, ◌<◌, ◌+◌, ◌⊎◌, inl, inr, ⊎_elim, ℕ, ℤ, pos, ◌+ℤ◌, ◌-ℤ◌, ◌≤ℤ◌, List, [], ◌∷◌, ◌++◌, length, take, take_all, get_or, Some, None, arith, refl, sym, subst}
-use Rattle.std.specs.Prelude.{◌<ℤ◌, Option, MatchOption}
+use Rattle.std.proofs.Common.{◌≡◌, ◌≤◌, ◌<◌, ◌+◌, inl, inr, ⊎_elim, ℕ, ℤ, pos, ◌+ℤ◌, ◌-ℤ◌, ◌≤ℤ◌, List, [], ◌∷◌, ◌++◌, length, take, take_all, get_or, Some, None, arith, refl, sym, subst}
+use Rattle.std.specs.Prelude.{Option, MatchOption}
 use Rattle.std.proofs.lemmas.Bool.{cases_lt}
 use Rattle.std.proofs.lemmas.Int.{ints, by_lt_z}
 use Rattle.ivl_laws.specs.Bounds.{width_of}
@@ -11,8 +11,8 @@ use Rattle.ivl_laws.proofs.Counts.{in-append, in-append_left, in-append_right}
 use Rattle.ivl_laws.proofs.Intervals.{width_of-filled}
 use Rattle.ivl_laws.proofs.Lengths.{free_below}
 use Rattle.ivl_laws.proofs.Places.{free_above_end, start_in}
-use Rattle.ivl_laws.proofs.Products.{one_covers}
-use Rattle.ivl_laws.proofs.Runs.{lower_end, pair_same, upper_end, ≤ℤ_antisymm}
+use Rattle.ivl_laws.proofs.Products.{one_covers, open_in}
+use Rattle.ivl_laws.proofs.Runs.{lower_end, pair_same, ≤ℤ_antisymm}
 use Rattle.intervallum.specs.Edits.{widened}
 use Rattle.intervallum.specs.Fits.{IsBestFit, IsBetterRun, IsNoBetter}
 use Rattle.intervallum.specs.Neighbours.{IsRunWith}
@@ -28,11 +28,6 @@ fit_splits_none n S run f h =
     absurd (omega (arith, ints))
 
 -- ---- the best of the first runs
-
-pub each_open : (L : List (ℤ × ℤ)) (p : ℤ × ℤ) → IsMaximal L → IsIn L p → p.0 ≤ℤ p.1
-each_open [] p m i = absurd i
-each_open (q ∷ L) p m (inl e) = subst (λ (r : ℤ × ℤ). r.0 ≤ℤ r.1) (sym e) m.0
-each_open (q ∷ L) p m (inr i) = each_open L p m.2 i
 
 pub record IsShortest (n : ℕ) (L : List (ℤ × ℤ)) (best : ℤ × ℤ) : Type 0 where
   pub of_list : IsIn L best
@@ -93,7 +88,7 @@ pub best_of_more : (n : ℕ) (L : List (ℤ × ℤ)) (i : ℕ) (d : ℤ × ℤ) 
     IsBestOf n (take i L) best → IsBetterRun n best d answer → IsBestOf n (take (i + 1) L) answer
 best_of_more n L i d None answer m k h is u b = subst (λ (M : List (ℤ × ℤ)). IsBestOf n M answer) (sym (more_is L i d m h is)) (none_yet n (take i L) d answer u b)
 best_of_more n L i d (Some best) answer m k h is u b =
-    let o = each_open (take i L) best k u.of_list in
+    let o = open_in (take i L) best k u.of_list in
     let before = ahead L i d m h is best.0 (one_covers (take i L) best best.0 u.of_list (lower_end best o)) in
     subst (λ (M : List (ℤ × ℤ)). IsBestOf n M answer) (sym (more_is L i d m h is)) (one_yet n (take i L) d best answer (omega (arith, ints)) u b)
 
@@ -119,7 +114,7 @@ run_is_listed L v q m r =
 
 pub best_is_fit : (n : ℕ) (L : List (ℤ × ℤ)) (best fit : ℤ × ℤ) → IsMaximal L → IsShortest n L best → fit ≡ (best.0, (best.0 +ℤ pos n) -ℤ pos 1) → IsBestFit n (Covers L) fit
 best_is_fit n L best fit m u e =
-    let o = each_open L best m u.of_list in
+    let o = open_in L best m u.of_list in
     rw e (record {
       count = refl;
       run = best;
@@ -137,7 +132,7 @@ best_is_fit n L best fit m u e =
 pub none_is_no_fit : (n : ℕ) (L : List (ℤ × ℤ)) → 0 < n → IsMaximal L → IsBestOf n L None → (v : ℤ) → ¬ (FitsAt n (Covers L) v)
 none_is_no_fit n L h m u v f =
     let (p, i, a, b) = in_one_run n L v h m f in
-    let w = width_of-filled p (each_open L p m i) in
+    let w = width_of-filled p (open_in L p m i) in
     let k = u p i in
     let pl = a.0 in
     let pu = b.1 in

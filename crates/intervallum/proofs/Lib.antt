@@ -41,3 +41,7 @@ pub mod Lopsided
 pub mod HeldRunLengths
 pub mod Members
 pub mod Unions
+pub mod Collecting
+pub mod Many
+pub mod MembersWithin
+pub mod Options

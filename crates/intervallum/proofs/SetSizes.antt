@@ -1,5 +1,5 @@
 -- How many members two sets have together, in common, and apart.
-use Rattle.std.proofs.Common.{◌≡◌, ◌↔◌, ◌≤◌, ◌+◌, ◌-◌, ◌⊎◌, inl, inr, ⊎_elim, Bool, true, false, true≢false, IsTrue, ℕ, ℤ, pos, ◌+ℤ◌, ◌≤ℤ◌, List, [], ◌∷◌, ◌++◌, length, take, Some, arith, refl, sym, subst}
+use Rattle.std.proofs.Common.{◌≡◌, ◌↔◌, ◌≤◌, ◌+◌, ◌-◌, ◌⊎◌, inl, inr, ⊎_elim, Bool, true, false, true≢false, IsTrue, ℕ, ℤ, pos, ◌≤ℤ◌, List, [], ◌∷◌, ◌++◌, length, take, Some, arith, refl, sym, subst}
 use Rattle.std.proofs.lemmas.Int.{ints, by_lt_z}
 use Rattle.std.specs.Int.{from_bool}
 use Rattle.std.specs.Prelude.{not, slice_get, ◌<ℤ◌}
@@ -13,17 +13,6 @@ use Rattle.intervallum.specs.HeldRun.{IsTakenIf}
 use Rattle.intervallum.specs.Order.{IsBelow}
 use Rattle.intervallum.proofs.MergeState.{IsBuilding, building_ends, building_starts, written_if_filled}
 use Rattle.intervallum.proofs.Intersections.{common_next, first_covers, shared_is_above}
-
--- ---- a number is covered or not
-
-pub decide_between : (p : ℤ × ℤ) (z : ℤ) → IsBetween p z ⊎ (¬ (IsBetween p z))
-decide_between p z = by_lt_z z p.0
-    (λ h. inr (λ b. let low = b.0 in omega (arith, ints)))
-    (λ h. by_lt_z p.1 z (λ k. inr (λ b. let high = b.1 in omega (arith, ints))) (λ k. inl (h, k)))
-
-pub decide_covers : (L : List (ℤ × ℤ)) (z : ℤ) → Covers L z ⊎ (¬ (Covers L z))
-decide_covers [] z = inr (λ c. c)
-decide_covers (p ∷ L) z = ⊎_elim (λ b. inl (inl b)) (λ n. ⊎_elim (λ c. inl (inr c)) (λ m. inr (⊎_elim n m)) (decide_covers L z)) (decide_between p z)
 
 -- ---- the numbers of a list that are in T, and the others
 

@@ -14,7 +14,7 @@ use Rattle.ivl_laws.proofs.Places.{covers_at, covers-drop, covers-take, open_at,
 use Rattle.ivl_laws.proofs.Widths.{count_is_total_width, total_width, total_width-le}
 use Rattle.intervallum.specs.Edits.{IsSpan, replaced}
 use Rattle.intervallum.specs.HeldRun.{led_by}
-use Rattle.intervallum.specs.Places.{EndBelow, EndsFrom, StartAbove}
+use Rattle.intervallum.specs.Places.{EndsFrom}
 use Rattle.intervallum.specs.Order.{IsBelow}
 use Rattle.intervallum.proofs.Windows.{above_all, below_all, covers_split}
 

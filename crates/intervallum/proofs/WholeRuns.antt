@@ -1,9 +1,9 @@
 -- The whole runs of a list that meet an interval, and what they say of its members.
-use Rattle.std.proofs.Common.{◌≡◌, inl, inr, ⊎_elim, ◌⊎◌, ℕ, zero, suc, ◌-◌, ◌≤◌, ◌<◌, ℤ, pos, ◌+ℤ◌, ◌-ℤ◌, ◌≤ℤ◌, ◌<ℤ◌, List, [], ◌∷◌, length, get_or, take, drop, All, arith, sym, ap, subst, ◌∙◌}
+use Rattle.std.proofs.Common.{◌≡◌, inl, inr, ⊎_elim, ◌⊎◌, ℕ, zero, suc, ◌-◌, ◌≤◌, ◌<◌, ℤ, pos, ◌+ℤ◌, ◌-ℤ◌, ◌≤ℤ◌, List, [], ◌∷◌, length, get_or, take, drop, arith, sym, ap, subst, ◌∙◌}
 use Rattle.std.specs.Int.{int_max}
 use Rattle.std.proofs.lemmas.Int.{ints, clamps, by_lt_z}
 use Rattle.std.proofs.lemmas.List.{drop-drop}
-use Rattle.ivl_laws.specs.Sets.{HasNone, HasSome, InOneRun, Intersection, IsBetween, IsSubset, SameMembers}
+use Rattle.ivl_laws.specs.Sets.{HasNone, HasSome, Intersection, IsBetween, SameMembers}
 use Rattle.ivl_laws.specs.Runs.{Covers, IsMaximal, IsRunsOf, StartsBy}
 use Rattle.ivl_laws.proofs.Runs.{covered_after, covered_from}
 use Rattle.ivl_laws.proofs.Places.{covers-take, covers-drop}

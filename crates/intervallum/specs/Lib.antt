@@ -12,3 +12,4 @@ pub mod FirstFit
 pub mod Members
 pub mod Windows
 pub mod Fits
+pub mod Many

@@ -2,11 +2,10 @@
 use super::conditions::{broken, memory, numbers_between, unless_broken, within_range};
 use super::{IntervalSet, Piece};
 use crate::proved::interval_set::{IntoRuns, Members};
-use crate::proved::ops::{Bounded, Empty, Intersection, IsEmpty, StrictShrinkLeft, StrictShrinkRight};
-use crate::proved::steps::{Place, Probes, find};
+use crate::proved::ops::{Bounded, Empty, IsEmpty, StrictShrinkLeft, StrictShrinkRight};
 use crate::proved::{Global, Interval, sweep::coalesce, width::Width};
-use core::iter::{Copied, FusedIterator};
-use core::{mem, slice};
+use core::iter::FusedIterator;
+use core::mem;
 
 /// An iterator over the members of a set.
 pub type Iter<'a, T> = Members<'a, T>;
@@ -15,7 +14,7 @@ pub type Iter<'a, T> = Members<'a, T>;
 pub type IntoIter<T> = Values<T, IntoRuns<T>>;
 
 /// An iterator over the members of a set that lie in a range.
-pub type Range<'a, T> = Values<T, Copied<slice::Iter<'a, Interval<T>>>>;
+pub type Range<'a, T> = Members<'a, T>;
 
 /// A double-ended iterator over the numbers of runs that another yields, in ascending order.
 #[derive(Clone)]
@@ -50,30 +49,6 @@ impl<T: Width, I: DoubleEndedIterator<Item = Interval<T>>> DoubleEndedIterator f
 }
 
 impl<T: Width, I: DoubleEndedIterator<Item = Interval<T>> + FusedIterator> FusedIterator for Values<T, I> {}
-
-impl<'a, T: Width> Range<'a, T> {
-    pub(super) fn new(set: &'a IntervalSet<T>, window: Interval<T>) -> Self {
-        let (start, end) = if window.is_empty() { (0, 0) } else { span(set, window) };
-        let (first, between, last) = match &set.0.runs()[start..end] {
-            [] => (Interval::empty(), [].as_slice(), Interval::empty()),
-            [run] => (run.intersection(&window), [].as_slice(), Interval::empty()),
-            [first, between @ .., last] => (first.intersection(&window), between, last.intersection(&window)),
-        };
-        Values { first, between: between.iter().copied(), last }
-    }
-}
-
-/// Returns the place of the first run that a window overlaps, and that of the first run above the window.
-fn span<T: Width>(set: &IntervalSet<T>, window: Interval<T>) -> (usize, usize) {
-    let mut probes = Probes::new(&set.0);
-    let start = match find(&mut probes, window.lower()) {
-        Place::In(run) | Place::Gap(run) => run,
-    };
-    match find(&mut probes, window.upper()) {
-        Place::In(run) => (start, run + 1),
-        Place::Gap(run) => (start, run),
-    }
-}
 
 /// Iterates over the members, in ascending order.
 impl<T: Width> IntoIterator for IntervalSet<T> {

@@ -132,7 +132,7 @@ impl<T: Width> IntervalSet<T> {
     /// assert_eq!(a.range(2..8).collect::<Vec<_>>(), [2, 3, 7]);
     /// ```
     pub fn range(&self, range: impl Piece<T>) -> Range<'_, T> {
-        Range::new(self, range.clamped())
+        self.0.members_within(&range.clamped())
     }
 
     /// Returns a double-ended iterator over the runs, in ascending order.

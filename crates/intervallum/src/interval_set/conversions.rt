@@ -1,5 +1,5 @@
 //! Sets into runs, sets extended by intervals, and sets from pairs.
-ghost use Rattle.std.specs.Prelude.{◌≡◌, ℤ, List, [], ◌∷◌, All, map, IfOk, OnOk, OnErr};
+ghost use Rattle.std.specs.Prelude.{◌≡◌, ◌↔◌, ℤ, List, [], ◌∷◌, All, map, IfOk, IsTrue, OnOk, OnErr};
 ghost use Rattle.std.specs.Iterator.{Drains, IsFinite, YieldsFirst, YieldsLast, item_count};
 ghost use Rattle.ivl_laws.specs.Sets.{HasSome, IsBetween, IsInRange, Union};
 ghost use Rattle.ivl_laws.specs.Runs.{Covers, IsRunListIn, IsRunsOf};
@@ -194,9 +194,19 @@ pub trait ToIntervalSet<B: Width> {
     /// The pairs of numbers that the value stands for.
     ghost pairs: { Self → List (ℤ × ℤ) };
 
-    /// Returns the set of the members of every pair. The caller must ensure `Interval::in_range`
-    /// for the bounds of each pair. Pairs may be in any order and overlap; a pair whose bounds
-    /// cross adds nothing.
+    /// Returns true exactly when `to_interval_set` may be called: no lower bound is below the range
+    /// of the type and no upper bound is above it. Bounds may cross. `O(n)` for `n` pairs. Does not
+    /// allocate.
+    ///
+    /// ```
+    /// assert!(rt; [(1u8, 9), (5, 2)].in_range() && ![(1u8, 9), (0, 255)].in_range());
+    /// ```
+    fn in_range(&self) -> bool
+        ensures { IsTrue result ↔ can_convert self.now };
+
+    /// Returns the set of the members of every pair. The caller must ensure that the bounds of each
+    /// pair are in the range. Check with `in_range`. Pairs may be in any order and overlap; a pair
+    /// whose bounds cross adds nothing.
     ///
     /// `O(n log n)` for `n` pairs. Reserves at most `2 n` runs. Fails only if allocation fails.
     ///
@@ -214,6 +224,11 @@ impl<B: Width> ToIntervalSet<B> for (B, B) {
 
     ghost pairs = { λ p. (B.value p.0, B.value p.1) ∷ [] };
 
+    /// Returns true exactly when `Interval::in_range` is true of the two bounds. `O(1)`.
+    fn in_range(&self) -> bool {
+        Interval::in_range(self.0, self.1)
+    }
+
     /// Returns the set of the numbers from the first to the second, which is empty if they cross.
     /// `O(1)`. Reserves at most two runs. Fails only if allocation fails.
     fn to_interval_set(self, alloc: Global) -> Result<IntervalSet<B>, AllocError> {
@@ -228,6 +243,11 @@ impl<B: Width> ToIntervalSet<B> for &[(B, B)] {
 
     ghost pairs = { λ s. map (λ p. (B.value p.0, B.value p.1)) s.now };
 
+    /// Returns true exactly when `Interval::in_range` is true of each pair.
+    fn in_range(&self) -> bool {
+        are_in_range(self)
+    }
+
     /// Returns the set of the members of every pair. The pairs are unchanged. Fails only if
     /// allocation fails.
     fn to_interval_set(self, alloc: Global) -> Result<IntervalSet<B>, AllocError> {
@@ -239,6 +259,11 @@ impl<B: Width> ToIntervalSet<B> for Vec<(B, B)> {
     ghost can_convert = { λ v. All (λ p. IsInRange B.whole (B.value p.0, B.value p.1)) v.items };
 
     ghost pairs = { λ v. map (λ p. (B.value p.0, B.value p.1)) v.items };
+
+    /// Returns true exactly when `Interval::in_range` is true of each pair.
+    fn in_range(&self) -> bool {
+        are_in_range(self.as_slice())
+    }
 
     /// Returns the set of the members of every pair. The vector is consumed. Fails only if
     /// allocation fails.
@@ -252,10 +277,24 @@ impl<B: Width, const N: usize> ToIntervalSet<B> for [(B, B); N] {
 
     ghost pairs = { λ a. map (λ p. (B.value p.0, B.value p.1)) a };
 
+    /// Returns true exactly when `Interval::in_range` is true of each pair.
+    fn in_range(&self) -> bool {
+        are_in_range(self)
+    }
+
     /// Returns the set of the members of every pair. Fails only if allocation fails.
     fn to_interval_set(self, alloc: Global) -> Result<IntervalSet<B>, AllocError> {
         of_pairs(alloc, &self)
     }
+}
+
+/// The bounds of each pair are those of an interval.
+fn are_in_range<B: Width>(pairs: &[(B, B)]) -> bool
+    ensures { IsTrue result ↔ All (λ p. IsInRange B.whole (B.value p.0, B.value p.1)) pairs.now }
+{
+    pairs
+        .iter()
+        .all(|(lower, upper)| Interval::in_range(*lower, *upper))
 }
 
 fn of_pairs<B: Width>(alloc: Global, pairs: &[(B, B)]) -> Result<IntervalSet<B>, AllocError>

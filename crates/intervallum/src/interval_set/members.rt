@@ -29,9 +29,9 @@ use std::mem;
 /// ```
 #[derive(Drop)]
 pub struct Members<'a, B: Width> {
-    first: Interval<B>,
-    between: &'a [Interval<B>],
-    last: Interval<B>,
+    pub(super) first: Interval<B>,
+    pub(super) between: &'a [Interval<B>],
+    pub(super) last: Interval<B>,
 }
 
 impl<'a, B: Width> Model for Members<'a, B> {

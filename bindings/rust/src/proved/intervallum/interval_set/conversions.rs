@@ -235,9 +235,29 @@ fn gathered<B: Width, I: Iterator<Item = Interval<B>> + Drop>(
 /// pairs: { Self → List (ℤ × ℤ) }
 /// ```
 pub trait ToIntervalSet<B: Width> {
-    /// Returns the set of the members of every pair. The caller must ensure `Interval::in_range`
-    /// for the bounds of each pair. Pairs may be in any order and overlap; a pair whose bounds
-    /// cross adds nothing.
+    /// Returns true exactly when `to_interval_set` may be called: no lower bound is below the range
+    /// of the type and no upper bound is above it. Bounds may cross. `O(n)` for `n` pairs. Does not
+    /// allocate.
+    ///
+    /// ```
+    /// # use intervallum::proved::examples::*;
+    /// # fn main() -> Result<(), std::boxed::Box<dyn std::error::Error>> {
+    /// # let alloc = Global;
+    /// assert!([(1u8, 9), (5, 2)].in_range() && ![(1u8, 9), (0, 255)].in_range());
+    /// # Ok(())
+    /// # }
+    /// ```
+    ///
+    /// # Proved
+    ///
+    /// ```text
+    /// ensures { IsTrue result ↔ can_convert self.now }
+    /// ```
+    fn in_range(&self) -> bool;
+
+    /// Returns the set of the members of every pair. The caller must ensure that the bounds of each
+    /// pair are in the range. Check with `in_range`. Pairs may be in any order and overlap; a pair
+    /// whose bounds cross adds nothing.
     ///
     /// `O(n log n)` for `n` pairs. Reserves at most `2 n` runs. Fails only if allocation fails.
     ///
@@ -271,6 +291,15 @@ pub trait ToIntervalSet<B: Width> {
 ///
 /// Words: [`IsInRange`](crate::definitions#IsInRange).
 impl<B: Width> ToIntervalSet<B> for (B, B) {
+    /// Returns true exactly when `Interval::in_range` is true of the two bounds. `O(1)`.
+    ///
+    /// # Proved
+    ///
+    /// What [`ToIntervalSet::in_range`] says, by the words of the type.
+    fn in_range(&self) -> bool {
+        Interval::in_range(self.0, self.1)
+    }
+
     /// Returns the set of the numbers from the first to the second, which is empty if they cross.
     /// `O(1)`. Reserves at most two runs. Fails only if allocation fails.
     ///
@@ -293,6 +322,15 @@ impl<B: Width> ToIntervalSet<B> for (B, B) {
 ///
 /// Words: [`IsInRange`](crate::definitions#IsInRange).
 impl<B: Width> ToIntervalSet<B> for &[(B, B)] {
+    /// Returns true exactly when `Interval::in_range` is true of each pair.
+    ///
+    /// # Proved
+    ///
+    /// What [`ToIntervalSet::in_range`] says, by the words of the type.
+    fn in_range(&self) -> bool {
+        are_in_range(self)
+    }
+
     /// Returns the set of the members of every pair. The pairs are unchanged. Fails only if
     /// allocation fails.
     ///
@@ -313,6 +351,15 @@ impl<B: Width> ToIntervalSet<B> for &[(B, B)] {
 ///
 /// Words: [`IsInRange`](crate::definitions#IsInRange).
 impl<B: Width> ToIntervalSet<B> for Vec<(B, B)> {
+    /// Returns true exactly when `Interval::in_range` is true of each pair.
+    ///
+    /// # Proved
+    ///
+    /// What [`ToIntervalSet::in_range`] says, by the words of the type.
+    fn in_range(&self) -> bool {
+        are_in_range(self.as_slice())
+    }
+
     /// Returns the set of the members of every pair. The vector is consumed. Fails only if
     /// allocation fails.
     ///
@@ -333,6 +380,15 @@ impl<B: Width> ToIntervalSet<B> for Vec<(B, B)> {
 ///
 /// Words: [`IsInRange`](crate::definitions#IsInRange).
 impl<B: Width, const N: usize> ToIntervalSet<B> for [(B, B); N] {
+    /// Returns true exactly when `Interval::in_range` is true of each pair.
+    ///
+    /// # Proved
+    ///
+    /// What [`ToIntervalSet::in_range`] says, by the words of the type.
+    fn in_range(&self) -> bool {
+        are_in_range(self)
+    }
+
     /// Returns the set of the members of every pair. Fails only if allocation fails.
     ///
     /// # Proved
@@ -341,6 +397,13 @@ impl<B: Width, const N: usize> ToIntervalSet<B> for [(B, B); N] {
     fn to_interval_set(self, alloc: Global) -> Result<IntervalSet<B>, AllocError> {
         of_pairs(alloc, &self)
     }
+}
+
+/// The bounds of each pair are those of an interval.
+fn are_in_range<B: Width>(pairs: &[(B, B)]) -> bool {
+    pairs
+        .iter()
+        .all(|(lower, upper)| Interval::in_range(*lower, *upper))
 }
 
 fn of_pairs<B: Width>(alloc: Global, pairs: &[(B, B)]) -> Result<IntervalSet<B>, AllocError> {

@@ -1,4 +1,4 @@
-use Rattle.std.proofs.Common.{ℕ, ℤ, List, sym, subst, arith}
+use Rattle.std.proofs.Common.{ℤ, List, sym, subst, arith}
 use Rattle.ivl_laws.specs.Runs.{Covers, IsMaximal}
 use Rattle.ivl_laws.proofs.Places.{IsMaximal-take}
 use Rattle.intervallum.specs.Fits.{IsBestFit}

@@ -1,5 +1,6 @@
 use Rattle.ivl_laws.specs.Runs.{Covers}
-use Rattle.intervallum.proofs.SetSizes.{common_at_most, decide_covers, without_count}
+use Rattle.ivl_laws.proofs.Lengths.{decide_covers}
+use Rattle.intervallum.proofs.SetSizes.{common_at_most, without_count}
 use Rattle.intervallum.proofs.interval_set.IntervalSet.difference_size.Goals as goal
 
 pub unwrap-requires : goal.unwrap-requires

@@ -1,9 +1,9 @@
-use Rattle.std.proofs.Common.{◌∙◌, ◌-◌, ◌≤ℤ◌, ℤ, List, drop, take, sym, subst}
+use Rattle.std.proofs.Common.{◌-◌, ◌≤ℤ◌, ℤ, List, drop, take, sym, subst}
 use Rattle.ivl_laws.specs.Sets.{IsBetween}
-use Rattle.ivl_laws.specs.Runs.{Covers, IsMaximal, IsRunListIn, IsRunsOf, StartsBy}
+use Rattle.ivl_laws.specs.Runs.{Covers, IsMaximal, IsRunListIn, IsRunsOf}
 use Rattle.ivl_laws.proofs.Adding.{untrue}
 use Rattle.ivl_laws.proofs.Intervals.{not_crossed}
-use Rattle.intervallum.specs.Places.{EndBelow, EndsFrom, StartAbove}
+use Rattle.intervallum.specs.Places.{EndBelow, StartAbove}
 use Rattle.intervallum.specs.Windows.{OfRunsThatMeet}
 use Rattle.intervallum.proofs.Finding.{EndBelow-more}
 use Rattle.intervallum.proofs.WholeRuns.{each_meets, met_runs}

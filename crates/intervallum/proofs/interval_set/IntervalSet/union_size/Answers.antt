@@ -2,7 +2,8 @@ use Rattle.std.proofs.Common.{ℕ, ⊎_elim, sym, subst}
 use Rattle.ivl_laws.specs.Counts.{IsCountOf}
 use Rattle.ivl_laws.specs.Sets.{Union}
 use Rattle.ivl_laws.specs.Runs.{Covers}
-use Rattle.intervallum.proofs.SetSizes.{count_fits, decide_covers, union_count}
+use Rattle.ivl_laws.proofs.Lengths.{decide_covers}
+use Rattle.intervallum.proofs.SetSizes.{count_fits, union_count}
 use Rattle.intervallum.proofs.interval_set.IntervalSet.union_size.Goals as goal
 
 pub grown-requires : goal.grown-requires

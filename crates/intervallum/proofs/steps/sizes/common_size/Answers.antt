@@ -1,4 +1,4 @@
-use Rattle.std.proofs.Common.{◌+◌, ℕ, subst, sym, arith}
+use Rattle.std.proofs.Common.{ℕ, subst, sym, arith}
 use Rattle.ivl_laws.specs.Sets.{Intersection}
 use Rattle.ivl_laws.specs.Runs.{Covers}
 use Rattle.ivl_laws.proofs.Intervals.{some_is_not_crossed}
