@@ -3,3 +3,4 @@ pub mod Spaces
 pub mod Answered
 pub mod Cuts
 pub mod Splits
+pub mod SetTexts

@@ -1,5 +1,5 @@
 -- The runs of a list that reach a window make all results in it.
-use Rattle.std.proofs.Common.{◌≡◌, ◌⊎◌, ⊎_elim, inl, inr, ℤ, ◌≤ℤ◌, List, [], ◌∷◌, length, map, subst, arith}
+use Rattle.std.proofs.Common.{◌≡◌, ⊎_elim, inl, inr, ℤ, ◌≤ℤ◌, List, [], ◌∷◌, length, map, subst, arith}
 use Rattle.std.proofs.lemmas.Int.{ints}
 use Rattle.ivl_laws.specs.Arithmetic.{interval_difference, interval_sum}
 use Rattle.ivl_laws.specs.Sets.{IsBetween, IsHullOf, IsSubset, Intersection, SameMembers, Union}
