@@ -4,3 +4,4 @@ pub mod Answered
 pub mod Cuts
 pub mod Splits
 pub mod SetTexts
+pub mod Sessions
