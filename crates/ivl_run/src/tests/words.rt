@@ -46,11 +46,17 @@ fn control_characters_are_escaped(rt: HostRuntime) -> Result<(), Fail> {
     for (text, shown) in [
         ("a\tb", "a\\tb"),
         ("\u{1b}[2J", "\\u{1b}[2J"),
-        ("\0\n\r\u{7f}\u{80}\u{9f}", "\\u{0}\\n\\r\\u{7f}\\u{80}\\u{9f}"),
+        (
+            "\0\n\r\u{7f}\u{80}\u{9f}",
+            "\\u{0}\\n\\r\\u{7f}\\u{80}\\u{9f}",
+        ),
         ("\u{e9}\u{a0} '\"\\~", "\u{e9}\u{a0} '\"\\~"),
         ("", ""),
     ] {
-        assert_eq!(rt; format!(in rt.alloc(); "{}", Escaped(text))?.as_str(), shown);
+        assert_eq!(rt;
+            format!(in rt.alloc(); "{}", Escaped(text))?.as_str(),
+            shown
+        );
     }
     Ok(())
 }
