@@ -1,6 +1,8 @@
 #!/usr/bin/env python3
 """The solver beside brute force: usage: tests/programs/ivl_solve.py [PROGRAM] [--seconds N] [--seed N]"""
 
+import unicodedata
+
 from ivl_run import LEAST, joined, number, text
 from lines import main
 
@@ -10,8 +12,16 @@ FORMS = {
     b"sum": b"sum x y z",
     b"limit": b"limit n",
     b"go": b"go on",
-    b"show": b"show",
+    b"show": b"show or show x",
 }
+
+SHORT = {"\t": "\\t", "\r": "\\r", "\n": "\\n"}
+
+
+def escaped(word):
+    """The word with its control characters as Rust's `char::escape_default` writes them."""
+    shown = (SHORT.get(c, f"\\u{{{ord(c):x}}}") if unicodedata.category(c) == "Cc" else c for c in word.decode())
+    return "".join(shown).encode()
 
 
 def supported(domains, sums):
@@ -64,9 +74,9 @@ class Solver:
     def fault(self, name, words):
         """Why the words are not carried out, or None."""
         if name not in FORMS:
-            return b"unknown command " + name
+            return b"unknown command " + escaped(name)
         if name == b"show":
-            return b"write show" if words else None
+            return self.fault_of_show(words)
         if name == b"sum":
             return self.fault_of_sum(words)
         if name == b"go":
@@ -77,25 +87,32 @@ class Solver:
             return b"write " + FORMS[name]
         for word in words[1:]:
             if number(word) is None:
-                return b"bad number " + word
-        if len(words) % 2 == 0:
+                return b"bad number " + escaped(word)
+        if len(words) % 2 == 0 or (name == b"cut" and len(words) == 1):
             return b"write " + FORMS[name]
         return self.fault_of_pairs(name, words)
 
     def fault_of_pairs(self, name, words):
         if name == b"var" and words[0] in self.domains:
-            return words[0] + b" is defined already"
+            return escaped(words[0]) + b" is defined already"
         if name == b"cut" and words[0] not in self.domains:
-            return b"unknown variable " + words[0]
+            return b"unknown variable " + escaped(words[0])
         if any(number(lower) < LEAST for lower in words[1::2]):
             return b"out of range"
+        return None
+
+    def fault_of_show(self, words):
+        if len(words) > 1:
+            return b"write " + FORMS[b"show"]
+        if words and words[0] not in self.domains:
+            return b"unknown variable " + escaped(words[0])
         return None
 
     def fault_of_limit(self, words):
         if len(words) != 1:
             return b"write " + FORMS[b"limit"]
         if number(words[0]) is None or number(words[0]) < 0:
-            return b"bad number " + words[0]
+            return b"bad number " + escaped(words[0])
         return None
 
     def fault_of_sum(self, words):
@@ -103,17 +120,17 @@ class Solver:
             return b"write " + FORMS[b"sum"]
         for word in words:
             if word not in self.domains:
-                return b"unknown variable " + word
+                return b"unknown variable " + escaped(word)
         x, y, z = words
         if x == y:
-            return x + b" is named twice"
+            return escaped(x) + b" is named twice"
         if z in (x, y):
-            return z + b" is named twice"
+            return escaped(z) + b" is named twice"
         return None
 
     def carried_out(self, name, words):
         if name == b"show":
-            lines = [name + b" " + self.text(members) + b"\n" for name, members in self.domains.items()]
+            lines = [escaped(name) + b" " + self.text(self.domains[name]) + b"\n" for name in words or self.domains]
             return b"".join(lines) + self.state()
         if name == b"limit":
             self.limit = number(words[0])
@@ -181,12 +198,12 @@ def random_pairs(dice):
 
 
 def random_line(dice):
-    variable = lambda: dice.choice(["x", "y", "z", "u", "v", "w"] if dice.random() < 0.95 else ["q", "\u00e9", "xx"])
+    variable = lambda: dice.choice(["x", "y", "z", "u", "v", "w"] if dice.random() < 0.95 else ["q", "\u00e9", "xx", "\t", "\x1b[2J", "\u00e9\\\x9b", "\0\x7f", "x\r\ry"])
     name = dice.choice(["var", "cut", "cut", "sum", "sum", "show", "show", "limit", "go"])
     if name == "sum":
         parts = dice.sample("xyzuvw", 3) if dice.random() < 0.8 else [variable() for _ in range(dice.choice([3, 3, 2, 4]))]
     elif name == "show":
-        parts = [] if dice.random() < 0.95 else ["x"]
+        parts = [] if dice.random() < 0.6 else [variable() for _ in range(dice.choice([1, 1, 1, 2]))]
     elif name == "limit":
         parts = [dice.choice(["0", "1", "2", "3", "5", "1000000", "1000000"])] if dice.random() < 0.9 else dice.choice([[], ["-1"], ["x"], ["1", "2"], [str(2**63 - 1)]])
     elif name == "go":

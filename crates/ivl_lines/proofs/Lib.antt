@@ -3,3 +3,5 @@ pub mod Spaces
 pub mod Answered
 pub mod Cuts
 pub mod Splits
+pub mod SetTexts
+pub mod Sessions

@@ -2,7 +2,9 @@ pub mod Words
 pub mod Numbers
 pub mod Lines
 pub mod Answered
+pub mod Commands
 pub mod Arguments
 pub mod Cut
+pub mod Escapes
 pub mod Faults
 pub mod Sets

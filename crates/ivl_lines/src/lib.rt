@@ -3,12 +3,16 @@
 #![tactic(auto)]
 
 mod arguments;
+mod commands;
+mod escapes;
 mod numbers;
 mod session;
 mod text;
 mod words;
 
 pub use arguments::{Start, start_of};
+pub use commands::AnswersCommands;
+pub use escapes::Escaped;
 pub use numbers::{number_from, pairs_from};
 pub use session::{Answers, LineFault, SessionFault, serve};
 pub use text::{first_word, line_text};

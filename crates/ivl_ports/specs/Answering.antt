@@ -3,14 +3,14 @@
 --     Takes count old text new      the answer to `take`: the lowest run of so many free ports, which is free no longer
 --     Gives run old text new      the answer to `give`: the ports are free too, if none of them was
 --     Shows words old text new      the answer to `free`: how many ports are free, and which
---     AnswersWords old words text new      the answer to a line of these words
---     AnswersLine old line text new      the answer to a line; it keeps the free ports within the range
-use Rattle.std.specs.Prelude.{◌≡◌, ◌⊎◌, ℕ, ℤ, pos, Bool, true, false, List, [], ◌∷◌, ◌++◌, bytes_eq, codes, decimal, MatchBool, Option, None, Some}
-use Rattle.std.specs.Str.{is_utf8}
+--     AnswersCommand old name words text new      the answer to a command; it keeps the free ports within the range
+--     AnswersLine old line text new      the answer to a line
+use Rattle.std.specs.Prelude.{◌≡◌, ◌⊎◌, ℕ, ℤ, pos, List, [], ◌∷◌, ◌++◌, bytes_eq, codes, decimal, MatchBool, Option, None, Some}
 use Rattle.ivl_laws.specs.Counts.{IsCountOf}
 use Rattle.ivl_laws.specs.Runs.{Covers, IsRunsOf}
 use Rattle.ivl_laws.specs.Sets.{HasNone, Intersection, IsBetween, IsSubset, Union, Without}
-use Rattle.ivl_lines.specs.Lines.{with_newline, words_of}
+use Rattle.ivl_lines.specs.Commands.{AnswersByCommand}
+use Rattle.ivl_lines.specs.Lines.{with_newline}
 use Rattle.ivl_lines.specs.Sets.{run_text, pairs_text}
 use Rattle.intervallum.specs.FirstFit.{FitsAt, IsFirstFit}
 use Rattle.ivl_ports.specs.Lines.{asked_count, given_of}
@@ -31,7 +31,6 @@ Takes None old text new = RefusesCommand (codes "error: write take COUNT, with a
 Takes (Some n) old text new =
     (((v : ℤ) → ¬ (FitsAt n (Covers old) v)) × RefusesCommand (codes "none") old text new)
     ⊎ ((run : ℤ × ℤ) × IsFirstFit n (Covers old) run × (text ≡ with_newline (run_text run)) × IsRunsOf new (Without (Covers old) (IsBetween run)))
-    ⊎ FindsNoMemory old text new
 
 abbrev pub GivesBack : ℤ × ℤ → List (ℤ × ℤ) → List ℕ → List (ℤ × ℤ) → Type 0
 GivesBack run old text new = (text ≡ with_newline (codes "ok")) × IsRunsOf new (Union (Covers old) (IsBetween run))
@@ -54,15 +53,7 @@ AnswersCommand old name words text new =
     (MatchBool (bytes_eq name (codes "give")) (Gives (given_of words) old text new)
     (MatchBool (bytes_eq name (codes "free")) (Shows words old text new)
     (RefusesCommand (codes "error: write take COUNT, give FIRST LAST or free") old text new)))
-
-abbrev pub AnswersWords : List (ℤ × ℤ) → List (List ℕ) → List ℕ → List (ℤ × ℤ) → Type 0
-AnswersWords old [] text new = (text ≡ []) × (new ≡ old)
-AnswersWords old (name ∷ words) text new = AnswersCommand old name words text new
-
--- by whether the line is UTF-8
-abbrev pub AnswersBytes : List (ℤ × ℤ) → List ℕ → Bool → List ℕ → List (ℤ × ℤ) → Type 0
-AnswersBytes old line true text new = AnswersWords old (words_of line) text new
-AnswersBytes old line false text new = RefusesCommand (codes "error: not UTF-8") old text new
+    × (IsPortSet old → IsPortSet new)
 
 abbrev pub AnswersLine : List (ℤ × ℤ) → List ℕ → List ℕ → List (ℤ × ℤ) → Type 0
-AnswersLine old line text new = AnswersBytes old line (is_utf8 line) text new × (IsPortSet old → IsPortSet new)
+AnswersLine old line text new = AnswersByCommand AnswersCommand old line text new

@@ -6,32 +6,39 @@ ghost use Rattle.ivl_laws.specs.Sets.{IsSubset};
 ghost use Rattle.ivl_lines.specs.Answered.{IsAnswered};
 ghost use Rattle.ivl_lines.specs.Lines.{ended_lines_of, lines_of};
 ghost use Rattle.ivl_lines.specs.Words.{words_between};
-ghost use Rattle.ivl_ports.specs.Answering.{AnswersCommand, AnswersLine, AnswersWords, Gives, IsPortSet, Shows, Takes};
+ghost use Rattle.ivl_ports.specs.Answering.{AnswersLine, Gives, IsPortSet, Shows, Takes};
 ghost use Rattle.ivl_ports.specs.Lines.{asked_count, given_of};
 ghost use Rattle.ivl_ports.specs.Outcome.{outcome_of};
 
 use crate::ports::Ports;
 use crate::replies::{write_free, write_run};
 use crate::requests::{count_from, given_from};
-use ivl_lines::{Answers, LineFault, SessionFault, line_text, next_word, serve};
+use ivl_lines::{AnswersCommands, SessionFault, next_word, serve};
 use std::alloc::Global;
 use std::io;
 use std::io::{Read, Write};
 
-impl Answers for Ports {
-    ghost use Rattle.ivl_ports.specs.Answering.{AnswersLine};
+impl AnswersCommands for Ports {
+    ghost use Rattle.ivl_ports.specs.Answering.{AnswersCommand};
 
-    ghost allowed = { AnswersLine };
+    ghost command_allowed = { AnswersCommand };
 
-    fn may_take_long(&self, _: &[u8]) -> bool {
+    fn command_may_take_long(&self, _: &str) -> bool {
         false
     }
 
-    fn answer<W: Write>(&mut self, line: &[u8], writer: &mut W) -> Result<(), LineFault> {
-        if answer_line(self, line, writer).is_err() {
-            return Err(LineFault::Write);
+    fn answer_command<W: Write>(
+        &mut self,
+        name: &str,
+        words: &str,
+        writer: &mut W,
+    ) -> io::Result<()> {
+        match name {
+            "take" => take(self, words, writer),
+            "give" => give(self, words, writer),
+            "free" => show(self, words, writer),
+            _ => writer.write_all(b"error: write take COUNT, give FIRST LAST or free\n"),
         }
-        Ok(())
     }
 }
 
@@ -63,51 +70,6 @@ pub fn session<R: Read, W: Write>(
     serve(alloc, &mut ports, reader, writer)
 }
 
-/// Answers one line.
-fn answer_line<W: Write>(ports: &mut Ports, line: &[u8], writer: &mut W) -> io::Result<()>
-    ensures { OnOk result ((text : List ℕ)
-        × AnswersLine ports.old line.now text ports.new
-        × Appends (W.contents writer.old) (W.contents writer.new) text) }
-{
-    match line_text(line) {
-        Some(text) => answer_text(ports, text, writer),
-        None => writer.write_all(b"error: not UTF-8\n"),
-    }
-}
-
-/// Answers the words of a text. If there are none, there is no answer.
-fn answer_text<W: Write>(ports: &mut Ports, text: &str, writer: &mut W) -> io::Result<()>
-    ensures answer { OnOk result ((answer : List ℕ)
-        × AnswersWords ports.old (words_between text.now) answer ports.new
-        × Appends (W.contents writer.old) (W.contents writer.new) answer) }
-    ensures within { IsPortSet ports.old → IsPortSet ports.new }
-{
-    match next_word(text) {
-        Some((name, words)) => answer_command(ports, name, words, writer),
-        None => Ok(()),
-    }
-}
-
-/// Carries out a command with the words after it, and writes the answer.
-fn answer_command<W: Write>(
-    ports: &mut Ports,
-    name: &str,
-    words: &str,
-    writer: &mut W,
-) -> io::Result<()>
-    ensures answer { OnOk result ((text : List ℕ)
-        × AnswersCommand ports.old name.now (words_between words.now) text ports.new
-        × Appends (W.contents writer.old) (W.contents writer.new) text) }
-    ensures within { IsPortSet ports.old → IsPortSet ports.new }
-{
-    match name {
-        "take" => take(ports, words, writer),
-        "give" => give(ports, words, writer),
-        "free" => show(ports, words, writer),
-        _ => writer.write_all(b"error: write take COUNT, give FIRST LAST or free\n"),
-    }
-}
-
 fn take<W: Write>(ports: &mut Ports, words: &str, writer: &mut W) -> io::Result<()>
     ensures answer { OnOk result ((text : List ℕ)
         × Takes (asked_count (words_between words.now)) ports.old text ports.new
@@ -118,9 +80,8 @@ fn take<W: Write>(ports: &mut Ports, words: &str, writer: &mut W) -> io::Result<
         return writer.write_all(b"error: write take COUNT, with a count from 1 to 65535\n");
     };
     match ports.take(count) {
-        Ok(Some(taken)) => write_run(writer, &taken),
-        Ok(None) => writer.write_all(b"none\n"),
-        Err(_) => writer.write_all(b"error: out of memory\n"),
+        Some(taken) => write_run(writer, &taken),
+        None => writer.write_all(b"none\n"),
     }
 }
 

@@ -7,7 +7,7 @@ ghost use Rattle.intervallum.specs.FirstFit.{FitsAt, IsFirstFit};
 
 use intervallum::interval::Interval;
 use intervallum::interval_set::IntervalSet;
-use intervallum::ops::{Cardinality, Overlap};
+use intervallum::ops::{Cardinality, Disjoint};
 use std::alloc::{AllocError, Global};
 use std::marker::Model;
 
@@ -53,26 +53,17 @@ impl Ports {
     pub fn are_taken(&self, ports: &Interval<u32>) -> bool
         ensures { IsTrue result ↔ HasNone (Intersection (Covers self.now) (IsBetween ports.now)) }
     {
-        !self.free.overlap(ports)
+        self.free.is_disjoint(ports)
     }
 
     /// Takes and returns the lowest `count` consecutive free ports, or returns `None` if there are none. The caller
-    /// must ensure that `count` is above 0.
-    ///
-    /// # Errors
-    ///
-    /// Fails only if allocation fails. No port is then taken.
-    pub fn take(&mut self, count: u32) -> Result<Option<Interval<u32>>, AllocError>
+    /// must ensure that `count` is above 0. Does not allocate.
+    pub fn take(&mut self, count: u32) -> Option<Interval<u32>>
         requires { 0 < count }
-        ensures none { IfOk result (λ o. MatchOption o (((v : ℤ) → ¬ (FitsAt count (Covers self.old) v)) × (self.new ≡ self.old))
-            (λ taken. IsFirstFit count (Covers self.old) taken × IsRunsOf self.new (Without (Covers self.old) (IsBetween taken)))) }
-        ensures err { OnErr result (self.new ≡ self.old) }
+        ensures { MatchOption result (((v : ℤ) → ¬ (FitsAt count (Covers self.old) v)) × (self.new ≡ self.old))
+            (λ taken. IsFirstFit count (Covers self.old) taken × IsRunsOf self.new (Without (Covers self.old) (IsBetween taken))) }
     {
-        let Some(ports) = self.free.first_fit(count) else {
-            return Ok(None);
-        };
-        self.free.remove_interval(ports)?;
-        Ok(Some(ports))
+        self.free.take_first_fit(count)
     }
 
     /// Gives ports back; ports that are already free stay free.

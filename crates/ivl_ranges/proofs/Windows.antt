@@ -2,7 +2,7 @@
 use Rattle.std.proofs.Common.{◌↔◌, ℕ, ℤ, pos, ◌+ℤ◌, ◌≤ℤ◌, ◌<ℤ◌, List, refl, subst, arith}
 use Rattle.std.proofs.lemmas.Int.{ints}
 use Rattle.ivl_laws.specs.Runs.{IsRunsOf}
-use Rattle.ivl_laws.specs.Sets.{Intersection, IsBetween, IsSubset, SameMembers, Sums}
+use Rattle.ivl_laws.specs.Sets.{Intersection, IsBetween, IsHullOf, IsSubset, SameMembers, Sums}
 use Rattle.ivl_ranges.specs.Indexes.{IsIndexOf, SafeIn}
 
 pub window_is : (K : ℤ → Type 0) (n : ℕ) (l u x : ℤ) (p q : ℤ × ℤ) → K l → ((z : ℤ) → K z → l ≤ℤ z) → K u → ((z : ℤ) → K z → z ≤ℤ u)
@@ -20,14 +20,12 @@ safe_is S K n w L a r = record {
 }
 
 -- a set lies in a window exactly when its hull does
-pub safe_by_hull : (S K : ℤ → Type 0) (n : ℕ) (w h : ℤ × ℤ) (l u : ℤ) → S l → ((z : ℤ) → S z → l ≤ℤ z) → S u → ((z : ℤ) → S z → z ≤ℤ u)
-    → SameMembers (IsBetween h) (IsBetween (l, u)) → ((x : ℤ) → x ≤ℤ u → IsBetween w x ↔ ((y : ℤ) → K y → IsIndexOf n (x +ℤ y)))
-    → IsSubset (IsBetween h) (IsBetween w) ↔ IsSubset (Sums S K) (IsIndexOf n)
-safe_by_hull S K n w h l u least lowest most highest same a = (
-  (λ b z s. subst (λ (t : ℤ). IsIndexOf n t) s.4 ((a s.0 (highest s.0 s.2)).0 (b s.0 ((same s.0).1 (lowest s.0 s.2, highest s.0 s.2))) s.1 s.3)),
+pub safe_by_hull : (S K : ℤ → Type 0) (n : ℕ) (w h : ℤ × ℤ) → IsHullOf h S → ((x : ℤ) → S x → IsBetween w x ↔ ((y : ℤ) → K y → IsIndexOf n (x +ℤ y))) → IsSubset (IsBetween h) (IsBetween w) ↔ IsSubset (Sums S K) (IsIndexOf n)
+safe_by_hull S K n w h hull a = (
+  (λ b z s. subst (λ (t : ℤ). IsIndexOf n t) s.4 ((a s.0 s.2).0 (b s.0 (hull.holds s.0 s.2)) s.1 s.3)),
   (λ all x b.
-      let ends : (l ≤ℤ x) × (x ≤ℤ u) = (same x).0 b in
-      let at_least : IsBetween w l = (a l (highest l least)).1 (λ y k. all (l +ℤ y) (l, y, least, k, refl)) in
-      let at_most : IsBetween w u = (a u (highest u most)).1 (λ y k. all (u +ℤ y) (u, y, most, k, refl)) in
-      (omega (arith, ints, ends.0, at_least.0), omega (arith, ints, ends.1, at_most.1))),
+      let ends = hull.ends (omega (arith, ints, b.0, b.1)) in
+      let at_least : IsBetween w h.0 = (a h.0 ends.0).1 (λ y k. all (h.0 +ℤ y) (h.0, y, ends.0, k, refl)) in
+      let at_most : IsBetween w h.1 = (a h.1 ends.1).1 (λ y k. all (h.1 +ℤ y) (h.1, y, ends.1, k, refl)) in
+      (omega (arith, ints, b.0, at_least.0), omega (arith, ints, b.1, at_most.1))),
 )

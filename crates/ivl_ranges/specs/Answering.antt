@@ -5,13 +5,12 @@
 --     Checks s words told      what `check` with these words finds
 --     Replies old name words told new      the same of a line, by its first word and the others
 --     AnswersLine old line text new      the text that a line is answered with
-use Rattle.std.specs.Prelude.{◌≡◌, ◌≢◌, ℕ, ℤ, Bool, true, false, List, [], ◌∷◌, bytes_eq, codes, MatchBool, None, Some, Result, Ok, Err}
-use Rattle.std.specs.Str.{is_utf8}
+use Rattle.std.specs.Prelude.{◌≡◌, ◌≢◌, ℕ, ℤ, List, [], bytes_eq, codes, MatchBool, None, Some, Result, Ok, Err}
 use Rattle.ivl_laws.specs.Runs.{Covers, IsRunsOf}
 use Rattle.ivl_laws.specs.Sets.{IsSubset, Sums}
-use Rattle.ivl_lines.specs.Lines.{words_of}
+use Rattle.ivl_lines.specs.Commands.{AnswersByCommand}
 use Rattle.ivl_ranges.specs.declared.reply.Fault.{Fault}
-use Rattle.ivl_ranges.specs.declared.reply.Fault.TheVariants.{Bytes, Command, Ranges, Length, Check, NoIndex, NoOffset, Memory}
+use Rattle.ivl_ranges.specs.declared.reply.Fault.TheVariants.{Command, Ranges, Length, Check, NoIndex, NoOffset, Memory}
 use Rattle.ivl_ranges.specs.declared.reply.Reply.{Reply}
 use Rattle.ivl_ranges.specs.declared.reply.Reply.TheVariants.{Done, Safe, SafeFor}
 use Rattle.ivl_ranges.specs.Indexes.{IsIndexOf, SafeIn}
@@ -64,15 +63,8 @@ Replies old name words told new =
     (MatchBool (bytes_eq name (codes "check")) (Checks old words told × (new ≡ old))
     ((told ≡ Err Command) × (new ≡ old)))))
 
--- a line without words has no answer
-abbrev pub AnswersWords : State → List (List ℕ) → List ℕ → State → Type 0
-AnswersWords old [] text new = (text ≡ []) × (new ≡ old)
-AnswersWords old (name ∷ words) text new = (told : Result Reply Fault) × Replies old name words told new × (text ≡ reply_line told)
-
--- by whether the line is UTF-8
-abbrev pub AnswersBytes : State → List ℕ → Bool → List ℕ → State → Type 0
-AnswersBytes old line true text new = AnswersWords old (words_of line) text new
-AnswersBytes old line false text new = (text ≡ reply_line (Err Bytes)) × (new ≡ old)
+abbrev pub AnswersCommand : State → List ℕ → List (List ℕ) → List ℕ → State → Type 0
+AnswersCommand old name words text new = (told : Result Reply Fault) × Replies old name words told new × (text ≡ reply_line told)
 
 abbrev pub AnswersLine : State → List ℕ → List ℕ → State → Type 0
-AnswersLine old line text new = AnswersBytes old line (is_utf8 line) text new
+AnswersLine old line text new = AnswersByCommand AnswersCommand old line text new

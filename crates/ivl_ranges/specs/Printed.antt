@@ -5,12 +5,11 @@ use Rattle.std.specs.Prelude.{ℕ, List, [], ◌∷◌, ◌++◌, codes, Result,
 use Rattle.ivl_lines.specs.Lines.{with_newline}
 use Rattle.ivl_lines.specs.Sets.{pairs_text}
 use Rattle.ivl_ranges.specs.declared.reply.Fault.{Fault}
-use Rattle.ivl_ranges.specs.declared.reply.Fault.TheVariants.{Bytes, Command, Ranges, Length, Check, NoIndex, NoOffset, Memory}
+use Rattle.ivl_ranges.specs.declared.reply.Fault.TheVariants.{Command, Ranges, Length, Check, NoIndex, NoOffset, Memory}
 use Rattle.ivl_ranges.specs.declared.reply.Reply.{Reply}
 use Rattle.ivl_ranges.specs.declared.reply.Reply.TheVariants.{Done, Safe, SafeFor}
 
 abbrev pub fault_text : Fault → List ℕ
-fault_text Bytes = codes "not UTF-8"
 fault_text Command = codes "write i RANGES, k RANGES, length NUMBER or check"
 fault_text Ranges = codes "write ranges such as -1..1 5..5, with the lower end first"
 fault_text Length = codes "write length NUMBER, from 0 to 4294967295"

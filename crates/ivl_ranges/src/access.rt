@@ -14,11 +14,11 @@ use std::alloc::AllocError;
 pub fn is_safe(index: &IntervalSet<i64>, offset: &IntervalSet<i64>, length: u32) -> bool
     ensures { IsTrue result ↔ IsSubset (Sums (Covers index.now) (Covers offset.now)) (IsIndexOf length) }
 {
-    if index.is_empty() || offset.is_empty() {
+    if offset.is_empty() {
         return true;
     }
-    let window = window(offset, length);
-    Interval::new(index.lower(), index.upper()).is_subset(&window)
+    index.in_whole();
+    index.hull().is_subset(&window(offset, length))
 }
 
 /// Returns the members `i` of `index` for which `i + k` is an index of an array of this length for every member `k` of

@@ -3,34 +3,35 @@ ghost use Rattle.std.specs.Prelude.{◌≡◌, ℕ, List, [], IfSome, IsErrOf, O
 ghost use Rattle.std.specs.Io.KnownBytes.{Appends, Consumes, IsAtEnd};
 ghost use Rattle.ivl_lines.specs.Answered.{IsAnswered};
 ghost use Rattle.ivl_lines.specs.Lines.{ended_lines_of, lines_of};
-ghost use Rattle.ivl_lines.specs.Words.{words_between};
-ghost use Rattle.ivl_ranges.specs.Answering.{AnswersLine, AnswersWords, State};
+ghost use Rattle.ivl_ranges.specs.Answering.{AnswersLine, State};
 ghost use Rattle.ivl_ranges.specs.Outcome.{outcome_of};
 
-use crate::reply::{Fault, write_told};
+use crate::reply::write_told;
 use crate::state::Access;
-use ivl_lines::{Answers, LineFault, SessionFault, first_word, line_text, next_word, serve};
+use ivl_lines::{AnswersCommands, SessionFault, serve};
 use std::alloc::Global;
 use std::io;
 use std::io::{Read, Write};
 
-impl Answers for Access {
-    ghost use Rattle.ivl_ranges.specs.Answering.{AnswersLine};
+impl AnswersCommands for Access {
+    ghost use Rattle.ivl_ranges.specs.Answering.{AnswersCommand};
 
-    ghost allowed = { AnswersLine };
+    ghost command_allowed = { AnswersCommand };
 
-    fn may_take_long(&self, line: &[u8]) -> bool {
-        match first_word(line) {
+    fn command_may_take_long(&self, name: &str) -> bool {
+        match name {
             "i" | "k" | "check" => true,
             _ => false,
         }
     }
 
-    fn answer<W: Write>(&mut self, line: &[u8], writer: &mut W) -> Result<(), LineFault> {
-        if answer_line(self, line, writer).is_err() {
-            return Err(LineFault::Write);
-        }
-        Ok(())
+    fn answer_command<W: Write>(
+        &mut self,
+        name: &str,
+        words: &str,
+        writer: &mut W,
+    ) -> io::Result<()> {
+        write_told(writer, &self.carry_out(name, words))
     }
 }
 
@@ -61,29 +62,6 @@ pub fn session<R: Read, W: Write>(
         × Appends (W.contents writer.old) (W.contents writer.new) text }
 {
     serve(alloc, &mut Access::new(alloc), reader, writer)
-}
-
-// Answers one line. A line without words has no answer.
-fn answer_line<W: Write>(access: &mut Access, line: &[u8], writer: &mut W) -> io::Result<()>
-    ensures { OnOk result ((text : List ℕ)
-        × AnswersLine access.old line.now text access.new
-        × Appends (W.contents writer.old) (W.contents writer.new) text) }
-{
-    match line_text(line) {
-        Some(text) => answer_text(access, text, writer),
-        None => write_told(writer, &Err(Fault::Bytes)),
-    }
-}
-
-fn answer_text<W: Write>(access: &mut Access, text: &str, writer: &mut W) -> io::Result<()>
-    ensures { OnOk result ((answer : List ℕ)
-        × AnswersWords access.old (words_between text.now) answer access.new
-        × Appends (W.contents writer.old) (W.contents writer.new) answer) }
-{
-    let Some((name, words)) = next_word(text) else {
-        return Ok(());
-    };
-    write_told(writer, &access.carry_out(name, words))
 }
 
 /// Returns the exit status of the program, and what it writes to standard error.

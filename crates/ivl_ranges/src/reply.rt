@@ -23,8 +23,6 @@ pub enum Reply {
 /// Why a line is not carried out.
 #[derive(Clone, Copy)]
 pub enum Fault {
-    /// The line is not UTF-8.
-    Bytes,
     /// The first word is not a command.
     Command,
     /// A word after `i` or `k` is not a range, or there is none.
@@ -85,7 +83,6 @@ fn fault_text(fault: Fault) -> &'static str
     ensures { result.now ≡ text_of fault }
 {
     match fault {
-        Fault::Bytes => "not UTF-8",
         Fault::Command => "write i RANGES, k RANGES, length NUMBER or check",
         Fault::Ranges => "write ranges such as -1..1 5..5, with the lower end first",
         Fault::Length => "write length NUMBER, from 0 to 4294967295",

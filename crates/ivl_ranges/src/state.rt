@@ -48,7 +48,7 @@ impl Access {
     ///
     /// # Errors
     ///
-    /// Any fault but `Bytes`: see [`Fault`].
+    /// See [`Fault`].
     pub fn carry_out(&mut self, name: &str, words: &str) -> Result<Reply, Fault>
         ensures { Replies self.old name.now (words_between words.now) result self.new }
     {

@@ -15,11 +15,12 @@ const HELP: &str = "\
 Narrows the domains of variables by sums: reads one line at a time from standard input, and answers each.
 
   var x l u l u ..     a new variable, whose domain is the union of the pairs
-  cut x l u l u ..     x keeps the members of its domain that are in the union of the pairs
+  cut x l u l u ..     x keeps the members of its domain that are in the union of the pairs, one or more
   sum x y z            x + y = z, from now on
   limit n              each later line narrows domains at most n times; 1000000 at the start
   go on                narrows further
   show                 the domain of each variable
+  show x               the domain of this one
 
 Each is answered `ok`, `unfinished` if the limit stopped it, or `no solution` once a domain is empty.
 --version prints the version.

@@ -82,7 +82,7 @@ fn domains_as_they_are_given(rt: HostRuntime) {
 }
 
 // A line that cannot be carried out, and its answer. `x` and `y` are [1..9] before it and after it.
-const BAD_LINES: [(&str, &str); 28] = [
+const BAD_LINES: [(&str, &str); 32] = [
     ("frob", "unknown command frob"),
     ("Var z", "unknown command Var"),
     ("var", "write var x l u l u .."),
@@ -97,6 +97,8 @@ const BAD_LINES: [(&str, &str); 28] = [
     ("var z -9223372036854775808 1", "out of range"),
     ("var x 1 2", "x is defined already"),
     ("cut", "write cut x l u l u .."),
+    ("cut x", "write cut x l u l u .."),
+    ("cut z", "write cut x l u l u .."),
     ("cut x 1", "write cut x l u l u .."),
     ("cut x 1 2.5", "bad number 2.5"),
     ("cut x -9223372036854775808 1", "out of range"),
@@ -105,7 +107,8 @@ const BAD_LINES: [(&str, &str); 28] = [
     ("sum x y z w", "write sum x y z"),
     ("sum x y z", "unknown variable z"),
     ("sum x y x", "x is named twice"),
-    ("show x", "write show"),
+    ("show x y", "write show or show x"),
+    ("show z", "unknown variable z"),
     ("limit", "write limit n"),
     ("limit 1 2", "write limit n"),
     ("limit -1", "bad number -1"),
@@ -117,6 +120,10 @@ const BAD_LINES: [(&str, &str); 28] = [
     ("go", "write go on"),
     ("go off", "write go on"),
     ("go on on", "write go on"),
+    (
+        "show \u{1b}[2J\u{9b}\0",
+        "unknown variable \\u{1b}[2J\\u{9b}\\u{0}",
+    ),
 ];
 
 #[test]
@@ -127,6 +134,21 @@ fn bad_lines(rt: HostRuntime) -> Result<(), Fail> {
         check_session(&rt, lines.as_str(), answers.as_str());
     }
     Ok(())
+}
+
+// A variable alone, and names with control characters, which are printed escaped.
+#[test]
+fn one_variable(rt: HostRuntime) {
+    let lines = "var x 1 9\nvar y\nshow x\nshow y\nshow\n";
+    let answers = "ok\nno solution\nx [1..9]\nno solution\ny {}\nno solution\n\
+        x [1..9]\ny {}\nno solution\n";
+    check_session(&rt, lines, answers);
+    let lines =
+        "var a\tb 1 1\nshow a\tb\nvar a\tb 1 1\nvar \u{e9}\\\u{9b} 2 2\nsum a\tb a\tb x\nfrob\r\r\nshow\n";
+    let answers = "ok\na\\tb [1..1]\nok\nerror: a\\tb is defined already\nok\n\
+        error: unknown variable x\nerror: unknown command frob\\r\n\
+        a\\tb [1..1]\n\u{e9}\\\\u{9b} [2..2]\nok\n";
+    check_session(&rt, lines, answers);
 }
 
 // Spaces, carriage returns and empty lines, and bytes that are no text: bytes, and what is written for them.

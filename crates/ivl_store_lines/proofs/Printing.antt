@@ -1,17 +1,10 @@
--- The texts of a domain and of a state.
-use Rattle.std.proofs.Common.{◌≡◌, ℕ, ℤ, ◌≤ℤ◌, true, false, Bool, List, [], ◌∷◌, ◌++◌, ◌||◌, Option, Some, inl, inr, refl, sym, ap, ◌∙◌, append_assoc, arith}
-use Rattle.std.specs.Prelude.{Any, IsTrue, ◌↔◌, flat_map, int_lt}
-use Rattle.std.specs.Fmt.{signed_decimal}
+-- The text of a state.
+use Rattle.std.proofs.Common.{◌≡◌, ℤ, true, false, Bool, List, [], ◌∷◌, ◌++◌, ◌||◌, inl, inr, refl, sym, ap, ◌∙◌}
+use Rattle.std.specs.Prelude.{Any, IsTrue, ◌↔◌}
 use Rattle.std.specs.List.{list_any}
-use Rattle.std.proofs.lemmas.Int.{ints}
 use Rattle.std.proofs.lemmas.Bool.{cases_Bool, true≢false}
 use Rattle.std.proofs.lemmas.List.Folds.{Any-from_list_any, list_any-append, list_any-from_Any}
-use Rattle.ivl_laws.specs.Runs.{IsMaximal}
-use Rattle.ivl_interval.specs.Text.{interval_text}
-use Rattle.intervallum.specs.Text as whole
-use Rattle.ivl_lines.specs.Sets.{run_text, pairs_text}
 use Rattle.ivl_store_lines.specs.Printed.{has_no_run}
-use Rattle.ivl_laws.proofs.Orders.{int_lt_false}
 
 no_run_from : (L : List (ℤ × ℤ)) → has_no_run L ≡ true → L ≡ []
 no_run_from [] e = refl
@@ -54,20 +47,3 @@ pub empty_added : (b e : Bool) (Ls : List (List (ℤ × ℤ))) (L : List (ℤ ×
 empty_added b e Ls L all one =
     let test : list_any has_no_run (Ls ++ L ∷ []) ≡ (b || e) = list_any-append has_no_run Ls (L ∷ []) ∙ rw (some_empty b Ls all, has_no_run-is L e one) (or_one b e) in
     empty_by_test (b || e) (Ls ++ L ∷ []) test
-
--- the text of a run of i64, as `Display` writes it
-abbrev pub shown : ℤ × ℤ → Option (List ℕ)
-shown p = interval_text p (Some (signed_decimal p.0)) (Some (signed_decimal p.1))
-
-shown_is : (p : ℤ × ℤ) → p.0 ≤ℤ p.1 → shown p ≡ Some (run_text p)
-shown_is p h = rw (int_lt_false p.1 p.0 h, append_assoc, append_assoc) refl
-
-shown_are : (L : List (ℤ × ℤ)) → IsMaximal L → whole.runs_text shown L ≡ Some (flat_map run_text L)
-shown_are [] h = refl
-shown_are (p ∷ L) h = rw (shown_is p h.0, shown_are L h.2) refl
-
--- the text of a set of i64, as `Display` writes it
-pub domain_text : (L : List (ℤ × ℤ)) → IsMaximal L → whole.set_text shown L ≡ Some (pairs_text L)
-domain_text [] h = refl
-domain_text (p ∷ []) h = shown_is p h.0
-domain_text (p ∷ q ∷ L) h = rw (shown_is p h.0, shown_is q h.2.0, shown_are L h.2.2) refl

@@ -1,9 +1,8 @@
 -- How `Interval::in_range` answers.
-use Rattle.std.proofs.Common.{inl, inr, ◌≡◌, ◌↔◌, ◌∙◌, ℤ, ◌≤ℤ◌, List, Bool, true, false, None, Some, IsTrue, refl, sym, arith}
+use Rattle.std.proofs.Common.{inl, inr, ◌≡◌, ◌↔◌, ◌∙◌, ℤ, List, Bool, true, false, None, Some, IsTrue, refl, sym}
 use Rattle.std.specs.Prelude.{int_le, ◌&&◌}
 use Rattle.std.specs.List.{list_all}
 use Rattle.std.proofs.lemmas.Bool.{and_parts, cases_Bool, false≢true}
-use Rattle.std.proofs.lemmas.Int.{ints}
 use Rattle.ivl_laws.specs.Sets.{IsInRange}
 use Rattle.ivl_store_lines.specs.Faults.{out_of_range}
 use Rattle.ivl_store_lines.specs.Solving.{range_fault}

@@ -1,37 +1,43 @@
 -- The text of an answer.
 --     told_line told      why a line is not carried out, or that memory ran out
 --     domain_line name domain      the line of a variable: its name and its domain
+--     variable_line name variable domains      the line of the variable with this index; nothing without one
 --     domain_lines names domains      the lines of all variables
 --     state_line domains progress      whether a domain is empty, and if none is, how far the domains are narrowed
 --     reply asked new      the answer to a request that is carried out
-use Rattle.std.specs.Prelude.{ℕ, ℤ, Bool, true, false, List, [], ◌∷◌, ◌++◌, codes, if◌then◌else◌, Option, None, Some}
+use Rattle.std.specs.Prelude.{ℕ, ℤ, Bool, true, false, List, [], ◌∷◌, ◌++◌, codes, get_or, if◌then◌else◌, Option, None, Some}
 use Rattle.std.specs.List.{list_any}
+use Rattle.ivl_lines.specs.Escapes.{escaped}
 use Rattle.ivl_lines.specs.Lines.{with_newline}
 use Rattle.ivl_lines.specs.Sets.{pairs_text}
 use Rattle.ivl_store_lines.specs.declared.progress.Progress.{Progress}
 use Rattle.ivl_store_lines.specs.declared.progress.Progress.TheVariants.{Complete, Budget, Memory}
 use Rattle.ivl_store_lines.specs.Faults.{Told, no_text, no_command, no_form, no_number, out_of_range, unknown, defined, repeated}
 use Rattle.ivl_store_lines.specs.Requests.{Asked, var, cut, sum, limit, go_on, show}
-use Rattle.ivl_store_lines.specs.Solving.{State}
+use Rattle.ivl_store_lines.specs.Solving.{State, variable_named}
 
 abbrev pub told_line : Option Told → List ℕ
 told_line None = with_newline (codes "error: out of memory")
 told_line (Some no_text) = with_newline (codes "error: not UTF-8")
-told_line (Some (no_command word)) = codes "error: unknown command " ++ with_newline word
+told_line (Some (no_command word)) = codes "error: unknown command " ++ with_newline (escaped word)
 told_line (Some (no_form form)) = codes "error: write " ++ with_newline form
-told_line (Some (no_number word)) = codes "error: bad number " ++ with_newline word
+told_line (Some (no_number word)) = codes "error: bad number " ++ with_newline (escaped word)
 told_line (Some out_of_range) = with_newline (codes "error: out of range")
-told_line (Some (unknown name)) = codes "error: unknown variable " ++ with_newline name
-told_line (Some (defined name)) = codes "error: " ++ name ++ with_newline (codes " is defined already")
-told_line (Some (repeated name)) = codes "error: " ++ name ++ with_newline (codes " is named twice")
+told_line (Some (unknown name)) = codes "error: unknown variable " ++ with_newline (escaped name)
+told_line (Some (defined name)) = codes "error: " ++ escaped name ++ with_newline (codes " is defined already")
+told_line (Some (repeated name)) = codes "error: " ++ escaped name ++ with_newline (codes " is named twice")
 
 abbrev pub domain_line : List ℕ → List (ℤ × ℤ) → List ℕ
-domain_line name domain = name ++ (codes " " ++ with_newline (pairs_text domain))
+domain_line name domain = escaped name ++ (codes " " ++ with_newline (pairs_text domain))
 
 abbrev pub domain_lines : List (List ℕ) → List (List (ℤ × ℤ)) → List ℕ
 domain_lines [] domains = []
 domain_lines (name ∷ names) [] = []
 domain_lines (name ∷ names) (domain ∷ domains) = domain_line name domain ++ domain_lines names domains
+
+abbrev pub variable_line : List ℕ → Option ℕ → List (List (ℤ × ℤ)) → List ℕ
+variable_line name None domains = []
+variable_line name (Some i) domains = domain_line name (get_or domains i [])
 
 abbrev pub has_no_run : List (ℤ × ℤ) → Bool
 has_no_run [] = true
@@ -52,4 +58,5 @@ reply (cut name pairs) new = state_line new.domains new.progress
 reply (sum x y z) new = state_line new.domains new.progress
 reply (limit n) new = state_line new.domains new.progress
 reply go_on new = state_line new.domains new.progress
-reply show new = domain_lines new.names new.domains ++ state_line new.domains new.progress
+reply (show None) new = domain_lines new.names new.domains ++ state_line new.domains new.progress
+reply (show (Some name)) new = variable_line name (variable_named new.names name) new.domains ++ state_line new.domains new.progress

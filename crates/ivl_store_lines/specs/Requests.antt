@@ -1,5 +1,5 @@
 -- What a line asks for, by its words.
---     name_and_pairs, with_pairs, three_names, limit_of, only_on, nothing_else words      the words after a command, by its form; `None` if they do not have it
+--     name_and_pairs, name_and_some_pairs, with_pairs, three_names, limit_of, only_on, shown_by words      the words after a command, by its form; `None` if they do not have it
 --     natural_of word      the number of i64 from 0 up that a word is; `None` if it is no such number
 --     request_of name words      what a command and the words after it ask for; `None` if they are no request
 --     asked_of request      the request as the program keeps it
@@ -18,15 +18,20 @@ pub data Asked : Type 0 where
   sum : List ℕ → List ℕ → List ℕ → Asked
   limit : ℕ → Asked
   go_on : Asked
-  show : Asked
+  show : Option (List ℕ) → Asked
 
 -- a name, and numbers two by two
 abbrev pub name_and_pairs : List (List ℕ) → Option (List ℕ × List (ℤ × ℤ))
 name_and_pairs [] = None
 name_and_pairs (name ∷ words) = option_map (λ pairs. (name, pairs)) (pairs_of words)
 
-abbrev pub with_pairs : (List ℕ → List (ℤ × ℤ) → Asked) → List (List ℕ) → Option Asked
-with_pairs asked words = option_map (λ read. asked read.0 read.1) (name_and_pairs words)
+-- the same with one pair at least
+abbrev pub name_and_some_pairs : List (List ℕ) → Option (List ℕ × List (ℤ × ℤ))
+name_and_some_pairs (name ∷ []) = None
+name_and_some_pairs words = name_and_pairs words
+
+abbrev pub with_pairs : (List ℕ → List (ℤ × ℤ) → Asked) → Option (List ℕ × List (ℤ × ℤ)) → Option Asked
+with_pairs asked read = option_map (λ named. asked named.0 named.1) read
 
 abbrev pub three_names : List (List ℕ) → Option Asked
 three_names (x ∷ y ∷ z ∷ []) = Some (sum x y z)
@@ -48,18 +53,20 @@ abbrev pub only_on : List (List ℕ) → Option Asked
 only_on (word ∷ []) = if bytes_eq word (codes "on") then Some go_on else None
 only_on _ = None
 
-abbrev pub nothing_else : List (List ℕ) → Option Asked
-nothing_else [] = Some show
-nothing_else (word ∷ words) = None
+-- no name, for all variables, or one
+abbrev pub shown_by : List (List ℕ) → Option Asked
+shown_by [] = Some (show None)
+shown_by (name ∷ []) = Some (show (Some name))
+shown_by _ = None
 
 abbrev pub request_of : List ℕ → List (List ℕ) → Option Asked
 request_of name words =
-    if bytes_eq name (codes "var") then with_pairs var words
-    else if bytes_eq name (codes "cut") then with_pairs cut words
+    if bytes_eq name (codes "var") then with_pairs var (name_and_pairs words)
+    else if bytes_eq name (codes "cut") then with_pairs cut (name_and_some_pairs words)
     else if bytes_eq name (codes "sum") then three_names words
     else if bytes_eq name (codes "limit") then option_map limit (limit_of words)
     else if bytes_eq name (codes "go") then only_on words
-    else if bytes_eq name (codes "show") then nothing_else words
+    else if bytes_eq name (codes "show") then shown_by words
     else None
 
 abbrev pub asked_of : Request → Asked
@@ -68,7 +75,7 @@ asked_of (kept.Cut name pairs) = cut name.now pairs.items
 asked_of (kept.Sum x y z) = sum x.now y.now z.now
 asked_of (kept.Limit n) = limit n
 asked_of kept.GoOn = go_on
-asked_of kept.Show = show
+asked_of (kept.Show name) = show (option_map (λ word. word.now) name)
 
 abbrev pub first_bad_number_of : List (List ℕ) → Option (List ℕ)
 first_bad_number_of words = find (λ word. is_none (number_of word)) words
@@ -93,7 +100,7 @@ why_no_request name words =
     else if bytes_eq name (codes "sum") then no_form (codes "sum x y z")
     else if bytes_eq name (codes "limit") then why_no_limit words
     else if bytes_eq name (codes "go") then no_form (codes "go on")
-    else if bytes_eq name (codes "show") then no_form (codes "show")
+    else if bytes_eq name (codes "show") then no_form (codes "show or show x")
     else no_command name
 
 abbrev pub is_no_word : List (List ℕ) → Bool

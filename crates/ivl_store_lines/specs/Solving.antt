@@ -6,7 +6,7 @@
 --     Carries asked old new      the request takes the solver from old to new
 --     range_fault pairs      the fault of pairs that are not all in range; `None` if they are
 --     fault_of asked old      the fault of a request; `None` if it has none
-use Rattle.std.specs.Prelude.{◌≡◌, ◌≤◌, ◌||◌, ◌==◌, ◌↔◌, ℕ, ℤ, pos, Bool, List, Any, [], ◌∷◌, ◌++◌, bytes_eq, if◌then◌else◌, length, position, Option, Some, None, IsTrue}
+use Rattle.std.specs.Prelude.{◌≡◌, ◌≤◌, ◌||◌, ◌==◌, ◌↔◌, ℕ, ℤ, Bool, List, Any, [], ◌∷◌, ◌++◌, bytes_eq, if◌then◌else◌, length, position, Option, Some, None, IsTrue}
 use Rattle.std.specs.List.{list_all}
 use Rattle.ivl_lines.specs.Numbers.{is_in_range}
 use Rattle.ivl_laws.specs.Runs.{Covers, IsRunsOf}
@@ -92,7 +92,7 @@ Carries (cut name pairs) old new = Cuts name pairs old new
 Carries (sum x y z) old new = Adds x y z old new
 Carries (limit n) old new = Limits n old new
 Carries go_on old new = GoesOn old new
-Carries show old new = new ≡ old
+Carries (show name) old new = new ≡ old
 
 -- no bound of a set over i64 is its least number
 abbrev pub range_fault : List (ℤ × ℤ) → Option Told
@@ -106,6 +106,10 @@ var_fault name pairs None = range_fault pairs
 abbrev pub cut_fault : List ℕ → List (ℤ × ℤ) → Option ℕ → Option Told
 cut_fault name pairs None = Some (unknown name)
 cut_fault name pairs (Some i) = range_fault pairs
+
+abbrev pub show_fault : List ℕ → Option ℕ → Option Told
+show_fault name None = Some (unknown name)
+show_fault name (Some i) = None
 
 -- by the variables that have the names, which have to be three
 abbrev pub sum_fault : List ℕ → List ℕ → List ℕ → Option ℕ → Option ℕ → Option ℕ → Option Told
@@ -121,4 +125,5 @@ fault_of (cut name pairs) old = cut_fault name pairs (variable_named old.names n
 fault_of (sum x y z) old = sum_fault x y z (variable_named old.names x) (variable_named old.names y) (variable_named old.names z)
 fault_of (limit n) old = None
 fault_of go_on old = None
-fault_of show old = None
+fault_of (show None) old = None
+fault_of (show (Some name)) old = show_fault name (variable_named old.names name)

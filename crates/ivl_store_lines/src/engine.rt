@@ -1,5 +1,5 @@
 //! What answers the lines of a session of the store, and how the session ends.
-ghost use Rattle.std.specs.Prelude.{◌≡◌, ◌≢◌, ℕ, List, ◌++◌, [], IfSome, IsErrOf, OnOk};
+ghost use Rattle.std.specs.Prelude.{◌≡◌, ◌≢◌, ℕ, List, ◌++◌, [], IfSome, IsErrOf, OnOk, Option};
 ghost use Rattle.std.specs.Io.KnownBytes.{Appends, Consumes, IsAtEnd};
 ghost use Rattle.ivl_lines.specs.Answered.{IsAnswered};
 ghost use Rattle.ivl_lines.specs.Lines.{ended_lines_of, lines_of};
@@ -11,7 +11,7 @@ ghost use Rattle.ivl_store_lines.specs.Solving.{State};
 
 use crate::fault::Fault;
 use crate::progress::Progress;
-use crate::replies::{write_fault, write_shown, write_state};
+use crate::replies::{write_fault, write_shown, write_state, write_variable};
 use crate::request::{Request, request_from};
 use crate::solver::Solver;
 use ivl_lines::{Answers, LineFault, SessionFault, first_word, line_text, next_word, serve};
@@ -111,7 +111,8 @@ fn answer_request<W: Write>(
         × Appends (W.contents writer.old) (W.contents writer.new) text) }
 {
     match request {
-        Request::Show => write_shown(writer, solver),
+        Request::Show(None) => write_shown(writer, solver),
+        Request::Show(Some(name)) => write_variable(writer, solver, name),
         change => answer_change(solver, change, writer),
     }
 }
@@ -121,7 +122,7 @@ fn answer_change<W: Write>(
     request: Request<'_>,
     writer: &mut W,
 ) -> io::Result<()>
-    requires { asked_of request ≢ show }
+    requires { (name : Option (List ℕ)) → asked_of request ≢ show name }
     ensures { OnOk result ((text : List ℕ)
         × AnswersAsked solver.old (asked_of request.entry) text solver.new
         × Appends (W.contents writer.old) (W.contents writer.new) text) }

@@ -1,14 +1,17 @@
 //! The text of an answer.
-ghost use Rattle.std.specs.Prelude.{◌≡◌, ◌++◌, ◌<◌, [], IfNone, IfSome, OnOk, length, map, string_bytes};
+ghost use Rattle.std.specs.Prelude.{◌≡◌, ◌++◌, ◌<◌, ℕ, List, [], IfNone, IfSome, OnOk, Some, length, map, string_bytes};
 ghost use Rattle.std.specs.Io.KnownBytes.{Appends};
 ghost use Rattle.ivl_lines.specs.Lines.{with_newline};
+ghost use Rattle.ivl_store_lines.specs.Answering.{AnswersAsked};
 ghost use Rattle.ivl_store_lines.specs.Faults.{told_of};
 ghost use Rattle.ivl_store_lines.specs.Printed.{domain_line, domain_lines, progress_text, state_line, told_line};
+ghost use Rattle.ivl_store_lines.specs.Requests.{show};
 
 use crate::fault::Fault;
 use crate::progress::Progress;
 use crate::solver::Solver;
 use intervallum::interval_set::IntervalSet;
+use ivl_lines::Escaped;
 use std::io;
 use std::io::Write;
 
@@ -90,22 +93,38 @@ fn write_domain<W: Write>(writer: &mut W, name: &str, domain: &IntervalSet<i64>)
     ensures { OnOk result (Appends (W.contents writer.old) (W.contents writer.new) (domain_line name.now domain.now)) }
 {
     domain.in_whole();
-    writeln!(writer, "{name} {domain}")
+    writeln!(writer, "{} {domain}", Escaped(name))
 }
 
-/// Writes why a line was not carried out.
+/// Writes the domain of the variable with this name, and then what `write_state` writes, or that no
+/// variable has the name.
+pub fn write_variable<W: Write>(writer: &mut W, solver: &Solver, name: &str) -> io::Result<()>
+    ensures { OnOk result ((text : List ℕ) × AnswersAsked solver.now (show (Some name.now)) text solver.now
+        × Appends (W.contents writer.old) (W.contents writer.new) text) }
+{
+    match solver.domain_named(name) {
+        Ok(domain) => {
+            write_domain(writer, name, domain)?;
+            write_state(writer, solver)
+        }
+        Err(fault) => write_fault(writer, &fault),
+    }
+}
+
+/// Writes why a line was not carried out. Words of the line are printed with their control characters
+/// escaped.
 pub fn write_fault<W: Write>(writer: &mut W, fault: &Fault<'_>) -> io::Result<()>
     ensures { OnOk result (Appends (W.contents writer.old) (W.contents writer.new) (told_line (told_of fault.now))) }
 {
     match fault {
         Fault::Bytes => writeln!(writer, "error: not UTF-8"),
-        Fault::Command(word) => writeln!(writer, "error: unknown command {word}"),
+        Fault::Command(word) => writeln!(writer, "error: unknown command {}", Escaped(word)),
         Fault::Form(form) => writeln!(writer, "error: write {form}"),
-        Fault::Number(word) => writeln!(writer, "error: bad number {word}"),
+        Fault::Number(word) => writeln!(writer, "error: bad number {}", Escaped(word)),
         Fault::Range => writeln!(writer, "error: out of range"),
-        Fault::Unknown(name) => writeln!(writer, "error: unknown variable {name}"),
-        Fault::Defined(name) => writeln!(writer, "error: {name} is defined already"),
-        Fault::Repeated(name) => writeln!(writer, "error: {name} is named twice"),
+        Fault::Unknown(name) => writeln!(writer, "error: unknown variable {}", Escaped(name)),
+        Fault::Defined(name) => writeln!(writer, "error: {} is defined already", Escaped(name)),
+        Fault::Repeated(name) => writeln!(writer, "error: {} is named twice", Escaped(name)),
         Fault::Memory => writeln!(writer, "error: out of memory"),
     }
 }

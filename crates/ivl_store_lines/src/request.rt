@@ -2,7 +2,7 @@
 ghost use Rattle.std.specs.Prelude.{◌≡◌, ◌≢◌, ◌∷◌, [], IfErr, IfOk, IsSome, IsTrue, None, Some, codes, option_map};
 ghost use Rattle.ivl_lines.specs.Words.{words_between};
 ghost use Rattle.ivl_store_lines.specs.Faults.{no_form, told_of};
-ghost use Rattle.ivl_store_lines.specs.Requests.{asked_of, first_bad_number_of, limit_of, name_and_pairs, natural_of, needs_list, only_on, request_of, why_no_limit, why_no_pairs, why_no_request};
+ghost use Rattle.ivl_store_lines.specs.Requests.{asked_of, cut, first_bad_number_of, limit_of, name_and_pairs, name_and_some_pairs, natural_of, needs_list, only_on, request_of, shown_by, why_no_limit, why_no_pairs, why_no_request, with_pairs};
 
 use crate::fault::Fault;
 use ivl_lines::{next_word, number_from, one_word, pairs_from, three_words};
@@ -22,8 +22,8 @@ pub enum Request<'a> {
     Limit(u64),
     /// `go on`: narrows further.
     GoOn,
-    /// `show`: the domain of each variable.
-    Show,
+    /// `show`: the domain of each variable; `show x`: that of this one.
+    Show(Option<&'a str>),
 }
 
 const VAR: &str = "var x l u l u ..";
@@ -36,7 +36,7 @@ const LIMIT: &str = "limit n";
 
 const GO_ON: &str = "go on";
 
-const SHOW: &str = "show";
+const SHOW: &str = "show or show x";
 
 /// Reads the request of a command and the words after it. Linear in the line; allocates the list
 /// of the pairs.
@@ -59,10 +59,7 @@ pub fn request_from<'a>(
             let (variable, pairs) = variable_and_pairs(alloc, words, VAR)?;
             Ok(Request::Var(variable, pairs))
         }
-        "cut" => {
-            let (variable, pairs) = variable_and_pairs(alloc, words, CUT)?;
-            Ok(Request::Cut(variable, pairs))
-        }
+        "cut" => cut_from(alloc, words),
         "sum" => match three_words(words) {
             Some((x, y, z)) => Ok(Request::Sum(x, y, z)),
             None => Err(Fault::Form(SUM)),
@@ -72,10 +69,7 @@ pub fn request_from<'a>(
             Some(word) => go_on_from(word),
             None => Err(Fault::Form(GO_ON)),
         },
-        "show" => match next_word(words) {
-            Some(_) => Err(Fault::Form(SHOW)),
-            None => Ok(Request::Show),
-        },
+        "show" => show_from(words),
         _ => Err(Fault::Command(name)),
     }
 }
@@ -100,6 +94,35 @@ fn variable_and_pairs<'a>(
     match first_bad_number(bounds) {
         Some(word) => Err(Fault::Number(word)),
         None => Err(Fault::Form(form)),
+    }
+}
+
+/// The request of `cut`, for which there has to be a pair: without one the domain would be emptied.
+fn cut_from<'a>(alloc: Global, words: &'a str) -> Result<Request<'a>, Fault<'a>>
+    ensures ok { IfOk result (λ request. with_pairs cut (name_and_some_pairs (words_between words.entry.now)) ≡ Some (asked_of request)) }
+    ensures refused { IfErr result (λ fault. IsSome (told_of fault) → name_and_some_pairs (words_between words.entry.now) ≡ None) }
+    ensures fault { IfErr result (λ fault. IsSome (told_of fault) → told_of fault ≡ Some (why_no_pairs (codes "cut x l u l u ..") (words_between words.entry.now))) }
+    ensures memory { IfErr result (λ fault. told_of fault ≡ None → words_between words.entry.now ≢ []) }
+{
+    if one_word(words).is_some() {
+        return Err(Fault::Form(CUT));
+    }
+    let (variable, pairs) = variable_and_pairs(alloc, words, CUT)?;
+    Ok(Request::Cut(variable, pairs))
+}
+
+/// The request of `show`, with one name or none.
+fn show_from<'a>(words: &'a str) -> Result<Request<'a>, Fault<'a>>
+    ensures ok { IfOk result (λ request. shown_by (words_between words.entry.now) ≡ Some (asked_of request)) }
+    ensures refused { IfErr result (λ fault. shown_by (words_between words.entry.now) ≡ None) }
+    ensures fault { IfErr result (λ fault. told_of fault ≡ Some (no_form (codes "show or show x"))) }
+{
+    if next_word(words).is_none() {
+        return Ok(Request::Show(None));
+    }
+    match one_word(words) {
+        Some(name) => Ok(Request::Show(Some(name))),
+        None => Err(Fault::Form(SHOW)),
     }
 }
 

@@ -1,5 +1,5 @@
 //! The variables by name, their domains, and the sums that hold between them.
-ghost use Rattle.std.specs.Prelude.{◌≡◌, ◌∷◌, ◌++◌, ◌↔◌, ◌<◌, [], Some, All, Any, IfErr, IfOk, IfSome, IsSome, IsTrue, None, Ok, OnErr, OnOk, length, map, string_bytes};
+ghost use Rattle.std.specs.Prelude.{◌≡◌, ◌∷◌, ◌++◌, ◌↔◌, ◌<◌, ℕ, [], Some, All, Any, IfErr, IfOk, IfSome, IsSome, IsTrue, None, Ok, OnErr, OnOk, get_or, length, map, string_bytes};
 ghost use Rattle.ivl_laws.specs.Runs.{Covers, IsRunsOf};
 ghost use Rattle.ivl_laws.specs.Families.{set_at};
 ghost use Rattle.ivl_store.specs.Network.{IsCutAt, IsRequired};
@@ -84,7 +84,11 @@ impl Solver {
                 self.settle();
                 Ok(())
             }
-            Request::Show => Ok(()),
+            Request::Show(None) => Ok(()),
+            Request::Show(Some(name)) => {
+                self.known(name)?;
+                Ok(())
+            }
         }
     }
 
@@ -100,6 +104,20 @@ impl Solver {
         ensures { result.now ≡ self.now.domains }
     {
         self.network.domains()
+    }
+
+    /// Returns the domain of the variable that has this name.
+    ///
+    /// # Errors
+    ///
+    /// `Unknown` if no variable has it.
+    pub fn domain_named<'a>(&self, name: &'a str) -> Result<&IntervalSet<i64>, Fault<'a>>
+        ensures domain { IfOk result (λ domain. (i : ℕ) × (index_in self.now.names name.now ≡ Some i) × (domain.now ≡ get_or self.now.domains i [])) }
+        ensures none { IfErr result (λ fault. index_in self.now.names name.now ≡ None) }
+        ensures fault { IfErr result (λ fault. told_of fault ≡ Some (unknown name.now)) }
+    {
+        let variable = self.known(name)?;
+        Ok(&self.network.domains()[variable])
     }
 
     /// Returns true exactly when some domain is empty. `O(1)`.

@@ -6,14 +6,13 @@ use Rattle.std.proofs.Math.Bool.{true≢false}
 use Rattle.std.proofs.lemmas.Int.{ints, clamps, by_lt_z}
 use Rattle.std.specs.Int.{int_min, int_max}
 use Rattle.ivl_laws.specs.Sets.{IsBetween, IsSubset, SameMembers, HasNone, HasSome, Without, Union}
-use Rattle.ivl_laws.specs.Runs.{Covers, IsMaximal, IsRunsOf}
+use Rattle.ivl_laws.specs.Runs.{Covers, IsMaximal}
 use Rattle.ivl_laws.specs.Arithmetic.{pairwise, interval_sum, interval_difference}
 use Rattle.ivl_laws.specs.Bounds.{IsBoundRange}
 use Rattle.ivl_laws.proofs.Merging.{covers-append, covers-append_left, covers-append_right}
 use Rattle.ivl_laws.proofs.Results.{pairwise-next, map-next}
 use Rattle.ivl_laws.proofs.Products.{sums_of_runs, differences_of_runs}
 use Rattle.ivl_laws.proofs.Intervals.{none_is_crossed, in_range_is_within}
-use Rattle.ivl_laws.proofs.Ranges.{IsRunsOf-one}
 use Rattle.ivl_laws.proofs.Runs.{lower_end, upper_end}
 use Rattle.ivl_within.specs.Within.{Clipped, SumsBy, pair_by}
 use Rattle.ivl_within.specs.declared.within.Combined.{Combined}
@@ -168,10 +167,6 @@ module _ (w p : ℤ × ℤ) (low high : ℤ) (l : low ≡ int_max p.0 w.0) (h : 
     (λ b. absurd (none z b)),
     (λ ((a, b), (c, d)). absurd (out (omega (arith, ints, clamps), omega (arith, ints, clamps)))),
   )
-
--- a list of one run, by its ends
-pub one_run : (p : ℤ × ℤ) (low high : ℤ) (L : List (ℤ × ℤ)) → p.0 ≤ℤ p.1 → low ≡ p.0 → high ≡ p.1 → L ≡ (low, high) ∷ [] → IsRunsOf L (IsBetween p)
-one_run p low high L filled e f is = rw (is, e, f) (IsRunsOf-one p filled)
 
 pub sum_is : (w a b r : ℤ × ℤ) (low high : ℤ) → low ≡ a.0 +ℤ b.0 → high ≡ a.1 +ℤ b.1 → SameMembers (IsBetween r) (Clipped w (IsBetween (low, high))) → SameMembers (IsBetween r) (Clipped w (IsBetween (interval_sum a b)))
 sum_is w a b r low high e f h = rw (sym e, sym f) h

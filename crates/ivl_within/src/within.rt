@@ -11,8 +11,7 @@ mod rows;
 pub use images::image;
 use intervallum::interval::Interval;
 use intervallum::interval_set::IntervalSet;
-use intervallum::ops::{Bounded, Fits, IsEmpty, Whole};
-use intervallum::steps::Walk;
+use intervallum::ops::{Fits, IsEmpty, Whole};
 use intervallum::sweep::coalesce;
 use intervallum::width::Width;
 pub use members::kept;
@@ -159,23 +158,22 @@ fn combine<B: Width>(
 ) -> Result<IntervalSet<B>, AllocError>
     ensures { IfOk result (λ L. IsRunsOf L (Clipped window (SumsBy op (Covers a.now) (Covers b.now)))) }
 {
-    let alloc = Walk::new(a).alloc();
     if window.is_empty() {
-        return Ok(IntervalSet::empty(alloc));
+        return Ok(IntervalSet::empty(a.allocator()));
     }
     let left = a.iter().as_slice();
     let right = b.iter().as_slice();
     if left.len() == 1 && right.len() == 1 {
-        return set_of(alloc, image(left[0], right[0], op, window));
+        return IntervalSet::of(a.allocator(), image(left[0], right[0], op, window));
     }
-    combine_runs(alloc, left, right, op, window, room)
+    combine_runs(a.allocator(), left, b, op, window, room)
 }
 
-/// The results over each pair of runs of two lists that are in the window.
+/// The results over each pair of a run of a list and one of a set that are in the window.
 fn combine_runs<B: Width>(
     alloc: Global,
     left: &[Interval<B>],
-    right: &[Interval<B>],
+    right: &IntervalSet<B>,
     op: Combined,
     window: Interval<B>,
     room: usize,
@@ -190,14 +188,4 @@ fn combine_runs<B: Width>(
         push_row(&mut entries, *run, right, op, window)?;
     }
     coalesce(alloc, entries)
-}
-
-/// The set of the members of an interval.
-fn set_of<B: Width>(alloc: Global, run: Interval<B>) -> Result<IntervalSet<B>, AllocError>
-    ensures { IfOk result (λ L. IsRunsOf L (IsBetween run)) }
-{
-    if run.is_empty() {
-        return Ok(IntervalSet::empty(alloc));
-    }
-    IntervalSet::new(alloc, run.lower(), run.upper())
 }

@@ -1,6 +1,6 @@
 //! Words and numbers of a line, and what arguments ask for, by example.
 use ivl_lines::{
-    Start, first_word, line_text, next_word, number_from, one_word, pairs_from, start_of,
+    Escaped, Start, first_word, line_text, next_word, number_from, one_word, pairs_from, start_of,
     three_words, two_words,
 };
 use std::test::Fail;
@@ -39,6 +39,26 @@ fn text_of_a_line(rt: HostRuntime) {
         ],
         ["sum", "", ""]
     );
+}
+
+#[test]
+fn control_characters_are_escaped(rt: HostRuntime) -> Result<(), Fail> {
+    for (text, shown) in [
+        ("a\tb", "a\\tb"),
+        ("\u{1b}[2J", "\\u{1b}[2J"),
+        (
+            "\0\n\r\u{7f}\u{80}\u{9f}",
+            "\\u{0}\\n\\r\\u{7f}\\u{80}\\u{9f}",
+        ),
+        ("\u{e9}\u{a0} '\"\\~", "\u{e9}\u{a0} '\"\\~"),
+        ("", ""),
+    ] {
+        assert_eq!(rt;
+            format!(in rt.alloc(); "{}", Escaped(text))?.as_str(),
+            shown
+        );
+    }
+    Ok(())
 }
 
 #[test]

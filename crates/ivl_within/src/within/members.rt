@@ -5,10 +5,8 @@ ghost use Rattle.ivl_laws.specs.Runs.{Covers, IsRunsOf};
 ghost use Rattle.ivl_within.specs.Within.{SumsBy};
 
 use super::{Combined, combine};
-use intervallum::interval::Interval;
 use intervallum::interval_set::IntervalSet;
-use intervallum::ops::{Bounded, Intersection, IsEmpty, Range};
-use intervallum::steps::Walk;
+use intervallum::ops::{Intersection, IsEmpty};
 use intervallum::width::Width;
 use std::alloc::AllocError;
 
@@ -39,9 +37,9 @@ pub fn kept<B: Width>(
     ensures { IfOk result (λ L. IsRunsOf L (Intersection (Covers x.now) (SumsBy op (Covers a.now) (Covers b.now)))) }
 {
     if x.is_empty() {
-        return Ok(IntervalSet::empty(Walk::new(x).alloc()));
+        return Ok(IntervalSet::empty(x.allocator()));
     }
-    let made = combine(a, b, op, Interval::new(x.lower(), x.upper()), 0)?;
+    let made = combine(a, b, op, x.hull(), 0)?;
     if x.interval_count() == 1 {
         return Ok(made);
     }

@@ -10,8 +10,7 @@ mod rows;
 pub use images::image;
 use crate::proved::intervallum::interval::Interval;
 use crate::proved::intervallum::interval_set::IntervalSet;
-use crate::proved::intervallum::ops::{Bounded, Fits, IsEmpty, Whole};
-use crate::proved::intervallum::steps::Walk;
+use crate::proved::intervallum::ops::{Fits, IsEmpty, Whole};
 use crate::proved::intervallum::sweep::coalesce;
 use crate::proved::intervallum::width::Width;
 pub use members::kept;
@@ -196,23 +195,22 @@ fn combine<B: Width>(
     window: Interval<B>,
     room: usize,
 ) -> Result<IntervalSet<B>, AllocError> {
-    let alloc = Walk::new(a).alloc();
     if window.is_empty() {
-        return Ok(IntervalSet::empty(alloc));
+        return Ok(IntervalSet::empty(a.allocator()));
     }
     let left = a.iter().as_slice();
     let right = b.iter().as_slice();
     if left.len() == 1 && right.len() == 1 {
-        return set_of(alloc, image(left[0], right[0], op, window));
+        return IntervalSet::of(a.allocator(), image(left[0], right[0], op, window));
     }
-    combine_runs(alloc, left, right, op, window, room)
+    combine_runs(a.allocator(), left, b, op, window, room)
 }
 
-/// The results over each pair of runs of two lists that are in the window.
+/// The results over each pair of a run of a list and one of a set that are in the window.
 fn combine_runs<B: Width>(
     alloc: Global,
     left: &[Interval<B>],
-    right: &[Interval<B>],
+    right: &IntervalSet<B>,
     op: Combined,
     window: Interval<B>,
     room: usize,
@@ -222,12 +220,4 @@ fn combine_runs<B: Width>(
         push_row(&mut entries, *run, right, op, window)?;
     }
     coalesce(alloc, entries)
-}
-
-/// The set of the members of an interval.
-fn set_of<B: Width>(alloc: Global, run: Interval<B>) -> Result<IntervalSet<B>, AllocError> {
-    if run.is_empty() {
-        return Ok(IntervalSet::empty(alloc));
-    }
-    IntervalSet::new(alloc, run.lower(), run.upper())
 }

@@ -1,8 +1,8 @@
-use Rattle.std.proofs.Common.{[], ◌∷◌, ◌≡◌, subst, sym, ◌∙◌, arith}
+use Rattle.std.proofs.Common.{[], ◌∷◌, ◌≡◌, refl, subst, sym, ◌∙◌, arith}
 use Rattle.std.proofs.lemmas.Result.{IfOk-weaker}
 use Rattle.intervallum.proofs.Images.{open_here_seen}
 use Rattle.ivl_laws.specs.Sets.{IsBetween}
-use Rattle.ivl_laws.specs.Runs.{Covers, IsMaximal, IsRunListIn}
+use Rattle.ivl_laws.specs.Runs.{Covers, IsMaximal}
 use Rattle.ivl_laws.proofs.Adding.{untrue}
 use Rattle.ivl_laws.proofs.Intervals.{not_crossed}
 use Rattle.ivl_laws.proofs.SetLaws.{IsRunsOf-same}
@@ -26,14 +26,14 @@ image-requires g c = record {
 pub combine_runs-requires : goal.combine_runs-requires
 combine_runs-requires g c = record {
   left = subst IsMaximal (sym (c.as_slice-left.ensures.value ∙ c.iter.ensures.rest)) c.iter.ensures.runs.maximal;
-  right = subst (IsRunListIn g.B.Width.whole) (sym (c.as_slice-right.ensures.value ∙ c.iter-2.ensures.rest)) c.iter-2.ensures.runs;
+  right = c.iter-2.ensures.runs;
   window = not_crossed _ (untrue _ c.if-is_empty.false c.is_empty.ensures.crossed);
 }
 
 pub returns : goal.returns
 returns g c =
     runs_seen _ c.args.op _ _ _ _ c.combine_runs.result
-    (c.as_slice-left.ensures.value ∙ c.iter.ensures.rest) (c.as_slice-right.ensures.value ∙ c.iter-2.ensures.rest) c.combine_runs.ensures
+    (c.as_slice-left.ensures.value ∙ c.iter.ensures.rest) refl c.combine_runs.ensures
 
 pub returns-then-right-eq1 : goal.returns-then-right-eq1
 returns-then-right-eq1 g c =
@@ -48,4 +48,4 @@ returns-then-right-eq1 g c =
     let filled = open_here_seen c.as_slice-left.result.now L 0 p left c.iter.ensures.runs.maximal (omega arith) c.index-left-0.is in
     let filled' = open_here_seen c.as_slice-right.result.now M 0 q right c.iter-2.ensures.runs.maximal (omega arith) c.index-right-0.is in
     let same = clipped_pair c.args.window c.args.op L M p q c.image.result one other filled filled' c.image.ensures in
-    IfOk-weaker c.set_of.result _ _ (λ N h. IsRunsOf-same (IsBetween c.image.result) (Clipped c.args.window (SumsBy c.args.op (Covers L) (Covers M))) N same h) c.set_of.ensures
+    IfOk-weaker c.of.result _ _ (λ N h. IsRunsOf-same (IsBetween c.image.result) (Clipped c.args.window (SumsBy c.args.op (Covers L) (Covers M))) N same h) c.of.ensures.members

@@ -3,10 +3,8 @@
 #[allow(unused_imports)]
 use crate::rattle::prelude::*;
 use super::{Combined, combine};
-use crate::proved::intervallum::interval::Interval;
 use crate::proved::intervallum::interval_set::IntervalSet;
-use crate::proved::intervallum::ops::{Bounded, Intersection, IsEmpty, Range};
-use crate::proved::intervallum::steps::Walk;
+use crate::proved::intervallum::ops::{Intersection, IsEmpty};
 use crate::proved::intervallum::width::Width;
 use crate::rattle::std::alloc::AllocError;
 
@@ -48,9 +46,9 @@ pub fn kept<B: Width>(
     op: Combined,
 ) -> Result<IntervalSet<B>, AllocError> {
     if x.is_empty() {
-        return Ok(IntervalSet::empty(Walk::new(x).alloc()));
+        return Ok(IntervalSet::empty(x.allocator()));
     }
-    let made = combine(a, b, op, Interval::new(x.lower(), x.upper()), 0)?;
+    let made = combine(a, b, op, x.hull(), 0)?;
     if x.interval_count() == 1 {
         return Ok(made);
     }

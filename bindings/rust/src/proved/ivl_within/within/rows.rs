@@ -1,17 +1,17 @@
-//! The results of one run and the runs of a list whose results reach a window.
+//! The results of one run and the runs of a set whose results reach a window.
 
 #[allow(unused_imports)]
 use crate::rattle::prelude::*;
 use super::Combined;
 use super::images::image;
 use crate::proved::intervallum::interval::Interval;
-use crate::proved::intervallum::ops::{Bounded, IsEmpty, Whole};
+use crate::proved::intervallum::interval_set::IntervalSet;
+use crate::proved::intervallum::ops::Whole;
 use crate::proved::intervallum::width::Width;
 use crate::rattle::std::alloc::AllocError;
 
-/// Adds the results of one run and each run of a list, cut to the window. Finds the first run that
-/// reaches the window by binary search, and looks at the runs from there to the first that starts
-/// above.
+/// Adds the results of one run and each run of a set, cut to the window. Makes only those of the runs
+/// that reach the window, which it finds by binary search.
 ///
 /// # Proved
 ///
@@ -26,21 +26,14 @@ use crate::rattle::std::alloc::AllocError;
 pub fn push_row<B: Width>(
     entries: &mut Vec<Interval<B>>,
     run: Interval<B>,
-    right: &[Interval<B>],
+    right: &IntervalSet<B>,
     op: Combined,
     window: Interval<B>,
 ) -> Result<(), AllocError> {
     let reach = reach(run, op, window);
-    if reach.is_empty() {
-        return Ok(());
-    }
-    let (lowest, highest) = (reach.lower(), reach.upper());
-    for i in first_from(right, lowest)..right.len() {
-        let other = right[i];
-        if highest < other.lower() {
-            return Ok(());
-        }
-        entries.push(image(run, other, op, window))?;
+    let met = right.runs_within(&reach);
+    for other in met {
+        entries.push(image(run, *other, op, window))?;
     }
     Ok(())
 }
@@ -51,20 +44,4 @@ fn reach<B: Width>(run: Interval<B>, op: Combined, window: Interval<B>) -> Inter
         Combined::Sum => image(window, run, Combined::Difference, Interval::whole()),
         Combined::Difference => image(run, window, Combined::Difference, Interval::whole()),
     }
-}
-
-/// Returns how many runs end below a value; these come first. Binary search.
-fn first_from<B: Width>(runs: &[Interval<B>], v: B) -> usize {
-    let mut low = 0;
-    let mut high = runs.len();
-    'search: while low < high {
-        let middle = low + (high - low) / 2;
-        let run = runs[middle];
-        if run.upper() < v {
-            low = middle + 1;
-        } else {
-            high = middle;
-        }
-    }
-    low
 }

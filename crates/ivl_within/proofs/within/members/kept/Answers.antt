@@ -9,13 +9,11 @@ use Rattle.ivl_within.proofs.within.members.kept.Goals as goal
 
 pub returns-then-interval_count-eq1 : goal.returns-then-interval_count-eq1
 returns-then-interval_count-eq1 g c =
-    let S = SumsBy c.args.op (Covers c.args.a.now) (Covers c.args.b.now) in
-    kept_of_one c.args.x.now c.in_ok-made.made S _ _ c.new-2.result c.new-2.ensures.value c.lower.ensures.least c.upper.ensures.greatest c.in_ok-made.ensures
-    c.lower.ensures.member c.upper.ensures.member (omega arith)
+    kept_of_one c.args.x.now c.in_ok-made.made (SumsBy c.args.op (Covers c.args.a.now) (Covers c.args.b.now)) c.hull.result c.hull.ensures c.in_ok-made.ensures (omega arith)
 
 pub returns : goal.returns
 returns g c =
     let S = SumsBy c.args.op (Covers c.args.a.now) (Covers c.args.b.now) in
     let X = Covers c.args.x.now in
-    let same = kept_members c.args.x.now c.in_ok-made.made S _ _ c.new-2.result c.new-2.ensures.value c.lower.ensures.least c.upper.ensures.greatest c.in_ok-made.ensures in
+    let same = kept_members c.args.x.now c.in_ok-made.made S c.hull.result c.hull.ensures c.in_ok-made.ensures in
     IfOk-weaker c.intersection.result _ _ (λ N h. IsRunsOf-same (Intersection X (Covers c.in_ok-made.made)) (Intersection X S) N same h) c.intersection.ensures.members

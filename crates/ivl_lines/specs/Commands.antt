@@ -1,0 +1,18 @@
+-- The answer to a line, by its first word and the words after it.
+--     AnswersByCommand allowed old line text new      nothing for a line without words, `error: not UTF-8` for one that is not UTF-8, and what is allowed for any other
+use Rattle.std.specs.Prelude.{◌≡◌, ℕ, Bool, true, false, List, [], ◌∷◌, codes}
+use Rattle.std.specs.Str.{is_utf8}
+use Rattle.ivl_lines.specs.Lines.{with_newline, words_of}
+
+-- by the words
+abbrev pub AnswersSplit : {S : Type 0} → (S → List ℕ → List (List ℕ) → List ℕ → S → Type 0) → S → List (List ℕ) → List ℕ → S → Type 0
+AnswersSplit allowed old [] text new = (text ≡ []) × (new ≡ old)
+AnswersSplit allowed old (name ∷ words) text new = allowed old name words text new
+
+-- by whether the line is UTF-8
+abbrev pub AnswersDecoded : {S : Type 0} → (S → List ℕ → List (List ℕ) → List ℕ → S → Type 0) → S → List ℕ → Bool → List ℕ → S → Type 0
+AnswersDecoded allowed old line true text new = AnswersSplit allowed old (words_of line) text new
+AnswersDecoded allowed old line false text new = (text ≡ with_newline (codes "error: not UTF-8")) × (new ≡ old)
+
+abbrev pub AnswersByCommand : {S : Type 0} → (S → List ℕ → List (List ℕ) → List ℕ → S → Type 0) → S → List ℕ → List ℕ → S → Type 0
+AnswersByCommand allowed old line text new = AnswersDecoded allowed old line (is_utf8 line) text new
