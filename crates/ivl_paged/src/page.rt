@@ -1,5 +1,5 @@
 //! One page: a few of the runs of a set.
-ghost use Rattle.std.specs.Prelude.{◌≡◌, ℤ, ◌≤ℤ◌, IsTrue, List, OnErr, OnOk};
+ghost use Rattle.std.specs.Prelude.{◌≡◌, ℤ, ◌≤ℤ◌, IsTrue, List, IfOk, OnErr, OnOk};
 ghost use Rattle.ivl_laws.specs.Sets.{HasSome, IsBetween, IsSubset, Union, Without};
 ghost use Rattle.ivl_laws.specs.Runs.{Covers, IsRunsOf};
 ghost use Rattle.intervallum.specs.Neighbours.{IsLeast};
@@ -43,11 +43,22 @@ impl<B: Width> Page<B> {
         self.head
     }
 
-    /// The runs, as a set.
+    /// The runs, as a set, which has a member.
     pub(crate) fn set(&self) -> &IntervalSet<B>
-        ensures { result.now ≡ self.now }
+        ensures same { result.now ≡ self.now }
+        ensures some { HasSome (Covers self.now) }
     {
         &self.set
+    }
+
+    /// A copy of the page.
+    pub(crate) fn try_clone(&self) -> Result<Self, AllocError>
+        ensures { IfOk result (λ L. L ≡ self.now) }
+    {
+        Ok(Page {
+            head: self.head,
+            set: self.set.try_clone()?,
+        })
     }
 
     /// Returns true exactly when each member lies in an interval.

@@ -4,8 +4,17 @@ ghost use Rattle.ivl_laws.specs.Sets.{HasNone, IsBetween, Only, Union, Without};
 ghost use Rattle.ivl_laws.specs.Runs.{Covers, IsRunListIn, IsRunsOf};
 ghost use Rattle.ivl_paged.specs.Pages.{flattened};
 
+mod bounds;
+mod clone;
+mod equality;
+mod iter;
+mod neighbours;
+mod rank;
+mod text;
+
 use crate::page::Page;
 use crate::pages;
+pub use iter::Runs;
 use intervallum::interval::Interval;
 use intervallum::interval_set::IntervalSet;
 use intervallum::ops::{Contains, IsEmpty, Singleton};

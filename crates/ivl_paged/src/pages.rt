@@ -1,16 +1,18 @@
 //! Searches and edits in a list of pages, which together hold one list of runs.
-ghost use Rattle.std.specs.Prelude.{◌≡◌, ◌⊎◌, ◌++◌, ◌+◌, ◌<◌, ◌≤◌, ℤ, pos, ◌+ℤ◌, ◌≤ℤ◌, [], drop, length, set, take, slice_index_or, IfOk, OnErr, OnOk};
+ghost use Rattle.std.specs.Prelude.{◌≡◌, ◌⊎◌, ◌++◌, ◌+◌, ◌<◌, ◌≤◌, ℤ, pos, ◌+ℤ◌, ◌≤ℤ◌, [], drop, length, set, take, slice_index_or, IfOk, MatchOption, OnErr, OnOk};
+ghost use Rattle.ivl_laws.specs.Counts.{IsCountOf};
 ghost use Rattle.ivl_laws.specs.Families.{set_at};
-ghost use Rattle.ivl_laws.specs.Sets.{IsBetween, Union, Without};
+ghost use Rattle.ivl_laws.specs.Sets.{AtLeast, HasNone, IsBetween, Union, Without};
 ghost use Rattle.ivl_laws.specs.Runs.{Covers, IsMaximal, IsRunListIn, IsRunsOf};
+ghost use Rattle.intervallum.specs.Neighbours.{IsLeast};
 ghost use Rattle.ivl_paged.specs.Pages.{IsPageSpan, StartsUpTo, flattened};
 
 use crate::page::Page;
 use intervallum::interval::Interval;
 use intervallum::interval_set::IntervalSet;
-use intervallum::ops::{Bounded, IsEmpty, ShrinkLeft, StrictShrinkRight, Union};
+use intervallum::ops::{Bounded, Cardinality, IsEmpty, ShrinkLeft, StrictShrinkRight, Union};
 use intervallum::sweep::coalesce;
-use intervallum::width::Width;
+use intervallum::width::{SizeNumber, Width};
 use std::alloc::{AllocError, Global};
 use std::hint::select_unpredictable;
 
@@ -62,6 +64,33 @@ pub(crate) fn starts_up_to<B: Width>(pages: &[Page<B>], value: B) -> usize
         first = select_unpredictable(is_up_to, first + half, first);
     }
     first
+}
+
+/// How many members pages have together.
+pub(crate) fn size_of<B: Width>(pages: &[Page<B>]) -> B::Output
+    requires { IsRunListIn B.whole (flattened pages.now) }
+    ensures { IsCountOf (B.Output.size result) (Covers (flattened pages.now)) }
+{
+    let mut count = <B::Output as SizeNumber>::zero();
+    for page in pages {
+        count = count.add_in_range(page.set().size());
+    }
+    count
+}
+
+/// The least member that is at least `v` in the first `count` pages, which are those that start at
+/// `v` or below. Only the last of them can have it.
+pub(crate) fn next_within<B: Width>(pages: &[Page<B>], count: usize, v: B) -> Option<B>
+    requires runs { IsMaximal (flattened pages.now) }
+    requires starts { StartsUpTo pages.now (B.value v) count }
+    ensures { MatchOption result
+        (HasNone (AtLeast (B.value v) (Covers (flattened (take count pages.now)))))
+        (λ x. IsLeast (B.value x) (AtLeast (B.value v) (Covers (flattened (take count pages.now))))) }
+{
+    if count == 0 {
+        return None;
+    }
+    pages[count - 1].set().next_from(v)
 }
 
 /// The places of the pages that a change of the numbers from `lower` to `upper` may touch: the
