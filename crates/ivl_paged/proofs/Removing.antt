@@ -1,5 +1,6 @@
 -- Numbers removed from one page, or from the first and the last of several, and pages that are joined.
 use Rattle.std.proofs.Common.{◌≡◌, ◌⊎◌, ⊎_elim, inl, inr, ℕ, zero, suc, ◌+◌, ◌-◌, ◌<◌, ◌≤◌, ℤ, pos, ◌+ℤ◌, ◌-ℤ◌, ◌≤ℤ◌, List, [], ◌∷◌, ◌++◌, length, get_or, take, drop, set, refl, sym, ap, ap₂, subst, ◌∙◌, arith, append_assoc, append-nil}
+use Rattle.std.specs.Prelude.{Result, Ok, Err, OnOk}
 use Rattle.std.proofs.lemmas.Int.{ints}
 use Rattle.std.proofs.lemmas.List.{drop_at, length-take-le}
 use Rattle.ivl_laws.specs.Families.{set_at}
@@ -68,6 +69,13 @@ index_within (L ∷ P) X (suc i) (suc b) h k = index_within P X i b (omega arith
 drop_past : (P X : List (List (ℤ × ℤ))) (b : ℕ) → b ≤ length P → drop b (take b P ++ X) ≡ X
 drop_past P X b h = drop_at (take b P) X b (length-take-le b P h)
 
+-- of several pages the last one: a removal there cannot fail, since the interval does not lie inside a run
+pub last_is_cut : (P : List (List (ℤ × ℤ))) (p : ℤ × ℤ) (i j : ℕ) → IsPageSpan P p.0 p.1 i j → ¬ (j - i ≡ 1) → p.0 ≤ℤ p.1 → ¬ (IsSubset (IsBetween (widened p)) (set_at P (j - 1)))
+last_is_cut P p i j s several filled h =
+    let o = s.in_order in
+    let far = s.from (j - 1) p.0 (omega (arith, o, several)) (h p.0 (omega (arith, ints), omega (arith, ints, filled))) in
+    omega (arith, ints, far)
+
 -- Q is P without the numbers in page j - 1, R without the pages between, and T without the numbers in page i
 module _ (P Q R T : List (List (ℤ × ℤ))) (p : ℤ × ℤ) (i j : ℕ) (m : IsMaximal (flattened P)) (s : IsPageSpan P p.0 p.1 i j) (several : ¬ (j - i ≡ 1))
     (high : IsCutAt P p (j - 1) Q) (between : R ≡ take (i + 1) Q ++ drop (j - 1) Q) where
@@ -115,10 +123,7 @@ module _ (P Q R T : List (List (ℤ × ℤ))) (p : ℤ × ℤ) (i j : ℕ) (m : 
   pub first_is : get_or R i [] ≡ get_or P i []
   first_is = ap (λ (N : List (List (ℤ × ℤ))). get_or N i []) rest_is ∙ index_within P (high.left ++ drop j P) i (i + 1) (omega arith) fits
 
-  -- a removal there cannot fail: the interval does not lie inside a run
-  pub last_is_cut : p.0 ≤ℤ p.1 → ¬ (IsSubset (IsBetween (widened p)) (set_at P (j - 1)))
-  last_is_cut filled h = let l = less in let far = s.from (j - 1) p.0 (omega (arith, l)) (h p.0 (omega (arith, ints), omega (arith, ints, filled))) in omega (arith, ints, far)
-
+  -- neither can a removal from the first
   pub first_is_cut : p.0 ≤ℤ p.1 → ¬ (IsSubset (IsBetween (widened p)) (set_at R i))
   first_is_cut filled h =
       let l = less in
@@ -202,3 +207,9 @@ least_is_cut S v least h = let low = least (v -ℤ pos 1) (h (v -ℤ pos 1) (ome
 
 pub greatest_is_cut : (S : ℤ → Type 0) (v : ℤ) → ((z : ℤ) → S z → z ≤ℤ v) → ¬ (IsSubset (IsBetween (widened (v, v))) S)
 greatest_is_cut S v greatest h = let high = greatest (v +ℤ pos 1) (h (v +ℤ pos 1) (omega (arith, ints), omega (arith, ints))) in omega (arith, ints, high)
+
+-- ---- a call that cannot fail
+
+pub on_ok_holds : {A E : Type 0} (X : Type 0) (r : Result A E) (a : A) → r ≡ Ok a → OnOk r X → X
+on_ok_holds X (Ok b) a e made = made
+on_ok_holds X (Err b) a e made = absurd (cc)
