@@ -17,14 +17,15 @@ use intervallum::width::{SizeNumber, Width};
 use std::alloc::{AllocError, Global};
 use std::hint::select_unpredictable;
 
-/// How many runs a page has at most, unless an allocation failed that would have split it.
+/// How many runs a page has at most, unless an allocation failed that would have split it. With 8 in
+/// its place, the tests split and join pages at almost every edit.
 const MOST_RUNS: usize = 128;
 
 /// How many runs a page has at most that is looked at as one to join.
-const FEW_RUNS: usize = 64;
+const FEW_RUNS: usize = MOST_RUNS / 2;
 
-/// How many runs a page has where a list of runs is put into pages.
-const FIRST_RUNS: usize = 96;
+/// How many runs a page has where a list of runs is put into pages, and at most where two are joined.
+const FIRST_RUNS: usize = MOST_RUNS / 4 * 3;
 
 /// The runs of a list in pages that have room for more.
 pub(crate) fn pages_of<B: Width>(
