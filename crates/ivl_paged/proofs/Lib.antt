@@ -1,1 +1,4 @@
 pub mod Paging
+pub mod Reading
+pub mod Removing
+pub mod Iterating

@@ -2,8 +2,11 @@
 --     flattened P      the runs of each page in turn
 --     StartsUpTo P v n      the first n pages have a number up to v, and the others none
 --     IsPageSpan P u v i j      the pages before i lie below u, those from j on above v, and those between i and the last within
-use Rattle.std.specs.Prelude.{ℕ, ◌+◌, ◌-◌, ◌<◌, ◌≤◌, ℤ, pos, ◌+ℤ◌, ◌≤ℤ◌, ◌<ℤ◌, List, [], ◌∷◌, ◌++◌, length}
+--     IsCutAt P p i Q      Q is P with the numbers of an interval removed from page i
+use Rattle.std.specs.Prelude.{◌≡◌, ℕ, ◌+◌, ◌-◌, ◌<◌, ◌≤◌, ℤ, pos, ◌+ℤ◌, ◌≤ℤ◌, ◌<ℤ◌, List, [], ◌∷◌, ◌++◌, drop, length, take}
 use Rattle.ivl_laws.specs.Families.{set_at}
+use Rattle.ivl_laws.specs.Sets.{IsBetween, Without}
+use Rattle.ivl_laws.specs.Runs.{IsRunsOf}
 
 abbrev pub flattened : List (List (ℤ × ℤ)) → List (ℤ × ℤ)
 flattened [] = []
@@ -23,3 +26,9 @@ pub record IsPageSpan (P : List (List (ℤ × ℤ))) (u v : ℤ) (i j : ℕ) : T
   pub from : (k : ℕ) (z : ℤ) → i < k → set_at P k z → u <ℤ z
   pub to : (k : ℕ) (z : ℤ) → k + 1 < j → set_at P k z → (z +ℤ pos 2) ≤ℤ v
   pub above : (k : ℕ) (z : ℤ) → j ≤ k → set_at P k z → v <ℤ z
+
+-- Q is P with the numbers of p removed from page i, in whose place the pages `left` stand: itself, or none
+pub record IsCutAt (P : List (List (ℤ × ℤ))) (p : ℤ × ℤ) (i : ℕ) (Q : List (List (ℤ × ℤ))) : Type 0 where
+  pub left : List (List (ℤ × ℤ))
+  pub pages : Q ≡ take i P ++ (left ++ drop (i + 1) P)
+  pub members : IsRunsOf (flattened left) (Without (set_at P i) (IsBetween p))

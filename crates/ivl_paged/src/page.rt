@@ -1,7 +1,8 @@
 //! One page: a few of the runs of a set.
-ghost use Rattle.std.specs.Prelude.{◌≡◌, ℤ, ◌≤ℤ◌, IsTrue, List, OnErr, OnOk};
+ghost use Rattle.std.specs.Prelude.{◌≡◌, ℤ, ◌≤ℤ◌, IsTrue, List, IfOk, IsOk, OnErr, OnOk};
 ghost use Rattle.ivl_laws.specs.Sets.{HasSome, IsBetween, IsSubset, Union, Without};
 ghost use Rattle.ivl_laws.specs.Runs.{Covers, IsRunsOf};
+ghost use Rattle.intervallum.specs.Edits.{widened};
 ghost use Rattle.intervallum.specs.Neighbours.{IsLeast};
 
 use intervallum::interval::Interval;
@@ -43,11 +44,22 @@ impl<B: Width> Page<B> {
         self.head
     }
 
-    /// The runs, as a set.
+    /// The runs, as a set, which has a member.
     pub(crate) fn set(&self) -> &IntervalSet<B>
-        ensures { result.now ≡ self.now }
+        ensures same { result.now ≡ self.now }
+        ensures some { HasSome (Covers self.now) }
     {
         &self.set
+    }
+
+    /// A copy of the page.
+    pub(crate) fn try_clone(&self) -> Result<Self, AllocError>
+        ensures { IfOk result (λ L. L ≡ self.now) }
+    {
+        Ok(Page {
+            head: self.head,
+            set: self.set.try_clone()?,
+        })
     }
 
     /// Returns true exactly when each member lies in an interval.
@@ -74,6 +86,8 @@ impl<B: Width> Page<B> {
         requires { HasSome (Without (Covers self.old) (IsBetween interval)) }
         ensures ok { OnOk result (IsRunsOf self.new (Without (Covers self.old) (IsBetween interval))) }
         ensures err { OnErr result (self.new ≡ self.old) }
+        // it cannot fail unless it lies inside a run and splits it
+        ensures in_place { ¬ (IsSubset (IsBetween (widened interval)) (Covers self.old)) → IsOk result }
     {
         self.set.remove_interval(interval)?;
         self.head = self.set.lower();

@@ -1,11 +1,21 @@
 //! A set of integers whose runs stand in pages.
-ghost use Rattle.std.specs.Prelude.{◌≡◌, ◌↔◌, ℤ, List, [], IfOk, IsOk, IsTrue, OnErr, OnOk, length};
-ghost use Rattle.ivl_laws.specs.Sets.{HasNone, IsBetween, Only, Union, Without};
+ghost use Rattle.std.specs.Prelude.{◌≡◌, ◌↔◌, ℤ, ◌≤ℤ◌, List, [], IfNone, IfOk, IfSome, IsOk, IsTrue, OnErr, OnOk, length};
+ghost use Rattle.ivl_laws.specs.Sets.{HasNone, IsBetween, IsSubset, Only, Union, Without};
 ghost use Rattle.ivl_laws.specs.Runs.{Covers, IsRunListIn, IsRunsOf};
+ghost use Rattle.intervallum.specs.Edits.{widened};
 ghost use Rattle.ivl_paged.specs.Pages.{flattened};
+
+mod bounds;
+mod clone;
+mod equality;
+mod iter;
+mod neighbours;
+mod rank;
+mod text;
 
 use crate::page::Page;
 use crate::pages;
+pub use iter::Runs;
 use intervallum::interval::Interval;
 use intervallum::interval_set::IntervalSet;
 use intervallum::ops::{Contains, IsEmpty, Singleton};
@@ -204,7 +214,9 @@ impl<B: Width> PagedSet<B> {
 
     /// Removes the members of an interval, which may be empty.
     ///
-    /// Costs as much as [`PagedSet::insert_interval`].
+    /// Binary search for the `k` pages that the interval overlaps, of which the first and the last
+    /// are cut and the others removed: `O(log n)`, and the list of pages moves if a page goes.
+    /// Allocates only if a run is split, or to join pages that have become short.
     ///
     /// # Errors
     ///
@@ -220,11 +232,65 @@ impl<B: Width> PagedSet<B> {
         ensures ok { OnOk result (IsRunsOf self.new (Without (Covers self.old) (IsBetween interval))) }
         ensures err { OnErr result (self.new ≡ self.old) }
         ensures empty { HasNone (IsBetween interval) → IsOk result }
+        // it cannot fail unless it lies inside a run and splits it
+        ensures in_place { ¬ (IsSubset (IsBetween (widened interval)) (Covers self.old)) → IsOk result }
     {
         if interval.is_empty() || self.pages.is_empty() {
             return Ok(());
         }
         pages::remove_interval(&mut self.pages, interval)
+    }
+
+    /// Removes and returns the least member, or returns `None` if the set is empty. `O(log n)`; if a
+    /// page then has no runs, the list of pages moves. Never fails.
+    ///
+    /// ```
+    /// let mut a = PagedSet::new(alloc);
+    /// a.insert_interval(Interval::new(1, 5))?;
+    /// assert_eq!(rt; a.pop_first(), Some(1));
+    /// assert!(rt; !a.contains(&1) && a.contains(&2));
+    /// ```
+    pub fn pop_first(&mut self) -> Option<B>
+        ensures none { IfNone result ((self.old ≡ []) × (self.new ≡ [])) }
+        ensures member { IfSome result (λ v. Covers self.old (B.value v)) }
+        ensures least { IfSome result (λ v. (z : ℤ) → Covers self.old z → B.value v ≤ℤ z) }
+        ensures others { IfSome result (λ v. IsRunsOf self.new (Without (Covers self.old) (Only (B.value v)))) }
+        ensures in_range { IfSome result (λ v. IsBetween B.whole (B.value v)) }
+    {
+        self.in_whole();
+        match self.first() {
+            Some(least) => {
+                self.remove_interval(Interval::singleton(least)).unwrap();
+                Some(least)
+            }
+            None => None,
+        }
+    }
+
+    /// Removes and returns the greatest member, or returns `None` if the set is empty. `O(log n)`.
+    /// Never fails.
+    ///
+    /// ```
+    /// let mut a = PagedSet::new(alloc);
+    /// a.insert_interval(Interval::new(1, 5))?;
+    /// assert_eq!(rt; a.pop_last(), Some(5));
+    /// assert!(rt; !a.contains(&5) && a.contains(&4));
+    /// ```
+    pub fn pop_last(&mut self) -> Option<B>
+        ensures none { IfNone result ((self.old ≡ []) × (self.new ≡ [])) }
+        ensures member { IfSome result (λ v. Covers self.old (B.value v)) }
+        ensures greatest { IfSome result (λ v. (z : ℤ) → Covers self.old z → z ≤ℤ B.value v) }
+        ensures others { IfSome result (λ v. IsRunsOf self.new (Without (Covers self.old) (Only (B.value v)))) }
+        ensures in_range { IfSome result (λ v. IsBetween B.whole (B.value v)) }
+    {
+        self.in_whole();
+        match self.last() {
+            Some(greatest) => {
+                self.remove_interval(Interval::singleton(greatest)).unwrap();
+                Some(greatest)
+            }
+            None => None,
+        }
     }
 
     /// Removes all members. Keeps the capacity of the list of pages. `O(n / page)`: drops each page.

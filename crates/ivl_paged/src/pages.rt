@@ -1,24 +1,31 @@
 //! Searches and edits in a list of pages, which together hold one list of runs.
-ghost use Rattle.std.specs.Prelude.{◌≡◌, ◌⊎◌, ◌++◌, ◌+◌, ◌<◌, ◌≤◌, ℤ, pos, ◌+ℤ◌, ◌≤ℤ◌, [], drop, length, set, take, slice_index_or, IfOk, OnErr, OnOk};
+ghost use Rattle.std.specs.Prelude.{◌≡◌, ◌⊎◌, ◌++◌, ◌+◌, ◌<◌, ◌≤◌, ℤ, pos, ◌+ℤ◌, ◌≤ℤ◌, [], drop, length, set, take, slice_index_or, IfOk, IsOk, MatchOption, OnErr, OnOk};
+ghost use Rattle.ivl_laws.specs.Counts.{IsCountOf};
 ghost use Rattle.ivl_laws.specs.Families.{set_at};
-ghost use Rattle.ivl_laws.specs.Sets.{IsBetween, Union, Without};
+ghost use Rattle.ivl_laws.specs.Sets.{AtLeast, HasNone, IsBetween, IsSubset, Union, Without};
 ghost use Rattle.ivl_laws.specs.Runs.{Covers, IsMaximal, IsRunListIn, IsRunsOf};
-ghost use Rattle.ivl_paged.specs.Pages.{IsPageSpan, StartsUpTo, flattened};
+ghost use Rattle.intervallum.specs.Edits.{widened};
+ghost use Rattle.intervallum.specs.Neighbours.{IsLeast};
+ghost use Rattle.ivl_paged.specs.Pages.{IsCutAt, IsPageSpan, StartsUpTo, flattened};
 
 use crate::page::Page;
 use intervallum::interval::Interval;
 use intervallum::interval_set::IntervalSet;
-use intervallum::ops::{Bounded, IsEmpty, ShrinkLeft, StrictShrinkRight, Union};
+use intervallum::ops::{Bounded, Cardinality, IsEmpty, ShrinkLeft, StrictShrinkRight, Union};
 use intervallum::sweep::coalesce;
-use intervallum::width::Width;
+use intervallum::width::{SizeNumber, Width};
 use std::alloc::{AllocError, Global};
 use std::hint::select_unpredictable;
 
-/// How many runs a page has at most, unless an allocation failed that would have split it.
+/// How many runs a page has at most, unless an allocation failed that would have split it. With 8 in
+/// its place, the tests split and join pages at almost every edit.
 const MOST_RUNS: usize = 128;
 
-/// How many runs a page has where a list of runs is put into pages.
-const FIRST_RUNS: usize = 96;
+/// How many runs a page has at most that is looked at as one to join.
+const FEW_RUNS: usize = MOST_RUNS / 2;
+
+/// How many runs a page has where a list of runs is put into pages, and at most where two are joined.
+const FIRST_RUNS: usize = MOST_RUNS / 4 * 3;
 
 /// The runs of a list in pages that have room for more.
 pub(crate) fn pages_of<B: Width>(
@@ -62,6 +69,33 @@ pub(crate) fn starts_up_to<B: Width>(pages: &[Page<B>], value: B) -> usize
         first = select_unpredictable(is_up_to, first + half, first);
     }
     first
+}
+
+/// How many members pages have together.
+pub(crate) fn size_of<B: Width>(pages: &[Page<B>]) -> B::Output
+    requires { IsRunListIn B.whole (flattened pages.now) }
+    ensures { IsCountOf (B.Output.size result) (Covers (flattened pages.now)) }
+{
+    let mut count = <B::Output as SizeNumber>::zero();
+    for page in pages {
+        count = count.add_in_range(page.set().size());
+    }
+    count
+}
+
+/// The least member that is at least `v` in the first `count` pages, which are those that start at
+/// `v` or below. Only the last of them can have it.
+pub(crate) fn next_within<B: Width>(pages: &[Page<B>], count: usize, v: B) -> Option<B>
+    requires runs { IsMaximal (flattened pages.now) }
+    requires starts { StartsUpTo pages.now (B.value v) count }
+    ensures { MatchOption result
+        (HasNone (AtLeast (B.value v) (Covers (flattened (take count pages.now)))))
+        (λ x. IsLeast (B.value x) (AtLeast (B.value v) (Covers (flattened (take count pages.now))))) }
+{
+    if count == 0 {
+        return None;
+    }
+    pages[count - 1].set().next_from(v)
 }
 
 /// The places of the pages that a change of the numbers from `lower` to `upper` may touch: the
@@ -119,7 +153,7 @@ pub(crate) fn insert_interval<B: Width>(
     let upper = one_above(interval.upper());
     let (start, end) = span(pages, interval.lower(), upper);
     insert_between(pages, start, end, interval)?;
-    split_if_full(pages, start);
+    balance(pages, start);
     Ok(())
 }
 
@@ -156,14 +190,16 @@ pub(crate) fn remove_interval<B: Width>(
     requires runs { IsRunListIn B.whole (flattened pages.old.items) }
     ensures ok { OnOk result (IsRunsOf (flattened pages.new.items) (Without (Covers (flattened pages.old.items)) (IsBetween interval))) }
     ensures err { OnErr result (flattened pages.new.items ≡ flattened pages.old.items) }
+    ensures in_place { ¬ (IsSubset (IsBetween (widened interval)) (Covers (flattened pages.old.items))) → IsOk result }
 {
     let (start, end) = span(pages, interval.lower(), interval.upper());
     remove_between(pages, start, end, interval)?;
-    split_if_full(pages, start);
+    balance(pages, start);
     Ok(())
 }
 
-/// Removes the members of an interval from the pages from `start` to before `end`.
+/// Removes the members of an interval from the pages from `start` to before `end`. Of several, the
+/// first and the last are cut, and those between removed: nothing is allocated.
 fn remove_between<B: Width>(
     pages: &mut Vec<Page<B>>,
     start: usize,
@@ -175,31 +211,32 @@ fn remove_between<B: Width>(
     requires span { IsPageSpan pages.old.items interval.0 interval.1 start end }
     ensures ok { OnOk result (IsRunsOf (flattened pages.new.items) (Without (Covers (flattened pages.old.items)) (IsBetween interval))) }
     ensures err { OnErr result (flattened pages.new.items ≡ flattened pages.old.items) }
+    ensures in_place { ¬ (IsSubset (IsBetween (widened interval)) (Covers (flattened pages.old.items))) → IsOk result }
 {
     if end - start == 1 {
         return remove_from_one(pages, start, interval);
     }
-    let mut rest = pages[start].set().union(pages[end - 1].set())?;
-    rest.remove_interval(interval)?;
-    replace(pages, start, end, rest);
+    remove_from_one(pages, end - 1, interval).unwrap();
+    take_out(pages, start + 1, end - 1);
+    remove_from_one(pages, start, interval).unwrap();
     Ok(())
 }
 
-/// Removes the members of an interval from the page at `start`.
+/// Removes the members of an interval from page `i`, and the page if it has no others.
 fn remove_from_one<B: Width>(
     pages: &mut Vec<Page<B>>,
-    start: usize,
+    i: usize,
     interval: Interval<B>,
 ) -> Result<(), AllocError>
     requires filled { interval.0 ≤ℤ interval.1 }
-    requires runs { IsRunListIn B.whole (flattened pages.old.items) }
-    requires span { IsPageSpan pages.old.items interval.0 interval.1 start (start + 1) }
-    ensures ok { OnOk result (IsRunsOf (flattened pages.new.items) (Without (Covers (flattened pages.old.items)) (IsBetween interval))) }
-    ensures err { OnErr result (flattened pages.new.items ≡ flattened pages.old.items) }
+    requires less { i < length pages.old.items }
+    ensures ok { OnOk result (IsCutAt pages.old.items interval i pages.new.items) }
+    ensures err { OnErr result (pages.new.items ≡ pages.old.items) }
+    ensures in_place { ¬ (IsSubset (IsBetween (widened interval)) (set_at pages.old.items i)) → IsOk result }
 {
-    let page = &mut pages[start];
+    let page = &mut pages[i];
     if page.lies_within(&interval) {
-        pages.remove(start);
+        pages.remove(i);
         return Ok(());
     }
     page.remove_interval(interval)
@@ -236,15 +273,61 @@ fn put<B: Width>(pages: &mut Vec<Page<B>>, i: usize, page: Page<B>)
     pages[i] = page;
 }
 
-/// Splits page `i`, if there is one and it is full. If allocation fails, the page stays as it is.
-fn split_if_full<B: Width>(pages: &mut Vec<Page<B>>, i: usize)
+/// Splits page `i` if there is one and it is full, or joins it with a neighbour if both have few
+/// runs. If allocation fails, the pages stay as they are.
+fn balance<B: Width>(pages: &mut Vec<Page<B>>, i: usize)
+    requires { IsMaximal (flattened pages.old.items) }
     ensures { flattened pages.new.items ≡ flattened pages.old.items }
 {
-    if pages.len() <= i || pages[i].set().interval_count() <= MOST_RUNS {
+    if pages.len() <= i {
         return;
     }
-    // without memory the page grows beyond its measure
-    let _split = split(pages, i);
+    let count = pages[i].set().interval_count();
+    if count > MOST_RUNS {
+        // without memory the page grows beyond its measure
+        let _split = split(pages, i);
+    } else if count <= FEW_RUNS {
+        join_neighbours(pages, i);
+    }
+}
+
+/// Joins page `i` with the one after it, and with the one before it, where both have few runs.
+fn join_neighbours<B: Width>(pages: &mut Vec<Page<B>>, i: usize)
+    requires runs { IsMaximal (flattened pages.old.items) }
+    requires less { i < length pages.old.items }
+    ensures { flattened pages.new.items ≡ flattened pages.old.items }
+{
+    join_if_few(pages, i);
+    if i > 0 {
+        join_if_few(pages, i - 1);
+    }
+}
+
+/// Joins page `i` with the one after it, if there is one and both have few runs together.
+fn join_if_few<B: Width>(pages: &mut Vec<Page<B>>, i: usize)
+    requires { IsMaximal (flattened pages.old.items) }
+    ensures { flattened pages.new.items ≡ flattened pages.old.items }
+{
+    if pages.len() < 2 || pages.len() - 2 < i {
+        return;
+    }
+    let here = pages[i].set().interval_count();
+    let next = pages[i + 1].set().interval_count();
+    if here.saturating_add(next) <= FIRST_RUNS {
+        // without memory both pages stay
+        let _joined = join(pages, i);
+    }
+}
+
+/// Puts the runs of page `i` and of the one after it in one page.
+fn join<B: Width>(pages: &mut Vec<Page<B>>, i: usize) -> Result<(), AllocError>
+    requires runs { IsMaximal (flattened pages.old.items) }
+    requires less { i + 1 < length pages.old.items }
+    ensures { flattened pages.new.items ≡ flattened pages.old.items }
+{
+    let both = pages[i].set().union(pages[i + 1].set())?;
+    replace(pages, i, i + 2, both);
+    Ok(())
 }
 
 /// Splits page `i`, which has two runs at least, in the middle.

@@ -2,7 +2,7 @@
 use crate::paged_set::PagedSet;
 use intervallum::interval::Interval;
 use intervallum::interval_set::{IntervalSet, ToIntervalSet};
-use intervallum::ops::Range;
+use intervallum::ops::{IsEmpty, Range};
 use std::alloc::AllocError;
 use std::test::Fail;
 
@@ -66,6 +66,76 @@ fn agree(set: &PagedSet<i64>, flags: &[bool]) -> bool {
     true
 }
 
+/// Compares what the set tells of each number with what the flags tell of it.
+fn places_agree(set: &PagedSet<i64>, flags: &[bool]) -> bool {
+    let mut below = 0u64;
+    let mut last = None;
+    for (i, flag) in flags.iter().enumerate() {
+        let value = i as i64;
+        if set.rank(value) != below || set.run_at(value).is_some() != *flag {
+            return false;
+        }
+        if *flag {
+            if set.nth(below) != Some(value) || set.next_from(value) != Some(value) {
+                return false;
+            }
+            below = below.wrapping_add(1);
+            last = Some(value);
+        }
+        if set.previous_to(value) != last {
+            return false;
+        }
+    }
+    set.size() == below && set.nth(below).is_none() && set.last() == last
+}
+
+/// Compares the next member from each number on with what the flags tell of it.
+fn next_agree(set: &PagedSet<i64>, flags: &[bool]) -> bool {
+    let mut next = None;
+    for (i, flag) in flags.iter().enumerate().rev() {
+        let value = i as i64;
+        if *flag {
+            next = Some(value);
+        }
+        if set.next_from(value) != next {
+            return false;
+        }
+    }
+    set.first() == next
+}
+
+/// Compares the runs from both ends with those of the list, which holds the same set.
+fn runs_agree(set: &PagedSet<i64>, list: &IntervalSet<i64>) -> bool {
+    let mut forth = set.iter();
+    for run in list.iter() {
+        if forth.next() != Some(*run) {
+            return false;
+        }
+    }
+    let mut back = set.iter();
+    for run in list.iter().rev() {
+        if back.next_back() != Some(*run) {
+            return false;
+        }
+    }
+    forth.next().is_none() && back.next_back().is_none() && set.hull() == list.hull()
+}
+
+/// Takes a value's flag away, and returns whether there was one.
+fn pop_agrees(flags: &mut [bool], value: Option<i64>) -> bool {
+    let Some(value) = value else {
+        return false;
+    };
+    for (i, flag) in flags.iter_mut().enumerate() {
+        if i as i64 == value {
+            let had = *flag;
+            *flag = false;
+            return had;
+        }
+    }
+    false
+}
+
 /// Makes one random edit of both, and returns whether the answers agree.
 fn edit(
     set: &mut PagedSet<i64>,
@@ -85,6 +155,14 @@ fn edit(
         1 => {
             set.remove_interval(Interval::new(value, upper))?;
             put_all(flags, place, end, false);
+        }
+        2 => {
+            let least = set.pop_first();
+            return Ok(least.is_none() || pop_agrees(flags, least));
+        }
+        3 => {
+            let greatest = set.pop_last();
+            return Ok(greatest.is_none() || pop_agrees(flags, greatest));
         }
         kind if kind < 100 => {
             let is_new = set.insert(value)?;
@@ -110,13 +188,56 @@ fn random_edits_agree_with_flags(rt: HostRuntime) {
             edit(&mut set, &mut flags, &mut random) == Ok(true),
             "step {step}"
         );
-        if step % 1000 == 0 {
+        if step % 2000 == 0 {
             assert!(rt; agree(&set, &flags), "step {step}");
+            assert!(rt; places_agree(&set, &flags), "step {step}");
+            assert!(rt; next_agree(&set, &flags), "step {step}");
         }
     }
     assert!(rt; agree(&set, &flags));
     let list = set.to_set().expect(&rt, "memory");
     assert!(rt; list.interval_count() > 500);
+    assert!(rt; runs_agree(&set, &list));
     let again = PagedSet::of_set(&list).expect(&rt, "memory");
-    assert!(rt; agree(&again, &flags));
+    assert!(rt; agree(&again, &flags) && again == set);
+    let mut copy = set.try_clone().expect(&rt, "memory");
+    assert!(rt; copy == set && copy.pop_last().is_some() && copy != set);
+}
+
+#[test]
+fn pops_take_each_member_once(rt: HostRuntime) {
+    let mut set = PagedSet::new(rt.alloc());
+    for i in 0..900i64 {
+        assert!(rt; Interval::in_range(2 * i, 2 * i), "it is in the range");
+        assert!(rt; set.insert(2 * i) == Ok(true));
+    }
+    for i in 0..400i64 {
+        assert!(rt; set.pop_first() == Some(2 * i));
+        assert!(rt; set.pop_last() == Some(1798 - 2 * i));
+    }
+    assert!(rt; set.size() == 100 && set.hull() == Interval::new(800, 998));
+    for i in 400..500i64 {
+        assert!(rt; set.pop_first() == Some(2 * i));
+    }
+    assert!(rt; set.pop_first().is_none() && set.pop_last().is_none());
+}
+
+#[test]
+fn the_ends_of_a_type(rt: HostRuntime) {
+    let alloc = rt.alloc();
+    let mut set: PagedSet<u8> = PagedSet::new(alloc);
+    assert!(rt; set.insert_interval(Interval::new(0, 254)) == Ok(()));
+    assert!(rt; set.first() == Some(0) && set.last() == Some(254) && set.size() == 255);
+    assert!(rt; set.pop_first() == Some(0) && set.pop_last() == Some(254));
+    assert!(rt; set.insert_interval(Interval::new(254, 254)) == Ok(()));
+    assert!(rt; set.next_from(255).is_none() && set.previous_to(255) == Some(254));
+    assert!(rt; set.rank(255) == 254 && set.run_at(0).is_none());
+    let text = format!(in alloc; "{set}").expect(&rt, "memory");
+    assert!(rt; text.as_str() == "[1..254]");
+    assert!(rt; set.remove(9) == Ok(true));
+    let text = format!(in alloc; "{set}").expect(&rt, "memory");
+    assert!(rt; text.as_str() == "{[1..8][10..254]}");
+    set.clear();
+    let text = format!(in alloc; "{set}").expect(&rt, "memory");
+    assert!(rt; text.as_str() == "{}" && set.hull().is_empty());
 }

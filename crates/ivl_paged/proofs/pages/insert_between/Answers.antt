@@ -27,4 +27,4 @@ returns-clause-ok g c =
     let first : c.index.result.now ≡ get_or P c.args.start [] = c.index.ensures ∙ get_or_default P c.args.start _ [] (omega arith) in
     let last : c.index-2.result.now ≡ get_or P (c.args.end - 1) [] = c.index-2.ensures ∙ get_or_default P (c.args.end - 1) _ [] (omega arith) in
     rw c.replace.ensures (inserted g.B.Width.whole P _ c.args.interval c.requires.span.0 c.args.start c.args.end c.requires.runs c.requires.filled c.requires.span.1 span
-    (with_both P _ _ _ _ c.args.interval c.args.start c.args.end (c.set.ensures ∙ first) (c.set-2.ensures ∙ last) c.in_ok-joined.ensures.members c.in_ok-insert_interval.ensures.ok))
+    (with_both P _ _ _ _ c.args.interval c.args.start c.args.end (c.set.ensures.same ∙ first) (c.set-2.ensures.same ∙ last) c.in_ok-joined.ensures.members c.in_ok-insert_interval.ensures.ok))

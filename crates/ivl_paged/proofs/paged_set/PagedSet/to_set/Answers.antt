@@ -8,7 +8,7 @@ pub loop-page-preserved : goal.loop-page-preserved
 loop-page-preserved g c =
     let P = c.deref-page-items.result.now in
     let k = c.loop-page.page-index in
-    let part : c.as_slice.result.now ≡ get_or P k c.page-item.result = c.as_slice.ensures.value ∙ c.iter.ensures.rest ∙ c.set.ensures ∙ c.page-item.is in
+    let part : c.as_slice.result.now ≡ get_or P k c.page-item.result = c.as_slice.ensures.value ∙ c.iter.ensures.rest ∙ c.set.ensures.same ∙ c.page-item.is in
     c.in_ok-extend_from_slice.ensures.items ∙ ap₂ (λ (A B : List (ℤ × ℤ)). A ++ B) c.loop-page.invariant part ∙ sym (flattened_more P k c.page-item.result c.loop-page-test.true)
 
 pub returns : goal.returns

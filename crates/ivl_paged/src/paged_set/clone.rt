@@ -1,0 +1,29 @@
+//! Copies of a set.
+ghost use Rattle.std.specs.Prelude.{◌≡◌, IfOk};
+
+use super::PagedSet;
+use intervallum::width::Width;
+use std::alloc::AllocError;
+
+impl<B: Width> PagedSet<B> {
+    /// Returns a copy of the set, page by page. `O(n)`. Fails only if allocation fails.
+    ///
+    /// ```
+    /// let mut a = PagedSet::new(alloc);
+    /// a.insert_interval(Interval::new(1, 5))?;
+    /// assert!(rt; a.try_clone()? == a);
+    /// ```
+    pub fn try_clone(&self) -> Result<Self, AllocError>
+        ensures { IfOk result (λ L. L ≡ self.now) }
+    {
+        self.in_whole();
+        let mut pages = Vec::with_capacity(self.alloc, self.pages.len())?;
+        for page in &self.pages {
+            pages.push(page.try_clone()?)?;
+        }
+        Ok(PagedSet {
+            alloc: self.alloc,
+            pages,
+        })
+    }
+}

@@ -1,0 +1,70 @@
+//! The number of members, and members by the number of members below them.
+ghost use Rattle.std.specs.Prelude.{ℕ, ◌≤◌, MatchOption};
+ghost use Rattle.ivl_laws.specs.Counts.{IsCountOf};
+ghost use Rattle.ivl_laws.specs.Sets.{Below};
+ghost use Rattle.ivl_laws.specs.Runs.{Covers};
+
+use super::PagedSet;
+use crate::pages;
+use intervallum::ops::Cardinality;
+use intervallum::width::{SizeNumber, Width};
+
+impl<B: Width> PagedSet<B> {
+    /// Returns the number of members. Adds up what each page has: `O(n / page)`. Never overflows.
+    /// Does not allocate.
+    ///
+    /// ```
+    /// let mut a = PagedSet::new(alloc);
+    /// a.insert_interval(Interval::new(1, 5))?;
+    /// assert_eq!(rt; a.size(), 5u32);
+    /// ```
+    pub fn size(&self) -> B::Output
+        ensures { IsCountOf (B.Output.size result) (Covers self.now) }
+    {
+        pages::size_of(&self.pages)
+    }
+
+    /// Returns the number of members below `v`, which may be any value of its type. Adds up what
+    /// each page below has, and scans one page: `O(n / page)`. Does not allocate.
+    ///
+    /// ```
+    /// let mut a = PagedSet::new(alloc);
+    /// assert!(rt; a.insert(2)? && a.insert(5)?);
+    /// assert!(rt; a.rank(2) == 0 && a.rank(5) == 1 && a.rank(6) == 2);
+    /// ```
+    pub fn rank(&self, v: B) -> B::Output
+        ensures { IsCountOf (B.Output.size result) (Below (B.value v) (Covers self.now)) }
+    {
+        let count = pages::starts_up_to(&self.pages, v);
+        if count == 0 {
+            return <B::Output as SizeNumber>::zero();
+        }
+        let below = pages::size_of(&self.pages[..count - 1]);
+        let here = self.pages[count - 1].set().rank(v);
+        below.add_in_range(here)
+    }
+
+    /// Returns the member with exactly `i` members below it, or `None` if the set has no more than
+    /// `i` members. Reads how many each page has, and scans one page: `O(n / page)`. Does not
+    /// allocate.
+    ///
+    /// ```
+    /// let mut a = PagedSet::new(alloc);
+    /// assert!(rt; a.insert(2)? && a.insert(5)?);
+    /// assert!(rt; a.nth(0) == Some(2) && a.nth(1) == Some(5) && a.nth(2).is_none());
+    /// ```
+    pub fn nth(&self, i: B::Output) -> Option<B>
+        ensures { MatchOption result
+            ((n : ℕ) → IsCountOf n (Covers self.now) → n ≤ B.Output.size i)
+            (λ x. Covers self.now (B.value x) × IsCountOf (B.Output.size i) (Below (B.value x) (Covers self.now))) }
+    {
+        let mut left = i;
+        for page in &self.pages {
+            match left.checked_sub(page.set().size()) {
+                Some(rest) => left = rest,
+                None => return page.set().nth(left),
+            }
+        }
+        None
+    }
+}
