@@ -9,6 +9,7 @@ use Rattle.ivl_store.specs.declared.store.constraint.Constraint.{Constraint}
 use Rattle.ivl_store.specs.Solutions.{LostMember, Supports}
 use Rattle.ivl_store.specs.Narrowing.{Narrowed, IsFixed, Keeps, AllPresent, first_unknown_of}
 use Rattle.ivl_store.specs.Rounds.{narrowed_by, rounds_of, IsNarrowedBy, IsPartlyNarrowedBy, After, AfterSome, EachLost}
+use Rattle.ivl_store.specs.Network.{work}
 use Rattle.ivl_store.specs.Settled.{any_lost, AreLost, AreSettled, AreCleared}
 use Rattle.ivl_store.specs.Keeping.{IsLeftOf, AreLeftAt, narrowed_at}
 use Rattle.ivl_store.specs.Measure.{covers, count_from}
@@ -183,7 +184,7 @@ ones_may_not_be_marked s = ones_are_not_fixed (s.fixed 0 the_sum (omega arith) r
 -- ---- AreCleared
 
 where_nothing_changed_marks_may_stay : AreCleared false (the_sum ∷ []) 0 (true ∷ []) (true ∷ [])
-where_nothing_changed_marks_may_stay = record { same_count = refl; only_cleared = (λ k e. e); apart = (λ e. absurd (false≢true e)) }
+where_nothing_changed_marks_may_stay = record { same_count = refl; kept = (λ _. refl); only_cleared = (λ k e. e); apart = (λ e. absurd (false≢true e)) }
 
 a_mark_may_not_be_set : ¬ (AreCleared false (the_sum ∷ []) 0 (false ∷ []) (true ∷ []))
 a_mark_may_not_be_set a = false≢true (a.only_cleared 0 refl)
@@ -265,3 +266,9 @@ none_of_no_numbers = refl
 
 the_first_is_replaced : narrowed_at ([] ∷ [] ∷ []) 0 (Some ((pos 3, pos 3) ∷ [])) ≡ ((pos 3, pos 3) ∷ []) ∷ [] ∷ []
 the_first_is_replaced = refl
+
+-- ---- work
+
+one_narrowing_is_left : work (pos 0, pos 0) (record { domains = ([]) ∷ []; constraints = the_sum ∷ []; unsettled = 1 }) ≡ 1
+unfolding count_from
+one_narrowing_is_left = refl

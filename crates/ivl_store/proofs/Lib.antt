@@ -19,3 +19,4 @@ pub mod Rounds
 pub mod Settled
 pub mod Steps
 pub mod Totals
+pub mod Work

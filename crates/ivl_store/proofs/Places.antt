@@ -17,7 +17,7 @@ use Rattle.ivl_store.specs.declared.store.marks.Lost.{Lost}
 use Rattle.ivl_store.specs.Solutions.{AreDistinct, Names, HasSolutionAt, IsSolution, Supports, LiesWithin, LostMember}
 use Rattle.ivl_store.specs.Narrowing.{Narrowed, AllPresent, first_unknown, first_unknown_of}
 use Rattle.ivl_store.specs.Keeping.{IsLeftOf, AreLeftAt, narrowed_at}
-use Rattle.ivl_store.specs.Settled.{AreLost}
+use Rattle.ivl_store.specs.Settled.{AreLost, any_lost}
 use Rattle.ivl_store.proofs.Families.{narrowing_keeps, narrowed_has_solution, has_solution_narrowed}
 
 -- ---- what is left of one set
@@ -212,6 +212,20 @@ none_of false false false = inl (refl, refl, refl)
 is_none_of : (left : Option (List (ℤ × ℤ))) → is_some left ≡ false → left ≡ None
 is_none_of None e = refl
 is_none_of (Some s) e = absurd (cc)
+
+-- where no member is lost, none is at x, at y and at z
+pub none_lost_at : (lost : Lost) → any_lost lost ≡ false → (lost.x ≡ false) × (lost.y ≡ false) × (lost.z ≡ false)
+none_lost_at lost none = elim (none_of lost.x lost.y lost.z) [
+  | inl n ↦ n
+  | inr some ↦ absurd (false≢true (sym none ∙ some))
+]
+
+-- and the sets stand as they were
+pub none_after : (c : Constraint) (old : List (List (ℤ × ℤ))) (x y z : Option (List (ℤ × ℤ))) (lost : Lost)
+    → lost.x ≡ is_some x → lost.y ≡ is_some y → lost.z ≡ is_some z → any_lost lost ≡ false → after c old x y z ≡ old
+none_after c old x y z lost mx my mz none =
+    let n = none_lost_at lost none in
+    rw (is_none_of x (sym mx ∙ n.0), is_none_of y (sym my ∙ n.1), is_none_of z (sym mz ∙ n.2)) refl
 
 -- where a set is made, a member is lost
 lost_at : (whole : ℤ × ℤ) (L : List (ℤ × ℤ)) (S : ℤ → Type 0) (left : Option (List (ℤ × ℤ))) → IsLeftOf whole L S left → is_some left ≡ true

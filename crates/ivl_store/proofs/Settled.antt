@@ -12,6 +12,7 @@ use Rattle.ivl_store.specs.Narrowing.{Narrowed, IsFixed}
 use Rattle.ivl_store.specs.declared.store.marks.Lost.{Lost}
 use Rattle.ivl_store.specs.Settled.{any_lost, AreLost, AreSettled, AreCleared}
 use Rattle.ivl_store.proofs.Families.{narrowing_keeps, narrowed_has_solution, has_solution_narrowed}
+use Rattle.ivl_store.proofs.Places.{none_lost_at}
 use Rattle.ivl_store.proofs.Rounds.{Narrowed-mono, none_lost}
 
 -- narrowing by a constraint over three variables leaves what it supports
@@ -167,6 +168,13 @@ marks_moved constraints i e lost m0 m1 m2 m3 own lt ax ay az may old new n l s =
   where
     m1_of : (k : ℕ) → get_or m3 k false ≡ true → get_or m1 k false ≡ true
     m1_of k m = ay.only_cleared k (az.only_cleared k m)
+
+-- where nothing was lost, only the mark of constraint i may have changed
+pub only_one_moved : (constraints : List Constraint) (c : Constraint) (lost : Lost) (m0 m1 m2 m3 : List Bool)
+    → AreCleared lost.x constraints c.x m0 m1 → AreCleared lost.y constraints c.y m1 m2 → AreCleared lost.z constraints c.z m2 m3 → any_lost lost ≡ false → m3 ≡ m0
+only_one_moved constraints c lost m0 m1 m2 m3 ax ay az none =
+    let n = none_lost_at lost none in
+    az.kept n.2 ∙ ay.kept n.1 ∙ ax.kept n.0
 
 -- ---- from post to post
 

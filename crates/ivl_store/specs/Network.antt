@@ -1,12 +1,16 @@
 -- What a network of constraints keeps, and what its calls do to that.
---     NetworkState      the domain of each variable, and the constraints so far
+--     NetworkState      the domain of each variable, the constraints so far, and how many of these have to be looked at again
+--     unmarked_count marks      how many marks are not set
+--     work whole network      how many narrowings are left at most, of which each removes a member or leaves one constraint fewer to look at
 --     IsSoundNetwork domains cs marks      the constraints name three different variables each, which have a domain; narrowing by a marked one changes nothing
 --     IsRequired c old new      the new constraints are the old ones if the constraint is one of them, and else these with it at the end
 --     IsCutAt i S before after      variable i keeps its members that are in S, and the others keep all
 --     AreNarrowings cs count before after      so many narrowings, each by one of the constraints, leave these members
-use Rattle.std.specs.Prelude.{◌≡◌, ◌↔◌, ◌⊎◌, ◌++◌, ◌∷◌, [], ℕ, ℤ, Bool, List, All, Contains, length}
+use Rattle.std.specs.Prelude.{◌≡◌, ◌↔◌, ◌⊎◌, ◌++◌, ◌∷◌, [], ◌+◌, ◌*◌, ℕ, ℤ, Bool, List, All, Contains, length, not}
+use Rattle.std.specs.List.{count_by}
 use Rattle.ivl_laws.specs.Families.{set_at}
 use Rattle.ivl_store.specs.declared.store.constraint.Constraint.{Constraint}
+use Rattle.ivl_store.specs.Measure.{total}
 use Rattle.ivl_store.specs.Narrowing.{AllPresent}
 use Rattle.ivl_store.specs.Rounds.{IsNarrowedBy}
 use Rattle.ivl_store.specs.Settled.{AreSettled}
@@ -15,6 +19,13 @@ use Rattle.ivl_store.specs.Solutions.{AreDistinct}
 pub record NetworkState : Type 0 where
   pub domains : List (List (ℤ × ℤ))
   pub constraints : List Constraint
+  pub unsettled : ℕ
+
+abbrev pub unmarked_count : List Bool → ℕ
+unmarked_count marks = count_by not marks
+
+abbrev pub work : ℤ × ℤ → NetworkState → ℕ
+work whole network = total whole network.domains * (length network.constraints + 1) + network.unsettled
 
 pub record IsSoundNetwork (domains : List (List (ℤ × ℤ))) (constraints : List Constraint) (marks : List Bool) : Type 0 where
   pub distinct : All AreDistinct constraints

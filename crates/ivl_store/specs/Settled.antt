@@ -2,8 +2,8 @@
 --     any_lost lost      whether a member was lost at x, y or z
 --     AreLost c lost before after      a variable without a mark has lost no member; one in two places has the mark of its last
 --     AreSettled cs marks sets      one mark a constraint, and narrowing by a marked one changes nothing
---     AreCleared changed cs i before after      marks were only cleared; where variable i has changed, none is left at a
---                                               constraint that names it
+--     AreCleared changed cs i before after      marks were only cleared, and none if nothing has changed; where variable i has changed, none
+--                                               is left at a constraint that names it
 use Rattle.std.specs.Prelude.{◌≡◌, ◌↔◌, ◌<◌, ℕ, ℤ, Bool, true, false, ◌||◌, List, length, slice_index_or}
 use Rattle.ivl_store.specs.declared.store.constraint.Constraint.{Constraint}
 use Rattle.ivl_store.specs.declared.store.marks.Lost.{Lost}
@@ -23,5 +23,6 @@ pub record AreSettled (constraints : List Constraint) (marks : List Bool) (sets 
 
 pub record AreCleared (changed : Bool) (constraints : List Constraint) (variable : ℕ) (before after : List Bool) : Type 0 where
   pub same_count : length after ≡ length before
+  pub kept : changed ≡ false → after ≡ before
   pub only_cleared : (k : ℕ) → slice_index_or after k false ≡ true → slice_index_or before k false ≡ true
   pub apart : changed ≡ true → (k : ℕ) (d : Constraint) → k < length constraints → slice_index_or after k false ≡ true → ¬ (Names (slice_index_or constraints k d) variable)

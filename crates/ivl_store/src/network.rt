@@ -16,14 +16,15 @@
 //! assert_eq!(rt; network.settle(100)?, Settled::All);
 //! assert!(rt; network.has_empty());
 //! ```
-ghost use Rattle.std.specs.Prelude.{◌≡◌, ◌↔◌, ◌<◌, ◌≤◌, ◌++◌, ◌∷◌, [], ℕ, ℤ, List, All, Any, Err, IfErr, IfOk, IsTrue, MatchOption, OnErr, OnOk, Some, false, length, true};
+ghost use Rattle.std.specs.Prelude.{◌≡◌, ◌↔◌, ◌<◌, ◌≤◌, ◌++◌, ◌+◌, ◌∷◌, [], ℕ, ℤ, List, All, Any, Err, IfErr, IfOk, IsTrue, MatchOption, OnErr, OnOk, Some, false, length, true};
 ghost use Rattle.ivl_laws.specs.Families.{set_at};
 ghost use Rattle.ivl_laws.specs.Runs.{Covers, IsRunListIn};
 ghost use Rattle.ivl_store.specs.Narrowing.{AllPresent, IsFixed, Keeps, first_unknown};
-ghost use Rattle.ivl_store.specs.Network.{AreNarrowings, IsCutAt, IsRequired};
+ghost use Rattle.ivl_store.specs.Network.{AreNarrowings, IsCutAt, IsRequired, work};
 ghost use Rattle.ivl_store.specs.Posts.{HasEmpty};
 ghost use Rattle.ivl_store.specs.Solutions.{AreDistinct, IsCommonSolution, IsGreatestFamily};
 
+use crate::store::marks::move_marks;
 use crate::store::{Constraint, Store, StoreFault};
 use intervallum::interval_set::IntervalSet;
 use intervallum::width::Width;
@@ -33,7 +34,7 @@ use std::marker::Model;
 pub mod laws;
 mod marks;
 
-use marks::unmarked_between;
+use marks::next_unmarked;
 
 /// What [`Network::settle`] reached.
 #[derive(Clone, Copy, Debug, PartialEq, Eq)]
@@ -45,7 +46,7 @@ pub enum Settled {
 }
 
 /// Variables with a domain each, and the constraints between them so far. A contract sees the two
-/// lists.
+/// lists, and how many constraints have to be looked at again.
 ///
 /// Variables are named by their indexes from 0. Domains only lose members. A call that fails with
 /// [`StoreFault::Variable`] leaves the network unchanged.
@@ -60,11 +61,11 @@ pub struct Network<B: Width> {
 }
 
 impl<B: Width> Model for Network<B> {
-    ghost use Rattle.ivl_store.specs.Network.{IsSoundNetwork, NetworkState};
+    ghost use Rattle.ivl_store.specs.Network.{IsSoundNetwork, NetworkState, unmarked_count};
 
     ghost Value = { NetworkState };
 
-    ghost view = { λ n. record { domains = n.store; constraints = n.constraints.items } };
+    ghost view = { λ n. record { domains = n.store; constraints = n.constraints.items; unsettled = unmarked_count n.settled.items } };
 
     ghost invariant = { λ n. IsSoundNetwork n.store n.constraints.items n.settled.items };
 }
@@ -77,7 +78,7 @@ impl<B: Width> Network<B> {
     /// assert!(rt; network.domains().is_empty() && network.constraints().is_empty());
     /// ```
     pub fn new(alloc: Global) -> Network<B>
-        ensures { result ≡ record { domains = []; constraints = [] } }
+        ensures { result ≡ record { domains = []; constraints = []; unsettled = 0 } }
     {
         Network {
             store: Store::new(alloc, Vec::new(alloc)),
@@ -100,6 +101,7 @@ impl<B: Width> Network<B> {
     pub fn constraints(&self) -> &[Constraint]
         ensures same { result.now ≡ self.now.constraints }
         ensures distinct { All AreDistinct self.now.constraints }
+        ensures unsettled { self.now.unsettled ≤ length self.now.constraints }
         ensures present { All (AllPresent (length self.now.domains)) self.now.constraints }
     {
         self.constraints.as_slice()
@@ -127,7 +129,7 @@ impl<B: Width> Network<B> {
     /// ```
     pub fn add_variable(&mut self, domain: IntervalSet<B>) -> Result<usize, AllocError>
         ensures index { IfOk result (λ i. i ≡ length self.old.domains) }
-        ensures added { OnOk result (self.new ≡ record { domains = self.old.domains ++ domain ∷ []; constraints = self.old.constraints }) }
+        ensures added { OnOk result (self.new ≡ record { domains = self.old.domains ++ domain ∷ []; constraints = self.old.constraints; unsettled = self.old.unsettled }) }
         ensures err { OnErr result (self.new ≡ self.old) }
     {
         self.store.add_variable(domain)
@@ -175,7 +177,7 @@ impl<B: Width> Network<B> {
     fn push(&mut self, constraint: Constraint) -> Result<(), AllocError>
         requires distinct { AreDistinct constraint }
         requires present { AllPresent (length self.old.domains) constraint }
-        ensures added { OnOk result (self.new ≡ record { domains = self.old.domains; constraints = self.old.constraints ++ constraint ∷ [] }) }
+        ensures added { OnOk result (self.new ≡ record { domains = self.old.domains; constraints = self.old.constraints ++ constraint ∷ []; unsettled = self.old.unsettled + 1 }) }
         ensures refused { OnErr result (self.new ≡ self.old) }
     {
         let count = self.constraints.len();
@@ -225,7 +227,8 @@ impl<B: Width> Network<B> {
     /// [`Settled::All`] they are the greatest ones, within those before the call, in which each
     /// constraint supports every member. After [`Settled::Unfinished`] another call goes on.
     ///
-    /// A constraint whose domains did not change since it narrowed them is not counted.
+    /// A constraint whose domains did not change since it narrowed them is not counted: each
+    /// narrowing that counts removes a member, or leaves one constraint fewer to look at.
     ///
     /// # Errors
     ///
@@ -259,6 +262,9 @@ impl<B: Width> Network<B> {
         ensures made { IfOk result (λ s. (count : ℕ) × (count ≤ budget) × (s ≡ Settled.Unfinished → count ≡ budget)
             × AreNarrowings self.old.constraints count (set_at self.old.domains) (set_at self.new.domains)) }
         ensures made_before { OnErr result ((count : ℕ) × (count < budget) × AreNarrowings self.old.constraints count (set_at self.old.domains) (set_at self.new.domains)) }
+
+        // No narrowing is made in vain: so many fewer are left.
+        ensures fewer { IfOk result (λ s. s ≡ Settled.Unfinished → budget + work B.whole self.new ≤ work B.whole self.old) }
     {
         for _ in 0..budget {
             if !self.narrow_next()? {
@@ -276,33 +282,23 @@ impl<B: Width> Network<B> {
         ensures refused { OnErr result (self.new ≡ self.old) }
         ensures none { IfOk result (λ b. b ≡ false → (self.new ≡ self.old) × All AreDistinct self.old.constraints × All (IsFixed (set_at self.old.domains)) self.old.constraints) }
         ensures narrowed { IfOk result (λ b. b ≡ true → AreNarrowings self.old.constraints 1 (set_at self.old.domains) (set_at self.new.domains)) }
+        ensures fewer { IfOk result (λ b. b ≡ true → 1 + work B.whole self.new ≤ work B.whole self.old) }
     {
-        let Some(i) = self.next_unmarked() else {
+        let Some(i) = next_unmarked(&self.settled, self.next) else {
             return Ok(false);
         };
-        self.store
-            .narrow_next(&self.constraints, i, &mut self.settled)?;
+        let constraint = self.constraints[i];
+        let lost = self.store.narrow_known(&constraint)?;
+        move_marks(&self.constraints, i, lost, &mut self.settled);
         self.next = i + 1;
         Ok(true)
-    }
-
-    /// Returns a constraint without a mark, from where the last search ended; `None` if all are
-    /// marked.
-    fn next_unmarked(&self) -> Option<usize>
-        ensures { MatchOption result (All AreDistinct self.now.constraints × All (IsFixed (set_at self.now.domains)) self.now.constraints) (λ i. i < length self.now.constraints) }
-    {
-        let count = self.settled.len();
-        match unmarked_between(&self.settled, self.next, count) {
-            Some(i) => Some(i),
-            None => unmarked_between(&self.settled, 0, count),
-        }
     }
 
     /// Whether all constraints are marked.
     fn reached(&self) -> Settled
         ensures { result ≡ Settled.All → All AreDistinct self.now.constraints × All (IsFixed (set_at self.now.domains)) self.now.constraints }
     {
-        if self.next_unmarked().is_some() {
+        if next_unmarked(&self.settled, self.next).is_some() {
             Settled::Unfinished
         } else {
             Settled::All

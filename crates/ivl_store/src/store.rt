@@ -24,7 +24,7 @@ pub mod callers;
 mod constraint;
 mod keeping;
 pub mod laws;
-mod marks;
+pub(crate) mod marks;
 mod narrowing;
 mod post;
 mod posting;

@@ -1,11 +1,25 @@
 //! The search for a constraint that has no mark.
 ghost use Rattle.std.specs.Prelude.{◌≡◌, ◌<◌, ◌≤◌, ℕ, MatchOption, false, length, slice_index_or, true};
 
+/// Returns a place without a mark, the first from `from` on or else the first of all; `None` if all
+/// are marked.
+pub(super) fn next_unmarked(marks: &[bool], from: usize) -> Option<usize>
+    ensures { MatchOption result ((k : ℕ) → k < length marks.now → slice_index_or marks.now k false ≡ true)
+        (λ k. (k < length marks.now) × (slice_index_or marks.now k false ≡ false)) }
+{
+    let count = marks.len();
+    match unmarked_between(marks, from, count) {
+        Some(i) => Some(i),
+        None => unmarked_between(marks, 0, count),
+    }
+}
+
 /// Returns the first place without a mark from one place to before another, or `None` if there is
 /// none.
-pub(super) fn unmarked_between(marks: &[bool], from: usize, to: usize) -> Option<usize>
+fn unmarked_between(marks: &[bool], from: usize, to: usize) -> Option<usize>
     requires { to ≤ length marks.now }
-    ensures { MatchOption result ((k : ℕ) → from ≤ k → k < to → slice_index_or marks.now k false ≡ true) (λ k. k < length marks.now) }
+    ensures { MatchOption result ((k : ℕ) → from ≤ k → k < to → slice_index_or marks.now k false ≡ true)
+        (λ k. (k < length marks.now) × (slice_index_or marks.now k false ≡ false)) }
 {
     for k in from..to {
         if !marks[k] {

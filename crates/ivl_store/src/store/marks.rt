@@ -1,5 +1,5 @@
 //! Marks, one per constraint: by a marked constraint, narrowing would change nothing.
-ghost use Rattle.std.specs.Prelude.{◌≡◌, ◌↔◌, ◌<◌, ◌⊎◌, ℕ, ℤ, List, HoldsAt, IfOk, IsTrue, false, length, replicate};
+ghost use Rattle.std.specs.Prelude.{◌≡◌, ◌↔◌, ◌<◌, ◌⊎◌, ℕ, ℤ, List, HoldsAt, IfOk, IsTrue, false, length, replicate, slice_set, true};
 ghost use Rattle.ivl_laws.specs.Families.{set_at};
 ghost use Rattle.ivl_store.specs.Narrowing.{Narrowed};
 ghost use Rattle.ivl_store.specs.Settled.{any_lost, AreCleared, AreLost, AreSettled};
@@ -11,14 +11,14 @@ use std::alloc::{AllocError, Global};
 /// Whether a member was lost at x, at y and at z; a variable in two places has the mark of its
 /// last.
 #[derive(Clone, Copy)]
-pub(super) struct Lost {
+pub(crate) struct Lost {
     pub(super) x: bool,
     pub(super) y: bool,
     pub(super) z: bool,
 }
 
 impl Lost {
-    pub(super) fn any(self) -> bool
+    pub(crate) fn any(self) -> bool
         ensures { result ≡ any_lost self }
     {
         self.x || self.y || self.z
@@ -35,10 +35,12 @@ pub(super) fn no_marks(alloc: Global, count: usize) -> Result<Vec<bool>, AllocEr
 /// Updates the marks after narrowing by constraint `i`. Constraints that name a variable which lost
 /// a member lose their mark; `i` itself is marked unless a member was lost and it has a variable
 /// twice.
-pub(super) fn move_marks(constraints: &[Constraint], i: usize, lost: Lost, settled: &mut Vec<bool>)
+pub(crate) fn move_marks(constraints: &[Constraint], i: usize, lost: Lost, settled: &mut Vec<bool>)
     requires in_list { i < length constraints.now }
     requires one_each { length settled.old.items ≡ length constraints.now }
-    ensures { (old new : List (List (ℤ × ℤ))) → HoldsAt (λ c. (j : ℕ) (v : ℤ) → set_at new j v ↔ Narrowed c (set_at old) j v) constraints.now i
+    ensures count { length settled.new.items ≡ length constraints.now }
+    ensures marked { any_lost lost ≡ false → settled.new.items ≡ slice_set settled.old.items i true }
+    ensures settled { (old new : List (List (ℤ × ℤ))) → HoldsAt (λ c. (j : ℕ) (v : ℤ) → set_at new j v ↔ Narrowed c (set_at old) j v) constraints.now i
         → HoldsAt (λ c. AreLost c lost (set_at old) (set_at new)) constraints.now i
         → AreSettled constraints.now settled.old.items (set_at old) → AreSettled constraints.now settled.new.items (set_at new) }
 {
@@ -51,7 +53,8 @@ pub(super) fn move_marks(constraints: &[Constraint], i: usize, lost: Lost, settl
 
 /// Whether a second narrowing by the constraint would change nothing.
 fn is_settled_after(c: &Constraint, lost: Lost) -> bool
-    ensures { IsTrue result → (any_lost lost ≡ false) ⊎ AreDistinct c.now }
+    ensures may { IsTrue result → (any_lost lost ≡ false) ⊎ AreDistinct c.now }
+    ensures none { any_lost lost ≡ false → result ≡ true }
 {
     !lost.any() || c.distinct()
 }

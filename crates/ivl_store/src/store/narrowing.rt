@@ -61,12 +61,13 @@ impl<B: Width> Store<B> {
     }
 
     /// The same for variables that the store has.
-    fn narrow_known(&mut self, c: &Constraint) -> Result<Lost, AllocError>
+    pub(crate) fn narrow_known(&mut self, c: &Constraint) -> Result<Lost, AllocError>
         requires { AllPresent (length self.old) c.now }
         ensures refused { OnErr result (self.new ≡ self.old) }
         ensures kept_count { length self.new ≡ length self.old }
         ensures narrowed { OnOk result ((i : ℕ) (v : ℤ) → set_at self.new i v ↔ Narrowed c.now (set_at self.old) i v) }
         ensures lost { IfOk result (λ lost. AreLost c.now lost (set_at self.old) (set_at self.new)) }
+        ensures same { IfOk result (λ lost. any_lost lost ≡ false → self.new ≡ self.old) }
         ensures range { OnOk result (All (IsRunListIn B.whole) self.old) }
     {
         let (x, y, z) = narrowed_sets(&self.domains, c)?;
@@ -93,7 +94,7 @@ impl<B: Width> Store<B> {
     }
 
     /// Narrows by constraint `i`, unless it is marked as settled.
-    pub(crate) fn narrow_next(
+    fn narrow_next(
         &mut self,
         constraints: &[Constraint],
         i: usize,

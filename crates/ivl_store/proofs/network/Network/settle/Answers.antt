@@ -1,6 +1,6 @@
-use Rattle.std.proofs.Common.{◌≡◌, ◌∙◌, All, ap, arith, length, subst, sym}
+use Rattle.std.proofs.Common.{◌∙◌, All, arith, subst, sym}
 use Rattle.ivl_laws.specs.Families.{set_at}
-use Rattle.ivl_store.specs.Narrowing.{IsFixed, Keeps}
+use Rattle.ivl_store.specs.Narrowing.{IsFixed}
 use Rattle.ivl_store.specs.Network.{AreNarrowings, NetworkState}
 use Rattle.ivl_store.specs.Solutions.{AreDistinct}
 use Rattle.ivl_store.proofs.Narrowings.{more_narrowings, narrowings_greatest, narrowings_keep, narrowings_solve}
@@ -45,6 +45,7 @@ loop-preserved g c = (
   more_narrowings c.args.self.now.constraints c.loop.counter 1 (set_at c.args.self.now.domains) (set_at c.loop.self.domains) (set_at c.narrow_next.new.self.domains) c.loop.invariant.3
       (subst (λ cs. AreNarrowings cs 1 (set_at c.loop.self.domains) (set_at c.narrow_next.new.self.domains)) c.loop.invariant.0
       (c.in_ok-narrow_next.ensures.narrowed c.if-not-branch.false)),
+  (let less = c.in_ok-narrow_next.ensures.fewer c.if-not-branch.false in let so_far = c.loop.invariant.4 in omega arith),
 )
 
 pub returns-clause-keeps : goal.returns-clause-keeps

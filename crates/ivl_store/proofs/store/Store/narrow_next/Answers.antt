@@ -34,7 +34,7 @@ returns-clause-fewer g c = λ t.
 
 pub returns-clause-settled : goal.returns-clause-settled
 returns-clause-settled g c =
-    c.move_marks.ensures c.args.self.now c.narrow_known.new.self
+    c.move_marks.ensures.settled c.args.self.now c.narrow_known.new.self
     (λ d. subst (λ k. (j : ℕ) (v : ℤ) → set_at c.narrow_known.new.self j v ↔ Narrowed k (set_at c.args.self.now) j v)
     (get_or_default c.args.constraints.now c.args.i _ d c.requires.in_list) c.in_ok-lost.ensures.narrowed)
     (λ d. subst (λ k. AreLost k c.in_ok-lost.lost (set_at c.args.self.now) (set_at c.narrow_known.new.self))

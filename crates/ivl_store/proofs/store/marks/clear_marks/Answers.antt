@@ -22,6 +22,7 @@ loop-k-preserved c =
 pub returns-then-not-changed : goal.returns-then-not-changed
 returns-then-not-changed c = record {
   same_count = refl;
+  kept = (λ _. refl);
   only_cleared = (λ k m. m);
   apart = (λ t. absurd (false≢true (sym c.if-not-changed.true ∙ t)));
 }
@@ -29,6 +30,7 @@ returns-then-not-changed c = record {
 pub returns : goal.returns
 returns c = record {
   same_count = c.loop-k.invariant.same_count;
+  kept = (λ f. absurd (false≢true (sym f ∙ c.if-not-changed.false)));
   only_cleared = c.loop-k.invariant.only_cleared;
   apart = (λ _ k d lt. c.loop-k.invariant.apart k d (let b = c.loop-k-test.false in omega arith));
 }
