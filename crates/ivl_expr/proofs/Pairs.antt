@@ -6,6 +6,7 @@ use Rattle.std.proofs.lemmas.List.Folds.{find-append}
 use Rattle.std.specs.Option.{option_or}
 use Rattle.std.specs.Prelude.{find, nat_le}
 use mathlib.Core.Bool.{not}
+use Rattle.intervallum.proofs.Options.{or_none}
 use Rattle.ivl_expr.specs.declared.expr.Expr.{Expr}
 use Rattle.ivl_expr.specs.declared.expr.Expr.TheViews.{Add, Sub, Mul}
 use Rattle.ivl_expr.specs.declared.expr.Expr.TheVariants.{Var, Const, Add', Sub', Mul'}
@@ -75,10 +76,6 @@ module _ {B : Type 0} (e a b : Expr B) (p : IsPair e a b) where
 
 -- ---- the leftmost missing variable: that of the first operand, or else that of the second
 
-none_of_either : (o p : Option ℕ) → option_or o p ≡ None → (o ≡ None) × (p ≡ None)
-none_of_either None p h = (refl, h)
-none_of_either (Some x) p h = absurd (cc)
-
 module _ {B : Type 0} (count : ℕ) (e a b : Expr B) (p : IsPair e a b) where
   missing-pair : first_missing count e ≡ option_or (first_missing count a) (first_missing count b)
   missing-pair = ap (find (λ j. nat_le count j)) p.listed ∙ find-append (λ j. nat_le count j) (variables a) (variables b)
@@ -90,7 +87,7 @@ module _ {B : Type 0} (count : ℕ) (e a b : Expr B) (p : IsPair e a b) where
   missing_second h = sym (missing-pair ∙ ap (λ o. option_or o (first_missing count b)) (sym h))
 
   none_missing : first_missing count e ≡ None → (first_missing count a ≡ None) × (first_missing count b ≡ None)
-  none_missing h = none_of_either _ _ (sym missing-pair ∙ h)
+  none_missing h = or_none _ _ (sym missing-pair ∙ h)
 
 -- where no variable is missing, each is present
 pub all_present : {B : Type 0} (count : ℕ) (e : Expr B) → first_missing count e ≡ None → VariablesBelow count e
