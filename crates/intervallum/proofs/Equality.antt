@@ -23,7 +23,7 @@ and_both true false e = absurd (cc)
 and_both false b e = absurd (cc)
 
 -- a pair that is not crossed is the only one of its interval
-same_pair : (p q : ℤ × ℤ) → p.0 ≤ℤ p.1 → same_interval p q ≡ true → p ≡ q
+pub same_pair : (p q : ℤ × ℤ) → p.0 ≤ℤ p.1 → same_interval p q ≡ true → p ≡ q
 same_pair p q o e =
     let same : SameMembers (IsBetween p) (IsBetween q) = (same_interval_members p q (same_interval p q) refl).0 e in
     let lower = (same p.0).0 (omega (arith, ints), o) in

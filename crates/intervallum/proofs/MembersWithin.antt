@@ -8,7 +8,7 @@ use Rattle.ivl_laws.specs.Sets.{HasSome, Intersection, IsBetween, IsCrossed, Sam
 use Rattle.ivl_laws.specs.Runs.{Covers, IsMaximal, IsRunsOf, StartsAfter}
 use Rattle.ivl_laws.specs.Counts.{IsIn}
 use Rattle.ivl_laws.proofs.Intervals.{some_is_not_crossed}
-use Rattle.ivl_laws.proofs.Merging.{covers-append, covers-append_left, covers-append_right}
+use Rattle.ivl_laws.proofs.Merging.{last_open, covers-append, covers-append_left, covers-append_right}
 use Rattle.ivl_laws.proofs.Runs.{covered_after}
 use Rattle.intervallum.specs.Members.{IsAscending, members_of, numbers_of}
 use Rattle.intervallum.specs.Windows.{OfRunsThatMeet}
@@ -79,12 +79,8 @@ maximal_with_last : (B : List (ℤ × ℤ)) (q L : ℤ × ℤ) → q.0 ≤ℤ L.
 maximal_with_last [] q L le o m = (o, tt, tt)
 maximal_with_last (b ∷ B) q L le o m = (m.0, starts_as_last b.1 B q L le m.1, maximal_with_last B q L le o m.2)
 
-last_is_open : (B : List (ℤ × ℤ)) (q : ℤ × ℤ) → IsMaximal (B ++ q ∷ []) → q.0 ≤ℤ q.1
-last_is_open [] q m = m.0
-last_is_open (b ∷ B) q m = last_is_open B q m.2
-
 covers_last : (B : List (ℤ × ℤ)) (q : ℤ × ℤ) → IsMaximal (B ++ q ∷ []) → Covers (B ++ q ∷ []) q.0
-covers_last B q m = covers-append_right B (q ∷ []) q.0 (inl (omega (arith, ints), last_is_open B q m))
+covers_last B q m = covers-append_right B (q ∷ []) q.0 (inl (omega (arith, ints), last_open B q m))
 
 below_last : (B : List (ℤ × ℤ)) (q : ℤ × ℤ) (z : ℤ) → IsMaximal (B ++ q ∷ []) → Covers B z → z <ℤ q.0
 below_last [] q z m c = absurd c

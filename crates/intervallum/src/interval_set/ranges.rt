@@ -23,8 +23,9 @@ impl<B: Width> ToIntervalSet<B> for RangeInclusive<B> {
         is_in_range(self)
     }
 
-    /// Returns the set of the numbers of `a..=b`, which is empty if `a > b`. `O(1)`. Allocates one
-    /// run, or nothing for an empty range. Fails only if allocation fails.
+    /// Returns the set of the numbers from the start to the end of `a..=b`, which is empty if
+    /// `a > b`. A range that an iteration has used up still has its end. `O(1)`. Allocates one run,
+    /// or nothing for an empty range. Fails only if allocation fails.
     ///
     /// ```
     /// assert!(rt; (1..=5).to_interval_set(alloc)? == IntervalSet::new(alloc, 1, 5)?);

@@ -1,11 +1,8 @@
-use Rattle.std.proofs.Common.{◌≡◌, ℕ, ◌+◌, ◌<◌, List, [], ◌∷◌, ◌++◌, map, take, take_all, length, get_or, ap, ◌∙◌, arith}
-use Rattle.std.proofs.lemmas.List.{map_more}
+use Rattle.std.proofs.Common.{map, take_all, ap, ◌∙◌, arith}
 use Rattle.std.proofs.lemmas.List.Elements.{All-get_or}
 use Rattle.ivl_laws.specs.Sets.{IsInRange}
+use Rattle.intervallum.proofs.Collecting.{next_written}
 use Rattle.intervallum.proofs.interval_set.conversions.of_pairs.Goals as goal
-
-next_pair : {X Y : Type 0} (f : X → Y) (xs : List X) (i : ℕ) (d : X) (L M : List Y) (y : Y) → i < length xs → d ≡ get_or xs i d → L ≡ map f (take i xs) → M ≡ L ++ y ∷ [] → y ≡ f d → M ≡ map f (take (i + 1) xs)
-next_pair f xs i d L M y h e p q s = let more = map_more f xs i d h in cc
 
 pub new-requires : goal.new-requires
 new-requires g c =
@@ -16,7 +13,7 @@ push_reserved-requires g c = let filled = c.loop-lower.invariant.count in let ro
 
 pub loop-lower-preserved : goal.loop-lower-preserved
 loop-lower-preserved g c = record {
-  written = next_pair _ c.args.pairs.now c.loop-lower.lower-index c.loop-lower-item.result c.loop-lower.list.items c.push_reserved.new.self.items c.new.result
+  written = next_written _ c.args.pairs.now c.loop-lower.lower-index c.loop-lower-item.result c.loop-lower.list.items c.push_reserved.new.self.items c.new.result
       c.loop-lower-test.true c.loop-lower-item.is c.loop-lower.invariant.written c.push_reserved.ensures.items c.new.ensures.value;
   count = (let before = c.loop-lower.invariant.count in let more = c.push_reserved.ensures.len in omega arith);
   room = (let before = c.loop-lower.invariant.room in let same = c.push_reserved.ensures.capacity in omega arith);
