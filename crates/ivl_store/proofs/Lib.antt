@@ -9,14 +9,17 @@ pub mod Families
 pub mod Histories
 pub mod Keeping
 pub mod Lists
+pub mod Logging
 pub mod Narrowings
 pub mod Orders
 pub mod Partly
 pub mod Places
 pub mod Points
 pub mod Posting
+pub mod Reverting
 pub mod Rounds
 pub mod Settled
 pub mod Steps
 pub mod Totals
+pub mod Trails
 pub mod Work

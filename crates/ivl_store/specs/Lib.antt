@@ -8,3 +8,4 @@ pub mod Posts
 pub mod Rounds
 pub mod Settled
 pub mod Solutions
+pub mod Trail

@@ -1,5 +1,6 @@
 -- What a network of constraints keeps, and what its calls do to that.
---     NetworkState      the domain of each variable, the constraints so far, and how many of these have to be looked at again
+--     NetworkState      the domain of each variable, the constraints so far, how many of these have to be looked at again, and what both were at
+--                       each mark
 --     unmarked_count marks      how many marks are not set
 --     work whole network      how many narrowings are left at most, of which each removes a member or leaves one constraint fewer to look at
 --     IsSoundNetwork domains cs marks      the constraints name three different variables each, which have a domain; narrowing by a marked one changes nothing
@@ -15,11 +16,13 @@ use Rattle.ivl_store.specs.Narrowing.{AllPresent}
 use Rattle.ivl_store.specs.Rounds.{IsNarrowedBy}
 use Rattle.ivl_store.specs.Settled.{AreSettled}
 use Rattle.ivl_store.specs.Solutions.{AreDistinct}
+use Rattle.ivl_store.specs.Trail.{Past}
 
 pub record NetworkState : Type 0 where
   pub domains : List (List (ℤ × ℤ))
   pub constraints : List Constraint
   pub unsettled : ℕ
+  pub marked : List Past
 
 abbrev pub unmarked_count : List Bool → ℕ
 unmarked_count marks = count_by not marks

@@ -16,7 +16,7 @@
 //! assert_eq!(rt; network.settle(100)?, Settled::All);
 //! assert!(rt; network.has_empty());
 //! ```
-ghost use Rattle.std.specs.Prelude.{◌≡◌, ◌↔◌, ◌<◌, ◌≤◌, ◌++◌, ◌+◌, ◌∷◌, [], ℕ, ℤ, List, All, Any, Err, IfErr, IfOk, IsTrue, MatchOption, OnErr, OnOk, Some, false, length, true};
+ghost use Rattle.std.specs.Prelude.{Contains, HoldsAt, take, ◌≡◌, ◌↔◌, ◌<◌, ◌≤◌, ◌++◌, ◌+◌, ◌∷◌, [], ℕ, ℤ, List, All, Any, Err, IfErr, IfOk, IsTrue, MatchOption, OnErr, OnOk, Some, false, length, true};
 ghost use Rattle.ivl_laws.specs.Families.{set_at};
 ghost use Rattle.ivl_laws.specs.Runs.{Covers, IsRunListIn};
 ghost use Rattle.ivl_store.specs.Narrowing.{AllPresent, IsFixed, Keeps, first_unknown};
@@ -24,7 +24,8 @@ ghost use Rattle.ivl_store.specs.Network.{AreNarrowings, IsCutAt, IsRequired, wo
 ghost use Rattle.ivl_store.specs.Posts.{HasEmpty};
 ghost use Rattle.ivl_store.specs.Solutions.{AreDistinct, IsCommonSolution, IsGreatestFamily};
 
-use crate::store::marks::move_marks;
+use crate::store::change::Change;
+use crate::store::marks::{clear_marks, move_marks};
 use crate::store::{Constraint, Store, StoreFault};
 use intervallum::interval_set::IntervalSet;
 use intervallum::width::Width;
@@ -33,8 +34,10 @@ use std::marker::Model;
 
 pub mod laws;
 mod marks;
+mod trail;
 
 use marks::next_unmarked;
+use trail::{clear_unmarked, is_logging, log_change, reserve_change, revert_to};
 
 /// What [`Network::settle`] reached.
 #[derive(Clone, Copy, Debug, PartialEq, Eq)]
@@ -58,16 +61,22 @@ pub struct Network<B: Width> {
     settled: Vec<bool>,
     // Where the search for a constraint without a mark begins.
     next: usize,
+    // What takes back each change since the first mark.
+    trail: Vec<Change<B>>,
+    // The places of the trail at which there is a mark.
+    marks: Vec<usize>,
 }
 
 impl<B: Width> Model for Network<B> {
+    ghost use Rattle.std.specs.Prelude.{map};
     ghost use Rattle.ivl_store.specs.Network.{IsSoundNetwork, NetworkState, unmarked_count};
+    ghost use Rattle.ivl_store.specs.Trail.{IsSoundTrail, past_at};
 
     ghost Value = { NetworkState };
 
-    ghost view = { λ n. record { domains = n.store; constraints = n.constraints.items; unsettled = unmarked_count n.settled.items } };
+    ghost view = { λ n. record { domains = n.store; constraints = n.constraints.items; unsettled = unmarked_count n.settled.items; marked = map (past_at n.trail.items (record { domains = n.store; constraints = n.constraints.items })) n.marks.items } };
 
-    ghost invariant = { λ n. IsSoundNetwork n.store n.constraints.items n.settled.items };
+    ghost invariant = { λ n. IsSoundNetwork n.store n.constraints.items n.settled.items × IsSoundTrail n.marks.items n.trail.items (record { domains = n.store; constraints = n.constraints.items }) };
 }
 
 impl<B: Width> Network<B> {
@@ -78,13 +87,15 @@ impl<B: Width> Network<B> {
     /// assert!(rt; network.domains().is_empty() && network.constraints().is_empty());
     /// ```
     pub fn new(alloc: Global) -> Network<B>
-        ensures { result ≡ record { domains = []; constraints = []; unsettled = 0 } }
+        ensures { result ≡ record { domains = []; constraints = []; unsettled = 0; marked = [] } }
     {
         Network {
             store: Store::new(alloc, Vec::new(alloc)),
             constraints: Vec::new(alloc),
             settled: Vec::new(alloc),
             next: 0,
+            trail: Vec::new(alloc),
+            marks: Vec::new(alloc),
         }
     }
 
@@ -129,10 +140,14 @@ impl<B: Width> Network<B> {
     /// ```
     pub fn add_variable(&mut self, domain: IntervalSet<B>) -> Result<usize, AllocError>
         ensures index { IfOk result (λ i. i ≡ length self.old.domains) }
-        ensures added { OnOk result (self.new ≡ record { domains = self.old.domains ++ domain ∷ []; constraints = self.old.constraints; unsettled = self.old.unsettled }) }
+        ensures added { OnOk result (self.new ≡ record { domains = self.old.domains ++ domain ∷ []; constraints = self.old.constraints; unsettled = self.old.unsettled; marked = self.old.marked }) }
         ensures err { OnErr result (self.new ≡ self.old) }
     {
-        self.store.add_variable(domain)
+        let is_kept = is_logging(&self.marks);
+        reserve_change(&mut self.trail, is_kept)?;
+        let index = self.store.add_variable(domain)?;
+        log_change(&mut self.trail, is_kept, true, Change::Variable);
+        Ok(index)
     }
 
     /// Requires that a constraint holds, together with those required before it. One that was
@@ -161,13 +176,14 @@ impl<B: Width> Network<B> {
         requires { AreDistinct constraint }
         ensures unknown { (i : ℕ) → (result ≡ Err (StoreFault.Variable i)) ↔ (first_unknown (length self.old.domains) constraint ≡ Some i) }
         ensures domains { self.new.domains ≡ self.old.domains }
+        ensures marked { self.new.marked ≡ self.old.marked }
         ensures required { OnOk result (IsRequired constraint self.old.constraints self.new.constraints) }
         ensures refused { OnErr result (self.new ≡ self.old) }
     {
         if let Some(i) = constraint.first_unknown(self.store.domains().len()) {
             return Err(StoreFault::Variable(i));
         }
-        if !self.constraints.contains(&constraint) {
+        if !has_constraint(&self.constraints, &constraint) {
             self.push(constraint)?;
         }
         Ok(())
@@ -177,13 +193,18 @@ impl<B: Width> Network<B> {
     fn push(&mut self, constraint: Constraint) -> Result<(), AllocError>
         requires distinct { AreDistinct constraint }
         requires present { AllPresent (length self.old.domains) constraint }
-        ensures added { OnOk result (self.new ≡ record { domains = self.old.domains; constraints = self.old.constraints ++ constraint ∷ []; unsettled = self.old.unsettled + 1 }) }
+        ensures added { OnOk result (self.new ≡ record { domains = self.old.domains; constraints = self.old.constraints ++ constraint ∷ []; unsettled = self.old.unsettled + 1; marked = self.old.marked }) }
         ensures refused { OnErr result (self.new ≡ self.old) }
     {
+        let is_kept = is_logging(&self.marks);
+        reserve_change(&mut self.trail, is_kept)?;
         let count = self.constraints.len();
         self.constraints.push(constraint)?;
         match self.settled.push(false) {
-            Ok(()) => Ok(()),
+            Ok(()) => {
+                log_change(&mut self.trail, is_kept, true, Change::Require);
+                Ok(())
+            }
             Err(_) => {
                 self.constraints.truncate(count);
                 Err(AllocError)
@@ -208,6 +229,7 @@ impl<B: Width> Network<B> {
     pub fn restrict(&mut self, variable: usize, allowed: &IntervalSet<B>) -> Result<(), StoreFault>
         ensures unknown { (i : ℕ) → (result ≡ Err (StoreFault.Variable i)) ↔ ((i ≡ variable) × (length self.old.domains ≤ variable)) }
         ensures constraints { self.new.constraints ≡ self.old.constraints }
+        ensures marked { self.new.marked ≡ self.old.marked }
         ensures kept_count { length self.new.domains ≡ length self.old.domains }
         ensures cut { OnOk result (IsCutAt variable (Covers allowed.now) (set_at self.old.domains) (set_at self.new.domains)) }
         ensures refused { OnErr result (self.new ≡ self.old) }
@@ -215,8 +237,11 @@ impl<B: Width> Network<B> {
         if variable >= self.store.domains().len() {
             return Err(StoreFault::Variable(variable));
         }
-        self.store
-            .restrict_marked(variable, allowed, &self.constraints, &mut self.settled)?;
+        let is_kept = is_logging(&self.marks);
+        reserve_change(&mut self.trail, is_kept)?;
+        let (lost, change) = self.store.restrict_swapped(variable, allowed)?;
+        clear_marks(lost, &self.constraints, variable, &mut self.settled);
+        log_change(&mut self.trail, is_kept, lost, change);
         Ok(())
     }
 
@@ -249,6 +274,7 @@ impl<B: Width> Network<B> {
     pub fn settle(&mut self, budget: u64) -> Result<Settled, StoreFault>
         ensures memory { IfErr result (λ fault. fault ≡ StoreFault.Memory) }
         ensures constraints { self.new.constraints ≡ self.old.constraints }
+        ensures marked { self.new.marked ≡ self.old.marked }
         ensures kept_count { length self.new.domains ≡ length self.old.domains }
 
         // Domains only lose members, and no supported family and no common solution loses one.
@@ -278,6 +304,7 @@ impl<B: Width> Network<B> {
     /// marked.
     fn narrow_next(&mut self) -> Result<bool, AllocError>
         ensures constraints { self.new.constraints ≡ self.old.constraints }
+        ensures marked { self.new.marked ≡ self.old.marked }
         ensures kept_count { length self.new.domains ≡ length self.old.domains }
         ensures refused { OnErr result (self.new ≡ self.old) }
         ensures none { IfOk result (λ b. b ≡ false → (self.new ≡ self.old) × All AreDistinct self.old.constraints × All (IsFixed (set_at self.old.domains)) self.old.constraints) }
@@ -287,9 +314,12 @@ impl<B: Width> Network<B> {
         let Some(i) = next_unmarked(&self.settled, self.next) else {
             return Ok(false);
         };
+        let is_kept = is_logging(&self.marks);
+        reserve_change(&mut self.trail, is_kept)?;
         let constraint = self.constraints[i];
-        let lost = self.store.narrow_known(&constraint)?;
+        let (lost, change) = self.store.narrow_swapped(&constraint)?;
         move_marks(&self.constraints, i, lost, &mut self.settled);
+        log_change(&mut self.trail, is_kept, lost.any(), change);
         self.next = i + 1;
         Ok(true)
     }
@@ -304,4 +334,83 @@ impl<B: Width> Network<B> {
             Settled::All
         }
     }
+
+    /// Marks the network as it is, and returns the index of the mark. From the first mark on the
+    /// network keeps each domain that is replaced, until the marks are undone or dropped. `O(1)`
+    /// amortized; no domain is copied.
+    ///
+    /// # Errors
+    ///
+    /// Fails only if allocation fails. The network is unchanged after an error.
+    ///
+    /// ```
+    /// let mut network: Network<i32> = Network::new(alloc);
+    /// let x = network.add_variable(IntervalSet::new(alloc, 0, 9)?)?;
+    /// let mark = network.mark()?;
+    /// network.restrict(x, &IntervalSet::new(alloc, 5, 20)?)?;
+    /// network.add_variable(IntervalSet::new(alloc, 1, 1)?)?;
+    /// assert!(rt; network.undo_to(mark));
+    /// assert!(rt; network.domains().len() == 1 && network.domains()[0] == IntervalSet::new(alloc, 0, 9)?);
+    /// assert!(rt; !network.undo_to(mark));
+    /// ```
+    pub fn mark(&mut self) -> Result<usize, AllocError>
+        ensures index { IfOk result (λ mark. mark ≡ length self.old.marked) }
+        ensures marked { OnOk result (self.new ≡ record { domains = self.old.domains; constraints = self.old.constraints; unsettled = self.old.unsettled; marked = self.old.marked ++ (record { domains = self.old.domains; constraints = self.old.constraints }) ∷ [] }) }
+        ensures err { OnErr result (self.new ≡ self.old) }
+    {
+        let mark = self.marks.len();
+        self.marks.push(self.trail.len())?;
+        Ok(mark)
+    }
+
+    /// Takes back all changes since a mark: variables, constraints and domains are what they were at
+    /// the mark. This mark and later ones are gone. Returns false, and changes nothing, if there is
+    /// no such mark.
+    ///
+    /// Linear in the changes, and for each domain that is put back a pass over the constraints: those
+    /// that name its variable have to be looked at again. Does not allocate.
+    pub fn undo_to(&mut self, mark: usize) -> bool
+        ensures told { IsTrue result ↔ (mark < length self.old.marked) }
+        ensures none { result ≡ false → self.new ≡ self.old }
+        ensures undone { result ≡ true → HoldsAt (λ past. (self.new.domains ≡ past.domains) × (self.new.constraints ≡ past.constraints)) self.old.marked mark }
+        ensures marked { result ≡ true → self.new.marked ≡ take mark self.old.marked }
+    {
+        if mark >= self.marks.len() {
+            return false;
+        }
+        let start = self.marks[mark];
+        revert_to(
+            &mut self.trail,
+            start,
+            &mut self.store,
+            &mut self.constraints,
+            &mut self.settled,
+        );
+        self.marks.truncate(mark);
+        true
+    }
+
+    /// Drops a mark and later ones, if there are any. All changes stay. Without a mark, the network
+    /// keeps no domain that is replaced. Does not allocate.
+    ///
+    /// ```
+    /// let mut network: Network<i32> = Network::new(alloc);
+    /// let mark = network.mark()?;
+    /// network.add_variable(IntervalSet::new(alloc, 0, 9)?)?;
+    /// network.drop_marks(mark);
+    /// assert!(rt; !network.undo_to(mark) && network.domains().len() == 1);
+    /// ```
+    pub fn drop_marks(&mut self, mark: usize)
+        ensures { self.new ≡ record { domains = self.old.domains; constraints = self.old.constraints; unsettled = self.old.unsettled; marked = take mark self.old.marked } }
+    {
+        self.marks.truncate(mark);
+        clear_unmarked(&self.marks, &mut self.trail);
+    }
+}
+
+/// Whether a constraint is one of the list.
+fn has_constraint(constraints: &[Constraint], constraint: &Constraint) -> bool
+    ensures { IsTrue result ↔ Contains constraints.now constraint.now }
+{
+    constraints.contains(constraint)
 }

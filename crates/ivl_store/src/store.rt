@@ -21,6 +21,7 @@ ghost use Rattle.ivl_laws.specs.Runs.{IsRunListIn};
 ghost use Rattle.ivl_store.specs.Posts.{HasEmpty};
 
 pub mod callers;
+pub(crate) mod change;
 mod constraint;
 mod keeping;
 pub mod laws;
@@ -28,6 +29,7 @@ pub(crate) mod marks;
 mod narrowing;
 mod post;
 mod posting;
+mod swapping;
 
 pub use constraint::{Constraint, StoreFault};
 use intervallum::interval_set::IntervalSet;

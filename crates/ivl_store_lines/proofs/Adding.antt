@@ -9,7 +9,7 @@ use Rattle.ivl_store_lines.specs.Solving.{IsSound, State}
 use Rattle.ivl_store_lines.proofs.Printing.{empty_added}
 
 module _ (names pushed : List (String Global)) (key : String Global) (before after : NetworkState) (domain : List (ℤ × ℤ))
-    (named : pushed ≡ names ++ key ∷ []) (added : after ≡ record { domains = before.domains ++ domain ∷ []; constraints = before.constraints }) where
+    (named : pushed ≡ names ++ key ∷ []) (added : after ≡ record { domains = before.domains ++ domain ∷ []; constraints = before.constraints; unsettled = before.unsettled; marked = before.marked }) where
   domains_after : after.domains ≡ before.domains ++ domain ∷ []
   domains_after = ap (λ (n : NetworkState). n.domains) added
 
@@ -26,7 +26,7 @@ state names network limit progress = record { names = names; domains = network.d
 
 -- the state that a contract sees
 pub state_added : (names named : List (List ℕ)) (name : List ℕ) (before after : NetworkState) (domain : List (ℤ × ℤ)) (limit : ℕ) (progress : Progress) (old : State)
-    → state names before limit progress ≡ old → named ≡ names ++ name ∷ [] → after ≡ record { domains = before.domains ++ domain ∷ []; constraints = before.constraints }
+    → state names before limit progress ≡ old → named ≡ names ++ name ∷ [] → after ≡ record { domains = before.domains ++ domain ∷ []; constraints = before.constraints; unsettled = before.unsettled; marked = before.marked }
     → state named after limit progress ≡ record { names = old.names ++ name ∷ []; domains = old.domains ++ domain ∷ []; constraints = old.constraints; limit = old.limit; progress = old.progress }
 state_added names named name before after domain limit progress old is named_is added_is =
     subst (λ (s : State). state named after limit progress ≡ record { names = s.names ++ name ∷ []; domains = s.domains ++ domain ∷ []; constraints = s.constraints; limit = s.limit; progress = s.progress }) is

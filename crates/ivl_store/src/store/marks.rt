@@ -60,7 +60,7 @@ fn is_settled_after(c: &Constraint, lost: Lost) -> bool
 }
 
 /// Clears the marks of the constraints that name the variable, if it has changed.
-pub(super) fn clear_marks(
+pub(crate) fn clear_marks(
     changed: bool,
     constraints: &[Constraint],
     variable: usize,

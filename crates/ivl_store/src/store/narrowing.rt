@@ -2,18 +2,19 @@
 ghost use Rattle.std.specs.Prelude.{◌≡◌, ◌↔◌, ◌<◌, ◌≤◌, ◌+◌, ℕ, ℤ, List, All, Bool, Err, HoldsAt, IfOk, IsTrue, None, OnErr, OnOk, Option, Some, false, length, true};
 ghost use Rattle.ivl_laws.specs.Families.{set_at};
 ghost use Rattle.ivl_laws.specs.Runs.{IsRunListIn};
-ghost use Rattle.ivl_store.specs.Keeping.{narrowed_at};
 ghost use Rattle.ivl_store.specs.Measure.{total};
 ghost use Rattle.ivl_store.specs.Narrowing.{AllPresent, IsFixed, Keeps, Narrowed, first_unknown, first_unknown_of as first_unknown_in};
 ghost use Rattle.ivl_store.specs.Rounds.{After, AfterSome, EachLost, IsNarrowedBy, IsPartlyNarrowedBy};
 ghost use Rattle.ivl_store.specs.Settled.{AreLost, AreSettled, any_lost};
 ghost use Rattle.ivl_store.specs.Solutions.{AreDistinct, HasSolutionAt, IsCommonSolution, IsGreatestFamily, IsSolution, LiesWithin, LostMember, Names, Supports};
+ghost use Rattle.ivl_store.specs.Trail.{revert};
+ghost use Rattle.ivl_store.specs.declared.store.constraint.Constraint.{Constraint};
 
+use super::change::Change;
 use super::constraint::first_unknown_of;
 use super::keeping::narrowed_sets;
 use super::marks::{Lost, move_marks, no_marks};
 use super::{Constraint, Store, StoreFault};
-use intervallum::interval_set::IntervalSet;
 use intervallum::width::Width;
 use std::alloc::AllocError;
 
@@ -61,13 +62,27 @@ impl<B: Width> Store<B> {
     }
 
     /// The same for variables that the store has.
-    pub(crate) fn narrow_known(&mut self, c: &Constraint) -> Result<Lost, AllocError>
+    fn narrow_known(&mut self, c: &Constraint) -> Result<Lost, AllocError>
         requires { AllPresent (length self.old) c.now }
         ensures refused { OnErr result (self.new ≡ self.old) }
         ensures kept_count { length self.new ≡ length self.old }
         ensures narrowed { OnOk result ((i : ℕ) (v : ℤ) → set_at self.new i v ↔ Narrowed c.now (set_at self.old) i v) }
         ensures lost { IfOk result (λ lost. AreLost c.now lost (set_at self.old) (set_at self.new)) }
-        ensures same { IfOk result (λ lost. any_lost lost ≡ false → self.new ≡ self.old) }
+        ensures range { OnOk result (All (IsRunListIn B.whole) self.old) }
+    {
+        let (lost, _) = self.narrow_swapped(c)?;
+        Ok(lost)
+    }
+
+    /// The same, and returns what takes it back.
+    pub(crate) fn narrow_swapped(&mut self, c: &Constraint) -> Result<(Lost, Change<B>), AllocError>
+        requires { AllPresent (length self.old) c.now }
+        ensures refused { OnErr result (self.new ≡ self.old) }
+        ensures kept_count { length self.new ≡ length self.old }
+        ensures narrowed { OnOk result ((i : ℕ) (v : ℤ) → set_at self.new i v ↔ Narrowed c.now (set_at self.old) i v) }
+        ensures lost { IfOk result (λ r. AreLost c.now r.0 (set_at self.old) (set_at self.new)) }
+        ensures same { IfOk result (λ r. any_lost r.0 ≡ false → self.new ≡ self.old) }
+        ensures back { IfOk result (λ r. (constraints : List Constraint) → revert r.1 (record { domains = self.new; constraints = constraints }) ≡ record { domains = self.old; constraints = constraints }) }
         ensures range { OnOk result (All (IsRunListIn B.whole) self.old) }
     {
         let (x, y, z) = narrowed_sets(&self.domains, c)?;
@@ -76,21 +91,10 @@ impl<B: Width> Store<B> {
             y: y.is_some(),
             z: z.is_some(),
         };
-        self.put(c.x, x);
-        self.put(c.y, y);
-        self.put(c.z, z);
-        Ok(lost)
-    }
-
-    /// Puts what is left in place of a domain.
-    pub(super) fn put(&mut self, i: usize, left: Option<IntervalSet<B>>)
-        requires known { i < length self.old }
-        requires range { (s : List (ℤ × ℤ)) → left ≡ Some s → IsRunListIn B.whole s }
-        ensures { self.new ≡ narrowed_at self.old i left }
-    {
-        if let Some(set) = left {
-            self.domains[i] = set;
-        }
+        let x = self.swap(c.x, x);
+        let y = self.swap(c.y, y);
+        let z = self.swap(c.z, z);
+        Ok((lost, Change::Domains(*c, x, y, z)))
     }
 
     /// Narrows by constraint `i`, unless it is marked as settled.

@@ -1,7 +1,31 @@
-use Rattle.ivl_store.proofs.Narrowings.{sound_grown}
+use Rattle.std.proofs.Common.{◌∙◌, ap, subst, sym, ◌∷◌, ◌++◌, [], refl}
+use Rattle.std.proofs.lemmas.Bool.{false≢true}
+use Rattle.ivl_store.specs.Network.{IsSoundNetwork, NetworkState}
+use Rattle.ivl_store.specs.declared.store.change.Change.TheVariants.{Variable}
+use Rattle.ivl_store.proofs.Logging.{logged_marks, logged_trail, state_is}
+use Rattle.ivl_store.proofs.Narrowings.{sound_added}
+use Rattle.ivl_store.proofs.Reverting.{reverts_variable}
 use Rattle.ivl_store.proofs.network.Network.add_variable.Goals as goal
 
-pub invariant_of-self : goal.invariant_of-self
-invariant_of-self g c =
-    sound_grown c.self.inside.store c.add_variable.new.self c.args.domain c.self.inside.constraints.items c.self.inside.settled.items c.add_variable.result
-    c.add_variable.ensures.added c.add_variable.ensures.err c.self.invariant
+pub invariant_of-self-2 : goal.invariant_of-self-2
+invariant_of-self-2 g c =
+    let i = c.self.inside in
+    let added = c.in_ok-index.ensures.added in
+    let sound : IsSoundNetwork c.add_variable.new.self i.constraints.items i.settled.items =
+    subst (λ sets. IsSoundNetwork sets i.constraints.items i.settled.items) (sym added) (sound_added i.store c.args.domain i.constraints.items i.settled.items c.self.invariant.0) in (
+      sound,
+      logged_trail i.marks.items i.trail.items c.reserve_change.new.trail.items c.log_change.new.trail.items _ _ _ _ _ c.self.invariant.1 sound.present
+          c.reserve_change.ensures.same c.log_change.ensures (reverts_variable {B = g.row.B.Denot} {O = g.row.B-Output.Denot} Variable i.store c.add_variable.new.self c.args.domain i.constraints.items refl added)
+          (λ f. sym c.deref.ensures.value ∙ c.is_logging-is_kept.ensures f) (λ f. absurd (false≢true (sym f))),
+    )
+
+pub returns-clause-added : goal.returns-clause-added
+returns-clause-added g c =
+    let i = c.self.inside in
+    let added = c.in_ok-index.ensures.added in
+    state_is _ _ _ _ _ _ _ _ (added ∙ ap (λ (s : NetworkState). s.domains ++ c.args.domain ∷ []) c.self.view_is) (ap (λ (s : NetworkState). s.constraints) c.self.view_is)
+    (ap (λ (s : NetworkState). s.unsettled) c.self.view_is)
+    (logged_marks i.marks.items i.trail.items c.reserve_change.new.trail.items c.log_change.new.trail.items _ _ _ _ _ c.self.invariant.1
+    c.reserve_change.ensures.same c.log_change.ensures (reverts_variable {B = g.row.B.Denot} {O = g.row.B-Output.Denot} Variable i.store c.add_variable.new.self c.args.domain i.constraints.items refl added)
+    (λ f. sym c.deref.ensures.value ∙ c.is_logging-is_kept.ensures f) (λ f. absurd (false≢true (sym f)))
+    ∙ ap (λ (s : NetworkState). s.marked) c.self.view_is)

@@ -46,6 +46,7 @@ loop-preserved g c = (
       (subst (λ cs. AreNarrowings cs 1 (set_at c.loop.self.domains) (set_at c.narrow_next.new.self.domains)) c.loop.invariant.0
       (c.in_ok-narrow_next.ensures.narrowed c.if-not-branch.false)),
   (let less = c.in_ok-narrow_next.ensures.fewer c.if-not-branch.false in let so_far = c.loop.invariant.4 in omega arith),
+  c.narrow_next.ensures.marked ∙ c.loop.invariant.5,
 )
 
 pub returns-clause-keeps : goal.returns-clause-keeps

@@ -1,0 +1,81 @@
+-- What the calls of a network leave of its trail and its marks.
+use Rattle.std.proofs.Common.{◌≡◌, ◌∙◌, ◌<◌, ◌≤◌, ◌⊎◌, inl, inr, ℕ, ap, arith, get_or, length, List, [], ◌∷◌, ◌++◌, Bool, true, false, refl, subst, sym, take}
+use Rattle.std.specs.Prelude.{ℤ, ◌&&◌, map}
+use Rattle.std.proofs.lemmas.List.{take-map}
+use Rattle.ivl_store.specs.declared.store.change.Change.{Change}
+use Rattle.ivl_store.specs.declared.store.constraint.Constraint.{Constraint}
+use Rattle.ivl_store.specs.Network.{NetworkState}
+use Rattle.ivl_store.specs.Trail.{Past, revert, past_at, with_change, IsPresent, IsSoundTrail}
+use Rattle.ivl_store.proofs.Trails.{marked_logged, marked_marked, marked_undone, sound_fewer, sound_logged, sound_marked, sound_undone}
+
+-- where no change is written down there is no mark, or nothing changed
+not_both : (is_kept is_change : Bool) (P Q : Type 0) → (is_kept ≡ false → P) → (is_change ≡ false → Q) → (is_kept && is_change) ≡ false → P ⊎ Q
+not_both false is_change P Q p q none = inl (p refl)
+not_both true is_change P Q p q none = inr (q none)
+
+-- ---- a change that is written down if there is a mark
+
+pub logged_trail : {B O : Type 0} (marks : List ℕ) (trail trail0 trail' : List (Change B O)) (change : Change B O) (now now' : Past) (is_kept is_change : Bool)
+    → IsSoundTrail marks trail now → IsPresent now' → trail0 ≡ trail → trail' ≡ with_change (is_kept && is_change) trail0 change
+    → revert change now' ≡ now → (is_kept ≡ false → marks ≡ []) → (is_change ≡ false → now' ≡ now) → IsSoundTrail marks trail' now'
+logged_trail marks trail trail0 trail' change now now' is_kept is_change s p same e back unmarked unchanged =
+    subst (λ t. IsSoundTrail marks t now') (sym (e ∙ ap (λ t. with_change (is_kept && is_change) t change) same))
+    (sound_logged marks trail change now now' (is_kept && is_change) s p back (not_both is_kept is_change _ _ unmarked unchanged))
+
+pub logged_marks : {B O : Type 0} (marks : List ℕ) (trail trail0 trail' : List (Change B O)) (change : Change B O) (now now' : Past) (is_kept is_change : Bool)
+    → IsSoundTrail marks trail now → trail0 ≡ trail → trail' ≡ with_change (is_kept && is_change) trail0 change
+    → revert change now' ≡ now → (is_kept ≡ false → marks ≡ []) → (is_change ≡ false → now' ≡ now) → map (past_at trail' now') marks ≡ map (past_at trail now) marks
+logged_marks marks trail trail0 trail' change now now' is_kept is_change s same e back unmarked unchanged =
+    ap (λ t. map (past_at t now') marks) (e ∙ ap (λ t. with_change (is_kept && is_change) t change) same)
+    ∙ marked_logged marks trail change now now' (is_kept && is_change) s back (not_both is_kept is_change _ _ unmarked unchanged)
+
+-- ---- a mark
+
+pub more_marks : {B O : Type 0} (marks marks' : List ℕ) (trail : List (Change B O)) (now : Past) (n : ℕ) → IsSoundTrail marks trail now → IsPresent now
+    → n ≡ length trail → marks' ≡ marks ++ n ∷ [] → IsSoundTrail marks' trail now
+more_marks marks marks' trail now n s p at e =
+    subst (λ ms. IsSoundTrail ms trail now) (sym (e ∙ ap (λ k. marks ++ k ∷ []) at)) (sound_marked marks trail now s p)
+
+pub one_more_past : {B O : Type 0} (marks marks' : List ℕ) (trail : List (Change B O)) (now : Past) (n : ℕ)
+    → n ≡ length trail → marks' ≡ marks ++ n ∷ [] → map (past_at trail now) marks' ≡ map (past_at trail now) marks ++ now ∷ []
+one_more_past marks marks' trail now n at e = ap (λ ms. map (past_at trail now) ms) (e ∙ ap (λ k. marks ++ k ∷ []) at) ∙ marked_marked marks trail now
+
+-- ---- back to a mark
+
+pub undone_trail : {B O : Type 0} (marks marks' : List ℕ) (trail trail' : List (Change B O)) (now now' : Past) (n start : ℕ) → IsSoundTrail marks trail now
+    → n < length marks → start ≡ get_or marks n 0 → marks' ≡ take n marks → trail' ≡ take start trail → now' ≡ past_at trail now start → IsSoundTrail marks' trail' now'
+undone_trail marks marks' trail trail' now now' n start s lt at a b c =
+    subst (λ ms. IsSoundTrail ms trail' now') (sym a) (subst (λ t. IsSoundTrail (take n marks) t now') (sym b)
+    (subst (λ p. IsSoundTrail (take n marks) (take start trail) p) (sym c) (sound_undone marks trail now n start s lt at)))
+
+pub undone_marks : {B O : Type 0} (marks marks' : List ℕ) (trail trail' : List (Change B O)) (now now' : Past) (n start : ℕ) → IsSoundTrail marks trail now
+    → n < length marks → start ≡ get_or marks n 0 → marks' ≡ take n marks → trail' ≡ take start trail → now' ≡ past_at trail now start
+    → map (past_at trail' now') marks' ≡ take n (map (past_at trail now) marks)
+undone_marks marks marks' trail trail' now now' n start s lt at a b c =
+    ap (λ ms. map (past_at trail' now') ms) a ∙ ap (λ t. map (past_at t now') (take n marks)) b
+    ∙ ap (λ p. map (past_at (take start trail) p) (take n marks)) c ∙ marked_undone marks trail now n start s lt at
+
+-- ---- marks are dropped, and the trail if none is left
+
+pub dropped_trail : {B O : Type 0} (marks marks' : List ℕ) (trail trail' : List (Change B O)) (now : Past) (n : ℕ) → IsSoundTrail marks trail now
+    → marks' ≡ take n marks → (marks' ≡ []) ⊎ (trail' ≡ trail) → IsSoundTrail marks' trail' now
+dropped_trail marks marks' trail trail' now n s e (inl none) = subst (λ ms. IsSoundTrail ms trail' now) (sym none) (record {
+  in_trail = (λ k lt. absurd (omega arith));
+  in_order = (λ j k le lt. absurd (omega arith));
+  present = (λ k m lt low high. absurd (omega arith));
+})
+dropped_trail marks marks' trail trail' now n s e (inr same) =
+    subst (λ ms. IsSoundTrail ms trail' now) (sym e) (subst (λ t. IsSoundTrail (take n marks) t now) (sym same) (sound_fewer marks trail now n s))
+
+pub dropped_marks : {B O : Type 0} (marks marks' : List ℕ) (trail trail' : List (Change B O)) (now : Past) (n : ℕ)
+    → marks' ≡ take n marks → (marks' ≡ []) ⊎ (trail' ≡ trail) → map (past_at trail' now) marks' ≡ take n (map (past_at trail now) marks)
+dropped_marks marks marks' trail trail' now n e (inl none) =
+    ap (λ ms. map (past_at trail' now) ms) none ∙ ap (λ ms. map (past_at trail now) ms) (sym none ∙ e) ∙ sym (take-map (past_at trail now) n marks)
+dropped_marks marks marks' trail trail' now n e (inr same) =
+    ap (λ t. map (past_at t now) marks') same ∙ ap (λ ms. map (past_at trail now) ms) e ∙ sym (take-map (past_at trail now) n marks)
+
+-- ---- the states
+
+pub state_is : (d d' : List (List (ℤ × ℤ))) (c c' : List Constraint) (u u' : ℕ) (m m' : List Past) → d ≡ d' → c ≡ c' → u ≡ u' → m ≡ m'
+    → ◌≡◌ {A = NetworkState} (record { domains = d; constraints = c; unsettled = u; marked = m }) (record { domains = d'; constraints = c'; unsettled = u'; marked = m' })
+state_is d d' c c' u u' m m' e f g h = rw (e, f, g, h) refl

@@ -1,0 +1,42 @@
+use Rattle.std.proofs.Common.{◌∙◌, ap, subst, sym, List}
+use Rattle.std.specs.Prelude.{ℤ}
+use Rattle.ivl_laws.specs.Families.{set_at}
+use Rattle.ivl_laws.specs.Runs.{Covers}
+use Rattle.ivl_store.specs.Network.{IsCutAt, IsSoundNetwork, NetworkState}
+use Rattle.ivl_store.proofs.Logging.{logged_marks, logged_trail}
+use Rattle.ivl_store.proofs.Narrowings.{sound_moved}
+use Rattle.ivl_store.proofs.Settled.{settled_cut}
+use Rattle.ivl_store.proofs.network.Network.restrict.Goals as goal
+
+pub invariant_of-self-2 : goal.invariant_of-self-2
+invariant_of-self-2 g c =
+    let i = c.self.inside in
+    let cs = i.constraints.items in
+    let cut = c.in_ok-lost.ensures.cut in
+    let sound : IsSoundNetwork c.restrict_swapped.new.self cs c.clear_marks.new.settled.items =
+    sound_moved i.store c.restrict_swapped.new.self cs i.settled.items c.clear_marks.new.settled.items c.restrict_swapped.ensures.kept_count
+    (settled_cut cs i.settled.items c.clear_marks.new.settled.items c.args.variable c.in_ok-lost.lost i.store c.restrict_swapped.new.self
+    c.self.invariant.0.settled (rw c.deref-2.ensures.value at c.clear_marks.ensures) c.in_ok-lost.ensures.lost
+    (λ j v h. ((cut j v).0 h).0)
+    (λ j v ne was. (cut j v).1 (was, λ e. absurd (ne e))))
+    c.self.invariant.0 in (
+      sound,
+      logged_trail i.marks.items i.trail.items c.reserve_change.new.trail.items c.log_change.new.trail.items c.in_ok-lost.change _ _ _ c.in_ok-lost.lost c.self.invariant.1 sound.present
+          c.reserve_change.ensures.same c.log_change.ensures (c.in_ok-lost.ensures.back cs)
+          (λ f. sym c.deref.ensures.value ∙ c.is_logging-is_kept.ensures f)
+          (λ f. ap (λ (sets : List (List (ℤ × ℤ))). record { domains = sets; constraints = cs }) (c.in_ok-lost.ensures.lost f)),
+    )
+
+pub returns-clause-marked : goal.returns-clause-marked
+returns-clause-marked g c =
+    let i = c.self.inside in
+    let cs = i.constraints.items in
+    logged_marks i.marks.items i.trail.items c.reserve_change.new.trail.items c.log_change.new.trail.items c.in_ok-lost.change _ _ _ c.in_ok-lost.lost c.self.invariant.1
+    c.reserve_change.ensures.same c.log_change.ensures (c.in_ok-lost.ensures.back cs)
+    (λ f. sym c.deref.ensures.value ∙ c.is_logging-is_kept.ensures f)
+    (λ f. ap (λ (sets : List (List (ℤ × ℤ))). record { domains = sets; constraints = cs }) (c.in_ok-lost.ensures.lost f))
+    ∙ ap (λ (s : NetworkState). s.marked) c.self.view_is
+
+pub returns-clause-cut : goal.returns-clause-cut
+returns-clause-cut g c =
+    subst (λ (s : NetworkState). IsCutAt c.args.variable (Covers c.args.allowed.now) (set_at s.domains) (set_at c.restrict_swapped.new.self)) c.self.view_is c.in_ok-lost.ensures.cut

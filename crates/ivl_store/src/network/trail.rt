@@ -1,0 +1,126 @@
+//! The changes that a network writes down from its first mark on, and how they are taken back.
+ghost use Rattle.std.specs.Prelude.{◌≡◌, ◌<◌, ◌≤◌, ◌&&◌, ◌⊎◌, [], ℕ, OnOk, false, length, take, true};
+ghost use Rattle.std.specs.Vec.{vec_capacity, vec_len};
+ghost use Rattle.ivl_store.specs.Keeping.{narrowed_at};
+ghost use Rattle.ivl_store.specs.Network.{IsSoundNetwork};
+ghost use Rattle.ivl_store.specs.Trail.{IsPresent, past_at, revert, with_change};
+
+use crate::store::change::Change;
+use crate::store::marks::clear_marks;
+use crate::store::{Constraint, Store};
+use intervallum::interval_set::IntervalSet;
+use intervallum::width::Width;
+use std::alloc::AllocError;
+
+/// Reserves room for a change, if changes are written down.
+pub(super) fn reserve_change<B: Width>(
+    trail: &mut Vec<Change<B>>,
+    is_kept: bool,
+) -> Result<(), AllocError>
+    ensures same { trail.new.items ≡ trail.old.items }
+    ensures room { OnOk result (is_kept ≡ true → vec_len trail.new < vec_capacity trail.new) }
+{
+    if is_kept {
+        trail.reserve(1)?;
+    }
+    Ok(())
+}
+
+/// Writes a change down, if changes are written down and this is one.
+pub(super) fn log_change<B: Width>(
+    trail: &mut Vec<Change<B>>,
+    is_kept: bool,
+    is_change: bool,
+    change: Change<B>,
+)
+    requires { is_kept ≡ true → vec_len trail.old < vec_capacity trail.old }
+    ensures { trail.new.items ≡ with_change (is_kept && is_change) trail.old.items change }
+{
+    if is_kept && is_change {
+        trail.push_reserved(change);
+    }
+}
+
+/// Takes back the changes from a place of the trail on, the last one first.
+pub(super) fn revert_to<B: Width>(
+    trail: &mut Vec<Change<B>>,
+    start: usize,
+    store: &mut Store<B>,
+    constraints: &mut Vec<Constraint>,
+    settled: &mut Vec<bool>,
+)
+    requires in_trail { start ≤ length trail.old.items }
+    requires sound { IsSoundNetwork store.old constraints.old.items settled.old.items }
+    requires present { (m : ℕ) → start ≤ m → m ≤ length trail.old.items → IsPresent (past_at trail.old.items (record { domains = store.old; constraints = constraints.old.items }) m) }
+    ensures trail { trail.new.items ≡ take start trail.old.items }
+    ensures past { record { domains = store.new; constraints = constraints.new.items } ≡ past_at trail.old.items (record { domains = store.old; constraints = constraints.old.items }) start }
+    ensures sound { IsSoundNetwork store.new constraints.new.items settled.new.items }
+{
+    while trail.len() > start {
+        if let Some(change) = trail.pop() {
+            take_back(change, store, constraints, settled);
+        }
+    }
+}
+
+/// Takes a change back. Constraints that name a variable whose domain is replaced lose their mark.
+fn take_back<B: Width>(
+    change: Change<B>,
+    store: &mut Store<B>,
+    constraints: &mut Vec<Constraint>,
+    settled: &mut Vec<bool>,
+)
+    requires sound { IsSoundNetwork store.old constraints.old.items settled.old.items }
+    requires present { IsPresent (revert change (record { domains = store.old; constraints = constraints.old.items })) }
+    ensures past { record { domains = store.new; constraints = constraints.new.items } ≡ revert change (record { domains = store.old; constraints = constraints.old.items }) }
+    ensures sound { IsSoundNetwork store.new constraints.new.items settled.new.items }
+{
+    match change {
+        Change::Domain(variable, set) => put_back(store, constraints, settled, variable, set),
+        Change::Domains(c, x, y, z) => {
+            put_back(store, constraints, settled, c.z, z);
+            put_back(store, constraints, settled, c.y, y);
+            put_back(store, constraints, settled, c.x, x);
+        }
+        Change::Variable => store.drop_variable(),
+        Change::Require => {
+            let count = constraints.len().saturating_sub(1);
+            constraints.truncate(count);
+            settled.truncate(count);
+        }
+    }
+}
+
+/// Puts a set in the place of a domain, if there is one.
+fn put_back<B: Width>(
+    store: &mut Store<B>,
+    constraints: &[Constraint],
+    settled: &mut Vec<bool>,
+    variable: usize,
+    set: Option<IntervalSet<B>>,
+)
+    requires sound { IsSoundNetwork store.old constraints.now settled.old.items }
+    ensures domains { store.new ≡ narrowed_at store.old variable set }
+    ensures sound { IsSoundNetwork store.new constraints.now settled.new.items }
+{
+    if let Some(set) = set {
+        store.replace(variable, set);
+        clear_marks(true, constraints, variable, settled);
+    }
+}
+
+/// Whether there is a mark, so that changes are written down.
+pub(super) fn is_logging(marks: &[usize]) -> bool
+    ensures { result ≡ false → marks.now ≡ [] }
+{
+    !marks.is_empty()
+}
+
+/// Clears the trail if there is no mark.
+pub(super) fn clear_unmarked<B: Width>(marks: &[usize], trail: &mut Vec<Change<B>>)
+    ensures { (marks.now ≡ []) ⊎ (trail.new.items ≡ trail.old.items) }
+{
+    if marks.is_empty() {
+        trail.clear();
+    }
+}
