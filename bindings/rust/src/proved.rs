@@ -10,6 +10,7 @@
 //! | [`prelude`] | the types and every trait of their operations, for glob imports |
 //! | [`interval`], [`interval_set`], [`ops`], [`width`] | intervals, sets, their operations, and the types of bounds |
 //! | [`steps`], [`sweep`] | walks over the runs of sets, and sets from lists of intervals, as parts for calls of your own |
+//! | [`ivl_paged`] | sets for many runs that change: their runs stand in pages |
 //! | [`ivl_within`] | sums and differences that are cut to a window |
 //! | [`ivl_store`] | domains of variables, narrowed by constraints `x + y = z` |
 //! | [`ivl_expr`] | expressions over sets, for range analysis |
@@ -48,6 +49,7 @@ pub mod ivl_json;
 // the source imports two traits for whose methods Rust does not ask
 #[allow(unused_imports)]
 pub mod ivl_buffers;
+pub mod ivl_paged;
 pub mod ivl_store;
 pub mod ivl_within;
 

@@ -2,3 +2,4 @@ pub mod Paging
 pub mod Reading
 pub mod Removing
 pub mod Iterating
+pub mod Fitting

@@ -3,10 +3,12 @@
 --     StartsUpTo P v n      the first n pages have a number up to v, and the others none
 --     IsPageSpan P u v i j      the pages before i lie below u, those from j on above v, and those between i and the last within
 --     IsCutAt P p i Q      Q is P with the numbers of an interval removed from page i
+--     IsLongest n S      n members of S stand in a row somewhere, and nowhere more
 use Rattle.std.specs.Prelude.{◌≡◌, ℕ, ◌+◌, ◌-◌, ◌<◌, ◌≤◌, ℤ, pos, ◌+ℤ◌, ◌≤ℤ◌, ◌<ℤ◌, List, [], ◌∷◌, ◌++◌, drop, length, take}
 use Rattle.ivl_laws.specs.Families.{set_at}
 use Rattle.ivl_laws.specs.Sets.{IsBetween, Without}
 use Rattle.ivl_laws.specs.Runs.{IsRunsOf}
+use Rattle.intervallum.specs.FirstFit.{FitsAt}
 
 abbrev pub flattened : List (List (ℤ × ℤ)) → List (ℤ × ℤ)
 flattened [] = []
@@ -32,3 +34,8 @@ pub record IsCutAt (P : List (List (ℤ × ℤ))) (p : ℤ × ℤ) (i : ℕ) (Q 
   pub left : List (List (ℤ × ℤ))
   pub pages : Q ≡ take i P ++ (left ++ drop (i + 1) P)
   pub members : IsRunsOf (flattened left) (Without (set_at P i) (IsBetween p))
+
+-- what the longest run of a page has
+pub record IsLongest (n : ℕ) (S : ℤ → Type 0) : Type 0 where
+  pub fits : (v : ℤ) × FitsAt n S v
+  pub most : (m : ℕ) (v : ℤ) → FitsAt m S v → m ≤ n

@@ -1,21 +1,25 @@
 //! One page: a few of the runs of a set.
 ghost use Rattle.std.specs.Prelude.{◌≡◌, ℤ, ◌≤ℤ◌, IsTrue, List, IfOk, IsOk, OnErr, OnOk};
 ghost use Rattle.ivl_laws.specs.Sets.{HasSome, IsBetween, IsSubset, Union, Without};
-ghost use Rattle.ivl_laws.specs.Runs.{Covers, IsRunsOf};
+ghost use Rattle.ivl_laws.specs.Runs.{Covers, IsMaximal, IsRunsOf};
 ghost use Rattle.intervallum.specs.Edits.{widened};
 ghost use Rattle.intervallum.specs.Neighbours.{IsLeast};
+ghost use Rattle.ivl_paged.specs.Pages.{IsLongest};
 
 use intervallum::interval::Interval;
 use intervallum::interval_set::IntervalSet;
-use intervallum::ops::Bounded;
-use intervallum::width::Width;
+use intervallum::ops::{Bounded, Cardinality};
+use intervallum::width::{SizeNumber, Width};
 use std::alloc::AllocError;
+use std::hint::select_unpredictable;
 use std::marker::Model;
 
-/// A set that is not empty, beside its least member, so that a search reads no run.
+/// A set that is not empty, beside its least member and the length of its longest run, so that a
+/// search reads no run.
 #[derive(Drop)]
 pub(crate) struct Page<B: Width> {
     head: B,
+    longest: B::Output,
     set: IntervalSet<B>,
 }
 
@@ -24,7 +28,7 @@ impl<B: Width> Model for Page<B> {
 
     ghost view = { λ p. p.set };
 
-    ghost invariant = { λ p. IsLeast (B.value p.head) (Covers p.set) };
+    ghost invariant = { λ p. IsLeast (B.value p.head) (Covers p.set) × IsLongest (B.Output.size p.longest) (Covers p.set) };
 }
 
 impl<B: Width> Page<B> {
@@ -34,7 +38,8 @@ impl<B: Width> Page<B> {
         ensures { result ≡ set }
     {
         let head = set.lower();
-        Page { head, set }
+        let longest = longest_of(set.runs());
+        Page { head, longest, set }
     }
 
     /// The least member.
@@ -42,6 +47,13 @@ impl<B: Width> Page<B> {
         ensures { IsLeast (B.value result) (Covers self.now) }
     {
         self.head
+    }
+
+    /// How many members the longest run has.
+    pub(crate) fn longest(&self) -> B::Output
+        ensures { IsLongest (B.Output.size result) (Covers self.now) }
+    {
+        self.longest
     }
 
     /// The runs, as a set, which has a member.
@@ -58,6 +70,7 @@ impl<B: Width> Page<B> {
     {
         Ok(Page {
             head: self.head,
+            longest: self.longest,
             set: self.set.try_clone()?,
         })
     }
@@ -78,6 +91,7 @@ impl<B: Width> Page<B> {
     {
         self.set.insert_interval(interval)?;
         self.head = self.set.lower();
+        self.longest = longest_of(self.set.runs());
         Ok(())
     }
 
@@ -91,6 +105,21 @@ impl<B: Width> Page<B> {
     {
         self.set.remove_interval(interval)?;
         self.head = self.set.lower();
+        self.longest = longest_of(self.set.runs());
         Ok(())
     }
+}
+
+/// How many members the longest of some runs has.
+fn longest_of<B: Width>(runs: &[Interval<B>]) -> B::Output
+    requires { IsMaximal runs.now }
+    ensures { IsLongest (B.Output.size result) (Covers runs.now) }
+{
+    let mut longest = <B::Output as SizeNumber>::zero();
+    for run in runs {
+        let size = run.size();
+        let is_longer = size >= longest;
+        longest = select_unpredictable(is_longer, size, longest);
+    }
+    longest
 }

@@ -8,6 +8,7 @@ ghost use Rattle.ivl_paged.specs.Pages.{flattened};
 mod bounds;
 mod clone;
 mod equality;
+mod first_fit;
 mod iter;
 mod neighbours;
 mod rank;
@@ -29,8 +30,9 @@ use std::marker::Model;
 ///
 /// The runs stand in pages of at most 128, each with its least member in the list of pages, where
 /// a search begins. An edit in one page moves the runs of that page. A page that gets more is split
-/// in two, which moves the list of pages; if there is no memory for that, the page grows. A page is
-/// removed when it is empty, and short pages are not joined.
+/// in two, which moves the list of pages; if there is no memory for that, the page grows. A page that
+/// gets at most half of that is joined with a neighbour if both then have at most 96. A page is
+/// removed when it is empty.
 ///
 /// If an allocation fails, the set is unchanged.
 ///

@@ -5,6 +5,7 @@ ghost use Rattle.ivl_laws.specs.Families.{set_at};
 ghost use Rattle.ivl_laws.specs.Sets.{AtLeast, HasNone, IsBetween, IsSubset, Union, Without};
 ghost use Rattle.ivl_laws.specs.Runs.{Covers, IsMaximal, IsRunListIn, IsRunsOf};
 ghost use Rattle.intervallum.specs.Edits.{widened};
+ghost use Rattle.intervallum.specs.FirstFit.{FitsAt, IsFirstFit};
 ghost use Rattle.intervallum.specs.Neighbours.{IsLeast};
 ghost use Rattle.ivl_paged.specs.Pages.{IsCutAt, IsPageSpan, StartsUpTo, flattened};
 
@@ -96,6 +97,43 @@ pub(crate) fn next_within<B: Width>(pages: &[Page<B>], count: usize, v: B) -> Op
         return None;
     }
     pages[count - 1].set().next_from(v)
+}
+
+/// The lowest `count` consecutive members of pages. Pages whose longest run is shorter are not read.
+pub(crate) fn fit_in<B: Width>(pages: &[Page<B>], count: B::Output) -> Option<Interval<B>>
+    requires above_zero { 0 < B.Output.size count }
+    requires runs { IsMaximal (flattened pages.now) }
+    ensures { MatchOption result
+        ((v : ℤ) → ¬ (FitsAt (B.Output.size count) (Covers (flattened pages.now)) v))
+        (IsFirstFit (B.Output.size count) (Covers (flattened pages.now))) }
+{
+    for page in pages {
+        if page.longest() >= count {
+            return page.set().first_fit(count);
+        }
+    }
+    None
+}
+
+/// The lowest `count` consecutive members that are at least `v` in the first `place` pages, which
+/// are those that start at `v` or below. Only the last of them can have them.
+pub(crate) fn fit_within<B: Width>(
+    pages: &[Page<B>],
+    place: usize,
+    v: B,
+    count: B::Output,
+) -> Option<Interval<B>>
+    requires above_zero { 0 < B.Output.size count }
+    requires runs { IsMaximal (flattened pages.now) }
+    requires starts { StartsUpTo pages.now (B.value v) place }
+    ensures { MatchOption result
+        ((w : ℤ) → ¬ (FitsAt (B.Output.size count) (AtLeast (B.value v) (Covers (flattened (take place pages.now)))) w))
+        (IsFirstFit (B.Output.size count) (AtLeast (B.value v) (Covers (flattened (take place pages.now))))) }
+{
+    if place == 0 {
+        return None;
+    }
+    pages[place - 1].set().first_fit_from(v, count)
 }
 
 /// The places of the pages that a change of the numbers from `lower` to `upper` may touch: the

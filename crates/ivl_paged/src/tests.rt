@@ -222,6 +222,42 @@ fn pops_take_each_member_once(rt: HostRuntime) {
     assert!(rt; set.pop_first().is_none() && set.pop_last().is_none());
 }
 
+/// Compares the lowest five members in a row with those of the flags.
+fn fit_agrees(set: &PagedSet<i64>, flags: &[bool]) -> bool {
+    let mut length = 0u64;
+    let mut found = None;
+    for (i, flag) in flags.iter().enumerate() {
+        length = if *flag { length.saturating_add(1) } else { 0 };
+        if length == 5 && found.is_none() {
+            found = Some(i as i64 - 4);
+        }
+    }
+    let fit = set.first_fit(5);
+    let from = set.first_fit_from(i64::MIN, 5);
+    fit == from && fit.map(|run| run.lower_bound()) == found
+}
+
+#[test]
+fn fits_agree_with_flags(rt: HostRuntime) {
+    let mut set = PagedSet::new(rt.alloc());
+    let mut flags = [true; 3000];
+    assert!(rt; set.insert_interval(Interval::new(0, 2999)) == Ok(()));
+    let mut random = Generator { state: 3 };
+    for _ in 0..600 {
+        let place = (random.next() % 3000) as usize;
+        assert!(rt; set.remove(place as i64).is_ok());
+        put_all(&mut flags, place, place + 1, false);
+    }
+    for _ in 0..200 {
+        assert!(rt; fit_agrees(&set, &flags));
+        if let Some(run) = set.take_first_fit(5) {
+            let lower = run.lower_bound() as usize;
+            put_all(&mut flags, lower, lower.saturating_add(5), false);
+        }
+    }
+    assert!(rt; agree(&set, &flags) && set.take_first_fit(5).is_none());
+}
+
 #[test]
 fn the_ends_of_a_type(rt: HostRuntime) {
     let alloc = rt.alloc();

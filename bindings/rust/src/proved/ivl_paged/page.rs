@@ -1,0 +1,83 @@
+//! One page: a few of the runs of a set.
+
+#[allow(unused_imports)]
+use crate::rattle::prelude::*;
+use crate::proved::intervallum::interval::Interval;
+use crate::proved::intervallum::interval_set::IntervalSet;
+use crate::proved::intervallum::ops::{Bounded, Cardinality};
+use crate::proved::intervallum::width::{SizeNumber, Width};
+use crate::rattle::std::alloc::AllocError;
+use crate::rattle::std::hint::select_unpredictable;
+
+/// A set that is not empty, beside its least member and the length of its longest run, so that a
+/// search reads no run.
+pub(crate) struct Page<B: Width> {
+    head: B,
+    longest: B::Output,
+    set: IntervalSet<B>,
+}
+
+impl<B: Width> Page<B> {
+    /// The page of the runs of a set.
+    pub(crate) fn of(set: IntervalSet<B>) -> Self {
+        let head = set.lower();
+        let longest = longest_of(set.runs());
+        Page { head, longest, set }
+    }
+
+    /// The least member.
+    pub(crate) fn head(&self) -> B {
+        self.head
+    }
+
+    /// How many members the longest run has.
+    pub(crate) fn longest(&self) -> B::Output {
+        self.longest
+    }
+
+    /// The runs, as a set, which has a member.
+    pub(crate) fn set(&self) -> &IntervalSet<B> {
+        &self.set
+    }
+
+    /// A copy of the page.
+    pub(crate) fn try_clone(&self) -> Result<Self, AllocError> {
+        Ok(Page {
+            head: self.head,
+            longest: self.longest,
+            set: self.set.try_clone()?,
+        })
+    }
+
+    /// Returns true exactly when each member lies in an interval.
+    pub(crate) fn lies_within(&self, interval: &Interval<B>) -> bool {
+        interval.lower() <= self.head && self.set.upper() <= interval.upper()
+    }
+
+    /// Adds the members of an interval.
+    pub(crate) fn insert_interval(&mut self, interval: Interval<B>) -> Result<(), AllocError> {
+        self.set.insert_interval(interval)?;
+        self.head = self.set.lower();
+        self.longest = longest_of(self.set.runs());
+        Ok(())
+    }
+
+    /// Removes the members of an interval, which leaves some.
+    pub(crate) fn remove_interval(&mut self, interval: Interval<B>) -> Result<(), AllocError> {
+        self.set.remove_interval(interval)?;
+        self.head = self.set.lower();
+        self.longest = longest_of(self.set.runs());
+        Ok(())
+    }
+}
+
+/// How many members the longest of some runs has.
+fn longest_of<B: Width>(runs: &[Interval<B>]) -> B::Output {
+    let mut longest = <B::Output as SizeNumber>::zero();
+    for run in runs {
+        let size = run.size();
+        let is_longer = size >= longest;
+        longest = select_unpredictable(is_longer, size, longest);
+    }
+    longest
+}

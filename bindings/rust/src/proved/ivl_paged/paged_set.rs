@@ -1,0 +1,470 @@
+//! A set of integers whose runs stand in pages.
+
+#[allow(unused_imports)]
+use crate::rattle::prelude::*;
+
+mod bounds;
+mod clone;
+mod equality;
+mod first_fit;
+mod iter;
+mod neighbours;
+mod rank;
+mod text;
+
+use crate::proved::ivl_paged::page::Page;
+use crate::proved::ivl_paged::pages;
+pub use iter::Runs;
+use crate::proved::intervallum::interval::Interval;
+use crate::proved::intervallum::interval_set::IntervalSet;
+use crate::proved::intervallum::ops::{Contains, IsEmpty, Singleton};
+use crate::proved::intervallum::sweep::coalesce;
+use crate::proved::intervallum::width::Width;
+use crate::rattle::std::alloc::{AllocError, Global};
+
+/// A set of integers for many runs that change. A contract sees the list of its runs, each a pair
+/// of numbers, as it does of an `IntervalSet`.
+///
+/// The runs stand in pages of at most 128, each with its least member in the list of pages, where
+/// a search begins. An edit in one page moves the runs of that page. A page that gets more is split
+/// in two, which moves the list of pages; if there is no memory for that, the page grows. A page that
+/// gets at most half of that is joined with a neighbour if both then have at most 96. A page is
+/// removed when it is empty.
+///
+/// If an allocation fails, the set is unchanged.
+///
+/// ```
+/// # use intervallum::proved::examples::*;
+/// # fn main() -> Result<(), std::boxed::Box<dyn std::error::Error>> {
+/// # let alloc = Global;
+/// let mut a = PagedSet::new(alloc);
+/// a.insert_interval(Interval::new(1, 5))?;
+/// assert!(a.remove(3)? && a.insert(9)?);
+/// assert!(a.to_set()? == [(1, 2), (4, 5), (9, 9)].to_interval_set(alloc)?);
+/// # Ok(())
+/// # }
+/// ```
+pub struct PagedSet<B: Width> {
+    alloc: Global,
+    pages: Vec<Page<B>>,
+}
+
+impl<B: Width> PagedSet<B> {
+    /// Returns the empty set. `O(1)`. Does not allocate.
+    ///
+    /// ```
+    /// # use intervallum::proved::examples::*;
+    /// # fn main() -> Result<(), std::boxed::Box<dyn std::error::Error>> {
+    /// # let alloc = Global;
+    /// assert!(PagedSet::<i64>::new(alloc).is_empty());
+    /// # Ok(())
+    /// # }
+    /// ```
+    ///
+    /// # Proved
+    ///
+    /// ```text
+    /// ensures { result ≡ [] }
+    /// ```
+    pub fn new(alloc: Global) -> Self {
+        PagedSet {
+            alloc,
+            pages: Vec::new(alloc),
+        }
+    }
+
+    /// Returns the set with the members of another, whose runs are copied into pages of 96 runs.
+    /// `O(n)`. Fails only if allocation fails.
+    ///
+    /// ```
+    /// # use intervallum::proved::examples::*;
+    /// # fn main() -> Result<(), std::boxed::Box<dyn std::error::Error>> {
+    /// # let alloc = Global;
+    /// let list: IntervalSet<i32> = [(1, 2), (5, 6)].to_interval_set(alloc)?;
+    /// assert!(PagedSet::of_set(&list)?.to_set()? == list);
+    /// # Ok(())
+    /// # }
+    /// ```
+    ///
+    /// # Proved
+    ///
+    /// ```text
+    /// ensures { IfOk result (λ L. L ≡ set.now) }
+    /// ```
+    pub fn of_set(set: &IntervalSet<B>) -> Result<Self, AllocError> {
+        set.in_whole();
+        let alloc = set.allocator();
+        let pages = pages::pages_of(alloc, set.iter().as_slice())?;
+        Ok(PagedSet { alloc, pages })
+    }
+
+    /// Returns true exactly when the set has no members. `O(1)`. Does not allocate.
+    ///
+    /// ```
+    /// # use intervallum::proved::examples::*;
+    /// # fn main() -> Result<(), std::boxed::Box<dyn std::error::Error>> {
+    /// # let alloc = Global;
+    /// let mut a = PagedSet::new(alloc);
+    /// assert!(a.is_empty());
+    /// a.insert(5)?;
+    /// assert!(!a.is_empty());
+    /// # Ok(())
+    /// # }
+    /// ```
+    ///
+    /// # Proved
+    ///
+    /// ```text
+    /// ensures members { IsTrue result ↔ HasNone (Covers self.now) }
+    /// ensures none { IsTrue result ↔ (self.now ≡ []) }
+    /// ```
+    ///
+    /// Words: [`HasNone`](crate::definitions#HasNone), [`Covers`](crate::definitions#Covers).
+    pub fn is_empty(&self) -> bool {
+        if self.pages.is_empty() {
+            return true;
+        }
+        // a page has a member
+        self.pages[0].head();
+        false
+    }
+
+    /// Returns true exactly when `value`, which may be any value of its type, is a member. Binary
+    /// search: `O(log n)`. Does not allocate.
+    ///
+    /// ```
+    /// # use intervallum::proved::examples::*;
+    /// # fn main() -> Result<(), std::boxed::Box<dyn std::error::Error>> {
+    /// # let alloc = Global;
+    /// let mut a = PagedSet::new(alloc);
+    /// a.insert(5)?;
+    /// assert!(a.contains(&5) && !a.contains(&3));
+    /// # Ok(())
+    /// # }
+    /// ```
+    ///
+    /// # Proved
+    ///
+    /// ```text
+    /// ensures { IsTrue result ↔ Covers self.now (B.value value.now) }
+    /// ```
+    ///
+    /// Words: [`Covers`](crate::definitions#Covers).
+    pub fn contains(&self, value: &B) -> bool {
+        let count = pages::starts_up_to(&self.pages, *value);
+        if count == 0 {
+            return false;
+        }
+        self.pages[count - 1].set().contains(value)
+    }
+
+    /// Adds a value. Returns true exactly when it was not a member before.
+    ///
+    /// The caller must ensure that the value is in the range. Check with
+    /// `Interval::in_range(value, value)`.
+    ///
+    /// Binary search, and moves the runs of one page: `O(log n)`. Once in about as many edits as a
+    /// page has runs, a page is split and the list of pages moves.
+    ///
+    /// # Errors
+    ///
+    /// Fails only if allocation fails. The set is then unchanged.
+    ///
+    /// ```
+    /// # use intervallum::proved::examples::*;
+    /// # fn main() -> Result<(), std::boxed::Box<dyn std::error::Error>> {
+    /// # let alloc = Global;
+    /// let mut a = PagedSet::new(alloc);
+    /// assert!(Interval::in_range(3, 3), "it is in the range");
+    /// assert!(a.insert(3)? && !a.insert(3)?);
+    /// # Ok(())
+    /// # }
+    /// ```
+    ///
+    /// # Proved
+    ///
+    /// ```text
+    /// requires { IsBetween B.whole (B.value value) }
+    /// ensures members { OnOk result (IsRunsOf self.new (Union (Covers self.old) (Only (B.value value)))) }
+    /// ensures is_new { IfOk result (λ is_new. IsTrue is_new ↔ ¬ (Covers self.old (B.value value))) }
+    /// ensures err { OnErr result (self.new ≡ self.old) }
+    /// ```
+    ///
+    /// Words: [`IsBetween`](crate::definitions#IsBetween), [`IsRunsOf`](crate::definitions#IsRunsOf), [`Union`](crate::definitions#Union), [`Covers`](crate::definitions#Covers), [`Only`](crate::definitions#Only).
+    pub fn insert(&mut self, value: B) -> Result<bool, AllocError> {
+        self.in_whole();
+        if self.contains(&value) {
+            return Ok(false);
+        }
+        self.insert_interval(Interval::singleton(value))?;
+        Ok(true)
+    }
+
+    /// Removes a value, which may be any value of its type. Returns true exactly when it was a
+    /// member.
+    ///
+    /// Costs as much as [`PagedSet::insert`].
+    ///
+    /// # Errors
+    ///
+    /// Fails only if allocation fails. The set is then unchanged.
+    ///
+    /// ```
+    /// # use intervallum::proved::examples::*;
+    /// # fn main() -> Result<(), std::boxed::Box<dyn std::error::Error>> {
+    /// # let alloc = Global;
+    /// let mut a = PagedSet::new(alloc);
+    /// a.insert(3)?;
+    /// assert!(a.remove(3)? && !a.remove(3)?);
+    /// # Ok(())
+    /// # }
+    /// ```
+    ///
+    /// # Proved
+    ///
+    /// ```text
+    /// ensures members { OnOk result (IsRunsOf self.new (Without (Covers self.old) (Only (B.value value)))) }
+    /// ensures was_member { IfOk result (λ was_member. IsTrue was_member ↔ Covers self.old (B.value value)) }
+    /// ensures err { OnErr result (self.new ≡ self.old) }
+    /// ```
+    ///
+    /// Words: [`IsRunsOf`](crate::definitions#IsRunsOf), [`Without`](crate::definitions#Without), [`Covers`](crate::definitions#Covers), [`Only`](crate::definitions#Only).
+    pub fn remove(&mut self, value: B) -> Result<bool, AllocError> {
+        self.in_whole();
+        if !self.contains(&value) {
+            return Ok(false);
+        }
+        self.remove_interval(Interval::singleton(value))?;
+        Ok(true)
+    }
+
+    /// Adds the members of an interval, which may be empty.
+    ///
+    /// Binary search for the `k` pages that the interval overlaps or touches. In one page, moves
+    /// its runs; of several pages only the first and the last are read, and one page takes the
+    /// place of all: `O(log n)`, and the list of pages moves.
+    ///
+    /// # Errors
+    ///
+    /// Fails only if allocation fails. The set is then unchanged.
+    ///
+    /// ```
+    /// # use intervallum::proved::examples::*;
+    /// # fn main() -> Result<(), std::boxed::Box<dyn std::error::Error>> {
+    /// # let alloc = Global;
+    /// let mut a = PagedSet::new(alloc);
+    /// a.insert_interval(Interval::new(3, 8))?;
+    /// assert!(a.contains(&3) && a.contains(&8) && !a.contains(&9));
+    /// # Ok(())
+    /// # }
+    /// ```
+    ///
+    /// # Proved
+    ///
+    /// ```text
+    /// ensures ok { OnOk result (IsRunsOf self.new (Union (Covers self.old) (IsBetween interval))) }
+    /// ensures err { OnErr result (self.new ≡ self.old) }
+    /// ensures empty { HasNone (IsBetween interval) → IsOk result }
+    /// ```
+    ///
+    /// Words: [`IsRunsOf`](crate::definitions#IsRunsOf), [`Union`](crate::definitions#Union), [`Covers`](crate::definitions#Covers), [`IsBetween`](crate::definitions#IsBetween), [`HasNone`](crate::definitions#HasNone).
+    pub fn insert_interval(&mut self, interval: Interval<B>) -> Result<(), AllocError> {
+        self.in_whole();
+        if interval.is_empty() {
+            return Ok(());
+        }
+        interval.in_whole();
+        if self.pages.is_empty() {
+            return pages::push_first(self.alloc, &mut self.pages, interval);
+        }
+        pages::insert_interval(&mut self.pages, interval)
+    }
+
+    /// Removes the members of an interval, which may be empty.
+    ///
+    /// Binary search for the `k` pages that the interval overlaps, of which the first and the last
+    /// are cut and the others removed: `O(log n)`, and the list of pages moves if a page goes.
+    /// Allocates only if a run is split, or to join pages that have become short.
+    ///
+    /// # Errors
+    ///
+    /// Fails only if allocation fails. The set is then unchanged.
+    ///
+    /// ```
+    /// # use intervallum::proved::examples::*;
+    /// # fn main() -> Result<(), std::boxed::Box<dyn std::error::Error>> {
+    /// # let alloc = Global;
+    /// let mut a = PagedSet::new(alloc);
+    /// a.insert_interval(Interval::new(1, 9))?;
+    /// a.remove_interval(Interval::new(3, 8))?;
+    /// assert!(a.contains(&2) && !a.contains(&3) && a.contains(&9));
+    /// # Ok(())
+    /// # }
+    /// ```
+    ///
+    /// # Proved
+    ///
+    /// ```text
+    /// ensures ok { OnOk result (IsRunsOf self.new (Without (Covers self.old) (IsBetween interval))) }
+    /// ensures err { OnErr result (self.new ≡ self.old) }
+    /// ensures empty { HasNone (IsBetween interval) → IsOk result }
+    /// ensures in_place { ¬ (IsSubset (IsBetween (widened interval)) (Covers self.old)) → IsOk result }
+    /// ```
+    ///
+    /// Words: [`IsRunsOf`](crate::definitions#IsRunsOf), [`Without`](crate::definitions#Without), [`Covers`](crate::definitions#Covers), [`IsBetween`](crate::definitions#IsBetween), [`HasNone`](crate::definitions#HasNone), [`IsSubset`](crate::definitions#IsSubset), [`widened`](crate::definitions#widened).
+    pub fn remove_interval(&mut self, interval: Interval<B>) -> Result<(), AllocError> {
+        if interval.is_empty() || self.pages.is_empty() {
+            return Ok(());
+        }
+        pages::remove_interval(&mut self.pages, interval)
+    }
+
+    /// Removes and returns the least member, or returns `None` if the set is empty. `O(log n)`; if a
+    /// page then has no runs, the list of pages moves. Never fails.
+    ///
+    /// ```
+    /// # use intervallum::proved::examples::*;
+    /// # fn main() -> Result<(), std::boxed::Box<dyn std::error::Error>> {
+    /// # let alloc = Global;
+    /// let mut a = PagedSet::new(alloc);
+    /// a.insert_interval(Interval::new(1, 5))?;
+    /// assert_eq!(a.pop_first(), Some(1));
+    /// assert!(!a.contains(&1) && a.contains(&2));
+    /// # Ok(())
+    /// # }
+    /// ```
+    ///
+    /// # Proved
+    ///
+    /// ```text
+    /// ensures none { IfNone result ((self.old ≡ []) × (self.new ≡ [])) }
+    /// ensures member { IfSome result (λ v. Covers self.old (B.value v)) }
+    /// ensures least { IfSome result (λ v. (z : ℤ) → Covers self.old z → B.value v ≤ℤ z) }
+    /// ensures others { IfSome result (λ v. IsRunsOf self.new (Without (Covers self.old) (Only (B.value v)))) }
+    /// ensures in_range { IfSome result (λ v. IsBetween B.whole (B.value v)) }
+    /// ```
+    ///
+    /// Words: [`Covers`](crate::definitions#Covers), [`IsRunsOf`](crate::definitions#IsRunsOf), [`Without`](crate::definitions#Without), [`Only`](crate::definitions#Only), [`IsBetween`](crate::definitions#IsBetween).
+    pub fn pop_first(&mut self) -> Option<B> {
+        self.in_whole();
+        match self.first() {
+            Some(least) => {
+                self.remove_interval(Interval::singleton(least)).unwrap();
+                Some(least)
+            }
+            None => None,
+        }
+    }
+
+    /// Removes and returns the greatest member, or returns `None` if the set is empty. `O(log n)`.
+    /// Never fails.
+    ///
+    /// ```
+    /// # use intervallum::proved::examples::*;
+    /// # fn main() -> Result<(), std::boxed::Box<dyn std::error::Error>> {
+    /// # let alloc = Global;
+    /// let mut a = PagedSet::new(alloc);
+    /// a.insert_interval(Interval::new(1, 5))?;
+    /// assert_eq!(a.pop_last(), Some(5));
+    /// assert!(!a.contains(&5) && a.contains(&4));
+    /// # Ok(())
+    /// # }
+    /// ```
+    ///
+    /// # Proved
+    ///
+    /// ```text
+    /// ensures none { IfNone result ((self.old ≡ []) × (self.new ≡ [])) }
+    /// ensures member { IfSome result (λ v. Covers self.old (B.value v)) }
+    /// ensures greatest { IfSome result (λ v. (z : ℤ) → Covers self.old z → z ≤ℤ B.value v) }
+    /// ensures others { IfSome result (λ v. IsRunsOf self.new (Without (Covers self.old) (Only (B.value v)))) }
+    /// ensures in_range { IfSome result (λ v. IsBetween B.whole (B.value v)) }
+    /// ```
+    ///
+    /// Words: [`Covers`](crate::definitions#Covers), [`IsRunsOf`](crate::definitions#IsRunsOf), [`Without`](crate::definitions#Without), [`Only`](crate::definitions#Only), [`IsBetween`](crate::definitions#IsBetween).
+    pub fn pop_last(&mut self) -> Option<B> {
+        self.in_whole();
+        match self.last() {
+            Some(greatest) => {
+                self.remove_interval(Interval::singleton(greatest)).unwrap();
+                Some(greatest)
+            }
+            None => None,
+        }
+    }
+
+    /// Removes all members. Keeps the capacity of the list of pages. `O(n / page)`: drops each page.
+    /// Does not allocate.
+    ///
+    /// ```
+    /// # use intervallum::proved::examples::*;
+    /// # fn main() -> Result<(), std::boxed::Box<dyn std::error::Error>> {
+    /// # let alloc = Global;
+    /// let mut a = PagedSet::new(alloc);
+    /// a.insert_interval(Interval::new(1, 9))?;
+    /// a.clear();
+    /// assert!(a.is_empty());
+    /// # Ok(())
+    /// # }
+    /// ```
+    ///
+    /// # Proved
+    ///
+    /// ```text
+    /// ensures { self.new ≡ [] }
+    /// ```
+    pub fn clear(&mut self) {
+        self.pages.clear();
+    }
+
+    /// Does nothing: its contract states that the runs are maximal and in the range.
+    ///
+    /// ```
+    /// # use intervallum::proved::examples::*;
+    /// # fn main() -> Result<(), std::boxed::Box<dyn std::error::Error>> {
+    /// # let alloc = Global;
+    /// let a = PagedSet::<i32>::new(alloc);
+    /// a.in_whole(); // a proof knows from here on that the members of `a` are in the range
+    /// assert!(!a.contains(&i32::MIN));
+    /// # Ok(())
+    /// # }
+    /// ```
+    ///
+    /// # Proved
+    ///
+    /// ```text
+    /// ensures { IsRunListIn B.whole self.now }
+    /// ```
+    ///
+    /// Words: [`IsRunListIn`](crate::definitions#IsRunListIn).
+    pub fn in_whole(&self) {
+        let _pages = &self.pages;
+    }
+
+    /// Returns the set with its runs in one vector, which grows as it is filled. `O(n)`. Fails only
+    /// if allocation fails.
+    ///
+    /// ```
+    /// # use intervallum::proved::examples::*;
+    /// # fn main() -> Result<(), std::boxed::Box<dyn std::error::Error>> {
+    /// # let alloc = Global;
+    /// let mut a = PagedSet::new(alloc);
+    /// a.insert_interval(Interval::new(1, 9))?;
+    /// assert!(a.to_set()? == IntervalSet::new(alloc, 1, 9)?);
+    /// # Ok(())
+    /// # }
+    /// ```
+    ///
+    /// # Proved
+    ///
+    /// ```text
+    /// ensures { IfOk result (λ L. L ≡ self.now) }
+    /// ```
+    pub fn to_set(&self) -> Result<IntervalSet<B>, AllocError> {
+        let mut runs = Vec::new(self.alloc);
+        for page in &self.pages {
+            runs.extend_from_slice(page.set().iter().as_slice())?;
+        }
+        coalesce(self.alloc, runs)
+    }
+}

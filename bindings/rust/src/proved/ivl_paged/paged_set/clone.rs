@@ -1,0 +1,39 @@
+//! Copies of a set.
+
+#[allow(unused_imports)]
+use crate::rattle::prelude::*;
+use super::PagedSet;
+use crate::proved::intervallum::width::Width;
+use crate::rattle::std::alloc::AllocError;
+
+impl<B: Width> PagedSet<B> {
+    /// Returns a copy of the set, page by page. `O(n)`. Fails only if allocation fails.
+    ///
+    /// ```
+    /// # use intervallum::proved::examples::*;
+    /// # fn main() -> Result<(), std::boxed::Box<dyn std::error::Error>> {
+    /// # let alloc = Global;
+    /// let mut a = PagedSet::new(alloc);
+    /// a.insert_interval(Interval::new(1, 5))?;
+    /// assert!(a.try_clone()? == a);
+    /// # Ok(())
+    /// # }
+    /// ```
+    ///
+    /// # Proved
+    ///
+    /// ```text
+    /// ensures { IfOk result (λ L. L ≡ self.now) }
+    /// ```
+    pub fn try_clone(&self) -> Result<Self, AllocError> {
+        self.in_whole();
+        let mut pages = Vec::with_capacity(self.alloc, self.pages.len())?;
+        for page in &self.pages {
+            pages.push(page.try_clone()?)?;
+        }
+        Ok(PagedSet {
+            alloc: self.alloc,
+            pages,
+        })
+    }
+}

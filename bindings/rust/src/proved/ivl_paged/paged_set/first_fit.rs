@@ -1,0 +1,123 @@
+//! Consecutive members.
+
+#[allow(unused_imports)]
+use crate::rattle::prelude::*;
+use super::PagedSet;
+use crate::proved::ivl_paged::pages;
+use crate::proved::intervallum::interval::Interval;
+use crate::proved::intervallum::width::Width;
+
+impl<B: Width> PagedSet<B> {
+    /// Returns the lowest interval of exactly `count` consecutive members, or `None` if there is
+    /// none. The caller must ensure that `count` is above 0. Check with `count.number() > 0`.
+    ///
+    /// Reads how long the longest run of each page is, up to the first that is long enough, and
+    /// scans that page: `O(n / page)`. Does not allocate.
+    ///
+    /// ```
+    /// # use intervallum::proved::examples::*;
+    /// # fn main() -> Result<(), std::boxed::Box<dyn std::error::Error>> {
+    /// # let alloc = Global;
+    /// let mut a = PagedSet::new(alloc);
+    /// a.insert_interval(Interval::new(1, 2))?;
+    /// a.insert_interval(Interval::new(5, 9))?;
+    /// assert!(a.first_fit(3) == Some(Interval::new(5, 7)));
+    /// assert!(a.first_fit(6).is_none());
+    /// # Ok(())
+    /// # }
+    /// ```
+    ///
+    /// # Proved
+    ///
+    /// ```text
+    /// requires { 0 < B.Output.size count }
+    /// ensures { MatchOption result
+    ///     ((v : ℤ) → ¬ (FitsAt (B.Output.size count) (Covers self.now) v))
+    ///     (IsFirstFit (B.Output.size count) (Covers self.now)) }
+    /// ```
+    ///
+    /// Words: [`FitsAt`](crate::definitions#FitsAt), [`Covers`](crate::definitions#Covers), [`IsFirstFit`](crate::definitions#IsFirstFit).
+    pub fn first_fit(&self, count: B::Output) -> Option<Interval<B>> {
+        debug_assert!({ #[allow(unused_imports)] use crate::proved::ivl_interval::ops::*; crate::proved::ivl_interval::width::SizeNumber::number(count) > 0 }, "{}", "the condition of `first_fit` is broken: crate::proved::ivl_interval::width::SizeNumber::number(count) > 0");
+        pages::fit_in(&self.pages, count)
+    }
+
+    /// Returns the lowest interval of exactly `count` consecutive members that are all at least
+    /// `v`, or `None` if there is none. `v` may be any value of its type. The caller must ensure
+    /// that `count` is above 0. Check with `count.number() > 0`.
+    ///
+    /// Finds `v` by binary search, scans its page, and goes on as [`PagedSet::first_fit`] does:
+    /// `O(n / page)`. Does not allocate.
+    ///
+    /// ```
+    /// # use intervallum::proved::examples::*;
+    /// # fn main() -> Result<(), std::boxed::Box<dyn std::error::Error>> {
+    /// # let alloc = Global;
+    /// let mut a = PagedSet::new(alloc);
+    /// a.insert_interval(Interval::new(5, 9))?;
+    /// assert!(a.first_fit_from(6, 3) == Some(Interval::new(6, 8)));
+    /// assert!(a.first_fit_from(8, 3).is_none());
+    /// # Ok(())
+    /// # }
+    /// ```
+    ///
+    /// # Proved
+    ///
+    /// ```text
+    /// requires { 0 < B.Output.size count }
+    /// ensures { MatchOption result
+    ///     ((w : ℤ) → ¬ (FitsAt (B.Output.size count) (AtLeast (B.value v) (Covers self.now)) w))
+    ///     (IsFirstFit (B.Output.size count) (AtLeast (B.value v) (Covers self.now))) }
+    /// ```
+    ///
+    /// Words: [`FitsAt`](crate::definitions#FitsAt), [`AtLeast`](crate::definitions#AtLeast), [`Covers`](crate::definitions#Covers), [`IsFirstFit`](crate::definitions#IsFirstFit).
+    pub fn first_fit_from(&self, v: B, count: B::Output) -> Option<Interval<B>> {
+        debug_assert!({ #[allow(unused_imports)] use crate::proved::ivl_interval::ops::*; crate::proved::ivl_interval::width::SizeNumber::number(count) > 0 }, "{}", "the condition of `first_fit_from` is broken: crate::proved::ivl_interval::width::SizeNumber::number(count) > 0");
+        let place = pages::starts_up_to(&self.pages, v);
+        match pages::fit_within(&self.pages, place, v, count) {
+            Some(run) => Some(run),
+            None => pages::fit_in(&self.pages[place..], count),
+        }
+    }
+
+    /// Removes and returns the lowest interval of exactly `count` consecutive members, or returns
+    /// `None` if there is none; the set is then unchanged. The caller must ensure that `count` is
+    /// above 0. Check with `count.number() > 0`.
+    ///
+    /// The interval is the start of a run, so no run is split and nothing can fail. Costs as much
+    /// as [`PagedSet::first_fit`]; if a page then has no runs, the list of pages moves.
+    ///
+    /// ```
+    /// # use intervallum::proved::examples::*;
+    /// # fn main() -> Result<(), std::boxed::Box<dyn std::error::Error>> {
+    /// # let alloc = Global;
+    /// let mut free = PagedSet::new(alloc);
+    /// free.insert_interval(Interval::new(1, 2))?;
+    /// free.insert_interval(Interval::new(5, 9))?;
+    /// assert!(free.take_first_fit(3) == Some(Interval::new(5, 7)));
+    /// assert!(free.first() == Some(1) && !free.contains(&7) && free.contains(&8));
+    /// assert!(free.take_first_fit(3).is_none());
+    /// # Ok(())
+    /// # }
+    /// ```
+    ///
+    /// # Proved
+    ///
+    /// ```text
+    /// requires { 0 < B.Output.size count }
+    /// ensures fit { MatchOption result
+    ///     ((v : ℤ) → ¬ (FitsAt (B.Output.size count) (Covers self.old) v))
+    ///     (IsFirstFit (B.Output.size count) (Covers self.old)) }
+    /// ensures members { MatchOption result
+    ///     (self.new ≡ self.old)
+    ///     (λ run. IsRunsOf self.new (Without (Covers self.old) (IsBetween run))) }
+    /// ```
+    ///
+    /// Words: [`FitsAt`](crate::definitions#FitsAt), [`Covers`](crate::definitions#Covers), [`IsFirstFit`](crate::definitions#IsFirstFit), [`IsRunsOf`](crate::definitions#IsRunsOf), [`Without`](crate::definitions#Without), [`IsBetween`](crate::definitions#IsBetween).
+    pub fn take_first_fit(&mut self, count: B::Output) -> Option<Interval<B>> {
+        debug_assert!({ #[allow(unused_imports)] use crate::proved::ivl_interval::ops::*; crate::proved::ivl_interval::width::SizeNumber::number(count) > 0 }, "{}", "the condition of `take_first_fit` is broken: crate::proved::ivl_interval::width::SizeNumber::number(count) > 0");
+        let run = self.first_fit(count)?;
+        self.remove_interval(run).unwrap();
+        Some(run)
+    }
+}

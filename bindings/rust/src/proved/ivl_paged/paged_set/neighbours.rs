@@ -1,0 +1,115 @@
+//! Neighbours of a value: the next and the previous member, and the run that holds it.
+
+#[allow(unused_imports)]
+use crate::rattle::prelude::*;
+use super::PagedSet;
+use crate::proved::ivl_paged::pages;
+use crate::proved::intervallum::interval::Interval;
+use crate::proved::intervallum::width::Width;
+
+impl<B: Width> PagedSet<B> {
+    /// Returns the least member that is at least `v`, or `None` if there is none. `v` may be any
+    /// value of its type. Binary search: `O(log n)`. Does not allocate.
+    ///
+    /// ```
+    /// # use intervallum::proved::examples::*;
+    /// # fn main() -> Result<(), std::boxed::Box<dyn std::error::Error>> {
+    /// # let alloc = Global;
+    /// let mut a = PagedSet::new(alloc);
+    /// assert!(a.insert(2)? && a.insert(5)?);
+    /// assert_eq!(a.next_from(2), Some(2));
+    /// assert_eq!(a.next_from(3), Some(5));
+    /// assert_eq!(a.next_from(7), None);
+    /// # Ok(())
+    /// # }
+    /// ```
+    ///
+    /// # Proved
+    ///
+    /// ```text
+    /// ensures { MatchOption result
+    ///     (HasNone (AtLeast (B.value v) (Covers self.now)))
+    ///     (λ x. IsLeast (B.value x) (AtLeast (B.value v) (Covers self.now))) }
+    /// ```
+    ///
+    /// Words: [`HasNone`](crate::definitions#HasNone), [`AtLeast`](crate::definitions#AtLeast), [`Covers`](crate::definitions#Covers), [`IsLeast`](crate::definitions#IsLeast).
+    pub fn next_from(&self, v: B) -> Option<B> {
+        let count = pages::starts_up_to(&self.pages, v);
+        match pages::next_within(&self.pages, count, v) {
+            Some(next) => Some(next),
+            None => {
+                if count < self.pages.len() {
+                    Some(self.pages[count].head())
+                } else {
+                    None
+                }
+            }
+        }
+    }
+
+    /// Returns the greatest member that is at most `v`, or `None` if there is none. `v` may be any
+    /// value of its type. Binary search: `O(log n)`. Does not allocate.
+    ///
+    /// ```
+    /// # use intervallum::proved::examples::*;
+    /// # fn main() -> Result<(), std::boxed::Box<dyn std::error::Error>> {
+    /// # let alloc = Global;
+    /// let mut a = PagedSet::new(alloc);
+    /// assert!(a.insert(2)? && a.insert(5)?);
+    /// assert_eq!(a.previous_to(5), Some(5));
+    /// assert_eq!(a.previous_to(4), Some(2));
+    /// assert_eq!(a.previous_to(0), None);
+    /// # Ok(())
+    /// # }
+    /// ```
+    ///
+    /// # Proved
+    ///
+    /// ```text
+    /// ensures { MatchOption result
+    ///     (HasNone (AtMost (B.value v) (Covers self.now)))
+    ///     (λ x. IsGreatest (B.value x) (AtMost (B.value v) (Covers self.now))) }
+    /// ```
+    ///
+    /// Words: [`HasNone`](crate::definitions#HasNone), [`AtMost`](crate::definitions#AtMost), [`Covers`](crate::definitions#Covers), [`IsGreatest`](crate::definitions#IsGreatest).
+    pub fn previous_to(&self, v: B) -> Option<B> {
+        let count = pages::starts_up_to(&self.pages, v);
+        if count == 0 {
+            return None;
+        }
+        self.pages[count - 1].set().previous_to(v)
+    }
+
+    /// Returns the run that holds `v`, the longest interval of members with `v` in it, or `None` if
+    /// `v` is not a member. `v` may be any value of its type. Binary search: `O(log n)`. Does not
+    /// allocate.
+    ///
+    /// ```
+    /// # use intervallum::proved::examples::*;
+    /// # fn main() -> Result<(), std::boxed::Box<dyn std::error::Error>> {
+    /// # let alloc = Global;
+    /// let mut a = PagedSet::new(alloc);
+    /// a.insert_interval(Interval::new(5, 6))?;
+    /// assert!(a.run_at(6) == Some(Interval::new(5, 6)));
+    /// assert!(a.run_at(3).is_none());
+    /// # Ok(())
+    /// # }
+    /// ```
+    ///
+    /// # Proved
+    ///
+    /// ```text
+    /// ensures { MatchOption result
+    ///     (¬ (Covers self.now (B.value v)))
+    ///     (IsRunWith (B.value v) (Covers self.now)) }
+    /// ```
+    ///
+    /// Words: [`Covers`](crate::definitions#Covers), [`IsRunWith`](crate::definitions#IsRunWith).
+    pub fn run_at(&self, v: B) -> Option<Interval<B>> {
+        let count = pages::starts_up_to(&self.pages, v);
+        if count == 0 {
+            return None;
+        }
+        self.pages[count - 1].set().run_at(v)
+    }
+}

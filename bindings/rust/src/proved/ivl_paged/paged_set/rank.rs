@@ -1,0 +1,101 @@
+//! The number of members, and members by the number of members below them.
+
+#[allow(unused_imports)]
+use crate::rattle::prelude::*;
+use super::PagedSet;
+use crate::proved::ivl_paged::pages;
+use crate::proved::intervallum::ops::Cardinality;
+use crate::proved::intervallum::width::{SizeNumber, Width};
+
+impl<B: Width> PagedSet<B> {
+    /// Returns the number of members. Adds up what each page has: `O(n / page)`. Never overflows.
+    /// Does not allocate.
+    ///
+    /// ```
+    /// # use intervallum::proved::examples::*;
+    /// # fn main() -> Result<(), std::boxed::Box<dyn std::error::Error>> {
+    /// # let alloc = Global;
+    /// let mut a = PagedSet::new(alloc);
+    /// a.insert_interval(Interval::new(1, 5))?;
+    /// assert_eq!(a.size(), 5u32);
+    /// # Ok(())
+    /// # }
+    /// ```
+    ///
+    /// # Proved
+    ///
+    /// ```text
+    /// ensures { IsCountOf (B.Output.size result) (Covers self.now) }
+    /// ```
+    ///
+    /// Words: [`IsCountOf`](crate::definitions#IsCountOf), [`Covers`](crate::definitions#Covers).
+    pub fn size(&self) -> B::Output {
+        pages::size_of(&self.pages)
+    }
+
+    /// Returns the number of members below `v`, which may be any value of its type. Adds up what
+    /// each page below has, and scans one page: `O(n / page)`. Does not allocate.
+    ///
+    /// ```
+    /// # use intervallum::proved::examples::*;
+    /// # fn main() -> Result<(), std::boxed::Box<dyn std::error::Error>> {
+    /// # let alloc = Global;
+    /// let mut a = PagedSet::new(alloc);
+    /// assert!(a.insert(2)? && a.insert(5)?);
+    /// assert!(a.rank(2) == 0 && a.rank(5) == 1 && a.rank(6) == 2);
+    /// # Ok(())
+    /// # }
+    /// ```
+    ///
+    /// # Proved
+    ///
+    /// ```text
+    /// ensures { IsCountOf (B.Output.size result) (Below (B.value v) (Covers self.now)) }
+    /// ```
+    ///
+    /// Words: [`IsCountOf`](crate::definitions#IsCountOf), [`Below`](crate::definitions#Below), [`Covers`](crate::definitions#Covers).
+    pub fn rank(&self, v: B) -> B::Output {
+        let count = pages::starts_up_to(&self.pages, v);
+        if count == 0 {
+            return <B::Output as SizeNumber>::zero();
+        }
+        let below = pages::size_of(&self.pages[..count - 1]);
+        let here = self.pages[count - 1].set().rank(v);
+        below.add_in_range(here)
+    }
+
+    /// Returns the member with exactly `i` members below it, or `None` if the set has no more than
+    /// `i` members. Reads how many each page has, and scans one page: `O(n / page)`. Does not
+    /// allocate.
+    ///
+    /// ```
+    /// # use intervallum::proved::examples::*;
+    /// # fn main() -> Result<(), std::boxed::Box<dyn std::error::Error>> {
+    /// # let alloc = Global;
+    /// let mut a = PagedSet::new(alloc);
+    /// assert!(a.insert(2)? && a.insert(5)?);
+    /// assert!(a.nth(0) == Some(2) && a.nth(1) == Some(5) && a.nth(2).is_none());
+    /// # Ok(())
+    /// # }
+    /// ```
+    ///
+    /// # Proved
+    ///
+    /// ```text
+    /// ensures { MatchOption result
+    ///     ((n : ℕ) → IsCountOf n (Covers self.now) → n ≤ B.Output.size i)
+    ///     (λ x. Covers self.now (B.value x) × IsCountOf (B.Output.size i) (Below (B.value x) (Covers self.now))) }
+    /// ```
+    ///
+    /// Words: [`IsCountOf`](crate::definitions#IsCountOf), [`Covers`](crate::definitions#Covers), [`Below`](crate::definitions#Below).
+    pub fn nth(&self, i: B::Output) -> Option<B> {
+        let mut left = i;
+        for page in &self.pages {
+            match left.checked_sub(page.set().size()) {
+                Some(rest) => left = rest,
+                None => return page.set().nth(left),
+            }
+        }
+        None
+    }
+}

@@ -1,0 +1,47 @@
+//! The text of a set.
+
+#[allow(unused_imports)]
+use crate::rattle::prelude::*;
+use super::PagedSet;
+use crate::proved::intervallum::width::Width;
+use crate::rattle::std::fmt;
+
+/// Proved, with these words of the trait:
+///
+/// ```text
+/// output = { set_text (λ p. interval_text p (B.output (B.at p.0)) (B.output (B.at p.1))) }
+/// styled_output = { λ L _. styled_set_text L }
+/// ```
+///
+/// Words: [`set_text`](crate::definitions#set_text), [`interval_text`](crate::definitions#interval_text), [`styled_set_text`](crate::definitions#styled_set_text).
+impl<B: Width + fmt::Display> fmt::Display for PagedSet<B> {
+    /// Writes `{}` if the set is empty, `[1..5]` for one run, and `{[1..2][5..5]}` for more. Width
+    /// and fill of the formatter have no effect. `O(n)`. Allocates nothing itself. The only errors
+    /// are those of the formatter and of the texts of the bounds.
+    ///
+    /// ```
+    /// # use intervallum::proved::examples::*;
+    /// # fn main() -> Result<(), std::boxed::Box<dyn std::error::Error>> {
+    /// # let alloc = Global;
+    /// let mut a = PagedSet::new(alloc);
+    /// assert!(a.insert(2)? && a.insert(5)?);
+    /// assert_eq!(format!("{a}").as_str(), "{[2..2][5..5]}");
+    /// # Ok(())
+    /// # }
+    /// ```
+    fn fmt(&self, f: &mut fmt::Formatter) -> fmt::Result {
+        let mut ahead = self.iter();
+        let Some(first) = ahead.next() else {
+            return f.write_str("{}");
+        };
+        if ahead.next().is_none() {
+            return write!(f, "{first}");
+        }
+        f.write_str("{")?;
+        let mut left = self.iter();
+        'runs: while let Some(run) = left.next() {
+            write!(f, "{run}")?;
+        }
+        f.write_str("}")
+    }
+}

@@ -1,0 +1,277 @@
+//! Searches and edits in a list of pages, which together hold one list of runs.
+
+#[allow(unused_imports)]
+use crate::rattle::prelude::*;
+use crate::proved::ivl_paged::page::Page;
+use crate::proved::intervallum::interval::Interval;
+use crate::proved::intervallum::interval_set::IntervalSet;
+use crate::proved::intervallum::ops::{Bounded, Cardinality, IsEmpty, ShrinkLeft, StrictShrinkRight, Union};
+use crate::proved::intervallum::sweep::coalesce;
+use crate::proved::intervallum::width::{SizeNumber, Width};
+use crate::rattle::std::alloc::{AllocError, Global};
+use crate::rattle::std::hint::select_unpredictable;
+
+/// How many runs a page has at most, unless an allocation failed that would have split it. With 8 in
+/// its place, the tests split and join pages at almost every edit.
+const MOST_RUNS: usize = 128;
+
+/// How many runs a page has at most that is looked at as one to join.
+const FEW_RUNS: usize = MOST_RUNS / 2;
+
+/// How many runs a page has where a list of runs is put into pages, and at most where two are joined.
+const FIRST_RUNS: usize = MOST_RUNS / 4 * 3;
+
+/// The runs of a list in pages that have room for more.
+pub(crate) fn pages_of<B: Width>(
+    alloc: Global,
+    runs: &[Interval<B>],
+) -> Result<Vec<Page<B>>, AllocError> {
+    let mut pages = Vec::new(alloc);
+    let mut start = 0;
+    'parts: while start < runs.len() {
+        let end = start.saturating_add(FIRST_RUNS).min(runs.len());
+        pages.push(page_of(alloc, &runs[start..end])?)?;
+        start = end;
+    }
+    Ok(pages)
+}
+
+/// A page of some runs, of which there is one at least.
+fn page_of<B: Width>(alloc: Global, runs: &[Interval<B>]) -> Result<Page<B>, AllocError> {
+    let set = coalesce(alloc, Vec::from_slice(alloc, runs)?)?;
+    Ok(Page::of(set))
+}
+
+/// How many pages start at a value or below. Binary search.
+pub(crate) fn starts_up_to<B: Width>(pages: &[Page<B>], value: B) -> usize {
+    let mut first = 0;
+    let mut left = pages.len();
+    'search: while 0 < left {
+        let half = left - left / 2;
+        left -= half;
+        let is_up_to = pages[first + half - 1].head() <= value;
+        first = select_unpredictable(is_up_to, first + half, first);
+    }
+    first
+}
+
+/// How many members pages have together.
+pub(crate) fn size_of<B: Width>(pages: &[Page<B>]) -> B::Output {
+    let mut count = <B::Output as SizeNumber>::zero();
+    for page in pages {
+        count = count.add_in_range(page.set().size());
+    }
+    count
+}
+
+/// The least member that is at least `v` in the first `count` pages, which are those that start at
+/// `v` or below. Only the last of them can have it.
+pub(crate) fn next_within<B: Width>(pages: &[Page<B>], count: usize, v: B) -> Option<B> {
+    if count == 0 {
+        return None;
+    }
+    pages[count - 1].set().next_from(v)
+}
+
+/// The lowest `count` consecutive members of pages. Pages whose longest run is shorter are not read.
+pub(crate) fn fit_in<B: Width>(pages: &[Page<B>], count: B::Output) -> Option<Interval<B>> {
+    for page in pages {
+        if page.longest() >= count {
+            return page.set().first_fit(count);
+        }
+    }
+    None
+}
+
+/// The lowest `count` consecutive members that are at least `v` in the first `place` pages, which
+/// are those that start at `v` or below. Only the last of them can have them.
+pub(crate) fn fit_within<B: Width>(
+    pages: &[Page<B>],
+    place: usize,
+    v: B,
+    count: B::Output,
+) -> Option<Interval<B>> {
+    if place == 0 {
+        return None;
+    }
+    pages[place - 1].set().first_fit_from(v, count)
+}
+
+/// The places of the pages that a change of the numbers from `lower` to `upper` may touch: the
+/// first, and the one after the last. It is one page at least.
+fn span<B: Width>(pages: &[Page<B>], lower: B, upper: B) -> (usize, usize) {
+    let start = starts_up_to(pages, lower);
+    let end = starts_up_to(pages, upper);
+    (start.saturating_sub(1), end.max(1))
+}
+
+/// The number after, or the number itself if it is the greatest of the range.
+fn one_above<B: Width>(value: B) -> B {
+    match value.checked_add(B::one()) {
+        Some(above) => above,
+        None => value,
+    }
+}
+
+/// Puts an interval into the first page of a list that has none.
+pub(crate) fn push_first<B: Width>(
+    alloc: Global,
+    pages: &mut Vec<Page<B>>,
+    interval: Interval<B>,
+) -> Result<(), AllocError> {
+    let first = IntervalSet::of(alloc, interval)?;
+    pages.push(Page::of(first))?;
+    Ok(())
+}
+
+/// Adds the members of an interval to pages of which there is one at least.
+pub(crate) fn insert_interval<B: Width>(
+    pages: &mut Vec<Page<B>>,
+    interval: Interval<B>,
+) -> Result<(), AllocError> {
+    interval.in_whole();
+    let upper = one_above(interval.upper());
+    let (start, end) = span(pages, interval.lower(), upper);
+    insert_between(pages, start, end, interval)?;
+    balance(pages, start);
+    Ok(())
+}
+
+/// Adds the members of an interval to the pages from `start` to before `end`.
+fn insert_between<B: Width>(
+    pages: &mut Vec<Page<B>>,
+    start: usize,
+    end: usize,
+    interval: Interval<B>,
+) -> Result<(), AllocError> {
+    if end - start == 1 {
+        let page = &mut pages[start];
+        return page.insert_interval(interval);
+    }
+    let mut joined = pages[start].set().union(pages[end - 1].set())?;
+    joined.insert_interval(interval)?;
+    replace(pages, start, end, joined);
+    Ok(())
+}
+
+/// Removes the members of an interval from pages of which there is one at least.
+pub(crate) fn remove_interval<B: Width>(
+    pages: &mut Vec<Page<B>>,
+    interval: Interval<B>,
+) -> Result<(), AllocError> {
+    let (start, end) = span(pages, interval.lower(), interval.upper());
+    remove_between(pages, start, end, interval)?;
+    balance(pages, start);
+    Ok(())
+}
+
+/// Removes the members of an interval from the pages from `start` to before `end`. Of several, the
+/// first and the last are cut, and those between removed: nothing is allocated.
+fn remove_between<B: Width>(
+    pages: &mut Vec<Page<B>>,
+    start: usize,
+    end: usize,
+    interval: Interval<B>,
+) -> Result<(), AllocError> {
+    if end - start == 1 {
+        return remove_from_one(pages, start, interval);
+    }
+    remove_from_one(pages, end - 1, interval).unwrap();
+    take_out(pages, start + 1, end - 1);
+    remove_from_one(pages, start, interval).unwrap();
+    Ok(())
+}
+
+/// Removes the members of an interval from page `i`, and the page if it has no others.
+fn remove_from_one<B: Width>(
+    pages: &mut Vec<Page<B>>,
+    i: usize,
+    interval: Interval<B>,
+) -> Result<(), AllocError> {
+    let page = &mut pages[i];
+    if page.lies_within(&interval) {
+        pages.remove(i);
+        return Ok(());
+    }
+    page.remove_interval(interval)
+}
+
+/// Puts one page, or none if the set is empty, in the place of those from `start` to before `end`.
+fn replace<B: Width>(pages: &mut Vec<Page<B>>, start: usize, end: usize, set: IntervalSet<B>) {
+    if set.is_empty() {
+        take_out(pages, start, end);
+    } else {
+        take_out(pages, start + 1, end);
+        put(pages, start, Page::of(set));
+    }
+}
+
+/// Takes out the pages from `start` to before `end`.
+fn take_out<B: Width>(pages: &mut Vec<Page<B>>, start: usize, end: usize) {
+    drop(pages.drain(start..end));
+}
+
+/// Puts a page in the place of another.
+fn put<B: Width>(pages: &mut Vec<Page<B>>, i: usize, page: Page<B>) {
+    pages[i] = page;
+}
+
+/// Splits page `i` if there is one and it is full, or joins it with a neighbour if both have few
+/// runs. If allocation fails, the pages stay as they are.
+fn balance<B: Width>(pages: &mut Vec<Page<B>>, i: usize) {
+    if pages.len() <= i {
+        return;
+    }
+    let count = pages[i].set().interval_count();
+    if count > MOST_RUNS {
+        // without memory the page grows beyond its measure
+        let _split = split(pages, i);
+    } else if count <= FEW_RUNS {
+        join_neighbours(pages, i);
+    }
+}
+
+/// Joins page `i` with the one after it, and with the one before it, where both have few runs.
+fn join_neighbours<B: Width>(pages: &mut Vec<Page<B>>, i: usize) {
+    join_if_few(pages, i);
+    if i > 0 {
+        join_if_few(pages, i - 1);
+    }
+}
+
+/// Joins page `i` with the one after it, if there is one and both have few runs together.
+fn join_if_few<B: Width>(pages: &mut Vec<Page<B>>, i: usize) {
+    if pages.len() < 2 || pages.len() - 2 < i {
+        return;
+    }
+    let here = pages[i].set().interval_count();
+    let next = pages[i + 1].set().interval_count();
+    if here.saturating_add(next) <= FIRST_RUNS {
+        // without memory both pages stay
+        let _joined = join(pages, i);
+    }
+}
+
+/// Puts the runs of page `i` and of the one after it in one page.
+fn join<B: Width>(pages: &mut Vec<Page<B>>, i: usize) -> Result<(), AllocError> {
+    let both = pages[i].set().union(pages[i + 1].set())?;
+    replace(pages, i, i + 2, both);
+    Ok(())
+}
+
+/// Splits page `i`, which has two runs at least, in the middle.
+fn split<B: Width>(pages: &mut Vec<Page<B>>, i: usize) -> Result<(), AllocError> {
+    let (low, high) = halves(pages[i].set())?;
+    pages.insert(i + 1, high)?;
+    put(pages, i, low);
+    Ok(())
+}
+
+/// The pages of the first and of the second half of the runs of a set, which has two at least.
+fn halves<B: Width>(set: &IntervalSet<B>) -> Result<(Page<B>, Page<B>), AllocError> {
+    let runs = set.iter().as_slice();
+    let middle = runs[runs.len() / 2].lower();
+    let low = set.strict_shrink_right(middle)?;
+    let high = set.shrink_left(middle)?;
+    Ok((Page::of(low), Page::of(high)))
+}
