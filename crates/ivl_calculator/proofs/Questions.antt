@@ -2,10 +2,10 @@
 use Rattle.std.proofs.Common.{◌≡◌, ◌↔◌, inl, inr, ℕ, ◌<◌, ℤ, Bool, false, Option, IsTrue, List, [], ◌∷◌, length, slice_index_or, refl, sym, ap, subst}
 use Rattle.std.proofs.lemmas.List.Elements.{All-nil, All-cons, All-head, All-tail}
 use Rattle.std.proofs.Math.Bool.{true≢false}
-use Rattle.std.specs.Prelude.{All}
+use Rattle.std.specs.Prelude.{All, MatchOption, None, Some, option_map}
 use Rattle.ivl_laws.specs.Counts.{IsCountOf}
 use Rattle.ivl_laws.specs.Runs.{Covers, IsMaximal}
-use Rattle.ivl_laws.specs.Sets.{HasSome, Intersection, IsSubset, SameMembers}
+use Rattle.ivl_laws.specs.Sets.{HasNone, HasSome, Intersection, IsSubset, SameMembers}
 use Rattle.ivl_laws.proofs.SetLaws.{same_members_refl}
 use Rattle.ivl_calculator.specs.declared.reply.Refusal.TheVariants.{Register}
 use Rattle.ivl_calculator.specs.Actions.{Question, size, count, low, high, same, subset, meets, ask, Answer, flag, sized, counted, value, refused}
@@ -35,11 +35,17 @@ module _ (whole : ℤ × ℤ) (s : List (List (ℤ × ℤ))) (question : Questio
 pub size_seen : (s : List (List (ℤ × ℤ))) (a n : ℕ) (L : List (ℤ × ℤ)) → L ≡ slice_index_or s a [] → IsCountOf n (Covers L) → IsAnswerTo s (size a) (sized n)
 size_seen s a n L seen h = (n, refl, subst (λ (M : List (ℤ × ℤ)). IsCountOf n (Covers M)) seen h)
 
-pub low_seen : (s : List (List (ℤ × ℤ))) (a : ℕ) (end : Option ℤ) (L : List (ℤ × ℤ)) → L ≡ slice_index_or s a [] → IsEndOf IsLeastOf (Covers L) end → IsAnswerTo s (low a) (value end)
-low_seen s a end L seen h = (end, refl, subst (λ (M : List (ℤ × ℤ)). IsEndOf IsLeastOf (Covers M) end) seen h)
+-- the end of a set, by the bound that is it
+end_of : {B : Type 0} (number : B → ℤ) (P : (ℤ → Type 0) → ℤ → Type 0) (S : ℤ → Type 0) (o : Option B) → MatchOption o (HasNone S) (λ x. P S (number x)) → IsEndOf P S (option_map number o)
+end_of number P S None h = h
+end_of number P S (Some x) h = h
 
-pub high_seen : (s : List (List (ℤ × ℤ))) (a : ℕ) (end : Option ℤ) (L : List (ℤ × ℤ)) → L ≡ slice_index_or s a [] → IsEndOf IsGreatestOf (Covers L) end → IsAnswerTo s (high a) (value end)
-high_seen s a end L seen h = (end, refl, subst (λ (M : List (ℤ × ℤ)). IsEndOf IsGreatestOf (Covers M) end) seen h)
+module _ {B : Type 0} (number : B → ℤ) (s : List (List (ℤ × ℤ))) (a : ℕ) (o : Option B) (L : List (ℤ × ℤ)) (seen : L ≡ slice_index_or s a []) where
+  pub low_seen : MatchOption o (HasNone (Covers L)) (λ x. IsLeastOf (Covers L) (number x)) → IsAnswerTo s (low a) (value (option_map number o))
+  low_seen h = (option_map number o, refl, subst (λ (M : List (ℤ × ℤ)). IsEndOf IsLeastOf (Covers M) (option_map number o)) seen (end_of number IsLeastOf (Covers L) o h))
+
+  pub high_seen : MatchOption o (HasNone (Covers L)) (λ x. IsGreatestOf (Covers L) (number x)) → IsAnswerTo s (high a) (value (option_map number o))
+  high_seen h = (option_map number o, refl, subst (λ (M : List (ℤ × ℤ)). IsEndOf IsGreatestOf (Covers M) (option_map number o)) seen (end_of number IsGreatestOf (Covers L) o h))
 
 pub count_seen : (s : List (List (ℤ × ℤ))) (a n : ℕ) (L : List (ℤ × ℤ)) → L ≡ slice_index_or s a [] → n ≡ length L → IsMaximal L → IsAnswerTo s (count a) (counted n)
 count_seen s a n L seen e maximal =

@@ -1,11 +1,8 @@
--- That each index of a command names a register, that a set with a run has a member, and one more empty register.
-use Rattle.std.proofs.Common.{◌≡◌, inl, ℕ, ◌+◌, ◌<◌, ℤ, List, [], ◌∷◌, ◌++◌, length, get_or, slice_index_or, replicate}
+-- That each index of a command names a register, and one more empty register.
+use Rattle.std.proofs.Common.{◌≡◌, ℕ, ◌+◌, ◌<◌, ℤ, List, [], ◌∷◌, ◌++◌, length, get_or, slice_index_or, replicate}
 use Rattle.std.proofs.lemmas.List.{replicate_more}
 use Rattle.std.proofs.lemmas.List.Elements.{All-nil, All-cons, All-head, All-tail}
 use Rattle.std.specs.Prelude.{All}
-use Rattle.ivl_laws.specs.Sets.{HasSome}
-use Rattle.ivl_laws.specs.Runs.{Covers, IsMaximal}
-use Rattle.ivl_laws.proofs.Runs.{lower_end}
 use Rattle.ivl_within.proofs.Lists.{entry_seen}
 
 pub two_named : (n a b : ℕ) → a < n → b < n → All (λ r. r < n) (a ∷ b ∷ [])
@@ -19,11 +16,6 @@ second_seen items s r a more v view all is = entry_seen items s a v view (All-he
 pub third_seen : (items s : List (List (ℤ × ℤ))) (r a b : ℕ) (v : List (ℤ × ℤ)) → items ≡ s → All (λ x. x < length s) (r ∷ a ∷ b ∷ [])
     → v ≡ get_or items b v → v ≡ slice_index_or s b []
 third_seen items s r a b v view all is = second_seen items s a b [] v view (All-tail (λ x. x < length s) r (a ∷ b ∷ []) all) is
-
--- a set with a run has a member
-pub some_covered : (L : List (ℤ × ℤ)) (n : ℕ) → IsMaximal L → n ≡ length L → ¬ (n ≡ 0) → HasSome (Covers L)
-some_covered [] n m e k = absurd (k e)
-some_covered (p ∷ L) n m e k = (p.0, inl (lower_end p m.0))
 
 pub replicate_pushed : {X : Type 0} (n : ℕ) (x y : X) (old new : List X) → old ≡ replicate n y → x ≡ y → new ≡ old ++ x ∷ [] → new ≡ replicate (n + 1) y
 replicate_pushed n x y old new h e is = rw (is, h, e) (replicate_more n y)

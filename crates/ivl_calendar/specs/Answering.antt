@@ -1,14 +1,14 @@
 -- What is answered to a line, and the rooms that are left.
 --     IsRefused told old text new      the line is answered with what is wrong, and the rooms stay
 --     AnswersRoom, AnswersBook, AnswersGap, AnswersFree old words text new      the answer to a line with these words after its first
---     AnswersWords old words text new      the answer to a line of these words
+--     AnswersNamed old name words text new      the answer to a command by its name and the words after it
 --     AnswersLine old line text new      the answer to a line
-use Rattle.std.specs.Prelude.{◌≡◌, ◌⊎◌, ℕ, ℤ, Bool, true, false, List, [], ◌∷◌, None, Some, IsSome, codes, if◌then◌else◌}
-use Rattle.std.specs.Str.{is_utf8}
+use Rattle.std.specs.Prelude.{◌≡◌, ◌⊎◌, ℕ, ℤ, Bool, List, None, Some, IsSome, codes, if◌then◌else◌}
 use Rattle.ivl_laws.specs.Sets.{IsBetween, Without}
 use Rattle.ivl_laws.specs.Runs.{Covers, IsRunsOf}
 use Rattle.intervallum.specs.FirstFit.{FitsAt, IsFirstFit}
-use Rattle.ivl_lines.specs.Lines.{with_newline, words_of}
+use Rattle.ivl_lines.specs.Commands.{AnswersByCommand}
+use Rattle.ivl_lines.specs.Lines.{with_newline}
 use Rattle.ivl_calendar.specs.Days.{IsSpanText, AreSpansText}
 use Rattle.ivl_calendar.specs.Rooms.{Rooms, busy_of, IsAdded, Books, IsFreeInAll}
 use Rattle.ivl_calendar.specs.Requests.{AsksToAdd, AsksToBook, AsksForGap, AsksForFree, Command, room, book, gap, free, other, command_of}
@@ -69,15 +69,8 @@ AnswersCommand old gap words text new = AnswersGap old words text new
 AnswersCommand old free words text new = AnswersFree old words text new
 AnswersCommand old other words text new = IsRefused (codes "error: write room, book, gap or free") old text new
 
--- a line without words has no answer
-abbrev pub AnswersWords : Rooms → List (List ℕ) → List ℕ → Rooms → Type 0
-AnswersWords old [] text new = (text ≡ []) × (new ≡ old)
-AnswersWords old (name ∷ words) text new = AnswersCommand old (command_of name) words text new
-
--- by whether the line is UTF-8
-abbrev pub AnswersBytes : Rooms → List ℕ → Bool → List ℕ → Rooms → Type 0
-AnswersBytes old line true text new = AnswersWords old (words_of line) text new
-AnswersBytes old line false text new = IsRefused (codes "error: not UTF-8") old text new
+abbrev pub AnswersNamed : Rooms → List ℕ → List (List ℕ) → List ℕ → Rooms → Type 0
+AnswersNamed old name words text new = AnswersCommand old (command_of name) words text new
 
 abbrev pub AnswersLine : Rooms → List ℕ → List ℕ → Rooms → Type 0
-AnswersLine old line text new = AnswersBytes old line (is_utf8 line) text new
+AnswersLine old line text new = AnswersByCommand AnswersNamed old line text new

@@ -4,16 +4,14 @@ ghost use Rattle.std.specs.Io.KnownBytes.{Appends, Consumes, IsAtEnd};
 ghost use Rattle.ivl_lines.specs.Answered.{IsAnswered};
 ghost use Rattle.ivl_lines.specs.Lines.{ended_lines_of, lines_of};
 ghost use Rattle.ivl_lines.specs.Words.{words_between};
-ghost use Rattle.ivl_calendar.specs.Answering.{AnswersBook, AnswersFree, AnswersGap, AnswersLine, AnswersRoom, AnswersWords};
+ghost use Rattle.ivl_calendar.specs.Answering.{AnswersBook, AnswersFree, AnswersGap, AnswersLine, AnswersRoom};
 ghost use Rattle.ivl_calendar.specs.Outcome.{outcome_of};
 ghost use Rattle.ivl_calendar.specs.Rooms.{Rooms};
 
 use crate::calendar::Calendar;
 use crate::replies::{write_line, write_spans};
 use crate::requests::{booking_from, gap_from, window_from};
-use ivl_lines::{
-    Answers, LineFault, SessionFault, first_word, line_text, next_word, one_word, serve,
-};
+use ivl_lines::{AnswersCommands, SessionFault, one_word, serve};
 use std::alloc::Global;
 use std::io;
 use std::io::{Read, Write};
@@ -30,24 +28,30 @@ const FREE: &str = "error: write free FIRST LAST, with dates in order, such as 2
 
 const OTHER: &str = "error: write room, book, gap or free";
 
-const BYTES: &str = "error: not UTF-8";
-
 const MEMORY: &str = "error: out of memory";
 
-impl Answers for Calendar {
-    ghost use Rattle.ivl_calendar.specs.Answering.{AnswersLine};
+impl AnswersCommands for Calendar {
+    ghost use Rattle.ivl_calendar.specs.Answering.{AnswersNamed};
 
-    ghost allowed = { AnswersLine };
+    ghost command_allowed = { AnswersNamed };
 
-    fn may_take_long(&self, line: &[u8]) -> bool {
-        first_word(line) == "free"
+    fn command_may_take_long(&self, name: &str) -> bool {
+        name == "free"
     }
 
-    fn answer<W: Write>(&mut self, line: &[u8], writer: &mut W) -> Result<(), LineFault> {
-        if answer_line(self, line, writer).is_err() {
-            return Err(LineFault::Write);
+    fn answer_command<W: Write>(
+        &mut self,
+        name: &str,
+        words: &str,
+        writer: &mut W,
+    ) -> io::Result<()> {
+        match name {
+            "room" => answer_room(self, words, writer),
+            "book" => answer_book(self, words, writer),
+            "gap" => answer_gap(self, words, writer),
+            "free" => answer_free(self, words, writer),
+            _ => write_line(writer, OTHER),
         }
-        Ok(())
     }
 }
 
@@ -84,35 +88,6 @@ pub fn session<R: Read, W: Write>(
         × Appends (W.contents writer.old) (W.contents writer.new) text }
 {
     serve(alloc, &mut Calendar::new(alloc), reader, writer)
-}
-
-// Answers one line. A line without words has no answer.
-fn answer_line<W: Write>(calendar: &mut Calendar, line: &[u8], writer: &mut W) -> io::Result<()>
-    ensures { OnOk result ((text : List ℕ)
-        × AnswersLine calendar.old line.now text calendar.new
-        × Appends (W.contents writer.old) (W.contents writer.new) text) }
-{
-    match line_text(line) {
-        Some(text) => answer_text(calendar, text, writer),
-        None => write_line(writer, BYTES),
-    }
-}
-
-fn answer_text<W: Write>(calendar: &mut Calendar, text: &str, writer: &mut W) -> io::Result<()>
-    ensures { OnOk result ((answer : List ℕ)
-        × AnswersWords calendar.old (words_between text.now) answer calendar.new
-        × Appends (W.contents writer.old) (W.contents writer.new) answer) }
-{
-    let Some((name, words)) = next_word(text) else {
-        return Ok(());
-    };
-    match name {
-        "room" => answer_room(calendar, words, writer),
-        "book" => answer_book(calendar, words, writer),
-        "gap" => answer_gap(calendar, words, writer),
-        "free" => answer_free(calendar, words, writer),
-        _ => write_line(writer, OTHER),
-    }
 }
 
 fn answer_room<W: Write>(calendar: &mut Calendar, words: &str, writer: &mut W) -> io::Result<()>

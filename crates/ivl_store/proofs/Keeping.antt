@@ -1,7 +1,7 @@
 -- What is left of a set where only some members are kept.
-use Rattle.std.proofs.Common.{◌≡◌, ◌↔◌, inl, inr, refl, sym, ap, subst, arith, ◌∙◌, List, [], ◌∷◌, length, get_or}
+use Rattle.std.proofs.Common.{◌≡◌, ◌↔◌, inl, inr, sym, ap, subst, arith, ◌∙◌, List, [], ◌∷◌, length, get_or}
 use Rattle.std.specs.Prelude.{ℤ, ◌≤ℤ◌, Option, Some, None}
-use Rattle.ivl_laws.specs.Sets.{IsBetween, IsSubset, SameMembers, HasNone, Intersection}
+use Rattle.ivl_laws.specs.Sets.{IsBetween, IsSubset, SameMembers, Intersection}
 use Rattle.ivl_laws.specs.Runs.{Covers, IsRunListIn, IsRunsOf}
 use Rattle.ivl_laws.proofs.Products.{sums_of_intervals, differences_of_intervals}
 use Rattle.ivl_laws.proofs.SetLaws.{sums_are_monotone, differences_are_monotone}
@@ -65,27 +65,15 @@ runs_keep op L M N run p q kept n e f h k same z m =
       (λ u. (same z).1 (s.1 (sums_by_same op _ _ _ _ (λ x. (l x).0) (λ x. (r x).0) z u), (covers_one N run n z).0 m)),
     )
 
--- no member of a single run is left
-pub run_left_none : (whole : ℤ × ℤ) (L : List (ℤ × ℤ)) (run kept : ℤ × ℤ) → IsRunListIn whole L → L ≡ run ∷ []
-    → ¬ (SameMembers (IsBetween kept) (IsBetween run)) → HasNone (IsBetween kept) → IsLeftOf whole L (IsBetween kept) (Some [])
-run_left_none whole L run kept r e differ none =
+-- less than a single run is left
+pub run_left : (whole : ℤ × ℤ) (L left : List (ℤ × ℤ)) (run kept : ℤ × ℤ) → IsRunListIn whole L → L ≡ run ∷ [] → IsSubset (IsBetween kept) (IsBetween run)
+    → ¬ (SameMembers (IsBetween kept) (IsBetween run)) → IsRunsOf left (IsBetween kept) → IsLeftOf whole L (IsBetween kept) (Some left)
+run_left whole L left run kept r e within differ is =
     let l = covers_one L run e in (
       r,
-      record { maximal = tt; within = λ z h. absurd h },
-      (λ z. ((λ h. absurd h), (λ u. none z u.1))),
-      (λ agree. differ (λ z. ((λ b. absurd (none z b)), (λ b. absurd ((agree z).1 ((l z).1 b)))))),
-    )
-
--- one run of it is
-pub run_left_some : (whole : ℤ × ℤ) (L : List (ℤ × ℤ)) (run kept : ℤ × ℤ) → IsRunListIn whole L → L ≡ run ∷ [] → IsSubset (IsBetween kept) (IsBetween run)
-    → ¬ (SameMembers (IsBetween kept) (IsBetween run)) → kept.0 ≤ℤ kept.1 → IsLeftOf whole L (IsBetween kept) (Some (kept ∷ []))
-run_left_some whole L run kept r e within differ filled =
-    let l = covers_one L run e in
-    let k = covers_one (kept ∷ []) kept refl in (
-      r,
-      record { maximal = (filled, tt, tt); within = λ z h. r.within z ((l z).1 (within z ((k z).0 h))) },
-      (λ z. ((λ h. let u = (k z).0 h in ((l z).1 (within z u), u)), (λ u. (k z).1 u.1))),
-      (λ agree. differ (λ z. ((λ b. (l z).0 ((agree z).0 ((k z).1 b))), (λ b. (k z).0 ((agree z).1 ((l z).1 b)))))),
+      record { maximal = is.maximal; within = λ z h. r.within z ((l z).1 (within z ((is.members z).0 h))) },
+      (λ z. ((λ h. let u = (is.members z).0 h in ((l z).1 (within z u), u)), (λ u. (is.members z).1 u.1))),
+      (λ agree. differ (λ z. ((λ b. (l z).0 ((agree z).0 ((is.members z).1 b))), (λ b. (is.members z).0 ((agree z).1 ((l z).1 b)))))),
     )
 
 -- all of it is

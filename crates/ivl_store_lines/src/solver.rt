@@ -116,8 +116,8 @@ impl Solver {
         ensures none { IfErr result (λ fault. index_in self.now.names name.now ≡ None) }
         ensures fault { IfErr result (λ fault. told_of fault ≡ Some (unknown name.now)) }
     {
-        let variable = self.known(name)?;
-        Ok(&self.network.domains()[variable])
+        let index = self.known(name)?;
+        Ok(&self.network.domains()[index])
     }
 
     /// Returns true exactly when some domain is empty. `O(1)`.

@@ -1,14 +1,11 @@
 //! The commands that query registers. None of them writes a register, and only `Show` allocates.
-ghost use Rattle.std.specs.Prelude.{option_map};
-ghost use Rattle.ivl_laws.specs.Runs.{Covers};
 ghost use Rattle.ivl_calculator.specs.Actions.{has, size, count, low, high, same, subset, meets, show, ask};
-ghost use Rattle.ivl_calculator.specs.Step.{IsEndOf, IsGreatestOf, IsLeastOf, MayStep};
+ghost use Rattle.ivl_calculator.specs.Step.{MayStep};
 ghost use Rattle.ivl_calculator.specs.View.{answer_of};
 
 use super::Calc;
 use crate::reply::{Refusal, Reply};
-use intervallum::interval_set::IntervalSet;
-use intervallum::ops::{Bounded, Cardinality, Contains, Overlap, Subset};
+use intervallum::ops::{Cardinality, Contains, Overlap, Subset};
 use intervallum::width::Width;
 
 impl<B: Width> Calc<B> {
@@ -43,7 +40,7 @@ impl<B: Width> Calc<B> {
         ensures { MayStep B.whole self.now (ask (low register)) (answer_of B.value B.Output.size result) self.now }
     {
         match self.get(register) {
-            Some(set) => Reply::Value(least(set)),
+            Some(set) => Reply::Value(set.first()),
             None => Reply::Refused(Refusal::Register),
         }
     }
@@ -52,7 +49,7 @@ impl<B: Width> Calc<B> {
         ensures { MayStep B.whole self.now (ask (high register)) (answer_of B.value B.Output.size result) self.now }
     {
         match self.get(register) {
-            Some(set) => Reply::Value(greatest(set)),
+            Some(set) => Reply::Value(set.last()),
             None => Reply::Refused(Refusal::Register),
         }
     }
@@ -94,27 +91,5 @@ impl<B: Width> Calc<B> {
             Ok(runs) => Reply::Runs(runs),
             Err(_) => Reply::Refused(Refusal::Memory),
         }
-    }
-}
-
-/// The least member; `None` if the set is empty.
-fn least<B: Width>(set: &IntervalSet<B>) -> Option<B>
-    ensures { IsEndOf IsLeastOf (Covers set.now) (option_map B.value result) }
-{
-    if set.interval_count() == 0 {
-        None
-    } else {
-        Some(set.lower())
-    }
-}
-
-/// The greatest member; `None` if the set is empty.
-fn greatest<B: Width>(set: &IntervalSet<B>) -> Option<B>
-    ensures { IsEndOf IsGreatestOf (Covers set.now) (option_map B.value result) }
-{
-    if set.interval_count() == 0 {
-        None
-    } else {
-        Some(set.upper())
     }
 }

@@ -9,8 +9,7 @@ ghost use Rattle.ivl_within.specs.Within.{SumsBy};
 use super::Constraint;
 use intervallum::interval::Interval;
 use intervallum::interval_set::IntervalSet;
-use intervallum::ops::{Bounded, Cardinality, Intersection, IsEmpty};
-use intervallum::steps::Walk;
+use intervallum::ops::{Cardinality, Intersection};
 use intervallum::width::Width;
 use ivl_within::within::{Combined, image, kept};
 use std::alloc::AllocError;
@@ -107,13 +106,7 @@ fn keep_run<B: Width>(
     if kept == run {
         return Ok(None);
     }
-    let alloc = Walk::new(x).alloc();
-    let left = if kept.is_empty() {
-        IntervalSet::empty(alloc)
-    } else {
-        IntervalSet::new(alloc, kept.lower(), kept.upper())?
-    };
-    Ok(Some(left))
+    Ok(Some(IntervalSet::of(x.allocator(), kept)?))
 }
 
 /// Keeps the members of `x` that are in another set. Returns `None` if all are.
