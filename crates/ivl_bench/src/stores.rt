@@ -6,7 +6,6 @@
 use crate::inputs::set_of;
 use anyhow::{Context, Result, bail};
 use intervallum::interval_set::IntervalSet;
-use ivl_store::store::callers::post_if_distinct;
 use ivl_store::store::{Constraint, Post, Store, StoreFault};
 use std::alloc::{AllocError, Global};
 use std::fs;
@@ -98,7 +97,7 @@ impl Instance {
     /// Narrows a store to the fixed point; true where it is reached.
     fn solve(&self, store: &mut Store<i64>, way: Way) -> Result<bool, StoreFault> {
         match way {
-            Way::PostAll => Ok(post_if_distinct(store, &self.posts)?.is_some()),
+            Way::PostAll => Ok(store.try_post_all(&self.posts)?.is_some()),
             Way::Propagate => store.propagate(&self.constraints, usize::MAX),
         }
     }

@@ -3,7 +3,6 @@
 
 use crate::runs::{Runs, has_runs};
 use intervallum::prelude::{Interval, IntervalSet, ToIntervalSet};
-use ivl_store::store::callers::post_if_distinct;
 use ivl_store::store::{Constraint, Post, Store, StoreFault};
 use std::alloc::{AllocError, Global};
 
@@ -118,7 +117,7 @@ fn propagated(alloc: Global) -> Result<&'static str, AllocError> {
 /// were before it, and no earlier ones.
 fn posted(alloc: Global, refused: u32) -> Result<&'static str, AllocError> {
     let mut store = store_of(alloc, FRESH)?;
-    let answer = post_if_distinct(&mut store, &posts(alloc)?);
+    let answer = store.try_post_all(&posts(alloc)?);
     Ok(judged(
         &store,
         are_replies(&answer, &[false, false, false]),
@@ -154,7 +153,7 @@ fn posted_many(alloc: Global) -> Result<&'static str, AllocError> {
     for _ in 0..MANY {
         posts.push(Post::Restrict(3, IntervalSet::empty(alloc)))?;
     }
-    let answer = post_if_distinct(&mut store, &posts);
+    let answer = store.try_post_all(&posts);
     let [x, y, z, _] = *FRESH;
     Ok(judged(
         &store,

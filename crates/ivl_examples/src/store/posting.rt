@@ -2,7 +2,7 @@
 use super::{check_domains, store_of, sum};
 use crate::compare::{made, set_of};
 use intervallum::width::Width;
-use ivl_store::store::callers::{all_distinct, post_if_distinct};
+use ivl_store::store::callers::all_distinct;
 use ivl_store::store::{Post, Store, StoreFault};
 use std::alloc::Global;
 use std::fmt::Display;
@@ -53,7 +53,7 @@ fn check_replies<B: Width + Display>(
     replies: Replies,
     texts: &[&str],
 ) {
-    check_told(rt, &post_if_distinct(store, posts), replies);
+    check_told(rt, &store.try_post_all(posts), replies);
     check_domains(rt, store, texts);
 }
 

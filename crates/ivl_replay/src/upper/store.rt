@@ -5,7 +5,6 @@ use crate::read::{number, numbers, set, sets};
 use crate::unanswered::Unanswered;
 use intervallum::interval_set::IntervalSet;
 use intervallum::width::Width;
-use ivl_store::store::callers::post_if_distinct;
 use ivl_store::store::{Constraint, Post, Store, StoreFault};
 use std::alloc::{AllocError, Global};
 use std::fmt::Display;
@@ -78,7 +77,7 @@ where
     B::Err: Drop,
 {
     let (list, _) = parts(text)?;
-    match post_if_distinct(store, &posts(alloc, list)?) {
+    match store.try_post_all(&posts(alloc, list)?) {
         Ok(Some(replies)) => Ok(truths(alloc, &replies)?),
         Ok(None) => Err(Unanswered::Unknown),
         Err(fault) => fault_text(alloc, fault),

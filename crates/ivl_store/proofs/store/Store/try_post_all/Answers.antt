@@ -3,7 +3,7 @@ use Rattle.std.specs.Result.{IsErrAnd}
 use Rattle.ivl_store.specs.declared.store.constraint.StoreFault.{StoreFault}
 use Rattle.ivl_store.specs.declared.store.constraint.StoreFault.TheVariants.{Variable, Memory}
 use Rattle.ivl_store.specs.Posts.{first_unknown_post}
-use Rattle.ivl_store.proofs.store.callers.post_if_distinct.Goals as goal
+use Rattle.ivl_store.proofs.store.Store.try_post_all.Goals as goal
 
 -- a fault that is passed on is the one that was told
 passed_on : {A E : Type 0} (r : Result A E) (y : E) (P : E → Type 0) → IsErrAnd r P → r ≡ Err y → P y
