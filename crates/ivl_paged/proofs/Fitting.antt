@@ -51,10 +51,10 @@ module _ (L : List (ℤ × ℤ)) (i k : ℕ) (d : ℤ × ℤ) (m : IsMaximal L) 
       (λ (a : IsIn (take i L) p). inl (so_far.most n v (λ z b. let lo = b.0 in let hi = b.1 in one_covers (take i L) p z a (omega (arith, ints), omega (arith, ints)))))
       (⊎_elim
       (λ (e : p ≡ d). inr (
-          let width = width_of-filled d open_here in
-          let lo : d.0 ≤ℤ v = subst (λ (q : ℤ × ℤ). q.0 ≤ℤ v) e low in
-          let hi : ((v +ℤ pos n) -ℤ pos 1) ≤ℤ d.1 = subst (λ (q : ℤ × ℤ). ((v +ℤ pos n) -ℤ pos 1) ≤ℤ q.1) e high in
-          omega (arith, ints, width, lo, hi)))
+      let width = width_of-filled d open_here in
+      let lo : d.0 ≤ℤ v = subst (λ (q : ℤ × ℤ). q.0 ≤ℤ v) e low in
+      let hi : ((v +ℤ pos n) -ℤ pos 1) ≤ℤ d.1 = subst (λ (q : ℤ × ℤ). ((v +ℤ pos n) -ℤ pos 1) ≤ℤ q.1) e high in
+      omega (arith, ints, width, lo, hi)))
       (λ x. absurd x))
       (in-append (take i L) (d ∷ []) p r.1)
 
@@ -117,8 +117,8 @@ fit_in_first n A B run some m k = record {
   members = λ z b. covers-append_left A B z (k.members z b);
   lowest = λ v f. ⊎_elim (λ a. k.lowest v a)
       (λ b. let e = k.count in
-          let here = k.members run.0 (omega (arith, ints), omega (arith, ints, e, some)) in
-          let far = parts_apart A B run.0 v m here (first_of n v (Covers B) some b) in omega (arith, ints, far))
+      let here = k.members run.0 (omega (arith, ints), omega (arith, ints, e, some)) in
+      let far = parts_apart A B run.0 v m here (first_of n v (Covers B) some b) in omega (arith, ints, far))
       (fits_in_part n A B v some m f);
 }
 
@@ -201,8 +201,8 @@ module _ (n : ℕ) (P : List (List (ℤ × ℤ))) (N : List (ℤ × ℤ)) (v : �
     members = λ z b. let a = r.members z b in (subst (λ (K : List (ℤ × ℤ)). Covers K z) parts (covers-append_left T D z a.0), a.1);
     lowest = λ w f. ⊎_elim (λ a. r.lowest w a)
         (λ b. let c = r.count in
-            let here = r.members run.0 (omega (arith, ints), omega (arith, ints, c, some)) in
-            let far = parts_apart T D run.0 w open_parts here.0 (first_of n w (Covers D) some b) in omega (arith, ints, far))
+        let here = r.members run.0 (omega (arith, ints), omega (arith, ints, c, some)) in
+        let far = parts_apart T D run.0 w open_parts here.0 (first_of n w (Covers D) some b) in omega (arith, ints, far))
         (in_part w f);
   }
 

@@ -9,6 +9,7 @@ use Rattle.ivl_laws.specs.Runs.{Covers, IsMaximal}
 use Rattle.ivl_laws.proofs.Intervals.{same_between}
 use Rattle.ivl_interval.specs.SameInterval.{same_interval, same_interval_equiv}
 use Rattle.ivl_interval.proofs.Pairs.{same_interval_members}
+use Rattle.intervallum.proofs.Equality.{same_pair}
 use Rattle.ivl_paged.specs.Pages.{flattened}
 use Rattle.ivl_paged.proofs.Paging.{IsMaximal-second, flattened-append, flattened_more}
 
@@ -93,9 +94,6 @@ filled_by t (p ∷ L) e f = omega arith
 pub never : (X : Type 0) → ¬ X → IsTrue false ↔ X
 never X n = ((λ h. absurd (cc)), (λ x. absurd (n x)))
 
-same_open : (p q : ℤ × ℤ) → p.0 ≤ℤ p.1 → same_interval p q ≡ true → p ≡ q
-same_open p q o e = same_between p q o ((same_interval_members p q (same_interval p q) refl).0 e)
-
 cancelled : (K A B : List (ℤ × ℤ)) → K ++ A ≡ K ++ B → A ≡ B
 cancelled [] A B e = e
 cancelled (p ∷ K) A B e = cancelled K A B (cc)
@@ -112,7 +110,7 @@ same_so_far L M = record { shared = []; left = refl; right = refl }
 pub same_further : (L M A B C D : List (ℤ × ℤ)) (p q : ℤ × ℤ) → IsMaximal L → IsSameSoFar L M A B → A ≡ p ∷ C → B ≡ q ∷ D → same_interval p q ≡ true → IsSameSoFar L M C D
 same_further L M A B C D p q m s e f t =
     let open_p : p.0 ≤ℤ p.1 = (IsMaximal-second s.shared (p ∷ C) (subst IsMaximal (s.left ∙ ap (λ (K : List (ℤ × ℤ)). s.shared ++ K) e) m)).0 in
-    let same : p ≡ q = same_open p q open_p t in
+    let same : p ≡ q = same_pair p q open_p t in
     record {
       shared = s.shared ++ p ∷ [];
       left = s.left ∙ ap (λ (K : List (ℤ × ℤ)). s.shared ++ K) e ∙ sym (append_assoc s.shared (p ∷ []) C);

@@ -218,8 +218,8 @@ counts_next_page P i L k n m h is a b = IsCountOf-same (Union (Covers (flattened
     ))
     (IsCountOf-apart (Covers (flattened (take i P))) (Covers L) k n
     (λ z c d. let (j, lt, f) = covers_taken P i z c in
-        let far = pages_ascend P j i z z m lt f (subst (λ (K : List (ℤ × ℤ)). Covers K z) is d) in
-        omega (arith, ints, far))
+    let far = pages_ascend P j i z z m lt f (subst (λ (K : List (ℤ × ℤ)). Covers K z) is d) in
+    omega (arith, ints, far))
     a b)
 
 pub counts_fit : (whole : ℤ × ℤ) (P : List (List (ℤ × ℤ))) (i k greatest : ℕ) → IsRunListIn whole (flattened P) → width_of whole ≤ greatest → IsCountOf k (Covers (flattened (take i P))) → k ≤ greatest
@@ -242,8 +242,8 @@ ranks_seen P N L v n a b m e s some f x y = IsCountOf-same (Union (Covers (flatt
     (λ z. (
       ⊎_elim
           (λ (c : Covers (flattened (take (n - 1) P)) z). let (j, lt, d) = covers_taken P (n - 1) z c in
-              let far = ends_below P v n j z m s (omega (arith, lt, some)) d in
-              (seen_in P N m e j z d, omega (arith, ints, far)))
+          let far = ends_below P v n j z m s (omega (arith, lt, some)) d in
+          (seen_in P N m e j z d, omega (arith, ints, far)))
           (λ (c : Below v (Covers L) z). (seen_in P N m e (n - 1) z (subst (λ (K : List (ℤ × ℤ)). Covers K z) f c.0), c.1)),
       (λ (c, low). let (j, lt, d) = place_in P N m e z c in
           ⊎_elim (λ less. inl (taken_covers P (n - 1) j z less d))
@@ -254,8 +254,8 @@ ranks_seen P N L v n a b m e s some f x y = IsCountOf-same (Union (Covers (flatt
     ))
     (IsCountOf-apart (Covers (flattened (take (n - 1) P))) (Below v (Covers L)) a b
     (λ z c d. let (j, lt, g) = covers_taken P (n - 1) z c in
-        let far = pages_ascend P j (n - 1) z z m lt g (subst (λ (K : List (ℤ × ℤ)). Covers K z) f d.0) in
-        omega (arith, ints, far))
+    let far = pages_ascend P j (n - 1) z z m lt g (subst (λ (K : List (ℤ × ℤ)). Covers K z) f d.0) in
+    omega (arith, ints, far))
     x y)
 
 pub ranks_fit : (whole : ℤ × ℤ) (P : List (List (ℤ × ℤ))) (N : List (ℤ × ℤ)) (v : ℤ) (k greatest : ℕ) → IsRunListIn whole (flattened P) → flattened P ≡ N → width_of whole ≤ greatest →
@@ -285,8 +285,8 @@ nth_seen number P N L i k left size (Some x) m e h is a b more t =
           (λ z. (
             ⊎_elim
                 (λ (c : Covers (flattened (take i P)) z). let (j, lt, d) = covers_taken P i z c in
-                    let far = pages_ascend P j i z v m lt d here in
-                    (seen_in P N m e j z d, omega (arith, ints, far)))
+                let far = pages_ascend P j i z v m lt d here in
+                (seen_in P N m e j z d, omega (arith, ints, far)))
                 (λ (c : Below v (Covers L) z). (seen_in P N m e i z (subst (λ (K : List (ℤ × ℤ)). Covers K z) is c.0), c.1)),
             (λ (c, low). let (j, lt, d) = place_in P N m e z c in
                 ⊎_elim (λ less. inl (taken_covers P i j z less d))
@@ -297,8 +297,8 @@ nth_seen number P N L i k left size (Some x) m e h is a b more t =
           ))
           (IsCountOf-apart (Covers (flattened (take i P))) (Below v (Covers L)) k left
           (λ z c d. let (j, lt, g) = covers_taken P i z c in
-              let far = pages_ascend P j i z z m lt g (subst (λ (K : List (ℤ × ℤ)). Covers K z) is d.0) in
-              omega (arith, ints, far))
+          let far = pages_ascend P j i z z m lt g (subst (λ (K : List (ℤ × ℤ)). Covers K z) is d.0) in
+          omega (arith, ints, far))
           a t.1),
     )
 

@@ -77,9 +77,6 @@ cut_supported constraints count family present s k d lt i names v h =
     }
 
 -- a list with one more at the end
-at_first : (sets : List (List (ℤ × ℤ))) (domain : List (ℤ × ℤ)) (i : ℕ) → i < length sets → get_or (sets ++ domain ∷ []) i [] ≡ get_or sets i []
-at_first sets domain i lt = get_or-append sets (domain ∷ []) [] i lt
-
 at_rest : (sets others : List (List (ℤ × ℤ))) (domain : List (ℤ × ℤ)) (i : ℕ) → length sets ≡ length others → length sets ≤ i
     → get_or (sets ++ domain ∷ []) i [] ≡ get_or (others ++ domain ∷ []) i []
 at_rest sets others domain i same le =
@@ -89,11 +86,11 @@ pub adding_keeps : (constraints : List Constraint) (posted domains : List (List 
     → All (AllPresent (length domains)) constraints → Keeps constraints posted domains → Keeps constraints (posted ++ domain ∷ []) (domains ++ domain ∷ [])
 adding_keeps constraints posted domains domain same present k = record {
   within = (λ i v h. elim (cases_lt i (length domains)) [
-    | inl lt ↦ subst (λ L. Covers L v) (sym (at_first posted domain i (omega arith))) (k.within i v (subst (λ L. Covers L v) (at_first domains domain i lt) h))
+    | inl lt ↦ subst (λ L. Covers L v) (sym (get_or-append posted (domain ∷ []) [] i (omega arith))) (k.within i v (subst (λ L. Covers L v) (get_or-append domains (domain ∷ []) [] i lt) h))
     | inr le ↦ subst (λ L. Covers L v) (at_rest domains posted domain i (sym same) le) h
   ]);
   families = (λ f s w i v h. elim (cases_lt i (length domains)) [
-    | inl lt ↦ subst (λ L. Covers L v) (sym (at_first domains domain i lt))
+    | inl lt ↦ subst (λ L. Covers L v) (sym (get_or-append domains (domain ∷ []) [] i lt))
         (k.families (take (length domains) f) (cut_supported constraints (length domains) f present s) (first_within f w) i v (cut_has f (length domains) i v lt h))
     | inr le ↦ subst (λ L. Covers L v) (at_rest posted domains domain i same (omega arith)) (w i v h)
   ]);
@@ -101,6 +98,6 @@ adding_keeps constraints posted domains domain same present k = record {
   where
     first_within : (f : List (List (ℤ × ℤ))) → LiesWithin (set_at f) (set_at (posted ++ domain ∷ [])) → LiesWithin (set_at (take (length domains) f)) (set_at posted)
     first_within f w i v h = elim (cases_lt i (length domains)) [
-      | inl lt ↦ subst (λ L. Covers L v) (at_first posted domain i (omega arith)) (w i v (cut_within f (length domains) i v h))
+      | inl lt ↦ subst (λ L. Covers L v) (get_or-append posted (domain ∷ []) [] i (omega arith)) (w i v (cut_within f (length domains) i v h))
       | inr le ↦ absurd (none_beyond f (length domains) i v le h)
     ]

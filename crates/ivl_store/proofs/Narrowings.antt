@@ -102,10 +102,6 @@ all_fixed constraints marks sets s all k d lt = s.fixed k d lt (all k (let n = s
 
 -- ---- from call to call
 
--- a set keeps its place where another is added at the end
-at_end : (sets : List (List (ℤ × ℤ))) (domain : List (ℤ × ℤ)) (i : ℕ) → i < length sets → get_or (sets ++ domain ∷ []) i [] ≡ get_or sets i []
-at_end sets domain i lt = get_or-append sets (domain ∷ []) [] i lt
-
 -- a constraint stays fixed where a variable that it does not name is added
 fixed_added : (c : Constraint) (sets : List (List (ℤ × ℤ))) (domain : List (ℤ × ℤ)) → AllPresent (length sets) c → IsFixed (set_at sets) c → IsFixed (set_at (sets ++ domain ∷ [])) c
 fixed_added c sets domain present f i v h = record {
@@ -116,10 +112,10 @@ fixed_added c sets domain present f i v h = record {
 }
   where
     more : (j : ℕ) → j < length sets → (w : ℤ) → set_at sets j w → set_at (sets ++ domain ∷ []) j w
-    more j lt w m = subst (λ L. Covers L w) (sym (at_end sets domain j lt)) m
+    more j lt w m = subst (λ L. Covers L w) (sym (get_or-append sets (domain ∷ []) [] j lt)) m
 
     was : {j : ℕ} → i ≡ j → j < length sets → set_at sets i v
-    was {j} e lt = subst (λ L. Covers L v) (at_end sets domain i (let u = lt in let w = e in omega arith)) h
+    was {j} e lt = subst (λ L. Covers L v) (get_or-append sets (domain ∷ []) [] i (let u = lt in let w = e in omega arith)) h
 
 -- one more variable
 pub sound_added : (sets : List (List (ℤ × ℤ))) (domain : List (ℤ × ℤ)) (constraints : List Constraint) (marks : List Bool)

@@ -12,6 +12,7 @@ use Rattle.ivl_laws.specs.Counts.{IsIn, IsCountOf}
 use Rattle.ivl_laws.specs.Families.{set_at}
 use Rattle.ivl_laws.proofs.Lengths.{decide_covers}
 use Rattle.ivl_laws.proofs.Widths.{total_width, IsCountOf-total_width}
+use Rattle.intervallum.proofs.Options.{or_none}
 use Rattle.ivl_store.specs.declared.store.constraint.Constraint.{Constraint}
 use Rattle.ivl_store.specs.declared.store.marks.Lost.{Lost}
 use Rattle.ivl_store.specs.Solutions.{AreDistinct, Names, HasSolutionAt, IsSolution, Supports, LiesWithin, LostMember}
@@ -277,11 +278,6 @@ all_present count c h = (below_x count c.x _ h, below_x count c.y _ (rest count 
 
     rest : (count i : ℕ) (o : Option ℕ) → cond (leb count i) (Some i) o ≡ None → o ≡ None
     rest count i o h = grind (arith, nat_tests)
-
--- neither of two options holds anything
-pub or_none : (o p : Option ℕ) → option_or o p ≡ None → (o ≡ None) × (p ≡ None)
-or_none None p h = (refl, h)
-or_none (Some x) p h = absurd (cc)
 
 -- where no index is unknown, every constraint names variables of the store
 pub all_known : (count : ℕ) (constraints : List Constraint) → first_unknown_of count constraints ≡ None → All (AllPresent count) constraints

@@ -7,6 +7,7 @@ use Rattle.std.proofs.lemmas.List.Elements.{All-nil, All-cons, All-take}
 use Rattle.std.proofs.lemmas.Bool.Decides.{nat_tests}
 use Rattle.std.proofs.Common.{zero, suc, cond, leb}
 use Rattle.std.specs.Prelude.{Some, None}
+use Rattle.intervallum.proofs.Options.{or_none}
 use Rattle.ivl_store.proofs.Lists.{All-first, All-rest, All-head}
 use Rattle.ivl_store.specs.declared.store.constraint.Constraint.{Constraint}
 use Rattle.ivl_store.specs.declared.store.post.Post.{Post}
@@ -15,7 +16,7 @@ use Rattle.ivl_laws.specs.Families.{set_at}
 use Rattle.ivl_store.specs.Solutions.{AreDistinct, Supports, LiesWithin, IsGreatestFamily}
 use Rattle.ivl_store.specs.Narrowing.{IsFixed, Keeps, AllPresent}
 use Rattle.ivl_store.specs.Posts.{constraints_of, AllAllow, CutBy, IsLeftBy, HasEmpty, AnswersPost, AnswersPosts, CutKeeps, IsKnown, unknown_in, first_unknown_post}
-use Rattle.ivl_store.proofs.Places.{all_present, or_none}
+use Rattle.ivl_store.proofs.Places.{all_present}
 use Rattle.ivl_store.proofs.Rounds.{fixed_greatest}
 
 -- the constraints of two lists of posts
