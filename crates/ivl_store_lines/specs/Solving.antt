@@ -6,7 +6,7 @@
 --     Carries asked old new      the request takes the solver from old to new
 --     range_fault pairs      the fault of pairs that are not all in range; `None` if they are
 --     fault_of asked old      the fault of a request; `None` if it has none
-use Rattle.std.specs.Prelude.{◌≡◌, ◌≤◌, ◌||◌, ◌==◌, ◌↔◌, ℕ, ℤ, pos, Bool, List, Any, [], ◌∷◌, ◌++◌, bytes_eq, if◌then◌else◌, length, position, Option, Some, None, IsTrue}
+use Rattle.std.specs.Prelude.{◌≡◌, ◌≤◌, ◌||◌, ◌==◌, ◌↔◌, ℕ, ℤ, Bool, List, Any, [], ◌∷◌, ◌++◌, bytes_eq, if◌then◌else◌, length, position, Option, Some, None, IsTrue}
 use Rattle.std.specs.List.{list_all}
 use Rattle.ivl_lines.specs.Numbers.{is_in_range}
 use Rattle.ivl_laws.specs.Runs.{Covers, IsRunsOf}
