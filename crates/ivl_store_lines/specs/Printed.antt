@@ -11,7 +11,7 @@ use Rattle.ivl_lines.specs.Escapes.{escaped}
 use Rattle.ivl_lines.specs.Lines.{with_newline}
 use Rattle.ivl_lines.specs.Sets.{pairs_text}
 use Rattle.ivl_store_lines.specs.declared.progress.Progress.{Progress}
-use Rattle.ivl_store_lines.specs.declared.progress.Progress.TheVariants.{Complete, Budget, Memory}
+use Rattle.ivl_store_lines.specs.declared.progress.Progress.TheVariants.{Complete, Budget}
 use Rattle.ivl_store_lines.specs.Faults.{Told, no_text, no_command, no_form, no_number, out_of_range, unknown, defined, repeated}
 use Rattle.ivl_store_lines.specs.Requests.{Asked, var, cut, sum, limit, go_on, show}
 use Rattle.ivl_store_lines.specs.Solving.{State, variable_named}
@@ -47,7 +47,6 @@ has_no_run (run ∷ runs) = false
 abbrev pub progress_text : Progress → List ℕ
 progress_text Complete = codes "ok"
 progress_text Budget = codes "unfinished"
-progress_text Memory = codes "unfinished: out of memory"
 
 abbrev pub state_line : List (List (ℤ × ℤ)) → Progress → List ℕ
 state_line domains progress = with_newline (if list_any has_no_run domains then codes "no solution" else progress_text progress)

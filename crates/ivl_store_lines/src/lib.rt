@@ -7,6 +7,7 @@ mod progress;
 mod replies;
 mod request;
 mod solver;
+mod whole;
 
 pub use engine::{outcome, session};
 pub use ivl_lines::SessionFault;

@@ -7,6 +7,4 @@ pub enum Progress {
     Complete,
     /// The last line that narrows used up its narrowings.
     Budget,
-    /// The last line that narrows ran out of memory.
-    Memory,
 }

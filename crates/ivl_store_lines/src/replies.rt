@@ -33,7 +33,6 @@ fn write_progress<W: Write>(writer: &mut W, progress: Progress) -> io::Result<()
     match progress {
         Progress::Complete => writer.write_all(b"ok\n"),
         Progress::Budget => writer.write_all(b"unfinished\n"),
-        Progress::Memory => writer.write_all(b"unfinished: out of memory\n"),
     }
 }
 

@@ -1,5 +1,5 @@
 //! The variables by name, their domains, and the sums that hold between them.
-ghost use Rattle.std.specs.Prelude.{◌≡◌, ◌∷◌, ◌++◌, ◌↔◌, ◌<◌, ℕ, [], Some, All, Any, IfErr, IfOk, IfSome, IsSome, IsTrue, None, Ok, OnErr, OnOk, get_or, length, map, string_bytes};
+ghost use Rattle.std.specs.Prelude.{◌≡◌, ◌∷◌, ◌++◌, ◌↔◌, ◌<◌, ℕ, ℤ, List, [], Some, All, Any, IfErr, IfOk, IfSome, IsSome, IsTrue, None, Ok, OnErr, OnOk, get_or, length, map, string_bytes};
 ghost use Rattle.ivl_laws.specs.Runs.{Covers, IsRunsOf};
 ghost use Rattle.ivl_laws.specs.Families.{set_at};
 ghost use Rattle.ivl_store.specs.Network.{IsCutAt, IsRequired};
@@ -11,12 +11,13 @@ ghost use Rattle.ivl_store_lines.specs.Solving.{Adds, Carries, Cuts, Defines, Se
 use crate::fault::Fault;
 use crate::progress::Progress;
 use crate::request::Request;
+use crate::whole::{require_whole, restrict_whole, settle_whole};
 use indexmap::IndexSet;
 use intervallum::interval::Interval;
 use intervallum::interval_set::{IntervalSet, ToIntervalSet};
 use intervallum::ops::IsEmpty;
-use ivl_store::network::{Network, Settled};
-use ivl_store::store::{Constraint, StoreFault};
+use ivl_store::network::Network;
+use ivl_store::store::Constraint;
 use std::alloc::{AllocError, Global};
 use std::marker::Model;
 
@@ -81,7 +82,7 @@ impl Solver {
                 Ok(())
             }
             Request::GoOn => {
-                self.settle();
+                self.settle()?;
                 Ok(())
             }
             Request::Show(None) => Ok(()),
@@ -180,7 +181,6 @@ impl Solver {
         let variable = self.known(name)?;
         let allowed = set_of(self.alloc, pairs)?;
         self.restrict(variable, &allowed)?;
-        self.settle();
         Ok(())
     }
 
@@ -200,7 +200,6 @@ impl Solver {
             return Err(Fault::Repeated(if sum.x == sum.y { x } else { z }));
         }
         self.require(sum)?;
-        self.settle();
         Ok(())
     }
 
@@ -222,55 +221,44 @@ impl Solver {
         self.names.get_index_of(name)
     }
 
-    /// Cuts a domain. Others are not narrowed.
+    /// Cuts a domain, and narrows all. If allocation fails, nothing changes.
     fn restrict(&mut self, variable: usize, allowed: &IntervalSet<i64>) -> Result<(), AllocError>
-        requires { variable < length self.old.domains }
-        ensures cut { OnOk result (IsCutAt variable (Covers allowed.now) (set_at self.old.domains) (set_at self.new.domains)) }
+        ensures cut { OnOk result ((cut : List (List (ℤ × ℤ))) × IsCutAt variable (Covers allowed.now) (set_at self.old.domains) (set_at cut)
+            × Settles self.new.limit self.new.constraints cut self.new.domains self.new.progress) }
         ensures others { (self.new.names ≡ self.old.names) × (self.new.constraints ≡ self.old.constraints) × (self.new.limit ≡ self.old.limit) }
         ensures err { OnErr result (self.new ≡ self.old) }
     {
-        match self.network.restrict(variable, allowed) {
-            Ok(()) => {
-                self.some_empty = self.network.has_empty();
-                Ok(())
-            }
-            Err(_) => Err(AllocError),
-        }
+        let progress = restrict_whole(&mut self.network, variable, allowed, self.limit)?;
+        self.progress = progress;
+        self.some_empty = self.network.has_empty();
+        Ok(())
     }
 
-    /// Adds a constraint. No domain is narrowed.
+    /// Adds a constraint, and narrows the domains. If allocation fails, nothing changes.
     fn require(&mut self, sum: Constraint) -> Result<(), AllocError>
         requires distinct { AreDistinct sum }
         ensures required { OnOk result (IsRequired sum self.old.constraints self.new.constraints) }
-        ensures others { (self.new.names ≡ self.old.names) × (self.new.domains ≡ self.old.domains) × (self.new.limit ≡ self.old.limit) }
+        ensures settled { OnOk result (Settles self.new.limit self.new.constraints self.old.domains self.new.domains self.new.progress) }
+        ensures others { (self.new.names ≡ self.old.names) × (self.new.limit ≡ self.old.limit) }
         ensures err { OnErr result (self.new ≡ self.old) }
     {
-        match self.network.require(sum) {
-            Ok(()) => Ok(()),
-            Err(_) => Err(AllocError),
-        }
-    }
-
-    /// Narrows the domains by the constraints, within the limit.
-    fn settle(&mut self)
-        ensures settled { Settles self.new.limit self.new.constraints self.old.domains self.new.domains self.new.progress }
-        ensures others { (self.new.names ≡ self.old.names) × (self.new.constraints ≡ self.old.constraints) × (self.new.limit ≡ self.old.limit) }
-    {
-        let reached = self.network.settle(self.limit);
-        self.progress = progress_of(reached);
+        let progress = require_whole(&mut self.network, sum, self.limit)?;
+        self.progress = progress;
         self.some_empty = self.network.has_empty();
+        Ok(())
     }
-}
 
-/// How far the domains are narrowed, by what a call reached.
-fn progress_of(reached: Result<Settled, StoreFault>) -> Progress
-    ensures complete { result ≡ Progress.Complete → reached ≡ Ok Settled.All }
-    ensures used_up { result ≡ Progress.Budget → reached ≡ Ok Settled.Unfinished }
-{
-    match reached {
-        Ok(Settled::All) => Progress::Complete,
-        Ok(Settled::Unfinished) => Progress::Budget,
-        Err(_) => Progress::Memory,
+    /// Narrows the domains by the constraints, within the limit. If allocation fails, nothing
+    /// changes.
+    fn settle(&mut self) -> Result<(), AllocError>
+        ensures settled { OnOk result (Settles self.new.limit self.new.constraints self.old.domains self.new.domains self.new.progress) }
+        ensures others { (self.new.names ≡ self.old.names) × (self.new.constraints ≡ self.old.constraints) × (self.new.limit ≡ self.old.limit) }
+        ensures err { OnErr result (self.new ≡ self.old) }
+    {
+        let progress = settle_whole(&mut self.network, self.limit)?;
+        self.progress = progress;
+        self.some_empty = self.network.has_empty();
+        Ok(())
     }
 }
 

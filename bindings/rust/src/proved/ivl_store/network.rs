@@ -24,14 +24,18 @@
 
 #[allow(unused_imports)]
 use crate::rattle::prelude::*;
+use crate::proved::ivl_store::store::change::Change;
+use crate::proved::ivl_store::store::marks::{clear_marks, move_marks};
 use crate::proved::ivl_store::store::{Constraint, Store, StoreFault};
 use crate::proved::intervallum::interval_set::IntervalSet;
 use crate::proved::intervallum::width::Width;
 use crate::rattle::std::alloc::{AllocError, Global};
 
 mod marks;
+mod trail;
 
-use marks::unmarked_between;
+use marks::next_unmarked;
+use trail::{clear_unmarked, is_logging, log_change, reserve_change, revert_to};
 
 /// What [`Network::settle`] reached.
 #[derive(Clone, Copy, Debug, PartialEq, Eq)]
@@ -43,7 +47,7 @@ pub enum Settled {
 }
 
 /// Variables with a domain each, and the constraints between them so far. A contract sees the two
-/// lists.
+/// lists, and how many constraints have to be looked at again.
 ///
 /// Variables are named by their indexes from 0. Domains only lose members. A call that fails with
 /// [`StoreFault::Variable`] leaves the network unchanged.
@@ -54,6 +58,10 @@ pub struct Network<B: Width> {
     settled: Vec<bool>,
     // Where the search for a constraint without a mark begins.
     next: usize,
+    // What takes back each change since the first mark.
+    trail: Vec<Change<B>>,
+    // The places of the trail at which there is a mark.
+    marks: Vec<usize>,
 }
 
 impl<B: Width> Network<B> {
@@ -72,7 +80,7 @@ impl<B: Width> Network<B> {
     /// # Proved
     ///
     /// ```text
-    /// ensures { result ≡ record { domains = []; constraints = [] } }
+    /// ensures { result ≡ record { domains = []; constraints = []; unsettled = 0; marked = [] } }
     /// ```
     pub fn new(alloc: Global) -> Network<B> {
         Network {
@@ -80,6 +88,8 @@ impl<B: Width> Network<B> {
             constraints: Vec::new(alloc),
             settled: Vec::new(alloc),
             next: 0,
+            trail: Vec::new(alloc),
+            marks: Vec::new(alloc),
         }
     }
 
@@ -105,6 +115,7 @@ impl<B: Width> Network<B> {
     /// ```text
     /// ensures same { result.now ≡ self.now.constraints }
     /// ensures distinct { All AreDistinct self.now.constraints }
+    /// ensures unsettled { self.now.unsettled ≤ length self.now.constraints }
     /// ensures present { All (AllPresent (length self.now.domains)) self.now.constraints }
     /// ```
     ///
@@ -149,11 +160,15 @@ impl<B: Width> Network<B> {
     ///
     /// ```text
     /// ensures index { IfOk result (λ i. i ≡ length self.old.domains) }
-    /// ensures added { OnOk result (self.new ≡ record { domains = self.old.domains ++ domain ∷ []; constraints = self.old.constraints }) }
+    /// ensures added { OnOk result (self.new ≡ record { domains = self.old.domains ++ domain ∷ []; constraints = self.old.constraints; unsettled = self.old.unsettled; marked = self.old.marked }) }
     /// ensures err { OnErr result (self.new ≡ self.old) }
     /// ```
     pub fn add_variable(&mut self, domain: IntervalSet<B>) -> Result<usize, AllocError> {
-        self.store.add_variable(domain)
+        let is_kept = is_logging(&self.marks);
+        reserve_change(&mut self.trail, is_kept)?;
+        let index = self.store.add_variable(domain)?;
+        log_change(&mut self.trail, is_kept, true, Change::Variable);
+        Ok(index)
     }
 
     /// Requires that a constraint holds, together with those required before it. One that was
@@ -190,6 +205,7 @@ impl<B: Width> Network<B> {
     /// requires { AreDistinct constraint }
     /// ensures unknown { (i : ℕ) → (result ≡ Err (StoreFault.Variable i)) ↔ (first_unknown (length self.old.domains) constraint ≡ Some i) }
     /// ensures domains { self.new.domains ≡ self.old.domains }
+    /// ensures marked { self.new.marked ≡ self.old.marked }
     /// ensures required { OnOk result (IsRequired constraint self.old.constraints self.new.constraints) }
     /// ensures refused { OnErr result (self.new ≡ self.old) }
     /// ```
@@ -200,7 +216,7 @@ impl<B: Width> Network<B> {
         if let Some(i) = constraint.first_unknown(self.store.domains().len()) {
             return Err(StoreFault::Variable(i));
         }
-        if !self.constraints.contains(&constraint) {
+        if !has_constraint(&self.constraints, &constraint) {
             self.push(constraint)?;
         }
         Ok(())
@@ -208,10 +224,15 @@ impl<B: Width> Network<B> {
 
     /// Adds a constraint at the end, without a mark.
     fn push(&mut self, constraint: Constraint) -> Result<(), AllocError> {
+        let is_kept = is_logging(&self.marks);
+        reserve_change(&mut self.trail, is_kept)?;
         let count = self.constraints.len();
         self.constraints.push(constraint)?;
         match self.settled.push(false) {
-            Ok(()) => Ok(()),
+            Ok(()) => {
+                log_change(&mut self.trail, is_kept, true, Change::Require);
+                Ok(())
+            }
             Err(_) => {
                 self.constraints.truncate(count);
                 Err(AllocError)
@@ -244,6 +265,7 @@ impl<B: Width> Network<B> {
     /// ```text
     /// ensures unknown { (i : ℕ) → (result ≡ Err (StoreFault.Variable i)) ↔ ((i ≡ variable) × (length self.old.domains ≤ variable)) }
     /// ensures constraints { self.new.constraints ≡ self.old.constraints }
+    /// ensures marked { self.new.marked ≡ self.old.marked }
     /// ensures kept_count { length self.new.domains ≡ length self.old.domains }
     /// ensures cut { OnOk result (IsCutAt variable (Covers allowed.now) (set_at self.old.domains) (set_at self.new.domains)) }
     /// ensures refused { OnErr result (self.new ≡ self.old) }
@@ -254,8 +276,11 @@ impl<B: Width> Network<B> {
         if variable >= self.store.domains().len() {
             return Err(StoreFault::Variable(variable));
         }
-        self.store
-            .restrict_marked(variable, allowed, &self.constraints, &mut self.settled)?;
+        let is_kept = is_logging(&self.marks);
+        reserve_change(&mut self.trail, is_kept)?;
+        let (lost, change) = self.store.restrict_swapped(variable, allowed)?;
+        clear_marks(lost, &self.constraints, variable, &mut self.settled);
+        log_change(&mut self.trail, is_kept, lost, change);
         Ok(())
     }
 
@@ -266,7 +291,8 @@ impl<B: Width> Network<B> {
     /// [`Settled::All`] they are the greatest ones, within those before the call, in which each
     /// constraint supports every member. After [`Settled::Unfinished`] another call goes on.
     ///
-    /// A constraint whose domains did not change since it narrowed them is not counted.
+    /// A constraint whose domains did not change since it narrowed them is not counted: each
+    /// narrowing that counts removes a member, or leaves one constraint fewer to look at.
     ///
     /// # Errors
     ///
@@ -295,6 +321,7 @@ impl<B: Width> Network<B> {
     /// ```text
     /// ensures memory { IfErr result (λ fault. fault ≡ StoreFault.Memory) }
     /// ensures constraints { self.new.constraints ≡ self.old.constraints }
+    /// ensures marked { self.new.marked ≡ self.old.marked }
     /// ensures kept_count { length self.new.domains ≡ length self.old.domains }
     /// ensures keeps { Keeps self.old.constraints self.old.domains self.new.domains }
     /// ensures solutions { (point : ℕ → ℤ) → IsCommonSolution self.old.constraints (set_at self.old.domains) point → IsCommonSolution self.old.constraints (set_at self.new.domains) point }
@@ -302,9 +329,10 @@ impl<B: Width> Network<B> {
     /// ensures made { IfOk result (λ s. (count : ℕ) × (count ≤ budget) × (s ≡ Settled.Unfinished → count ≡ budget)
     ///     × AreNarrowings self.old.constraints count (set_at self.old.domains) (set_at self.new.domains)) }
     /// ensures made_before { OnErr result ((count : ℕ) × (count < budget) × AreNarrowings self.old.constraints count (set_at self.old.domains) (set_at self.new.domains)) }
+    /// ensures fewer { IfOk result (λ s. s ≡ Settled.Unfinished → budget + work B.whole self.new ≤ work B.whole self.old) }
     /// ```
     ///
-    /// Words: [`Keeps`](crate::definitions#Keeps), [`IsCommonSolution`](crate::definitions#IsCommonSolution), [`IsGreatestFamily`](crate::definitions#IsGreatestFamily), [`AreNarrowings`](crate::definitions#AreNarrowings).
+    /// Words: [`Keeps`](crate::definitions#Keeps), [`IsCommonSolution`](crate::definitions#IsCommonSolution), [`IsGreatestFamily`](crate::definitions#IsGreatestFamily), [`AreNarrowings`](crate::definitions#AreNarrowings), [`work`](crate::definitions#work).
     pub fn settle(&mut self, budget: u64) -> Result<Settled, StoreFault> {
         for _ in 0..budget {
             if !self.narrow_next()? {
@@ -317,31 +345,124 @@ impl<B: Width> Network<B> {
     /// Narrows by one constraint without a mark. Returns false, and changes nothing, if all are
     /// marked.
     fn narrow_next(&mut self) -> Result<bool, AllocError> {
-        let Some(i) = self.next_unmarked() else {
+        let Some(i) = next_unmarked(&self.settled, self.next) else {
             return Ok(false);
         };
-        self.store
-            .narrow_next(&self.constraints, i, &mut self.settled)?;
+        let is_kept = is_logging(&self.marks);
+        reserve_change(&mut self.trail, is_kept)?;
+        let constraint = self.constraints[i];
+        let (lost, change) = self.store.narrow_swapped(&constraint)?;
+        move_marks(&self.constraints, i, lost, &mut self.settled);
+        log_change(&mut self.trail, is_kept, lost.any(), change);
         self.next = i + 1;
         Ok(true)
     }
 
-    /// Returns a constraint without a mark, from where the last search ended; `None` if all are
-    /// marked.
-    fn next_unmarked(&self) -> Option<usize> {
-        let count = self.settled.len();
-        match unmarked_between(&self.settled, self.next, count) {
-            Some(i) => Some(i),
-            None => unmarked_between(&self.settled, 0, count),
-        }
-    }
-
     /// Whether all constraints are marked.
     fn reached(&self) -> Settled {
-        if self.next_unmarked().is_some() {
+        if next_unmarked(&self.settled, self.next).is_some() {
             Settled::Unfinished
         } else {
             Settled::All
         }
     }
+
+    /// Marks the network as it is, and returns the index of the mark. From the first mark on the
+    /// network keeps each domain that is replaced, until the marks are undone or dropped. `O(1)`
+    /// amortized; no domain is copied.
+    ///
+    /// # Errors
+    ///
+    /// Fails only if allocation fails. The network is unchanged after an error.
+    ///
+    /// ```
+    /// # use intervallum::proved::examples::*;
+    /// # fn main() -> Result<(), std::boxed::Box<dyn std::error::Error>> {
+    /// # let alloc = Global;
+    /// let mut network: Network<i32> = Network::new(alloc);
+    /// let x = network.add_variable(IntervalSet::new(alloc, 0, 9)?)?;
+    /// let mark = network.mark()?;
+    /// network.restrict(x, &IntervalSet::new(alloc, 5, 20)?)?;
+    /// network.add_variable(IntervalSet::new(alloc, 1, 1)?)?;
+    /// assert!(network.undo_to(mark));
+    /// assert!(network.domains().len() == 1 && network.domains()[0] == IntervalSet::new(alloc, 0, 9)?);
+    /// assert!(!network.undo_to(mark));
+    /// # Ok(())
+    /// # }
+    /// ```
+    ///
+    /// # Proved
+    ///
+    /// ```text
+    /// ensures index { IfOk result (λ mark. mark ≡ length self.old.marked) }
+    /// ensures marked { OnOk result (self.new ≡ record { domains = self.old.domains; constraints = self.old.constraints; unsettled = self.old.unsettled; marked = self.old.marked ++ (record { domains = self.old.domains; constraints = self.old.constraints }) ∷ [] }) }
+    /// ensures err { OnErr result (self.new ≡ self.old) }
+    /// ```
+    pub fn mark(&mut self) -> Result<usize, AllocError> {
+        let mark = self.marks.len();
+        self.marks.push(self.trail.len())?;
+        Ok(mark)
+    }
+
+    /// Takes back all changes since a mark: variables, constraints and domains are what they were at
+    /// the mark. This mark and later ones are gone. Returns false, and changes nothing, if there is
+    /// no such mark.
+    ///
+    /// Linear in the changes, and for each domain that is put back a pass over the constraints: those
+    /// that name its variable have to be looked at again. Does not allocate.
+    ///
+    /// # Proved
+    ///
+    /// ```text
+    /// ensures told { IsTrue result ↔ (mark < length self.old.marked) }
+    /// ensures none { result ≡ false → self.new ≡ self.old }
+    /// ensures undone { result ≡ true → HoldsAt (λ past. (self.new.domains ≡ past.domains) × (self.new.constraints ≡ past.constraints)) self.old.marked mark }
+    /// ensures marked { result ≡ true → self.new.marked ≡ take mark self.old.marked }
+    /// ```
+    pub fn undo_to(&mut self, mark: usize) -> bool {
+        if mark >= self.marks.len() {
+            return false;
+        }
+        let start = self.marks[mark];
+        revert_to(
+            &mut self.trail,
+            start,
+            &mut self.store,
+            &mut self.constraints,
+            &mut self.settled,
+        );
+        self.marks.truncate(mark);
+        true
+    }
+
+    /// Drops a mark and later ones, if there are any. All changes stay. Without a mark, the network
+    /// keeps no domain that is replaced. Does not allocate.
+    ///
+    /// ```
+    /// # use intervallum::proved::examples::*;
+    /// # fn main() -> Result<(), std::boxed::Box<dyn std::error::Error>> {
+    /// # let alloc = Global;
+    /// let mut network: Network<i32> = Network::new(alloc);
+    /// let mark = network.mark()?;
+    /// network.add_variable(IntervalSet::new(alloc, 0, 9)?)?;
+    /// network.drop_marks(mark);
+    /// assert!(!network.undo_to(mark) && network.domains().len() == 1);
+    /// # Ok(())
+    /// # }
+    /// ```
+    ///
+    /// # Proved
+    ///
+    /// ```text
+    /// ensures { self.new ≡ record { domains = self.old.domains; constraints = self.old.constraints; unsettled = self.old.unsettled; marked = take mark self.old.marked } }
+    /// ```
+    pub fn drop_marks(&mut self, mark: usize) {
+        self.marks.truncate(mark);
+        clear_unmarked(&self.marks, &mut self.trail);
+    }
+}
+
+/// Whether a constraint is one of the list.
+fn has_constraint(constraints: &[Constraint], constraint: &Constraint) -> bool {
+    constraints.contains(constraint)
 }

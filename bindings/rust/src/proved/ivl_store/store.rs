@@ -25,13 +25,15 @@
 use crate::rattle::prelude::*;
 
 pub mod callers;
+pub(crate) mod change;
 mod constraint;
 mod keeping;
 
-mod marks;
+pub(crate) mod marks;
 mod narrowing;
 mod post;
 mod posting;
+mod swapping;
 
 pub use constraint::{Constraint, StoreFault};
 use crate::proved::intervallum::interval_set::IntervalSet;

@@ -1,4 +1,4 @@
-//! Tests of the condition of [`Store::post_all`].
+//! The condition of [`Store::post_all`], and the call that tests it.
 
 #[allow(unused_imports)]
 use crate::rattle::prelude::*;
@@ -32,35 +32,34 @@ fn is_distinct<B: Width>(post: &Post<B>) -> bool {
     }
 }
 
-/// Passes the posts to [`Store::post_all`], unless a constraint among them has a variable twice:
-/// then returns `None`, and leaves the store unchanged.
-///
-/// # Errors
-///
-/// Those of [`Store::post_all`], and only if each constraint has three different variables.
-///
-/// # Proved
-///
-/// ```text
-/// ensures none { IfOk result (λ o. IsNone o → ¬ (All AreDistinct (constraints_of posts.now)) × (store.new ≡ store.old)) }
-/// ensures replies { IfOk result (λ o. MatchOption o ⊤ (λ replies. AnswersPosts posts.now store.old replies.items)) }
-/// ensures left { IfOk result (λ o. IsSome o → IsLeftBy posts.now (set_at store.old) (set_at store.new)) }
-/// ensures unknown { (i : ℕ) → (result ≡ Err (StoreFault.Variable i)) ↔ (All AreDistinct (constraints_of posts.now) × (first_unknown_in_posts (length store.old) posts.now ≡ Some i)) }
-/// ensures unchanged { (i : ℕ) → result ≡ Err (StoreFault.Variable i) → store.new ≡ store.old }
-/// ensures memory { result ≡ Err StoreFault.Memory → All AreDistinct (constraints_of posts.now) × (first_unknown_in_posts (length store.old) posts.now ≡ None) }
-/// ensures partly { result ≡ Err StoreFault.Memory → IsPartlyPosted posts.now store.old store.new }
-/// ensures kept_count { length store.new ≡ length store.old }
-/// ensures only_lost { LiesWithin (set_at store.new) (set_at store.old) }
-/// ensures families { (family : List (List (ℤ × ℤ))) → SupportedBy (constraints_of posts.now) (set_at family) → LiesWithin (set_at family) (CutBy posts.now (set_at store.old)) → LiesWithin (set_at family) (set_at store.new) }
-/// ```
-///
-/// Words: [`AreDistinct`](crate::definitions#AreDistinct), [`constraints_of`](crate::definitions#constraints_of), [`AnswersPosts`](crate::definitions#AnswersPosts), [`IsLeftBy`](crate::definitions#IsLeftBy), [`first_unknown_in_posts`](crate::definitions#first_unknown_post), [`IsPartlyPosted`](crate::definitions#IsPartlyPosted), [`LiesWithin`](crate::definitions#LiesWithin), [`SupportedBy`](crate::definitions#SupportedBy), [`CutBy`](crate::definitions#CutBy).
-pub fn post_if_distinct<B: Width>(
-    store: &mut Store<B>,
-    posts: &[Post<B>],
-) -> Result<Option<Vec<bool>>, StoreFault> {
-    if !all_distinct(posts) {
-        return Ok(None);
+impl<B: Width> Store<B> {
+    /// Posts all as [`Store::post_all`] does, without its condition: returns `None`, and leaves the
+    /// store unchanged, if a constraint among them has a variable twice.
+    ///
+    /// # Errors
+    ///
+    /// Those of [`Store::post_all`], and only if each constraint has three different variables.
+    ///
+    /// # Proved
+    ///
+    /// ```text
+    /// ensures none { IfOk result (λ o. IsNone o → ¬ (All AreDistinct (constraints_of posts.now)) × (self.new ≡ self.old)) }
+    /// ensures replies { IfOk result (λ o. MatchOption o ⊤ (λ replies. AnswersPosts posts.now self.old replies.items)) }
+    /// ensures left { IfOk result (λ o. IsSome o → IsLeftBy posts.now (set_at self.old) (set_at self.new)) }
+    /// ensures unknown { (i : ℕ) → (result ≡ Err (StoreFault.Variable i)) ↔ (All AreDistinct (constraints_of posts.now) × (first_unknown_in_posts (length self.old) posts.now ≡ Some i)) }
+    /// ensures unchanged { (i : ℕ) → result ≡ Err (StoreFault.Variable i) → self.new ≡ self.old }
+    /// ensures memory { result ≡ Err StoreFault.Memory → All AreDistinct (constraints_of posts.now) × (first_unknown_in_posts (length self.old) posts.now ≡ None) }
+    /// ensures partly { result ≡ Err StoreFault.Memory → IsPartlyPosted posts.now self.old self.new }
+    /// ensures kept_count { length self.new ≡ length self.old }
+    /// ensures only_lost { LiesWithin (set_at self.new) (set_at self.old) }
+    /// ensures families { (family : List (List (ℤ × ℤ))) → SupportedBy (constraints_of posts.now) (set_at family) → LiesWithin (set_at family) (CutBy posts.now (set_at self.old)) → LiesWithin (set_at family) (set_at self.new) }
+    /// ```
+    ///
+    /// Words: [`AreDistinct`](crate::definitions#AreDistinct), [`constraints_of`](crate::definitions#constraints_of), [`AnswersPosts`](crate::definitions#AnswersPosts), [`IsLeftBy`](crate::definitions#IsLeftBy), [`first_unknown_in_posts`](crate::definitions#first_unknown_post), [`IsPartlyPosted`](crate::definitions#IsPartlyPosted), [`LiesWithin`](crate::definitions#LiesWithin), [`SupportedBy`](crate::definitions#SupportedBy), [`CutBy`](crate::definitions#CutBy).
+    pub fn try_post_all(&mut self, posts: &[Post<B>]) -> Result<Option<Vec<bool>>, StoreFault> {
+        if !all_distinct(posts) {
+            return Ok(None);
+        }
+        Ok(Some(self.post_all(posts)?))
     }
-    Ok(Some(store.post_all(posts)?))
 }

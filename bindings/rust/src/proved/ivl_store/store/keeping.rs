@@ -5,8 +5,7 @@ use crate::rattle::prelude::*;
 use super::Constraint;
 use crate::proved::intervallum::interval::Interval;
 use crate::proved::intervallum::interval_set::IntervalSet;
-use crate::proved::intervallum::ops::{Bounded, Cardinality, Intersection, IsEmpty};
-use crate::proved::intervallum::steps::Walk;
+use crate::proved::intervallum::ops::{Cardinality, Intersection};
 use crate::proved::intervallum::width::Width;
 use crate::proved::ivl_within::within::{Combined, image, kept};
 use crate::rattle::std::alloc::AllocError;
@@ -90,13 +89,7 @@ fn keep_run<B: Width>(
     if kept == run {
         return Ok(None);
     }
-    let alloc = Walk::new(x).alloc();
-    let left = if kept.is_empty() {
-        IntervalSet::empty(alloc)
-    } else {
-        IntervalSet::new(alloc, kept.lower(), kept.upper())?
-    };
-    Ok(Some(left))
+    Ok(Some(IntervalSet::of(x.allocator(), kept)?))
 }
 
 /// Keeps the members of `x` that are in another set. Returns `None` if all are.

@@ -8,14 +8,14 @@ use crate::rattle::std::alloc::{AllocError, Global};
 /// Whether a member was lost at x, at y and at z; a variable in two places has the mark of its
 /// last.
 #[derive(Clone, Copy)]
-pub(super) struct Lost {
+pub(crate) struct Lost {
     pub(super) x: bool,
     pub(super) y: bool,
     pub(super) z: bool,
 }
 
 impl Lost {
-    pub(super) fn any(self) -> bool {
+    pub(crate) fn any(self) -> bool {
         self.x || self.y || self.z
     }
 }
@@ -28,7 +28,7 @@ pub(super) fn no_marks(alloc: Global, count: usize) -> Result<Vec<bool>, AllocEr
 /// Updates the marks after narrowing by constraint `i`. Constraints that name a variable which lost
 /// a member lose their mark; `i` itself is marked unless a member was lost and it has a variable
 /// twice.
-pub(super) fn move_marks(constraints: &[Constraint], i: usize, lost: Lost, settled: &mut Vec<bool>) {
+pub(crate) fn move_marks(constraints: &[Constraint], i: usize, lost: Lost, settled: &mut Vec<bool>) {
     let c = constraints[i];
     clear_marks(lost.x, constraints, c.x, settled);
     clear_marks(lost.y, constraints, c.y, settled);
@@ -42,7 +42,7 @@ fn is_settled_after(c: &Constraint, lost: Lost) -> bool {
 }
 
 /// Clears the marks of the constraints that name the variable, if it has changed.
-pub(super) fn clear_marks(
+pub(crate) fn clear_marks(
     changed: bool,
     constraints: &[Constraint],
     variable: usize,

@@ -2,11 +2,11 @@
 
 #[allow(unused_imports)]
 use crate::rattle::prelude::*;
+use super::change::Change;
 use super::constraint::first_unknown_of;
 use super::keeping::narrowed_sets;
 use super::marks::{Lost, move_marks, no_marks};
 use super::{Constraint, Store, StoreFault};
-use crate::proved::intervallum::interval_set::IntervalSet;
 use crate::proved::intervallum::width::Width;
 use crate::rattle::std::alloc::AllocError;
 
@@ -63,27 +63,26 @@ impl<B: Width> Store<B> {
 
     /// The same for variables that the store has.
     fn narrow_known(&mut self, c: &Constraint) -> Result<Lost, AllocError> {
+        let (lost, _) = self.narrow_swapped(c)?;
+        Ok(lost)
+    }
+
+    /// The same, and returns what takes it back.
+    pub(crate) fn narrow_swapped(&mut self, c: &Constraint) -> Result<(Lost, Change<B>), AllocError> {
         let (x, y, z) = narrowed_sets(&self.domains, c)?;
         let lost = Lost {
             x: x.is_some(),
             y: y.is_some(),
             z: z.is_some(),
         };
-        self.put(c.x, x);
-        self.put(c.y, y);
-        self.put(c.z, z);
-        Ok(lost)
-    }
-
-    /// Puts what is left in place of a domain.
-    pub(super) fn put(&mut self, i: usize, left: Option<IntervalSet<B>>) {
-        if let Some(set) = left {
-            self.domains[i] = set;
-        }
+        let x = self.swap(c.x, x);
+        let y = self.swap(c.y, y);
+        let z = self.swap(c.z, z);
+        Ok((lost, Change::Domains(*c, x, y, z)))
     }
 
     /// Narrows by constraint `i`, unless it is marked as settled.
-    pub(crate) fn narrow_next(
+    fn narrow_next(
         &mut self,
         constraints: &[Constraint],
         i: usize,

@@ -2,6 +2,7 @@
 
 #[allow(unused_imports)]
 use crate::rattle::prelude::*;
+use super::change::Change;
 use super::keeping::keep_within;
 use super::marks::clear_marks;
 use super::post::first_unknown_post;
@@ -119,7 +120,7 @@ impl<B: Width> Store<B> {
 
     /// Keeps the members of one domain that are allowed, and clears the marks of the constraints
     /// that name the variable if it lost a member.
-    pub(crate) fn restrict_marked(
+    fn restrict_marked(
         &mut self,
         i: usize,
         allowed: &IntervalSet<B>,
@@ -133,10 +134,20 @@ impl<B: Width> Store<B> {
 
     /// Keeps the members of one domain that are allowed. Returns false if that is all of them.
     fn restrict(&mut self, i: usize, allowed: &IntervalSet<B>) -> Result<bool, AllocError> {
+        let (lost, _) = self.restrict_swapped(i, allowed)?;
+        Ok(lost)
+    }
+
+    /// The same, and returns what takes it back.
+    pub(crate) fn restrict_swapped(
+        &mut self,
+        i: usize,
+        allowed: &IntervalSet<B>,
+    ) -> Result<(bool, Change<B>), AllocError> {
         let left = keep_within(&self.domains[i], allowed)?;
         let lost = left.is_some();
-        self.put(i, left);
-        Ok(lost)
+        let old = self.swap(i, left);
+        Ok((lost, Change::Domain(i, old)))
     }
 
     /// Narrows by the constraints until none changes a domain.

@@ -1,0 +1,33 @@
+//! Domains that are replaced, so that what stood there can be put back.
+
+#[allow(unused_imports)]
+use crate::rattle::prelude::*;
+use super::Store;
+use crate::proved::intervallum::interval_set::IntervalSet;
+use crate::proved::intervallum::width::Width;
+use crate::rattle::std::mem;
+
+impl<B: Width> Store<B> {
+    /// Puts what is left in place of a domain. Returns the set that stood there; `None` if the
+    /// domain stays.
+    pub(super) fn swap(&mut self, i: usize, left: Option<IntervalSet<B>>) -> Option<IntervalSet<B>> {
+        match left {
+            Some(set) => Some(mem::replace(&mut self.domains[i], set)),
+            None => None,
+        }
+    }
+
+    /// Puts a set in place of a domain. Nothing changes if there is no such variable.
+    pub(crate) fn replace(&mut self, i: usize, set: IntervalSet<B>) {
+        set.in_whole();
+        if i < self.domains.len() {
+            self.domains[i] = set;
+        }
+    }
+
+    /// Drops the last variable, if there is one.
+    pub(crate) fn drop_variable(&mut self) {
+        let count = self.domains.len().saturating_sub(1);
+        self.domains.truncate(count);
+    }
+}

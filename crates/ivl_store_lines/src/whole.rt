@@ -1,0 +1,109 @@
+//! Lines that change the network, each carried out whole or not at all.
+//!
+//! A network is marked before a line and taken back to the mark if an allocation fails.
+ghost use Rattle.std.specs.Prelude.{◌≡◌, ◌<◌, ℤ, List, HoldsAt, IfOk, OnErr, OnOk, length};
+ghost use Rattle.ivl_laws.specs.Families.{set_at};
+ghost use Rattle.ivl_laws.specs.Runs.{Covers};
+ghost use Rattle.ivl_store.specs.Network.{IsCutAt, IsRequired};
+ghost use Rattle.ivl_store.specs.Solutions.{AreDistinct};
+ghost use Rattle.ivl_store_lines.specs.Solving.{Settles};
+
+use crate::progress::Progress;
+use intervallum::interval_set::IntervalSet;
+use ivl_store::network::{Network, Settled};
+use ivl_store::store::Constraint;
+use std::alloc::AllocError;
+
+/// Cuts a domain and narrows all, within the limit.
+pub fn restrict_whole(
+    network: &mut Network<i64>,
+    variable: usize,
+    allowed: &IntervalSet<i64>,
+    limit: u64,
+) -> Result<Progress, AllocError>
+    ensures cut { IfOk result (λ p. (cut : List (List (ℤ × ℤ))) × IsCutAt variable (Covers allowed.now) (set_at network.old.domains) (set_at cut)
+        × Settles limit network.old.constraints cut network.new.domains p) }
+    ensures constraints { OnOk result (network.new.constraints ≡ network.old.constraints) }
+    ensures kept_count { OnOk result (length network.new.domains ≡ length network.old.domains) }
+    ensures refused { OnErr result ((network.new.domains ≡ network.old.domains) × (network.new.constraints ≡ network.old.constraints)) }
+{
+    let mark = network.mark()?;
+    match network.restrict(variable, allowed) {
+        Ok(()) => {
+            let progress = settle_to(network, mark, limit)?;
+            Ok(progress)
+        }
+        Err(_) => {
+            network.drop_marks(mark);
+            Err(AllocError)
+        }
+    }
+}
+
+/// Adds a constraint and narrows the domains, within the limit.
+pub fn require_whole(
+    network: &mut Network<i64>,
+    sum: Constraint,
+    limit: u64,
+) -> Result<Progress, AllocError>
+    requires distinct { AreDistinct sum }
+    ensures required { OnOk result (IsRequired sum network.old.constraints network.new.constraints) }
+    ensures settled { IfOk result (λ p. Settles limit network.new.constraints network.old.domains network.new.domains p) }
+    ensures kept_count { OnOk result (length network.new.domains ≡ length network.old.domains) }
+    ensures refused { OnErr result ((network.new.domains ≡ network.old.domains) × (network.new.constraints ≡ network.old.constraints)) }
+{
+    let mark = network.mark()?;
+    match network.require(sum) {
+        Ok(()) => {
+            let progress = settle_to(network, mark, limit)?;
+            Ok(progress)
+        }
+        Err(_) => {
+            network.drop_marks(mark);
+            Err(AllocError)
+        }
+    }
+}
+
+/// Narrows the domains by the constraints, within the limit.
+pub fn settle_whole(network: &mut Network<i64>, limit: u64) -> Result<Progress, AllocError>
+    ensures constraints { network.new.constraints ≡ network.old.constraints }
+    ensures settled { IfOk result (λ p. Settles limit network.old.constraints network.old.domains network.new.domains p) }
+    ensures kept_count { OnOk result (length network.new.domains ≡ length network.old.domains) }
+    ensures refused { OnErr result (network.new.domains ≡ network.old.domains) }
+{
+    let mark = network.mark()?;
+    let progress = settle_to(network, mark, limit)?;
+    Ok(progress)
+}
+
+/// Narrows the domains and drops the mark, or takes the network back to it.
+fn settle_to(network: &mut Network<i64>, mark: usize, limit: u64) -> Result<Progress, AllocError>
+    requires { mark < length network.old.marked }
+    ensures constraints { OnOk result (network.new.constraints ≡ network.old.constraints) }
+    ensures settled { IfOk result (λ p. Settles limit network.old.constraints network.old.domains network.new.domains p) }
+    ensures kept_count { OnOk result (length network.new.domains ≡ length network.old.domains) }
+    ensures undone { OnErr result (HoldsAt (λ past. (network.new.domains ≡ past.domains) × (network.new.constraints ≡ past.constraints)) network.old.marked mark) }
+{
+    match network.settle(limit) {
+        Ok(reached) => {
+            network.drop_marks(mark);
+            Ok(progress_of(reached))
+        }
+        Err(_) => {
+            network.undo_to(mark);
+            Err(AllocError)
+        }
+    }
+}
+
+/// How far the domains are narrowed, by what a call reached.
+fn progress_of(reached: Settled) -> Progress
+    ensures complete { result ≡ Progress.Complete → reached ≡ Settled.All }
+    ensures used_up { result ≡ Progress.Budget → reached ≡ Settled.Unfinished }
+{
+    match reached {
+        Settled::All => Progress::Complete,
+        Settled::Unfinished => Progress::Budget,
+    }
+}
