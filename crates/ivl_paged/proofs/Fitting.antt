@@ -9,7 +9,7 @@ use Rattle.ivl_laws.specs.Sets.{AtLeast, IsBetween, IsSubset, SameMembers, Union
 use Rattle.ivl_laws.specs.Runs.{Covers, IsMaximal}
 use Rattle.ivl_laws.proofs.Counts.{in-append}
 use Rattle.ivl_laws.proofs.Intervals.{width_of-filled}
-use Rattle.ivl_laws.proofs.Merging.{covers-append, covers-append_left, covers-append_right}
+use Rattle.ivl_laws.proofs.Merging.{covers-append_left, covers-append_right}
 use Rattle.ivl_laws.proofs.Places.{IsMaximal-take, open_at}
 use Rattle.ivl_laws.proofs.Products.{one_covers}
 use Rattle.intervallum.specs.Neighbours.{IsRunWith}
@@ -17,7 +17,7 @@ use Rattle.intervallum.specs.FirstFit.{FitsAt, IsFirstFit}
 use Rattle.intervallum.proofs.FirstFit.{IsFitOf, fit_of_members, fit_of_same, in_one_run}
 use Rattle.intervallum.proofs.Ranks.{more_is, none_taken}
 use Rattle.ivl_paged.specs.Pages.{IsLongest, StartsUpTo, flattened}
-use Rattle.ivl_paged.proofs.Paging.{IsMaximal-dropped, covers_dropped, covers_taken, cut_at, ends_below, order_of, pages_ascend, parts_apart, taken_covers}
+use Rattle.ivl_paged.proofs.Paging.{IsMaximal-dropped, covers_dropped, covers_taken, cut_at, ends_below, order_of, parts_apart, taken_covers}
 
 -- ---- the longest run
 
@@ -52,10 +52,10 @@ module _ (L : List (ℤ × ℤ)) (i k : ℕ) (d : ℤ × ℤ) (m : IsMaximal L) 
       (λ (a : IsIn (take i L) p). inl (so_far.most n v (λ z b. let lo = b.0 in let hi = b.1 in one_covers (take i L) p z a (omega (arith, ints), omega (arith, ints)))))
       (⊎_elim
       (λ (e : p ≡ d). inr (
-          let width = width_of-filled d open_here in
-          let lo : d.0 ≤ℤ v = subst (λ (q : ℤ × ℤ). q.0 ≤ℤ v) e low in
-          let hi : ((v +ℤ pos n) -ℤ pos 1) ≤ℤ d.1 = subst (λ (q : ℤ × ℤ). ((v +ℤ pos n) -ℤ pos 1) ≤ℤ q.1) e high in
-          omega (arith, ints, width, lo, hi)))
+      let width = width_of-filled d open_here in
+      let lo : d.0 ≤ℤ v = subst (λ (q : ℤ × ℤ). q.0 ≤ℤ v) e low in
+      let hi : ((v +ℤ pos n) -ℤ pos 1) ≤ℤ d.1 = subst (λ (q : ℤ × ℤ). ((v +ℤ pos n) -ℤ pos 1) ≤ℤ q.1) e high in
+      omega (arith, ints, width, lo, hi)))
       (λ x. absurd x))
       (in-append (take i L) (d ∷ []) p r.1)
 
@@ -149,10 +149,10 @@ longest_grown k n S T run p old same filled r (more, wide, which) = record { fit
     most m v f = by_lt_z ((v +ℤ pos m) -ℤ pos 1) run.0
         (λ before. let le = clear m v f (λ z b c. let hi = b.1 in let lo = c.0 in omega (arith, ints, before, hi, lo)) in omega (arith, le, more))
         (λ up. by_lt_z run.1 v
-            (λ after. let le = clear m v f (λ z b c. let lo = b.0 in let hi = c.1 in omega (arith, ints, after, lo, hi)) in omega (arith, le, more))
-            (λ down. by_lt_z v run.0
-                (λ under. let o = open_run in let le = in_run m T run v p.0 run.0 r f (omega (arith, ints, under), up) (omega (arith, ints), o) in omega (arith, le, wide))
-                (λ over. share m v f over down)))
+        (λ after. let le = clear m v f (λ z b c. let lo = b.0 in let hi = c.1 in omega (arith, ints, after, lo, hi)) in omega (arith, le, more))
+        (λ down. by_lt_z v run.0
+        (λ under. let o = open_run in let le = in_run m T run v p.0 run.0 r f (omega (arith, ints, under), up) (omega (arith, ints), o) in omega (arith, le, wide))
+        (λ over. share m v f over down)))
       where
         share : (m : ℕ) (v : ℤ) → FitsAt m T v → run.0 ≤ℤ v → v ≤ℤ run.1 → m ≤ n
         share zero v f over down = omega arith
@@ -161,12 +161,17 @@ longest_grown k n S T run p old same filled r (more, wide, which) = record { fit
 -- p was removed from S, which left T, and lies in a run of S that is not the longest
 longest_kept : (k : ℕ) (S T : ℤ → Type 0) (run p : ℤ × ℤ) → IsLongest k S → SameMembers T (Without S (IsBetween p)) → IsRunWith p.0 S run → p.1 ≤ℤ run.1 → width_of run < k → IsLongest k T
 longest_kept k S T run p old same r high less = record {
-  fits = (old.fits.0, λ z b. (same z).1 (old.fits.1 z b,
+  fits = (
+    old.fits.0,
+    λ z b. (same z).1 (
+      old.fits.1 z b,
       λ c. let low = r.holds.0 in
           let lo = c.0 in
           let hi = c.1 in
           let le = in_run k S run old.fits.0 p.0 z r old.fits.1 b (omega (arith, ints, low, lo), omega (arith, ints, high, hi)) in
-          omega (arith, le, less)));
+          omega (arith, le, less),
+    ),
+  );
   most = λ m v f. old.most m v (λ z b. ((same z).0 (f z b)).0);
 }
 
@@ -214,8 +219,8 @@ fit_in_first n A B run some m k = record {
   members = λ z b. covers-append_left A B z (k.members z b);
   lowest = λ v f. ⊎_elim (λ a. k.lowest v a)
       (λ b. let e = k.count in
-          let here = k.members run.0 (omega (arith, ints), omega (arith, ints, e, some)) in
-          let far = parts_apart A B run.0 v m here (first_of n v (Covers B) some b) in omega (arith, ints, far))
+      let here = k.members run.0 (omega (arith, ints), omega (arith, ints, e, some)) in
+      let far = parts_apart A B run.0 v m here (first_of n v (Covers B) some b) in omega (arith, ints, far))
       (fits_in_part n A B v some m f);
 }
 
@@ -298,8 +303,8 @@ module _ (n : ℕ) (P : List (List (ℤ × ℤ))) (N : List (ℤ × ℤ)) (v : �
     members = λ z b. let a = r.members z b in (subst (λ (K : List (ℤ × ℤ)). Covers K z) parts (covers-append_left T D z a.0), a.1);
     lowest = λ w f. ⊎_elim (λ a. r.lowest w a)
         (λ b. let c = r.count in
-            let here = r.members run.0 (omega (arith, ints), omega (arith, ints, c, some)) in
-            let far = parts_apart T D run.0 w open_parts here.0 (first_of n w (Covers D) some b) in omega (arith, ints, far))
+        let here = r.members run.0 (omega (arith, ints), omega (arith, ints, c, some)) in
+        let far = parts_apart T D run.0 w open_parts here.0 (first_of n w (Covers D) some b) in omega (arith, ints, far))
         (in_part w f);
   }
 

@@ -1,19 +1,18 @@
 -- What a page tells of all: its least and its greatest member, its runs, and how many members there are below.
-use Rattle.std.proofs.Common.{◌≡◌, ◌⊎◌, ⊎_elim, inl, inr, ℕ, zero, suc, ◌+◌, ◌-◌, ◌<◌, ◌≤◌, ℤ, pos, ◌+ℤ◌, ◌-ℤ◌, ◌≤ℤ◌, ◌<ℤ◌, List, [], ◌∷◌, ◌++◌, length, get_or, take, take_all, drop, Some, None, refl, sym, ap, subst, ◌∙◌, arith, append-nil}
+use Rattle.std.proofs.Common.{◌≡◌, ◌⊎◌, ⊎_elim, inl, inr, ℕ, zero, suc, ◌+◌, ◌-◌, ◌<◌, ◌≤◌, ℤ, pos, ◌+ℤ◌, ◌-ℤ◌, ◌≤ℤ◌, List, [], ◌∷◌, length, get_or, take, take_all, Some, None, refl, sym, subst, arith}
 use Rattle.std.specs.Prelude.{Option, MatchOption}
 use Rattle.std.proofs.lemmas.Int.{ints}
 use Rattle.ivl_laws.specs.Bounds.{width_of}
 use Rattle.ivl_laws.specs.Counts.{IsCountOf}
 use Rattle.ivl_laws.specs.Families.{set_at}
-use Rattle.ivl_laws.specs.Sets.{AtLeast, AtMost, Below, HasNone, HasSome, IsBetween, IsCrossed, IsHullOf, IsInRange, IsSubset, Union}
+use Rattle.ivl_laws.specs.Sets.{AtLeast, AtMost, Below, HasNone, IsBetween, IsCrossed, IsHullOf, Union}
 use Rattle.ivl_laws.specs.Runs.{Covers, IsMaximal, IsRunListIn}
 use Rattle.ivl_laws.proofs.Counts.{IsCountOf-apart, IsCountOf-none, IsCountOf-same, count_is_monotone, count_is_unique}
 use Rattle.ivl_laws.proofs.Intervals.{IsCountOf-width_of}
-use Rattle.ivl_laws.proofs.Merging.{covers-append, covers-append_left, covers-append_right}
 use Rattle.ivl_laws.proofs.Runs.{lower_end, upper_end}
 use Rattle.intervallum.specs.Neighbours.{IsGreatest, IsLeast, IsRunWith}
 use Rattle.ivl_paged.specs.Pages.{StartsUpTo, flattened}
-use Rattle.ivl_paged.proofs.Paging.{covers_dropped, covers_page, covers_taken, dropped_covers, ends_below, flattened_more, in_page, order_of, page_of, pages_ascend, taken_covers}
+use Rattle.ivl_paged.proofs.Paging.{covers_page, covers_taken, ends_below, in_page, order_of, page_of, pages_ascend, taken_covers}
 
 -- ---- the ends
 
@@ -218,8 +217,8 @@ counts_next_page P i L k n m h is a b = IsCountOf-same (Union (Covers (flattened
     ))
     (IsCountOf-apart (Covers (flattened (take i P))) (Covers L) k n
     (λ z c d. let (j, lt, f) = covers_taken P i z c in
-        let far = pages_ascend P j i z z m lt f (subst (λ (K : List (ℤ × ℤ)). Covers K z) is d) in
-        omega (arith, ints, far))
+    let far = pages_ascend P j i z z m lt f (subst (λ (K : List (ℤ × ℤ)). Covers K z) is d) in
+    omega (arith, ints, far))
     a b)
 
 pub counts_fit : (whole : ℤ × ℤ) (P : List (List (ℤ × ℤ))) (i k greatest : ℕ) → IsRunListIn whole (flattened P) → width_of whole ≤ greatest → IsCountOf k (Covers (flattened (take i P))) → k ≤ greatest
@@ -242,8 +241,8 @@ ranks_seen P N L v n a b m e s some f x y = IsCountOf-same (Union (Covers (flatt
     (λ z. (
       ⊎_elim
           (λ (c : Covers (flattened (take (n - 1) P)) z). let (j, lt, d) = covers_taken P (n - 1) z c in
-              let far = ends_below P v n j z m s (omega (arith, lt, some)) d in
-              (seen_in P N m e j z d, omega (arith, ints, far)))
+          let far = ends_below P v n j z m s (omega (arith, lt, some)) d in
+          (seen_in P N m e j z d, omega (arith, ints, far)))
           (λ (c : Below v (Covers L) z). (seen_in P N m e (n - 1) z (subst (λ (K : List (ℤ × ℤ)). Covers K z) f c.0), c.1)),
       (λ (c, low). let (j, lt, d) = place_in P N m e z c in
           ⊎_elim (λ less. inl (taken_covers P (n - 1) j z less d))
@@ -254,8 +253,8 @@ ranks_seen P N L v n a b m e s some f x y = IsCountOf-same (Union (Covers (flatt
     ))
     (IsCountOf-apart (Covers (flattened (take (n - 1) P))) (Below v (Covers L)) a b
     (λ z c d. let (j, lt, g) = covers_taken P (n - 1) z c in
-        let far = pages_ascend P j (n - 1) z z m lt g (subst (λ (K : List (ℤ × ℤ)). Covers K z) f d.0) in
-        omega (arith, ints, far))
+    let far = pages_ascend P j (n - 1) z z m lt g (subst (λ (K : List (ℤ × ℤ)). Covers K z) f d.0) in
+    omega (arith, ints, far))
     x y)
 
 pub ranks_fit : (whole : ℤ × ℤ) (P : List (List (ℤ × ℤ))) (N : List (ℤ × ℤ)) (v : ℤ) (k greatest : ℕ) → IsRunListIn whole (flattened P) → flattened P ≡ N → width_of whole ≤ greatest →
@@ -285,8 +284,8 @@ nth_seen number P N L i k left size (Some x) m e h is a b more t =
           (λ z. (
             ⊎_elim
                 (λ (c : Covers (flattened (take i P)) z). let (j, lt, d) = covers_taken P i z c in
-                    let far = pages_ascend P j i z v m lt d here in
-                    (seen_in P N m e j z d, omega (arith, ints, far)))
+                let far = pages_ascend P j i z v m lt d here in
+                (seen_in P N m e j z d, omega (arith, ints, far)))
                 (λ (c : Below v (Covers L) z). (seen_in P N m e i z (subst (λ (K : List (ℤ × ℤ)). Covers K z) is c.0), c.1)),
             (λ (c, low). let (j, lt, d) = place_in P N m e z c in
                 ⊎_elim (λ less. inl (taken_covers P i j z less d))
@@ -297,8 +296,8 @@ nth_seen number P N L i k left size (Some x) m e h is a b more t =
           ))
           (IsCountOf-apart (Covers (flattened (take i P))) (Below v (Covers L)) k left
           (λ z c d. let (j, lt, g) = covers_taken P i z c in
-              let far = pages_ascend P j i z z m lt g (subst (λ (K : List (ℤ × ℤ)). Covers K z) is d.0) in
-              omega (arith, ints, far))
+          let far = pages_ascend P j i z z m lt g (subst (λ (K : List (ℤ × ℤ)). Covers K z) is d.0) in
+          omega (arith, ints, far))
           a t.1),
     )
 

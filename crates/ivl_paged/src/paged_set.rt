@@ -16,12 +16,12 @@ mod text;
 
 use crate::page::Page;
 use crate::pages;
-pub use iter::Runs;
 use intervallum::interval::Interval;
 use intervallum::interval_set::IntervalSet;
 use intervallum::ops::{Contains, IsEmpty, Singleton};
 use intervallum::sweep::coalesce;
 use intervallum::width::Width;
+pub use iter::Runs;
 use std::alloc::{AllocError, Global};
 use std::marker::Model;
 

@@ -14,12 +14,12 @@ mod text;
 
 use crate::proved::ivl_paged::page::Page;
 use crate::proved::ivl_paged::pages;
-pub use iter::Runs;
 use crate::proved::intervallum::interval::Interval;
 use crate::proved::intervallum::interval_set::IntervalSet;
 use crate::proved::intervallum::ops::{Contains, IsEmpty, Singleton};
 use crate::proved::intervallum::sweep::coalesce;
 use crate::proved::intervallum::width::Width;
+pub use iter::Runs;
 use crate::rattle::std::alloc::{AllocError, Global};
 
 /// A set of integers for many runs that change. A contract sees the list of its runs, each a pair

@@ -1,4 +1,4 @@
-use Rattle.std.proofs.Common.{rules, ◌≡◌, ◌∙◌, ◌+◌, ℤ, Some, Ok, refl, sym}
+use Rattle.std.proofs.Common.{rules, ◌∙◌, ◌+◌, ℤ, Some, Ok, refl, sym}
 use Rattle.std.specs.Prelude.{codes}
 use Rattle.ivl_interval.specs.Text.{interval_text}
 use Rattle.intervallum.proofs.Text.{next_run, closed}
@@ -11,11 +11,14 @@ runs-init g c = (0, sym c.iter-left.ensures.rest, search rules)
 pub runs-preserved : goal.runs-preserved
 runs-preserved g c =
     let (i, e, w) = c.runs.invariant in
-    let k = read_next c.args.self.now c.next-in-runs.new.self i c.in-Some-next.run' (e ∙ c.in-Some-next.ensures.steps) in
-    (i + 1, sym k.2, λ plain.
-        next_run (λ (p : ℤ × ℤ). interval_text p (g.B.Display.output (g.B.Width.at p.0)) (g.B.Display.output (g.B.Width.at p.1)))
-        g.W.Write.write_str_gives c.args.f.now c.runs.f c.write-in-Some-next.new.self (Ok c.in_ok-write.field-0) (Some (codes "{")) c.args.self.now i c.in-Some-next.run'
-        refl k.0 k.1 (w plain) c.in_ok-write.ensures.writes)
+    let k = read_next c.args.self.now c.next-in-runs.new.self i c.in-Some-next.run' (e ∙ c.in-Some-next.ensures.steps) in (
+      i + 1,
+      sym k.2,
+      λ plain.
+          next_run (λ (p : ℤ × ℤ). interval_text p (g.B.Display.output (g.B.Width.at p.0)) (g.B.Display.output (g.B.Width.at p.1)))
+          g.W.Write.write_str_gives c.args.f.now c.runs.f c.write-in-Some-next.new.self (Ok c.in_ok-write.field-0) (Some (codes "{")) c.args.self.now i c.in-Some-next.run'
+          refl k.0 k.1 (w plain) c.in_ok-write.ensures.writes,
+    )
 
 pub returns-clause-writes : goal.returns-clause-writes
 returns-clause-writes g c =
