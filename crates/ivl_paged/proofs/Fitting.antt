@@ -1,22 +1,23 @@
 -- Members of pages that stand in a row: the longest run of a page, and the lowest place with room.
 use Rattle.std.proofs.Common.{◌≡◌, ◌⊎◌, ⊎_elim, inl, inr, ℕ, zero, suc, ◌+◌, ◌-◌, ◌<◌, ◌≤◌, ℤ, pos, ◌+ℤ◌, ◌-ℤ◌, ◌≤ℤ◌, Bool, true, false, cond, List, [], ◌∷◌, ◌++◌, length, length-drop, get_or, take, take_all, drop, Some, None, refl, sym, ap, subst, ◌∙◌, arith}
-use Rattle.std.specs.Prelude.{Option, MatchOption}
-use Rattle.std.proofs.lemmas.Int.{ints}
+use Rattle.std.specs.Prelude.{Option, MatchOption, IsSomeAnd}
+use Rattle.std.proofs.lemmas.Int.{ints, by_lt_z}
 use Rattle.std.proofs.lemmas.List.{drop_more}
 use Rattle.ivl_laws.specs.Bounds.{width_of}
 use Rattle.ivl_laws.specs.Counts.{IsIn}
-use Rattle.ivl_laws.specs.Sets.{AtLeast, IsBetween, IsSubset, SameMembers}
+use Rattle.ivl_laws.specs.Sets.{AtLeast, IsBetween, IsSubset, SameMembers, Union, Without}
 use Rattle.ivl_laws.specs.Runs.{Covers, IsMaximal}
 use Rattle.ivl_laws.proofs.Counts.{in-append}
 use Rattle.ivl_laws.proofs.Intervals.{width_of-filled}
-use Rattle.ivl_laws.proofs.Merging.{covers-append, covers-append_left, covers-append_right}
+use Rattle.ivl_laws.proofs.Merging.{covers-append_left, covers-append_right}
 use Rattle.ivl_laws.proofs.Places.{IsMaximal-take, open_at}
 use Rattle.ivl_laws.proofs.Products.{one_covers}
+use Rattle.intervallum.specs.Neighbours.{IsRunWith}
 use Rattle.intervallum.specs.FirstFit.{FitsAt, IsFirstFit}
 use Rattle.intervallum.proofs.FirstFit.{IsFitOf, fit_of_members, fit_of_same, in_one_run}
 use Rattle.intervallum.proofs.Ranks.{more_is, none_taken}
 use Rattle.ivl_paged.specs.Pages.{IsLongest, StartsUpTo, flattened}
-use Rattle.ivl_paged.proofs.Paging.{IsMaximal-dropped, covers_dropped, covers_taken, cut_at, ends_below, order_of, pages_ascend, parts_apart, taken_covers}
+use Rattle.ivl_paged.proofs.Paging.{IsMaximal-dropped, covers_dropped, covers_taken, cut_at, ends_below, order_of, parts_apart, taken_covers}
 
 -- ---- the longest run
 
@@ -92,6 +93,107 @@ longest_next size L i d x y r false m h is so_far w up down e =
 
 pub longest_of_all : (L : List (ℤ × ℤ)) (i n : ℕ) → length L ≤ i → IsLongest n (Covers (take i L)) → IsLongest n (Covers L)
 longest_of_all L i n h = subst (λ (M : List (ℤ × ℤ)). IsLongest n (Covers M)) (take_all i L h)
+
+-- ---- the longest run after an edit
+
+-- numbers in a row that share one with a run lie in it
+in_run : (m : ℕ) (S : ℤ → Type 0) (run : ℤ × ℤ) (v x z : ℤ) → IsRunWith x S run → FitsAt m S v → IsBetween (v, (v +ℤ pos m) -ℤ pos 1) z → IsBetween run z → m ≤ width_of run
+in_run m S run v x z r f b c =
+    let low = b.0 in
+    let high = b.1 in
+    let from = c.0 in
+    let to = c.1 in
+    let filled : run.0 ≤ℤ run.1 = omega (arith, ints, from, to) in
+    let width = width_of-filled run filled in
+    let start : run.0 ≤ℤ v = by_lt_z v run.0
+    (λ lt. absurd (r.free_below (f (run.0 -ℤ pos 1) (omega (arith, ints, lt), omega (arith, ints, from, high)))))
+    (λ le. le) in
+    let end : ((v +ℤ pos m) -ℤ pos 1) ≤ℤ run.1 = by_lt_z run.1 ((v +ℤ pos m) -ℤ pos 1)
+    (λ lt. absurd (r.free_above (f (run.1 +ℤ pos 1) (omega (arith, ints, low, to), omega (arith, ints, lt)))))
+    (λ le. le) in
+    omega (arith, ints, start, end, width)
+
+-- numbers of a set that begin in a run of it lie in it
+within_run : (S : ℤ → Type 0) (run p : ℤ × ℤ) → IsRunWith p.0 S run → p.0 ≤ℤ p.1 → IsSubset (IsBetween p) S → p.1 ≤ℤ run.1
+within_run S run p r filled inside = by_lt_z run.1 p.1
+    (λ lt. let low = r.holds.0 in let high = r.holds.1 in absurd (r.free_above (inside (run.1 +ℤ pos 1) (omega (arith, ints, high), omega (arith, ints, lt)))))
+    (λ le. le)
+
+-- p was added to S, which made T, and `run` holds it there
+longest_grown : (k n : ℕ) (S T : ℤ → Type 0) (run p : ℤ × ℤ) → IsLongest k S → SameMembers T (Union S (IsBetween p)) → p.0 ≤ℤ p.1 → IsRunWith p.0 T run →
+    (k ≤ n) × (width_of run ≤ n) × ((n ≡ k) ⊎ (n ≡ width_of run)) → IsLongest n T
+longest_grown k n S T run p old same filled r (more, wide, which) = record { fits = fits; most = most }
+  where
+    low : run.0 ≤ℤ p.0
+    low = r.holds.0
+
+    high : p.1 ≤ℤ run.1
+    high = within_run T run p r filled (λ z b. (same z).1 (inr b))
+
+    open_run : run.0 ≤ℤ run.1
+    open_run = let l = low in let h = high in omega (arith, ints, l, h, filled)
+
+    fits : (v : ℤ) × FitsAt n T v
+    fits = ⊎_elim
+        (λ e. (old.fits.0, λ z b. (same z).1 (inl (subst (λ (m : ℕ). FitsAt m S old.fits.0) (sym e) old.fits.1 z b))))
+        (λ e. (run.0, λ z b. let width = width_of-filled run open_run in let lo = b.0 in let hi = b.1 in r.inside z (lo, omega (arith, ints, width, hi, e))))
+        which
+
+    -- clear of the run they were there before
+    clear : (m : ℕ) (v : ℤ) → FitsAt m T v → ((z : ℤ) → IsBetween (v, (v +ℤ pos m) -ℤ pos 1) z → ¬ (IsBetween run z)) → m ≤ k
+    clear m v f apart = old.most m v (λ z b. ⊎_elim (λ s. s)
+        (λ c. let l = low in let h = high in let lo = c.0 in let hi = c.1 in absurd (apart z b (omega (arith, ints, l, lo), omega (arith, ints, h, hi))))
+        ((same z).0 (f z b)))
+
+    most : (m : ℕ) (v : ℤ) → FitsAt m T v → m ≤ n
+    most m v f = by_lt_z ((v +ℤ pos m) -ℤ pos 1) run.0
+        (λ before. let le = clear m v f (λ z b c. let hi = b.1 in let lo = c.0 in omega (arith, ints, before, hi, lo)) in omega (arith, le, more))
+        (λ up. by_lt_z run.1 v
+        (λ after. let le = clear m v f (λ z b c. let lo = b.0 in let hi = c.1 in omega (arith, ints, after, lo, hi)) in omega (arith, le, more))
+        (λ down. by_lt_z v run.0
+        (λ under. let o = open_run in let le = in_run m T run v p.0 run.0 r f (omega (arith, ints, under), up) (omega (arith, ints), o) in omega (arith, le, wide))
+        (λ over. share m v f over down)))
+      where
+        share : (m : ℕ) (v : ℤ) → FitsAt m T v → run.0 ≤ℤ v → v ≤ℤ run.1 → m ≤ n
+        share zero v f over down = omega arith
+        share (suc m) v f over down = let le = in_run (suc m) T run v p.0 v r f (omega (arith, ints), omega (arith, ints)) (over, down) in omega (arith, le, wide)
+
+-- p was removed from S, which left T, and lies in a run of S that is not the longest
+longest_kept : (k : ℕ) (S T : ℤ → Type 0) (run p : ℤ × ℤ) → IsLongest k S → SameMembers T (Without S (IsBetween p)) → IsRunWith p.0 S run → p.1 ≤ℤ run.1 → width_of run < k → IsLongest k T
+longest_kept k S T run p old same r high less = record {
+  fits = (
+    old.fits.0,
+    λ z b. (same z).1 (
+      old.fits.1 z b,
+      λ c. let low = r.holds.0 in
+          let lo = c.0 in
+          let hi = c.1 in
+          let le = in_run k S run old.fits.0 p.0 z r old.fits.1 b (omega (arith, ints, low, lo), omega (arith, ints, high, hi)) in
+          omega (arith, le, less),
+    ),
+  );
+  most = λ m v f. old.most m v (λ z b. ((same z).0 (f z b)).0);
+}
+
+-- the same where a search at v, the first number of p, found the run
+pub grown_by_run : (o : Option (ℤ × ℤ)) (k n : ℕ) (S T : ℤ → Type 0) (p : ℤ × ℤ) (v : ℤ) → v ≡ p.0 → IsLongest k S → SameMembers T (Union S (IsBetween p)) → p.0 ≤ℤ p.1 → MatchOption o (¬ (T v)) (IsRunWith v T) →
+    MatchOption o (n ≡ k) (λ run. (k ≤ n) × (width_of run ≤ n) × ((n ≡ k) ⊎ (n ≡ width_of run))) → IsLongest n T
+grown_by_run None k n S T p v e old same filled free h = absurd (free (subst T (sym e) ((same p.0).1 (inr (omega (arith, ints), filled)))))
+grown_by_run (Some run) k n S T p v e old same filled r h = longest_grown k n S T run p old same filled (subst (λ (x : ℤ). IsRunWith x T run) e r) h
+
+pub kept_by_run : (o : Option (ℤ × ℤ)) (k : ℕ) (S T : ℤ → Type 0) (p : ℤ × ℤ) (v : ℤ) → v ≡ p.0 → IsLongest k S → SameMembers T (Without S (IsBetween p)) → MatchOption o (¬ (S v)) (IsRunWith v S) →
+    IsSomeAnd o (λ run. (p.1 ≤ℤ run.1) × (width_of run < k)) → IsLongest k T
+kept_by_run None k S T p v e old same free h = absurd h
+kept_by_run (Some run) k S T p v e old same r h = longest_kept k S T run p old same (subst (λ (x : ℤ). IsRunWith x S run) e r) h.0 h.1
+
+-- what is said of the run that an option has
+pub of_some : (o : Option (ℤ × ℤ)) (run : ℤ × ℤ) (N : Type 0) (X : ℤ × ℤ → Type 0) → o ≡ Some run → X run → MatchOption o N X
+of_some None run N X e x = absurd (cc)
+of_some (Some p) run N X e x = let same : run ≡ p = cc in subst X same x
+
+pub some_with : (o : Option (ℤ × ℤ)) (run : ℤ × ℤ) (X : ℤ × ℤ → Type 0) → o ≡ Some run → X run → IsSomeAnd o X
+some_with None run X e x = absurd (cc)
+some_with (Some p) run X e x = let same : run ≡ p = cc in subst X same x
 
 -- ---- two lists of which one follows the other
 

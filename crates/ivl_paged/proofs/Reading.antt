@@ -1,19 +1,18 @@
 -- What a page tells of all: its least and its greatest member, its runs, and how many members there are below.
-use Rattle.std.proofs.Common.{◌≡◌, ◌⊎◌, ⊎_elim, inl, inr, ℕ, zero, suc, ◌+◌, ◌-◌, ◌<◌, ◌≤◌, ℤ, pos, ◌+ℤ◌, ◌-ℤ◌, ◌≤ℤ◌, ◌<ℤ◌, List, [], ◌∷◌, ◌++◌, length, get_or, take, take_all, drop, Some, None, refl, sym, ap, subst, ◌∙◌, arith, append-nil}
+use Rattle.std.proofs.Common.{◌≡◌, ◌⊎◌, ⊎_elim, inl, inr, ℕ, zero, suc, ◌+◌, ◌-◌, ◌<◌, ◌≤◌, ℤ, pos, ◌+ℤ◌, ◌-ℤ◌, ◌≤ℤ◌, List, [], ◌∷◌, length, get_or, take, take_all, Some, None, refl, sym, subst, arith}
 use Rattle.std.specs.Prelude.{Option, MatchOption}
 use Rattle.std.proofs.lemmas.Int.{ints}
 use Rattle.ivl_laws.specs.Bounds.{width_of}
 use Rattle.ivl_laws.specs.Counts.{IsCountOf}
 use Rattle.ivl_laws.specs.Families.{set_at}
-use Rattle.ivl_laws.specs.Sets.{AtLeast, AtMost, Below, HasNone, HasSome, IsBetween, IsCrossed, IsHullOf, IsInRange, IsSubset, Union}
+use Rattle.ivl_laws.specs.Sets.{AtLeast, AtMost, Below, HasNone, IsBetween, IsCrossed, IsHullOf, Union}
 use Rattle.ivl_laws.specs.Runs.{Covers, IsMaximal, IsRunListIn}
 use Rattle.ivl_laws.proofs.Counts.{IsCountOf-apart, IsCountOf-none, IsCountOf-same, count_is_monotone, count_is_unique}
 use Rattle.ivl_laws.proofs.Intervals.{IsCountOf-width_of}
-use Rattle.ivl_laws.proofs.Merging.{covers-append, covers-append_left, covers-append_right}
 use Rattle.ivl_laws.proofs.Runs.{lower_end, upper_end}
 use Rattle.intervallum.specs.Neighbours.{IsGreatest, IsLeast, IsRunWith}
 use Rattle.ivl_paged.specs.Pages.{StartsUpTo, flattened}
-use Rattle.ivl_paged.proofs.Paging.{covers_dropped, covers_page, covers_taken, dropped_covers, ends_below, flattened_more, in_page, order_of, page_of, pages_ascend, taken_covers}
+use Rattle.ivl_paged.proofs.Paging.{covers_page, covers_taken, ends_below, in_page, order_of, page_of, pages_ascend, taken_covers}
 
 -- ---- the ends
 

@@ -1,5 +1,6 @@
 //! One page: a few of the runs of a set.
-ghost use Rattle.std.specs.Prelude.{◌≡◌, ℤ, ◌≤ℤ◌, IsTrue, List, IfOk, IsOk, OnErr, OnOk};
+ghost use Rattle.std.specs.Prelude.{◌≡◌, ◌⊎◌, ◌<◌, ◌≤◌, ℤ, ◌≤ℤ◌, IsSomeAnd, IsTrue, List, IfOk, IsOk, MatchOption, OnErr, OnOk};
+ghost use Rattle.ivl_laws.specs.Bounds.{width_of};
 ghost use Rattle.ivl_laws.specs.Sets.{HasSome, IsBetween, IsSubset, Union, Without};
 ghost use Rattle.ivl_laws.specs.Runs.{Covers, IsMaximal, IsRunsOf};
 ghost use Rattle.intervallum.specs.Edits.{widened};
@@ -86,28 +87,76 @@ impl<B: Width> Page<B> {
 
     /// Adds the members of an interval.
     pub(crate) fn insert_interval(&mut self, interval: Interval<B>) -> Result<(), AllocError>
+        requires { interval.0 ≤ℤ interval.1 }
         ensures ok { OnOk result (IsRunsOf self.new (Union (Covers self.old) (IsBetween interval))) }
         ensures err { OnErr result (self.new ≡ self.old) }
     {
         self.set.insert_interval(interval)?;
         self.head = self.set.lower();
-        self.longest = longest_of(self.set.runs());
+        let run = self.set.run_at(interval.lower_bound());
+        self.longest = longer(self.longest, run);
         Ok(())
     }
 
     /// Removes the members of an interval, which leaves some.
     pub(crate) fn remove_interval(&mut self, interval: Interval<B>) -> Result<(), AllocError>
-        requires { HasSome (Without (Covers self.old) (IsBetween interval)) }
+        requires some { HasSome (Without (Covers self.old) (IsBetween interval)) }
         ensures ok { OnOk result (IsRunsOf self.new (Without (Covers self.old) (IsBetween interval))) }
         ensures err { OnErr result (self.new ≡ self.old) }
         // it cannot fail unless it lies inside a run and splits it
         ensures in_place { ¬ (IsSubset (IsBetween (widened interval)) (Covers self.old)) → IsOk result }
     {
+        let run = self.set.run_at(interval.lower_bound());
+        let keeps = lies_in_shorter(run, interval, self.longest);
         self.set.remove_interval(interval)?;
         self.head = self.set.lower();
-        self.longest = longest_of(self.set.runs());
+        self.longest = longest_after(self.longest, keeps, self.set.runs());
         Ok(())
     }
+}
+
+/// The greater of a length and that of a run, if there is one.
+fn longer<B: Width>(longest: B::Output, run: Option<Interval<B>>) -> B::Output
+    ensures { MatchOption run
+        (B.Output.size result ≡ B.Output.size longest)
+        (λ p. (B.Output.size longest ≤ B.Output.size result) × (width_of p ≤ B.Output.size result) × ((B.Output.size result ≡ B.Output.size longest) ⊎ (B.Output.size result ≡ width_of p))) }
+{
+    match run {
+        Some(run) => {
+            let size = run.size();
+            if size >= longest { size } else { longest }
+        }
+        None => longest,
+    }
+}
+
+/// Whether an interval that begins in a run also ends there, and the run is shorter than the longest.
+fn lies_in_shorter<B: Width>(
+    run: Option<Interval<B>>,
+    interval: Interval<B>,
+    longest: B::Output,
+) -> bool
+    ensures { IsTrue result → IsSomeAnd run (λ p. (interval.1 ≤ℤ p.1) × (width_of p < B.Output.size longest)) }
+{
+    match run {
+        Some(run) => {
+            if run.size() >= longest {
+                return false;
+            }
+            interval.upper_bound() <= run.upper_bound()
+        }
+        None => false,
+    }
+}
+
+/// How many members the longest of the runs has that an edit left, where it may have kept the
+/// longest.
+fn longest_after<B: Width>(before: B::Output, keeps: bool, runs: &[Interval<B>]) -> B::Output
+    requires runs { IsMaximal runs.now }
+    requires kept { IsTrue keeps → IsLongest (B.Output.size before) (Covers runs.now) }
+    ensures { IsLongest (B.Output.size result) (Covers runs.now) }
+{
+    if keeps { before } else { longest_of(runs) }
 }
 
 /// How many members the longest of some runs has.

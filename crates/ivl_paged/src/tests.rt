@@ -248,7 +248,7 @@ fn fits_agree_with_flags(rt: HostRuntime) {
         assert!(rt; set.remove(place as i64).is_ok());
         put_all(&mut flags, place, place + 1, false);
     }
-    for _ in 0..200 {
+    for _ in 0..500 {
         assert!(rt; fit_agrees(&set, &flags));
         if let Some(run) = set.take_first_fit(5) {
             let lower = run.lower_bound() as usize;

@@ -58,17 +58,54 @@ impl<B: Width> Page<B> {
     pub(crate) fn insert_interval(&mut self, interval: Interval<B>) -> Result<(), AllocError> {
         self.set.insert_interval(interval)?;
         self.head = self.set.lower();
-        self.longest = longest_of(self.set.runs());
+        let run = self.set.run_at(interval.lower_bound());
+        self.longest = longer(self.longest, run);
         Ok(())
     }
 
     /// Removes the members of an interval, which leaves some.
     pub(crate) fn remove_interval(&mut self, interval: Interval<B>) -> Result<(), AllocError> {
+        let run = self.set.run_at(interval.lower_bound());
+        let keeps = lies_in_shorter(run, interval, self.longest);
         self.set.remove_interval(interval)?;
         self.head = self.set.lower();
-        self.longest = longest_of(self.set.runs());
+        self.longest = longest_after(self.longest, keeps, self.set.runs());
         Ok(())
     }
+}
+
+/// The greater of a length and that of a run, if there is one.
+fn longer<B: Width>(longest: B::Output, run: Option<Interval<B>>) -> B::Output {
+    match run {
+        Some(run) => {
+            let size = run.size();
+            if size >= longest { size } else { longest }
+        }
+        None => longest,
+    }
+}
+
+/// Whether an interval that begins in a run also ends there, and the run is shorter than the longest.
+fn lies_in_shorter<B: Width>(
+    run: Option<Interval<B>>,
+    interval: Interval<B>,
+    longest: B::Output,
+) -> bool {
+    match run {
+        Some(run) => {
+            if run.size() >= longest {
+                return false;
+            }
+            interval.upper_bound() <= run.upper_bound()
+        }
+        None => false,
+    }
+}
+
+/// How many members the longest of the runs has that an edit left, where it may have kept the
+/// longest.
+fn longest_after<B: Width>(before: B::Output, keeps: bool, runs: &[Interval<B>]) -> B::Output {
+    if keeps { before } else { longest_of(runs) }
 }
 
 /// How many members the longest of some runs has.

@@ -1,4 +1,4 @@
-use Rattle.std.proofs.Common.{◌≡◌, ◌∙◌, ◌+◌, [], ℤ, List, get_or, subst, sym}
+use Rattle.std.proofs.Common.{◌≡◌, ◌∙◌, [], ℤ, List, get_or, subst}
 use Rattle.std.proofs.lemmas.List.{get_or_default}
 use Rattle.ivl_laws.specs.Runs.{Covers}
 use Rattle.intervallum.proofs.FirstFit.{IsFitOf, at_least_by_count, below_by_count}

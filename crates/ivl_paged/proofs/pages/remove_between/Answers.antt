@@ -1,4 +1,4 @@
-use Rattle.std.proofs.Common.{◌≡◌, ◌∙◌, ◌-◌, ◌+◌, ◌++◌, [], arith, drop, refl, take}
+use Rattle.std.proofs.Common.{◌-◌, ◌+◌, ◌++◌, [], drop, refl, take}
 use Rattle.std.proofs.lemmas.Result.{on_ok_weaker}
 use Rattle.ivl_paged.specs.Pages.{IsCutAt}
 use Rattle.ivl_paged.proofs.Removing.{first_is_cut, first_there, last_is_cut, middle_fits, on_ok_holds, page_is_cut, removed_once, removed_twice}

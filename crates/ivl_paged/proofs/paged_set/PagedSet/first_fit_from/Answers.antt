@@ -1,4 +1,4 @@
-use Rattle.std.proofs.Common.{◌≡◌, ◌-◌, ℤ, List, None, drop, length, sym, subst, take}
+use Rattle.std.proofs.Common.{ℤ, List, None, sym, subst, take}
 use Rattle.ivl_laws.specs.Sets.{AtLeast}
 use Rattle.ivl_laws.specs.Runs.{Covers, IsMaximal}
 use Rattle.intervallum.specs.FirstFit.{IsFirstFit}

@@ -1,4 +1,4 @@
-use Rattle.std.proofs.Common.{◌≡◌, ◌∙◌, ◌-◌, ◌<◌, [], get_or, length, sym, subst, ℤ, List, arith}
+use Rattle.std.proofs.Common.{◌≡◌, ◌∙◌, ◌-◌, [], get_or, sym, subst, ℤ, List, arith}
 use Rattle.std.proofs.lemmas.List.{get_or_default}
 use Rattle.ivl_laws.specs.Sets.{HasSome}
 use Rattle.ivl_laws.specs.Runs.{Covers}

@@ -1,4 +1,4 @@
-use Rattle.std.proofs.Common.{◌≡◌, ◌∙◌, ◌<◌, ◌≤◌, [], ℕ, ℤ, List, arith, get_or, length, subst, take}
+use Rattle.std.proofs.Common.{◌≡◌, ◌∙◌, ◌<◌, [], ℤ, List, arith, get_or, length, subst, take}
 use Rattle.std.proofs.lemmas.List.{get_or_default}
 use Rattle.ivl_laws.specs.Sets.{AtLeast, HasNone}
 use Rattle.ivl_laws.specs.Runs.{Covers}

@@ -1,8 +1,8 @@
-use Rattle.std.proofs.Common.{◌≡◌, ◌∙◌, ◌-◌, ◌+◌, ◌<◌, [], ℕ, ℤ, List, get_or, ap, sym, subst, arith, take}
+use Rattle.std.proofs.Common.{◌≡◌, ◌∙◌, ◌-◌, ◌<◌, [], ℕ, ℤ, List, get_or, ap, sym, subst, arith, take}
 use Rattle.std.proofs.lemmas.List.{get_or_default}
 use Rattle.ivl_laws.specs.Counts.{IsCountOf}
 use Rattle.ivl_laws.specs.Sets.{Below}
-use Rattle.ivl_laws.specs.Runs.{Covers, IsRunListIn}
+use Rattle.ivl_laws.specs.Runs.{Covers}
 use Rattle.ivl_paged.specs.Pages.{StartsUpTo, flattened}
 use Rattle.ivl_paged.proofs.Paging.{IsMaximal-taken}
 use Rattle.ivl_paged.proofs.Reading.{no_rank_seen, ranks_fit, ranks_seen, taken_is_run_list}

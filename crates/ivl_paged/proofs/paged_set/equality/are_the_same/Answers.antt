@@ -1,5 +1,4 @@
-use Rattle.std.proofs.Common.{◌≡◌, ◌∙◌, ℤ, Bool, refl, sym, true, false, not, IsTrue}
-use Rattle.ivl_interval.specs.SameInterval.{same_interval}
+use Rattle.std.proofs.Common.{◌≡◌, ◌∙◌, sym, true, false}
 use Rattle.ivl_paged.proofs.Iterating.{IsSameSoFar, differ_here, ends_differ, never, same_by_ends, same_further, same_so_far}
 use Rattle.ivl_paged.proofs.paged_set.equality.are_the_same.Goals.{in-Some-next, in-None}
 use Rattle.ivl_paged.proofs.paged_set.equality.are_the_same.Goals as goal

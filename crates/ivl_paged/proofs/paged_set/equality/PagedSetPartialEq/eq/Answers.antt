@@ -1,6 +1,4 @@
-use Rattle.std.proofs.Common.{◌≡◌, ◌∙◌, ℤ, List, sym, subst, refl}
-use Rattle.ivl_laws.specs.Runs.{IsMaximal}
-use Rattle.intervallum.specs.Equality.{same_runs}
+use Rattle.std.proofs.Common.{refl}
 use Rattle.intervallum.proofs.Equality.{same_runs_seen, tells_same_runs}
 use Rattle.ivl_paged.proofs.paged_set.equality.PagedSetPartialEq.eq.Goals as goal
 

@@ -1,4 +1,4 @@
-use Rattle.std.proofs.Common.{rules, ◌≡◌, ◌∙◌, ◌+◌, ℤ, Some, Ok, refl, sym}
+use Rattle.std.proofs.Common.{rules, ◌∙◌, ◌+◌, ℤ, Some, Ok, refl, sym}
 use Rattle.std.specs.Prelude.{codes}
 use Rattle.ivl_interval.specs.Text.{interval_text}
 use Rattle.intervallum.proofs.Text.{next_run, closed}
