@@ -25,7 +25,5 @@ use crate::rattle::prelude::*;
 mod page;
 pub mod paged_set;
 mod pages;
-#[cfg(test)]
-mod tests;
 
 pub use paged_set::PagedSet;
