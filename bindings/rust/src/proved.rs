@@ -66,6 +66,7 @@ pub mod examples {
     pub use super::ivl_expr::{EvalFault, Expr, eval};
     #[cfg(feature = "json")]
     pub use super::ivl_json::{ItemFault, JsonFault, JsonForm};
+    pub use super::ivl_paged::PagedSet;
     pub use super::ivl_store::network::{Network, Settled};
     pub use super::ivl_store::store::{Constraint, Post, Store, StoreFault};
     pub use super::ivl_within::within::{

@@ -17,7 +17,7 @@ impl<B: Width> PagedSet<B> {
     /// scans that page: `O(n / page)`. Does not allocate.
     ///
     /// ```
-    /// let mut a = PagedSet::new(alloc);
+    /// let mut a: PagedSet<i32> = PagedSet::new(alloc);
     /// a.insert_interval(Interval::new(1, 2))?;
     /// a.insert_interval(Interval::new(5, 9))?;
     /// assert!(rt; a.first_fit(3) == Some(Interval::new(5, 7)));
@@ -40,7 +40,7 @@ impl<B: Width> PagedSet<B> {
     /// `O(n / page)`. Does not allocate.
     ///
     /// ```
-    /// let mut a = PagedSet::new(alloc);
+    /// let mut a: PagedSet<i32> = PagedSet::new(alloc);
     /// a.insert_interval(Interval::new(5, 9))?;
     /// assert!(rt; a.first_fit_from(6, 3) == Some(Interval::new(6, 8)));
     /// assert!(rt; a.first_fit_from(8, 3).is_none());
@@ -66,7 +66,7 @@ impl<B: Width> PagedSet<B> {
     /// as [`PagedSet::first_fit`]; if a page then has no runs, the list of pages moves.
     ///
     /// ```
-    /// let mut free = PagedSet::new(alloc);
+    /// let mut free: PagedSet<i32> = PagedSet::new(alloc);
     /// free.insert_interval(Interval::new(1, 2))?;
     /// free.insert_interval(Interval::new(5, 9))?;
     /// assert!(rt; free.take_first_fit(3) == Some(Interval::new(5, 7)));

@@ -14,7 +14,7 @@ impl<B: Width> PagedSet<B> {
     /// Does not allocate.
     ///
     /// ```
-    /// let mut a = PagedSet::new(alloc);
+    /// let mut a: PagedSet<i32> = PagedSet::new(alloc);
     /// a.insert_interval(Interval::new(1, 5))?;
     /// assert_eq!(rt; a.size(), 5u32);
     /// ```
@@ -28,7 +28,7 @@ impl<B: Width> PagedSet<B> {
     /// each page below has, and scans one page: `O(n / page)`. Does not allocate.
     ///
     /// ```
-    /// let mut a = PagedSet::new(alloc);
+    /// let mut a: PagedSet<i32> = PagedSet::new(alloc);
     /// assert!(rt; a.insert(2)? && a.insert(5)?);
     /// assert!(rt; a.rank(2) == 0 && a.rank(5) == 1 && a.rank(6) == 2);
     /// ```
@@ -49,7 +49,7 @@ impl<B: Width> PagedSet<B> {
     /// allocate.
     ///
     /// ```
-    /// let mut a = PagedSet::new(alloc);
+    /// let mut a: PagedSet<i32> = PagedSet::new(alloc);
     /// assert!(rt; a.insert(2)? && a.insert(5)?);
     /// assert!(rt; a.nth(0) == Some(2) && a.nth(1) == Some(5) && a.nth(2).is_none());
     /// ```

@@ -18,7 +18,7 @@ impl<B: Width> PagedSet<B> {
     /// # use intervallum::proved::examples::*;
     /// # fn main() -> Result<(), std::boxed::Box<dyn std::error::Error>> {
     /// # let alloc = Global;
-    /// let mut a = PagedSet::new(alloc);
+    /// let mut a: PagedSet<i32> = PagedSet::new(alloc);
     /// a.insert_interval(Interval::new(1, 2))?;
     /// a.insert_interval(Interval::new(5, 9))?;
     /// assert!(a.first_fit(3) == Some(Interval::new(5, 7)));
@@ -53,7 +53,7 @@ impl<B: Width> PagedSet<B> {
     /// # use intervallum::proved::examples::*;
     /// # fn main() -> Result<(), std::boxed::Box<dyn std::error::Error>> {
     /// # let alloc = Global;
-    /// let mut a = PagedSet::new(alloc);
+    /// let mut a: PagedSet<i32> = PagedSet::new(alloc);
     /// a.insert_interval(Interval::new(5, 9))?;
     /// assert!(a.first_fit_from(6, 3) == Some(Interval::new(6, 8)));
     /// assert!(a.first_fit_from(8, 3).is_none());
@@ -91,7 +91,7 @@ impl<B: Width> PagedSet<B> {
     /// # use intervallum::proved::examples::*;
     /// # fn main() -> Result<(), std::boxed::Box<dyn std::error::Error>> {
     /// # let alloc = Global;
-    /// let mut free = PagedSet::new(alloc);
+    /// let mut free: PagedSet<i32> = PagedSet::new(alloc);
     /// free.insert_interval(Interval::new(1, 2))?;
     /// free.insert_interval(Interval::new(5, 9))?;
     /// assert!(free.take_first_fit(3) == Some(Interval::new(5, 7)));

@@ -15,7 +15,7 @@ impl<B: Width> PagedSet<B> {
     /// # use intervallum::proved::examples::*;
     /// # fn main() -> Result<(), std::boxed::Box<dyn std::error::Error>> {
     /// # let alloc = Global;
-    /// let mut a = PagedSet::new(alloc);
+    /// let mut a: PagedSet<i32> = PagedSet::new(alloc);
     /// a.insert_interval(Interval::new(1, 5))?;
     /// assert_eq!(a.size(), 5u32);
     /// # Ok(())
@@ -40,7 +40,7 @@ impl<B: Width> PagedSet<B> {
     /// # use intervallum::proved::examples::*;
     /// # fn main() -> Result<(), std::boxed::Box<dyn std::error::Error>> {
     /// # let alloc = Global;
-    /// let mut a = PagedSet::new(alloc);
+    /// let mut a: PagedSet<i32> = PagedSet::new(alloc);
     /// assert!(a.insert(2)? && a.insert(5)?);
     /// assert!(a.rank(2) == 0 && a.rank(5) == 1 && a.rank(6) == 2);
     /// # Ok(())
@@ -72,7 +72,7 @@ impl<B: Width> PagedSet<B> {
     /// # use intervallum::proved::examples::*;
     /// # fn main() -> Result<(), std::boxed::Box<dyn std::error::Error>> {
     /// # let alloc = Global;
-    /// let mut a = PagedSet::new(alloc);
+    /// let mut a: PagedSet<i32> = PagedSet::new(alloc);
     /// assert!(a.insert(2)? && a.insert(5)?);
     /// assert!(a.nth(0) == Some(2) && a.nth(1) == Some(5) && a.nth(2).is_none());
     /// # Ok(())
