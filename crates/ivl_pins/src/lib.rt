@@ -2,9 +2,11 @@
 //!
 //! [`sets`] gives the result of each trait for sets, in plain lists of runs; [`numbers`] gives the numbers of the ten
 //! integer types, and what a value of each overlaps; [`laws`] carries the laws over sets of numbers to the results of
-//! calls; [`reads`] queries sets for neighbours, room and runs, and [`members`] iterates over their members.
+//! calls; [`collect`] makes sets of every form that converts; [`reads`] queries sets for neighbours, room and runs, and
+//! [`members`] iterates over their members.
 #![tactic(auto)]
 
+pub mod collect;
 pub mod edits;
 pub mod laws;
 pub mod members;
