@@ -208,16 +208,18 @@ fn random_edits_agree_with_flags(rt: HostRuntime) {
 fn pops_take_each_member_once(rt: HostRuntime) {
     let mut set = PagedSet::new(rt.alloc());
     for i in 0..900i64 {
-        assert!(rt; Interval::in_range(2 * i, 2 * i), "it is in the range");
-        assert!(rt; set.insert(2 * i) == Ok(true));
+        let even = i.saturating_mul(2);
+        assert!(rt; Interval::in_range(even, even), "it is in the range");
+        assert!(rt; set.insert(even) == Ok(true));
     }
     for i in 0..400i64 {
-        assert!(rt; set.pop_first() == Some(2 * i));
-        assert!(rt; set.pop_last() == Some(1798 - 2 * i));
+        let even = i.saturating_mul(2);
+        assert!(rt; set.pop_first() == Some(even));
+        assert!(rt; set.pop_last() == Some(1798i64.saturating_sub(even)));
     }
     assert!(rt; set.size() == 100 && set.hull() == Interval::new(800, 998));
     for i in 400..500i64 {
-        assert!(rt; set.pop_first() == Some(2 * i));
+        assert!(rt; set.pop_first() == Some(i.saturating_mul(2)));
     }
     assert!(rt; set.pop_first().is_none() && set.pop_last().is_none());
 }
@@ -251,7 +253,7 @@ fn fits_agree_with_flags(rt: HostRuntime) {
     for _ in 0..500 {
         assert!(rt; fit_agrees(&set, &flags));
         if let Some(run) = set.take_first_fit(5) {
-            let lower = run.lower_bound() as usize;
+            let lower = usize::try_from(run.lower_bound()).expect(&rt, "no member is negative");
             put_all(&mut flags, lower, lower.saturating_add(5), false);
         }
     }
