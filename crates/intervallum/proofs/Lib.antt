@@ -40,6 +40,7 @@ pub mod CutRuns
 pub mod Lopsided
 pub mod HeldRunLengths
 pub mod Members
+pub mod MemberCounts
 pub mod Unions
 pub mod Collecting
 pub mod Many

@@ -12,6 +12,7 @@ mod edits;
 mod expr;
 mod forms;
 mod json;
+mod makers;
 mod runs;
 mod store;
 
@@ -102,6 +103,7 @@ fn call(
     calls::call(alloc, name, a, b)
         .or(edits::call(alloc, name, a))
         .or(forms::call(alloc, name, a, b))
+        .or(makers::call(alloc, name, a, b))
         .or(expr::call(alloc, name, a, b))
         .or(json::call(alloc, name, a))
         .or(calculator::call(alloc, name, a, b))

@@ -1,6 +1,7 @@
 //! Iteration over the members of a set, from both ends.
-ghost use Rattle.std.specs.Prelude.{◌≡◌, ⊤};
-ghost use Rattle.std.specs.Iterator.{YieldsFirstBy, YieldsLastBy, item_count};
+ghost use Rattle.std.specs.Prelude.{◌≡◌, ◌++◌, ◌-◌, ◌^◌, IfSome, length, min, ⊤};
+ghost use Rattle.std.specs.Iterator.{UpTo, YieldsFirstBy, YieldsLastBy, item_count};
+ghost use Rattle.std.specs.Iterator.SizeHint.{IsExactHint, IsWithinCount};
 ghost use Rattle.ivl_laws.specs.Sets.{SameMembers};
 ghost use Rattle.ivl_laws.specs.Runs.{Covers, IsRunListIn};
 ghost use Rattle.ivl_laws.specs.Counts.{IsIn};
@@ -8,8 +9,8 @@ ghost use Rattle.intervallum.specs.Members.{IsAscending, members_of, numbers_of}
 
 use super::IntervalSet;
 use crate::interval::Interval;
-use crate::ops::{Bounded, Empty, IsEmpty, StrictShrinkLeft, StrictShrinkRight};
-use crate::width::Width;
+use crate::ops::{Bounded, Cardinality, Empty, IsEmpty, StrictShrinkLeft, StrictShrinkRight};
+use crate::width::{SizeNumber, Width};
 use std::alloc::AllocError;
 use std::iter::FusedIterator;
 use std::marker::Model;
@@ -96,6 +97,24 @@ impl<'a, B: Width> Iterator for Members<'a, B> {
         }
         take_least(&mut self.first)
     }
+
+    /// Returns how many members are left, as both bounds. Where a `usize` does not hold so many,
+    /// they are its greatest value and `None`. Adds up the runs that are left: `O(n)`.
+    ///
+    /// ```
+    /// let a: IntervalSet<i32> = [(1, 3), (5, 6)].to_interval_set(alloc)?;
+    /// assert!(rt; a.members().size_hint() == (5, Some(5)));
+    /// ```
+    fn size_hint(&self) -> (usize, Option<usize>)
+        ensures lower { IsWithinCount result.0 (item_count (λ left. left) self.now) }
+        ensures upper { IfSome result.1 (UpTo (item_count (λ left. left) self.now)) }
+        ensures exact { IsExactHint result (length self.now) }
+    {
+        match usize::try_from(count_of(&self.first, self.between, &self.last)) {
+            Ok(count) => (count, Some(count)),
+            Err(_) => (usize::MAX, None),
+        }
+    }
 }
 
 impl<'a, B: Width> DoubleEndedIterator for Members<'a, B> {
@@ -124,6 +143,18 @@ impl<'a, B: Width> DoubleEndedIterator for Members<'a, B> {
 }
 
 impl<'a, B: Width> FusedIterator for Members<'a, B> {}
+
+/// How many numbers an interval, a list of intervals and another interval have; at most as many as
+/// a `u128` holds.
+fn count_of<B: Width>(first: &Interval<B>, between: &[Interval<B>], last: &Interval<B>) -> u128
+    ensures { result ≡ min (length (numbers_of first.now ++ members_of between.now ++ numbers_of last.now)) (2 ^ 128 - 1) }
+{
+    let mut count = first.size().number().saturating_add(last.size().number());
+    for run in between {
+        count = count.saturating_add(run.size().number());
+    }
+    count
+}
 
 /// Takes the least number of an interval away, if it has one.
 fn take_least<B: Width>(part: &mut Interval<B>) -> Option<B>

@@ -59,6 +59,26 @@ fn whole_ranges(rt: HostRuntime) {
 }
 
 #[test]
+fn bounds_that_are_tested(rt: HostRuntime) {
+    let (least, greatest) = (i8::MIN, i8::MAX);
+    check_all(
+        &rt,
+        &[
+            (1..=greatest).in_range(),
+            (least..=1).in_range(),
+            (1..).in_range(),
+            (least..).in_range(),
+            (..=greatest).in_range(),
+            (..=least).in_range(),
+            [1..=2, least..=3].in_range(),
+            [1..=2, 3..=4].as_slice().in_range(),
+            Interval::new(1, greatest).in_range(),
+        ],
+        &[true, false, true, false, true, false, false, true, true],
+    );
+}
+
+#[test]
 fn read_sets(rt: HostRuntime) {
     let a = set_of(&rt, &[(1, 2), (5, 6)]);
     check(&rt, a.interval_count(), 2);

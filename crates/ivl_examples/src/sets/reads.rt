@@ -273,6 +273,20 @@ fn lists_of_members(rt: HostRuntime) {
 }
 
 #[test]
+fn members_of_a_window(rt: HostRuntime) {
+    let alloc = rt.alloc();
+    let a = set_of(&rt, &[(1, 2), (5, 6), (9, 9)]);
+    let some: Vec<i32> = made(&rt, a.members_within(&Interval::new(2, 5)).collect(alloc));
+    check_all(&rt, &some, &[2, 5]);
+    let most: Vec<i32> = made(
+        &rt,
+        a.members_within(&Interval::new(2, 9)).rev().collect(alloc),
+    );
+    check_all(&rt, &most, &[9, 6, 5, 2]);
+    check(&rt, a.members_within(&Interval::empty()).next(), None);
+}
+
+#[test]
 fn clones_of_members_that_are_left(rt: HostRuntime) {
     let a = set_of(&rt, &[(1, 3)]);
     let mut left = a.members();
