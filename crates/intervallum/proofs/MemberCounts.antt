@@ -1,9 +1,16 @@
 -- How many members are left in an iterator over them.
-use Rattle.std.proofs.Common.{◌≡◌, ℕ, ◌+◌, ◌<◌, suc, zero, ℤ, pos, ◌+ℤ◌, List, [], ◌∷◌, ◌++◌, length, length-append, get_or, take, refl, sym, ap, ◌∙◌, arith}
+use Rattle.std.proofs.Common.{◌≡◌, inl, inr, ℕ, ◌+◌, ◌<◌, ◌≤◌, suc, zero, ℤ, pos, ◌+ℤ◌, ◌≤ℤ◌, List, [], ◌∷◌, ◌++◌, length, length-append, get_or, take, refl, sym, subst, ap, ◌∙◌, arith}
+use Rattle.std.specs.Prelude.{Option, Some, None}
+use Rattle.std.specs.Iterator.{YieldsFirstBy, YieldsLastBy}
+use Rattle.std.proofs.lemmas.Int.{ints}
 use Rattle.std.proofs.Math.Seq.{take-suc}
 use Rattle.ivl_laws.specs.Bounds.{width_of}
-use Rattle.intervallum.specs.Members.{members_of, numbers_from, numbers_of}
-use Rattle.intervallum.proofs.Members.{members_of-push}
+use Rattle.ivl_laws.specs.Sets.{IsBetween}
+use Rattle.ivl_laws.specs.Runs.{IsRunListIn}
+use Rattle.ivl_laws.specs.Counts.{IsIn}
+use Rattle.ivl_laws.proofs.Intervals.{width_of-filled}
+use Rattle.intervallum.specs.Members.{IsAscending, members_of, numbers_from, numbers_of}
+use Rattle.intervallum.proofs.Members.{ascending_members, in_members, members_of-push, without_lower}
 
 numbers_counted : (v : ℤ) (n : ℕ) → length (numbers_from v n) ≡ n
 numbers_counted v zero = refl
@@ -26,4 +33,35 @@ more_counted L i d h =
     let next : i + 1 ≡ suc i = omega arith in
     let e : take (i + 1) L ≡ take i L ++ p ∷ [] = ap (λ (n : ℕ). take n L) next ∙ take-suc L i d h in
     ap (λ (K : List (ℤ × ℤ)). length (members_of K)) e ∙ ap length (members_of-push (take i L) p) ∙ length-append (members_of (take i L)) (numbers_of p)
-        ∙ ap (λ (n : ℕ). length (members_of (take i L)) + n) (numbers_of_counted p)
+    ∙ ap (λ (n : ℕ). length (members_of (take i L)) + n) (numbers_of_counted p)
+
+-- ---- all of them lie in a range
+
+counted_from : (M : List ℤ) (v u : ℤ) → IsAscending M → ((z : ℤ) → IsIn M z → (v ≤ℤ z) × (z ≤ℤ u)) → length M ≤ width_of (v, u)
+counted_from [] v u a h = omega arith
+counted_from (x ∷ M) v u a h =
+    let here = h x (inl refl) in
+    let low = here.0 in
+    let high = here.1 in
+    let rest = counted_from M (x +ℤ pos 1) u a.1 (λ z i. let above = a.0 z i in (omega (arith, ints), (h z (inr i)).1)) in
+    let less = without_lower (x, u) high in
+    let some = width_of-filled (x, u) high in
+    let all = width_of-filled (v, u) (omega (arith, ints)) in
+    omega (arith, ints)
+
+pub ascending_counted : (M : List ℤ) (W : ℤ × ℤ) → IsAscending M → ((z : ℤ) → IsIn M z → IsBetween W z) → length M ≤ width_of W
+ascending_counted M W a h = counted_from M W.0 W.1 a h
+
+-- ---- one step
+
+pub fewer_by_first : {A : Type 0} (value : A → ℤ) (all left : List ℤ) (r : Option A) (n : ℕ) → YieldsFirstBy value (λ (l : List ℤ). l) all r left → length all ≤ n → length left ≤ n
+fewer_by_first value all left None n y h = subst (λ (M : List ℤ). length M ≤ n) (y.0 ∙ sym y.1) h
+fewer_by_first value all left (Some x) n y h = let e = ap length y in omega arith
+
+pub fewer_by_last : {A : Type 0} (value : A → ℤ) (all left : List ℤ) (r : Option A) (n : ℕ) → YieldsLastBy value (λ (l : List ℤ). l) all r left → length all ≤ n → length left ≤ n
+fewer_by_last value all left None n y h = subst (λ (M : List ℤ). length M ≤ n) (y.0 ∙ sym y.1) h
+fewer_by_last value all left (Some x) n y h = let e = ap length y in let m = length-append left (value x ∷ []) in omega arith
+
+-- the members of a list of runs in the range, and those of a list with what a set in the range has in a window
+pub members_counted : (L : List (ℤ × ℤ)) (W : ℤ × ℤ) → IsRunListIn W L → length (members_of L) ≤ width_of W
+members_counted L W r = ascending_counted (members_of L) W (ascending_members L r.maximal) (λ z i. r.within z ((in_members L z).1 i))

@@ -23,7 +23,7 @@ same_numbers p q h = by_lt_z p.1 p.0
     (λ c. numbers_of-crossed p c ∙ sym (numbers_of-crossed q (crossed_if_same p q c h)))
     (λ o. ap numbers_of (same_between p q o h))
 
-without_lower : (p : ℤ × ℤ) → p.0 ≤ℤ p.1 → width_of p ≡ suc (width_of (p.0 +ℤ pos 1, p.1))
+pub without_lower : (p : ℤ × ℤ) → p.0 ≤ℤ p.1 → width_of p ≡ suc (width_of (p.0 +ℤ pos 1, p.1))
 without_lower p o = omega (arith, ints, clamps, width_of-filled p o, pos-non_negative_part ((p.1 -ℤ (p.0 +ℤ pos 1)) +ℤ pos 1))
 
 without_upper : (p : ℤ × ℤ) → p.0 ≤ℤ p.1 → width_of p ≡ suc (width_of (p.0, p.1 -ℤ pos 1))
@@ -175,6 +175,10 @@ back_as_is all F L B e s = record {
 each_of_pushed : (P : ℤ × ℤ → Type 0) (B : List (ℤ × ℤ)) (run : ℤ × ℤ) → AllByRecursion P (B ++ run ∷ []) → AllByRecursion P B × P run
 each_of_pushed P [] run a = (tt, a.0)
 each_of_pushed P (p ∷ B) run a = let k = each_of_pushed P B run a.1 in ((a.0, k.0), k.1)
+
+-- the runs after the first one have numbers as well
+pub filled_after : (run : ℤ × ℤ) (B rest : List (ℤ × ℤ)) → AllByRecursion (λ r. r.0 ≤ℤ r.1) B → B ≡ run ∷ rest → AllByRecursion (λ r. r.0 ≤ℤ r.1) rest
+filled_after run B rest o f = (subst (AllByRecursion (λ (r : ℤ × ℤ). r.0 ≤ℤ r.1)) f o).1
 
 -- the runs before the last one have numbers as well
 pub filled_before : (run : ℤ × ℤ) (B rest : List (ℤ × ℤ)) → AllByRecursion (λ r. r.0 ≤ℤ r.1) B → B ≡ rest ++ run ∷ [] → AllByRecursion (λ r. r.0 ≤ℤ r.1) rest

@@ -1,11 +1,12 @@
 -- The members of runs that meet a window: all of each run but the first and the last.
-use Rattle.std.proofs.Common.{◌≡◌, ⊎_elim, inl, inr, ℤ, ◌≤ℤ◌, List, [], ◌∷◌, ◌++◌, All, length, append-nil, append_assoc, refl, sym, ap, subst, ◌∙◌, arith}
+use Rattle.std.proofs.Common.{◌≡◌, ⊎_elim, inl, inr, ℤ, ◌≤ℤ◌, List, [], ◌∷◌, ◌++◌, All, length, ◌≤◌, append-nil, append_assoc, refl, sym, ap, subst, ◌∙◌, arith}
 use Rattle.std.specs.Prelude.{◌<ℤ◌}
 use Rattle.std.specs.List.{AllByRecursion}
 use Rattle.std.proofs.lemmas.Int.{ints}
 use Rattle.std.proofs.lemmas.List.Elements.{All-head, All-tail}
 use Rattle.ivl_laws.specs.Sets.{HasSome, Intersection, IsBetween, IsCrossed, SameMembers}
-use Rattle.ivl_laws.specs.Runs.{Covers, IsMaximal, IsRunsOf, StartsAfter}
+use Rattle.ivl_laws.specs.Bounds.{width_of}
+use Rattle.ivl_laws.specs.Runs.{Covers, IsMaximal, IsRunListIn, IsRunsOf, StartsAfter}
 use Rattle.ivl_laws.specs.Counts.{IsIn}
 use Rattle.ivl_laws.proofs.Intervals.{some_is_not_crossed}
 use Rattle.ivl_laws.proofs.Merging.{last_open, covers-append, covers-append_left, covers-append_right}
@@ -13,6 +14,7 @@ use Rattle.ivl_laws.proofs.Runs.{covered_after}
 use Rattle.intervallum.specs.Members.{IsAscending, members_of, numbers_of}
 use Rattle.intervallum.specs.Windows.{OfRunsThatMeet}
 use Rattle.intervallum.proofs.Members.{all_left, ascending_members, in_members, members_of-push, numbers_of-crossed}
+use Rattle.intervallum.proofs.MemberCounts.{ascending_counted}
 use Rattle.intervallum.proofs.WholeRuns.{met_have_all}
 
 -- the list M has, in order, what S has in W
@@ -37,7 +39,7 @@ of_met S W K N M k n e = subst (IsListWithin S W) (sym e) (of_runs S W N (record
   );
 }))
 
-no_item : (K : List (ℤ × ℤ)) → length K ≡ 0 → K ≡ []
+pub no_item : (K : List (ℤ × ℤ)) → length K ≡ 0 → K ≡ []
 no_item [] e = refl
 no_item (p ∷ K) e = absurd (omega arith)
 
@@ -158,3 +160,7 @@ open_before_last (b ∷ B) q m = (m.0, open_before_last B q m.2)
 -- none of the runs between the first and the last is crossed
 pub open_between : (p q : ℤ × ℤ) (K R B : List (ℤ × ℤ)) → IsMaximal K → K ≡ p ∷ R → R ≡ B ++ q ∷ [] → AllByRecursion (λ r. r.0 ≤ℤ r.1) B
 open_between p q K R B m e n = open_before_last B q (subst IsMaximal (e ∙ ap (λ (N : List (ℤ × ℤ)). p ∷ N) n) m).2
+
+-- it has no more numbers than the range of the set
+pub within_counted : (L : List (ℤ × ℤ)) (whole W : ℤ × ℤ) (M : List ℤ) → IsRunListIn whole L → IsListWithin (Covers L) W M → length M ≤ width_of whole
+within_counted L whole W M r w = ascending_counted M whole w.ascending (λ z i. r.within z ((w.members z).1 i).0)

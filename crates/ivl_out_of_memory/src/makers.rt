@@ -74,7 +74,10 @@ fn of_sets(
 ) -> Option<Result<bool, AllocError>> {
     Some(match name {
         "union_of" => is_of(IntervalSet::union_of(alloc, &[a, b, a, b, a]), UNITED),
-        "intersection_of" => is_of(IntervalSet::intersection_of(alloc, &[a, b, a, b, a]), SHARED),
+        "intersection_of" => is_of(
+            IntervalSet::intersection_of(alloc, &[a, b, a, b, a]),
+            SHARED,
+        ),
         "symmetric_difference_interval" => is_of(
             a.symmetric_difference(&Interval::new(2, 9)),
             APART_FROM_WINDOW,

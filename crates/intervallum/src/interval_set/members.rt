@@ -1,7 +1,8 @@
 //! Iteration over the members of a set, from both ends.
-ghost use Rattle.std.specs.Prelude.{◌≡◌, ◌++◌, ◌-◌, ◌^◌, IfSome, length, min, ⊤};
+ghost use Rattle.std.specs.Prelude.{◌≡◌, ◌++◌, ◌-◌, ◌^◌, ◌≤◌, IfSome, length, min, ⊤};
 ghost use Rattle.std.specs.Iterator.{UpTo, YieldsFirstBy, YieldsLastBy, item_count};
 ghost use Rattle.std.specs.Iterator.SizeHint.{IsExactHint, IsWithinCount};
+ghost use Rattle.ivl_laws.specs.Bounds.{width_of};
 ghost use Rattle.ivl_laws.specs.Sets.{SameMembers};
 ghost use Rattle.ivl_laws.specs.Runs.{Covers, IsRunListIn};
 ghost use Rattle.ivl_laws.specs.Counts.{IsIn};
@@ -36,15 +37,16 @@ pub struct Members<'a, B: Width> {
 }
 
 impl<'a, B: Width> Model for Members<'a, B> {
-    ghost use Rattle.std.specs.Prelude.{ℤ, ◌≤ℤ◌, List, ◌++◌};
+    ghost use Rattle.std.specs.Prelude.{ℤ, ◌≤ℤ◌, ◌≤◌, List, ◌++◌, length};
     ghost use Rattle.std.specs.List.{AllByRecursion};
+    ghost use Rattle.ivl_laws.specs.Bounds.{width_of};
     ghost use Rattle.intervallum.specs.Members.{members_of, numbers_of};
 
     ghost Value = { List ℤ };
 
     ghost view = { λ m. numbers_of m.first ++ members_of m.between.now ++ numbers_of m.last };
 
-    ghost invariant = { λ m. AllByRecursion (λ run. run.0 ≤ℤ run.1) m.between.now };
+    ghost invariant = { λ m. AllByRecursion (λ run. run.0 ≤ℤ run.1) m.between.now × (length (numbers_of m.first ++ members_of m.between.now ++ numbers_of m.last) ≤ width_of B.whole) };
 }
 
 impl<'a, B: Width> Clone for Members<'a, B> {
@@ -143,6 +145,41 @@ impl<'a, B: Width> DoubleEndedIterator for Members<'a, B> {
 }
 
 impl<'a, B: Width> FusedIterator for Members<'a, B> {}
+
+impl<'a, B: Width> Members<'a, B> {
+    /// No more members are left than the range has. This does nothing: its contract is the fact.
+    fn in_counts(&self)
+        ensures { length self.now ≤ width_of B.whole }
+    {
+        let _first = self.first;
+    }
+}
+
+impl<'a> ExactSizeIterator for Members<'a, usize> {
+    /// Returns how many members are left. Adds up the runs that are left: `O(n)`.
+    ///
+    /// ```
+    /// let a: IntervalSet<usize> = [(1, 3), (5, 6)].to_interval_set(alloc)?;
+    /// assert_eq!(rt; a.members().len(), 5);
+    /// ```
+    fn len(&self) -> usize {
+        self.in_counts();
+        self.size_hint().0
+    }
+}
+
+impl<'a> ExactSizeIterator for Members<'a, isize> {
+    /// Returns how many members are left. Adds up the runs that are left: `O(n)`.
+    ///
+    /// ```
+    /// let a: IntervalSet<isize> = [(-3, -1), (5, 6)].to_interval_set(alloc)?;
+    /// assert_eq!(rt; a.members().len(), 5);
+    /// ```
+    fn len(&self) -> usize {
+        self.in_counts();
+        self.size_hint().0
+    }
+}
 
 /// How many numbers an interval, a list of intervals and another interval have; at most as many as
 /// a `u128` holds.

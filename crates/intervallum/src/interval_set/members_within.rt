@@ -25,6 +25,7 @@ impl<B: Width> IntervalSet<B> {
         ensures members { SameMembers (Intersection (Covers self.now) (IsBetween window.now)) (IsIn result) }
         ensures ascending { IsAscending result }
     {
+        self.in_whole();
         let runs = self.runs_within(window);
         let none = Interval::empty();
         match runs.split_first() {

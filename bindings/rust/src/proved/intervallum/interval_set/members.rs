@@ -4,8 +4,8 @@
 use crate::rattle::prelude::*;
 use super::IntervalSet;
 use crate::proved::intervallum::interval::Interval;
-use crate::proved::intervallum::ops::{Bounded, Empty, IsEmpty, StrictShrinkLeft, StrictShrinkRight};
-use crate::proved::intervallum::width::Width;
+use crate::proved::intervallum::ops::{Bounded, Cardinality, Empty, IsEmpty, StrictShrinkLeft, StrictShrinkRight};
+use crate::proved::intervallum::width::{SizeNumber, Width};
 use crate::rattle::std::alloc::AllocError;
 use crate::rattle::std::iter::FusedIterator;
 
@@ -98,6 +98,33 @@ impl<'a, B: Width> Iterator for Members<'a, B> {
         }
         take_least(&mut self.first)
     }
+
+    /// Returns how many members are left, as both bounds. Where a `usize` does not hold so many,
+    /// they are its greatest value and `None`. Adds up the runs that are left: `O(n)`.
+    ///
+    /// ```
+    /// # use intervallum::proved::examples::*;
+    /// # fn main() -> Result<(), std::boxed::Box<dyn std::error::Error>> {
+    /// # let alloc = Global;
+    /// let a: IntervalSet<i32> = [(1, 3), (5, 6)].to_interval_set(alloc)?;
+    /// assert!(a.members().size_hint() == (5, Some(5)));
+    /// # Ok(())
+    /// # }
+    /// ```
+    ///
+    /// # Proved
+    ///
+    /// ```text
+    /// ensures lower { IsWithinCount result.0 (item_count (λ left. left) self.now) }
+    /// ensures upper { IfSome result.1 (UpTo (item_count (λ left. left) self.now)) }
+    /// ensures exact { IsExactHint result (length self.now) }
+    /// ```
+    fn size_hint(&self) -> (usize, Option<usize>) {
+        match usize::try_from(count_of(&self.first, self.between, &self.last)) {
+            Ok(count) => (count, Some(count)),
+            Err(_) => (usize::MAX, None),
+        }
+    }
 }
 
 /// Proved, with these words of the trait:
@@ -134,6 +161,59 @@ impl<'a, B: Width> DoubleEndedIterator for Members<'a, B> {
 }
 
 impl<'a, B: Width> FusedIterator for Members<'a, B> {}
+
+impl<'a, B: Width> Members<'a, B> {
+    /// No more members are left than the range has. This does nothing: its contract is the fact.
+    fn in_counts(&self) {
+        let _first = self.first;
+    }
+}
+
+impl<'a> ExactSizeIterator for Members<'a, usize> {
+    /// Returns how many members are left. Adds up the runs that are left: `O(n)`.
+    ///
+    /// ```
+    /// # use intervallum::proved::examples::*;
+    /// # fn main() -> Result<(), std::boxed::Box<dyn std::error::Error>> {
+    /// # let alloc = Global;
+    /// let a: IntervalSet<usize> = [(1, 3), (5, 6)].to_interval_set(alloc)?;
+    /// assert_eq!(a.members().len(), 5);
+    /// # Ok(())
+    /// # }
+    /// ```
+    fn len(&self) -> usize {
+        self.in_counts();
+        self.size_hint().0
+    }
+}
+
+impl<'a> ExactSizeIterator for Members<'a, isize> {
+    /// Returns how many members are left. Adds up the runs that are left: `O(n)`.
+    ///
+    /// ```
+    /// # use intervallum::proved::examples::*;
+    /// # fn main() -> Result<(), std::boxed::Box<dyn std::error::Error>> {
+    /// # let alloc = Global;
+    /// let a: IntervalSet<isize> = [(-3, -1), (5, 6)].to_interval_set(alloc)?;
+    /// assert_eq!(a.members().len(), 5);
+    /// # Ok(())
+    /// # }
+    /// ```
+    fn len(&self) -> usize {
+        self.in_counts();
+        self.size_hint().0
+    }
+}
+
+/// How many numbers an interval, a list of intervals and another interval have; at most as many as
+/// a `u128` holds.
+fn count_of<B: Width>(first: &Interval<B>, between: &[Interval<B>], last: &Interval<B>) -> u128 {
+    let mut count = first.size().number().saturating_add(last.size().number());
+    for run in between {
+        count = count.saturating_add(run.size().number());
+    }
+    count
+}
 
 /// Takes the least number of an interval away, if it has one.
 fn take_least<B: Width>(part: &mut Interval<B>) -> Option<B> {

@@ -34,6 +34,7 @@ impl<B: Width> IntervalSet<B> {
     ///
     /// Words: [`SameMembers`](crate::definitions#SameMembers), [`Intersection`](crate::definitions#Intersection), [`Covers`](crate::definitions#Covers), [`IsBetween`](crate::definitions#IsBetween), [`IsIn`](crate::definitions#IsIn), [`IsAscending`](crate::definitions#IsAscending).
     pub fn members_within(&self, window: &Interval<B>) -> Members<'_, B> {
+        self.in_whole();
         let runs = self.runs_within(window);
         let none = Interval::empty();
         match runs.split_first() {

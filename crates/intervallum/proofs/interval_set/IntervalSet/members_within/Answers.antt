@@ -1,12 +1,31 @@
+use Rattle.std.proofs.Common.{◌≡◌, ℤ, ◌≤ℤ◌, [], subst, sym}
+use Rattle.std.specs.List.{AllByRecursion}
 use Rattle.ivl_laws.specs.Runs.{Covers}
-use Rattle.intervallum.proofs.MembersWithin.{IsListWithin, of_many, of_none, of_one, open_between}
+use Rattle.intervallum.proofs.MembersWithin.{IsListWithin, no_item, of_many, of_none, of_one, open_between, within_counted}
 use Rattle.intervallum.proofs.interval_set.IntervalSet.members_within.Goals.{in-None-split_last, in-Some-split_last}
 use Rattle.intervallum.proofs.interval_set.IntervalSet.members_within.Given as given
 use Rattle.intervallum.proofs.interval_set.IntervalSet.members_within.Goals as goal
 
+pub invariant_of-t-16 : goal.invariant_of-t-16
+invariant_of-t-16 g c =
+    let none : c.in-Some.rest.now ≡ [] = no_item c.in-Some.rest.now c.in-None-split_last.ensures.cases in
+    let filled : AllByRecursion (λ (run : ℤ × ℤ). run.0 ≤ℤ run.1) c.in-Some.rest.now = subst (AllByRecursion (λ (run : ℤ × ℤ). run.0 ≤ℤ run.1)) (sym none) tt in (
+      filled,
+      within_counted c.args.self.now g.B.Width.whole c.args.window.now _ c.in_whole.ensures
+          (of_one (Covers c.args.self.now) c.args.window.now c.in-Some.run'.now c.intersection-first.result c.empty-none.result c.runs_within-runs.result.now c.in-Some.rest.now
+          c.runs_within-runs.ensures.members c.runs_within-runs.ensures.overlap c.in-Some.ensures.cases.0 c.in-None-split_last.ensures.cases c.intersection-first.ensures c.empty-none.ensures.crossed),
+    )
+
 pub invariant_of-result : goal.invariant_of-result
-invariant_of-result g c = open_between c.in-Some.run'.now c.in-Some-split_last.run'.now c.runs_within-runs.result.now c.in-Some.rest.now c.in-Some-split_last.between.now
-    c.runs_within-runs.ensures.members.maximal c.in-Some.ensures.cases.0 c.in-Some-split_last.ensures.cases.0
+invariant_of-result g c =
+    let filled = open_between c.in-Some.run'.now c.in-Some-split_last.run'.now c.runs_within-runs.result.now c.in-Some.rest.now c.in-Some-split_last.between.now
+    c.runs_within-runs.ensures.members.maximal c.in-Some.ensures.cases.0 c.in-Some-split_last.ensures.cases.0 in (
+      filled,
+      within_counted c.args.self.now g.B.Width.whole c.args.window.now _ c.in_whole.ensures
+          (of_many (Covers c.args.self.now) c.args.window.now c.in-Some.run'.now c.in-Some-split_last.run'.now c.intersection-first.result c.intersection.result
+          c.runs_within-runs.result.now c.in-Some.rest.now c.in-Some-split_last.between.now c.runs_within-runs.ensures.members c.runs_within-runs.ensures.overlap
+          c.in-Some.ensures.cases.0 c.in-Some-split_last.ensures.cases.0 c.intersection-first.ensures c.intersection.ensures),
+    )
 
 pub returns-in-None-clause-members : goal.returns-in-None-clause-members
 returns-in-None-clause-members g c =
