@@ -1,5 +1,5 @@
 //! Callers that iterate over the members of a set, from either end.
-ghost use Rattle.std.specs.Prelude.{◌≡◌, [], ◌∷◌, ◌++◌, IfOk, IsOk, MatchOption, map};
+ghost use Rattle.std.specs.Prelude.{◌≡◌, ◌≤◌, ◌^◌, [], ◌∷◌, ◌++◌, IfOk, IsOk, MatchOption, length, map};
 ghost use Rattle.ivl_laws.specs.Sets.{HasNone};
 ghost use Rattle.ivl_laws.specs.Runs.{Covers};
 ghost use Rattle.intervallum.specs.Members.{members_of};
@@ -50,4 +50,25 @@ pub fn same_members_left<'a, B: Width>(left: &Members<'a, B>) -> Result<Members<
     ensures ok { IsOk result }
 {
     left.clone()
+}
+
+/// Returns the number of members that are left, where a `usize` holds it.
+pub fn count_left<B: Width>(left: &Members<'_, B>) -> Option<usize>
+    ensures { MatchOption result (2 ^ 64 ≤ length left.now) (λ count. count ≡ length left.now) }
+{
+    left.size_hint().1
+}
+
+/// Returns the number of members of a set of `usize` that are left.
+pub fn count_left_of_usize(left: &Members<'_, usize>) -> usize
+    ensures { result ≡ length left.now }
+{
+    left.len()
+}
+
+/// Returns the number of members of a set of `isize` that are left.
+pub fn count_left_of_isize(left: &Members<'_, isize>) -> usize
+    ensures { result ≡ length left.now }
+{
+    left.len()
 }
