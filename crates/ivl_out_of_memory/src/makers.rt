@@ -114,42 +114,52 @@ fn split(a: &IntervalSet<i32>) -> Result<bool, AllocError> {
     }
 }
 
-/// The operators on sets.
+/// The operators on sets, in each form.
 fn of_operators(
     name: &str,
     a: &IntervalSet<i32>,
     b: &IntervalSet<i32>,
 ) -> Option<Result<bool, AllocError>> {
     Some(match name {
-        "bitor" => is_of(a | b, UNITED),
-        "bitand" => is_of(a & b, SHARED),
-        "bitxor" => is_of(a ^ b, APART),
-        "not" => is_of(!a, BETWEEN),
-        "bitor_moved" => is_of(either(a, b), UNITED),
-        "bitand_moved" => is_of(both(a, b), SHARED),
-        "bitxor_moved" => is_of(one_alone(a, b), APART),
-        "not_moved" => is_of(outside(a), BETWEEN),
+        "bitor_forms" => either(a, b),
+        "bitand_forms" => both(a, b),
+        "bitxor_forms" => one_alone(a, b),
+        "not_forms" => outside(a),
         _ => return None,
     })
 }
 
-/// The members of either set, by the form that takes both.
-fn either(a: &IntervalSet<i32>, b: &IntervalSet<i32>) -> Result<IntervalSet<i32>, AllocError> {
-    a.try_clone()? | b.try_clone()?
+/// Whether each form of `|` gives the members of either set.
+fn either(a: &IntervalSet<i32>, b: &IntervalSet<i32>) -> Result<bool, AllocError> {
+    let owned = is_of(a.try_clone()? | b.try_clone()?, UNITED)?;
+    let first_owned = is_of(a.try_clone()? | b, UNITED)?;
+    let second_owned = is_of(a | b.try_clone()?, UNITED)?;
+    let borrowed = is_of(a | b, UNITED)?;
+    Ok(owned && first_owned && second_owned && borrowed)
 }
 
-/// The common members, by the form that takes both sets.
-fn both(a: &IntervalSet<i32>, b: &IntervalSet<i32>) -> Result<IntervalSet<i32>, AllocError> {
-    a.try_clone()? & b.try_clone()?
+/// Whether each form of `&` gives the common members.
+fn both(a: &IntervalSet<i32>, b: &IntervalSet<i32>) -> Result<bool, AllocError> {
+    let owned = is_of(a.try_clone()? & b.try_clone()?, SHARED)?;
+    let first_owned = is_of(a.try_clone()? & b, SHARED)?;
+    let second_owned = is_of(a & b.try_clone()?, SHARED)?;
+    let borrowed = is_of(a & b, SHARED)?;
+    Ok(owned && first_owned && second_owned && borrowed)
 }
 
-/// The members of exactly one set, by the form that takes both.
-fn one_alone(a: &IntervalSet<i32>, b: &IntervalSet<i32>) -> Result<IntervalSet<i32>, AllocError> {
-    a.try_clone()? ^ b.try_clone()?
+/// Whether each form of `^` gives the members of exactly one set.
+fn one_alone(a: &IntervalSet<i32>, b: &IntervalSet<i32>) -> Result<bool, AllocError> {
+    let owned = is_of(a.try_clone()? ^ b.try_clone()?, APART)?;
+    let first_owned = is_of(a.try_clone()? ^ b, APART)?;
+    let second_owned = is_of(a ^ b.try_clone()?, APART)?;
+    let borrowed = is_of(a ^ b, APART)?;
+    Ok(owned && first_owned && second_owned && borrowed)
 }
 
-/// The numbers outside the set, by the form that takes it.
-fn outside(a: &IntervalSet<i32>) -> Result<IntervalSet<i32>, AllocError> {
+/// Whether both forms of `!` give the numbers outside the set.
+fn outside(a: &IntervalSet<i32>) -> Result<bool, AllocError> {
     let set = a.try_clone()?;
-    !set
+    let owned = is_of(!set, BETWEEN)?;
+    let borrowed = is_of(!a, BETWEEN)?;
+    Ok(owned && borrowed)
 }
