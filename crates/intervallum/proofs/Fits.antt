@@ -1,6 +1,6 @@
 -- Room that is taken from the start of a run, and the shortest run that has it.
-use Rattle.std.proofs.Common.{◌≡◌, ◌≤◌, ◌<◌, ◌+◌, inl, inr, ⊎_elim, ℕ, ℤ, pos, ◌+ℤ◌, ◌-ℤ◌, ◌≤ℤ◌, List, [], ◌∷◌, ◌++◌, length, take, take_all, get_or, Some, None, arith, refl, sym, subst}
-use Rattle.std.specs.Prelude.{Option, MatchOption}
+use Rattle.std.proofs.Common.{◌≡◌, ◌⊎◌, ◌≤◌, ◌<◌, ◌+◌, inl, inr, ⊎_elim, ℕ, ℤ, pos, ◌+ℤ◌, ◌-ℤ◌, ◌≤ℤ◌, List, [], ◌∷◌, ◌++◌, length, take, take_all, get_or, Some, None, arith, refl, sym, subst}
+use Rattle.std.specs.Prelude.{Option, MatchOption, ⊤}
 use Rattle.std.proofs.lemmas.Bool.{cases_lt}
 use Rattle.std.proofs.lemmas.Int.{ints, by_lt_z}
 use Rattle.ivl_laws.specs.Bounds.{width_of}
@@ -14,7 +14,7 @@ use Rattle.ivl_laws.proofs.Places.{free_above_end, start_in}
 use Rattle.ivl_laws.proofs.Products.{one_covers, open_in}
 use Rattle.ivl_laws.proofs.Runs.{lower_end, pair_same, ≤ℤ_antisymm}
 use Rattle.intervallum.specs.Edits.{widened}
-use Rattle.intervallum.specs.Fits.{IsBestFit, IsBetterRun, IsNoBetter}
+use Rattle.intervallum.specs.Fits.{IsBestFit, IsNoBetter}
 use Rattle.intervallum.specs.Neighbours.{IsRunWith}
 use Rattle.intervallum.specs.FirstFit.{FitsAt, IsFirstFit}
 use Rattle.intervallum.proofs.Ranks.{ahead, more_is}
@@ -28,6 +28,24 @@ fit_splits_none n S run f h =
     absurd (omega (arith, ints))
 
 -- ---- the best of the first runs
+
+-- the run fits better than the best so far
+abbrev FitsBetter : ℕ → ℤ × ℤ → Option (ℤ × ℤ) → Type 0
+FitsBetter n run best = (n ≤ width_of run) × MatchOption best ⊤ (λ shortest. width_of run < width_of shortest)
+
+-- the best so far, once the run is seen
+abbrev pub IsBetterRun : ℕ → Option (ℤ × ℤ) → ℤ × ℤ → Option (ℤ × ℤ) → Type 0
+IsBetterRun n None run answer = ((n ≤ width_of run) × (answer ≡ Some run)) ⊎ ((width_of run < n) × (answer ≡ None))
+IsBetterRun n (Some best) run answer = ((n ≤ width_of run) × (width_of run < width_of best) × (answer ≡ Some run))
+    ⊎ (((width_of run < n) ⊎ (width_of best ≤ width_of run)) × (answer ≡ Some best))
+
+pub better_taken : (n : ℕ) (best : Option (ℤ × ℤ)) (run : ℤ × ℤ) (answer : Option (ℤ × ℤ)) → FitsBetter n run best → answer ≡ Some run → IsBetterRun n best run answer
+better_taken n None run answer f e = inl (f.0, e)
+better_taken n (Some best) run answer f e = inl (f.0, f.1, e)
+
+pub better_left : (n : ℕ) (best : Option (ℤ × ℤ)) (run : ℤ × ℤ) (answer : Option (ℤ × ℤ)) → ¬ (FitsBetter n run best) → answer ≡ best → IsBetterRun n best run answer
+better_left n None run answer f e = inr (⊎_elim (λ h. h) (λ h. absurd (f (h, tt))) (cases_lt (width_of run) n), e)
+better_left n (Some best) run answer f e = inr (⊎_elim (λ h. inl h) (λ h. ⊎_elim (λ less. absurd (f (h, less))) (λ le. inr le) (cases_lt (width_of run) (width_of best))) (cases_lt (width_of run) n), e)
 
 pub record IsShortest (n : ℕ) (L : List (ℤ × ℤ)) (best : ℤ × ℤ) : Type 0 where
   pub of_list : IsIn L best

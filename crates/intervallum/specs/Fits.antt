@@ -1,18 +1,12 @@
 -- The shortest of the runs of a set that are long enough.
---     IsBetterRun n best run answer      the answer is the run, if it has n numbers and the best so far is none or longer, else the best so far
 --     IsBestFit n S fit      fit is the first n numbers of a run of S, and no run that has n numbers is shorter, or as short and lower
-use Rattle.std.specs.Prelude.{◌≡◌, ◌⊎◌, ℕ, ◌<◌, ◌≤◌, ℤ, pos, ◌+ℤ◌, ◌-ℤ◌, ◌≤ℤ◌, Option, None, Some}
+use Rattle.std.specs.Prelude.{◌≡◌, ◌⊎◌, ℕ, ◌<◌, ◌≤◌, ℤ, pos, ◌+ℤ◌, ◌-ℤ◌, ◌≤ℤ◌}
 use Rattle.ivl_laws.specs.Bounds.{width_of}
 use Rattle.intervallum.specs.Neighbours.{IsRunWith}
 
 -- run q of a set is no better than p: longer, or as long and no lower
 abbrev pub IsNoBetter : ℤ × ℤ → ℤ × ℤ → Type 0
 IsNoBetter p q = (width_of p < width_of q) ⊎ ((width_of p ≡ width_of q) × (p.0 ≤ℤ q.0))
-
-abbrev pub IsBetterRun : ℕ → Option (ℤ × ℤ) → ℤ × ℤ → Option (ℤ × ℤ) → Type 0
-IsBetterRun n None run answer = ((n ≤ width_of run) × (answer ≡ Some run)) ⊎ ((width_of run < n) × (answer ≡ None))
-IsBetterRun n (Some best) run answer = ((n ≤ width_of run) × (width_of run < width_of best) × (answer ≡ Some run))
-    ⊎ (((width_of run < n) ⊎ (width_of best ≤ width_of run)) × (answer ≡ Some best))
 
 pub record IsBestFit (n : ℕ) (S : ℤ → Type 0) (fit : ℤ × ℤ) : Type 0 where
   pub count : fit.1 ≡ (fit.0 +ℤ pos n) -ℤ pos 1

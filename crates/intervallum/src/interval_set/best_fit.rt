@@ -1,10 +1,10 @@
 //! The calls of an allocator: room that is found and removed in one call, and the shortest run that has it.
-ghost use Rattle.std.specs.Prelude.{◌≡◌, ◌<◌, ◌≤◌, ℤ, MatchOption, length, take};
+ghost use Rattle.std.specs.Prelude.{◌≡◌, ◌↔◌, ◌<◌, ◌≤◌, ℤ, IsTrue, MatchOption, length, take, ⊤};
 ghost use Rattle.ivl_laws.specs.Bounds.{width_of};
 ghost use Rattle.ivl_laws.specs.Sets.{IsBetween, Without};
 ghost use Rattle.ivl_laws.specs.Runs.{Covers, IsRunsOf};
 ghost use Rattle.intervallum.specs.FirstFit.{FitsAt, IsFirstFit};
-ghost use Rattle.intervallum.specs.Fits.{IsBestFit, IsBetterRun};
+ghost use Rattle.intervallum.specs.Fits.{IsBestFit};
 
 use super::IntervalSet;
 use super::first_fit::lowest_of;
@@ -60,34 +60,25 @@ impl<B: Width> IntervalSet<B> {
             (IsBestFit (B.Output.size count) (Covers self.now)) }
     {
         let runs = self.as_runs();
-        let mut best = None;
+        let mut best: Option<Interval<B>> = None;
         for run in runs {
-            best = better(best, run, count);
+            if fits_better(run, count, best) {
+                best = Some(*run);
+            }
         }
         let run = best?;
         Some(lowest_of(&run, count))
     }
 }
 
-/// The shortest run of at least `count` numbers so far, once `run` is seen: `run` if it has so many
-/// and is shorter than `best`, or if there is no best yet; else `best`.
-fn better<B: Width>(
-    best: Option<Interval<B>>,
-    run: &Interval<B>,
-    count: B::Output,
-) -> Option<Interval<B>>
-    ensures { IsBetterRun (B.Output.size count) best run.now result }
+/// Whether a run has at least `count` numbers, and fewer than the best so far, if there is one.
+fn fits_better<B: Width>(run: &Interval<B>, count: B::Output, best: Option<Interval<B>>) -> bool
+    ensures { IsTrue result ↔ (B.Output.size count ≤ width_of run.now) × MatchOption best ⊤ (λ shortest. width_of run.now < width_of shortest) }
 {
     let size = run.size();
-    let is_enough = size >= count;
-    match best {
-        None => { if is_enough { Some(*run) } else { None } }
-        Some(shortest) => {
-            if is_enough & (size < shortest.size()) {
-                Some(*run)
-            } else {
-                Some(shortest)
-            }
-        }
-    }
+    let is_shorter = match best {
+        Some(shortest) => size < shortest.size(),
+        None => true,
+    };
+    (size >= count) & is_shorter
 }

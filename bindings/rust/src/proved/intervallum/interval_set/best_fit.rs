@@ -80,32 +80,23 @@ impl<B: Width> IntervalSet<B> {
     pub fn best_fit(&self, count: B::Output) -> Option<Interval<B>> {
         debug_assert!({ #[allow(unused_imports)] use crate::proved::ivl_interval::ops::*; count.number() > 0 }, "{}", "the condition of `best_fit` is broken: count.number() > 0");
         let runs = self.as_runs();
-        let mut best = None;
+        let mut best: Option<Interval<B>> = None;
         for run in runs {
-            best = better(best, run, count);
+            if fits_better(run, count, best) {
+                best = Some(*run);
+            }
         }
         let run = best?;
         Some(lowest_of(&run, count))
     }
 }
 
-/// The shortest run of at least `count` numbers so far, once `run` is seen: `run` if it has so many
-/// and is shorter than `best`, or if there is no best yet; else `best`.
-fn better<B: Width>(
-    best: Option<Interval<B>>,
-    run: &Interval<B>,
-    count: B::Output,
-) -> Option<Interval<B>> {
+/// Whether a run has at least `count` numbers, and fewer than the best so far, if there is one.
+fn fits_better<B: Width>(run: &Interval<B>, count: B::Output, best: Option<Interval<B>>) -> bool {
     let size = run.size();
-    let is_enough = size >= count;
-    match best {
-        None => { if is_enough { Some(*run) } else { None } }
-        Some(shortest) => {
-            if is_enough & (size < shortest.size()) {
-                Some(*run)
-            } else {
-                Some(shortest)
-            }
-        }
-    }
+    let is_shorter = match best {
+        Some(shortest) => size < shortest.size(),
+        None => true,
+    };
+    (size >= count) & is_shorter
 }
