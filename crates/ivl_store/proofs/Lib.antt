@@ -7,6 +7,7 @@ pub mod Counting
 pub mod Counts
 pub mod Families
 pub mod Histories
+pub mod Indexes
 pub mod Keeping
 pub mod Lists
 pub mod Logging
@@ -17,6 +18,7 @@ pub mod Places
 pub mod Points
 pub mod Posting
 pub mod Reverting
+pub mod Queues
 pub mod Rounds
 pub mod Settled
 pub mod Steps

@@ -5,6 +5,7 @@ pub mod Narrowing
 pub mod Network
 pub mod NetworkLaws
 pub mod Posts
+pub mod Queue
 pub mod Rounds
 pub mod Settled
 pub mod Solutions

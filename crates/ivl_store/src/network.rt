@@ -25,18 +25,19 @@ ghost use Rattle.ivl_store.specs.Posts.{HasEmpty};
 ghost use Rattle.ivl_store.specs.Solutions.{AreDistinct, IsCommonSolution, IsGreatestFamily};
 
 use crate::store::change::Change;
-use crate::store::marks::{clear_marks, move_marks};
 use crate::store::{Constraint, Store, StoreFault};
 use intervallum::interval_set::IntervalSet;
 use intervallum::width::Width;
 use std::alloc::{AllocError, Global};
 use std::marker::Model;
 
+mod index;
 pub mod laws;
-mod marks;
+mod queue;
 mod trail;
 
-use marks::next_unmarked;
+use index::Index;
+use queue::Queue;
 use trail::{clear_unmarked, is_logging, log_change, reserve_change, revert_to};
 
 /// What [`Network::settle`] reached.
@@ -57,10 +58,10 @@ pub enum Settled {
 pub struct Network<B: Width> {
     store: Store<B>,
     constraints: Vec<Constraint>,
-    // One mark per constraint: narrowing by a marked one would change nothing.
-    settled: Vec<bool>,
-    // Where the search for a constraint without a mark begins.
-    next: usize,
+    // Which constraints name each variable.
+    index: Index,
+    // Which constraints have to be looked at.
+    queue: Queue,
     // What takes back each change since the first mark.
     trail: Vec<Change<B>>,
     // The places of the trail at which there is a mark.
@@ -68,15 +69,16 @@ pub struct Network<B: Width> {
 }
 
 impl<B: Width> Model for Network<B> {
-    ghost use Rattle.std.specs.Prelude.{map};
+    ghost use Rattle.std.specs.Prelude.{length, map};
     ghost use Rattle.ivl_store.specs.Network.{IsSoundNetwork, NetworkState, unmarked_count};
+    ghost use Rattle.ivl_store.specs.Queue.{IsIndex, IsQueue};
     ghost use Rattle.ivl_store.specs.Trail.{IsSoundTrail, past_at};
 
     ghost Value = { NetworkState };
 
-    ghost view = { λ n. record { domains = n.store; constraints = n.constraints.items; unsettled = unmarked_count n.settled.items; marked = map (past_at n.trail.items (record { domains = n.store; constraints = n.constraints.items })) n.marks.items } };
+    ghost view = { λ n. record { domains = n.store; constraints = n.constraints.items; unsettled = unmarked_count n.queue.settled.items; marked = map (past_at n.trail.items (record { domains = n.store; constraints = n.constraints.items })) n.marks.items } };
 
-    ghost invariant = { λ n. IsSoundNetwork n.store n.constraints.items n.settled.items × IsSoundTrail n.marks.items n.trail.items (record { domains = n.store; constraints = n.constraints.items }) };
+    ghost invariant = { λ n. IsSoundNetwork n.store n.constraints.items n.queue.settled.items × IsSoundTrail n.marks.items n.trail.items (record { domains = n.store; constraints = n.constraints.items }) × IsIndex (length n.store) n.constraints.items n.index × IsQueue n.queue };
 }
 
 impl<B: Width> Network<B> {
@@ -92,8 +94,8 @@ impl<B: Width> Network<B> {
         Network {
             store: Store::new(alloc, Vec::new(alloc)),
             constraints: Vec::new(alloc),
-            settled: Vec::new(alloc),
-            next: 0,
+            index: Index::new(alloc),
+            queue: Queue::new(alloc),
             trail: Vec::new(alloc),
             marks: Vec::new(alloc),
         }
@@ -145,7 +147,9 @@ impl<B: Width> Network<B> {
     {
         let is_kept = is_logging(&self.marks);
         reserve_change(&mut self.trail, is_kept)?;
+        self.index.reserve_variable()?;
         let index = self.store.add_variable(domain)?;
+        self.index.push_variable();
         log_change(&mut self.trail, is_kept, true, Change::Variable);
         Ok(index)
     }
@@ -156,7 +160,7 @@ impl<B: Width> Network<B> {
     /// The caller must ensure that it has three different variables. Check with
     /// [`Constraint::distinct`].
     ///
-    /// Linear in the constraints, which are compared with it.
+    /// Linear in the constraints that name `z`, which are compared with it.
     ///
     /// # Errors
     ///
@@ -183,7 +187,7 @@ impl<B: Width> Network<B> {
         if let Some(i) = constraint.first_unknown(self.store.domains().len()) {
             return Err(StoreFault::Variable(i));
         }
-        if !has_constraint(&self.constraints, &constraint) {
+        if !self.index.has(&self.constraints, &constraint) {
             self.push(constraint)?;
         }
         Ok(())
@@ -198,22 +202,18 @@ impl<B: Width> Network<B> {
     {
         let is_kept = is_logging(&self.marks);
         reserve_change(&mut self.trail, is_kept)?;
-        let count = self.constraints.len();
-        self.constraints.push(constraint)?;
-        match self.settled.push(false) {
-            Ok(()) => {
-                log_change(&mut self.trail, is_kept, true, Change::Require);
-                Ok(())
-            }
-            Err(_) => {
-                self.constraints.truncate(count);
-                Err(AllocError)
-            }
-        }
+        self.index.reserve_constraint()?;
+        self.constraints.reserve(1)?;
+        self.queue.push()?;
+        self.index.push_constraint(&constraint);
+        self.constraints.push_reserved(constraint);
+        log_change(&mut self.trail, is_kept, true, Change::Require);
+        Ok(())
     }
 
     /// Cuts a domain to its members in this set. Other domains are not narrowed before
-    /// [`Network::settle`]. Costs an intersection and a pass over the constraints.
+    /// [`Network::settle`]. Costs an intersection and a pass over the constraints that name the
+    /// variable.
     ///
     /// # Errors
     ///
@@ -240,7 +240,8 @@ impl<B: Width> Network<B> {
         let is_kept = is_logging(&self.marks);
         reserve_change(&mut self.trail, is_kept)?;
         let (lost, change) = self.store.restrict_swapped(variable, allowed)?;
-        clear_marks(lost, &self.constraints, variable, &mut self.settled);
+        self.queue
+            .wake(lost, &self.constraints, variable, &self.index);
         log_change(&mut self.trail, is_kept, lost, change);
         Ok(())
     }
@@ -253,7 +254,10 @@ impl<B: Width> Network<B> {
     /// constraint supports every member. After [`Settled::Unfinished`] another call goes on.
     ///
     /// A constraint whose domains did not change since it narrowed them is not counted: each
-    /// narrowing that counts removes a member, or leaves one constraint fewer to look at.
+    /// narrowing that counts removes a member, or leaves one constraint fewer to look at. The
+    /// constraints are looked at in rounds, and one that has to be looked at again waits for the
+    /// next. `O(1)` for a constraint beside its narrowing, and for each domain that changes a pass
+    /// over the constraints that name its variable.
     ///
     /// # Errors
     ///
@@ -311,16 +315,15 @@ impl<B: Width> Network<B> {
         ensures narrowed { IfOk result (λ b. b ≡ true → AreNarrowings self.old.constraints 1 (set_at self.old.domains) (set_at self.new.domains)) }
         ensures fewer { IfOk result (λ b. b ≡ true → 1 + work B.whole self.new ≤ work B.whole self.old) }
     {
-        let Some(i) = next_unmarked(&self.settled, self.next) else {
+        let Some(i) = self.queue.first() else {
             return Ok(false);
         };
         let is_kept = is_logging(&self.marks);
         reserve_change(&mut self.trail, is_kept)?;
         let constraint = self.constraints[i];
         let (lost, change) = self.store.narrow_swapped(&constraint)?;
-        move_marks(&self.constraints, i, lost, &mut self.settled);
+        self.queue.settle(i, lost, &self.constraints, &self.index);
         log_change(&mut self.trail, is_kept, lost.any(), change);
-        self.next = i + 1;
         Ok(true)
     }
 
@@ -328,10 +331,10 @@ impl<B: Width> Network<B> {
     fn reached(&self) -> Settled
         ensures { result ≡ Settled.All → All AreDistinct self.now.constraints × All (IsFixed (set_at self.now.domains)) self.now.constraints }
     {
-        if next_unmarked(&self.settled, self.next).is_some() {
-            Settled::Unfinished
-        } else {
+        if self.queue.is_empty() {
             Settled::All
+        } else {
+            Settled::Unfinished
         }
     }
 
@@ -367,8 +370,9 @@ impl<B: Width> Network<B> {
     /// the mark. This mark and later ones are gone. Returns false, and changes nothing, if there is
     /// no such mark.
     ///
-    /// Linear in the changes, and for each domain that is put back a pass over the constraints: those
-    /// that name its variable have to be looked at again. Does not allocate.
+    /// Linear in the changes, and for each domain that is put back a pass over the constraints that
+    /// name its variable, which have to be looked at again. A constraint that is dropped before it was
+    /// looked at costs a pass over those that wait. Does not allocate.
     pub fn undo_to(&mut self, mark: usize) -> bool
         ensures told { IsTrue result ↔ (mark < length self.old.marked) }
         ensures none { result ≡ false → self.new ≡ self.old }
@@ -384,7 +388,8 @@ impl<B: Width> Network<B> {
             start,
             &mut self.store,
             &mut self.constraints,
-            &mut self.settled,
+            &mut self.index,
+            &mut self.queue,
         );
         self.marks.truncate(mark);
         true
@@ -406,11 +411,4 @@ impl<B: Width> Network<B> {
         self.marks.truncate(mark);
         clear_unmarked(&self.marks, &mut self.trail);
     }
-}
-
-/// Whether a constraint is one of the list.
-fn has_constraint(constraints: &[Constraint], constraint: &Constraint) -> bool
-    ensures { IsTrue result ↔ Contains constraints.now constraint.now }
-{
-    constraints.contains(constraint)
 }

@@ -3,10 +3,12 @@ ghost use Rattle.std.specs.Prelude.{◌≡◌, ◌<◌, ◌≤◌, ◌&&◌, ◌
 ghost use Rattle.std.specs.Vec.{vec_capacity, vec_len};
 ghost use Rattle.ivl_store.specs.Keeping.{narrowed_at};
 ghost use Rattle.ivl_store.specs.Network.{IsSoundNetwork};
+ghost use Rattle.ivl_store.specs.Queue.{IsIndex, IsQueue};
 ghost use Rattle.ivl_store.specs.Trail.{IsPresent, past_at, revert, with_change};
 
+use super::index::Index;
+use super::queue::Queue;
 use crate::store::change::Change;
-use crate::store::marks::clear_marks;
 use crate::store::{Constraint, Store};
 use intervallum::interval_set::IntervalSet;
 use intervallum::width::Width;
@@ -47,18 +49,23 @@ pub(super) fn revert_to<B: Width>(
     start: usize,
     store: &mut Store<B>,
     constraints: &mut Vec<Constraint>,
-    settled: &mut Vec<bool>,
+    index: &mut Index,
+    queue: &mut Queue,
 )
     requires in_trail { start ≤ length trail.old.items }
-    requires sound { IsSoundNetwork store.old constraints.old.items settled.old.items }
+    requires sound { IsSoundNetwork store.old constraints.old.items queue.old.settled.items }
+    requires index { IsIndex (length store.old) constraints.old.items index.old }
+    requires queue { IsQueue queue.old }
     requires present { (m : ℕ) → start ≤ m → m ≤ length trail.old.items → IsPresent (past_at trail.old.items (record { domains = store.old; constraints = constraints.old.items }) m) }
     ensures trail { trail.new.items ≡ take start trail.old.items }
     ensures past { record { domains = store.new; constraints = constraints.new.items } ≡ past_at trail.old.items (record { domains = store.old; constraints = constraints.old.items }) start }
-    ensures sound { IsSoundNetwork store.new constraints.new.items settled.new.items }
+    ensures sound { IsSoundNetwork store.new constraints.new.items queue.new.settled.items }
+    ensures index { IsIndex (length store.new) constraints.new.items index.new }
+    ensures queue { IsQueue queue.new }
 {
     while trail.len() > start {
         if let Some(change) = trail.pop() {
-            take_back(change, store, constraints, settled);
+            take_back(change, store, constraints, index, queue);
         }
     }
 }
@@ -68,25 +75,34 @@ fn take_back<B: Width>(
     change: Change<B>,
     store: &mut Store<B>,
     constraints: &mut Vec<Constraint>,
-    settled: &mut Vec<bool>,
+    index: &mut Index,
+    queue: &mut Queue,
 )
-    requires sound { IsSoundNetwork store.old constraints.old.items settled.old.items }
+    requires sound { IsSoundNetwork store.old constraints.old.items queue.old.settled.items }
+    requires index { IsIndex (length store.old) constraints.old.items index.old }
+    requires queue { IsQueue queue.old }
     requires present { IsPresent (revert change (record { domains = store.old; constraints = constraints.old.items })) }
     ensures past { record { domains = store.new; constraints = constraints.new.items } ≡ revert change (record { domains = store.old; constraints = constraints.old.items }) }
-    ensures sound { IsSoundNetwork store.new constraints.new.items settled.new.items }
+    ensures sound { IsSoundNetwork store.new constraints.new.items queue.new.settled.items }
+    ensures index { IsIndex (length store.new) constraints.new.items index.new }
+    ensures queue { IsQueue queue.new }
 {
     match change {
-        Change::Domain(variable, set) => put_back(store, constraints, settled, variable, set),
+        Change::Domain(variable, set) => put_back(store, constraints, index, queue, variable, set),
         Change::Domains(c, x, y, z) => {
-            put_back(store, constraints, settled, c.z, z);
-            put_back(store, constraints, settled, c.y, y);
-            put_back(store, constraints, settled, c.x, x);
+            put_back(store, constraints, index, queue, c.z, z);
+            put_back(store, constraints, index, queue, c.y, y);
+            put_back(store, constraints, index, queue, c.x, x);
         }
-        Change::Variable => store.drop_variable(),
+        Change::Variable => {
+            store.drop_variable();
+            index.pop_variable();
+        }
         Change::Require => {
-            let count = constraints.len().saturating_sub(1);
-            constraints.truncate(count);
-            settled.truncate(count);
+            if let Some(c) = constraints.pop() {
+                index.pop_constraint(&c);
+                queue.pop();
+            }
         }
     }
 }
@@ -95,17 +111,21 @@ fn take_back<B: Width>(
 fn put_back<B: Width>(
     store: &mut Store<B>,
     constraints: &[Constraint],
-    settled: &mut Vec<bool>,
+    index: &Index,
+    queue: &mut Queue,
     variable: usize,
     set: Option<IntervalSet<B>>,
 )
-    requires sound { IsSoundNetwork store.old constraints.now settled.old.items }
+    requires sound { IsSoundNetwork store.old constraints.now queue.old.settled.items }
+    requires index { IsIndex (length store.old) constraints.now index.now }
+    requires queue { IsQueue queue.old }
     ensures domains { store.new ≡ narrowed_at store.old variable set }
-    ensures sound { IsSoundNetwork store.new constraints.now settled.new.items }
+    ensures sound { IsSoundNetwork store.new constraints.now queue.new.settled.items }
+    ensures queue { IsQueue queue.new }
 {
     if let Some(set) = set {
         store.replace(variable, set);
-        clear_marks(true, constraints, variable, settled);
+        queue.wake(true, constraints, variable, index);
     }
 }
 

@@ -12,9 +12,9 @@ use std::alloc::{AllocError, Global};
 /// last.
 #[derive(Clone, Copy)]
 pub(crate) struct Lost {
-    pub(super) x: bool,
-    pub(super) y: bool,
-    pub(super) z: bool,
+    pub(crate) x: bool,
+    pub(crate) y: bool,
+    pub(crate) z: bool,
 }
 
 impl Lost {
@@ -35,7 +35,7 @@ pub(super) fn no_marks(alloc: Global, count: usize) -> Result<Vec<bool>, AllocEr
 /// Updates the marks after narrowing by constraint `i`. Constraints that name a variable which lost
 /// a member lose their mark; `i` itself is marked unless a member was lost and it has a variable
 /// twice.
-pub(crate) fn move_marks(constraints: &[Constraint], i: usize, lost: Lost, settled: &mut Vec<bool>)
+pub(super) fn move_marks(constraints: &[Constraint], i: usize, lost: Lost, settled: &mut Vec<bool>)
     requires in_list { i < length constraints.now }
     requires one_each { length settled.old.items ≡ length constraints.now }
     ensures count { length settled.new.items ≡ length constraints.now }
@@ -60,7 +60,7 @@ fn is_settled_after(c: &Constraint, lost: Lost) -> bool
 }
 
 /// Clears the marks of the constraints that name the variable, if it has changed.
-pub(crate) fn clear_marks(
+pub(super) fn clear_marks(
     changed: bool,
     constraints: &[Constraint],
     variable: usize,

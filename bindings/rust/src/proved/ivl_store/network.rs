@@ -25,16 +25,18 @@
 #[allow(unused_imports)]
 use crate::rattle::prelude::*;
 use crate::proved::ivl_store::store::change::Change;
-use crate::proved::ivl_store::store::marks::{clear_marks, move_marks};
 use crate::proved::ivl_store::store::{Constraint, Store, StoreFault};
 use crate::proved::intervallum::interval_set::IntervalSet;
 use crate::proved::intervallum::width::Width;
 use crate::rattle::std::alloc::{AllocError, Global};
 
-mod marks;
+mod index;
+
+mod queue;
 mod trail;
 
-use marks::next_unmarked;
+use index::Index;
+use queue::Queue;
 use trail::{clear_unmarked, is_logging, log_change, reserve_change, revert_to};
 
 /// What [`Network::settle`] reached.
@@ -54,10 +56,10 @@ pub enum Settled {
 pub struct Network<B: Width> {
     store: Store<B>,
     constraints: Vec<Constraint>,
-    // One mark per constraint: narrowing by a marked one would change nothing.
-    settled: Vec<bool>,
-    // Where the search for a constraint without a mark begins.
-    next: usize,
+    // Which constraints name each variable.
+    index: Index,
+    // Which constraints have to be looked at.
+    queue: Queue,
     // What takes back each change since the first mark.
     trail: Vec<Change<B>>,
     // The places of the trail at which there is a mark.
@@ -86,8 +88,8 @@ impl<B: Width> Network<B> {
         Network {
             store: Store::new(alloc, Vec::new(alloc)),
             constraints: Vec::new(alloc),
-            settled: Vec::new(alloc),
-            next: 0,
+            index: Index::new(alloc),
+            queue: Queue::new(alloc),
             trail: Vec::new(alloc),
             marks: Vec::new(alloc),
         }
@@ -166,7 +168,9 @@ impl<B: Width> Network<B> {
     pub fn add_variable(&mut self, domain: IntervalSet<B>) -> Result<usize, AllocError> {
         let is_kept = is_logging(&self.marks);
         reserve_change(&mut self.trail, is_kept)?;
+        self.index.reserve_variable()?;
         let index = self.store.add_variable(domain)?;
+        self.index.push_variable();
         log_change(&mut self.trail, is_kept, true, Change::Variable);
         Ok(index)
     }
@@ -177,7 +181,7 @@ impl<B: Width> Network<B> {
     /// The caller must ensure that it has three different variables. Check with
     /// [`Constraint::distinct`].
     ///
-    /// Linear in the constraints, which are compared with it.
+    /// Linear in the constraints that name `z`, which are compared with it.
     ///
     /// # Errors
     ///
@@ -216,7 +220,7 @@ impl<B: Width> Network<B> {
         if let Some(i) = constraint.first_unknown(self.store.domains().len()) {
             return Err(StoreFault::Variable(i));
         }
-        if !has_constraint(&self.constraints, &constraint) {
+        if !self.index.has(&self.constraints, &constraint) {
             self.push(constraint)?;
         }
         Ok(())
@@ -226,22 +230,18 @@ impl<B: Width> Network<B> {
     fn push(&mut self, constraint: Constraint) -> Result<(), AllocError> {
         let is_kept = is_logging(&self.marks);
         reserve_change(&mut self.trail, is_kept)?;
-        let count = self.constraints.len();
-        self.constraints.push(constraint)?;
-        match self.settled.push(false) {
-            Ok(()) => {
-                log_change(&mut self.trail, is_kept, true, Change::Require);
-                Ok(())
-            }
-            Err(_) => {
-                self.constraints.truncate(count);
-                Err(AllocError)
-            }
-        }
+        self.index.reserve_constraint()?;
+        self.constraints.reserve(1)?;
+        self.queue.push()?;
+        self.index.push_constraint(&constraint);
+        self.constraints.push_reserved(constraint);
+        log_change(&mut self.trail, is_kept, true, Change::Require);
+        Ok(())
     }
 
     /// Cuts a domain to its members in this set. Other domains are not narrowed before
-    /// [`Network::settle`]. Costs an intersection and a pass over the constraints.
+    /// [`Network::settle`]. Costs an intersection and a pass over the constraints that name the
+    /// variable.
     ///
     /// # Errors
     ///
@@ -279,7 +279,8 @@ impl<B: Width> Network<B> {
         let is_kept = is_logging(&self.marks);
         reserve_change(&mut self.trail, is_kept)?;
         let (lost, change) = self.store.restrict_swapped(variable, allowed)?;
-        clear_marks(lost, &self.constraints, variable, &mut self.settled);
+        self.queue
+            .wake(lost, &self.constraints, variable, &self.index);
         log_change(&mut self.trail, is_kept, lost, change);
         Ok(())
     }
@@ -292,7 +293,10 @@ impl<B: Width> Network<B> {
     /// constraint supports every member. After [`Settled::Unfinished`] another call goes on.
     ///
     /// A constraint whose domains did not change since it narrowed them is not counted: each
-    /// narrowing that counts removes a member, or leaves one constraint fewer to look at.
+    /// narrowing that counts removes a member, or leaves one constraint fewer to look at. The
+    /// constraints are looked at in rounds, and one that has to be looked at again waits for the
+    /// next. `O(1)` for a constraint beside its narrowing, and for each domain that changes a pass
+    /// over the constraints that name its variable.
     ///
     /// # Errors
     ///
@@ -345,25 +349,24 @@ impl<B: Width> Network<B> {
     /// Narrows by one constraint without a mark. Returns false, and changes nothing, if all are
     /// marked.
     fn narrow_next(&mut self) -> Result<bool, AllocError> {
-        let Some(i) = next_unmarked(&self.settled, self.next) else {
+        let Some(i) = self.queue.first() else {
             return Ok(false);
         };
         let is_kept = is_logging(&self.marks);
         reserve_change(&mut self.trail, is_kept)?;
         let constraint = self.constraints[i];
         let (lost, change) = self.store.narrow_swapped(&constraint)?;
-        move_marks(&self.constraints, i, lost, &mut self.settled);
+        self.queue.settle(i, lost, &self.constraints, &self.index);
         log_change(&mut self.trail, is_kept, lost.any(), change);
-        self.next = i + 1;
         Ok(true)
     }
 
     /// Whether all constraints are marked.
     fn reached(&self) -> Settled {
-        if next_unmarked(&self.settled, self.next).is_some() {
-            Settled::Unfinished
-        } else {
+        if self.queue.is_empty() {
             Settled::All
+        } else {
+            Settled::Unfinished
         }
     }
 
@@ -408,8 +411,9 @@ impl<B: Width> Network<B> {
     /// the mark. This mark and later ones are gone. Returns false, and changes nothing, if there is
     /// no such mark.
     ///
-    /// Linear in the changes, and for each domain that is put back a pass over the constraints: those
-    /// that name its variable have to be looked at again. Does not allocate.
+    /// Linear in the changes, and for each domain that is put back a pass over the constraints that
+    /// name its variable, which have to be looked at again. A constraint that is dropped before it was
+    /// looked at costs a pass over those that wait. Does not allocate.
     ///
     /// # Proved
     ///
@@ -429,7 +433,8 @@ impl<B: Width> Network<B> {
             start,
             &mut self.store,
             &mut self.constraints,
-            &mut self.settled,
+            &mut self.index,
+            &mut self.queue,
         );
         self.marks.truncate(mark);
         true
@@ -460,9 +465,4 @@ impl<B: Width> Network<B> {
         self.marks.truncate(mark);
         clear_unmarked(&self.marks, &mut self.trail);
     }
-}
-
-/// Whether a constraint is one of the list.
-fn has_constraint(constraints: &[Constraint], constraint: &Constraint) -> bool {
-    constraints.contains(constraint)
 }

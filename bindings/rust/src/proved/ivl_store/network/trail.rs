@@ -2,8 +2,9 @@
 
 #[allow(unused_imports)]
 use crate::rattle::prelude::*;
+use super::index::Index;
+use super::queue::Queue;
 use crate::proved::ivl_store::store::change::Change;
-use crate::proved::ivl_store::store::marks::clear_marks;
 use crate::proved::ivl_store::store::{Constraint, Store};
 use crate::proved::intervallum::interval_set::IntervalSet;
 use crate::proved::intervallum::width::Width;
@@ -38,11 +39,12 @@ pub(super) fn revert_to<B: Width>(
     start: usize,
     store: &mut Store<B>,
     constraints: &mut Vec<Constraint>,
-    settled: &mut Vec<bool>,
+    index: &mut Index,
+    queue: &mut Queue,
 ) {
     while trail.len() > start {
         if let Some(change) = trail.pop() {
-            take_back(change, store, constraints, settled);
+            take_back(change, store, constraints, index, queue);
         }
     }
 }
@@ -52,20 +54,25 @@ fn take_back<B: Width>(
     change: Change<B>,
     store: &mut Store<B>,
     constraints: &mut Vec<Constraint>,
-    settled: &mut Vec<bool>,
+    index: &mut Index,
+    queue: &mut Queue,
 ) {
     match change {
-        Change::Domain(variable, set) => put_back(store, constraints, settled, variable, set),
+        Change::Domain(variable, set) => put_back(store, constraints, index, queue, variable, set),
         Change::Domains(c, x, y, z) => {
-            put_back(store, constraints, settled, c.z, z);
-            put_back(store, constraints, settled, c.y, y);
-            put_back(store, constraints, settled, c.x, x);
+            put_back(store, constraints, index, queue, c.z, z);
+            put_back(store, constraints, index, queue, c.y, y);
+            put_back(store, constraints, index, queue, c.x, x);
         }
-        Change::Variable => store.drop_variable(),
+        Change::Variable => {
+            store.drop_variable();
+            index.pop_variable();
+        }
         Change::Require => {
-            let count = constraints.len().saturating_sub(1);
-            constraints.truncate(count);
-            settled.truncate(count);
+            if let Some(c) = constraints.pop() {
+                index.pop_constraint(&c);
+                queue.pop();
+            }
         }
     }
 }
@@ -74,13 +81,14 @@ fn take_back<B: Width>(
 fn put_back<B: Width>(
     store: &mut Store<B>,
     constraints: &[Constraint],
-    settled: &mut Vec<bool>,
+    index: &Index,
+    queue: &mut Queue,
     variable: usize,
     set: Option<IntervalSet<B>>,
 ) {
     if let Some(set) = set {
         store.replace(variable, set);
-        clear_marks(true, constraints, variable, settled);
+        queue.wake(true, constraints, variable, index);
     }
 }
 

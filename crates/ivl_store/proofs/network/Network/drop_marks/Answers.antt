@@ -9,6 +9,8 @@ invariant_of-self g c =
       c.self.invariant.0,
       dropped_trail i.marks.items c.truncate.new.self.items i.trail.items c.clear_unmarked.new.trail.items _ c.args.mark c.self.invariant.1 c.truncate.ensures.items
           (rw c.deref.ensures.value at c.clear_unmarked.ensures),
+      c.self.invariant.2,
+      c.self.invariant.3,
     )
 
 pub returns : goal.returns

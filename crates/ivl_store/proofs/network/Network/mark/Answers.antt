@@ -9,6 +9,8 @@ invariant_of-self-2 g c =
       c.self.invariant.0,
       more_marks i.marks.items c.push.new.self.items i.trail.items _ c.len.result c.self.invariant.1 c.self.invariant.0.present
           (let e = c.len.ensures in omega (arith, e)) c.in_ok-push.ensures.items,
+      c.self.invariant.2,
+      c.self.invariant.3,
     )
 
 pub returns-clause-marked : goal.returns-clause-marked

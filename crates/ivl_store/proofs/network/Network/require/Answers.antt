@@ -14,15 +14,15 @@ push-requires-clause-present g c =
 pub returns-in_ok-push-clause-required : goal.returns-in_ok-push-clause-required
 returns-in_ok-push-clause-required g c =
     inr (
-      (λ h. false≢true (sym c.if-not-has_constraint.true ∙ c.has_constraint.ensures.1
+      (λ h. false≢true (sym c.if-not-has.true ∙ c.has.ensures.1
           (subst (λ cs. Contains cs c.args.constraint) (sym (c.deref.ensures.value ∙ ap (λ (s : NetworkState). s.constraints) c.self.view_is)) h))),
       ap (λ (s : NetworkState). s.constraints) c.in_ok-push.ensures.added,
     )
 
-pub returns-else-not-has_constraint-clause-required : goal.returns-else-not-has_constraint-clause-required
-returns-else-not-has_constraint-clause-required g c =
+pub returns-else-not-has-clause-required : goal.returns-else-not-has-clause-required
+returns-else-not-has-clause-required g c =
     inl (
       subst (λ cs. Contains cs c.args.constraint) (c.deref.ensures.value ∙ ap (λ (s : NetworkState). s.constraints) c.self.view_is)
-          (c.has_constraint.ensures.0 c.if-not-has_constraint.false),
+          (c.has.ensures.0 c.if-not-has.false),
       refl,
     )

@@ -3,6 +3,7 @@ use Rattle.std.specs.Prelude.{ℤ}
 use Rattle.ivl_laws.specs.Families.{set_at}
 use Rattle.ivl_laws.specs.Runs.{Covers}
 use Rattle.ivl_store.specs.Network.{IsCutAt, IsSoundNetwork, NetworkState}
+use Rattle.ivl_store.proofs.Indexes.{index_of_count}
 use Rattle.ivl_store.proofs.Logging.{logged_marks, logged_trail}
 use Rattle.ivl_store.proofs.Narrowings.{sound_moved}
 use Rattle.ivl_store.proofs.Settled.{settled_cut}
@@ -13,10 +14,10 @@ invariant_of-self-2 g c =
     let i = c.self.inside in
     let cs = i.constraints.items in
     let cut = c.in_ok-lost.ensures.cut in
-    let sound : IsSoundNetwork c.restrict_swapped.new.self cs c.clear_marks.new.settled.items =
-    sound_moved i.store c.restrict_swapped.new.self cs i.settled.items c.clear_marks.new.settled.items c.restrict_swapped.ensures.kept_count
-    (settled_cut cs i.settled.items c.clear_marks.new.settled.items c.args.variable c.in_ok-lost.lost i.store c.restrict_swapped.new.self
-    c.self.invariant.0.settled (rw c.deref-2.ensures.value at c.clear_marks.ensures) c.in_ok-lost.ensures.lost
+    let sound : IsSoundNetwork c.restrict_swapped.new.self cs c.wake.new.self.settled.items =
+    sound_moved i.store c.restrict_swapped.new.self cs i.queue.settled.items c.wake.new.self.settled.items c.restrict_swapped.ensures.kept_count
+    (settled_cut cs i.queue.settled.items c.wake.new.self.settled.items c.args.variable c.in_ok-lost.lost i.store c.restrict_swapped.new.self
+    c.self.invariant.0.settled (rw c.deref-2.ensures.value at c.wake.ensures.cleared) c.in_ok-lost.ensures.lost
     (λ j v h. ((cut j v).0 h).0)
     (λ j v ne was. (cut j v).1 (was, λ e. absurd (ne e))))
     c.self.invariant.0 in (
@@ -25,6 +26,8 @@ invariant_of-self-2 g c =
           c.reserve_change.ensures.same c.log_change.ensures (c.in_ok-lost.ensures.back cs)
           (λ f. sym c.deref.ensures.value ∙ c.is_logging-is_kept.ensures f)
           (λ f. ap (λ (sets : List (List (ℤ × ℤ))). record { domains = sets; constraints = cs }) (c.in_ok-lost.ensures.lost f)),
+      index_of_count _ _ cs i.index c.restrict_swapped.ensures.kept_count c.self.invariant.2,
+      c.wake.ensures.queue,
     )
 
 pub returns-clause-marked : goal.returns-clause-marked

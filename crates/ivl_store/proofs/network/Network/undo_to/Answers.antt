@@ -5,6 +5,13 @@ use Rattle.ivl_store.specs.Trail.{Past, past_at}
 use Rattle.ivl_store.proofs.Logging.{undone_marks, undone_trail}
 use Rattle.ivl_store.proofs.network.Network.undo_to.Goals as goal
 
+pub revert_to-requires-clause-present : goal.revert_to-requires-clause-present
+revert_to-requires-clause-present g c = λ m low high.
+    let i = c.self.inside in
+    let lt : c.args.mark < length i.marks.items = (let t = c.if-mark-len.false in let e = c.len.ensures in omega (arith, t, e)) in
+    let at : c.index-start.result.now ≡ get_or i.marks.items c.args.mark 0 = c.index-start.ensures ∙ get_or_default i.marks.items c.args.mark c.index-start.result.now 0 lt in
+    c.self.invariant.1.present c.args.mark m lt (omega (arith, at, low)) high
+
 pub invariant_of-self : goal.invariant_of-self
 invariant_of-self g c =
     let i = c.self.inside in
@@ -12,6 +19,8 @@ invariant_of-self g c =
       c.revert_to.ensures.sound,
       undone_trail i.marks.items c.truncate.new.self.items i.trail.items c.revert_to.new.trail.items _ _ c.args.mark c.index-start.result.now c.self.invariant.1 lt
           (c.index-start.ensures ∙ get_or_default i.marks.items c.args.mark c.index-start.result.now 0 lt) c.truncate.ensures.items c.revert_to.ensures.trail c.revert_to.ensures.past,
+      c.revert_to.ensures.index,
+      c.revert_to.ensures.queue,
     )
 
 pub returns-clause-marked : goal.returns-clause-marked

@@ -3,5 +3,5 @@ use Rattle.ivl_store.proofs.network.trail.put_back.Goals as goal
 
 pub returns-in-Some-clause-sound : goal.returns-in-Some-clause-sound
 returns-in-Some-clause-sound g c =
-    rw c.replace.ensures (sound_replaced c.args.store.now c.args.constraints.now c.args.settled.now.items c.clear_marks.new.settled.items c.args.variable c.in-Some.set
-    c.requires.sound c.clear_marks.ensures)
+    rw c.replace.ensures (sound_replaced c.args.store.now c.args.constraints.now c.args.queue.now.settled.items c.wake.new.self.settled.items c.args.variable c.in-Some.set
+    c.requires.sound c.wake.ensures.cleared)

@@ -1,0 +1,126 @@
+//! The constraints that have to be looked at again.
+
+#[allow(unused_imports)]
+use crate::rattle::prelude::*;
+use super::index::Index;
+use crate::proved::ivl_store::store::Constraint;
+use crate::proved::ivl_store::store::marks::Lost;
+use crate::rattle::std::alloc::{AllocError, Global};
+use crate::rattle::std::mem;
+
+/// A mark for each constraint, and a queue of those that have none: narrowing by a marked one would
+/// change nothing. The queue goes in rounds: a constraint that loses its mark waits for the next.
+pub(super) struct Queue {
+    settled: Vec<bool>,
+    round: Vec<usize>,
+    later: Vec<usize>,
+}
+
+impl Queue {
+    pub(super) fn new(alloc: Global) -> Queue {
+        Queue {
+            settled: Vec::new(alloc),
+            round: Vec::new(alloc),
+            later: Vec::new(alloc),
+        }
+    }
+
+    /// Adds a constraint after the others, without a mark.
+    pub(super) fn push(&mut self) -> Result<(), AllocError> {
+        let count = self.settled.len();
+        self.round.reserve(count - self.round.len() + 1)?;
+        self.later.reserve(count - self.later.len() + 1)?;
+        self.settled.push(false)?;
+        self.later.push_reserved(count);
+        Ok(())
+    }
+
+    /// Drops the last constraint, if there is one.
+    pub(super) fn pop(&mut self) {
+        if let Some(mark) = self.settled.pop() {
+            let k = self.settled.len();
+            if !mark && !remove(&mut self.later, k) {
+                remove(&mut self.round, k);
+            }
+        }
+    }
+
+    /// Returns a constraint without a mark, the one that waits longest by rounds, or `None` if all
+    /// have one. It stays in the queue, as the last of the round.
+    pub(super) fn first(&mut self) -> Option<usize> {
+        self.turn();
+        let count = self.round.len();
+        if count == 0 {
+            return None;
+        }
+        Some(self.round[count - 1])
+    }
+
+    /// Begins the next round, if this one has ended.
+    fn turn(&mut self) {
+        if self.round.is_empty() {
+            mem::swap(&mut self.round, &mut self.later);
+        }
+    }
+
+    /// Whether each constraint has a mark.
+    pub(super) fn is_empty(&self) -> bool {
+        self.round.is_empty() && self.later.is_empty()
+    }
+
+    /// Updates the marks after narrowing by the first constraint, which is marked then. Those that
+    /// name a variable which lost a member lose their mark.
+    pub(super) fn settle(&mut self, i: usize, lost: Lost, constraints: &[Constraint], index: &Index) {
+        let c = constraints[i];
+        self.wake(lost.x, constraints, c.x, index);
+        self.wake(lost.y, constraints, c.y, index);
+        self.wake(lost.z, constraints, c.z, index);
+        self.mark_first(i);
+    }
+
+    /// Marks the first constraint, which leaves the queue.
+    fn mark_first(&mut self, k: usize) {
+        let _ = self.round.pop();
+        self.settled[k] = true;
+    }
+
+    /// Clears the mark of a constraint, which then waits for the next round.
+    fn clear(&mut self, k: usize) {
+        if self.settled[k] {
+            self.settled[k] = false;
+            self.later.push_reserved(k);
+        }
+    }
+
+    /// Clears the marks of the constraints that name the variable, if it has changed.
+    pub(super) fn wake(
+        &mut self,
+        changed: bool,
+        constraints: &[Constraint],
+        variable: usize,
+        index: &Index,
+    ) {
+        if !changed {
+            return;
+        }
+        let mut place = index.last(variable);
+        while place > 0 {
+            self.clear(place - 1);
+            place = index.last_before(constraints, place - 1, variable);
+        }
+    }
+}
+
+/// Removes a number from a list, at the last place where it stands. Returns false, and changes
+/// nothing, if it does not stand there.
+fn remove(list: &mut Vec<usize>, k: usize) -> bool {
+    let mut place = list.len();
+    while place > 0 {
+        place -= 1;
+        if list[place] == k {
+            list.swap_remove(place);
+            return true;
+        }
+    }
+    false
+}

@@ -1,0 +1,259 @@
+-- The queue of the constraints without a mark.
+use Rattle.std.proofs.Common.{◌≡◌, ◌∙◌, ◌+◌, ◌-◌, ◌<◌, ◌≤◌, inl, inr, ℕ, suc, ap, arith, cond, eqb, get_or, length, List, [], ◌∷◌, ◌++◌, Bool, true, false, refl, set, subst, sym, take}
+use Rattle.std.specs.Prelude.{not}
+use Rattle.std.specs.Vec.{vec_capacity}
+use Rattle.std.proofs.Math.ListN.{get_or-append, get_or-eq_default}
+use Rattle.std.proofs.lemmas.Bool.{cases_eq, cases_lt, false≢true}
+use Rattle.std.proofs.lemmas.List.{get_or-set_other, get_or-set_same, get_or_default, get_or_push, length-set, length_push, take_all, take_more}
+use Rattle.std.proofs.lemmas.List.Sums.{count_by-le-length, sum_by-append, sum_by-set, sum_by_push}
+use Rattle.ivl_store.specs.declared.network.queue.Queue.{Queue}
+use Rattle.ivl_store.specs.Network.{unmarked_count}
+use Rattle.ivl_store.specs.Queue.{IsLastNaming, IsQueue, Removes, times_in, waits}
+use Rattle.ivl_store.specs.Settled.{AreCleared}
+use Rattle.ivl_store.specs.Solutions.{Names}
+use Rattle.ivl_store.specs.declared.store.constraint.Constraint.{Constraint}
+
+-- ---- marks
+
+unmarked-set : (marks : List Bool) (i : ℕ) (b d : Bool) → i < length marks → unmarked_count (set marks i b) + cond (not (get_or marks i d)) 1 0 ≡ unmarked_count marks + cond (not b) 1 0
+unmarked-set marks i b d lt = sum_by-set (λ (m : Bool). cond (not m) 1 0) marks i b d lt
+
+waits-set_other : (marks : List Bool) (i k : ℕ) (b : Bool) → (k ≡ i → ⊥) → waits (set marks i b) k ≡ waits marks k
+waits-set_other marks i k b ne = ap (λ m. cond m 0 1) (get_or-set_other marks i k b true ne)
+
+waits-set_same : (marks : List Bool) (i : ℕ) (b : Bool) → i < length marks → waits (set marks i b) i ≡ cond b 0 1
+waits-set_same marks i b lt = ap (λ m. cond m 0 1) (get_or-set_same marks i b true lt)
+
+waits_at : (marks : List Bool) (i : ℕ) (b d : Bool) → i < length marks → get_or marks i d ≡ b → waits marks i ≡ cond b 0 1
+waits_at marks i b d lt e = ap (λ m. cond m 0 1) (get_or_default marks i true d lt ∙ e)
+
+-- ---- numbers in a list
+
+eqb_same : (k : ℕ) → eqb k k ≡ true
+eqb_same k = grind arith
+
+eqb_other : (j k : ℕ) → (j ≡ k → ⊥) → eqb j k ≡ false
+eqb_other j k ne = grind arith
+
+one_same : (k : ℕ) → times_in k (k ∷ []) ≡ 1
+one_same k = subst (λ b. 0 + cond b 1 0 ≡ 1) (sym (eqb_same k)) (omega arith)
+
+one_other : (j k : ℕ) → (j ≡ k → ⊥) → times_in k (j ∷ []) ≡ 0
+one_other j k ne = subst (λ b. 0 + cond b 1 0 ≡ 0) (sym (eqb_other j k ne)) (omega arith)
+
+count_push : (list : List ℕ) (j k : ℕ) → times_in k (list ++ j ∷ []) ≡ times_in k list + times_in k (j ∷ [])
+count_push list j k = sum_by-append (λ (i : ℕ). cond (eqb i k) 1 0) list (j ∷ [])
+
+-- a number that stands there stands there once at least
+count_some : (list : List ℕ) (k : ℕ) → times_in k (list ++ k ∷ []) ≡ times_in k list + 1
+count_some list k = count_push list k k ∙ ap (λ n. times_in k list + n) (one_same k)
+
+-- one that stands at no place does not
+pub count_none : (list : List ℕ) (k : ℕ) → ((j : ℕ) → j < length list → get_or list j 0 ≡ k → ⊥) → times_in k list ≡ 0
+count_none [] k none = refl
+count_none (j ∷ list) k none =
+    sum_by-append (λ (i : ℕ). cond (eqb i k) 1 0) (j ∷ []) list
+    ∙ (let a = one_other j k (λ e. none 0 (omega arith) e) in let b = count_none list k (λ i lt e. none (suc i) (omega (arith, lt)) e) in omega (arith, a, b))
+
+-- ---- marks of the queue
+
+-- there is room for one more where a mark is set
+pub room_to_wait : (queue : Queue) (k : ℕ) (d : Bool) → IsQueue queue → k < length queue.settled.items → get_or queue.settled.items k d ≡ true
+    → length queue.later.items < vec_capacity queue.later
+room_to_wait queue k d s lt e =
+    let a = subst (λ b. unmarked_count (set queue.settled.items k false) + cond (not b) 1 0 ≡ unmarked_count queue.settled.items + 1) e (unmarked-set queue.settled.items k false d lt) in
+    let b = count_by-le-length not (set queue.settled.items k false) in
+    let n = length-set queue.settled.items k false in
+    let m = s.as_many in let r = s.room_later in omega (arith, a, b, n, m, r)
+
+-- where nothing waits, each has a mark
+pub none_waits : (queue : Queue) → IsQueue queue → queue.round.items ≡ [] → queue.later.items ≡ []
+    → (k : ℕ) → k < length queue.settled.items → get_or queue.settled.items k false ≡ true
+none_waits queue s e f k lt =
+    let o = s.once k in let a = ap (times_in k) e in let b = ap (times_in k) f in
+    let z : waits queue.settled.items k ≡ 0 = omega (arith, o, a, b) in
+    is_marked (get_or queue.settled.items k false) (sym (waits_at queue.settled.items k (get_or queue.settled.items k false) false lt refl) ∙ z)
+  where
+    is_marked : (b : Bool) → ◌≡◌ {A = ℕ} (cond b 0 1) 0 → b ≡ true
+    is_marked true h = refl
+    is_marked false h = absurd (omega (arith, h))
+
+-- what waits has no mark
+pub waiting : (queue : Queue) (front : List ℕ) (k : ℕ) → IsQueue queue → queue.round.items ≡ front ++ k ∷ []
+    → (k < length queue.settled.items) × (get_or queue.settled.items k false ≡ false)
+waiting queue front k s e =
+    let n = s.once k in let m = ap (times_in k) e ∙ count_some front k in
+    let some : 0 < waits queue.settled.items k = omega (arith, n, m) in
+    let lt : k < length queue.settled.items = elim (cases_lt k (length queue.settled.items)) [
+      | inl lt ↦ lt
+      | inr le ↦ absurd (let z : waits queue.settled.items k ≡ 0 = ap (λ m. cond m 0 1) (get_or-eq_default queue.settled.items true le) in omega (arith, z, some))
+    ] in
+    (lt, is_not (get_or queue.settled.items k false) (subst (λ n. 0 < n) (waits_at queue.settled.items k (get_or queue.settled.items k false) false lt refl) some))
+  where
+    is_not : (b : Bool) → 0 < cond {A = ℕ} b 0 1 → b ≡ false
+    is_not true h = absurd (omega (arith, h))
+    is_not false h = refl
+
+-- the last of a list
+pub last_of : (list : List ℕ) (k : ℕ) → 0 < length list → k ≡ get_or list (length list - 1) k → (front : List ℕ) × (list ≡ front ++ k ∷ [])
+last_of list k pos e = (take (length list - 1) list, split list k pos ∙ ap (λ j. take (length list - 1) list ++ j ∷ []) (sym e))
+  where
+    split : (xs : List ℕ) (d : ℕ) → 0 < length xs → xs ≡ take (length xs - 1) xs ++ get_or xs (length xs - 1) d ∷ []
+    split xs d lt =
+        sym (take_all (length xs - 1 + 1) xs (omega (arith, lt))) ∙ take_more xs (length xs - 1) d (omega (arith, lt))
+
+-- ---- one more constraint, and one less
+
+pub pushed : (queue queue' : Queue) (count : ℕ) → IsQueue queue → count ≡ length queue.settled.items → queue'.settled.items ≡ queue.settled.items ++ false ∷ []
+    → queue'.round.items ≡ queue.round.items → queue'.later.items ≡ queue.later.items ++ count ∷ [] → count + 1 ≤ vec_capacity queue'.round
+    → count + 1 ≤ vec_capacity queue'.later → IsQueue queue'
+pushed queue queue' count s at e f g room room_later =
+    let n = length_push queue.settled.items false in
+    record {
+      once = (λ k. ap (λ l. times_in k l + times_in k queue'.later.items) f ∙ ap (λ l. times_in k queue.round.items + times_in k l) g
+          ∙ (let c = count_push queue.later.items count k in let o = s.once k in elim (cases_eq k count) [
+            | inl here ↦ (let one : times_in k (count ∷ []) ≡ 1 = ap (λ j. times_in k (j ∷ [])) (sym here) ∙ one_same k in
+                let was : waits queue.settled.items k ≡ 0 = ap (λ m. cond m 0 1) (get_or-eq_default queue.settled.items true (omega (arith, here, at))) in
+                let now : waits queue'.settled.items k ≡ 1 = ap (λ l. waits l k) e ∙ ap (λ m. cond m 0 1) (get_or_push queue.settled.items false true k (omega (arith, here, at))) in
+                omega (arith, c, o, one, was, now))
+            | inr ne ↦ (let none = one_other count k (λ h. ne (sym h)) in
+                let same : waits queue'.settled.items k ≡ waits queue.settled.items k = ap (λ l. waits l k) e ∙ waits_before queue.settled.items k (λ h. ne (h ∙ sym at)) in
+                omega (arith, c, o, none, same))
+          ]));
+      as_many = (let a = ap length f in let b = ap length g in let l = length_push queue.later.items count in
+          let c : unmarked_count queue'.settled.items ≡ unmarked_count queue.settled.items + 1 = ap unmarked_count e ∙ sum_by_push (λ (b : Bool). cond (not b) 1 0) queue.settled.items false in
+          let m = s.as_many in omega (arith, a, b, l, c, m));
+      room = (let l = ap length e in omega (arith, l, n, at, room));
+      room_later = (let l = ap length e in omega (arith, l, n, at, room_later));
+    }
+  where
+    waits_before : (marks : List Bool) (k : ℕ) → (k ≡ length marks → ⊥) → waits (marks ++ false ∷ []) k ≡ waits marks k
+    waits_before marks k ne = ap (λ m. cond m 0 1) (elim (cases_lt k (length marks)) [
+      | inl lt ↦ get_or-append marks (false ∷ []) true k lt
+      | inr le ↦ get_or-eq_default (marks ++ false ∷ []) true (let n = length_push marks false in omega (arith, n, le, ne)) ∙ sym (get_or-eq_default marks true le)
+    ])
+
+-- the last constraint is dropped, and its number is removed where it waits
+pub popped : (queue queue' : Queue) (mark : Bool) (marks : List Bool) → IsQueue queue → queue.settled.items ≡ marks ++ mark ∷ [] → queue'.settled.items ≡ marks
+    → ((k : ℕ) → times_in k queue'.round.items + times_in k queue'.later.items + cond mark 0 (times_in k (length marks ∷ [])) ≡ times_in k queue.round.items + times_in k queue.later.items)
+    → length queue'.round.items + length queue'.later.items + cond mark 0 1 ≡ length queue.round.items + length queue.later.items
+    → vec_capacity queue'.round ≡ vec_capacity queue.round → vec_capacity queue'.later ≡ vec_capacity queue.later → IsQueue queue'
+popped queue queue' mark marks s e f counts lengths room room_later =
+    let n = length_push marks mark in
+    record {
+      once = (λ k. let c = counts k in let o = s.once k in ap (λ m. m) (elim (cases_eq k (length marks)) [
+        | inl here ↦ (let was : waits queue.settled.items k ≡ cond mark 0 1 = ap (λ l. waits l k) e ∙ ap (λ m. cond m 0 1) (get_or_push marks mark true k (sym here)) in
+            let now : waits queue'.settled.items k ≡ 0 = ap (λ l. waits l k) f ∙ ap (λ m. cond m 0 1) (get_or-eq_default marks true (omega (arith, here))) in
+            let one : times_in k (length marks ∷ []) ≡ 1 = ap (λ j. times_in k (j ∷ [])) (sym here) ∙ one_same k in
+            none_left mark _ (times_in k (length marks ∷ [])) one (c ∙ o ∙ was) ∙ sym now)
+        | inr ne ↦ (let none : times_in k (length marks ∷ []) ≡ 0 = one_other (length marks) k (λ h. ne (sym h)) in
+            let same : waits queue.settled.items k ≡ waits queue'.settled.items k = ap (λ l. waits l k) e ∙ waits_before marks k ne ∙ ap (λ l. waits l k) (sym f) in
+            as_before mark _ _ (times_in k (length marks ∷ [])) none (c ∙ o ∙ same))
+      ]));
+      as_many = (let c : unmarked_count queue.settled.items ≡ unmarked_count marks + cond (not mark) 1 0 = ap unmarked_count e ∙ sum_by_push (λ (b : Bool). cond (not b) 1 0) marks mark in
+          fewer mark _ _ (lengths ∙ s.as_many ∙ c) ∙ ap unmarked_count (sym f));
+      room = (let a = ap length e in let b = ap length f in let r = s.room in omega (arith, a, b, n, r, room));
+      room_later = (let a = ap length e in let b = ap length f in let r = s.room_later in omega (arith, a, b, n, r, room_later));
+    }
+  where
+    none_left : (b : Bool) (m one : ℕ) → one ≡ 1 → m + cond b 0 one ≡ cond b 0 1 → m ≡ 0
+    none_left true m one u h = omega (arith, h)
+    none_left false m one u h = omega (arith, h, u)
+
+    as_before : (b : Bool) (m w one : ℕ) → one ≡ 0 → m + cond b 0 one ≡ w → m ≡ w
+    as_before true m w one u h = omega (arith, h)
+    as_before false m w one u h = omega (arith, h, u)
+
+    fewer : (b : Bool) (m u : ℕ) → m + cond b 0 1 ≡ u + cond (not b) 1 0 → m ≡ u
+    fewer true m u h = omega (arith, h)
+    fewer false m u h = omega (arith, h)
+
+    waits_before : (ms : List Bool) (k : ℕ) → (k ≡ length ms → ⊥) → waits (ms ++ mark ∷ []) k ≡ waits ms k
+    waits_before ms k ne = ap (λ m. cond m 0 1) (elim (cases_lt k (length ms)) [
+      | inl lt ↦ get_or-append ms (mark ∷ []) true k lt
+      | inr le ↦ get_or-eq_default (ms ++ mark ∷ []) true (let n = length_push ms mark in omega (arith, n, le, ne)) ∙ sym (get_or-eq_default ms true le)
+    ])
+
+-- one that has a mark waits nowhere
+pub popped_marked : (queue queue' : Queue) (mark : Bool) → IsQueue queue → queue.settled.items ≡ queue'.settled.items ++ mark ∷ [] → mark ≡ true
+    → queue'.round.items ≡ queue.round.items → queue'.later.items ≡ queue.later.items
+    → vec_capacity queue'.round ≡ vec_capacity queue.round → vec_capacity queue'.later ≡ vec_capacity queue.later → IsQueue queue'
+popped_marked queue queue' true s e m f g room room_later =
+    popped queue queue' true queue'.settled.items s e refl
+    (λ k. let a = ap (times_in k) f in let b = ap (times_in k) g in omega (arith, a, b)) (let a = ap length f in let b = ap length g in omega (arith, a, b)) room room_later
+popped_marked queue queue' false s e m f g room room_later = absurd (false≢true m)
+
+-- one that waits for the next round
+pub popped_later : (queue queue' : Queue) (mark : Bool) (k : ℕ) → IsQueue queue → queue.settled.items ≡ queue'.settled.items ++ mark ∷ [] → mark ≡ false → k ≡ length queue'.settled.items
+    → queue'.round.items ≡ queue.round.items → Removes k queue.later.items queue'.later.items true
+    → vec_capacity queue'.round ≡ vec_capacity queue.round → vec_capacity queue'.later ≡ vec_capacity queue.later → IsQueue queue'
+popped_later queue queue' true k s e m at f g room room_later = absurd (false≢true (sym m))
+popped_later queue queue' false k s e m at f g room room_later =
+    popped queue queue' false queue'.settled.items s e refl
+    (λ j. let a = ap (times_in j) f in let b = g.0 j in let c = ap (λ i. times_in j (i ∷ [])) at in omega (arith, a, b, c)) (let a = ap length f in let b = g.1 in omega (arith, a, b)) room room_later
+
+-- one that waits in this round
+pub popped_round : (queue queue' : Queue) (mark : Bool) (k : ℕ) (removed : Bool) → IsQueue queue → queue.settled.items ≡ queue'.settled.items ++ mark ∷ [] → mark ≡ false
+    → k ≡ length queue'.settled.items → Removes k queue.later.items queue'.later.items false → Removes k queue.round.items queue'.round.items removed
+    → vec_capacity queue'.round ≡ vec_capacity queue.round → vec_capacity queue'.later ≡ vec_capacity queue.later → IsQueue queue'
+popped_round queue queue' true k removed s e m at f g room room_later = absurd (false≢true (sym m))
+popped_round queue queue' false k true s e m at f g room room_later =
+    popped queue queue' false queue'.settled.items s e refl
+    (λ j. let a = ap (times_in j) f.0 in let b = g.0 j in let c = ap (λ i. times_in j (i ∷ [])) at in omega (arith, a, b, c)) (let a = ap length f.0 in let b = g.1 in omega (arith, a, b)) room room_later
+popped_round queue queue' false k false s e m at f g room room_later =
+    let w : waits queue.settled.items k ≡ 1 = ap (λ l. waits l k) e ∙ ap (λ b. cond {A = ℕ} b 0 1) (get_or_push queue'.settled.items false true k (sym at)) in
+    let o = s.once k in let a = f.1 in let b = g.1 in absurd (omega (arith, w, o, a, b))
+
+-- ---- constraints that lose their marks
+
+-- those that name the variable have none from this place on
+pub record WokenSoFar (constraints : List Constraint) (variable : ℕ) (before after : List Bool) (place : ℕ) : Type 0 where
+  pub low : place ≤ length constraints
+  pub names : (k : ℕ) (d : Constraint) → k + 1 ≡ place → Names (get_or constraints k d) variable
+  pub same_count : length after ≡ length before
+  pub only_cleared : (k : ℕ) → get_or after k false ≡ true → get_or before k false ≡ true
+  pub apart : (k : ℕ) (d : Constraint) → place ≤ k → k < length constraints → get_or after k false ≡ true → Names (get_or constraints k d) variable → ⊥
+
+pub none_woken : (constraints : List Constraint) (variable : ℕ) (marks : List Bool) (place : ℕ) → IsLastNaming constraints variable (length constraints) place
+    → WokenSoFar constraints variable marks marks place
+none_woken constraints variable marks place s = record {
+  low = s.low;
+  names = s.names;
+  same_count = refl;
+  only_cleared = (λ k m. m);
+  apart = (λ k d from lt m. s.none k d from lt);
+}
+
+pub one_woken : (constraints : List Constraint) (variable : ℕ) (before after : List Bool) (place next : ℕ) → WokenSoFar constraints variable before after place → 0 < place
+    → place - 1 < length after → IsLastNaming constraints variable (place - 1) next → WokenSoFar constraints variable before (set after (place - 1) false) next
+one_woken constraints variable before after place next s pos within n = record {
+  low = (let a = n.low in let b = s.low in omega (arith, a, b));
+  names = n.names;
+  same_count = length-set after (place - 1) false ∙ s.same_count;
+  only_cleared = (λ k m. s.only_cleared k (was k m));
+  apart = (λ k d from lt m. elim (cases_lt k place) [
+    | inl below ↦ elim (cases_eq k (place - 1)) [
+      | inl e ↦ absurd (false≢true (sym (here k e) ∙ m))
+      | inr ne ↦ n.none k d from (omega (arith, below, ne))
+    ]
+    | inr ge ↦ s.apart k d ge lt (was k m)
+  ]);
+}
+  where
+    here : (k : ℕ) → k ≡ place - 1 → get_or (set after (place - 1) false) k false ≡ false
+    here k e = ap (λ i. get_or (set after (place - 1) false) i false) e ∙ get_or-set_same after (place - 1) false false within
+
+    was : (k : ℕ) → get_or (set after (place - 1) false) k false ≡ true → get_or after k false ≡ true
+    was k m = elim (cases_eq k (place - 1)) [
+      | inl e ↦ absurd (false≢true (sym (here k e) ∙ m))
+      | inr ne ↦ sym (get_or-set_other after (place - 1) k false false ne) ∙ m
+    ]
+
+pub all_woken : (constraints : List Constraint) (variable : ℕ) (before after : List Bool) (place : ℕ) (changed : Bool) → WokenSoFar constraints variable before after place → place ≤ 0
+    → changed ≡ true → AreCleared changed constraints variable before after
+all_woken constraints variable before after place changed s end t = record {
+  same_count = s.same_count;
+  kept = (λ f. absurd (false≢true (sym f ∙ t)));
+  only_cleared = s.only_cleared;
+  apart = (λ _ k d lt m. s.apart k d (omega (arith, end)) lt m);
+}

@@ -1,0 +1,195 @@
+//! The constraints that have to be looked at again.
+ghost use Rattle.std.specs.Prelude.{◌≡◌, ◌+◌, ◌-◌, ◌<◌, ◌≤◌, ◌∷◌, ◌++◌, [], ℕ, ℤ, All, HoldsAt, ◌↔◌, List, MatchOption, OnErr, OnOk, false, true, length, slice_index_or, slice_set, take};
+ghost use Rattle.std.specs.Vec.{vec_capacity};
+ghost use Rattle.ivl_laws.specs.Families.{set_at};
+ghost use Rattle.ivl_store.specs.Narrowing.{Narrowed};
+ghost use Rattle.ivl_store.specs.Settled.{AreCleared, AreLost, AreSettled, any_lost};
+ghost use Rattle.ivl_store.specs.Solutions.{AreDistinct};
+ghost use Rattle.ivl_store.specs.Queue.{IsIndex, IsQueue, Removes};
+
+use super::index::Index;
+use crate::store::Constraint;
+use crate::store::marks::Lost;
+use std::alloc::{AllocError, Global};
+use std::mem;
+
+/// A mark for each constraint, and a queue of those that have none: narrowing by a marked one would
+/// change nothing. The queue goes in rounds: a constraint that loses its mark waits for the next.
+#[derive(Drop)]
+pub(super) struct Queue {
+    settled: Vec<bool>,
+    round: Vec<usize>,
+    later: Vec<usize>,
+}
+
+impl Queue {
+    pub(super) fn new(alloc: Global) -> Queue
+        ensures empty { result.settled.items ≡ [] }
+        ensures queue { IsQueue result }
+    {
+        Queue {
+            settled: Vec::new(alloc),
+            round: Vec::new(alloc),
+            later: Vec::new(alloc),
+        }
+    }
+
+    /// Adds a constraint after the others, without a mark.
+    pub(super) fn push(&mut self) -> Result<(), AllocError>
+        requires { IsQueue self.old }
+        ensures queue { IsQueue self.new }
+        ensures added { OnOk result (self.new.settled.items ≡ self.old.settled.items ++ false ∷ []) }
+        ensures refused { OnErr result (self.new.settled.items ≡ self.old.settled.items) }
+    {
+        let count = self.settled.len();
+        self.round.reserve(count - self.round.len() + 1)?;
+        self.later.reserve(count - self.later.len() + 1)?;
+        self.settled.push(false)?;
+        self.later.push_reserved(count);
+        Ok(())
+    }
+
+    /// Drops the last constraint, if there is one.
+    pub(super) fn pop(&mut self)
+        requires { IsQueue self.old }
+        ensures queue { IsQueue self.new }
+        ensures left { self.new.settled.items ≡ take (length self.old.settled.items - 1) self.old.settled.items }
+    {
+        if let Some(mark) = self.settled.pop() {
+            let k = self.settled.len();
+            if !mark && !remove(&mut self.later, k) {
+                remove(&mut self.round, k);
+            }
+        }
+    }
+
+    /// Returns a constraint without a mark, the one that waits longest by rounds, or `None` if all
+    /// have one. It stays in the queue, as the last of the round.
+    pub(super) fn first(&mut self) -> Option<usize>
+        requires { IsQueue self.old }
+        ensures queue { IsQueue self.new }
+        ensures settled { self.new.settled.items ≡ self.old.settled.items }
+        ensures first { MatchOption result ((k : ℕ) → k < length self.old.settled.items → slice_index_or self.old.settled.items k false ≡ true)
+            (λ k. (k < length self.old.settled.items) × (slice_index_or self.old.settled.items k false ≡ false) × (front : List ℕ) × (self.new.round.items ≡ front ++ k ∷ [])) }
+    {
+        self.turn();
+        let count = self.round.len();
+        if count == 0 {
+            return None;
+        }
+        Some(self.round[count - 1])
+    }
+
+    /// Begins the next round, if this one has ended.
+    fn turn(&mut self)
+        requires { IsQueue self.old }
+        ensures queue { IsQueue self.new }
+        ensures settled { self.new.settled.items ≡ self.old.settled.items }
+        ensures ended { self.new.round.items ≡ [] → self.new.later.items ≡ [] }
+    {
+        if self.round.is_empty() {
+            mem::swap(&mut self.round, &mut self.later);
+        }
+    }
+
+    /// Whether each constraint has a mark.
+    pub(super) fn is_empty(&self) -> bool
+        requires { IsQueue self.now }
+        ensures { result ≡ true → (k : ℕ) → k < length self.now.settled.items → slice_index_or self.now.settled.items k false ≡ true }
+    {
+        self.round.is_empty() && self.later.is_empty()
+    }
+
+    /// Updates the marks after narrowing by the first constraint, which is marked then. Those that
+    /// name a variable which lost a member lose their mark.
+    pub(super) fn settle(&mut self, i: usize, lost: Lost, constraints: &[Constraint], index: &Index)
+        requires queue { IsQueue self.old }
+        requires index { (count : ℕ) × IsIndex count constraints.now index.now }
+        requires distinct { All AreDistinct constraints.now }
+        requires one_each { length self.old.settled.items ≡ length constraints.now }
+        requires in_list { i < length constraints.now }
+        requires unset { slice_index_or self.old.settled.items i false ≡ false }
+        requires first { (front : List ℕ) × (self.old.round.items ≡ front ++ i ∷ []) }
+        ensures queue { IsQueue self.new }
+        ensures count { length self.new.settled.items ≡ length constraints.now }
+        ensures marked { any_lost lost ≡ false → self.new.settled.items ≡ slice_set self.old.settled.items i true }
+        ensures settled { (old new : List (List (ℤ × ℤ))) → HoldsAt (λ c. (j : ℕ) (v : ℤ) → set_at new j v ↔ Narrowed c (set_at old) j v) constraints.now i
+            → HoldsAt (λ c. AreLost c lost (set_at old) (set_at new)) constraints.now i
+            → AreSettled constraints.now self.old.settled.items (set_at old) → AreSettled constraints.now self.new.settled.items (set_at new) }
+    {
+        let c = constraints[i];
+        self.wake(lost.x, constraints, c.x, index);
+        self.wake(lost.y, constraints, c.y, index);
+        self.wake(lost.z, constraints, c.z, index);
+        self.mark_first(i);
+    }
+
+    /// Marks the first constraint, which leaves the queue.
+    fn mark_first(&mut self, k: usize)
+        requires queue { IsQueue self.old }
+        requires in_list { k < length self.old.settled.items }
+        requires unset { slice_index_or self.old.settled.items k false ≡ false }
+        requires first { (front : List ℕ) × (self.old.round.items ≡ front ++ k ∷ []) }
+        ensures queue { IsQueue self.new }
+        ensures settled { self.new.settled.items ≡ slice_set self.old.settled.items k true }
+    {
+        let _ = self.round.pop();
+        self.settled[k] = true;
+    }
+
+    /// Clears the mark of a constraint, which then waits for the next round.
+    fn clear(&mut self, k: usize)
+        requires queue { IsQueue self.old }
+        requires in_list { k < length self.old.settled.items }
+        ensures queue { IsQueue self.new }
+        ensures settled { self.new.settled.items ≡ slice_set self.old.settled.items k false }
+        ensures round { self.new.round.items ≡ self.old.round.items }
+    {
+        if self.settled[k] {
+            self.settled[k] = false;
+            self.later.push_reserved(k);
+        }
+    }
+
+    /// Clears the marks of the constraints that name the variable, if it has changed.
+    pub(super) fn wake(
+        &mut self,
+        changed: bool,
+        constraints: &[Constraint],
+        variable: usize,
+        index: &Index,
+    )
+        requires queue { IsQueue self.old }
+        requires index { (count : ℕ) × IsIndex count constraints.now index.now }
+        requires one_each { length self.old.settled.items ≡ length constraints.now }
+        ensures queue { IsQueue self.new }
+        ensures cleared { AreCleared changed constraints.now variable self.old.settled.items self.new.settled.items }
+        ensures round { self.new.round.items ≡ self.old.round.items }
+    {
+        if !changed {
+            return;
+        }
+        let mut place = index.last(variable);
+        while place > 0 {
+            self.clear(place - 1);
+            place = index.last_before(constraints, place - 1, variable);
+        }
+    }
+}
+
+/// Removes a number from a list, at the last place where it stands. Returns false, and changes
+/// nothing, if it does not stand there.
+fn remove(list: &mut Vec<usize>, k: usize) -> bool
+    ensures removed { Removes k list.old.items list.new.items result }
+    ensures capacity { vec_capacity list.new ≡ vec_capacity list.old }
+{
+    let mut place = list.len();
+    while place > 0 {
+        place -= 1;
+        if list[place] == k {
+            list.swap_remove(place);
+            return true;
+        }
+    }
+    false
+}
