@@ -1,0 +1,8 @@
+use Rattle.std.proofs.Common.{◌≡◌, ◌⊎◌, take}
+use Rattle.std.specs.Prelude.{◌↔◌, Contains}
+use Rattle.ivl_store.specs.declared.store.constraint.Constraint.{Constraint}
+use Rattle.ivl_search.proofs.search.setup.require_all.Given as goal
+
+abbrev pub invariant-loop-constraint : goal.invariant-loop-constraint
+invariant-loop-constraint g l = (l.network.domains ≡ l.fn.network.domains) × (l.network.marked ≡ l.fn.network.marked)
+    × ((c : Constraint) → Contains l.network.constraints c ↔ (Contains l.fn.network.constraints c ⊎ Contains (take l.constraint-index l.constraints) c))

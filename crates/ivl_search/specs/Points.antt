@@ -1,0 +1,31 @@
+-- Points, which give each variable a number, and the solutions among them.
+--     coordinate point i      the number that the point gives variable i
+--     SumHolds point c      the numbers of x and y add up to that of z
+--     Solves cs sets point      the point gives each variable a member of its set, and each constraint holds at it
+--     EachOnce points      no point stands twice in the list
+--     Finds solves points end      the points are solutions, none of them twice, and all of them if the search ended with that
+use Rattle.std.specs.Prelude.{◌≡◌, ◌<◌, ℕ, ℤ, pos, ◌+ℤ◌, List, [], ◌∷◌, All, Contains, length, slice_index_or}
+use Rattle.ivl_laws.specs.Families.{set_at}
+use Rattle.ivl_store.specs.declared.store.constraint.Constraint.{Constraint}
+use Rattle.ivl_search.specs.declared.search.End.{End}
+use Rattle.ivl_search.specs.declared.search.End.TheVariants.{All as AllFound}
+
+abbrev pub coordinate : List ℤ → ℕ → ℤ
+coordinate point i = slice_index_or point i (pos 0)
+
+abbrev pub SumHolds : List ℤ → Constraint → Type 0
+SumHolds point c = (coordinate point c.x +ℤ coordinate point c.y) ≡ coordinate point c.z
+
+pub record Solves (constraints : List Constraint) (sets : List (List (ℤ × ℤ))) (point : List ℤ) : Type 0 where
+  pub one_each : length point ≡ length sets
+  pub members : (i : ℕ) → i < length sets → set_at sets i (coordinate point i)
+  pub sums : All (SumHolds point) constraints
+
+abbrev pub EachOnce : List (List ℤ) → Type 0
+EachOnce [] = Unit {0}
+EachOnce (point ∷ points) = (¬ (Contains points point)) × EachOnce points
+
+pub record Finds (solves : List ℤ → Type 0) (points : List (List ℤ)) (end : End) : Type 0 where
+  pub sound : All solves points
+  pub once : EachOnce points
+  pub complete : end ≡ AllFound → (point : List ℤ) → solves point → Contains points point

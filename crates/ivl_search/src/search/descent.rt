@@ -1,0 +1,59 @@
+//! The search itself: depth first, by marks of one network.
+ghost use Rattle.std.specs.Prelude.{◌≡◌, ◌≤◌, ◌+◌, ◌++◌, ℤ, List, All, IfOk, OnOk, length, map};
+ghost use Rattle.ivl_store.specs.Narrowing.{AllPresent};
+ghost use Rattle.ivl_search.specs.Points.{Finds, Solves};
+
+use super::choice::Node;
+use super::steps::{advance, enter, leave, point_of};
+use super::{End, Limits};
+use intervallum::width::Width;
+use ivl_store::network::Network;
+use std::alloc::{AllocError, Global};
+
+/// Adds the solutions over the domains of the network to those found, and takes them and the nodes
+/// off what is left. The network keeps its constraints and marks; its domains are narrowed.
+pub(super) fn search<B: Width>(
+    alloc: Global,
+    network: &mut Network<B>,
+    depth: u32,
+    left: &mut Limits,
+    found: &mut Vec<Vec<B>>,
+) -> Result<End, AllocError>
+    requires { All (AllPresent (length network.old.domains)) network.old.constraints }
+    ensures constraints { OnOk result (network.new.constraints ≡ network.old.constraints) }
+    ensures marked { OnOk result (network.new.marked ≡ network.old.marked) }
+    ensures nodes { OnOk result (left.new.nodes ≤ left.old.nodes) }
+    ensures finds { IfOk result (λ end. (more : List (List ℤ)) × Finds (Solves network.old.constraints network.old.domains) more end
+        × (map (λ point. map B.value point.items) found.new.items ≡ map (λ point. map B.value point.items) found.old.items ++ more)
+        × (length more + left.new.solutions ≡ left.old.solutions)) }
+{
+    while left.nodes > 0 {
+        if left.solutions == 0 {
+            return Ok(End::Solutions);
+        }
+        left.nodes -= 1;
+        match advance(network)? {
+            Node::Unsettled => {}
+            Node::Dead => return Ok(End::All),
+            Node::Leaf => {
+                found.push(point_of(alloc, network.domains())?)?;
+                left.solutions -= 1;
+                return Ok(End::All);
+            }
+            Node::Open(variable, value) => {
+                if depth == 0 {
+                    return Ok(End::Nodes);
+                }
+                let mark = enter(alloc, network, variable, value)?;
+                match search(alloc, network, depth - 1, left, found)? {
+                    End::All => leave(alloc, network, mark, variable, value)?,
+                    end => {
+                        network.drop_marks(mark);
+                        return Ok(end);
+                    }
+                }
+            }
+        }
+    }
+    Ok(End::Nodes)
+}
