@@ -1,4 +1,6 @@
 //! The examples of the docs, and random edits beside a list of flags.
+mod pins;
+
 use crate::paged_set::PagedSet;
 use intervallum::interval::Interval;
 use intervallum::interval_set::{IntervalSet, ToIntervalSet};
