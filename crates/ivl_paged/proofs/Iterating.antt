@@ -6,9 +6,7 @@ use Rattle.std.proofs.lemmas.Bool.Decides.{nat_tests}
 use Rattle.std.specs.Iterator.{MakesProgress, YieldsFirst, YieldsLast, item_count}
 use Rattle.ivl_laws.specs.Sets.{HasSome}
 use Rattle.ivl_laws.specs.Runs.{Covers, IsMaximal}
-use Rattle.ivl_laws.proofs.Intervals.{same_between}
 use Rattle.ivl_interval.specs.SameInterval.{same_interval, same_interval_equiv}
-use Rattle.ivl_interval.proofs.Pairs.{same_interval_members}
 use Rattle.intervallum.proofs.Equality.{same_pair}
 use Rattle.ivl_paged.specs.Pages.{flattened}
 use Rattle.ivl_paged.proofs.Paging.{IsMaximal-second, flattened-append, flattened_more}

@@ -3,3 +3,4 @@ pub mod Reading
 pub mod Removing
 pub mod Iterating
 pub mod Fitting
+pub mod Counting

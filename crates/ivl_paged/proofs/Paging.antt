@@ -512,7 +512,7 @@ pub cut_pages : (P : List (List (ℤ × ℤ))) (M : List (ℤ × ℤ)) (i j : �
 cut_pages P M i j e = flattened-append (take i P) (drop j P) ∙ ap (λ (N : List (ℤ × ℤ)). flattened (take i P) ++ (N ++ flattened (drop j P))) (sym e)
 
 -- what is left after a change that may have failed is a list of runs in the range
-pub within_after : {E : Type 0} (whole : ℤ × ℤ) (r : Result (Unit {0}) E) (L N : List (ℤ × ℤ)) (S : ℤ → Type 0) → IsRunListIn whole L → IsSubset S (IsBetween whole) →
+pub within_after : {A E : Type 0} (whole : ℤ × ℤ) (r : Result A E) (L N : List (ℤ × ℤ)) (S : ℤ → Type 0) → IsRunListIn whole L → IsSubset S (IsBetween whole) →
     OnOk r (IsRunsOf N S) → OnErr r (N ≡ L) → IsRunListIn whole N
 within_after whole (Ok u) L N S l h made same = IsRunListIn-runs whole N S made h
 within_after whole (Err e) L N S l h made same = subst (IsRunListIn whole) (sym same) l

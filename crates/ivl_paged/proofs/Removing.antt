@@ -10,7 +10,7 @@ use Rattle.ivl_laws.proofs.Merging.{covers-append, covers-append_left, covers-ap
 use Rattle.ivl_laws.proofs.Runs.{runs_are_unique}
 use Rattle.intervallum.specs.Edits.{widened}
 use Rattle.intervallum.proofs.Splicing.{IsMaximal-append}
-use Rattle.ivl_paged.specs.Pages.{IsCutAt, IsPageSpan, flattened}
+use Rattle.ivl_paged.specs.Pages.{IsPageCut, IsPageSpan, flattened}
 use Rattle.ivl_paged.proofs.Paging.{IsMaximal-dropped, IsMaximal-first, covers_page, cut_at, flattened-append, pages_ascend, removed, removed_from_one}
 
 -- ---- one page
@@ -23,7 +23,7 @@ set_is (L ∷ P) (suc i) M h =
     ap (λ (N : List (List (ℤ × ℤ))). L ∷ N) (set_is P i M (omega arith)) ∙ ap (λ (n : ℕ). take (suc i) (L ∷ P) ++ (M ∷ drop n (L ∷ P))) (sym e)
 
 -- the page lies within the interval
-pub cut_whole : (P : List (List (ℤ × ℤ))) (p : ℤ × ℤ) (i : ℕ) → IsSubset (set_at P i) (IsBetween p) → IsCutAt P p i (take i P ++ drop (suc i) P)
+pub cut_whole : (P : List (List (ℤ × ℤ))) (p : ℤ × ℤ) (i : ℕ) → IsSubset (set_at P i) (IsBetween p) → IsPageCut P p i (take i P ++ drop (suc i) P)
 cut_whole P p i within =
     let more : suc i ≡ i + 1 = omega arith in
     record {
@@ -32,19 +32,19 @@ cut_whole P p i within =
       members = record { maximal = tt; members = λ z. ((λ c. absurd c), (λ (a, n). absurd (n (within z a)))) };
     }
 
-pub cut_some : (P : List (List (ℤ × ℤ))) (M : List (ℤ × ℤ)) (p : ℤ × ℤ) (i : ℕ) → i < length P → IsRunsOf M (Without (set_at P i) (IsBetween p)) → IsCutAt P p i (set P i M)
+pub cut_some : (P : List (List (ℤ × ℤ))) (M : List (ℤ × ℤ)) (p : ℤ × ℤ) (i : ℕ) → i < length P → IsRunsOf M (Without (set_at P i) (IsBetween p)) → IsPageCut P p i (set P i M)
 cut_some P M p i h made = record {
   left = M ∷ [];
   pages = set_is P i M h;
   members = subst (λ (L : List (ℤ × ℤ)). IsRunsOf L (Without (set_at P i) (IsBetween p))) (sym (append-nil M)) made;
 }
 
-flattened_cut : (P Q : List (List (ℤ × ℤ))) (p : ℤ × ℤ) (i : ℕ) (c : IsCutAt P p i Q) → flattened Q ≡ flattened (take i P) ++ (flattened c.left ++ flattened (drop (i + 1) P))
+flattened_cut : (P Q : List (List (ℤ × ℤ))) (p : ℤ × ℤ) (i : ℕ) (c : IsPageCut P p i Q) → flattened Q ≡ flattened (take i P) ++ (flattened c.left ++ flattened (drop (i + 1) P))
 flattened_cut P Q p i c =
     ap flattened c.pages ∙ flattened-append (take i P) (c.left ++ drop (i + 1) P)
     ∙ ap (λ (L : List (ℤ × ℤ)). flattened (take i P) ++ L) (flattened-append c.left (drop (i + 1) P))
 
-pub removed_once : (P Q : List (List (ℤ × ℤ))) (p : ℤ × ℤ) (i j : ℕ) → IsMaximal (flattened P) → IsPageSpan P p.0 p.1 i j → j - i ≡ 1 → IsCutAt P p i Q →
+pub removed_once : (P Q : List (List (ℤ × ℤ))) (p : ℤ × ℤ) (i j : ℕ) → IsMaximal (flattened P) → IsPageSpan P p.0 p.1 i j → j - i ≡ 1 → IsPageCut P p i Q →
     IsRunsOf (flattened Q) (Without (Covers (flattened P)) (IsBetween p))
 removed_once P Q p i j m s one c =
     let o = s.in_order in
@@ -78,7 +78,7 @@ last_is_cut P p i j s several filled h =
 
 -- Q is P without the numbers in page j - 1, R without the pages between, and T without the numbers in page i
 module _ (P Q R T : List (List (ℤ × ℤ))) (p : ℤ × ℤ) (i j : ℕ) (m : IsMaximal (flattened P)) (s : IsPageSpan P p.0 p.1 i j) (several : ¬ (j - i ≡ 1))
-    (high : IsCutAt P p (j - 1) Q) (between : R ≡ take (i + 1) Q ++ drop (j - 1) Q) where
+    (high : IsPageCut P p (j - 1) Q) (between : R ≡ take (i + 1) Q ++ drop (j - 1) Q) where
   less : i + 1 ≤ j - 1
   less = let o = s.in_order in omega (arith, o, several)
 
@@ -131,7 +131,7 @@ module _ (P Q R T : List (List (ℤ × ℤ))) (p : ℤ × ℤ) (i j : ℕ) (m : 
       let far = s.to i p.1 (omega (arith, l)) here in
       omega (arith, ints, far)
 
-  module _ (low : IsCutAt R p i T) where
+  module _ (low : IsPageCut R p i T) where
     pages_are : T ≡ take i P ++ (low.left ++ (high.left ++ drop j P))
     pages_are =
         low.pages

@@ -2,7 +2,7 @@
 --     flattened P      the runs of each page in turn
 --     StartsUpTo P v n      the first n pages have a number up to v, and the others none
 --     IsPageSpan P u v i j      the pages before i lie below u, those from j on above v, and those between i and the last within
---     IsCutAt P p i Q      Q is P with the numbers of an interval removed from page i
+--     IsPageCut P p i Q      Q is P with the numbers of an interval removed from page i
 --     IsLongest n S      n members of S stand in a row somewhere, and nowhere more
 use Rattle.std.specs.Prelude.{◌≡◌, ℕ, ◌+◌, ◌-◌, ◌<◌, ◌≤◌, ℤ, pos, ◌+ℤ◌, ◌≤ℤ◌, ◌<ℤ◌, List, [], ◌∷◌, ◌++◌, drop, length, take}
 use Rattle.ivl_laws.specs.Families.{set_at}
@@ -30,7 +30,7 @@ pub record IsPageSpan (P : List (List (ℤ × ℤ))) (u v : ℤ) (i j : ℕ) : T
   pub above : (k : ℕ) (z : ℤ) → j ≤ k → set_at P k z → v <ℤ z
 
 -- Q is P with the numbers of p removed from page i, in whose place the pages `left` stand: itself, or none
-pub record IsCutAt (P : List (List (ℤ × ℤ))) (p : ℤ × ℤ) (i : ℕ) (Q : List (List (ℤ × ℤ))) : Type 0 where
+pub record IsPageCut (P : List (List (ℤ × ℤ))) (p : ℤ × ℤ) (i : ℕ) (Q : List (List (ℤ × ℤ))) : Type 0 where
   pub left : List (List (ℤ × ℤ))
   pub pages : Q ≡ take i P ++ (left ++ drop (i + 1) P)
   pub members : IsRunsOf (flattened left) (Without (set_at P i) (IsBetween p))

@@ -1,5 +1,5 @@
 //! One page: a few of the runs of a set.
-ghost use Rattle.std.specs.Prelude.{◌≡◌, ◌⊎◌, ◌<◌, ◌≤◌, ℤ, ◌≤ℤ◌, IsSomeAnd, IsTrue, List, IfOk, IsOk, MatchOption, OnErr, OnOk};
+ghost use Rattle.std.specs.Prelude.{◌≡◌, ◌↔◌, ◌⊎◌, ◌<◌, ◌≤◌, ℤ, ◌≤ℤ◌, IsSomeAnd, IsTrue, List, IfOk, IsOk, MatchOption, OnErr, OnOk};
 ghost use Rattle.ivl_laws.specs.Bounds.{width_of};
 ghost use Rattle.ivl_laws.specs.Sets.{HasSome, IsBetween, IsSubset, Union, Without};
 ghost use Rattle.ivl_laws.specs.Runs.{Covers, IsMaximal, IsRunsOf};
@@ -83,6 +83,17 @@ impl<B: Width> Page<B> {
         ensures rest { ¬ (IsTrue result) → HasSome (Without (Covers self.now) (IsBetween interval.now)) }
     {
         interval.lower() <= self.head && self.set.upper() <= interval.upper()
+    }
+
+    /// Returns true exactly when an interval lies inside a run and meets neither of its ends.
+    pub(crate) fn has_inside(&self, interval: &Interval<B>) -> bool
+        requires { interval.now.0 ≤ℤ interval.now.1 }
+        ensures { IsTrue result ↔ IsSubset (IsBetween (widened interval.now)) (Covers self.now) }
+    {
+        match self.set.run_at(interval.lower()) {
+            Some(run) => run.lower() < interval.lower() && interval.upper() < run.upper(),
+            None => false,
+        }
     }
 
     /// Adds the members of an interval.

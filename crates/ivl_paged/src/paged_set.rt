@@ -46,6 +46,8 @@ use std::marker::Model;
 pub struct PagedSet<B: Width> {
     alloc: Global,
     pages: Vec<Page<B>>,
+    /// How many runs the pages have together.
+    count: usize,
 }
 
 impl<B: Width> Model for PagedSet<B> {
@@ -53,7 +55,7 @@ impl<B: Width> Model for PagedSet<B> {
 
     ghost view = { λ s. flattened s.pages.items };
 
-    ghost invariant = { λ s. IsRunListIn B.whole (flattened s.pages.items) };
+    ghost invariant = { λ s. IsRunListIn B.whole (flattened s.pages.items) × (s.count ≡ length (flattened s.pages.items)) };
 }
 
 impl<B: Width> PagedSet<B> {
@@ -68,6 +70,7 @@ impl<B: Width> PagedSet<B> {
         PagedSet {
             alloc,
             pages: Vec::new(alloc),
+            count: 0,
         }
     }
 
@@ -84,7 +87,12 @@ impl<B: Width> PagedSet<B> {
         set.in_whole();
         let alloc = set.allocator();
         let pages = pages::pages_of(alloc, set.iter().as_slice())?;
-        Ok(PagedSet { alloc, pages })
+        let count = set.interval_count();
+        Ok(PagedSet {
+            alloc,
+            pages,
+            count,
+        })
     }
 
     /// Returns true exactly when the set has no members. `O(1)`. Does not allocate.
@@ -209,9 +217,11 @@ impl<B: Width> PagedSet<B> {
         }
         interval.in_whole();
         if self.pages.is_empty() {
-            return pages::push_first(self.alloc, &mut self.pages, interval);
+            self.count = pages::push_first(self.alloc, &mut self.pages, interval)?;
+            return Ok(());
         }
-        pages::insert_interval(&mut self.pages, interval)
+        self.count = pages::insert_interval(&mut self.pages, self.count, interval)?;
+        Ok(())
     }
 
     /// Removes the members of an interval, which may be empty.
@@ -237,10 +247,12 @@ impl<B: Width> PagedSet<B> {
         // it cannot fail unless it lies inside a run and splits it
         ensures in_place { ¬ (IsSubset (IsBetween (widened interval)) (Covers self.old)) → IsOk result }
     {
+        self.in_whole();
         if interval.is_empty() || self.pages.is_empty() {
             return Ok(());
         }
-        pages::remove_interval(&mut self.pages, interval)
+        self.count = pages::remove_interval(&mut self.pages, self.count, interval)?;
+        Ok(())
     }
 
     /// Removes and returns the least member, or returns `None` if the set is empty. `O(log n)`; if a
@@ -308,6 +320,7 @@ impl<B: Width> PagedSet<B> {
         ensures { self.new ≡ [] }
     {
         self.pages.clear();
+        self.count = 0;
     }
 
     /// Does nothing: its contract states that the runs are maximal and in the range.

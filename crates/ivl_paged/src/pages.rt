@@ -1,5 +1,5 @@
 //! Searches and edits in a list of pages, which together hold one list of runs.
-ghost use Rattle.std.specs.Prelude.{◌≡◌, ◌⊎◌, ◌++◌, ◌+◌, ◌<◌, ◌≤◌, ℤ, pos, ◌+ℤ◌, ◌≤ℤ◌, [], drop, length, set, take, slice_index_or, IfOk, IsOk, MatchOption, OnErr, OnOk};
+ghost use Rattle.std.specs.Prelude.{◌≡◌, ◌⊎◌, ◌++◌, ◌+◌, ◌<◌, ◌≤◌, ℤ, pos, ◌+ℤ◌, ◌≤ℤ◌, List, [], drop, length, set, take, slice_index_or, IfOk, IsOk, MatchOption, OnErr, OnOk};
 ghost use Rattle.ivl_laws.specs.Counts.{IsCountOf};
 ghost use Rattle.ivl_laws.specs.Families.{set_at};
 ghost use Rattle.ivl_laws.specs.Sets.{AtLeast, HasNone, IsBetween, IsSubset, Union, Without};
@@ -7,7 +7,7 @@ ghost use Rattle.ivl_laws.specs.Runs.{Covers, IsMaximal, IsRunListIn, IsRunsOf};
 ghost use Rattle.intervallum.specs.Edits.{widened};
 ghost use Rattle.intervallum.specs.FirstFit.{FitsAt, IsFirstFit};
 ghost use Rattle.intervallum.specs.Neighbours.{IsLeast};
-ghost use Rattle.ivl_paged.specs.Pages.{IsCutAt, IsPageSpan, StartsUpTo, flattened};
+ghost use Rattle.ivl_paged.specs.Pages.{IsPageCut, IsPageSpan, StartsUpTo, flattened};
 
 use crate::page::Page;
 use intervallum::interval::Interval;
@@ -82,6 +82,18 @@ pub(crate) fn size_of<B: Width>(pages: &[Page<B>]) -> B::Output
         count = count.add_in_range(page.set().size());
     }
     count
+}
+
+/// How many runs a list of pages has beside those of some of them, of `count` in all.
+fn runs_beside<B: Width>(pages: &[Page<B>], count: usize) -> usize
+    requires { length (flattened pages.now) ≤ count }
+    ensures { result + length (flattened pages.now) ≡ count }
+{
+    let mut others = count;
+    for page in pages {
+        others -= page.set().interval_count();
+    }
+    others
 }
 
 /// The least member that is at least `v` in the first `count` pages, which are those that start at
@@ -160,124 +172,181 @@ fn one_above<B: Width>(value: B) -> B
     }
 }
 
-/// Puts an interval into the first page of a list that has none.
+/// Puts an interval into the first page of a list that has none. Returns how many runs there are.
 pub(crate) fn push_first<B: Width>(
     alloc: Global,
     pages: &mut Vec<Page<B>>,
     interval: Interval<B>,
-) -> Result<(), AllocError>
+) -> Result<usize, AllocError>
     requires filled { interval.0 ≤ℤ interval.1 }
     requires none { pages.old.items ≡ [] }
     ensures ok { OnOk result (IsRunsOf (flattened pages.new.items) (IsBetween interval)) }
+    ensures count { IfOk result (λ n. n ≡ length (flattened pages.new.items)) }
     ensures err { OnErr result (flattened pages.new.items ≡ flattened pages.old.items) }
 {
     let first = IntervalSet::of(alloc, interval)?;
+    let count = first.interval_count();
     pages.push(Page::of(first))?;
-    Ok(())
+    Ok(count)
 }
 
-/// Adds the members of an interval to pages of which there is one at least.
+/// Adds the members of an interval to pages of which there is one at least, with `count` runs.
+/// Returns how many runs there are then.
 pub(crate) fn insert_interval<B: Width>(
     pages: &mut Vec<Page<B>>,
+    count: usize,
     interval: Interval<B>,
-) -> Result<(), AllocError>
+) -> Result<usize, AllocError>
     requires filled { interval.0 ≤ℤ interval.1 }
     requires some { 0 < length pages.old.items }
     requires runs { IsRunListIn B.whole (flattened pages.old.items) }
+    requires count { count ≡ length (flattened pages.old.items) }
+    ensures count { IfOk result (λ n. n ≡ length (flattened pages.new.items)) }
     ensures ok { OnOk result (IsRunsOf (flattened pages.new.items) (Union (Covers (flattened pages.old.items)) (IsBetween interval))) }
     ensures err { OnErr result (flattened pages.new.items ≡ flattened pages.old.items) }
 {
+    // no memory holds more runs than a `usize` counts
+    if count == usize::MAX {
+        return Err(AllocError);
+    }
     interval.in_whole();
     let upper = one_above(interval.upper());
     let (start, end) = span(pages, interval.lower(), upper);
-    insert_between(pages, start, end, interval)?;
+    let count = insert_between(pages, count, start, end, interval)?;
     balance(pages, start);
-    Ok(())
+    Ok(count)
 }
 
-/// Adds the members of an interval to the pages from `start` to before `end`.
+/// Adds the members of an interval to the pages from `start` to before `end`, where there are
+/// `count` runs in all. Returns how many there are then.
 fn insert_between<B: Width>(
     pages: &mut Vec<Page<B>>,
+    count: usize,
     start: usize,
     end: usize,
     interval: Interval<B>,
-) -> Result<(), AllocError>
+) -> Result<usize, AllocError>
     requires filled { interval.0 ≤ℤ interval.1 }
     requires runs { IsRunListIn B.whole (flattened pages.old.items) }
+    requires count { count ≡ length (flattened pages.old.items) }
+    requires room { count < usize.MAX }
     requires span { (v : ℤ) × ((v ≡ interval.1 +ℤ pos 1) ⊎ ((v ≡ interval.1) × (interval.1 ≡ B.whole.1))) × IsPageSpan pages.old.items interval.0 v start end }
     ensures ok { OnOk result (IsRunsOf (flattened pages.new.items) (Union (Covers (flattened pages.old.items)) (IsBetween interval))) }
+    ensures count { IfOk result (λ n. n ≡ length (flattened pages.new.items)) }
     ensures err { OnErr result (flattened pages.new.items ≡ flattened pages.old.items) }
 {
     if end - start == 1 {
-        let page = &mut pages[start];
-        return page.insert_interval(interval);
+        return insert_into_one(pages, count, start, interval);
     }
+    let others = runs_beside(&pages[start..end], count);
     let mut joined = pages[start].set().union(pages[end - 1].set())?;
     joined.insert_interval(interval)?;
+    let here = joined.interval_count();
     replace(pages, start, end, joined);
-    Ok(())
+    Ok(others + here)
 }
 
-/// Removes the members of an interval from pages of which there is one at least.
+/// Adds the members of an interval to page `i`, where there are `count` runs in all. Returns how many
+/// there are then.
+fn insert_into_one<B: Width>(
+    pages: &mut Vec<Page<B>>,
+    count: usize,
+    i: usize,
+    interval: Interval<B>,
+) -> Result<usize, AllocError>
+    requires filled { interval.0 ≤ℤ interval.1 }
+    requires less { i < length pages.old.items }
+    requires count { count ≡ length (flattened pages.old.items) }
+    requires room { count < usize.MAX }
+    ensures ok { OnOk result ((L : List (ℤ × ℤ)) × (pages.new.items ≡ set pages.old.items i L) × IsRunsOf L (Union (set_at pages.old.items i) (IsBetween interval))) }
+    ensures count { IfOk result (λ n. n ≡ length (flattened pages.new.items)) }
+    ensures err { OnErr result (pages.new.items ≡ pages.old.items) }
+{
+    let page = &mut pages[i];
+    let others = count - page.set().interval_count();
+    page.insert_interval(interval)?;
+    Ok(others + page.set().interval_count())
+}
+
+/// Removes the members of an interval from pages of which there is one at least, with `count` runs.
+/// Returns how many runs there are then.
 pub(crate) fn remove_interval<B: Width>(
     pages: &mut Vec<Page<B>>,
+    count: usize,
     interval: Interval<B>,
-) -> Result<(), AllocError>
+) -> Result<usize, AllocError>
     requires filled { interval.0 ≤ℤ interval.1 }
     requires some { 0 < length pages.old.items }
     requires runs { IsRunListIn B.whole (flattened pages.old.items) }
+    requires count { count ≡ length (flattened pages.old.items) }
+    ensures count { IfOk result (λ n. n ≡ length (flattened pages.new.items)) }
     ensures ok { OnOk result (IsRunsOf (flattened pages.new.items) (Without (Covers (flattened pages.old.items)) (IsBetween interval))) }
     ensures err { OnErr result (flattened pages.new.items ≡ flattened pages.old.items) }
     ensures in_place { ¬ (IsSubset (IsBetween (widened interval)) (Covers (flattened pages.old.items))) → IsOk result }
 {
     let (start, end) = span(pages, interval.lower(), interval.upper());
-    remove_between(pages, start, end, interval)?;
+    let count = remove_between(pages, count, start, end, interval)?;
     balance(pages, start);
-    Ok(())
+    Ok(count)
 }
 
-/// Removes the members of an interval from the pages from `start` to before `end`. Of several, the
-/// first and the last are cut, and those between removed: nothing is allocated.
+/// Removes the members of an interval from the pages from `start` to before `end`, where there are
+/// `count` runs in all. Of several, the first and the last are cut, and those between removed:
+/// nothing is allocated. Returns how many runs there are then.
 fn remove_between<B: Width>(
     pages: &mut Vec<Page<B>>,
+    count: usize,
     start: usize,
     end: usize,
     interval: Interval<B>,
-) -> Result<(), AllocError>
+) -> Result<usize, AllocError>
     requires filled { interval.0 ≤ℤ interval.1 }
     requires runs { IsRunListIn B.whole (flattened pages.old.items) }
+    requires count { count ≡ length (flattened pages.old.items) }
     requires span { IsPageSpan pages.old.items interval.0 interval.1 start end }
+    ensures count { IfOk result (λ n. n ≡ length (flattened pages.new.items)) }
     ensures ok { OnOk result (IsRunsOf (flattened pages.new.items) (Without (Covers (flattened pages.old.items)) (IsBetween interval))) }
     ensures err { OnErr result (flattened pages.new.items ≡ flattened pages.old.items) }
     ensures in_place { ¬ (IsSubset (IsBetween (widened interval)) (Covers (flattened pages.old.items))) → IsOk result }
 {
     if end - start == 1 {
-        return remove_from_one(pages, start, interval);
+        return remove_from_one(pages, count, start, interval);
     }
-    remove_from_one(pages, end - 1, interval).unwrap();
+    let count = remove_from_one(pages, count, end - 1, interval).unwrap();
+    let count = runs_beside(&pages[start + 1..end - 1], count);
     take_out(pages, start + 1, end - 1);
-    remove_from_one(pages, start, interval).unwrap();
-    Ok(())
+    let count = remove_from_one(pages, count, start, interval).unwrap();
+    Ok(count)
 }
 
-/// Removes the members of an interval from page `i`, and the page if it has no others.
+/// Removes the members of an interval from page `i`, and the page if it has no others, where there
+/// are `count` runs in all. Returns how many runs there are then.
 fn remove_from_one<B: Width>(
     pages: &mut Vec<Page<B>>,
+    count: usize,
     i: usize,
     interval: Interval<B>,
-) -> Result<(), AllocError>
+) -> Result<usize, AllocError>
     requires filled { interval.0 ≤ℤ interval.1 }
     requires less { i < length pages.old.items }
-    ensures ok { OnOk result (IsCutAt pages.old.items interval i pages.new.items) }
+    requires count { count ≡ length (flattened pages.old.items) }
+    ensures ok { OnOk result (IsPageCut pages.old.items interval i pages.new.items) }
+    ensures count { IfOk result (λ n. n ≡ length (flattened pages.new.items)) }
     ensures err { OnErr result (pages.new.items ≡ pages.old.items) }
     ensures in_place { ¬ (IsSubset (IsBetween (widened interval)) (set_at pages.old.items i)) → IsOk result }
 {
     let page = &mut pages[i];
+    let others = count - page.set().interval_count();
     if page.lies_within(&interval) {
         pages.remove(i);
-        return Ok(());
+        return Ok(others);
     }
-    page.remove_interval(interval)
+    // no memory holds more runs than a `usize` counts
+    if count == usize::MAX && page.has_inside(&interval) {
+        return Err(AllocError);
+    }
+    page.remove_interval(interval)?;
+    Ok(others + page.set().interval_count())
 }
 
 /// Puts one page, or none if the set is empty, in the place of those from `start` to before `end`.

@@ -1,4 +1,6 @@
 //! The examples of the docs, and random edits beside a list of flags.
+mod pins;
+
 use crate::paged_set::PagedSet;
 use intervallum::interval::Interval;
 use intervallum::interval_set::{IntervalSet, ToIntervalSet};
@@ -118,7 +120,10 @@ fn runs_agree(set: &PagedSet<i64>, list: &IntervalSet<i64>) -> bool {
             return false;
         }
     }
-    forth.next().is_none() && back.next_back().is_none() && set.hull() == list.hull()
+    set.interval_count() == list.interval_count()
+        && forth.next().is_none()
+        && back.next_back().is_none()
+        && set.hull() == list.hull()
 }
 
 /// Takes a value's flag away, and returns whether there was one.
@@ -200,7 +205,9 @@ fn random_edits_agree_with_flags(rt: HostRuntime) {
     assert!(rt; runs_agree(&set, &list));
     let again = PagedSet::of_set(&list).expect(&rt, "memory");
     assert!(rt; agree(&again, &flags) && again == set);
+    assert!(rt; again.interval_count() == set.interval_count());
     let mut copy = set.try_clone().expect(&rt, "memory");
+    assert!(rt; copy.interval_count() == set.interval_count());
     assert!(rt; copy == set && copy.pop_last().is_some() && copy != set);
 }
 
@@ -218,10 +225,12 @@ fn pops_take_each_member_once(rt: HostRuntime) {
         assert!(rt; set.pop_last() == Some(1798i64.saturating_sub(even)));
     }
     assert!(rt; set.size() == 100 && set.hull() == Interval::new(800, 998));
+    assert!(rt; set.interval_count() == 100);
     for i in 400..500i64 {
         assert!(rt; set.pop_first() == Some(i.saturating_mul(2)));
     }
     assert!(rt; set.pop_first().is_none() && set.pop_last().is_none());
+    assert!(rt; set.interval_count() == 0);
 }
 
 /// Compares the lowest five members in a row with those of the flags.
@@ -272,10 +281,11 @@ fn the_ends_of_a_type(rt: HostRuntime) {
     assert!(rt; set.rank(255) == 254 && set.run_at(0).is_none());
     let text = format!(in alloc; "{set}").expect(&rt, "memory");
     assert!(rt; text.as_str() == "[1..254]");
-    assert!(rt; set.remove(9) == Ok(true));
+    assert!(rt; set.remove(9) == Ok(true) && set.interval_count() == 2);
     let text = format!(in alloc; "{set}").expect(&rt, "memory");
     assert!(rt; text.as_str() == "{[1..8][10..254]}");
     set.clear();
     let text = format!(in alloc; "{set}").expect(&rt, "memory");
     assert!(rt; text.as_str() == "{}" && set.hull().is_empty());
+    assert!(rt; set.interval_count() == 0);
 }

@@ -1,5 +1,5 @@
-//! The number of members, and members by the number of members below them.
-ghost use Rattle.std.specs.Prelude.{ℕ, ◌≤◌, MatchOption};
+//! The number of runs and of members, and members by the number of members below them.
+ghost use Rattle.std.specs.Prelude.{◌≡◌, ℕ, ◌≤◌, MatchOption, length};
 ghost use Rattle.ivl_laws.specs.Counts.{IsCountOf};
 ghost use Rattle.ivl_laws.specs.Sets.{Below};
 ghost use Rattle.ivl_laws.specs.Runs.{Covers};
@@ -10,6 +10,19 @@ use intervallum::ops::Cardinality;
 use intervallum::width::{SizeNumber, Width};
 
 impl<B: Width> PagedSet<B> {
+    /// Returns the number of runs. `O(1)`. Does not allocate.
+    ///
+    /// ```
+    /// let mut a = PagedSet::new(alloc);
+    /// assert!(rt; a.insert(2)? && a.insert(5)? && a.insert(6)?);
+    /// assert_eq!(rt; a.interval_count(), 2);
+    /// ```
+    pub fn interval_count(&self) -> usize
+        ensures { result ≡ length self.now }
+    {
+        self.count
+    }
+
     /// Returns the number of members. Adds up what each page has: `O(n / page)`. Never overflows.
     /// Does not allocate.
     ///

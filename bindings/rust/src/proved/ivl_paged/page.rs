@@ -54,6 +54,14 @@ impl<B: Width> Page<B> {
         interval.lower() <= self.head && self.set.upper() <= interval.upper()
     }
 
+    /// Returns true exactly when an interval lies inside a run and meets neither of its ends.
+    pub(crate) fn has_inside(&self, interval: &Interval<B>) -> bool {
+        match self.set.run_at(interval.lower()) {
+            Some(run) => run.lower() < interval.lower() && interval.upper() < run.upper(),
+            None => false,
+        }
+    }
+
     /// Adds the members of an interval.
     pub(crate) fn insert_interval(&mut self, interval: Interval<B>) -> Result<(), AllocError> {
         self.set.insert_interval(interval)?;

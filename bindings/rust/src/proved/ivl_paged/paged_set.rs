@@ -47,6 +47,8 @@ use crate::rattle::std::alloc::{AllocError, Global};
 pub struct PagedSet<B: Width> {
     alloc: Global,
     pages: Vec<Page<B>>,
+    /// How many runs the pages have together.
+    count: usize,
 }
 
 impl<B: Width> PagedSet<B> {
@@ -70,6 +72,7 @@ impl<B: Width> PagedSet<B> {
         PagedSet {
             alloc,
             pages: Vec::new(alloc),
+            count: 0,
         }
     }
 
@@ -95,7 +98,12 @@ impl<B: Width> PagedSet<B> {
         set.in_whole();
         let alloc = set.allocator();
         let pages = pages::pages_of(alloc, set.iter().as_slice())?;
-        Ok(PagedSet { alloc, pages })
+        let count = set.interval_count();
+        Ok(PagedSet {
+            alloc,
+            pages,
+            count,
+        })
     }
 
     /// Returns true exactly when the set has no members. `O(1)`. Does not allocate.
@@ -275,9 +283,11 @@ impl<B: Width> PagedSet<B> {
         }
         interval.in_whole();
         if self.pages.is_empty() {
-            return pages::push_first(self.alloc, &mut self.pages, interval);
+            self.count = pages::push_first(self.alloc, &mut self.pages, interval)?;
+            return Ok(());
         }
-        pages::insert_interval(&mut self.pages, interval)
+        self.count = pages::insert_interval(&mut self.pages, self.count, interval)?;
+        Ok(())
     }
 
     /// Removes the members of an interval, which may be empty.
@@ -313,10 +323,12 @@ impl<B: Width> PagedSet<B> {
     ///
     /// Words: [`IsRunsOf`](crate::definitions#IsRunsOf), [`Without`](crate::definitions#Without), [`Covers`](crate::definitions#Covers), [`IsBetween`](crate::definitions#IsBetween), [`HasNone`](crate::definitions#HasNone), [`IsSubset`](crate::definitions#IsSubset), [`widened`](crate::definitions#widened).
     pub fn remove_interval(&mut self, interval: Interval<B>) -> Result<(), AllocError> {
+        self.in_whole();
         if interval.is_empty() || self.pages.is_empty() {
             return Ok(());
         }
-        pages::remove_interval(&mut self.pages, interval)
+        self.count = pages::remove_interval(&mut self.pages, self.count, interval)?;
+        Ok(())
     }
 
     /// Removes and returns the least member, or returns `None` if the set is empty. `O(log n)`; if a
@@ -415,6 +427,7 @@ impl<B: Width> PagedSet<B> {
     /// ```
     pub fn clear(&mut self) {
         self.pages.clear();
+        self.count = 0;
     }
 
     /// Does nothing: its contract states that the runs are maximal and in the range.

@@ -64,6 +64,15 @@ pub(crate) fn size_of<B: Width>(pages: &[Page<B>]) -> B::Output {
     count
 }
 
+/// How many runs a list of pages has beside those of some of them, of `count` in all.
+fn runs_beside<B: Width>(pages: &[Page<B>], count: usize) -> usize {
+    let mut others = count;
+    for page in pages {
+        others -= page.set().interval_count();
+    }
+    others
+}
+
 /// The least member that is at least `v` in the first `count` pages, which are those that start at
 /// `v` or below. Only the last of them can have it.
 pub(crate) fn next_within<B: Width>(pages: &[Page<B>], count: usize, v: B) -> Option<B> {
@@ -113,87 +122,124 @@ fn one_above<B: Width>(value: B) -> B {
     }
 }
 
-/// Puts an interval into the first page of a list that has none.
+/// Puts an interval into the first page of a list that has none. Returns how many runs there are.
 pub(crate) fn push_first<B: Width>(
     alloc: Global,
     pages: &mut Vec<Page<B>>,
     interval: Interval<B>,
-) -> Result<(), AllocError> {
+) -> Result<usize, AllocError> {
     let first = IntervalSet::of(alloc, interval)?;
+    let count = first.interval_count();
     pages.push(Page::of(first))?;
-    Ok(())
+    Ok(count)
 }
 
-/// Adds the members of an interval to pages of which there is one at least.
+/// Adds the members of an interval to pages of which there is one at least, with `count` runs.
+/// Returns how many runs there are then.
 pub(crate) fn insert_interval<B: Width>(
     pages: &mut Vec<Page<B>>,
+    count: usize,
     interval: Interval<B>,
-) -> Result<(), AllocError> {
+) -> Result<usize, AllocError> {
+    // no memory holds more runs than a `usize` counts
+    if count == usize::MAX {
+        return Err(AllocError);
+    }
     interval.in_whole();
     let upper = one_above(interval.upper());
     let (start, end) = span(pages, interval.lower(), upper);
-    insert_between(pages, start, end, interval)?;
+    let count = insert_between(pages, count, start, end, interval)?;
     balance(pages, start);
-    Ok(())
+    Ok(count)
 }
 
-/// Adds the members of an interval to the pages from `start` to before `end`.
+/// Adds the members of an interval to the pages from `start` to before `end`, where there are
+/// `count` runs in all. Returns how many there are then.
 fn insert_between<B: Width>(
     pages: &mut Vec<Page<B>>,
+    count: usize,
     start: usize,
     end: usize,
     interval: Interval<B>,
-) -> Result<(), AllocError> {
+) -> Result<usize, AllocError> {
     if end - start == 1 {
-        let page = &mut pages[start];
-        return page.insert_interval(interval);
+        return insert_into_one(pages, count, start, interval);
     }
+    let others = runs_beside(&pages[start..end], count);
     let mut joined = pages[start].set().union(pages[end - 1].set())?;
     joined.insert_interval(interval)?;
+    let here = joined.interval_count();
     replace(pages, start, end, joined);
-    Ok(())
+    Ok(others + here)
 }
 
-/// Removes the members of an interval from pages of which there is one at least.
+/// Adds the members of an interval to page `i`, where there are `count` runs in all. Returns how many
+/// there are then.
+fn insert_into_one<B: Width>(
+    pages: &mut Vec<Page<B>>,
+    count: usize,
+    i: usize,
+    interval: Interval<B>,
+) -> Result<usize, AllocError> {
+    let page = &mut pages[i];
+    let others = count - page.set().interval_count();
+    page.insert_interval(interval)?;
+    Ok(others + page.set().interval_count())
+}
+
+/// Removes the members of an interval from pages of which there is one at least, with `count` runs.
+/// Returns how many runs there are then.
 pub(crate) fn remove_interval<B: Width>(
     pages: &mut Vec<Page<B>>,
+    count: usize,
     interval: Interval<B>,
-) -> Result<(), AllocError> {
+) -> Result<usize, AllocError> {
     let (start, end) = span(pages, interval.lower(), interval.upper());
-    remove_between(pages, start, end, interval)?;
+    let count = remove_between(pages, count, start, end, interval)?;
     balance(pages, start);
-    Ok(())
+    Ok(count)
 }
 
-/// Removes the members of an interval from the pages from `start` to before `end`. Of several, the
-/// first and the last are cut, and those between removed: nothing is allocated.
+/// Removes the members of an interval from the pages from `start` to before `end`, where there are
+/// `count` runs in all. Of several, the first and the last are cut, and those between removed:
+/// nothing is allocated. Returns how many runs there are then.
 fn remove_between<B: Width>(
     pages: &mut Vec<Page<B>>,
+    count: usize,
     start: usize,
     end: usize,
     interval: Interval<B>,
-) -> Result<(), AllocError> {
+) -> Result<usize, AllocError> {
     if end - start == 1 {
-        return remove_from_one(pages, start, interval);
+        return remove_from_one(pages, count, start, interval);
     }
-    remove_from_one(pages, end - 1, interval).unwrap();
+    let count = remove_from_one(pages, count, end - 1, interval).unwrap();
+    let count = runs_beside(&pages[start + 1..end - 1], count);
     take_out(pages, start + 1, end - 1);
-    remove_from_one(pages, start, interval).unwrap();
-    Ok(())
+    let count = remove_from_one(pages, count, start, interval).unwrap();
+    Ok(count)
 }
 
-/// Removes the members of an interval from page `i`, and the page if it has no others.
+/// Removes the members of an interval from page `i`, and the page if it has no others, where there
+/// are `count` runs in all. Returns how many runs there are then.
 fn remove_from_one<B: Width>(
     pages: &mut Vec<Page<B>>,
+    count: usize,
     i: usize,
     interval: Interval<B>,
-) -> Result<(), AllocError> {
+) -> Result<usize, AllocError> {
     let page = &mut pages[i];
+    let others = count - page.set().interval_count();
     if page.lies_within(&interval) {
         pages.remove(i);
-        return Ok(());
+        return Ok(others);
     }
-    page.remove_interval(interval)
+    // no memory holds more runs than a `usize` counts
+    if count == usize::MAX && page.has_inside(&interval) {
+        return Err(AllocError);
+    }
+    page.remove_interval(interval)?;
+    Ok(others + page.set().interval_count())
 }
 
 /// Puts one page, or none if the set is empty, in the place of those from `start` to before `end`.

@@ -1,6 +1,7 @@
-use Rattle.std.proofs.Common.{◌-◌, ◌+◌, ◌++◌, [], drop, refl, take}
-use Rattle.std.proofs.lemmas.Result.{on_ok_weaker}
-use Rattle.ivl_paged.specs.Pages.{IsCutAt}
+use Rattle.std.proofs.Common.{◌≡◌, ◌-◌, ◌+◌, ◌++◌, ℤ, List, [], ap, arith, drop, length, refl, take}
+use Rattle.std.proofs.lemmas.Result.{IfOk-at_ok, on_ok_weaker}
+use Rattle.ivl_paged.specs.Pages.{IsPageCut, flattened}
+use Rattle.ivl_paged.proofs.Counting.{length_inside, length_outside}
 use Rattle.ivl_paged.proofs.Removing.{first_is_cut, first_there, last_is_cut, middle_fits, on_ok_holds, page_is_cut, removed_once, removed_twice}
 use Rattle.ivl_paged.proofs.pages.remove_between.Goals as goal
 
@@ -13,29 +14,29 @@ returns-then-end-start-eq1-clause-ok g c =
 pub returns-then-end-start-eq1-clause-in_place : goal.returns-then-end-start-eq1-clause-in_place
 returns-then-end-start-eq1-clause-in_place g c n = c.remove_from_one.ensures.in_place (page_is_cut c.args.pages.now.items c.args.interval c.args.start n)
 
-pub unwrap-requires : goal.unwrap-requires
-unwrap-requires g c =
+pub unwrap-count-requires : goal.unwrap-count-requires
+unwrap-count-requires g c =
     c.remove_from_one-2.ensures.in_place (last_is_cut c.args.pages.now.items c.args.interval c.args.start c.args.end c.requires.span c.if-end-start-eq1.false c.requires.filled)
 
 pub take_out-requires-clause-at_most : goal.take_out-requires-clause-at_most
 take_out-requires-clause-at_most g c =
     let P = c.args.pages.now.items in
     let Q = c.remove_from_one-2.new.pages.items in
-    let high : IsCutAt P c.args.interval (c.args.end - 1) Q = on_ok_holds (IsCutAt P c.args.interval (c.args.end - 1) Q) c.remove_from_one-2.result c.unwrap.result c.unwrap.ensures c.remove_from_one-2.ensures.ok in
+    let high : IsPageCut P c.args.interval (c.args.end - 1) Q = on_ok_holds (IsPageCut P c.args.interval (c.args.end - 1) Q) c.remove_from_one-2.result c.unwrap-count.result c.unwrap-count.ensures c.remove_from_one-2.ensures.ok in
     middle_fits P Q (take (c.args.start + 1) Q ++ drop (c.args.end - 1) Q) [] c.args.interval c.args.start c.args.end c.requires.runs.maximal c.requires.span c.if-end-start-eq1.false high refl
 
 pub remove_from_one-requires-3-clause-less : goal.remove_from_one-requires-3-clause-less
 remove_from_one-requires-3-clause-less g c =
     let P = c.args.pages.now.items in
     let Q = c.remove_from_one-2.new.pages.items in
-    let high : IsCutAt P c.args.interval (c.args.end - 1) Q = on_ok_holds (IsCutAt P c.args.interval (c.args.end - 1) Q) c.remove_from_one-2.result c.unwrap.result c.unwrap.ensures c.remove_from_one-2.ensures.ok in
+    let high : IsPageCut P c.args.interval (c.args.end - 1) Q = on_ok_holds (IsPageCut P c.args.interval (c.args.end - 1) Q) c.remove_from_one-2.result c.unwrap-count.result c.unwrap-count.ensures c.remove_from_one-2.ensures.ok in
     first_there P Q c.take_out.new.pages.items [] c.args.interval c.args.start c.args.end c.requires.runs.maximal c.requires.span c.if-end-start-eq1.false high c.take_out.ensures
 
-pub unwrap-requires-2 : goal.unwrap-requires-2
-unwrap-requires-2 g c =
+pub unwrap-count-requires-2 : goal.unwrap-count-requires-2
+unwrap-count-requires-2 g c =
     let P = c.args.pages.now.items in
     let Q = c.remove_from_one-2.new.pages.items in
-    let high : IsCutAt P c.args.interval (c.args.end - 1) Q = on_ok_holds (IsCutAt P c.args.interval (c.args.end - 1) Q) c.remove_from_one-2.result c.unwrap.result c.unwrap.ensures c.remove_from_one-2.ensures.ok in
+    let high : IsPageCut P c.args.interval (c.args.end - 1) Q = on_ok_holds (IsPageCut P c.args.interval (c.args.end - 1) Q) c.remove_from_one-2.result c.unwrap-count.result c.unwrap-count.ensures c.remove_from_one-2.ensures.ok in
     c.remove_from_one-3.ensures.in_place (first_is_cut P Q c.take_out.new.pages.items [] c.args.interval c.args.start c.args.end c.requires.runs.maximal c.requires.span c.if-end-start-eq1.false high c.take_out.ensures c.requires.filled)
 
 pub returns-clause-ok : goal.returns-clause-ok
@@ -44,6 +45,32 @@ returns-clause-ok g c =
     let Q = c.remove_from_one-2.new.pages.items in
     let R = c.take_out.new.pages.items in
     let T = c.remove_from_one-3.new.pages.items in
-    let high : IsCutAt P c.args.interval (c.args.end - 1) Q = on_ok_holds (IsCutAt P c.args.interval (c.args.end - 1) Q) c.remove_from_one-2.result c.unwrap.result c.unwrap.ensures c.remove_from_one-2.ensures.ok in
-    let low : IsCutAt R c.args.interval c.args.start T = on_ok_holds (IsCutAt R c.args.interval c.args.start T) c.remove_from_one-3.result c.unwrap-2.result c.unwrap-2.ensures c.remove_from_one-3.ensures.ok in
+    let high : IsPageCut P c.args.interval (c.args.end - 1) Q = on_ok_holds (IsPageCut P c.args.interval (c.args.end - 1) Q) c.remove_from_one-2.result c.unwrap-count.result c.unwrap-count.ensures c.remove_from_one-2.ensures.ok in
+    let low : IsPageCut R c.args.interval c.args.start T = on_ok_holds (IsPageCut R c.args.interval c.args.start T) c.remove_from_one-3.result c.unwrap-count-2.result c.unwrap-count-2.ensures c.remove_from_one-3.ensures.ok in
     removed_twice P Q R T c.args.interval c.args.start c.args.end c.requires.runs.maximal c.requires.span c.if-end-start-eq1.false high c.take_out.ensures low
+
+pub runs_beside-count-requires : goal.runs_beside-count-requires
+runs_beside-count-requires g c =
+    let Q = c.remove_from_one-2.new.pages.items in
+    let o = c.requires.span.in_order in
+    let several = c.if-end-start-eq1.false in
+    let i = c.args.start + 1 in
+    let j = c.args.end - 1 in
+    let count : c.unwrap-count.result ≡ length (flattened Q) = IfOk-at_ok (λ n. n ≡ length (flattened Q)) c.unwrap-count.ensures c.remove_from_one-2.ensures.count in
+    let parts = length_inside Q i j (omega (arith, o, several)) in
+    let same = ap (λ (R : List (List (ℤ × ℤ))). length (flattened (take (j - i) (drop i R)))) c.deref.ensures.value in
+    omega (arith, parts, same, count)
+
+pub remove_from_one-requires-3-clause-count : goal.remove_from_one-requires-3-clause-count
+remove_from_one-requires-3-clause-count g c =
+    let Q = c.remove_from_one-2.new.pages.items in
+    let o = c.requires.span.in_order in
+    let several = c.if-end-start-eq1.false in
+    let i = c.args.start + 1 in
+    let j = c.args.end - 1 in
+    let count : c.unwrap-count.result ≡ length (flattened Q) = IfOk-at_ok (λ n. n ≡ length (flattened Q)) c.unwrap-count.ensures c.remove_from_one-2.ensures.count in
+    let parts = length_inside Q i j (omega (arith, o, several)) in
+    let same = ap (λ (R : List (List (ℤ × ℤ))). length (flattened (take (j - i) (drop i R)))) c.deref.ensures.value in
+    let left = ap (λ (R : List (List (ℤ × ℤ))). length (flattened R)) c.take_out.ensures in
+    let outside = length_outside Q i j in
+    omega (arith, parts, same, count, left, outside, c.runs_beside-count.ensures)

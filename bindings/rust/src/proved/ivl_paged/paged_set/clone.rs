@@ -34,6 +34,7 @@ impl<B: Width> PagedSet<B> {
         Ok(PagedSet {
             alloc: self.alloc,
             pages,
+            count: self.count,
         })
     }
 }

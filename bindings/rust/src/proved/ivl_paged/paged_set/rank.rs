@@ -1,4 +1,4 @@
-//! The number of members, and members by the number of members below them.
+//! The number of runs and of members, and members by the number of members below them.
 
 #[allow(unused_imports)]
 use crate::rattle::prelude::*;
@@ -8,6 +8,28 @@ use crate::proved::intervallum::ops::Cardinality;
 use crate::proved::intervallum::width::{SizeNumber, Width};
 
 impl<B: Width> PagedSet<B> {
+    /// Returns the number of runs. `O(1)`. Does not allocate.
+    ///
+    /// ```
+    /// # use intervallum::proved::examples::*;
+    /// # fn main() -> Result<(), std::boxed::Box<dyn std::error::Error>> {
+    /// # let alloc = Global;
+    /// let mut a = PagedSet::new(alloc);
+    /// assert!(a.insert(2)? && a.insert(5)? && a.insert(6)?);
+    /// assert_eq!(a.interval_count(), 2);
+    /// # Ok(())
+    /// # }
+    /// ```
+    ///
+    /// # Proved
+    ///
+    /// ```text
+    /// ensures { result ≡ length self.now }
+    /// ```
+    pub fn interval_count(&self) -> usize {
+        self.count
+    }
+
     /// Returns the number of members. Adds up what each page has: `O(n / page)`. Never overflows.
     /// Does not allocate.
     ///

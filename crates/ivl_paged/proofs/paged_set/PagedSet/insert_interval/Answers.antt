@@ -1,5 +1,4 @@
 use Rattle.std.proofs.Common.{rules, ◌≡◌, ⊎_elim, length}
-use Rattle.std.proofs.lemmas.Result.{on_ok_weaker}
 use Rattle.ivl_laws.proofs.Adding.{untrue}
 use Rattle.ivl_laws.proofs.Intervals.{not_crossed}
 use Rattle.ivl_laws.specs.Sets.{IsBetween, Union}
@@ -19,15 +18,25 @@ pub returns-then-is_empty-clause-ok : goal.returns-then-is_empty-clause-ok
 returns-then-is_empty-clause-ok g c = adds_nothing c.args.self.now c.args.interval c.in_whole.ensures.maximal (c.is_empty.ensures.crossed.0 c.if-is_empty.true)
 
 pub invariant_of-self : goal.invariant_of-self
-invariant_of-self g c =
-    within_after g.B.Width.whole c.push_first.result (flattened c.self.inside.pages.items) _ (IsBetween c.args.interval) c.self.invariant c.in_whole-2.ensures c.push_first.ensures.ok c.push_first.ensures.err
+invariant_of-self g c = rw c.in_err-self-inside.ensures.err (c.self.invariant.0, c.self.invariant.1)
+
+pub invariant_of-self-then-is_empty-2 : goal.invariant_of-self-then-is_empty-2
+invariant_of-self-then-is_empty-2 g c = (
+  within_after g.B.Width.whole c.push_first.result (flattened c.self.inside.pages.items) _ (IsBetween c.args.interval) c.self.invariant.0 c.in_whole-2.ensures c.push_first.ensures.ok c.push_first.ensures.err,
+  c.in_ok-self-inside.ensures.count,
+)
 
 pub returns-then-is_empty-2-clause-ok : goal.returns-then-is_empty-2-clause-ok
 returns-then-is_empty-2-clause-ok g c =
     let none : length c.self.inside.pages.items ≡ 0 = search rules in
-    on_ok_weaker c.push_first.result (λ made. first_page c.self.inside.pages.items c.args.self.now _ c.args.interval none c.self.view_is made) c.push_first.ensures.ok
+    first_page c.self.inside.pages.items c.args.self.now _ c.args.interval none c.self.view_is c.in_ok-self-inside.ensures.ok
+
+pub invariant_of-self-in_err-self-inside-2 : goal.invariant_of-self-in_err-self-inside-2
+invariant_of-self-in_err-self-inside-2 g c = rw c.in_err-self-inside-2.ensures.err (c.self.invariant.0, c.self.invariant.1)
 
 pub invariant_of-self-2 : goal.invariant_of-self-2
-invariant_of-self-2 g c =
-    within_after g.B.Width.whole c.insert_interval.result (flattened c.self.inside.pages.items) _ (Union (Covers (flattened c.self.inside.pages.items)) (IsBetween c.args.interval))
-    c.self.invariant (λ z. ⊎_elim (c.self.invariant.within z) (c.in_whole-2.ensures z)) c.insert_interval.ensures.ok c.insert_interval.ensures.err
+invariant_of-self-2 g c = (
+  within_after g.B.Width.whole c.insert_interval.result (flattened c.self.inside.pages.items) _ (Union (Covers (flattened c.self.inside.pages.items)) (IsBetween c.args.interval))
+      c.self.invariant.0 (λ z. ⊎_elim (c.self.invariant.0.within z) (c.in_whole-2.ensures z)) c.insert_interval.ensures.ok c.insert_interval.ensures.err,
+  c.in_ok-self-inside-2.ensures.count,
+)

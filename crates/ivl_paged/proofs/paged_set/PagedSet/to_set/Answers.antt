@@ -16,4 +16,4 @@ returns g c =
     let P = c.deref-page-items.result.now in
     let all : c.loop-page.runs.items ≡ flattened c.self.inside.pages.items =
     c.loop-page.invariant ∙ ap flattened (take_all c.loop-page.page-index P c.loop-page-test.false ∙ c.deref-page-items.ensures.value) in
-    IfOk-weaker c.coalesce.result _ _ (λ L r. one_list c.self.inside.pages.items c.args.self.now c.loop-page.runs.items L c.self.invariant.maximal c.self.view_is all r) c.coalesce.ensures
+    IfOk-weaker c.coalesce.result _ _ (λ L r. one_list c.self.inside.pages.items c.args.self.now c.loop-page.runs.items L c.self.invariant.0.maximal c.self.view_is all r) c.coalesce.ensures
