@@ -46,3 +46,7 @@ pub mod Collecting
 pub mod Many
 pub mod MembersWithin
 pub mod Options
+pub mod Trimmed
+pub mod Placing
+pub mod Alone
+pub mod AloneSteps

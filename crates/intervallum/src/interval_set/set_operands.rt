@@ -131,7 +131,7 @@ impl<B: Width> SymmetricDifference<IntervalSet<B>> for IntervalSet<B> {
         ensures members { IfOk result (λ L. IsRunsOf L (SymmetricDifference (Covers self.now) (Covers other.now))) }
         ensures runs_at_most { IfOk result (λ L. length L ≤ length self.now + length other.now) }
     {
-        one_alone(Walk::new(self), Walk::new(other))
+        one_alone(self, other)
     }
 }
 

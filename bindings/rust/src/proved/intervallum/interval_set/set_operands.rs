@@ -184,7 +184,7 @@ impl<B: Width> SymmetricDifference<IntervalSet<B>> for IntervalSet<B> {
     ///
     /// Words: [`IsRunsOf`](crate::definitions#IsRunsOf), [`SymmetricDifference`](crate::definitions#SymmetricDifference), [`Covers`](crate::definitions#Covers).
     fn symmetric_difference(&self, other: &IntervalSet<B>) -> Result<IntervalSet<B>, AllocError> {
-        one_alone(Walk::new(self), Walk::new(other))
+        one_alone(self, other)
     }
 }
 
