@@ -1,0 +1,152 @@
+//! Searches for the points that solve constraints `x + y = z` over finite domains.
+//!
+//! A point gives each variable, named by its index from 0, a number of its domain; it is a solution
+//! if each constraint holds at it. [`solutions`] returns the solutions, none of them twice, and says
+//! whether these are all.
+//!
+//! The search narrows the domains by the constraints, takes the smallest domain that has two members
+//! or more, the first of these if there are several, and cuts it in two: the least member and the
+//! others, or halves if it has more than 64. It searches the lower part first. The order in which
+//! solutions are found is no part of the contract.
+
+#[allow(unused_imports)]
+use crate::rattle::prelude::*;
+use crate::proved::intervallum::interval_set::IntervalSet;
+use crate::proved::intervallum::width::Width;
+use crate::proved::ivl_store::store::{Constraint, StoreFault};
+use crate::rattle::std::alloc::{AllocError, Global};
+
+mod choice;
+mod descent;
+mod setup;
+mod steps;
+
+use descent::search;
+use setup::{first_unknown, network_of};
+
+/// How long a search may go on.
+#[derive(Clone, Copy, Debug, PartialEq, Eq)]
+pub struct Limits {
+    /// The search stops when it has found so many solutions.
+    pub solutions: usize,
+    /// The search visits so many nodes at most. A node is a choice of domains that it narrows, by
+    /// 10,000 narrowings at most; where these do not suffice, the same domains count as a further
+    /// node.
+    pub nodes: u64,
+}
+
+/// Why a search ended.
+#[derive(Clone, Copy, Debug, PartialEq, Eq)]
+pub enum End {
+    /// All solutions are found.
+    All,
+    /// So many solutions are found as the limit allows. There may be others.
+    Solutions,
+    /// So many nodes are visited as the limit allows, or a branch is 10,000 cuts deep. There may be
+    /// other solutions.
+    Nodes,
+}
+
+/// The solutions that a search found, and why it ended.
+#[derive(Debug)]
+pub struct Found<B> {
+    /// The solutions. Each has a number for each variable, in the order of the variables.
+    pub points: Vec<Vec<B>>,
+    /// Why the search ended.
+    pub end: End,
+}
+
+/// Why a search failed.
+#[derive(Clone, Copy, Debug, PartialEq, Eq)]
+pub enum SearchFault {
+    /// No domain has this index, which a constraint names. It is the first such index, constraint by
+    /// constraint, and within a constraint in the order `x`, `y`, `z`.
+
+    Variable(usize),
+    /// An allocation failed.
+
+    Memory,
+}
+
+impl core::fmt::Display for SearchFault {
+    fn fmt(&self, f: &mut core::fmt::Formatter<'_>) -> core::fmt::Result {
+        match self {
+            Self::Variable(x0) => write!(f, "no variable {0}", x0),
+            Self::Memory => write!(f, "memory"),
+        }
+    }
+}
+
+impl core::error::Error for SearchFault {}
+
+/// Proved, with these words of the trait:
+///
+/// ```text
+/// from_gives = { λ _ e. e ≡ Memory }
+/// ```
+impl From<AllocError> for SearchFault {
+    fn from(_: AllocError) -> SearchFault {
+        SearchFault::Memory
+    }
+}
+
+/// Returns the points that solve all the constraints over the domains, none of them twice, and
+/// whether these are all. An empty domain has no members, so there is then no solution.
+///
+/// The caller must ensure that each constraint has three different variables. Check with
+/// [`Constraint::distinct`].
+///
+/// Copies the domains once. Each node costs its narrowings and a pass over the domains; memory is
+/// that of the solutions and of the domains that one branch replaces.
+///
+/// # Errors
+///
+/// [`SearchFault::Variable`] for an unknown index, before anything else, and
+/// [`SearchFault::Memory`] if allocation fails.
+///
+/// ```
+/// # use intervallum::proved::examples::*;
+/// # fn main() -> Result<(), std::boxed::Box<dyn std::error::Error>> {
+/// # let alloc = Global;
+/// // x + y = z, for x and y from 0 to 2 and z 3 or 4: three points
+/// let low = IntervalSet::new(alloc, 0, 2)?;
+/// let domains = Vec::from_array(alloc, [ low.try_clone()?, low, IntervalSet::new(alloc, 3, 4)?])?;
+/// let constraints = [Constraint { x: 0, y: 1, z: 2 }];
+/// let limits = Limits { solutions: 100, nodes: 100_000 };
+/// let found = solutions(alloc, &domains, &constraints, limits)?;
+/// assert_eq!(found.end, End::All);
+/// assert_eq!(found.points.len(), 3);
+/// # Ok(())
+/// # }
+/// ```
+///
+/// # Proved
+///
+/// ```text
+/// requires { All AreDistinct constraints.now }
+/// ensures unknown { (i : ℕ) → (result ≡ Err (SearchFault.Variable i)) ↔ (first_unknown_of (length domains.now) constraints.now ≡ Some i) }
+/// ensures sound { IfOk result (λ found. All (Solves constraints.now domains.now) (map (λ point. map B.value point.items) found.points.items)) }
+/// ensures once { IfOk result (λ found. EachOnce (map (λ point. map B.value point.items) found.points.items)) }
+/// ensures complete { IfOk result (λ found. found.end ≡ End.All → (point : List ℤ) → Solves constraints.now domains.now point → Contains (map (λ point. map B.value point.items) found.points.items) point) }
+/// ensures bounded { IfOk result (λ found. length found.points.items ≤ limits.solutions) }
+/// ```
+///
+/// Words: [`AreDistinct`](crate::definitions#AreDistinct), [`first_unknown_of`](crate::definitions#first_unknown_of), [`Solves`](crate::definitions#Solves), [`EachOnce`](crate::definitions#EachOnce).
+pub fn solutions<B: Width>(
+    alloc: Global,
+    domains: &[IntervalSet<B>],
+    constraints: &[Constraint],
+    limits: Limits,
+) -> Result<Found<B>, SearchFault> {
+    if let Some(i) = first_unknown(constraints, domains.len()) {
+        return Err(SearchFault::Variable(i));
+    }
+    let mut network = network_of(alloc, domains, constraints)?;
+    let mut points = Vec::new(alloc);
+    let mut left = limits;
+    let end = search(alloc, &mut network, DEPTH, &mut left, &mut points)?;
+    Ok(Found { points, end })
+}
+
+// A branch is cut at most so often, so that no call overflows the stack.
+const DEPTH: u32 = 10_000;
