@@ -138,6 +138,7 @@ pub fn solutions<B: Width>(
     constraints: &[Constraint],
     limits: Limits,
 ) -> Result<Found<B>, SearchFault> {
+    debug_assert!({ #[allow(unused_imports)] use crate::proved::ivl_interval::ops::*; constraints.iter().all(Constraint::distinct) }, "{}", "the condition of `solutions` is broken: constraints.iter().all(Constraint::distinct)");
     if let Some(i) = first_unknown(constraints, domains.len()) {
         return Err(SearchFault::Variable(i));
     }
