@@ -37,7 +37,7 @@ of_met S W K N M k n e = subst (IsListWithin S W) (sym e) (of_runs S W N (record
   );
 }))
 
-no_item : (K : List (ℤ × ℤ)) → length K ≡ 0 → K ≡ []
+pub no_item : (K : List (ℤ × ℤ)) → length K ≡ 0 → K ≡ []
 no_item [] e = refl
 no_item (p ∷ K) e = absurd (omega arith)
 
