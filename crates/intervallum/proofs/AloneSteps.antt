@@ -301,10 +301,6 @@ all_alone out A B R more new n k p f s start joined S u e h l fit place room es 
     rw written (building_done (pos 1) W _ _ S (building_same (pos 1) W _ _ S same u.state)
     (run_and_more W (take (k + 1) (set out k (start, p.1))) more part put m (λ a z c r. u.state.below a z c ((same z).1 r))))
 
-pub is_none : (L : List (ℤ × ℤ)) → length L ≡ 0 → L ≡ []
-is_none [] e = refl
-is_none (p ∷ L) e = absurd (omega (arith, e))
-
 pub rest_in_range : (whole p : ℤ × ℤ) (L M R more : List (ℤ × ℤ)) (i j : ℕ) → IsRunListIn whole L → IsRunListIn whole M → R ≡ drop i L ++ drop j M →
     (drop i L ≡ []) ⊎ (drop j M ≡ []) → R ≡ p ∷ more → IsInRange whole p
 rest_in_range whole p L M R more i j l m e (inl h) k =

@@ -1,7 +1,8 @@
 -- A run that is written at a place of a list, past what is done, or in the place of the last run, which it goes on with.
-use Rattle.std.proofs.Common.{◌≡◌, Bool, true, false, IsTrue, ℕ, ◌+◌, ◌-◌, ◌≤◌, ◌<◌, ℤ, pos, ◌+ℤ◌, ◌-ℤ◌, ◌≤ℤ◌, List, [], ◌∷◌, ◌++◌, Some, length, take, set, refl, ap, sym, subst, ◌∙◌, arith}
+use Rattle.std.proofs.Common.{◌≡◌, Bool, true, false, IsTrue, ℕ, ◌+◌, ◌-◌, ◌*◌, ◌≤◌, ◌<◌, ℤ, pos, ◌+ℤ◌, ◌-ℤ◌, ◌≤ℤ◌, List, [], ◌∷◌, ◌++◌, Some, Fits, w64, length, take, set, refl, ap, sym, subst, ◌∙◌, arith}
 use Rattle.std.proofs.lemmas.Int.{ints, clamps}
 use Rattle.std.proofs.lemmas.List.{length-take-le, take-append-le, take_more_set}
+use Rattle.std.proofs.Math.Nat.{mul-le-mul_right}
 use lib.Seq.{take-take}
 use Rattle.std.specs.Int.{from_bool, int_max}
 use Rattle.std.specs.Prelude.{cond, slice_get}
@@ -51,3 +52,7 @@ put_is_last out k r h = subst (λ (L : List (ℤ × ℤ)). Some r ≡ slice_get 
 -- what a list has at its start, after it was written to as a whole
 pub kept_part : (n m k : ℕ) (new rest : List (ℤ × ℤ)) → n ≤ k → k ≡ length new → k ≡ m → take n (take m (new ++ rest)) ≡ take n new
 kept_part n m k new rest h e f = take-take n m (new ++ rest) (omega (arith, h, f)) ∙ take-append-le n new rest (omega (arith, h, e))
+
+-- how far a place lies from the start of a list fits a word, where s is the room that an item takes
+pub offset_below : (k n s : ℕ) → k ≤ n → n * s < 9223372036854775808 → Fits w64 (k * s)
+offset_below k n s h f = let le = mul-le-mul_right s h in omega (arith, le, f)

@@ -1,5 +1,5 @@
 //! The members that one of two walks has left and the other does not.
-ghost use Rattle.std.specs.Prelude.{◌≡◌, ◌+◌, ◌<◌, ◌≤◌, [], ◌++◌, ◌⊎◌, IfOk, None, OnOk, drop, length, pos, slice_set, take};
+ghost use Rattle.std.specs.Prelude.{◌≡◌, ◌+◌, ◌≤◌, [], ◌++◌, ◌⊎◌, IfOk, None, OnOk, drop, length, pos, take};
 ghost use Rattle.std.specs.Int.{from_bool};
 ghost use Rattle.ivl_laws.specs.Sets.{IsBetween, SymmetricDifference, Union, Without};
 ghost use Rattle.ivl_laws.specs.Runs.{Covers, IsMaximal, IsRunListIn, IsRunsOf};
@@ -104,7 +104,7 @@ fn put_alone<B: Width>(a: &[Interval<B>], b: &[Interval<B>], out: &mut [Interval
         start = select_unpredictable(is_joined, start, x.min(y));
         let end = upper.min(next.sub_in_range(one_if(is_filled)));
         count -= usize::from(is_joined);
-        put(out, count, Interval::new(start, end));
+        out[count] = Interval::new(start, end);
         count += usize::from(is_filled);
         let is_left = u != v;
         i += usize::from(u <= v);
@@ -117,7 +117,7 @@ fn put_alone<B: Width>(a: &[Interval<B>], b: &[Interval<B>], out: &mut [Interval
     };
     let lower = select_unpredictable(is_joined, start, head.lower_bound().max(from));
     count -= usize::from(is_joined);
-    put(out, count, Interval::new(lower, head.upper_bound()));
+    out[count] = Interval::new(lower, head.upper_bound());
     append(out, count + 1, more)
 }
 
@@ -135,14 +135,6 @@ fn left_of<'a, B: Width>(
     ensures ended { (drop i a.now ≡ []) ⊎ (drop j b.now ≡ []) }
 {
     if i < a.len() { &a[i..] } else { &b[j..] }
-}
-
-/// Writes a run at a place.
-fn put<B: Width>(out: &mut [Interval<B>], place: usize, run: Interval<B>)
-    requires { place < length out.old }
-    ensures { out.new ≡ slice_set out.old place run }
-{
-    out[place] = run;
 }
 
 /// Writes runs from a place on, and returns the place after them.

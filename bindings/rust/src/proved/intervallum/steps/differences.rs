@@ -82,7 +82,7 @@ fn put_alone<B: Width>(a: &[Interval<B>], b: &[Interval<B>], out: &mut [Interval
         start = select_unpredictable(is_joined, start, x.min(y));
         let end = upper.min(next.sub_in_range(one_if(is_filled)));
         count -= usize::from(is_joined);
-        put(out, count, Interval::new(start, end));
+        out[count] = Interval::new(start, end);
         count += usize::from(is_filled);
         let is_left = u != v;
         i += usize::from(u <= v);
@@ -95,7 +95,7 @@ fn put_alone<B: Width>(a: &[Interval<B>], b: &[Interval<B>], out: &mut [Interval
     };
     let lower = select_unpredictable(is_joined, start, head.lower_bound().max(from));
     count -= usize::from(is_joined);
-    put(out, count, Interval::new(lower, head.upper_bound()));
+    out[count] = Interval::new(lower, head.upper_bound());
     append(out, count + 1, more)
 }
 
@@ -107,11 +107,6 @@ fn left_of<'a, B: Width>(
     j: usize,
 ) -> &'a [Interval<B>] {
     if i < a.len() { &a[i..] } else { &b[j..] }
-}
-
-/// Writes a run at a place.
-fn put<B: Width>(out: &mut [Interval<B>], place: usize, run: Interval<B>) {
-    out[place] = run;
 }
 
 /// Writes runs from a place on, and returns the place after them.

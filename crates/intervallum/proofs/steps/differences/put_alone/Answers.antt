@@ -7,7 +7,9 @@ use Rattle.ivl_laws.specs.Sets.{SymmetricDifference}
 use Rattle.ivl_laws.specs.Runs.{Covers}
 use Rattle.ivl_laws.proofs.Orders.{eq_number, le_number, max_number, min_number, number_of_cond}
 use Rattle.intervallum.proofs.Alone.{alone_starts}
-use Rattle.intervallum.proofs.AloneSteps.{all_alone, alone_next, are_heads, at_place, differ, ends_alone, from_fits, is_none, next_fits, one_at_most, opened, rest_fits, rest_in_range, run_fits, some_moves, sum_same}
+use Rattle.intervallum.proofs.AloneSteps.{all_alone, alone_next, are_heads, at_place, differ, ends_alone, from_fits, next_fits, one_at_most, opened, rest_fits, rest_in_range, run_fits, some_moves, sum_same}
+use Rattle.intervallum.proofs.MembersWithin.{no_item}
+use Rattle.intervallum.proofs.Placing.{offset_below}
 use Rattle.intervallum.proofs.Pushing.{both_ends}
 use Rattle.intervallum.proofs.Unions.{same_conds}
 use Rattle.intervallum.proofs.steps.differences.put_alone.Goals as goal
@@ -120,9 +122,9 @@ walk-preserved g c =
     let one = one_at_most c.ne-is_filled.result in
     let first = one_at_most c.le-in-walk.result in
     let second = one_at_most c.le-in-walk-2.result in
-    let long : length c.put.new.out ≡ length c.walk.out = ap (λ (L : List (ℤ × ℤ)). length L) c.put.ensures ∙ length-set c.walk.out k c.new.result in
+    let long = length-set c.walk.out k c.new.result in
     record {
-      state = rw (c.put.ensures, c.new.ensures.value, c.from-count-in-walk.ensures, c.from-i.ensures, c.from-j.ensures)
+      state = rw (c.new.ensures.value, c.from-count-in-walk.ensures, c.from-i.ensures, c.from-j.ensures)
           (alone_next c.walk.out A B c.walk.count k p q (V c.walk.from) (V c.walk.start) c.walk.is_joined S u fit place room _ _ _ _ _ _ ex ey en
           c.le.result (le_number o _ _ _ c.le.ensures) eu es a b c.walk.i c.walk.j dl dm refl refl c.ne-is_filled.result (differ _ _ _ _ c.ne-is_filled.ensures (eq_number o _ _ _ refl)) ee
           (V c.add_in_range-from.result) c.eq.result (eq_number o _ _ _ c.eq.ensures) c.le-in-walk.result c.le-in-walk-2.result c.ne-is_left.result _ _
@@ -137,7 +139,7 @@ walk-preserved g c =
 
 pub returns-in_default : goal.returns-in_default
 returns-in_default g c = record {
-  members = ends_alone _ _ _ c.left_of.result.now _ _ _ _ c.left_of.ensures.left c.left_of.ensures.ended (is_none c.left_of.result.now c.in_default.ensures.cases) c.walk.invariant.state;
+  members = ends_alone _ _ _ c.left_of.result.now _ _ _ _ c.left_of.ensures.left c.left_of.ensures.ended (no_item c.left_of.result.now c.in_default.ensures.cases) c.walk.invariant.state;
   at_most = omega (arith, c.walk.invariant.room, c.walk.invariant.len);
   len = c.walk.invariant.len;
 }
@@ -167,13 +169,21 @@ returns g c =
     let first = length-drop c.walk.i c.args.a.now in
     let second = length-drop c.walk.j c.args.b.now in
     let room : k < length c.walk.out = omega (arith, c.walk.invariant.room, left, more, all, first, second) in
-    let long : length c.put-2.new.out ≡ length c.walk.out = ap (λ (L : List (ℤ × ℤ)). length L) c.put-2.ensures ∙ length-set c.walk.out k c.new-2.result in
+    let long = length-set c.walk.out k c.new-2.result in
     record {
       members = all_alone c.walk.out (drop c.walk.i c.args.a.now) (drop c.walk.j c.args.b.now) R c.in-Some.more.now _ c.walk.count k p (V c.walk.from) (V c.walk.start) start c.walk.is_joined
           (SymmetricDifference (Covers c.args.a.now) (Covers c.args.b.now)) c.walk.invariant.state c.left_of.ensures.left c.left_of.ensures.ended c.in-Some.ensures.cases.0
           (omega (arith, c.walk.invariant.room)) (omega (arith, c.from-count-2.ensures)) room es
           (c.append.ensures.written ∙ ap (λ (L : List (ℤ × ℤ)). take (k + 1) L ++ c.in-Some.more.now)
-          (c.put-2.ensures ∙ ap (λ (r : ℤ × ℤ). set c.walk.out k r) (c.new-2.ensures.value ∙ ap (λ (v : ℤ). (start, v)) c.upper_bound.ensures)));
+          (ap (λ (r : ℤ × ℤ). set c.walk.out k r) (c.new-2.ensures.value ∙ ap (λ (v : ℤ). (start, v)) c.upper_bound.ensures)));
       at_most = (let rest = c.in-Some.ensures.cases.1 in omega (arith, rest, c.append.ensures.end, c.walk.invariant.room, c.walk.invariant.len, more, all, first, second));
       len = c.append.ensures.len ∙ long ∙ c.walk.invariant.len;
     }
+
+pub offset_bounds-out-count : goal.offset_bounds-out-count
+offset_bounds-out-count g c =
+    offset_below (c.walk.count - c.from-count.result) (length c.args.out.now) _ (omega (arith, c.walk.invariant.room, c.walk.invariant.len)) c.well_formed.1.1.0.1
+
+pub offset_bounds-out-count-2 : goal.offset_bounds-out-count-2
+offset_bounds-out-count-2 g c =
+    offset_below (c.walk.count - c.from-count-2.result) (length c.args.out.now) _ (omega (arith, c.walk.invariant.room, c.walk.invariant.len)) c.well_formed.1.1.0.1
