@@ -9,6 +9,7 @@ pub mod Families
 pub mod Histories
 pub mod Indexes
 pub mod Keeping
+pub mod Kept
 pub mod Lists
 pub mod Logging
 pub mod Narrowings

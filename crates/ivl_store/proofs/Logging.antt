@@ -6,7 +6,7 @@ use Rattle.ivl_store.specs.declared.store.change.Change.{Change}
 use Rattle.ivl_store.specs.declared.store.constraint.Constraint.{Constraint}
 use Rattle.ivl_store.specs.Network.{NetworkState}
 use Rattle.ivl_store.specs.Trail.{Past, revert, past_at, with_change, IsPresent, IsSoundTrail}
-use Rattle.ivl_store.proofs.Trails.{marked_logged, marked_marked, marked_undone, sound_fewer, sound_logged, sound_marked, sound_undone}
+use Rattle.ivl_store.proofs.Trails.{SameAtMarks, marked_logged, marked_marked, marked_undone, sound_fewer, sound_logged, sound_marked, sound_undone}
 
 -- where no change is written down there is no mark, or nothing changed
 not_both : (is_kept is_change : Bool) (P Q : Type 0) → (is_kept ≡ false → P) → (is_change ≡ false → Q) → (is_kept && is_change) ≡ false → P ⊎ Q
@@ -17,14 +17,14 @@ not_both true is_change P Q p q none = inr (q none)
 
 pub logged_trail : {B O : Type 0} (marks : List ℕ) (trail trail0 trail' : List (Change B O)) (change : Change B O) (now now' : Past) (is_kept is_change : Bool)
     → IsSoundTrail marks trail now → IsPresent now' → trail0 ≡ trail → trail' ≡ with_change (is_kept && is_change) trail0 change
-    → revert change now' ≡ now → (is_kept ≡ false → marks ≡ []) → (is_change ≡ false → now' ≡ now) → IsSoundTrail marks trail' now'
+    → revert change now' ≡ now → (is_kept ≡ false → marks ≡ []) → (is_change ≡ false → SameAtMarks marks trail now now') → IsSoundTrail marks trail' now'
 logged_trail marks trail trail0 trail' change now now' is_kept is_change s p same e back unmarked unchanged =
     subst (λ t. IsSoundTrail marks t now') (sym (e ∙ ap (λ t. with_change (is_kept && is_change) t change) same))
     (sound_logged marks trail change now now' (is_kept && is_change) s p back (not_both is_kept is_change _ _ unmarked unchanged))
 
 pub logged_marks : {B O : Type 0} (marks : List ℕ) (trail trail0 trail' : List (Change B O)) (change : Change B O) (now now' : Past) (is_kept is_change : Bool)
     → IsSoundTrail marks trail now → trail0 ≡ trail → trail' ≡ with_change (is_kept && is_change) trail0 change
-    → revert change now' ≡ now → (is_kept ≡ false → marks ≡ []) → (is_change ≡ false → now' ≡ now) → map (past_at trail' now') marks ≡ map (past_at trail now) marks
+    → revert change now' ≡ now → (is_kept ≡ false → marks ≡ []) → (is_change ≡ false → SameAtMarks marks trail now now') → map (past_at trail' now') marks ≡ map (past_at trail now) marks
 logged_marks marks trail trail0 trail' change now now' is_kept is_change s same e back unmarked unchanged =
     ap (λ t. map (past_at t now') marks) (e ∙ ap (λ t. with_change (is_kept && is_change) t change) same)
     ∙ marked_logged marks trail change now now' (is_kept && is_change) s back (not_both is_kept is_change _ _ unmarked unchanged)

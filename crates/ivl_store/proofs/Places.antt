@@ -56,7 +56,7 @@ lacks inner outer m within differ =
 
 -- ---- one set narrowed_at
 
-length-replaced : (sets : List (List (ℤ × ℤ))) (i : ℕ) (left : Option (List (ℤ × ℤ))) → length (narrowed_at sets i left) ≡ length sets
+pub length-replaced : (sets : List (List (ℤ × ℤ))) (i : ℕ) (left : Option (List (ℤ × ℤ))) → length (narrowed_at sets i left) ≡ length sets
 length-replaced sets i None = refl
 length-replaced sets i (Some left) = length-set sets i left
 

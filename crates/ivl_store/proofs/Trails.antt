@@ -36,10 +36,21 @@ map_agree : {X Y : Type 0} (f g : X → Y) (d : X) (xs : List X) → ((k : ℕ) 
 map_agree f g d [] h = refl
 map_agree f g d (x ∷ xs) h = ap (λ y. y ∷ map f xs) (h 0 (omega arith)) ∙ ap (λ ys. g x ∷ ys) (map_agree f g d xs (λ k lt. h (suc k) (omega arith)))
 
+-- at its marks the network was the same
+pub record SameAtMarks {B O : Type 0} (marks : List ℕ) (trail : List (Change B O)) (now now' : Past) : Type 0 where
+  pub past : (k : ℕ) → k < length marks → past_at trail now' (get_or marks k 0) ≡ past_at trail now (get_or marks k 0)
+  pub present : (m : ℕ) → IsPresent (past_at trail now m) → IsPresent (past_at trail now' m)
+
+pub same_where_unchanged : {B O : Type 0} (marks : List ℕ) (trail : List (Change B O)) (now now' : Past) → now' ≡ now → SameAtMarks marks trail now now'
+same_where_unchanged marks trail now now' e = record {
+  past = (λ k lt. ap (λ p. past_at trail p (get_or marks k 0)) e);
+  present = (λ m h. subst (λ p. IsPresent (past_at trail p m)) (sym e) h);
+}
+
 -- ---- a change is written down, if there is a mark
 
 pub sound_logged : {B O : Type 0} (marks : List ℕ) (trail : List (Change B O)) (change : Change B O) (now now' : Past) (is_kept : Bool)
-    → IsSoundTrail marks trail now → IsPresent now' → revert change now' ≡ now → (is_kept ≡ false → (marks ≡ []) ⊎ (now' ≡ now))
+    → IsSoundTrail marks trail now → IsPresent now' → revert change now' ≡ now → (is_kept ≡ false → (marks ≡ []) ⊎ SameAtMarks marks trail now now')
     → IsSoundTrail marks (with_change is_kept trail change) now'
 sound_logged marks trail change now now' true s p back none = record {
   in_trail = (λ k lt. let a = s.in_trail k lt in omega (arith, length_push trail change));
@@ -56,7 +67,7 @@ sound_logged marks trail change now now' false s p back none = elim (none refl) 
     in_order = s.in_order;
     present = (λ k m lt low high. absurd (no_mark k e lt));
   }
-  | inr e ↦ subst (IsSoundTrail marks trail) (sym e) s
+  | inr e ↦ record { in_trail = s.in_trail; in_order = s.in_order; present = (λ k m lt low high. e.present m (s.present k m lt low high)) }
 ]
   where
     no_mark : (k : ℕ) → marks ≡ [] → k < length marks → ⊥
@@ -64,13 +75,13 @@ sound_logged marks trail change now now' false s p back none = elim (none refl) 
 
 -- the marks stand for what they stood for
 pub marked_logged : {B O : Type 0} (marks : List ℕ) (trail : List (Change B O)) (change : Change B O) (now now' : Past) (is_kept : Bool)
-    → IsSoundTrail marks trail now → revert change now' ≡ now → (is_kept ≡ false → (marks ≡ []) ⊎ (now' ≡ now))
+    → IsSoundTrail marks trail now → revert change now' ≡ now → (is_kept ≡ false → (marks ≡ []) ⊎ SameAtMarks marks trail now now')
     → map (past_at (with_change is_kept trail change) now') marks ≡ map (past_at trail now) marks
 marked_logged marks trail change now now' true s back none =
     map_agree (past_at (trail ++ change ∷ []) now') (past_at trail now) 0 marks (λ k lt. past_more trail change now now' _ back (s.in_trail k lt))
 marked_logged marks trail change now now' false s back none = elim (none refl) [
   | inl e ↦ rw e refl
-  | inr e ↦ ap (λ past. map (past_at trail past) marks) e
+  | inr e ↦ map_agree (past_at trail now') (past_at trail now) 0 marks e.past
 ]
 
 -- ---- a mark is made

@@ -1,10 +1,10 @@
 //! The changes that a network writes down from its first mark on, and how they are taken back.
-ghost use Rattle.std.specs.Prelude.{◌≡◌, ◌<◌, ◌≤◌, ◌&&◌, ◌⊎◌, [], ℕ, OnOk, false, length, take, true};
+ghost use Rattle.std.specs.Prelude.{None, slice_index_or, ◌-◌, ◌≡◌, ◌<◌, ◌≤◌, ◌&&◌, ◌⊎◌, [], ℕ, OnOk, false, length, take, true};
 ghost use Rattle.std.specs.Vec.{vec_capacity, vec_len};
 ghost use Rattle.ivl_store.specs.Keeping.{narrowed_at};
 ghost use Rattle.ivl_store.specs.Network.{IsSoundNetwork};
 ghost use Rattle.ivl_store.specs.Queue.{IsIndex, IsQueue};
-ghost use Rattle.ivl_store.specs.Trail.{IsPresent, past_at, revert, with_change};
+ghost use Rattle.ivl_store.specs.Trail.{AreKeptFrom, IsKeptFrom, IsPresent, KeepsAt, past_at, revert, with_change};
 
 use super::index::Index;
 use super::queue::Queue;
@@ -40,6 +40,137 @@ pub(super) fn log_change<B: Width>(
 {
     if is_kept && is_change {
         trail.push_reserved(change);
+    }
+}
+
+/// Whether a change is one, and has a domain that the trail does not have since the last mark.
+pub(super) fn is_unkept<B: Width>(
+    changed: bool,
+    trail: &[Change<B>],
+    marks: &[usize],
+    places: &[usize],
+    change: &Change<B>,
+) -> bool
+    ensures { result ≡ false → (changed ≡ false) ⊎ AreKeptFrom (slice_index_or marks.now (length marks.now - 1) 0) trail.now change.now }
+{
+    if !changed {
+        return false;
+    }
+    !are_kept(trail, last_mark(marks), places, change)
+}
+
+/// The place of the last mark, or 0 if there is none.
+fn last_mark(marks: &[usize]) -> usize
+    ensures { result ≡ slice_index_or marks.now (length marks.now - 1) 0 }
+{
+    let count = marks.len();
+    if count == 0 {
+        return 0;
+    }
+    marks[count - 1]
+}
+
+/// Whether the trail has each domain that a change replaced, from a place on.
+fn are_kept<B: Width>(
+    trail: &[Change<B>],
+    start: usize,
+    places: &[usize],
+    change: &Change<B>,
+) -> bool
+    ensures { result ≡ true → AreKeptFrom start trail.now change.now }
+{
+    match change {
+        Change::Domain(i, set) => is_kept(trail, start, places, *i, set),
+        Change::Domains(c, x, y, z) => {
+            if !is_kept(trail, start, places, c.x, x) {
+                return false;
+            }
+            if !is_kept(trail, start, places, c.y, y) {
+                return false;
+            }
+            is_kept(trail, start, places, c.z, z)
+        }
+        Change::Variable | Change::Require => false,
+    }
+}
+
+/// Whether there is no domain to keep, or the trail has that of the variable from a place on: a look
+/// at where it was kept last.
+fn is_kept<B: Width>(
+    trail: &[Change<B>],
+    start: usize,
+    places: &[usize],
+    variable: usize,
+    set: &Option<IntervalSet<B>>,
+) -> bool
+    ensures { result ≡ true → (set.now ≡ None) ⊎ IsKeptFrom start trail.now variable }
+{
+    if set.is_none() {
+        return true;
+    }
+    if variable >= places.len() {
+        return false;
+    }
+    let place = places[variable];
+    if place <= start || place > trail.len() {
+        return false;
+    }
+    keeps(&trail[place - 1], variable)
+}
+
+/// Whether a change has the domain of a variable that was replaced.
+fn keeps<B: Width>(change: &Change<B>, variable: usize) -> bool
+    ensures { result ≡ true → KeepsAt variable change.now }
+{
+    match change {
+        Change::Domain(i, set) => *i == variable && set.is_some(),
+        Change::Domains(c, x, y, z) => {
+            (c.x == variable && x.is_some())
+                || (c.y == variable && y.is_some())
+                || (c.z == variable && z.is_some())
+        }
+        Change::Variable | Change::Require => false,
+    }
+}
+
+/// Writes down what takes a cut back, as [`log_change`] does, and notes where.
+pub(super) fn log_cut<B: Width>(
+    trail: &mut Vec<Change<B>>,
+    places: &mut Vec<usize>,
+    is_kept: bool,
+    is_new: bool,
+    change: Change<B>,
+)
+    requires { is_kept ≡ true → vec_len trail.old < vec_capacity trail.old }
+    ensures { trail.new.items ≡ with_change (is_kept && is_new) trail.old.items change }
+{
+    if is_kept && is_new {
+        note_places(places, &change, trail.len().saturating_add(1));
+    }
+    log_change(trail, is_kept, is_new, change);
+}
+
+/// Notes the place of the trail at which a change will have the domains that it replaced.
+fn note_places<B: Width>(places: &mut Vec<usize>, change: &Change<B>, place: usize) {
+    match change {
+        Change::Domain(i, set) => note_place(places, *i, set, place),
+        Change::Domains(c, x, y, z) => {
+            note_place(places, c.x, x, place);
+            note_place(places, c.y, y, place);
+            note_place(places, c.z, z, place);
+        }
+        Change::Variable | Change::Require => {}
+    }
+}
+
+fn note_place<B: Width>(
+    places: &mut Vec<usize>,
+    variable: usize,
+    set: &Option<IntervalSet<B>>,
+    place: usize,
+) {
+    if set.is_some() && variable < places.len() {
+        places[variable] = place;
     }
 }
 

@@ -37,7 +37,9 @@ mod trail;
 
 use index::Index;
 use queue::Queue;
-use trail::{clear_unmarked, is_logging, log_change, reserve_change, revert_to};
+use trail::{
+    clear_unmarked, is_logging, is_unkept, log_change, log_cut, reserve_change, revert_to,
+};
 
 /// What [`Network::settle`] reached.
 #[derive(Clone, Copy, Debug, PartialEq, Eq)]
@@ -62,6 +64,8 @@ pub struct Network<B: Width> {
     queue: Queue,
     // What takes back each change since the first mark.
     trail: Vec<Change<B>>,
+    // For each variable a place of the trail, one more than that at which its domain was kept last.
+    places: Vec<usize>,
     // The places of the trail at which there is a mark.
     marks: Vec<usize>,
 }
@@ -91,6 +95,7 @@ impl<B: Width> Network<B> {
             index: Index::new(alloc),
             queue: Queue::new(alloc),
             trail: Vec::new(alloc),
+            places: Vec::new(alloc),
             marks: Vec::new(alloc),
         }
     }
@@ -168,9 +173,11 @@ impl<B: Width> Network<B> {
     pub fn add_variable(&mut self, domain: IntervalSet<B>) -> Result<usize, AllocError> {
         let is_kept = is_logging(&self.marks);
         reserve_change(&mut self.trail, is_kept)?;
+        self.places.reserve(1)?;
         self.index.reserve_variable()?;
         let index = self.store.add_variable(domain)?;
         self.index.push_variable();
+        self.places.push_reserved(0);
         log_change(&mut self.trail, is_kept, true, Change::Variable);
         Ok(index)
     }
@@ -281,7 +288,8 @@ impl<B: Width> Network<B> {
         let (lost, change) = self.store.restrict_swapped(variable, allowed)?;
         self.queue
             .wake(lost, &self.constraints, variable, &self.index);
-        log_change(&mut self.trail, is_kept, lost, change);
+        let is_new = is_unkept(lost, &self.trail, &self.marks, &self.places, &change);
+        log_cut(&mut self.trail, &mut self.places, is_kept, is_new, change);
         Ok(())
     }
 
@@ -357,7 +365,9 @@ impl<B: Width> Network<B> {
         let constraint = self.constraints[i];
         let (lost, change) = self.store.narrow_swapped(&constraint)?;
         self.queue.settle(i, lost, &self.constraints, &self.index);
-        log_change(&mut self.trail, is_kept, lost.any(), change);
+        let lost = lost.any();
+        let is_new = is_unkept(lost, &self.trail, &self.marks, &self.places, &change);
+        log_cut(&mut self.trail, &mut self.places, is_kept, is_new, change);
         Ok(true)
     }
 
@@ -371,7 +381,8 @@ impl<B: Width> Network<B> {
     }
 
     /// Marks the network as it is, and returns the index of the mark. From the first mark on the
-    /// network keeps each domain that is replaced, until the marks are undone or dropped. `O(1)`
+    /// network keeps domains that are replaced, until the marks are undone or dropped: what a cut or a
+    /// narrowing replaces, if it replaces a domain for the first time since the last mark. `O(1)`
     /// amortized; no domain is copied.
     ///
     /// # Errors
@@ -437,6 +448,7 @@ impl<B: Width> Network<B> {
             &mut self.queue,
         );
         self.marks.truncate(mark);
+        self.places.truncate(self.store.domains().len());
         true
     }
 

@@ -8,6 +8,7 @@ use Rattle.ivl_store.specs.Network.{AreNarrowings, IsSoundNetwork, NetworkState,
 use Rattle.ivl_store.specs.Settled.{AreLost, AreSettled, any_lost}
 use Rattle.ivl_store.specs.Solutions.{AreDistinct}
 use Rattle.ivl_store.proofs.Indexes.{index_of_count}
+use Rattle.ivl_store.proofs.Kept.{same_at_marks}
 use Rattle.ivl_store.proofs.Logging.{logged_marks, logged_trail, state_is}
 use Rattle.ivl_store.proofs.Narrowings.{all_fixed, one_narrowing, sound_moved}
 use Rattle.ivl_store.proofs.Totals.{total_falls}
@@ -48,10 +49,11 @@ invariant_of-self-2 g c =
     (subst (λ (ms : List Bool). AreSettled cs ms (set_at inside.store)) (sym c.first.ensures.settled) c.self.invariant.0.settled))
     c.self.invariant.0 in (
       sound,
-      logged_trail inside.marks.items inside.trail.items c.reserve_change.new.trail.items c.log_change.new.trail.items c.in_ok-lost.change _ _ _ c.any.result c.self.invariant.1 sound.present
-          c.reserve_change.ensures.same c.log_change.ensures (c.in_ok-lost.ensures.back cs)
+      logged_trail inside.marks.items inside.trail.items c.reserve_change.new.trail.items c.log_cut.new.trail.items c.in_ok-lost.change _ _ _ c.is_unkept-is_new.result c.self.invariant.1 sound.present
+          c.reserve_change.ensures.same c.log_cut.ensures (c.in_ok-lost.ensures.back cs)
           (λ f. sym c.deref.ensures.value ∙ c.is_logging-is_kept.ensures f)
-          (λ f. ap (λ (sets : List (List (ℤ × ℤ))). record { domains = sets; constraints = cs }) (c.in_ok-lost.ensures.same (sym c.any.ensures ∙ f))),
+          (λ f. same_at_marks inside.marks.items _ inside.trail.items _ c.in_ok-lost.change _ _ c.any-lost.result c.self.invariant.1 (c.in_ok-lost.ensures.back cs)
+          (λ none. ap (λ (sets : List (List (ℤ × ℤ))). record { domains = sets; constraints = cs }) (c.in_ok-lost.ensures.same (sym c.any-lost.ensures ∙ none))) c.deref-4.ensures.value (c.deref-3.ensures.value ∙ c.reserve_change.ensures.same) (c.is_unkept-is_new.ensures f)),
       index_of_count _ _ cs inside.index c.narrow_swapped.ensures.kept_count c.self.invariant.2,
       c.settle.ensures.queue,
     )
@@ -60,10 +62,11 @@ pub returns-clause-marked : goal.returns-clause-marked
 returns-clause-marked g c =
     let inside = c.self.inside in
     let cs = inside.constraints.items in
-    logged_marks inside.marks.items inside.trail.items c.reserve_change.new.trail.items c.log_change.new.trail.items c.in_ok-lost.change _ _ _ c.any.result c.self.invariant.1
-    c.reserve_change.ensures.same c.log_change.ensures (c.in_ok-lost.ensures.back cs)
+    logged_marks inside.marks.items inside.trail.items c.reserve_change.new.trail.items c.log_cut.new.trail.items c.in_ok-lost.change _ _ _ c.is_unkept-is_new.result c.self.invariant.1
+    c.reserve_change.ensures.same c.log_cut.ensures (c.in_ok-lost.ensures.back cs)
     (λ f. sym c.deref.ensures.value ∙ c.is_logging-is_kept.ensures f)
-    (λ f. ap (λ (sets : List (List (ℤ × ℤ))). record { domains = sets; constraints = cs }) (c.in_ok-lost.ensures.same (sym c.any.ensures ∙ f)))
+    (λ f. same_at_marks inside.marks.items _ inside.trail.items _ c.in_ok-lost.change _ _ c.any-lost.result c.self.invariant.1 (c.in_ok-lost.ensures.back cs)
+    (λ none. ap (λ (sets : List (List (ℤ × ℤ))). record { domains = sets; constraints = cs }) (c.in_ok-lost.ensures.same (sym c.any-lost.ensures ∙ none))) c.deref-4.ensures.value (c.deref-3.ensures.value ∙ c.reserve_change.ensures.same) (c.is_unkept-is_new.ensures f))
     ∙ ap (λ (s : NetworkState). s.marked) c.self.view_is
 
 pub settle-requires-clause-distinct : goal.settle-requires-clause-distinct

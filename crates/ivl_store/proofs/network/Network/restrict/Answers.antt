@@ -4,6 +4,7 @@ use Rattle.ivl_laws.specs.Families.{set_at}
 use Rattle.ivl_laws.specs.Runs.{Covers}
 use Rattle.ivl_store.specs.Network.{IsCutAt, IsSoundNetwork, NetworkState}
 use Rattle.ivl_store.proofs.Indexes.{index_of_count}
+use Rattle.ivl_store.proofs.Kept.{same_at_marks}
 use Rattle.ivl_store.proofs.Logging.{logged_marks, logged_trail}
 use Rattle.ivl_store.proofs.Narrowings.{sound_moved}
 use Rattle.ivl_store.proofs.Settled.{settled_cut}
@@ -22,10 +23,11 @@ invariant_of-self-2 g c =
     (λ j v ne was. (cut j v).1 (was, λ e. absurd (ne e))))
     c.self.invariant.0 in (
       sound,
-      logged_trail i.marks.items i.trail.items c.reserve_change.new.trail.items c.log_change.new.trail.items c.in_ok-lost.change _ _ _ c.in_ok-lost.lost c.self.invariant.1 sound.present
-          c.reserve_change.ensures.same c.log_change.ensures (c.in_ok-lost.ensures.back cs)
+      logged_trail i.marks.items i.trail.items c.reserve_change.new.trail.items c.log_cut.new.trail.items c.in_ok-lost.change _ _ _ c.is_unkept-is_new.result c.self.invariant.1 sound.present
+          c.reserve_change.ensures.same c.log_cut.ensures (c.in_ok-lost.ensures.back cs)
           (λ f. sym c.deref.ensures.value ∙ c.is_logging-is_kept.ensures f)
-          (λ f. ap (λ (sets : List (List (ℤ × ℤ))). record { domains = sets; constraints = cs }) (c.in_ok-lost.ensures.lost f)),
+          (λ f. same_at_marks i.marks.items _ i.trail.items _ c.in_ok-lost.change _ _ c.in_ok-lost.lost c.self.invariant.1 (c.in_ok-lost.ensures.back cs)
+          (λ none. ap (λ (sets : List (List (ℤ × ℤ))). record { domains = sets; constraints = cs }) (c.in_ok-lost.ensures.lost none)) c.deref-4.ensures.value (c.deref-3.ensures.value ∙ c.reserve_change.ensures.same) (c.is_unkept-is_new.ensures f)),
       index_of_count _ _ cs i.index c.restrict_swapped.ensures.kept_count c.self.invariant.2,
       c.wake.ensures.queue,
     )
@@ -34,10 +36,11 @@ pub returns-clause-marked : goal.returns-clause-marked
 returns-clause-marked g c =
     let i = c.self.inside in
     let cs = i.constraints.items in
-    logged_marks i.marks.items i.trail.items c.reserve_change.new.trail.items c.log_change.new.trail.items c.in_ok-lost.change _ _ _ c.in_ok-lost.lost c.self.invariant.1
-    c.reserve_change.ensures.same c.log_change.ensures (c.in_ok-lost.ensures.back cs)
+    logged_marks i.marks.items i.trail.items c.reserve_change.new.trail.items c.log_cut.new.trail.items c.in_ok-lost.change _ _ _ c.is_unkept-is_new.result c.self.invariant.1
+    c.reserve_change.ensures.same c.log_cut.ensures (c.in_ok-lost.ensures.back cs)
     (λ f. sym c.deref.ensures.value ∙ c.is_logging-is_kept.ensures f)
-    (λ f. ap (λ (sets : List (List (ℤ × ℤ))). record { domains = sets; constraints = cs }) (c.in_ok-lost.ensures.lost f))
+    (λ f. same_at_marks i.marks.items _ i.trail.items _ c.in_ok-lost.change _ _ c.in_ok-lost.lost c.self.invariant.1 (c.in_ok-lost.ensures.back cs)
+    (λ none. ap (λ (sets : List (List (ℤ × ℤ))). record { domains = sets; constraints = cs }) (c.in_ok-lost.ensures.lost none)) c.deref-4.ensures.value (c.deref-3.ensures.value ∙ c.reserve_change.ensures.same) (c.is_unkept-is_new.ensures f))
     ∙ ap (λ (s : NetworkState). s.marked) c.self.view_is
 
 pub returns-clause-cut : goal.returns-clause-cut
