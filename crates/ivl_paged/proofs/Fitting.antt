@@ -195,6 +195,16 @@ pub some_with : (o : Option (ℤ × ℤ)) (run : ℤ × ℤ) (X : ℤ × ℤ →
 some_with None run X e x = absurd (cc)
 some_with (Some p) run X e x = let same : run ≡ p = cc in subst X same x
 
+pub longest_of_some : (n : ℕ) (S : ℤ → Type 0) (x : ℤ) → S x → IsLongest n S → 0 < n
+longest_of_some n S x c l = let one = l.most 1 x (λ z b. let low = b.0 in let high = b.1 in let same : x ≡ z = omega (arith, ints, low, high) in subst S same c) in omega (arith, one)
+
+-- a search for as many numbers as the longest run had found some
+pub as_long_as_before : (n : ℕ) (S : ℤ → Type 0) (run : ℤ × ℤ) → ((m : ℕ) (v : ℤ) → FitsAt m S v → m ≤ n) → IsFirstFit n S run → IsLongest n S
+as_long_as_before n S run most f = record {
+  fits = (run.0, λ z b. let high = b.1 in let e = f.count in f.members z (b.0, omega (arith, ints, high, e)));
+  most = most;
+}
+
 -- ---- two lists of which one follows the other
 
 fits_in_part : (n : ℕ) (A B : List (ℤ × ℤ)) (v : ℤ) → 0 < n → IsMaximal (A ++ B) → FitsAt n (Covers (A ++ B)) v → FitsAt n (Covers A) v ⊎ FitsAt n (Covers B) v

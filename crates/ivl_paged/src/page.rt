@@ -1,9 +1,10 @@
 //! One page: a few of the runs of a set.
-ghost use Rattle.std.specs.Prelude.{◌≡◌, ◌↔◌, ◌⊎◌, ◌<◌, ◌≤◌, ℤ, ◌≤ℤ◌, IsSomeAnd, IsTrue, List, IfOk, IsOk, MatchOption, OnErr, OnOk};
+ghost use Rattle.std.specs.Prelude.{◌≡◌, ◌↔◌, ◌⊎◌, ◌<◌, ◌≤◌, ℕ, ℤ, ◌≤ℤ◌, IsSomeAnd, IsTrue, List, IfOk, IsOk, MatchOption, OnErr, OnOk};
 ghost use Rattle.ivl_laws.specs.Bounds.{width_of};
 ghost use Rattle.ivl_laws.specs.Sets.{HasSome, IsBetween, IsSubset, Union, Without};
 ghost use Rattle.ivl_laws.specs.Runs.{Covers, IsMaximal, IsRunsOf};
 ghost use Rattle.intervallum.specs.Edits.{widened};
+ghost use Rattle.intervallum.specs.FirstFit.{FitsAt};
 ghost use Rattle.intervallum.specs.Neighbours.{IsLeast};
 ghost use Rattle.ivl_paged.specs.Pages.{IsLongest};
 
@@ -121,7 +122,7 @@ impl<B: Width> Page<B> {
         let keeps = lies_in_shorter(run, interval, self.longest);
         self.set.remove_interval(interval)?;
         self.head = self.set.lower();
-        self.longest = longest_after(self.longest, keeps, self.set.runs());
+        self.longest = longest_after(self.longest, keeps, &self.set);
         Ok(())
     }
 }
@@ -160,14 +161,21 @@ fn lies_in_shorter<B: Width>(
     }
 }
 
-/// How many members the longest of the runs has that an edit left, where it may have kept the
-/// longest.
-fn longest_after<B: Width>(before: B::Output, keeps: bool, runs: &[Interval<B>]) -> B::Output
-    requires runs { IsMaximal runs.now }
-    requires kept { IsTrue keeps → IsLongest (B.Output.size before) (Covers runs.now) }
-    ensures { IsLongest (B.Output.size result) (Covers runs.now) }
+/// How many members the longest of the runs has that a removal left, where it may have kept the
+/// longest. If not, there is often another run that is as long.
+fn longest_after<B: Width>(before: B::Output, keeps: bool, set: &IntervalSet<B>) -> B::Output
+    requires some { 0 < B.Output.size before }
+    requires most { (m : ℕ) (v : ℤ) → FitsAt m (Covers set.now) v → m ≤ B.Output.size before }
+    requires kept { IsTrue keeps → IsLongest (B.Output.size before) (Covers set.now) }
+    ensures { IsLongest (B.Output.size result) (Covers set.now) }
 {
-    if keeps { before } else { longest_of(runs) }
+    if keeps {
+        return before;
+    }
+    match set.first_fit(before) {
+        Some(_) => before,
+        None => longest_of(set.runs()),
+    }
 }
 
 /// How many members the longest of some runs has.

@@ -18,8 +18,8 @@ use intervallum::width::{SizeNumber, Width};
 use std::alloc::{AllocError, Global};
 use std::hint::select_unpredictable;
 
-/// How many runs a page has at most, unless an allocation failed that would have split it. With 8 in
-/// its place, the tests split and join pages at almost every edit.
+/// A page that gets so many runs is split, unless there is no memory for it. With 8 in its place, the
+/// tests split and join pages at almost every edit.
 const MOST_RUNS: usize = 128;
 
 /// How many runs a page has at most that is looked at as one to join.
@@ -46,13 +46,15 @@ pub(crate) fn pages_of<B: Width>(
     Ok(pages)
 }
 
-/// A page of some runs, of which there is one at least.
+/// A page of some runs, of which there is one at least, with room for as many as a page has.
 fn page_of<B: Width>(alloc: Global, runs: &[Interval<B>]) -> Result<Page<B>, AllocError>
     requires runs { IsMaximal runs.now }
     requires some { 0 < length runs.now }
     ensures { IfOk result (λ L. L ≡ runs.now) }
 {
-    let set = coalesce(alloc, Vec::from_slice(alloc, runs)?)?;
+    let mut list = Vec::with_capacity(alloc, MOST_RUNS)?;
+    list.extend_from_slice(runs)?;
+    let set = coalesce(alloc, list)?;
     Ok(Page::of(set))
 }
 
@@ -390,7 +392,7 @@ fn balance<B: Width>(pages: &mut Vec<Page<B>>, i: usize)
         return;
     }
     let count = pages[i].set().interval_count();
-    if count > MOST_RUNS {
+    if count >= MOST_RUNS {
         // without memory the page grows beyond its measure
         let _split = split(pages, i);
     } else if count <= FEW_RUNS {

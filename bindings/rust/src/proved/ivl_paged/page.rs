@@ -77,7 +77,7 @@ impl<B: Width> Page<B> {
         let keeps = lies_in_shorter(run, interval, self.longest);
         self.set.remove_interval(interval)?;
         self.head = self.set.lower();
-        self.longest = longest_after(self.longest, keeps, self.set.runs());
+        self.longest = longest_after(self.longest, keeps, &self.set);
         Ok(())
     }
 }
@@ -110,10 +110,16 @@ fn lies_in_shorter<B: Width>(
     }
 }
 
-/// How many members the longest of the runs has that an edit left, where it may have kept the
-/// longest.
-fn longest_after<B: Width>(before: B::Output, keeps: bool, runs: &[Interval<B>]) -> B::Output {
-    if keeps { before } else { longest_of(runs) }
+/// How many members the longest of the runs has that a removal left, where it may have kept the
+/// longest. If not, there is often another run that is as long.
+fn longest_after<B: Width>(before: B::Output, keeps: bool, set: &IntervalSet<B>) -> B::Output {
+    if keeps {
+        return before;
+    }
+    match set.first_fit(before) {
+        Some(_) => before,
+        None => longest_of(set.runs()),
+    }
 }
 
 /// How many members the longest of some runs has.

@@ -25,9 +25,9 @@ use crate::rattle::std::alloc::{AllocError, Global};
 /// A set of integers for many runs that change. A contract sees the list of its runs, each a pair
 /// of numbers, as it does of an `IntervalSet`.
 ///
-/// The runs stand in pages of at most 128, each with its least member in the list of pages, where
-/// a search begins. An edit in one page moves the runs of that page. A page that gets more is split
-/// in two, which moves the list of pages; if there is no memory for that, the page grows. A page that
+/// The runs stand in pages of fewer than 128, each with its least member in the list of pages, where
+/// a search begins. An edit in one page moves the runs of that page. A page that gets 128 is split in
+/// two, which moves the list of pages; if there is no memory for that, the page grows. A page that
 /// gets at most half of that is joined with a neighbour if both then have at most 96. A page is
 /// removed when it is empty.
 ///
@@ -76,8 +76,8 @@ impl<B: Width> PagedSet<B> {
         }
     }
 
-    /// Returns the set with the members of another, whose runs are copied into pages of 96 runs.
-    /// `O(n)`. Fails only if allocation fails.
+    /// Returns the set with the members of another, whose runs are copied into pages of 96 runs that
+    /// have room for 128. `O(n)`. Fails only if allocation fails.
     ///
     /// ```
     /// # use intervallum::proved::examples::*;
