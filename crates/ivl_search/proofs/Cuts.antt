@@ -3,7 +3,6 @@ use Rattle.std.proofs.Common.{◌≡◌, ◌<◌, ℕ, zero, suc, ◌⊎◌, inl
 use Rattle.std.specs.Prelude.{ℤ, pos, ◌≤ℤ◌, ◌<ℤ◌, ◌+ℤ◌, ◌↔◌, All, slice_index_or}
 use Rattle.std.proofs.lemmas.Int.{ints, by_lt_z}
 use Rattle.std.proofs.lemmas.List.{same_lists, get_or_default, get_or_push}
-use Rattle.std.proofs.lemmas.List.Elements.{All-head, All-tail}
 use Rattle.std.proofs.Math.ListN.{get_or-append}
 use Rattle.ivl_laws.specs.Families.{set_at}
 use Rattle.ivl_laws.specs.Runs.{Covers, IsRunListIn}
@@ -14,8 +13,10 @@ use Rattle.ivl_store.specs.Network.{IsCutAt}
 use Rattle.ivl_store.specs.Posts.{HasEmpty}
 use Rattle.ivl_store.specs.Solutions.{HasSolutionAt, LiesWithin, SupportedBy}
 use Rattle.ivl_search.specs.declared.search.End.TheVariants.{All as AllFound}
-use Rattle.ivl_search.specs.Nodes.{IsOnlyPoint}
+use Rattle.ivl_search.specs.Nodes.{AreSingle, IsOnlyPoint}
 use Rattle.ivl_search.specs.Points.{coordinate, Finds, Solves}
+use Rattle.ivl_laws.proofs.Runs.{≤ℤ_antisymm}
+use Rattle.std.proofs.lemmas.List.Elements.{All-head, All-tail}
 use Rattle.ivl_search.proofs.Progress.{IsLeft, left_part}
 
 -- the sets that hold the numbers of a point alone
@@ -29,13 +30,10 @@ family-has [] i lt = absurd (omega (arith, lt))
 family-has (v ∷ point) zero lt = let le : v ≤ℤ v = omega (arith, ints) in inl (le, le)
 family-has (v ∷ point) (suc i) lt = family-has point i (omega (arith, lt))
 
-same_number : (x v : ℤ) → x ≤ℤ v → v ≤ℤ x → x ≡ v
-same_number x v a b = omega (arith, ints)
-
 family-only : (point : List ℤ) (i : ℕ) (v : ℤ) → set_at (family point) i v → (i < length point) × (coordinate point i ≡ v)
 unfolding family
 family-only [] i v h = absurd h
-family-only (x ∷ point) zero v (inl h) = (omega arith, same_number x v h.0 h.1)
+family-only (x ∷ point) zero v (inl h) = (omega arith, ≤ℤ_antisymm x v h.0 h.1)
 family-only (x ∷ point) zero v (inr h) = absurd h
 family-only (x ∷ point) (suc i) v h = let k = family-only point i v h in let lt = k.0 in (omega (arith, lt), k.1)
 
@@ -149,19 +147,19 @@ single_solution constraints sets one point only s =
     get_or_default point k d _ lt ∙ (only.only k known (coordinate point k)).0 (s.members k known)
     ∙ sym (get_or_default one k d _ (subst (λ n. k < n) (sym only.one_each) known)))
 
-set_in_range : (whole : ℤ × ℤ) (sets : List (List (ℤ × ℤ))) (i : ℕ) (v : ℤ) → All (IsRunListIn whole) sets → set_at sets i v → IsBetween whole v
-set_in_range whole [] i v a h = absurd h
-set_in_range whole (s ∷ sets) zero v a h = (All-head (IsRunListIn whole) s sets a).within v h
-set_in_range whole (s ∷ sets) (suc i) v a h = set_in_range whole sets i v (All-tail (IsRunListIn whole) s sets a) h
-
 -- a cut to the numbers of the range that have a property is one to all numbers that have it
 pub cut_in_range : (whole : ℤ × ℤ) (old marked new : List (List (ℤ × ℤ))) (variable : ℕ) (part : List (ℤ × ℤ)) (S : ℤ → Type 0) → All (IsRunListIn whole) old
     → SameMembers (Covers part) (Intersection (IsBetween whole) S) → marked ≡ old → IsCutAt variable (Covers part) (set_at marked) (set_at new)
     → IsCutAt variable S (set_at old) (set_at new)
 cut_in_range whole old marked new variable part S ranges same is cut i v = (
   (λ h. let k = (cut i v).0 h in (subst (λ sets. set_at sets i v) is k.0, λ e. ((same v).0 (k.1 e)).1)),
-  (λ h. (cut i v).1 (subst (λ sets. set_at sets i v) (sym is) h.0, λ e. (same v).1 (set_in_range whole old i v ranges h.0, h.1 e))),
+  (λ h. (cut i v).1 (subst (λ sets. set_at sets i v) (sym is) h.0, λ e. (same v).1 (in_range old ranges i h.0, h.1 e))),
 )
+  where
+    in_range : (sets : List (List (ℤ × ℤ))) → All (IsRunListIn whole) sets → (j : ℕ) → set_at sets j v → IsBetween whole v
+    in_range [] a j h = absurd h
+    in_range (s ∷ sets) a zero h = (All-head (IsRunListIn whole) s sets a).within v h
+    in_range (s ∷ sets) a (suc j) h = in_range sets (All-tail (IsRunListIn whole) s sets a) j h
 
 -- a point with one more number
 pub only_more : (sets : List (List (ℤ × ℤ))) (point : List ℤ) (k : ℕ) (x : ℤ) → length point ≡ k
@@ -175,3 +173,18 @@ only_more sets point k x e so_far here =
 -- the number of a set that has one member
 pub only_member : (S : ℤ → Type 0) (x y : ℤ) → SameMembers S (Only x) → S y → SameMembers S (Only y)
 only_member S x y same h = subst (λ z. SameMembers S (Only z)) (sym ((same y).0 h)) same
+
+-- sets of one member each have a point
+pub single_point : (sets : List (List (ℤ × ℤ))) → AreSingle sets → (point : List ℤ) × IsOnlyPoint sets point
+single_point [] single = ([], record { one_each = refl; only = λ i lt. absurd (omega (arith, lt)) })
+single_point (s ∷ sets) single =
+    let first = single 0 (omega arith) in
+    let rest = single_point sets (λ i lt. single (suc i) (omega (arith, lt))) in
+    let same = rest.1.one_each in
+    (first.0 ∷ rest.0, record { one_each = omega (arith, same); only = only_cons s sets first.0 rest.0 first.1 rest.1.only })
+  where
+    only_cons : (s : List (ℤ × ℤ)) (sets : List (List (ℤ × ℤ))) (x : ℤ) (point : List ℤ) → SameMembers (Covers s) (Only x)
+        → ((i : ℕ) → i < length sets → SameMembers (set_at sets i) (Only (coordinate point i)))
+        → (i : ℕ) → i < length (s ∷ sets) → SameMembers (set_at (s ∷ sets) i) (Only (coordinate (x ∷ point) i))
+    only_cons s sets x point here others zero lt = here
+    only_cons s sets x point here others (suc i) lt = others i (omega (arith, lt))

@@ -1,14 +1,23 @@
 //! The search itself: depth first, by marks of one network.
-ghost use Rattle.std.specs.Prelude.{◌≡◌, ◌≤◌, ◌+◌, ◌++◌, ℤ, List, All, IfOk, OnOk, length, map};
+ghost use Rattle.std.specs.Prelude.{◌≡◌, ◌≤◌, ◌+◌, ◌++◌, ◌∷◌, [], true, ℤ, List, All, IfOk, OnOk, length, map};
 ghost use Rattle.ivl_store.specs.Narrowing.{AllPresent};
+ghost use Rattle.ivl_search.specs.Nodes.{AreSingle, IsOnlyPoint};
 ghost use Rattle.ivl_search.specs.Points.{Finds, Solves};
 
 use super::choice::Node;
 use super::steps::{advance, enter, leave, point_of};
 use super::{End, Limits};
+use intervallum::interval_set::IntervalSet;
 use intervallum::width::Width;
 use ivl_store::network::Network;
 use std::alloc::{AllocError, Global};
+
+/// The points that a search found, if they are kept.
+#[derive(Drop)]
+pub(super) struct Kept<B> {
+    pub is_kept: bool,
+    pub points: Vec<Vec<B>>,
+}
 
 /// Adds the solutions over the domains of the network to those found, and takes them and the nodes
 /// off what is left. The network keeps its constraints and marks; its domains are narrowed.
@@ -17,14 +26,15 @@ pub(super) fn search<B: Width>(
     network: &mut Network<B>,
     depth: u32,
     left: &mut Limits,
-    found: &mut Vec<Vec<B>>,
+    found: &mut Kept<B>,
 ) -> Result<End, AllocError>
     requires { All (AllPresent (length network.old.domains)) network.old.constraints }
     ensures constraints { OnOk result (network.new.constraints ≡ network.old.constraints) }
     ensures marked { OnOk result (network.new.marked ≡ network.old.marked) }
+    ensures is_kept { OnOk result (found.new.is_kept ≡ found.old.is_kept) }
     ensures nodes { OnOk result (left.new.nodes ≤ left.old.nodes) }
     ensures finds { IfOk result (λ end. (more : List (List ℤ)) × Finds (Solves network.old.constraints network.old.domains) more end
-        × (map (λ point. map B.value point.items) found.new.items ≡ map (λ point. map B.value point.items) found.old.items ++ more)
+        × (found.old.is_kept ≡ true → map (λ point. map B.value point.items) found.new.points.items ≡ map (λ point. map B.value point.items) found.old.points.items ++ more)
         × (length more + left.new.solutions ≡ left.old.solutions)) }
 {
     while left.nodes > 0 {
@@ -36,7 +46,7 @@ pub(super) fn search<B: Width>(
             Node::Unsettled => {}
             Node::Dead => return Ok(End::All),
             Node::Leaf => {
-                found.push(point_of(alloc, network.domains())?)?;
+                keep(alloc, network.domains(), found)?;
                 left.solutions -= 1;
                 return Ok(End::All);
             }
@@ -56,4 +66,22 @@ pub(super) fn search<B: Width>(
         }
     }
     Ok(End::Nodes)
+}
+
+/// Adds the point of domains that have one member each, if points are kept.
+fn keep<B: Width>(
+    alloc: Global,
+    domains: &[IntervalSet<B>],
+    found: &mut Kept<B>,
+) -> Result<(), AllocError>
+    requires { AreSingle domains.now }
+    ensures is_kept { OnOk result (found.new.is_kept ≡ found.old.is_kept) }
+    ensures point { OnOk result ((point : List ℤ) × IsOnlyPoint domains.now point
+        × (found.old.is_kept ≡ true → map (λ p. map B.value p.items) found.new.points.items ≡ map (λ p. map B.value p.items) found.old.points.items ++ point ∷ [])) }
+{
+    if found.is_kept {
+        let point = point_of(alloc, domains)?;
+        found.points.push(point)?;
+    }
+    Ok(())
 }

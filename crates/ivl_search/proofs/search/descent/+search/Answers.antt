@@ -1,4 +1,4 @@
-use Rattle.std.proofs.Common.{◌≡◌, ◌++◌, [], List, length, map, ◌∷◌, take, get_or}
+use Rattle.std.proofs.Common.{◌≡◌, ◌++◌, [], List, length, ◌∷◌, take, get_or}
 use Rattle.std.specs.Prelude.{ℤ, ◌↔◌, All, ◌≤ℤ◌, ◌<ℤ◌}
 use Rattle.ivl_laws.specs.Families.{set_at}
 use Rattle.ivl_store.specs.Narrowing.{AllPresent}
@@ -8,15 +8,15 @@ use Rattle.ivl_store.specs.Solutions.{SupportedBy}
 use Rattle.ivl_search.specs.Nodes.{AreSingle, IsNodeOf, IsOnlyPoint}
 use Rattle.ivl_search.specs.Points.{Solves, Finds}
 use Rattle.std.proofs.Common.{ap, subst, sym, refl, arith, ◌∙◌}
-use Rattle.std.proofs.lemmas.List.{append-nil, append_assoc, length_push, length-append, map_push, get_or_push}
+use Rattle.std.proofs.lemmas.List.{append-nil, append_assoc, length_push, length-append, get_or_push}
 use Rattle.std.proofs.Math.Seq.{take-append_seam}
 use Rattle.ivl_search.specs.declared.search.End.TheVariants.{All as AllFound}
-use Rattle.ivl_search.proofs.Progress.{left_at_first, left_after, stopped_in_part, one_left}
-use Rattle.ivl_search.proofs.Cuts.{above_left, single_solves, single_solution, cut_solves}
+use Rattle.ivl_search.proofs.Progress.{left_at_first, left_after, none_left, one_left, stopped_in_part}
+use Rattle.ivl_search.proofs.Cuts.{above_left, cut_solves, none_solves, single_solution, single_solves}
 use Rattle.ivl_search.proofs.search.descent.+search.Goals as goal
 
 pub loop-left-init : goal.loop-left-init
-loop-left-init g t c = (refl, refl, refl, omega arith, [], left_at_first _, sym (append-nil _), omega arith)
+loop-left-init g t c = (refl, refl, refl, omega arith, [], left_at_first _, (λ kept. sym (append-nil _)), omega arith, refl)
 
 pub loop-left-preserved-in-Unsettled : goal.loop-left-preserved-in-Unsettled
 loop-left-preserved-in-Unsettled g t c =
@@ -32,10 +32,11 @@ loop-left-preserved-in-Unsettled g t c =
           (subst (λ cs. (point : List ℤ) → Solves cs c.loop-left.network.domains point ↔ Solves cs c.advance.new.network.domains point) v.0 c.advance.ensures.same),
       v.6,
       v.7,
+      v.8,
     )
 
-pub point_of-requires : goal.point_of-requires
-point_of-requires g t c =
+pub keep-requires : goal.keep-requires
+keep-requires g t c =
     subst AreSingle (sym c.domains.ensures.same) (subst (IsNodeOf g.B.Width.value g.B.Width.whole c.advance.new.network.domains) c.in-Leaf.is c.in_ok-advance.ensures.node)
 
 pub returns-in-Leaf-clause-finds : goal.returns-in-Leaf-clause-finds
@@ -48,17 +49,28 @@ returns-in-Leaf-clause-finds g t c =
     (subst (λ cs. (point : List ℤ) → Solves cs c.loop-left.network.domains point ↔ Solves cs sets point) v.0 c.in_ok-advance.ensures.same) in
     let present = subst (λ n. All (AllPresent n) cs) (sym (c.in_ok-advance.ensures.kept_count ∙ v.2)) c.requires in
     let supported = subst (λ cs. SupportedBy cs (set_at sets)) v.0 (c.in_ok-advance.ensures.supported c.in-Leaf.is) in
-    let one = map g.B.Width.value c.in_ok-point_of-in-Leaf.field-0.items in
-    let only : IsOnlyPoint sets one = subst (λ sets. IsOnlyPoint sets one) c.domains.ensures.same c.in_ok-point_of-in-Leaf.ensures in
+    let point = c.in_ok-keep-in-Leaf.ensures.point in
+    let one = point.0 in
+    let only : IsOnlyPoint sets one = subst (λ sets. IsOnlyPoint sets one) c.domains.ensures.same point.1 in
     let left = c.if-left-eq0.false in
     let so_far = v.7 in
     let more = length_push v.4 one in (
       v.4 ++ one ∷ [],
       one_left (Solves cs start) (Solves cs sets) v.4 one AllFound l (single_solves cs sets one present supported only) (λ point s. single_solution cs sets one point only s),
-      ap (map (λ point. map g.B.Width.value point.items)) c.in_ok-push-in-Leaf.ensures.items ∙ map_push (λ point. map g.B.Width.value point.items) c.loop-left.found.items c.in_ok-point_of-in-Leaf.field-0
-          ∙ ap (λ points. points ++ one ∷ []) v.6 ∙ append_assoc _ v.4 (one ∷ []),
+      (λ kept. point.2 (v.8 ∙ kept) ∙ ap (λ points. points ++ one ∷ []) (v.6 kept) ∙ append_assoc _ v.4 (one ∷ [])),
       omega (arith, more, so_far, left),
     )
+
+pub returns-in-Dead-clause-finds : goal.returns-in-Dead-clause-finds
+returns-in-Dead-clause-finds g t c =
+    let v = c.loop-left.invariant in
+    let cs = c.args.network.now.constraints in
+    let start = c.args.network.now.domains in
+    let sets = c.advance.new.network.domains in
+    let l = left_after (Solves cs start) (Solves cs c.loop-left.network.domains) (Solves cs sets) v.4 v.5
+    (subst (λ cs. (point : List ℤ) → Solves cs c.loop-left.network.domains point ↔ Solves cs sets point) v.0 c.in_ok-advance.ensures.same) in
+    let dead = subst (IsNodeOf g.B.Width.value g.B.Width.whole sets) c.in-Dead.is c.in_ok-advance.ensures.node in
+    (v.4, none_left (Solves cs start) (Solves cs sets) v.4 AllFound l (none_solves cs sets dead), v.6, v.7)
 
 pub returns-in_default-clause-finds : goal.returns-in_default-clause-finds
 returns-in_default-clause-finds g t c =
@@ -79,7 +91,7 @@ returns-in_default-clause-finds g t c =
       v.4 ++ f.0,
       stopped_in_part (Solves cs start) (Solves cs sets) (Solves cs low) v.4 f.0 c.in_ok-end-in-Open.end l finds c.in_default.not-All
           (λ point s. ((cut_solves cs sets low c.in-Open.variable (λ v. v ≤ℤ g.B.Width.value c.in-Open.value) c.in_ok-mark-in-Open.ensures.kept_count open_node.0 c.in_ok-mark-in-Open.ensures.cut point).0 s).0),
-      f.2 ∙ ap (λ points. points ++ f.0) v.6 ∙ append_assoc _ v.4 f.0,
+      (λ kept. f.2 (v.8 ∙ kept) ∙ ap (λ points. points ++ f.0) (v.6 kept) ∙ append_assoc _ v.4 f.0),
       omega (arith, so_far, more, both),
     )
 
@@ -118,6 +130,7 @@ loop-left-preserved g t c =
       v.4 ++ f.0,
       above_left (Solves cs start) v.4 f.0 cs sets low c.leave.new.network.domains c.in-Open.variable (g.B.Width.value c.in-Open.value) l finds open_node.0
           c.in_ok-mark-in-Open.ensures.kept_count c.in_ok-mark-in-Open.ensures.cut cut.1 cut.2,
-      f.2 ∙ ap (λ points. points ++ f.0) v.6 ∙ append_assoc _ v.4 f.0,
+      (λ kept. f.2 (v.8 ∙ kept) ∙ ap (λ points. points ++ f.0) (v.6 kept) ∙ append_assoc _ v.4 f.0),
       omega (arith, so_far, more, both),
+      c.in_ok-end-in-Open.ensures.is_kept ∙ v.8,
     )
