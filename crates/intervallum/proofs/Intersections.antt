@@ -83,9 +83,6 @@ ends_by x y a b e f h = omega (arith, ints)
 pub ends_before : (x y a b : ℤ) → x ≡ a → y ≡ b → x <ℤ y → a <ℤ b
 ends_before x y a b e f h = omega (arith, ints)
 
-pub starts_before : (x y a b : ℤ) → x ≡ a → y ≡ b → x <ℤ y → a ≤ℤ b
-starts_before x y a b e f h = omega (arith, ints)
-
 -- ---- a list that has nothing left
 
 pub none_first : (A B : List (ℤ × ℤ)) → None ≡ slice_get A 0 → HasNone (Intersection (Covers A) (Covers B))

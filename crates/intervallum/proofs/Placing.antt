@@ -18,11 +18,6 @@ abbrev pub MeetsAt : Bool → List (ℤ × ℤ) → ℤ → ℤ → (ℤ → Typ
 MeetsAt true W s f R = (Some (s, f -ℤ pos 1) ≡ slice_get W (length W - 1)) × R f
 MeetsAt false W s f R = IsBelow (pos 2) (Covers W) R
 
-pub meets_some : (joined : Bool) (W : List (ℤ × ℤ)) (s f : ℤ) (R : ℤ → Type 0) → MeetsAt joined W s f R → from_bool joined ≤ length W
-meets_some true [] s f R h = let e = h.0 in absurd (cc)
-meets_some true (p ∷ W) s f R h = omega arith
-meets_some false W s f R h = omega arith
-
 -- a run that is written, where r is what stands in its place then
 pub put_run : (joined : Bool) (out : List (ℤ × ℤ)) (n k : ℕ) (s f : ℤ) (part r : ℤ × ℤ) (R : ℤ → Type 0) → n ≤ length out → k ≡ n - from_bool joined → k < length out →
     IsMaximal (take n out) → MeetsAt joined (take n out) s f R → (IsTrue joined → part.0 ≡ f) → (joined ≡ false → IsBelow (pos 2) (Covers (take n out)) (IsBetween part)) →

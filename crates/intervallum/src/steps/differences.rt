@@ -1,4 +1,4 @@
-//! The members that one of two walks has left and the other does not.
+//! The members that one of two walks, or of two sets, has and the other does not.
 ghost use Rattle.std.specs.Prelude.{◌≡◌, ◌+◌, ◌≤◌, [], ◌++◌, ◌⊎◌, IfOk, None, OnOk, drop, length, pos, take};
 ghost use Rattle.std.specs.Int.{from_bool};
 ghost use Rattle.ivl_laws.specs.Sets.{IsBetween, SymmetricDifference, Union, Without};

@@ -1,4 +1,4 @@
-//! The members that one of two walks has left and the other does not.
+//! The members that one of two walks, or of two sets, has and the other does not.
 
 #[allow(unused_imports)]
 use crate::rattle::prelude::*;
