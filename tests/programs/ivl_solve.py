@@ -45,16 +45,17 @@ def supported(domains, sums):
 class Solver:
     """Domains as sets of their members, in the order in which they were defined.
 
-    Narrowings are made in the order of the sums, round and round; a sum is passed over while nothing that it names has
-    changed since it narrowed. This tells which domains an unfinished line leaves; those of any other are compared with
-    `supported`.
+    Narrowings are made in rounds: a sum whose domains have changed since it narrowed waits for the next round, and of a
+    round that which waits last comes first. This tells which domains an unfinished line leaves; those of any other are
+    compared with `supported`.
     """
 
     def __init__(self):
         self.domains = {}
         self.sums = []
         self.is_settled = []
-        self.next = 0
+        self.round = []
+        self.later = []
         self.limit = 10**6
         self.progress = b"ok"
 
@@ -137,6 +138,7 @@ class Solver:
             return self.state()
         if name == b"sum" and tuple(words) not in self.sums:
             self.sums.append(tuple(words))
+            self.later.append(len(self.is_settled))
             self.is_settled.append(False)
         if name in (b"var", b"cut"):
             numbers = [number(word) for word in words[1:]]
@@ -152,26 +154,30 @@ class Solver:
     def replace(self, name, members):
         if members != self.domains[name]:
             self.domains[name] = members
-            self.is_settled = [settled and name not in names for settled, names in zip(self.is_settled, self.sums)]
+            for place in reversed(range(len(self.sums))):
+                if self.is_settled[place] and name in self.sums[place]:
+                    self.is_settled[place] = False
+                    self.later.append(place)
 
-    def unsettled(self):
-        """The first sum from where the last search ended that is not settled, or None."""
-        places = [*range(self.next, len(self.sums)), *range(len(self.sums))]
-        return next((place for place in places if not self.is_settled[place]), None)
+    def first(self):
+        """The sum that narrows next, or None."""
+        if not self.round:
+            self.round, self.later = self.later, self.round
+        return self.round[-1] if self.round else None
 
     def settle(self):
         left = supported(dict(self.domains), self.sums)
         count = 0
-        while count < self.limit and (place := self.unsettled()) is not None:
+        while count < self.limit and (place := self.first()) is not None:
             x, y, z = self.sums[place]
             a, b, c = self.domains[x], self.domains[y], self.domains[z]
             self.replace(x, {u for u in a if any(u + v in c for v in b)})
             self.replace(y, {v for v in b if any(u + v in c for u in a)})
             self.replace(z, {w for w in c if any(w - v in a for v in b)})
+            self.round.pop()
             self.is_settled[place] = True
-            self.next = place + 1
             count += 1
-        self.progress = b"ok" if self.unsettled() is None else b"unfinished"
+        self.progress = b"ok" if all(self.is_settled) else b"unfinished"
         assert self.progress != b"ok" or self.domains == left
         assert all(left[name] <= members for name, members in self.domains.items())
 
