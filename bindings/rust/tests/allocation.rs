@@ -1,5 +1,6 @@
 //! Each allocation of each call fails in turn: the call returns an error, or its answer where only
 //! shrinking failed, operands are unchanged, and the process goes on.
+use intervallum::proved::ivl_paged::PagedSet;
 use intervallum::proved::prelude::*;
 use intervallum::proved::{AllocError, Global};
 use std::alloc::{GlobalAlloc, Layout, System};
@@ -115,4 +116,86 @@ fn each_allocation_fails_in_turn() {
         }
     }
     println!("{calls} calls, {failures} failed allocations, {errors} errors");
+}
+
+type Paged = PagedSet<i32>;
+type PagedEdit = fn(&mut Paged) -> Result<(), AllocError>;
+
+// Of pages: a run more, which splits a page of 127; runs split; pages joined and removed.
+const PAGED_EDITS: [(&str, PagedEdit); 10] = [
+    ("insert", |a| a.insert(4).map(drop)),
+    ("insert above all", |a| a.insert(100_000).map(drop)),
+    ("insert_interval", |a| a.insert_interval(Interval::new(4, 6))),
+    ("insert_interval over pages", |a| a.insert_interval(Interval::new(30, 1500))),
+    ("remove", |a| a.remove(1).map(drop)),
+    ("remove_interval", |a| a.remove_interval(Interval::new(10, 10))),
+    ("remove_interval over pages", |a| a.remove_interval(Interval::new(10, 1500))),
+    ("remove_interval of most of a page", |a| a.remove_interval(Interval::new(8, 600))),
+    ("take_first_fit", |a| Ok(_ = a.take_first_fit(3))),
+    ("try_clone", |a| a.try_clone().map(|copy| *a = copy)),
+];
+
+fn is_same(a: &Paged, b: &Paged) -> bool {
+    a == b && a.interval_count() == b.interval_count() && a.iter().count() == a.interval_count() && a.size() == b.size()
+}
+
+/// Makes an edit with one allocation after another refused, on the set that `made` makes.
+fn refused_in_turn(name: &str, made: &dyn Fn() -> Paged, edit: PagedEdit) -> (u32, u32) {
+    let (old, mut want) = (made(), made());
+    edit(&mut want).unwrap();
+    let (mut failures, mut errors) = (0, 0);
+    for at in 0.. {
+        let mut a = made();
+        FAILED.set(0);
+        LEFT.set(at);
+        let got = edit(&mut a);
+        LEFT.set(-1);
+        if FAILED.get() == 0 {
+            assert!(got == Ok(()) && is_same(&a, &want), "{name}");
+            break;
+        }
+        failures += 1;
+        errors += u32::from(got.is_err());
+        assert!(is_same(&a, if got.is_ok() { &want } else { &old }), "{name}");
+        // a page that could not be split or joined is one still
+        assert!(a.insert(200_000) == Ok(true) && a.remove(200_000) == Ok(true), "{name}");
+        assert!(is_same(&a, if got.is_ok() { &want } else { &old }), "{name}");
+    }
+    (failures, errors)
+}
+
+#[test]
+fn each_allocation_of_a_paged_set_fails_in_turn() {
+    let (mut failures, mut errors) = (0, 0);
+    for count in [0, 1, 4, 64, 95, 96, 97, 126, 127, 128, 192, 300, 1000] {
+        let list = pairs(count, 9, 0);
+        for (name, edit) in PAGED_EDITS {
+            // with room in its pages, and, as a copy has none, without
+            let roomy = || Paged::of_set(&list).unwrap();
+            let exact = || roomy().try_clone().unwrap();
+            for (f, e) in [refused_in_turn(name, &roomy, edit), refused_in_turn(name, &exact, edit)] {
+                failures += f;
+                errors += e;
+            }
+        }
+        for at in 0.. {
+            FAILED.set(0);
+            LEFT.set(at);
+            let paged = Paged::of_set(&list);
+            let listed = paged.as_ref().map(Paged::to_set);
+            LEFT.set(-1);
+            assert!(list == pairs(count, 9, 0));
+            match listed {
+                Ok(Ok(all)) => assert!(all == list),
+                _ => errors += 1,
+            }
+            if FAILED.get() == 0 {
+                break;
+            }
+            failures += 1;
+        }
+    }
+    println!("{failures} failed allocations, {errors} errors");
+    // most are errors; after the others a page stays one that could have been split or joined
+    assert!(errors > 0 && failures > errors);
 }
