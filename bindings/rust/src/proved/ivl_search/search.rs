@@ -1,0 +1,274 @@
+//! Searches for the points that solve constraints `x + y = z` over finite domains.
+//!
+//! A point gives each variable, named by its index from 0, a number of its domain; it is a solution
+//! if each constraint holds at it. [`solutions`] returns the solutions, none of them twice, and says
+//! whether these are all.
+//!
+//! The search narrows the domains by the constraints, takes the smallest domain that has two members
+//! or more, the first of these if there are several, and cuts it in two: the least member and the
+//! others, or halves if it has more than 64. It searches the lower part first. The order in which
+//! solutions are found is no part of the contract.
+
+#[allow(unused_imports)]
+use crate::rattle::prelude::*;
+use crate::proved::intervallum::interval_set::IntervalSet;
+use crate::proved::intervallum::width::Width;
+use crate::proved::ivl_store::store::Constraint;
+use crate::rattle::std::alloc::{AllocError, Global};
+
+mod choice;
+mod descent;
+mod setup;
+mod steps;
+
+use descent::{Kept, search};
+use setup::{first_unknown, network_of};
+
+/// How long a search may go on.
+#[derive(Clone, Copy, Debug, PartialEq, Eq)]
+pub struct Limits {
+    /// The search stops when it has found so many solutions.
+    pub solutions: usize,
+    /// The search visits so many nodes at most. A node is a choice of domains that it narrows, by
+    /// 10,000 narrowings at most; where these do not suffice, the same domains count as a further
+    /// node.
+    pub nodes: u64,
+}
+
+/// Why a search ended.
+#[derive(Clone, Copy, Debug, PartialEq, Eq)]
+pub enum End {
+    /// All solutions are found.
+    All,
+    /// So many solutions are found as the limit allows. There may be others.
+    Solutions,
+    /// So many nodes are visited as the limit allows, or a branch is 4,000 cuts deep. There may be
+    /// other solutions.
+    Nodes,
+}
+
+/// The solutions that a search found, and why it ended.
+#[derive(Debug)]
+pub struct Found<B> {
+    /// The solutions. Each has a number for each variable, in the order of the variables.
+    pub points: Vec<Vec<B>>,
+    /// Why the search ended.
+    pub end: End,
+}
+
+/// Why a search failed.
+#[derive(Clone, Copy, Debug, PartialEq, Eq)]
+pub enum SearchFault {
+    /// No domain has this index, which a constraint names. It is the first such index, constraint by
+    /// constraint, and within a constraint in the order `x`, `y`, `z`.
+
+    Variable(usize),
+    /// An allocation failed.
+
+    Memory,
+}
+
+impl core::fmt::Display for SearchFault {
+    fn fmt(&self, f: &mut core::fmt::Formatter<'_>) -> core::fmt::Result {
+        match self {
+            Self::Variable(x0) => write!(f, "no variable {0}", x0),
+            Self::Memory => write!(f, "memory"),
+        }
+    }
+}
+
+impl core::error::Error for SearchFault {}
+
+/// Proved, with these words of the trait:
+///
+/// ```text
+/// from_gives = { λ _ e. e ≡ Memory }
+/// ```
+impl From<AllocError> for SearchFault {
+    fn from(_: AllocError) -> SearchFault {
+        SearchFault::Memory
+    }
+}
+
+/// Returns the points that solve all the constraints over the domains, none of them twice, and
+/// whether these are all. An empty domain has no members, so there is then no solution.
+///
+/// The caller must ensure that each constraint has three different variables. Check with
+/// [`Constraint::distinct`], or [`all_distinct`] for a list.
+///
+/// Copies the domains once. Each node costs its narrowings and a pass over the domains; memory is
+/// that of the solutions and of the domains that one branch replaces.
+///
+/// # Errors
+///
+/// [`SearchFault::Variable`] for an unknown index, before anything else, and
+/// [`SearchFault::Memory`] if allocation fails.
+///
+/// ```
+/// # use intervallum::proved::examples::*;
+/// # fn main() -> Result<(), std::boxed::Box<dyn std::error::Error>> {
+/// # let alloc = Global;
+/// // x + y = z, for x and y from 0 to 2 and z 3 or 4: three points
+/// let low = IntervalSet::new(alloc, 0, 2)?;
+/// let domains = Vec::from_array(alloc, [ low.try_clone()?, low, IntervalSet::new(alloc, 3, 4)?])?;
+/// let constraints = [Constraint { x: 0, y: 1, z: 2 }];
+/// let limits = Limits { solutions: 100, nodes: 100_000 };
+/// let found = solutions(alloc, &domains, &constraints, limits)?;
+/// assert_eq!(found.end, End::All);
+/// assert_eq!(found.points.len(), 3);
+/// # Ok(())
+/// # }
+/// ```
+///
+/// # Proved
+///
+/// ```text
+/// requires { All AreDistinct constraints.now }
+/// ensures unknown { (i : ℕ) → (result ≡ Err (SearchFault.Variable i)) ↔ (first_unknown_of (length domains.now) constraints.now ≡ Some i) }
+/// ensures sound { IfOk result (λ found. All (Solves constraints.now domains.now) (map (λ point. map B.value point.items) found.points.items)) }
+/// ensures once { IfOk result (λ found. EachOnce (map (λ point. map B.value point.items) found.points.items)) }
+/// ensures complete { IfOk result (λ found. found.end ≡ End.All → (point : List ℤ) → Solves constraints.now domains.now point → Contains (map (λ point. map B.value point.items) found.points.items) point) }
+/// ensures bounded { IfOk result (λ found. length found.points.items ≤ limits.solutions) }
+/// ```
+///
+/// Words: [`AreDistinct`](crate::definitions#AreDistinct), [`first_unknown_of`](crate::definitions#first_unknown_of), [`Solves`](crate::definitions#Solves), [`EachOnce`](crate::definitions#EachOnce).
+pub fn solutions<B: Width>(
+    alloc: Global,
+    domains: &[IntervalSet<B>],
+    constraints: &[Constraint],
+    limits: Limits,
+) -> Result<Found<B>, SearchFault> {
+    debug_assert!({ #[allow(unused_imports)] use crate::proved::ivl_interval::ops::*; all_distinct(constraints) }, "{}", "the condition of `solutions` is broken: all_distinct(constraints)");
+    if let Some(i) = first_unknown(constraints, domains.len()) {
+        return Err(SearchFault::Variable(i));
+    }
+    let mut network = network_of(alloc, domains, constraints)?;
+    let mut left = limits;
+    let points = Vec::new(alloc);
+    let mut found = Kept {
+        is_kept: true,
+        points,
+    };
+    let end = search(alloc, &mut network, DEPTH, &mut left, &mut found)?;
+    Ok(Found {
+        points: found.points,
+        end,
+    })
+}
+
+/// Searches as [`solutions`] does, without its condition: returns `None` if a constraint has a
+/// variable twice.
+///
+/// # Errors
+///
+/// Those of [`solutions`], and only if each constraint has three different variables.
+///
+/// # Proved
+///
+/// ```text
+/// ensures none { IfOk result (λ o. IsNone o ↔ (¬ (All AreDistinct constraints.now))) }
+/// ensures unknown { (i : ℕ) → (result ≡ Err (SearchFault.Variable i)) ↔ (All AreDistinct constraints.now × (first_unknown_of (length domains.now) constraints.now ≡ Some i)) }
+/// ensures sound { IfOk result (λ o. IfSome o (λ found. All (Solves constraints.now domains.now) (map (λ point. map B.value point.items) found.points.items))) }
+/// ensures once { IfOk result (λ o. IfSome o (λ found. EachOnce (map (λ point. map B.value point.items) found.points.items))) }
+/// ensures complete { IfOk result (λ o. IfSome o (λ found. found.end ≡ End.All → (point : List ℤ) → Solves constraints.now domains.now point → Contains (map (λ point. map B.value point.items) found.points.items) point)) }
+/// ensures bounded { IfOk result (λ o. IfSome o (λ found. length found.points.items ≤ limits.solutions)) }
+/// ```
+///
+/// Words: [`AreDistinct`](crate::definitions#AreDistinct), [`first_unknown_of`](crate::definitions#first_unknown_of), [`Solves`](crate::definitions#Solves), [`EachOnce`](crate::definitions#EachOnce).
+pub fn try_solutions<B: Width>(
+    alloc: Global,
+    domains: &[IntervalSet<B>],
+    constraints: &[Constraint],
+    limits: Limits,
+) -> Result<Option<Found<B>>, SearchFault> {
+    if all_distinct(constraints) {
+        match solutions(alloc, domains, constraints, limits) {
+            Ok(found) => Ok(Some(found)),
+            Err(fault) => Err(fault),
+        }
+    } else {
+        Ok(None)
+    }
+}
+
+/// Returns true exactly when each constraint has three different variables. Then they may be passed
+/// to [`solutions`] and [`count`]. Linear, does not allocate.
+///
+/// ```
+/// # use intervallum::proved::examples::*;
+/// # fn main() -> Result<(), std::boxed::Box<dyn std::error::Error>> {
+/// # let alloc = Global;
+/// assert!(all_distinct(&[Constraint { x: 0, y: 1, z: 2 }]));
+/// assert!(!all_distinct(&[Constraint { x: 0, y: 1, z: 2 }, Constraint { x: 0, y: 0, z: 2 }]));
+/// # Ok(())
+/// # }
+/// ```
+///
+/// # Proved
+///
+/// ```text
+/// ensures { IsTrue result ↔ All AreDistinct constraints.now }
+/// ```
+///
+/// Words: [`AreDistinct`](crate::definitions#AreDistinct).
+pub fn all_distinct(constraints: &[Constraint]) -> bool {
+    constraints.iter().all(|c| c.distinct())
+}
+
+/// Counts the points that [`solutions`] would return with the same limits, and keeps none of them.
+/// The count is that of all solutions if the search ended with [`End::All`], and that of some of
+/// them if not.
+///
+/// The caller must ensure that each constraint has three different variables. Check with
+/// [`Constraint::distinct`], or [`all_distinct`] for a list.
+///
+/// # Errors
+///
+/// Those of [`solutions`].
+///
+/// ```
+/// # use intervallum::proved::examples::*;
+/// # fn main() -> Result<(), std::boxed::Box<dyn std::error::Error>> {
+/// # let alloc = Global;
+/// // x + y = z, for x and y from 0 to 2 and z 3 or 4: three points
+/// let low = IntervalSet::new(alloc, 0, 2)?;
+/// let domains = Vec::from_array(alloc, [ low.try_clone()?, low, IntervalSet::new(alloc, 3, 4)?])?;
+/// let constraints = [Constraint { x: 0, y: 1, z: 2 }];
+/// let limits = Limits { solutions: 100, nodes: 100_000 };
+/// assert_eq!(count(alloc, &domains, &constraints, limits)?, (3, End::All));
+/// # Ok(())
+/// # }
+/// ```
+///
+/// # Proved
+///
+/// ```text
+/// requires { All AreDistinct constraints.now }
+/// ensures unknown { (i : ℕ) → (result ≡ Err (SearchFault.Variable i)) ↔ (first_unknown_of (length domains.now) constraints.now ≡ Some i) }
+/// ensures counted { IfOk result (λ r. (points : List (List ℤ)) × (length points ≡ r.0) × Finds (Solves constraints.now domains.now) points r.1) }
+/// ensures bounded { IfOk result (λ r. r.0 ≤ limits.solutions) }
+/// ```
+///
+/// Words: [`AreDistinct`](crate::definitions#AreDistinct), [`first_unknown_of`](crate::definitions#first_unknown_of), [`Finds`](crate::definitions#Finds), [`Solves`](crate::definitions#Solves).
+pub fn count<B: Width>(
+    alloc: Global,
+    domains: &[IntervalSet<B>],
+    constraints: &[Constraint],
+    limits: Limits,
+) -> Result<(usize, End), SearchFault> {
+    debug_assert!({ #[allow(unused_imports)] use crate::proved::ivl_interval::ops::*; all_distinct(constraints) }, "{}", "the condition of `count` is broken: all_distinct(constraints)");
+    if let Some(i) = first_unknown(constraints, domains.len()) {
+        return Err(SearchFault::Variable(i));
+    }
+    let mut network = network_of(alloc, domains, constraints)?;
+    let mut left = limits;
+    let mut found = Kept {
+        is_kept: false,
+        points: Vec::new(alloc),
+    };
+    let end = search(alloc, &mut network, DEPTH, &mut left, &mut found)?;
+    Ok((limits.solutions - left.solutions, end))
+}
+
+// A branch is cut at most so often, so that no call overflows the stack.
+const DEPTH: u32 = 4_000;

@@ -1,0 +1,94 @@
+//! What a search does with narrowed domains, and where it cuts one.
+
+#[allow(unused_imports)]
+use crate::rattle::prelude::*;
+use crate::proved::intervallum::interval_set::IntervalSet;
+use crate::proved::intervallum::ops::{Cardinality, IsEmpty, IsSingleton};
+use crate::proved::intervallum::width::{SizeNumber, Width};
+use crate::rattle::std::alloc::{AllocError, Global};
+
+/// What a search finds at domains.
+#[derive(Clone, Copy, Debug)]
+pub(super) enum Node<B> {
+    /// They have to be narrowed further.
+    Unsettled,
+    /// One is empty.
+    Dead,
+    /// Each has one member.
+    Leaf,
+    /// The domain of this variable is to be cut at this value.
+    Open(usize, B),
+}
+
+/// Which domain has the fewest members but two at least, and where it is cut.
+pub(super) fn node_of<B: Width>(domains: &[IntervalSet<B>]) -> Node<B> {
+    let mut best: Option<usize> = None;
+    for (i, domain) in domains.iter().enumerate() {
+        if domain.is_empty() {
+            return Node::Dead;
+        }
+        best = better(best, i, domain, domains);
+    }
+    match best {
+        None => Node::Leaf,
+        Some(i) => match cut_value(&domains[i]) {
+            Some(value) => Node::Open(i, value),
+            None => Node::Dead,
+        },
+    }
+}
+
+/// The domain to be cut, so far: this one if it has two members or more, and fewer than the best
+/// before it.
+fn better<B: Width>(
+    best: Option<usize>,
+    i: usize,
+    domain: &IntervalSet<B>,
+    domains: &[IntervalSet<B>],
+) -> Option<usize> {
+    if domain.is_singleton() {
+        return best;
+    }
+    match best {
+        None => Some(i),
+        Some(j) => if domain.size() < domains[j].size() {
+            Some(i)
+        } else {
+            Some(j)
+        },
+    }
+}
+
+/// The value up to which a domain is searched first, or `None` if the domain is empty: its least
+/// member, or one in its middle if it has more than 64.
+fn cut_value<B: Width>(domain: &IntervalSet<B>) -> Option<B> {
+    let count = domain.size().number();
+    if count > 64 {
+        if let Some(middle) = member_at(domain, count / 2) {
+            return Some(middle);
+        }
+    }
+    domain.first()
+}
+
+/// The member with so many members below it.
+fn member_at<B: Width>(domain: &IntervalSet<B>, index: u128) -> Option<B> {
+    domain.in_whole();
+    match <B::Output as SizeNumber>::from_number(index) {
+        Some(i) => domain.nth(i),
+        None => None,
+    }
+}
+
+/// The numbers up to a value.
+pub(super) fn up_to<B: Width>(alloc: Global, value: B) -> Result<IntervalSet<B>, AllocError> {
+    IntervalSet::new(alloc, B::min_value(), value)
+}
+
+/// The numbers above a value.
+pub(super) fn above<B: Width>(alloc: Global, value: B) -> Result<IntervalSet<B>, AllocError> {
+    match value.checked_add(B::one()) {
+        Some(next) => IntervalSet::new(alloc, next, B::max_value()),
+        None => Ok(IntervalSet::empty(alloc)),
+    }
+}
