@@ -13,7 +13,7 @@
 //! | [`ivl_paged`] | sets for many runs that change: their runs stand in pages |
 //! | [`ivl_within`] | sums and differences that are cut to a window |
 //! | [`ivl_store`] | domains of variables, narrowed by constraints `x + y = z` |
-//! | [`ivl_search`] | all solutions of such constraints, none of them twice |
+//! | [`ivl_search`] | the points that solve such constraints: all of them, or as many as limits allow |
 //! | [`ivl_expr`] | expressions over sets, for range analysis |
 //! | [`ivl_buffers`] | sets as lists of pairs in the caller's memory, which the library for C has |
 //! | `ivl_json` | JSON, with the feature `json` of the package `intervallum-proved-serde` |
@@ -51,7 +51,6 @@ pub mod ivl_json;
 #[allow(unused_imports)]
 pub mod ivl_buffers;
 pub mod ivl_paged;
-#[allow(unused_imports)]
 pub mod ivl_search;
 pub mod ivl_store;
 pub mod ivl_within;
@@ -70,6 +69,7 @@ pub mod examples {
     #[cfg(feature = "json")]
     pub use super::ivl_json::{ItemFault, JsonFault, JsonForm};
     pub use super::ivl_paged::PagedSet;
+    pub use super::ivl_search::search::{End, Found, Limits, SearchFault, all_distinct, count, solutions, try_solutions};
     pub use super::ivl_store::network::{Network, Settled};
     pub use super::ivl_store::store::{Constraint, Post, Store, StoreFault};
     pub use super::ivl_within::within::{

@@ -15,7 +15,7 @@ ghost use Rattle.ivl_search.specs.Points.{EachOnce, Finds, Solves};
 
 use intervallum::interval_set::IntervalSet;
 use intervallum::width::Width;
-use ivl_store::store::{Constraint, StoreFault};
+use ivl_store::store::Constraint;
 use std::alloc::{AllocError, Global};
 use thiserror::Error;
 
@@ -45,7 +45,7 @@ pub enum End {
     All,
     /// So many solutions are found as the limit allows. There may be others.
     Solutions,
-    /// So many nodes are visited as the limit allows, or a branch is 10,000 cuts deep. There may be
+    /// So many nodes are visited as the limit allows, or a branch is 4,000 cuts deep. There may be
     /// other solutions.
     Nodes,
 }
@@ -222,4 +222,4 @@ pub fn count<B: Width>(
 }
 
 // A branch is cut at most so often, so that no call overflows the stack.
-const DEPTH: u32 = 10_000;
+const DEPTH: u32 = 4_000;

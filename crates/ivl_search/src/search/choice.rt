@@ -5,7 +5,7 @@ ghost use Rattle.ivl_laws.specs.Sets.{Above, AtMost, HasNone, IsBetween, Only, S
 ghost use Rattle.ivl_search.specs.Nodes.{IsNodeOf};
 
 use intervallum::interval_set::IntervalSet;
-use intervallum::ops::{Cardinality, IsEmpty, IsSingleton, Range};
+use intervallum::ops::{Cardinality, IsEmpty, IsSingleton};
 use intervallum::width::{SizeNumber, Width};
 use std::alloc::{AllocError, Global};
 

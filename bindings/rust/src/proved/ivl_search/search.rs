@@ -13,7 +13,7 @@
 use crate::rattle::prelude::*;
 use crate::proved::intervallum::interval_set::IntervalSet;
 use crate::proved::intervallum::width::Width;
-use crate::proved::ivl_store::store::{Constraint, StoreFault};
+use crate::proved::ivl_store::store::Constraint;
 use crate::rattle::std::alloc::{AllocError, Global};
 
 mod choice;
@@ -42,7 +42,7 @@ pub enum End {
     All,
     /// So many solutions are found as the limit allows. There may be others.
     Solutions,
-    /// So many nodes are visited as the limit allows, or a branch is 10,000 cuts deep. There may be
+    /// So many nodes are visited as the limit allows, or a branch is 4,000 cuts deep. There may be
     /// other solutions.
     Nodes,
 }
@@ -138,7 +138,7 @@ pub fn solutions<B: Width>(
     constraints: &[Constraint],
     limits: Limits,
 ) -> Result<Found<B>, SearchFault> {
-    debug_assert!({ #[allow(unused_imports)] use crate::proved::ivl_interval::ops::*; constraints.iter().all(Constraint::distinct) }, "{}", "the condition of `solutions` is broken: constraints.iter().all(Constraint::distinct)");
+    debug_assert!({ #[allow(unused_imports)] use crate::proved::ivl_interval::ops::*; all_distinct(constraints) }, "{}", "the condition of `solutions` is broken: all_distinct(constraints)");
     if let Some(i) = first_unknown(constraints, domains.len()) {
         return Err(SearchFault::Variable(i));
     }
@@ -256,6 +256,7 @@ pub fn count<B: Width>(
     constraints: &[Constraint],
     limits: Limits,
 ) -> Result<(usize, End), SearchFault> {
+    debug_assert!({ #[allow(unused_imports)] use crate::proved::ivl_interval::ops::*; all_distinct(constraints) }, "{}", "the condition of `count` is broken: all_distinct(constraints)");
     if let Some(i) = first_unknown(constraints, domains.len()) {
         return Err(SearchFault::Variable(i));
     }
@@ -270,4 +271,4 @@ pub fn count<B: Width>(
 }
 
 // A branch is cut at most so often, so that no call overflows the stack.
-const DEPTH: u32 = 10_000;
+const DEPTH: u32 = 4_000;

@@ -3,7 +3,7 @@
 #[allow(unused_imports)]
 use crate::rattle::prelude::*;
 use crate::proved::intervallum::interval_set::IntervalSet;
-use crate::proved::intervallum::ops::{Cardinality, IsEmpty, IsSingleton, Range};
+use crate::proved::intervallum::ops::{Cardinality, IsEmpty, IsSingleton};
 use crate::proved::intervallum::width::{SizeNumber, Width};
 use crate::rattle::std::alloc::{AllocError, Global};
 
