@@ -13,3 +13,5 @@
 #![tactic(auto)]
 
 pub mod search;
+#[cfg(test)]
+mod tests;
