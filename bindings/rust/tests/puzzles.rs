@@ -1,7 +1,9 @@
 //! Searches for all solutions: puzzles whose numbers of solutions are known, and small random instances beside all points.
 use intervallum::proved::Global;
 use intervallum::proved::interval_set::{IntervalSet, ToIntervalSet};
-use intervallum::proved::ivl_search::search::{End, Limits, solutions};
+use intervallum::proved::ivl_search::search::{
+    End, Limits, SearchFault, all_distinct, count, solutions, try_solutions,
+};
 use intervallum::proved::ivl_store::store::Constraint;
 use intervallum::proved::ops::Contains;
 use std::collections::BTreeSet;
@@ -31,8 +33,10 @@ fn instance(text: &str) -> Instance {
 
 /// The solutions that a search finds, and why it ended.
 fn found(instance: &Instance, limits: Limits) -> (Vec<Vec<i64>>, End) {
-    assert!(instance.constraints.iter().all(Constraint::distinct));
+    assert!(all_distinct(&instance.constraints));
     let found = solutions(Global, &instance.domains, &instance.constraints, limits).unwrap();
+    let counted = count(Global, &instance.domains, &instance.constraints, limits).unwrap();
+    assert_eq!(counted, (found.points.len(), found.end));
     (found.points.iter().map(|point| point.to_vec()).collect(), found.end)
 }
 
@@ -44,15 +48,43 @@ fn solves(instance: &Instance, point: &[i64]) -> bool {
 }
 
 /// All solutions are found, so many, each once, within so many nodes; not with one solution less.
-fn has_solutions(text: &str, count: usize, nodes: u64) {
+fn has_solutions(text: &str, number: usize, nodes: u64) {
     let instance = instance(text);
     let (points, end) = found(&instance, Limits { solutions: 1_000, nodes });
-    assert_eq!((points.len(), end), (count, End::All));
+    assert_eq!((points.len(), end), (number, End::All));
     assert!(points.iter().all(|point| solves(&instance, point)));
-    assert_eq!(points.iter().collect::<BTreeSet<_>>().len(), count);
-    let (points, end) = found(&instance, Limits { solutions: count - 1, nodes });
-    assert_eq!((points.len(), end), (count - 1, End::Solutions));
-    assert_eq!(found(&instance, Limits { solutions: 1_000, nodes: 1 }).1, End::Nodes);
+    assert_eq!(points.iter().collect::<BTreeSet<_>>().len(), number);
+    let (points, end) = found(&instance, Limits { solutions: number - 1, nodes });
+    assert_eq!((points.len(), end), (number - 1, End::Solutions));
+    assert_eq!(found(&instance, Limits { solutions: 1_000, nodes: 0 }), (Vec::new(), End::Nodes));
+}
+
+#[test]
+fn small_instances() {
+    // no variable: the point without numbers
+    has_solutions("", 1, 10);
+    // no constraint: each pair
+    has_solutions("domain 1 2 7 7\ndomain 0 1", 6, 100);
+    has_solutions("domain 0 9\ndomain 0 9\ndomain 0 9\nsum 0 1 2", 55, 1_000);
+    // y = x + 1, from domains that are halved
+    has_solutions("domain 0 199\ndomain 1 1\ndomain 0 99\nsum 0 1 2", 99, 1_000);
+    // an empty domain, and x + one = y and y + one = x
+    for text in ["domain 1 2\ndomain", "domain 0 9\ndomain 0 9\ndomain 1 1\nsum 0 2 1\nsum 1 2 0"] {
+        assert_eq!(found(&instance(text), Limits { solutions: 9, nodes: 100 }), (Vec::new(), End::All));
+    }
+}
+
+#[test]
+fn constraints_that_are_refused() {
+    let limits = Limits { solutions: 9, nodes: 9 };
+    let Instance { domains, .. } = instance("domain 1 2\ndomain 1 2\ndomain 1 2");
+    let twice = [Constraint { x: 0, y: 0, z: 7 }];
+    assert!(!all_distinct(&twice));
+    assert!(try_solutions(Global, &domains, &twice, limits).unwrap().is_none());
+    let unknown = [Constraint { x: 0, y: 1, z: 2 }, Constraint { x: 0, y: 8, z: 7 }];
+    assert_eq!(solutions(Global, &domains, &unknown, limits).err(), Some(SearchFault::Variable(8)));
+    assert_eq!(try_solutions(Global, &domains, &unknown, limits).err(), Some(SearchFault::Variable(8)));
+    assert_eq!(count(Global, &domains, &unknown, limits), Err(SearchFault::Variable(8)));
 }
 
 #[test]

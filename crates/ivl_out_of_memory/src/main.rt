@@ -14,6 +14,7 @@ mod forms;
 mod json;
 mod makers;
 mod runs;
+mod search;
 mod store;
 
 use intervallum::prelude::{IntervalSet, ToIntervalSet};
@@ -104,6 +105,7 @@ fn call(
         .or(edits::call(alloc, name, a))
         .or(forms::call(alloc, name, a, b))
         .or(makers::call(alloc, name, a, b))
+        .or(search::call(alloc, name))
         .or(expr::call(alloc, name, a, b))
         .or(json::call(alloc, name, a))
         .or(calculator::call(alloc, name, a, b))

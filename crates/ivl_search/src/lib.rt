@@ -13,5 +13,3 @@
 #![tactic(auto)]
 
 pub mod search;
-#[cfg(test)]
-mod tests;
