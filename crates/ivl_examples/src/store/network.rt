@@ -76,10 +76,11 @@ fn one_sum_is_looked_at_once(rt: HostRuntime) {
 
 const TWO_DIGITS_AND_ONE: [&[(i32, i32)]; 3] = [&[(0, 9)], &[(0, 9)], &[(1, 1)]];
 
+// The sum that was required last is the first to narrow.
 const A_MEMBER_A_NARROWING: [Row; 4] = [
-    (1, Settled::Unfinished, &["[0..8]", "[1..9]", "[1..1]"]),
-    (1, Settled::Unfinished, &["[2..8]", "[1..7]", "[1..1]"]),
-    (2, Settled::Unfinished, &["[4..6]", "[3..5]", "[1..1]"]),
+    (1, Settled::Unfinished, &["[1..9]", "[0..8]", "[1..1]"]),
+    (1, Settled::Unfinished, &["[1..7]", "[2..8]", "[1..1]"]),
+    (2, Settled::Unfinished, &["[3..5]", "[4..6]", "[1..1]"]),
     (9, Settled::All, &["{}", "{}", "{}"]),
 ];
 
@@ -157,7 +158,7 @@ fn as_the_docs_have_it(rt: HostRuntime) {
     check_settled(
         &rt,
         &mut network,
-        &(3, Settled::Unfinished, &["[2..6]", "[3..7]", "[1..1]"]),
+        &(3, Settled::Unfinished, &["[3..7]", "[2..6]", "[1..1]"]),
     );
     check_settled(&rt, &mut network, &(100, Settled::All, &["{}", "{}", "{}"]));
     // x + y = z, and z is 0 or 1
