@@ -18,7 +18,5 @@
 mod page;
 pub mod paged_set;
 mod pages;
-#[cfg(test)]
-mod tests;
 
 pub use paged_set::PagedSet;

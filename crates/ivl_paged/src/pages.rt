@@ -58,6 +58,14 @@ fn page_of<B: Width>(alloc: Global, runs: &[Interval<B>]) -> Result<Page<B>, All
     Ok(Page::of(set))
 }
 
+/// A copy of a page, with room for as many runs as a page has, so that the first edit of the copy does
+/// not move it.
+pub(crate) fn copy_of<B: Width>(alloc: Global, page: &Page<B>) -> Result<Page<B>, AllocError>
+    ensures { IfOk result (λ L. L ≡ page.now) }
+{
+    page_of(alloc, page.set().runs())
+}
+
 /// How many pages start at a value or below. Binary search.
 pub(crate) fn starts_up_to<B: Width>(pages: &[Page<B>], value: B) -> usize
     requires { IsMaximal (flattened pages.now) }

@@ -1,6 +1,7 @@
 //! What callers of the crates above sets can rely on, each as a function that learns it from the public contracts alone:
-//! [`json`] those of `ivl_json`, [`expr`] those of `ivl_expr`.
+//! [`paged`] those of `ivl_paged`, [`json`] those of `ivl_json`, [`expr`] those of `ivl_expr`.
 #![tactic(auto)]
 
 pub mod expr;
 pub mod json;
+pub mod paged;

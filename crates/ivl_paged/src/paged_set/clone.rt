@@ -2,11 +2,13 @@
 ghost use Rattle.std.specs.Prelude.{◌≡◌, IfOk};
 
 use super::PagedSet;
+use crate::pages::copy_of;
 use intervallum::width::Width;
 use std::alloc::AllocError;
 
 impl<B: Width> PagedSet<B> {
-    /// Returns a copy of the set, page by page. `O(n)`. Fails only if allocation fails.
+    /// Returns a copy of the set, page by page, whose pages have room for 128 runs. `O(n)`. Fails only if
+    /// allocation fails.
     ///
     /// ```
     /// let mut a = PagedSet::new(alloc);
@@ -19,7 +21,7 @@ impl<B: Width> PagedSet<B> {
         self.in_whole();
         let mut pages = Vec::with_capacity(self.alloc, self.pages.len())?;
         for page in &self.pages {
-            pages.push(page.try_clone()?)?;
+            pages.push(copy_of(self.alloc, page)?)?;
         }
         Ok(PagedSet {
             alloc: self.alloc,

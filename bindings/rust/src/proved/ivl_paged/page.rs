@@ -40,15 +40,6 @@ impl<B: Width> Page<B> {
         &self.set
     }
 
-    /// A copy of the page.
-    pub(crate) fn try_clone(&self) -> Result<Self, AllocError> {
-        Ok(Page {
-            head: self.head,
-            longest: self.longest,
-            set: self.set.try_clone()?,
-        })
-    }
-
     /// Returns true exactly when each member lies in an interval.
     pub(crate) fn lies_within(&self, interval: &Interval<B>) -> bool {
         interval.lower() <= self.head && self.set.upper() <= interval.upper()

@@ -3,11 +3,13 @@
 #[allow(unused_imports)]
 use crate::rattle::prelude::*;
 use super::PagedSet;
+use crate::proved::ivl_paged::pages::copy_of;
 use crate::proved::intervallum::width::Width;
 use crate::rattle::std::alloc::AllocError;
 
 impl<B: Width> PagedSet<B> {
-    /// Returns a copy of the set, page by page. `O(n)`. Fails only if allocation fails.
+    /// Returns a copy of the set, page by page, whose pages have room for 128 runs. `O(n)`. Fails only if
+    /// allocation fails.
     ///
     /// ```
     /// # use intervallum::proved::examples::*;
@@ -29,7 +31,7 @@ impl<B: Width> PagedSet<B> {
         self.in_whole();
         let mut pages = Vec::with_capacity(self.alloc, self.pages.len())?;
         for page in &self.pages {
-            pages.push(page.try_clone()?)?;
+            pages.push(copy_of(self.alloc, page)?)?;
         }
         Ok(PagedSet {
             alloc: self.alloc,

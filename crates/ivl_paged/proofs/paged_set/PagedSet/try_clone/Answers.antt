@@ -7,7 +7,7 @@ use Rattle.ivl_paged.proofs.paged_set.PagedSet.try_clone.Goals as goal
 pub loop-page-preserved : goal.loop-page-preserved
 loop-page-preserved g c =
     ap flattened c.in_ok-push.ensures.items
-    ∙ pages_so_far c.deref-page-items.result.now c.loop-page.pages.items _ c.page-item.result c.loop-page.page-index c.loop-page-test.true c.loop-page.invariant (c.in_ok-try_clone.ensures ∙ c.page-item.is)
+    ∙ pages_so_far c.deref-page-items.result.now c.loop-page.pages.items _ c.page-item.result c.loop-page.page-index c.loop-page-test.true c.loop-page.invariant (c.in_ok-copy_of.ensures ∙ c.page-item.is)
 
 pub invariant_of-result : goal.invariant_of-result
 invariant_of-result g c =

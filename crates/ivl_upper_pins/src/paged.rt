@@ -6,7 +6,7 @@ ghost use Rattle.ivl_laws.specs.Runs.{Covers, IsRunsOf};
 ghost use Rattle.intervallum.specs.Neighbours.{IsGreatest, IsLeast};
 ghost use Rattle.intervallum.specs.FirstFit.{FitsAt, IsFirstFit};
 
-use crate::paged_set::PagedSet;
+use ivl_paged::paged_set::PagedSet;
 use intervallum::interval::Interval;
 use intervallum::interval_set::IntervalSet;
 use intervallum::ops::Range;
