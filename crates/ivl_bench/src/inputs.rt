@@ -168,6 +168,13 @@ pub fn dense_pair(alloc: Global, n: u32, seed: u64) -> Result<Pair> {
     )
 }
 
+/// A set of `n` runs with small gaps, and lists made of its numbers.
+pub fn many_runs(alloc: Global, n: u32) -> Result<(IntervalSet<i64>, Box<Lists>)> {
+    let set = dense_set(alloc, n, 1)?;
+    let lists = Lists::new(alloc, n, Span::of(&set)?)?;
+    Ok((set, lists))
+}
+
 fn dense_set(alloc: Global, n: u32, seed: u64) -> Result<IntervalSet<i64>> {
     set_of(alloc, &dense(alloc, n, seed)?)
 }

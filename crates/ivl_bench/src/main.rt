@@ -3,7 +3,9 @@
 //! Without arguments, prints the result of each call at two input sizes, and no times. With the arguments
 //! `time SECONDS GREATEST_N`, prints one line per call: `name n ns_per_operation runs size`. With the argument
 //! `million`, prints the time of one union of two sets of a million runs, and the peak memory. With the
-//! arguments `store FILE`, prints the time of an instance of the domain store.
+//! argument `paged`, prints one line per edit or question of a set in pages, and of one in a list, at
+//! 1,000 to 1,000,000 runs: `name n ns_per_call answer`. With the arguments `store FILE`, prints the time
+//! of an instance of the domain store.
 #![tactic(auto)]
 
 mod calls;
@@ -12,6 +14,7 @@ mod expressions;
 mod fresh;
 mod inputs;
 mod json;
+mod many_runs;
 mod measures;
 mod stores;
 mod timing;
@@ -93,9 +96,12 @@ fn obey(
     match word {
         None => print_all_answers(rt),
         Some("million") => fresh::print_million(rt),
+        Some("paged") => many_runs::print_times(rt),
         Some("store") => print_store_times(rt, first),
         Some("time") => print_times(rt, first, second),
-        Some(_) => bail!("the arguments are: time SECONDS GREATEST_N, million, or store FILE"),
+        Some(_) => bail!(
+            "the arguments are: time SECONDS GREATEST_N, million, paged, or store FILE"
+        ),
     }
 }
 
@@ -109,5 +115,6 @@ fn print_store_times(
 fn print_all_answers(rt: &(impl Print + AllocGlobal + Files)) -> Result<()> {
     print_answers(rt, 10)?;
     print_answers(rt, 100)?;
+    many_runs::print_answers(rt)?;
     stores::print_answers(rt)
 }

@@ -1,17 +1,19 @@
-//! The first example of README.md, word for word.
+//! The first program of README.md, with what it prints.
 
 use intervallum::prelude::*;
 use std::test::Fail;
 
 #[test]
-fn hours(rt: HostRuntime) -> Result<(), Fail> {
+fn first_meeting(rt: HostRuntime) -> Result<(), Fail> {
     let alloc = rt.alloc();
-    let morning = IntervalSet::new(alloc, 8, 11)?;
-    let noon = IntervalSet::new(alloc, 12, 13)?;
-    let open = morning.union(&noon)?;
-    assert_eq!(rt; open.interval_count(), 1);
-    assert_eq!(rt; open.size(), 6u32);
-    assert!(rt; open.contains(&12) && !open.contains(&14));
-    assert!(rt; open == IntervalSet::new(alloc, 8, 13)?);
+    let anna = [(9, 10), (13, 14)].to_interval_set(alloc)?;
+    let ben = [(8, 8), (11, 11), (15, 17)].to_interval_set(alloc)?;
+    let busy: IntervalSet<u32> = anna.union(&ben)?;
+    assert_eq!(rt; format!(in alloc; "busy {busy}")?.as_str(), "busy {[8..11][13..17]}");
+    let free = busy.gaps_within(&Interval::new(8, 17))?;
+    match free.first_fit(1) {
+        Some(hours) => assert!(rt; hours == Interval::new(12, 12)),
+        None => assert!(rt; false, "an hour is free for both"),
+    }
     Ok(())
 }

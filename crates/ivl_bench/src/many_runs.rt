@@ -1,0 +1,228 @@
+//! Single edits and questions of a set in pages, and of one in a list, at up to a million runs.
+
+use crate::inputs::{Lists, many_runs};
+use crate::measures::Answer;
+use anyhow::Result;
+use intervallum::interval::Interval;
+use intervallum::interval_set::IntervalSet;
+use intervallum::ops::{Cardinality, Contains};
+use ivl_paged::PagedSet;
+use std::alloc::AllocError;
+use std::rt::Clock;
+use std::time::{Duration, Instant};
+
+const SIZES: [u32; 4] = [1_000, 10_000, 100_000, 1_000_000];
+
+/// More members than a run of the sets has.
+const NO_ROOM: u64 = 9;
+
+/// A set that is edited run by run.
+trait Edited: Drop {
+    fn copy(&self) -> Result<Self, AllocError>;
+
+    fn insert_value(&mut self, value: i64) -> Result<(), AllocError>;
+
+    fn remove_value(&mut self, value: i64) -> Result<(), AllocError>;
+
+    fn pop(&mut self);
+
+    fn has(&self, value: i64) -> bool;
+
+    fn has_room(&self) -> bool;
+
+    fn answer(&self) -> Answer;
+}
+
+impl Edited for PagedSet<i64> {
+    fn copy(&self) -> Result<Self, AllocError> {
+        self.try_clone()
+    }
+
+    fn insert_value(&mut self, value: i64) -> Result<(), AllocError> {
+        if Interval::in_range(value, value) {
+            self.insert(value)?;
+        }
+        Ok(())
+    }
+
+    fn remove_value(&mut self, value: i64) -> Result<(), AllocError> {
+        self.remove(value)?;
+        Ok(())
+    }
+
+    fn pop(&mut self) {
+        self.pop_first();
+    }
+
+    fn has(&self, value: i64) -> bool {
+        self.contains(&value)
+    }
+
+    fn has_room(&self) -> bool {
+        self.first_fit(NO_ROOM).is_some()
+    }
+
+    fn answer(&self) -> Answer {
+        Answer::Set(self.interval_count(), self.size())
+    }
+}
+
+impl Edited for IntervalSet<i64> {
+    fn copy(&self) -> Result<Self, AllocError> {
+        self.try_clone()
+    }
+
+    fn insert_value(&mut self, value: i64) -> Result<(), AllocError> {
+        if Interval::in_range(value, value) {
+            self.insert(value)?;
+        }
+        Ok(())
+    }
+
+    fn remove_value(&mut self, value: i64) -> Result<(), AllocError> {
+        self.remove(value)?;
+        Ok(())
+    }
+
+    fn pop(&mut self) {
+        self.pop_first();
+    }
+
+    fn has(&self, value: i64) -> bool {
+        self.contains(&value)
+    }
+
+    fn has_room(&self) -> bool {
+        self.first_fit(NO_ROOM).is_some()
+    }
+
+    fn answer(&self) -> Answer {
+        Answer::of_set(self)
+    }
+}
+
+/// What is done to a set with each of some values.
+#[derive(Clone, Copy)]
+enum Act {
+    Insert,
+    Remove,
+    PopFirst,
+    Contains,
+    FirstFit,
+}
+
+const ACTS: [(Act, &str); 5] = [
+    (Act::Insert, "insert"),
+    (Act::Remove, "remove"),
+    (Act::PopFirst, "pop_first"),
+    (Act::Contains, "contains"),
+    (Act::FirstFit, "first_fit"),
+];
+
+/// Does it with each of the values, and counts the questions that are answered with yes.
+fn carry_out<S: Edited>(act: Act, set: &mut S, values: &[i64]) -> Result<u64, AllocError> {
+    let mut count: u64 = 0;
+    for value in values {
+        count = count.saturating_add(u64::from(carry_out_one(act, set, *value)?));
+    }
+    Ok(count)
+}
+
+fn carry_out_one<S: Edited>(act: Act, set: &mut S, value: i64) -> Result<bool, AllocError> {
+    match act {
+        Act::Insert => set.insert_value(value)?,
+        Act::Remove => set.remove_value(value)?,
+        Act::PopFirst => set.pop(),
+        Act::Contains => return Ok(set.has(value)),
+        Act::FirstFit => return Ok(set.has_room()),
+    }
+    Ok(false)
+}
+
+/// The values that it is done with: one where the call reads the whole set.
+fn values_of(act: Act, lists: &Lists, most: usize) -> &[i64] {
+    match act {
+        Act::Insert | Act::Remove | Act::PopFirst => &lists.edits[..most.min(lists.edits.len())],
+        Act::Contains => &lists.probes,
+        Act::FirstFit => &lists.probes[..lists.probes.len().min(1)],
+    }
+}
+
+/// The least time of three for one call, each on a copy of the set, in nanoseconds.
+fn least_time<S: Edited>(
+    clock: &impl Clock,
+    act: Act,
+    set: &S,
+    values: &[i64],
+) -> Result<(u128, Answer)> {
+    let mut least = Duration::MAX;
+    let mut answer = Answer::DoesNotFit;
+    for _ in 0..3 {
+        let (time, given) = timed(clock, act, set, values)?;
+        least = least.min(time);
+        answer = given;
+    }
+    Ok((least.as_nanos() / (values.len().max(1) as u128), answer))
+}
+
+fn timed<S: Edited>(
+    clock: &impl Clock,
+    act: Act,
+    set: &S,
+    values: &[i64],
+) -> Result<(Duration, Answer)> {
+    let mut copy = set.copy()?;
+    let start = Instant::now(clock)?;
+    let count = carry_out(act, &mut copy, values)?;
+    let time = start.elapsed(clock)?;
+    Ok((time, answer_of(act, &copy, count)))
+}
+
+fn answer_of<S: Edited>(act: Act, set: &S, count: u64) -> Answer {
+    match act {
+        Act::Insert | Act::Remove | Act::PopFirst => set.answer(),
+        Act::Contains | Act::FirstFit => Answer::Number(count),
+    }
+}
+
+/// Prints a line for each call and size: `name n ns_per_call answer`, of the set in pages, and of the
+/// set in a list, of which fewer edits are timed the longer each takes.
+pub fn print_times(rt: &(impl Print + AllocGlobal + Clock)) -> Result<()> {
+    for &n in &SIZES {
+        print_times_at(rt, n)?;
+    }
+    Ok(())
+}
+
+fn print_times_at(rt: &(impl Print + AllocGlobal + Clock), n: u32) -> Result<()> {
+    let (list, lists) = many_runs(rt.alloc(), n)?;
+    let pages = PagedSet::of_set(&list)?;
+    let most = (1_000_000_000 / n.max(1)) as usize;
+    for &(act, name) in &ACTS {
+        let (time, answer) = least_time(rt, act, &pages, values_of(act, &lists, 100_000))?;
+        println!(rt; "paged_{name} {n} {time} {answer}")?;
+        let (time, answer) = least_time(rt, act, &list, values_of(act, &lists, most))?;
+        println!(rt; "list_{name} {n} {time} {answer}")?;
+    }
+    Ok(())
+}
+
+/// Prints what the calls answer at a thousand runs, by both sets.
+pub fn print_answers(rt: &(impl Print + AllocGlobal)) -> Result<()> {
+    let (list, lists) = many_runs(rt.alloc(), 1_000)?;
+    let pages = PagedSet::of_set(&list)?;
+    for &(act, name) in &ACTS {
+        let values = values_of(act, &lists, 1_000);
+        let answer = answer_after(act, &pages, values)?;
+        println!(rt; "paged_{name} 1000 {answer}")?;
+        let answer = answer_after(act, &list, values)?;
+        println!(rt; "list_{name} 1000 {answer}")?;
+    }
+    Ok(())
+}
+
+fn answer_after<S: Edited>(act: Act, set: &S, values: &[i64]) -> Result<Answer, AllocError> {
+    let mut copy = set.copy()?;
+    let count = carry_out(act, &mut copy, values)?;
+    Ok(answer_of(act, &copy, count))
+}
