@@ -1,8 +1,8 @@
 //! The calls of sets that allocate, each with the runs of the expected set.
 
 use crate::runs::{
-    APART, BETWEEN, DIFFERENCES, FIRST, FIRST_RUNS, MINUS_THREE, PLUS_THREE, PRODUCTS, Runs,
-    SHARED, SUMS, TIMES_MINUS_THREE, UNITED, WHOLE, is_of,
+    APART, BELOW_SIX, BETWEEN, DIFFERENCES, FIRST, FIRST_RUNS, FROM_SIX, MINUS_THREE, PLUS_THREE,
+    PRODUCTS, Runs, SHARED, SUMS, TIMES_MINUS_THREE, UNITED, WHOLE, is_of,
 };
 use intervallum::interval::Interval;
 use intervallum::prelude::*;
@@ -14,13 +14,9 @@ use std::alloc::{AllocError, Global};
 const LEFT: Runs = &[(1, 1), (6, 6), (9, 10), (13, 14)];
 
 /// The first operand, cut at 6.
-const FROM_SIX: Runs = &[(6, 6), (9, 10), (13, 14)];
-
 const TO_SIX: Runs = &[(1, 2), (5, 6)];
 
 const ABOVE_SIX: Runs = &[(9, 10), (13, 14)];
-
-const BELOW_SIX: Runs = &[(1, 2), (5, 5)];
 
 /// The first operand and a number.
 const WITH_THREE: Runs = &[(1, 3), (5, 6), (9, 10), (13, 14)];

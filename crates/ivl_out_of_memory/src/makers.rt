@@ -1,6 +1,6 @@
 //! The calls that make sets of intervals, ranges, members and other sets, and those of the operators `|`, `&`, `^` and `!`.
 
-use crate::runs::{APART, BETWEEN, FIRST_RUNS, Runs, SHARED, UNITED, is_of};
+use crate::runs::{APART, BELOW_SIX, BETWEEN, FIRST_RUNS, FROM_SIX, Runs, SHARED, UNITED, is_of};
 use intervallum::prelude::*;
 use std::alloc::{AllocError, Global};
 
@@ -11,11 +11,6 @@ const ONE_TO_FOUR: Runs = &[(1, 4)];
 
 /// The first operand with four members more.
 const EXTENDED: Runs = &[(1, 6), (9, 10), (13, 15), (20, 20)];
-
-/// The first operand, split at 6.
-const FROM_SIX: Runs = &[(6, 6), (9, 10), (13, 14)];
-
-const BELOW_SIX: Runs = &[(1, 2), (5, 5)];
 
 /// What the first operand and the numbers from 2 to 9 do not share.
 const APART_FROM_WINDOW: Runs = &[(1, 1), (3, 4), (7, 8), (10, 10), (13, 14)];

@@ -26,6 +26,12 @@ pub const WHOLE: Runs = &[(-GREATEST, GREATEST)];
 /// What one of the operands has.
 pub const UNITED: Runs = &[(1, 6), (9, 10), (13, 14), (20, 21), (30, 31), (40, 41)];
 
+/// The first operand, split at 6.
+pub const FROM_SIX: Runs = &[(6, 6), (9, 10), (13, 14)];
+
+/// The rest of the first operand, split at 6.
+pub const BELOW_SIX: Runs = &[(1, 2), (5, 5)];
+
 /// What both operands have.
 pub const SHARED: Runs = &[(2, 2), (5, 5)];
 
