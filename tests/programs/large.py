@@ -37,6 +37,10 @@ INPUTS = {
         "lines": lambda size: "take 1\ngive 1024 1024\n" * size,
         "runs": lambda size: "".join(f"take 2\ngive {port} {port}\n" for port in range(1025, 1025 + size // 5, 2)),
     },
+    "ivl_blocks": {
+        "lines": lambda size: "take 1\ngive 0 0\n" * size,
+        "runs": lambda size: "".join(f"take 2\ngive {block} {block}\n" for block in range(1, size, 2)) + "free\nlargest\n",
+    },
     "ivl_ranges": {
         "ranges": lambda size: "i " + " ".join(f"{3 * n}..{3 * n + 1}" for n in range(size, 0, -1)) + "\n",
         "checks": lambda size: "i 0..7 9..9\nk -1..1\nlength 10\n" + "check\n" * size,

@@ -58,7 +58,7 @@ def main():
     version = open(os.path.join(TOP, "VERSION"), encoding="utf-8").read().strip().encode()
     expect("--version", said(["--version"]), (0, b"ivl_run " + version + b"\n", b""))
     expect("solve --version", said(["solve", "--version"]), (0, b"ivl_solve " + version + b"\n", b""))
-    for words in (["--help"], ["solve", "--help"], ["ports", "--help"], ["ranges", "--help"], ["calendar", "--help"]):
+    for words in (["--help"], ["solve", "--help"], ["ports", "--help"], ["blocks", "--help"], ["ranges", "--help"], ["calendar", "--help"]):
         status, text, told = said(words)
         expect(words, (status, told, text.startswith(b"usage: ./run"), text.count(b"\n") > 12), (0, b"", True, True))
     for words in (["--frob"], ["frob"], ["--memory"], ["--memory", "much"], ["--memory=5X"]):

@@ -1,0 +1,3 @@
+pub mod Lines
+pub mod Answering
+pub mod Outcome
