@@ -1,8 +1,9 @@
 -- Runs that are laid in a room one by one, from left to right.
-use Rattle.std.proofs.Common.{◌≡◌, ◌⊎◌, inl, inr, ℕ, ◌+◌, ◌≤◌, ℤ, pos, ◌≤ℤ◌, List, [], ◌∷◌, ◌++◌, length, length-append, set, drop, map, true, refl, ap, ◌∙◌, sym, subst, arith}
+use Rattle.std.proofs.Common.{◌≡◌, ◌⊎◌, inl, inr, ℕ, ◌+◌, ◌≤◌, ℤ, pos, ◌≤ℤ◌, List, [], ◌∷◌, ◌++◌, length, length-append, get_or, set, drop, map, Bool, true, false, refl, ap, ◌∙◌, sym, subst, arith}
 use Rattle.std.proofs.lemmas.Int.{ints, by_lt_z}
 use Rattle.std.proofs.lemmas.Bool.{le-leb}
-use Rattle.std.specs.Prelude.{nat_le}
+use Rattle.std.proofs.lemmas.List.{map-set, set-get_or}
+use Rattle.std.specs.Prelude.{cond, nat_le}
 use Rattle.ivl_laws.specs.Sets.{HasNone, IsBetween, SameMembers, Union}
 use Rattle.ivl_laws.specs.Runs.{Covers, IsMaximal}
 use Rattle.ivl_laws.proofs.Intervals.{none_is_crossed}
@@ -56,6 +57,12 @@ lays_put r p room room' told e o h = record {
   crossed = λ lt. absurd (omega (arith, ints, lt, o));
   filled = λ _. (refl, subst (λ (t : ℤ × ℤ). room' ≡ set room told t) e h);
 }
+
+-- a pair that is written by a test
+pub put_by : {X : Type 0} (pair : X → ℤ × ℤ) (t : Bool) (out : List X) (k : ℕ) (run old : X) → old ≡ get_or out k old →
+    map pair (set out k (cond t run old)) ≡ cond t (set (map pair out) k (pair run)) (map pair out)
+put_by pair true out k run old e = map-set pair out k run
+put_by pair false out k run old e = ap (λ (L : List _). map pair L) (ap (λ x. set out k x) e ∙ set-get_or out k old)
 
 -- the next pair adds its numbers, none where it is crossed
 pub lays : (W : List (ℤ × ℤ)) (r : ℤ × ℤ) (old room room' : List (ℤ × ℤ)) (told told' : ℕ) → IsMaximal W → IsBelow (pos 2) (Covers W) (IsBetween r) → told ≡ length W → room ≡ laid W old →

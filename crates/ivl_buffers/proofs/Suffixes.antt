@@ -1,6 +1,7 @@
 -- The pairs of a list from a place on.
-use Rattle.std.proofs.Common.{◌≡◌, inr, ℕ, zero, suc, ◌+◌, ◌<◌, ◌≤◌, ℤ, List, [], ◌∷◌, None, length, get_or, map, drop, option_map, refl, ap, ap₂, sym, subst, arith}
-use Rattle.std.specs.Prelude.{slice_get}
+use Rattle.std.proofs.Common.{◌≡◌, inr, Bool, true, false, ℕ, zero, suc, ◌+◌, ◌<◌, ◌≤◌, ℤ, List, [], ◌∷◌, None, length, get_or, map, drop, option_map, refl, ap, ap₂, sym, subst, arith}
+use Rattle.std.specs.Int.{from_bool}
+use Rattle.std.specs.Prelude.{not, slice_get}
 use Rattle.ivl_laws.specs.Sets.{IsSubset}
 use Rattle.ivl_laws.specs.Runs.{Covers, IsMaximal, IsRunListIn}
 use Rattle.intervallum.specs.HeldRun.{led_by}
@@ -58,3 +59,9 @@ none_from pair [] zero e = refl
 none_from pair [] (suc k) e = refl
 none_from pair (y ∷ L) zero e = absurd (cc)
 none_from pair (y ∷ L) (suc k) e = none_from pair L k e
+
+-- ---- the places move by a test
+
+pub one_moves : (t : Bool) (n m : ℕ) → n ≡ from_bool t → m ≡ from_bool (not t) → n + m ≡ 1
+one_moves true n m e f = let one : n ≡ 1 = e in let none : m ≡ 0 = f in omega (arith, one, none)
+one_moves false n m e f = let none : n ≡ 0 = e in let one : m ≡ 1 = f in omega (arith, one, none)

@@ -2,8 +2,10 @@
 //!
 //! A walk writes the runs of its answer to the first places of the buffer, as many as there are
 //! places, and returns the number of all of them. It is linear in the runs of both lists, and does
-//! not allocate.
-ghost use Rattle.std.specs.Prelude.{◌≡◌, ◌+◌, ◌^◌, ◌<◌, ◌≤◌, ℤ, ◌+ℤ◌, ◌-ℤ◌, ◌<ℤ◌, pos, IfSome, List, [], MatchOption, None, drop, length, map, slice_set};
+//! not allocate. In the loops of `union` and `intersection` no branch hangs on the values: which
+//! list moves, and whether a run is complete, is added to a place as 0 or 1, and chosen by a
+//! conditional move.
+ghost use Rattle.std.specs.Prelude.{◌≡◌, ◌+◌, ◌^◌, ◌<◌, ◌≤◌, ℤ, ◌+ℤ◌, ◌-ℤ◌, ◌<ℤ◌, if◌then◌else◌, pos, IfSome, List, [], MatchOption, None, drop, length, map, slice_set};
 ghost use Rattle.std.specs.Int.{int_max, int_min};
 ghost use Rattle.ivl_laws.specs.Sets.{Complement, Intersection, Union, Without};
 ghost use Rattle.ivl_laws.specs.Runs.{Covers, IsRunListIn};
@@ -16,6 +18,7 @@ use crate::sorted_lookup::pair_at;
 use intervallum::interval::Interval;
 use intervallum::ops::Whole;
 use intervallum::width::Width;
+use std::hint::select_unpredictable;
 
 /// Writes the members of both run lists.
 pub fn intersection<R: Run>(a: &[R], b: &[R], out: &mut [R]) -> usize
@@ -29,20 +32,14 @@ pub fn intersection<R: Run>(a: &[R], b: &[R], out: &mut [R]) -> usize
     let mut count = 0;
     let mut i = 0;
     let mut j = 0;
-    let mut first = pair_at(a, 0);
-    let mut second = pair_at(b, 0);
-    'walk: while let Some(runs) = first.zip(second) {
+    'walk: while let Some(runs) = pair_at(a, i).zip(pair_at(b, j)) {
         let (run, other) = runs;
         let start = run.lower().max(other.lower());
         let end = run.upper().min(other.upper());
         count = lay(out, count, R::of(start, end));
-        if run.upper() <= other.upper() {
-            i += 1;
-            first = pair_at(a, i);
-        } else {
-            j += 1;
-            second = pair_at(b, j);
-        }
+        let ends_first = run.upper() <= other.upper();
+        i += usize::from(ends_first);
+        j += usize::from(!ends_first);
     }
     count
 }
@@ -116,13 +113,12 @@ pub fn union<R: Run>(a: &[R], b: &[R], out: &mut [R]) -> usize
         return 0;
     };
     'walk: while let Some(run) = take_first(a, &mut i, b, &mut j) {
-        if leaves_free(held, run) {
-            put(out, count, held);
-            count += 1;
-            held = run;
-        } else {
-            held = R::of(held.lower(), held.upper().max(run.upper()));
-        }
+        let is_gap = leaves_free(held, run);
+        // written over by the next step unless a gap follows, and for good at the end
+        put(out, count, held);
+        count += usize::from(is_gap);
+        let lower = select_unpredictable(is_gap, run.lower(), held.lower());
+        held = R::of(lower, held.upper().max(run.upper()));
     }
     put(out, count, held);
     count + 1
@@ -143,13 +139,10 @@ fn take_first<R: Run>(a: &[R], i: &mut usize, b: &[R], j: &mut usize) -> Option<
 {
     match (pair_at(a, *i), pair_at(b, *j)) {
         (Some(run), Some(other)) => {
-            if run.lower() <= other.lower() {
-                *i += 1;
-                Some(run)
-            } else {
-                *j += 1;
-                Some(other)
-            }
+            let is_first = run.lower() <= other.lower();
+            *i += usize::from(is_first);
+            *j += usize::from(!is_first);
+            Some(select_unpredictable(is_first, run, other))
         }
         (Some(run), None) => {
             *i += 1;
@@ -196,11 +189,18 @@ fn lay<R: Run>(out: &mut [R], count: usize, run: R) -> usize
     requires { count < 2 ^ 63 }
     ensures { LaysNext (R.pair run) (map R.pair out.old) (map R.pair out.new) count result }
 {
-    if run.upper() < run.lower() {
-        return count;
+    let is_filled = run.lower() <= run.upper();
+    put_if(out, count, run, is_filled);
+    count + usize::from(is_filled)
+}
+
+/// Writes a pair at a place of the buffer, if a condition holds and there is such a place.
+fn put_if<R: Run>(out: &mut [R], place: usize, run: R, condition: bool)
+    ensures { map R.pair out.new ≡ (if condition then slice_set (map R.pair out.old) place (R.pair run) else map R.pair out.old) }
+{
+    if place < out.len() {
+        out[place] = select_unpredictable(condition, run, out[place]);
     }
-    put(out, count, run);
-    count + 1
 }
 
 /// Writes a pair at a place of the buffer, if there is such a place.

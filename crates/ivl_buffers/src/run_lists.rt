@@ -1,5 +1,6 @@
 //! Lists that are already the runs of a set.
-ghost use Rattle.std.specs.Prelude.{◌↔◌, ◌+◌, ◌^◌, ◌<◌, ◌≤◌, ◌+ℤ◌, ◌≤ℤ◌, IsTrue, length, map, pos};
+ghost use Rattle.std.specs.Prelude.{◌≡◌, ◌↔◌, ◌+◌, ◌^◌, ◌<◌, ◌≤◌, ◌+ℤ◌, ◌≤ℤ◌, IsTrue, length, map, pos};
+ghost use Rattle.std.specs.Int.{from_bool};
 ghost use Rattle.ivl_laws.specs.Runs.{IsRunListIn};
 ghost use Rattle.ivl_buffers.specs.Merging.{IsRunIn};
 
@@ -7,6 +8,7 @@ use crate::run::Run;
 use intervallum::interval::Interval;
 use intervallum::ops::Range;
 use intervallum::width::Width;
+use std::hint::select_unpredictable;
 
 /// Returns true exactly when no pair is crossed, the pairs ascend with at least one number missing
 /// between neighbours, and all are in the range. `O(n)`, does not allocate.
@@ -54,5 +56,12 @@ pub fn leaves_free<R: Run>(last: R, run: R) -> bool
     ensures { IsTrue result ↔ (((R.pair last).1 +ℤ pos 2) ≤ℤ (R.pair run).0) }
 {
     let (end, start) = (last.upper(), run.lower());
-    end < start && end.add_in_range(R::Bound::one()) < start
+    end.add_in_range(one_if(end < start)) < start
+}
+
+/// One if a condition holds, and zero if not.
+pub(crate) fn one_if<B: Width>(condition: bool) -> B
+    ensures { B.value result ≡ pos (from_bool condition) }
+{
+    select_unpredictable(condition, B::one(), B::zero())
 }
