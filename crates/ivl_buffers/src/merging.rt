@@ -2,18 +2,18 @@
 //!
 //! A walk writes the runs of its answer to the first places of the buffer, as many as there are
 //! places, and returns the number of all of them. It is linear in the runs of both lists, and does
-//! not allocate. In the loops of `union` and `intersection` no branch hangs on the values: which
-//! list moves, and whether a run is complete, is added to a place as 0 or 1, and chosen by a
-//! conditional move.
-ghost use Rattle.std.specs.Prelude.{◌≡◌, ◌+◌, ◌^◌, ◌<◌, ◌≤◌, ℤ, ◌+ℤ◌, ◌-ℤ◌, ◌<ℤ◌, if◌then◌else◌, pos, IfSome, List, [], MatchOption, None, drop, length, map, slice_set};
+//! not allocate. In the loops of `union`, `intersection` and `symmetric_difference` no branch hangs on
+//! the values: what a comparison tells is added to a place as 0 or 1, or chooses by a conditional
+//! move.
+ghost use Rattle.std.specs.Prelude.{◌≡◌, ◌⊎◌, ◌++◌, ◌+◌, ◌^◌, ◌<◌, ◌≤◌, ℤ, ◌+ℤ◌, ◌-ℤ◌, ◌<ℤ◌, if◌then◌else◌, pos, IfSome, List, [], MatchOption, None, drop, length, map, slice_set};
 ghost use Rattle.std.specs.Int.{int_max, int_min};
-ghost use Rattle.ivl_laws.specs.Sets.{Complement, Intersection, Union, Without};
+ghost use Rattle.ivl_laws.specs.Sets.{Complement, Intersection, SymmetricDifference, Union, Without};
 ghost use Rattle.ivl_laws.specs.Runs.{Covers, IsRunListIn};
 ghost use Rattle.ivl_laws.specs.Walks.{TakesFirst};
-ghost use Rattle.ivl_buffers.specs.Merging.{IsLaid, IsRunIn, LaysNext};
+ghost use Rattle.ivl_buffers.specs.Merging.{IsLaid, IsRunIn, LaysNext, laid};
 
 use crate::run::Run;
-use crate::run_lists::leaves_free;
+use crate::run_lists::{leaves_free, one_if};
 use crate::sorted_lookup::pair_at;
 use intervallum::interval::Interval;
 use intervallum::ops::Whole;
@@ -122,6 +122,76 @@ pub fn union<R: Run>(a: &[R], b: &[R], out: &mut [R]) -> usize
     }
     put(out, count, held);
     count + 1
+}
+
+/// Writes the members of exactly one of the two run lists.
+pub fn symmetric_difference<R: Run>(a: &[R], b: &[R], out: &mut [R]) -> usize
+    requires first { IsRunListIn R.Bound.whole (map R.pair a.now) }
+    requires second { IsRunListIn R.Bound.whole (map R.pair b.now) }
+    requires counted { length a.now + length b.now < 2 ^ 63 }
+    ensures runs { (L : List (ℤ × ℤ)) × IsLaid (SymmetricDifference (Covers (map R.pair a.now)) (Covers (map R.pair b.now)))
+        (map R.pair out.old) (map R.pair out.new) result L }
+    ensures at_most { result ≤ length a.now + length b.now }
+{
+    let (mut i, mut j, mut count) = (0, 0, 0);
+    // all below it is done
+    let mut from = R::Bound::min_value();
+    // where the last run starts, and whether the next one goes on with it
+    let mut start = from;
+    let mut is_joined = false;
+    'walk: while i < a.len() && j < b.len() {
+        let (run, other) = (a[i], b[j]);
+        let (u, v) = (run.upper(), other.upper());
+        let x = run.lower().max(from);
+        let y = other.lower().max(from);
+        let upper = select_unpredictable(x <= y, u, v);
+        let next = x.max(y);
+        let is_filled = x != y;
+        start = select_unpredictable(is_joined, start, x.min(y));
+        let end = upper.min(next.sub_in_range(one_if(is_filled)));
+        count -= usize::from(is_joined);
+        put_if(out, count, R::of(start, end), is_filled);
+        count += usize::from(is_filled);
+        let is_left = u != v;
+        i += usize::from(u <= v);
+        j += usize::from(v <= u);
+        from = u.min(v).add_in_range(one_if(is_left));
+        is_joined = is_left & (next == from);
+    }
+    let Some((head, more)) = left_of(a, i, b, j).split_first() else {
+        return count;
+    };
+    let lower = select_unpredictable(is_joined, start, head.lower().max(from));
+    count -= usize::from(is_joined);
+    put(out, count, R::of(lower, head.upper()));
+    append(out, count + 1, more)
+}
+
+/// The pairs that are left of one of two lists, of which the other has none left.
+fn left_of<'a, R: Run>(a: &'a [R], i: usize, b: &'a [R], j: usize) -> &'a [R]
+    requires ended { (length a.now ≡ i) ⊎ (length b.now ≡ j) }
+    requires first { i ≤ length a.now }
+    requires second { j ≤ length b.now }
+    ensures left { result.now ≡ drop i a.now ++ drop j b.now }
+    ensures ended { (drop i a.now ≡ []) ⊎ (drop j b.now ≡ []) }
+{
+    if i < a.len() { &a[i..] } else { &b[j..] }
+}
+
+/// Writes pairs from a place of the buffer on, as many as there are places. Returns the place after
+/// them.
+fn append<R: Run>(out: &mut [R], place: usize, runs: &[R]) -> usize
+    requires { place + length runs.now < 2 ^ 64 }
+    ensures laid { (L room : List (ℤ × ℤ)) → place ≡ length L → map R.pair out.old ≡ laid L room
+        → map R.pair out.new ≡ laid (L ++ map R.pair runs.now) room }
+    ensures end { result ≡ place + length runs.now }
+{
+    let mut end = place;
+    for run in runs {
+        put(out, end, *run);
+        end += 1;
+    }
+    end
 }
 
 /// Takes the pair that starts first of those at two places, if there is one, and advances its
