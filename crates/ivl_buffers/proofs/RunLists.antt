@@ -33,6 +33,31 @@ module _ (p q : ℤ × ℤ) (t : Bool) (x y d : ℤ) (e : x ≡ p.1) (f : y ≡ 
       (λ (le, k). ((λ r. let l = v.0 r in absurd (omega (arith, ints))), (λ far. absurd (omega (arith, ints)))))
       (below_start t less h)
 
+-- ---- whether a pair is a run that leaves a number free above another one
+
+module _ (whole p q : ℤ × ℤ) (start end : ℤ) (e : start ≡ q.0) (f : end ≡ q.1) where
+  abbrev pub IsNext : Type 0
+  IsNext = IsRunIn whole q × ((p.1 +ℤ pos 2) ≤ℤ q.0)
+
+  pub next_is_open : end <ℤ start → ¬ IsNext
+  next_is_open h ((o, r), far) = omega (arith, ints)
+
+  pub next_is_within : (high : ℤ) → high ≡ whole.1 → high <ℤ end → ¬ IsNext
+  next_is_within high k h ((o, (a, b)), far) = omega (arith, ints)
+
+  pub next_is_above : (below : ℤ) → below ≡ p.1 → start ≤ℤ below → ¬ IsNext
+  next_is_above below k h ((o, r), far) = omega (arith, ints)
+
+  module _ (high below one : ℤ) (k : high ≡ whole.1) (l : below ≡ p.1) (n : one ≡ pos 1) (o : IsRunIn whole p) (x : start ≤ℤ end) (y : end ≤ℤ high) (z : below <ℤ start) where
+    pub next_fits : IsBetween whole (below +ℤ one)
+    next_fits = let (a, (b, d)) = o in (omega (arith, ints), omega (arith, ints))
+
+    pub next_by_sum : (sum : ℤ) (t : Bool) → sum ≡ below +ℤ one → (IsTrue t ↔ (sum <ℤ start)) → IsTrue t ↔ IsNext
+    next_by_sum sum t g v = let (a, (b, d)) = o in (
+      (λ u. let lt = v.0 u in ((omega (arith, ints), (omega (arith, ints), omega (arith, ints))), omega (arith, ints))),
+      (λ (r, far). v.1 (omega (arith, ints))),
+    )
+
 -- ---- the first pair
 
 pub first_is_run : (whole p : ℤ × ℤ) (M : List (ℤ × ℤ)) → IsRunListIn whole (p ∷ M) → IsRunIn whole p

@@ -69,7 +69,8 @@ pub fn difference<R: Run>(a: &[R], b: &[R], out: &mut [R]) -> usize
                 held = pair_at(a, i);
             }
         } else {
-            count = lay(out, count, run);
+            put(out, count, run);
+            count += 1;
             i += 1;
             held = pair_at(a, i);
         }

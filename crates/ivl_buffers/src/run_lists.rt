@@ -23,7 +23,7 @@ pub fn is_run_list<R: Run>(runs: &[R]) -> bool
     }
     let mut last = *first;
     for run in rest {
-        if !is_run(*run) || !leaves_free(last, *run) {
+        if !is_next(last, *run) {
             return false;
         }
         last = *run;
@@ -47,6 +47,26 @@ fn is_run<R: Run>(run: R) -> bool
     ensures { IsTrue result ↔ IsRunIn R.Bound.whole (R.pair run) }
 {
     run.lower() <= run.upper() && Interval::in_range(run.lower(), run.upper())
+}
+
+/// True exactly when a pair is a run, and some number lies above another run and below it.
+fn is_next<R: Run>(last: R, run: R) -> bool
+    requires { IsRunIn R.Bound.whole (R.pair last) }
+    ensures { IsTrue result ↔ (IsRunIn R.Bound.whole (R.pair run) × (((R.pair last).1 +ℤ pos 2) ≤ℤ (R.pair run).0)) }
+{
+    let (start, end) = (run.lower(), run.upper());
+    if end < start {
+        return false;
+    }
+    if R::Bound::max_value() < end {
+        return false;
+    }
+    let below = last.upper();
+    if start <= below {
+        return false;
+    }
+    // what is above another run starts in the range
+    below.add_in_range(R::Bound::one()) < start
 }
 
 /// Returns true exactly when some number lies above one run and below another.
