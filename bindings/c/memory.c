@@ -1,5 +1,5 @@
 /* Lets each request for memory of each call fail in turn: the call answers IVL_OUT_OF_MEMORY with nothing written, or its
-   right answer. Of lists of runs, three of the calls make no request. Answers 0 where that holds. Linked with --wrap=malloc and the like, so that the library's requests come here. */
+   right answer. Of lists of runs, eight of the calls make no request. Answers 0 where that holds. Linked with --wrap=malloc and the like, so that the library's requests come here. */
 #include "intervallum.h"
 
 #include <stdio.h>
