@@ -62,7 +62,7 @@ int64_t ivl_complement_i64(const ivl_run_i64 *a, size_t n, ivl_run_i64 *IVL_REST
 /* Make a set of two lists. O(n log n + m log m).
    union: the members of either; intersection: of both; difference: of `a` and not of `b`;
    symmetric_difference: of exactly one.
-   The first three are O(n + m) and do not allocate if both lists are lists of runs: no pair is crossed, the
+   They are O(n + m) and do not allocate if both lists are lists of runs: no pair is crossed, the
    pairs ascend with at least one number missing between neighbours, and all are in the range, as in every list
    that a call has written. If `room` is less than n + m, they first count the runs of the answer. */
 int64_t ivl_union_i64(const ivl_run_i64 *a, size_t n, const ivl_run_i64 *b, size_t m, ivl_run_i64 *IVL_RESTRICT out, size_t room);
@@ -160,7 +160,7 @@ int64_t ivl_complement_u64(const ivl_run_u64 *a, size_t n, ivl_run_u64 *IVL_REST
 /* Make a set of two lists. O(n log n + m log m).
    union: the members of either; intersection: of both; difference: of `a` and not of `b`;
    symmetric_difference: of exactly one.
-   The first three are O(n + m) and do not allocate if both lists are lists of runs: no pair is crossed, the
+   They are O(n + m) and do not allocate if both lists are lists of runs: no pair is crossed, the
    pairs ascend with at least one number missing between neighbours, and all are in the range, as in every list
    that a call has written. If `room` is less than n + m, they first count the runs of the answer. */
 int64_t ivl_union_u64(const ivl_run_u64 *a, size_t n, const ivl_run_u64 *b, size_t m, ivl_run_u64 *IVL_RESTRICT out, size_t room);

@@ -1,5 +1,5 @@
 /* Lets each request for memory of each call fail in turn: the call answers IVL_OUT_OF_MEMORY with nothing written, or its
-   right answer. Of lists of runs, three of the calls make no request. Answers 0 where that holds. Linked with --wrap=malloc and the like, so that the library's requests come here. */
+   right answer. Of lists of runs, eight of the calls make no request. Answers 0 where that holds. Linked with --wrap=malloc and the like, so that the library's requests come here. */
 #include "intervallum.h"
 
 #include <stdio.h>
@@ -116,8 +116,8 @@ static const struct {
     call *made;
 } calls[] = {
     {"union", ivl_union_i64}, {"intersection", ivl_intersection_i64}, {"difference", ivl_difference_i64},
-    {"complement", complement}, {"is_subset", is_subset}, {"overlap", overlap}, {"equal", equal},
-    {"symmetric_difference", ivl_symmetric_difference_i64}, {"sums", ivl_sums_i64}, {"differences", ivl_differences_i64},
+    {"symmetric_difference", ivl_symmetric_difference_i64}, {"complement", complement}, {"is_subset", is_subset},
+    {"overlap", overlap}, {"equal", equal}, {"sums", ivl_sums_i64}, {"differences", ivl_differences_i64},
     {"products", ivl_products_i64}, {"normalize", normalize}, {"size", size_of}, {"first_fit", first_fit},
     {"rank", rank}, {"nth", nth}, {"insert", insert}, {"remove", remove_run},
 };
@@ -159,8 +159,8 @@ static int refuse_each(call *made, const char *name) {
     return failures;
 }
 
-/* Lists of runs, for which the first seven of the calls make no request, whatever the room. */
-enum { WALKS = 7 };
+/* Lists of runs, for which the first eight of the calls make no request, whatever the room. */
+enum { WALKS = 8 };
 static const ivl_run_i64 runs[] = {{1, 2}, {31, 35}, {60, 70}};
 static const ivl_run_i64 others[] = {{2, 3}, {7, 7}, {33, 65}};
 

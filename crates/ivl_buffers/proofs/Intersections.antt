@@ -1,12 +1,13 @@
 -- What two run lists have in common, from two places on: of the pairs at these places, the one that ends first is done.
-use Rattle.std.proofs.Common.{◌≡◌, ◌⊎◌, inl, inr, ℕ, ◌+◌, true, ℤ, pos, ◌≤ℤ◌, ◌<ℤ◌, arith, List, ◌∷◌, Some, None, ◌∙◌, map, drop, refl, sym, subst}
-use Rattle.std.specs.Prelude.{Option, slice_get}
-use Rattle.std.specs.Int.{int_max, int_min}
+use Rattle.std.proofs.Common.{◌≡◌, ◌↔◌, ◌⊎◌, inl, inr, ℕ, ◌+◌, Bool, true, false, IsTrue, ℤ, pos, ◌≤ℤ◌, ◌<ℤ◌, arith, List, ◌∷◌, Some, None, ◌∙◌, map, drop, refl, sym, subst}
+use Rattle.std.specs.Prelude.{Option, not, slice_get}
+use Rattle.std.specs.Int.{from_bool, int_max, int_min}
 use Rattle.std.specs.Option.{option_zip}
-use Rattle.std.proofs.lemmas.Int.{ints}
+use Rattle.std.proofs.lemmas.Int.{ints, by_lt_z}
 use Rattle.std.proofs.lemmas.Option.{get_or_from_slice_get, slice_get_within}
 use Rattle.ivl_laws.specs.Sets.{HasNone, IsBetween, Intersection, SameMembers, Union}
 use Rattle.ivl_laws.specs.Runs.{Covers, IsMaximal}
+use Rattle.ivl_laws.proofs.Adding.{untrue}
 use Rattle.ivl_laws.proofs.Merging.{overlap_between}
 use Rattle.ivl_laws.proofs.Runs.{pair_same}
 use Rattle.intervallum.proofs.MergeState.{building_same}
@@ -105,12 +106,26 @@ module _ {X : Type 0} (pair : X → ℤ × ℤ) (a b : List X) where
     state = subst (λ (M : List (ℤ × ℤ)). (W : List (ℤ × ℤ)) × IsLaying (Intersection (Covers (pair x ∷ A)) (Covers M)) common_of old room told W) second_open
         (subst (λ (M : List (ℤ × ℤ)). (W : List (ℤ × ℤ)) × IsLaying (Intersection (Covers M) (Covers (map pair (drop j b)))) common_of old room told W) first_open u)
 
-    pub meeting_first : (pair x).1 ≤ℤ (pair y).1 → (W : List (ℤ × ℤ)) × IsLaying (common_from (i + 1) j) common_of old room' told' W
+    meeting_first : (pair x).1 ≤ℤ (pair y).1 → (W : List (ℤ × ℤ)) × IsLaying (common_from (i + 1) j) common_of old room' told' W
     meeting_first le = let (W, v) = state in
         subst (λ (M : List (ℤ × ℤ)). (V : List (ℤ × ℤ)) × IsLaying (Intersection (Covers A) (Covers M)) common_of old room' told' V) (sym second_open)
         (meets_first A B (pair x) (pair y) r common_of old room room' told told' first_is second_is shared l W v le)
 
-    pub meeting_second : (pair y).1 ≤ℤ (pair x).1 → (W : List (ℤ × ℤ)) × IsLaying (common_from i (j + 1)) common_of old room' told' W
+    meeting_second : (pair y).1 ≤ℤ (pair x).1 → (W : List (ℤ × ℤ)) × IsLaying (common_from i (j + 1)) common_of old room' told' W
     meeting_second le = let (W, v) = state in
         subst (λ (M : List (ℤ × ℤ)). (V : List (ℤ × ℤ)) × IsLaying (Intersection (Covers M) (Covers B)) common_of old room' told' V) (sym first_open)
         (meets_second A B (pair x) (pair y) r common_of old room room' told told' first_is second_is shared l W v le)
+
+    pub meeting_next : (t : Bool) (v w : ℤ) (n m : ℕ) → v ≡ (pair x).1 → w ≡ (pair y).1 → (IsTrue t ↔ (v ≤ℤ w)) → n ≡ from_bool t → m ≡ from_bool (not t) →
+        (W : List (ℤ × ℤ)) × IsLaying (common_from (i + n) (j + m)) common_of old room' told' W
+    meeting_next t v w n m ev ew ends en em = go t ends en em
+      where
+        to : (k l : ℕ) → i + n ≡ k → j + m ≡ l → (W : List (ℤ × ℤ)) × IsLaying (common_from k l) common_of old room' told' W → (W : List (ℤ × ℤ)) × IsLaying (common_from (i + n) (j + m)) common_of old room' told' W
+        to k l e f s = rw (e, f) s
+
+        go : (t : Bool) → (IsTrue t ↔ (v ≤ℤ w)) → n ≡ from_bool t → m ≡ from_bool (not t) → (W : List (ℤ × ℤ)) × IsLaying (common_from (i + n) (j + m)) common_of old room' told' W
+        go true h e f = let one : n ≡ 1 = e in let none : m ≡ 0 = f in let le = h.0 refl in
+            to (i + 1) j (omega (arith, one)) (omega (arith, none)) (meeting_first (omega (arith, ints)))
+        go false h e f = let none : n ≡ 0 = e in let one : m ≡ 1 = f in
+            let le : w ≤ℤ v = by_lt_z v w (λ lt. absurd (untrue false refl h (omega (arith, ints)))) (λ le. le) in
+            to i (j + 1) (omega (arith, none)) (omega (arith, one)) (meeting_second (omega (arith, ints)))

@@ -15,3 +15,4 @@ pub mod SameRanks
 pub mod EditedSets
 pub mod Counted
 pub mod Complements
+pub mod OneAlone

@@ -1,8 +1,9 @@
 -- Runs that are laid in a room one by one, from left to right.
-use Rattle.std.proofs.Common.{◌≡◌, ◌⊎◌, inl, inr, ℕ, ◌+◌, ◌≤◌, ℤ, pos, ◌≤ℤ◌, List, [], ◌∷◌, ◌++◌, length, length-append, set, drop, map, true, refl, ap, ◌∙◌, sym, subst, arith}
+use Rattle.std.proofs.Common.{◌≡◌, ◌⊎◌, inl, inr, ℕ, ◌+◌, ◌≤◌, ℤ, pos, ◌≤ℤ◌, List, [], ◌∷◌, ◌++◌, length, length-append, get_or, set, drop, take, map, ◌<◌, Bool, true, false, refl, ap, ◌∙◌, sym, subst, arith}
 use Rattle.std.proofs.lemmas.Int.{ints, by_lt_z}
 use Rattle.std.proofs.lemmas.Bool.{le-leb}
-use Rattle.std.specs.Prelude.{nat_le}
+use Rattle.std.proofs.lemmas.List.{append-nil, append_assoc, length-map, length-take-le, map-append, map-set, set-get_or, take_more}
+use Rattle.std.specs.Prelude.{cond, nat_le}
 use Rattle.ivl_laws.specs.Sets.{HasNone, IsBetween, SameMembers, Union}
 use Rattle.ivl_laws.specs.Runs.{Covers, IsMaximal}
 use Rattle.ivl_laws.proofs.Intervals.{none_is_crossed}
@@ -57,6 +58,12 @@ lays_put r p room room' told e o h = record {
   filled = λ _. (refl, subst (λ (t : ℤ × ℤ). room' ≡ set room told t) e h);
 }
 
+-- a pair that is written by a test
+pub put_by : {X : Type 0} (pair : X → ℤ × ℤ) (t : Bool) (out : List X) (k : ℕ) (run old : X) → old ≡ get_or out k old →
+    map pair (set out k (cond t run old)) ≡ cond t (set (map pair out) k (pair run)) (map pair out)
+put_by pair true out k run old e = map-set pair out k run
+put_by pair false out k run old e = ap (λ (L : List _). map pair L) (ap (λ x. set out k x) e ∙ set-get_or out k old)
+
 -- the next pair adds its numbers, none where it is crossed
 pub lays : (W : List (ℤ × ℤ)) (r : ℤ × ℤ) (old room room' : List (ℤ × ℤ)) (told told' : ℕ) → IsMaximal W → IsBelow (pos 2) (Covers W) (IsBetween r) → told ≡ length W → room ≡ laid W old →
     LaysNext r room room' told told' → (W' : List (ℤ × ℤ)) × IsLaid (Union (Covers W) (IsBetween r)) old room' told' W'
@@ -108,3 +115,26 @@ same_room pair S none (x ∷ new) room told e (L, u) =
     let nothing : laid L none ≡ [] = subst (λ (M : List (ℤ × ℤ)). laid L M ≡ []) (sym e) (laid_in_none L) in
     let wrong : pair x ∷ map pair new ≡ [] = u.room ∙ nothing in
     absurd (cc)
+
+-- ---- pairs of a list that are laid one by one, past those that are laid
+
+module _ {X : Type 0} (pair : X → ℤ × ℤ) (runs : List X) (k : ℕ) (d : X) (h : k < length runs) (is : d ≡ get_or runs k d) where
+  laid_one_more : (L room : List (ℤ × ℤ)) (n : ℕ) → n ≡ length L + k → set (laid (L ++ map pair (take k runs)) room) n (pair d) ≡ laid (L ++ map pair (take (k + 1) runs)) room
+  laid_one_more L room n e =
+      let M = L ++ map pair (take k runs) in
+      let both = length-append L (map pair (take k runs)) in
+      let same = length-map (take k runs) pair in
+      let part = length-take-le k runs (omega (arith, h)) in
+      let at : n ≡ length M = omega (arith, e, both, same, part) in
+      let more : map pair (take k runs) ++ pair d ∷ [] ≡ map pair (take (k + 1) runs) =
+      sym (map-append pair (take k runs) (d ∷ [])) ∙ ap (λ (N : List X). map pair N) (sym (take_more runs k d h ∙ ap (λ (x : X). take k runs ++ x ∷ []) (sym is))) in
+      ap (λ (i : ℕ). set (laid M room) i (pair d)) at ∙ laid_more M room (pair d) ∙ ap (λ (N : List (ℤ × ℤ)). laid N room) (append_assoc L (map pair (take k runs)) (pair d ∷ []) ∙ ap (λ (N : List (ℤ × ℤ)). L ++ N) more)
+
+  pub laid_next : (place end : ℕ) (old new new' : List (ℤ × ℤ)) → end ≡ place + k → new' ≡ set new end (pair d) →
+      ((L room : List (ℤ × ℤ)) → place ≡ length L → old ≡ laid L room → new ≡ laid (L ++ map pair (take k runs)) room) →
+      (L room : List (ℤ × ℤ)) → place ≡ length L → old ≡ laid L room → new' ≡ laid (L ++ map pair (take (k + 1) runs)) room
+  laid_next place end old new new' e f all L room n o = f ∙ ap (λ (N : List (ℤ × ℤ)). set N end (pair d)) (all L room n o) ∙ laid_one_more L room end (omega (arith, e, n))
+
+pub laid_none_yet : {X : Type 0} (pair : X → ℤ × ℤ) (runs : List X) (place : ℕ) (old : List (ℤ × ℤ)) → (L room : List (ℤ × ℤ)) → place ≡ length L → old ≡ laid L room →
+    old ≡ laid (L ++ map pair (take 0 runs)) room
+laid_none_yet pair runs place old L room n o = o ∙ ap (λ (N : List (ℤ × ℤ)). laid N room) (sym (append-nil L))

@@ -1,9 +1,11 @@
 -- What is left to look at decides whether a list is one of runs.
-use Rattle.std.proofs.Common.{◌≡◌, ◌↔◌, inl, inr, ℕ, ◌+◌, ◌<◌, ◌≤◌, ℤ, pos, ◌+ℤ◌, ◌≤ℤ◌, Bool, true, false, IsTrue, List, [], ◌∷◌, length, get_or, map, drop, refl, sym, subst, arith}
-use Rattle.std.proofs.lemmas.Int.{ints}
+use Rattle.std.proofs.Common.{◌≡◌, ◌↔◌, ◌⊎◌, inl, inr, ⊎_elim, ℕ, ◌+◌, ◌<◌, ◌≤◌, ℤ, pos, ◌+ℤ◌, ◌≤ℤ◌, ◌<ℤ◌, Bool, true, false, IsTrue, List, [], ◌∷◌, length, get_or, map, drop, refl, sym, subst, arith}
+use Rattle.std.proofs.lemmas.Int.{ints, by_lt_z}
+use Rattle.std.specs.Int.{from_bool}
 use lib.Signed.{≤ℤ_refl}
 use Rattle.ivl_laws.specs.Sets.{IsBetween, IsInRange}
 use Rattle.ivl_laws.specs.Runs.{Covers, IsRunListIn}
+use Rattle.ivl_laws.proofs.Adding.{untrue}
 use Rattle.ivl_buffers.specs.Merging.{IsRunIn}
 use Rattle.ivl_buffers.proofs.Suffixes.{rest_all, rest_at, rest_list, rest_none}
 
@@ -17,6 +19,44 @@ run_by_bounds whole p x y t e f o h = (
 
 pub no_run_by_bounds : (whole p : ℤ × ℤ) (x y : ℤ) → x ≡ p.0 → y ≡ p.1 → ¬ (x ≤ℤ y) → ¬ (IsRunIn whole p)
 no_run_by_bounds whole p x y e f n r = n (let o = r.0 in omega (arith, ints, e, f, o))
+
+-- ---- whether one run leaves a number free below another, by one sum
+
+module _ (p q : ℤ × ℤ) (t : Bool) (x y d : ℤ) (e : x ≡ p.1) (f : y ≡ q.0) (less : IsTrue t ↔ (x <ℤ y)) (h : d ≡ pos (from_bool t)) where
+  below_start : (t : Bool) → (IsTrue t ↔ (x <ℤ y)) → d ≡ pos (from_bool t) → ((x <ℤ y) × (d ≡ pos 1)) ⊎ ((y ≤ℤ x) × (d ≡ pos 0))
+  below_start true l g = inl (l.0 refl, g)
+  below_start false l g = inr (by_lt_z x y (λ lt. absurd (untrue false refl l lt)) (λ le. le), g)
+
+  pub free_is : (s : ℤ) (u : Bool) → s ≡ x +ℤ d → (IsTrue u ↔ (s <ℤ y)) → IsTrue u ↔ ((p.1 +ℤ pos 2) ≤ℤ q.0)
+  free_is s u g v = ⊎_elim
+      (λ (lt, k). ((λ r. let l = v.0 r in omega (arith, ints)), (λ far. v.1 (omega (arith, ints)))))
+      (λ (le, k). ((λ r. let l = v.0 r in absurd (omega (arith, ints))), (λ far. absurd (omega (arith, ints)))))
+      (below_start t less h)
+
+-- ---- whether a pair is a run that leaves a number free above another one
+
+module _ (whole p q : ℤ × ℤ) (start end : ℤ) (e : start ≡ q.0) (f : end ≡ q.1) where
+  abbrev pub IsNext : Type 0
+  IsNext = IsRunIn whole q × ((p.1 +ℤ pos 2) ≤ℤ q.0)
+
+  pub next_is_open : end <ℤ start → ¬ IsNext
+  next_is_open h ((o, r), far) = omega (arith, ints)
+
+  pub next_is_within : (high : ℤ) → high ≡ whole.1 → high <ℤ end → ¬ IsNext
+  next_is_within high k h ((o, (a, b)), far) = omega (arith, ints)
+
+  pub next_is_above : (below : ℤ) → below ≡ p.1 → start ≤ℤ below → ¬ IsNext
+  next_is_above below k h ((o, r), far) = omega (arith, ints)
+
+  module _ (high below one : ℤ) (k : high ≡ whole.1) (l : below ≡ p.1) (n : one ≡ pos 1) (o : IsRunIn whole p) (x : start ≤ℤ end) (y : end ≤ℤ high) (z : below <ℤ start) where
+    pub next_fits : IsBetween whole (below +ℤ one)
+    next_fits = let (a, (b, d)) = o in (omega (arith, ints), omega (arith, ints))
+
+    pub next_by_sum : (sum : ℤ) (t : Bool) → sum ≡ below +ℤ one → (IsTrue t ↔ (sum <ℤ start)) → IsTrue t ↔ IsNext
+    next_by_sum sum t g v = let (a, (b, d)) = o in (
+      (λ u. let lt = v.0 u in ((omega (arith, ints), (omega (arith, ints), omega (arith, ints))), omega (arith, ints))),
+      (λ (r, far). v.1 (omega (arith, ints))),
+    )
 
 -- ---- the first pair
 

@@ -1,6 +1,8 @@
 -- The pairs of a list from a place on.
-use Rattle.std.proofs.Common.{◌≡◌, inr, ℕ, zero, suc, ◌+◌, ◌<◌, ◌≤◌, ℤ, List, [], ◌∷◌, None, length, get_or, map, drop, option_map, refl, ap, ap₂, sym, subst, arith}
-use Rattle.std.specs.Prelude.{slice_get}
+use Rattle.std.proofs.Common.{◌≡◌, ◌∙◌, ◌⊎◌, ◌++◌, inl, inr, Bool, true, false, ℕ, zero, suc, ◌+◌, ◌<◌, ◌≤◌, ℤ, List, [], ◌∷◌, None, length, get_or, map, drop, option_map, refl, ap, ap₂, sym, subst, arith}
+use Rattle.std.proofs.lemmas.List.{drop-map, map-append}
+use Rattle.std.specs.Int.{from_bool}
+use Rattle.std.specs.Prelude.{not, slice_get}
 use Rattle.ivl_laws.specs.Sets.{IsSubset}
 use Rattle.ivl_laws.specs.Runs.{Covers, IsMaximal, IsRunListIn}
 use Rattle.intervallum.specs.HeldRun.{led_by}
@@ -58,3 +60,25 @@ none_from pair [] zero e = refl
 none_from pair [] (suc k) e = refl
 none_from pair (y ∷ L) zero e = absurd (cc)
 none_from pair (y ∷ L) (suc k) e = none_from pair L k e
+
+-- ---- the places move by a test
+
+pub one_moves : (t : Bool) (n m : ℕ) → n ≡ from_bool t → m ≡ from_bool (not t) → n + m ≡ 1
+one_moves true n m e f = let one : n ≡ 1 = e in let none : m ≡ 0 = f in omega (arith, one, none)
+one_moves false n m e f = let none : n ≡ 0 = e in let one : m ≡ 1 = f in omega (arith, one, none)
+
+-- ---- the same, where the pairs of the whole list are taken first
+
+pub opened_map : {X : Type 0} (pair : X → ℤ × ℤ) (L : List X) (k : ℕ) (d : X) → k < length L → d ≡ get_or L k d → drop k (map pair L) ≡ pair d ∷ drop (k + 1) (map pair L)
+opened_map pair L k d h is = drop-map pair k L ∙ rest_at pair L k d h is ∙ ap (λ (M : List (ℤ × ℤ)). pair d ∷ M) (sym (drop-map pair (k + 1) L))
+
+pub map_rest : {X : Type 0} (pair : X → ℤ × ℤ) (a b R : List X) (i j : ℕ) → R ≡ drop i a ++ drop j b → map pair R ≡ drop i (map pair a) ++ drop j (map pair b)
+map_rest pair a b R i j e = ap (λ (L : List _). map pair L) e ∙ map-append pair (drop i a) (drop j b) ∙ ap₂ (λ (L M : List (ℤ × ℤ)). L ++ M) (sym (drop-map pair i a)) (sym (drop-map pair j b))
+
+pub map_ended : {X : Type 0} (pair : X → ℤ × ℤ) (a b : List X) (i j : ℕ) → (drop i a ≡ []) ⊎ (drop j b ≡ []) → (drop i (map pair a) ≡ []) ⊎ (drop j (map pair b) ≡ [])
+map_ended pair a b i j (inl e) = inl (drop-map pair i a ∙ ap (λ (L : List _). map pair L) e)
+map_ended pair a b i j (inr e) = inr (drop-map pair j b ∙ ap (λ (L : List _). map pair L) e)
+
+pub none_split : {X : Type 0} (pair : X → ℤ × ℤ) (L : List X) → length L ≡ 0 → map pair L ≡ []
+none_split pair [] e = refl
+none_split pair (x ∷ L) e = absurd (omega arith)

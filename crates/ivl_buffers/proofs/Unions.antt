@@ -1,14 +1,17 @@
 -- The runs of two run lists joined from the left: the last one is held, and the others are laid.
-use Rattle.std.proofs.Common.{◌≡◌, ◌∙◌, inl, inr, ℕ, ◌+◌, ℤ, pos, ◌+ℤ◌, ◌≤ℤ◌, List, [], ◌∷◌, ◌++◌, Some, None, length, map, drop, set, refl, ap, sym, subst, arith}
-use Rattle.std.specs.Prelude.{slice_get, option_map}
-use Rattle.std.specs.Int.{int_max}
+use Rattle.std.proofs.Common.{◌≡◌, ◌↔◌, ◌∙◌, inl, inr, ℕ, ◌+◌, Bool, true, false, IsTrue, ℤ, pos, ◌+ℤ◌, ◌≤ℤ◌, List, [], ◌∷◌, ◌++◌, Some, None, length, map, drop, set, refl, ap, sym, subst, arith}
+use Rattle.std.proofs.lemmas.List.{set-set}
+use Rattle.std.specs.Prelude.{cond, not, slice_get, option_map}
+use Rattle.std.specs.Int.{from_bool, int_max}
 use Rattle.std.proofs.lemmas.Int.{ints, clamps, by_lt_z}
 use lib.Signed.{≤ℤ_refl}
 use Rattle.ivl_laws.specs.Sets.{Union}
-use Rattle.ivl_laws.specs.Runs.{Covers, IsMaximal, IsRunListIn, IsRunsOf, StartsBy}
+use Rattle.ivl_laws.specs.Runs.{Covers, IsMaximal, IsRunListIn, StartsBy}
 use Rattle.ivl_laws.specs.Walks.{StartsFrom, TakesFirst}
+use Rattle.ivl_laws.proofs.Adding.{untrue}
+use Rattle.ivl_laws.proofs.Runs.{pair_same}
 use Rattle.ivl_laws.proofs.Merging.{StartsBy-push, first_run, run_apart, run_joined}
-use Rattle.ivl_laws.proofs.Walks.{IsUniting, StartsBefore, uniting_begins, uniting_ends, uniting_next}
+use Rattle.ivl_laws.proofs.Walks.{IsUniting, uniting_begins, uniting_next}
 use Rattle.intervallum.specs.HeldRun.{led_by}
 use Rattle.intervallum.proofs.Unions.{all_united, taken_starts}
 use Rattle.ivl_buffers.specs.Merging.{IsLaid, IsRunIn, laid}
@@ -28,11 +31,24 @@ module _ {X : Type 0} (pair : X → ℤ × ℤ) (a b : List X) (i j : ℕ) where
   abbrev pub TakesTo : ℕ → ℕ → X → Type 0
   TakesTo i' j' x = TakesFirst (map pair (drop i a)) (map pair (drop j b)) (map pair (drop i' a)) (map pair (drop j' b)) (pair x)
 
-  pub takes_left : (x y : X) → slice_get a i ≡ Some x → slice_get b j ≡ Some y → (pair x).0 ≤ℤ (pair y).0 → TakesTo (i + 1) j x
-  takes_left x y e f h = inl (opened_at pair a i x e, refl, starts _ _ (pair y) (pair x).0 (opened_at pair b j y f) h)
-
-  pub takes_right : (x y : X) → slice_get a i ≡ Some x → slice_get b j ≡ Some y → (pair y).0 ≤ℤ (pair x).0 → TakesTo i (j + 1) y
-  takes_right x y e f h = inr (opened_at pair b j y f, refl, starts _ _ (pair x) (pair y).0 (opened_at pair a i x e) h)
+  -- the pair that starts first is taken by a test, and its place moves
+  pub takes_next : (t : Bool) (x y : X) (v w : ℤ) (n m : ℕ) → slice_get a i ≡ Some x → slice_get b j ≡ Some y → v ≡ (pair x).0 → w ≡ (pair y).0 → (IsTrue t ↔ (v ≤ℤ w)) →
+      n ≡ from_bool t → m ≡ from_bool (not t) → TakesTo (i + n) (j + m) (cond t x y)
+  takes_next true x y v w n m e f ev ew h en em =
+      let one : n ≡ 1 = en in let none : m ≡ 0 = em in let le = h.0 refl in
+      inl (
+        opened_at pair a i x e ∙ ap (λ (k : ℕ). pair x ∷ map pair (drop k a)) (omega (arith, one)),
+        ap (λ (k : ℕ). map pair (drop k b)) (omega (arith, none)),
+        starts _ _ (pair y) (pair x).0 (opened_at pair b j y f) (omega (arith, ints)),
+      )
+  takes_next false x y v w n m e f ev ew h en em =
+      let none : n ≡ 0 = en in let one : m ≡ 1 = em in
+      let le : w ≤ℤ v = by_lt_z v w (λ lt. absurd (untrue false refl h (omega (arith, ints)))) (λ le. le) in
+      inr (
+        opened_at pair b j y f ∙ ap (λ (k : ℕ). pair y ∷ map pair (drop k b)) (omega (arith, one)),
+        ap (λ (k : ℕ). map pair (drop k a)) (omega (arith, none)),
+        starts _ _ (pair x) (pair y).0 (opened_at pair a i x e) (omega (arith, ints)),
+      )
 
   pub takes_left_alone : (x : X) → slice_get a i ≡ Some x → slice_get b j ≡ None → TakesTo (i + 1) j x
   takes_left_alone x e f = inl (opened_at pair a i x e, refl, subst (StartsFrom (pair x).0) (sym (none_from pair b j f)) tt)
@@ -42,11 +58,11 @@ module _ {X : Type 0} (pair : X → ℤ × ℤ) (a b : List X) (i j : ℕ) where
 
 -- ---- what the held pair and the taken one make
 
--- p is held: it is the last of the runs so far, and the others are laid
+-- p is held: it is the last of the runs so far, and the others are laid, whatever stands at the next place
 pub record IsJoining (A B : List (ℤ × ℤ)) (S : ℤ → Type 0) (old new : List (ℤ × ℤ)) (told : ℕ) (p : ℤ × ℤ) (W : List (ℤ × ℤ)) : Type 0 where
   pub state : IsUniting (W ++ p ∷ []) A B S
   pub count : told ≡ length W
-  pub room : new ≡ laid W old
+  pub room : (r : ℤ × ℤ) → set new told r ≡ laid (W ++ r ∷ []) old
 
 taken_is_open : (W A B A' B' : List (ℤ × ℤ)) (q : ℤ × ℤ) (S : ℤ → Type 0) → IsUniting W A B S → TakesFirst A B A' B' q → q.0 ≤ℤ q.1
 taken_is_open W A B A' B' q S u (inl (e, f, h)) = (subst IsMaximal e u.first).0
@@ -66,34 +82,45 @@ module _ (A B A' B' : List (ℤ × ℤ)) (p q : ℤ × ℤ) (S : ℤ → Type 0)
   by = taken_starts (W ++ p ∷ []) A B A' B' q S u.state t
 
   -- the held pair is laid, and the other one is held
-  pub joins_none : (room' : List (ℤ × ℤ)) → (p.1 +ℤ pos 2) ≤ℤ q.0 → room' ≡ set room told p → (V : List (ℤ × ℤ)) × IsJoining A' B' S old room' (told + 1) q V
-  joins_none room' far e =
-      let o = taken_is_open (W ++ p ∷ []) A B A' B' q S u.state t in (
-        W ++ p ∷ [],
-        record {
-          state = uniting_next (W ++ p ∷ []) ((W ++ p ∷ []) ++ q ∷ []) A B A' B' q S u.state t (run_apart W p q u.state.maximal far o) (StartsBy-push (W ++ p ∷ []) q q.0 by (≤ℤ_refl q.0));
-          count = length_more W p told u.count;
-          room = e ∙ put;
-        },
-      )
+  joins_none : (room' : List (ℤ × ℤ)) → (p.1 +ℤ pos 2) ≤ℤ q.0 → room' ≡ set room told p → (V : List (ℤ × ℤ)) × IsJoining A' B' S old room' (told + 1) q V
+  joins_none room' far e = (
+    W ++ p ∷ [],
+    record {
+      state = uniting_next (W ++ p ∷ []) ((W ++ p ∷ []) ++ q ∷ []) A B A' B' q S u.state t (run_apart W p q u.state.maximal far (taken_is_open (W ++ p ∷ []) A B A' B' q S u.state t))
+          (StartsBy-push (W ++ p ∷ []) q q.0 by (≤ℤ_refl q.0));
+      count = more;
+      room = λ r. rw (e ∙ u.room p, more) (laid_more (W ++ p ∷ []) old r);
+    },
+  )
     where
-      put : set room told p ≡ laid (W ++ p ∷ []) old
-      put = subst (λ (n : ℕ). set room n p ≡ laid (W ++ p ∷ []) old) (sym u.count) (subst (λ (M : List (ℤ × ℤ)). set M (length W) p ≡ laid (W ++ p ∷ []) old) (sym u.room) (laid_more W old p))
+      more : told + 1 ≡ length (W ++ p ∷ [])
+      more = length_more W p told u.count
 
   -- the two are joined
-  pub joins_both : (r : ℤ × ℤ) → ¬ ((p.1 +ℤ pos 2) ≤ℤ q.0) → r ≡ (p.0, int_max p.1 q.1) → (V : List (ℤ × ℤ)) × IsJoining A' B' S old room told r V
-  joins_both r near e = subst (λ (x : ℤ × ℤ). (V : List (ℤ × ℤ)) × IsJoining A' B' S old room told x V) (sym e) (
+  joins_both : (r : ℤ × ℤ) (room' : List (ℤ × ℤ)) → q.0 ≤ℤ (p.1 +ℤ pos 1) → r ≡ (p.0, int_max p.1 q.1) → room' ≡ set room told p → (V : List (ℤ × ℤ)) × IsJoining A' B' S old room' told r V
+  joins_both r room' touch e h = subst (λ (x : ℤ × ℤ). (V : List (ℤ × ℤ)) × IsJoining A' B' S old room' told x V) (sym e) (
     W,
     record {
       state = uniting_next (W ++ p ∷ []) (W ++ (p.0, int_max p.1 q.1) ∷ []) A B A' B' q S u.state t
           (run_joined W p q u.state.maximal (last_starts W p q.0 by) touch) (starts_joined W p (p.0, int_max p.1 q.1) q.0 refl by);
       count = u.count;
-      room = u.room;
+      room = λ s. ap (λ (L : List (ℤ × ℤ)). set L told s) h ∙ set-set room told p s ∙ u.room s;
     },
   )
-    where
-      touch : q.0 ≤ℤ (p.1 +ℤ pos 1)
-      touch = by_lt_z (p.1 +ℤ pos 1) q.0 (λ lt. absurd (near (omega (arith, ints, lt)))) (λ le. le)
+
+  -- r is held then
+  pub joins_next : (gap : Bool) (r : ℤ × ℤ) (room' : List (ℤ × ℤ)) (n : ℕ) → (IsTrue gap ↔ ((p.1 +ℤ pos 2) ≤ℤ q.0)) → n ≡ from_bool gap → r.0 ≡ cond gap q.0 p.0 → r.1 ≡ int_max p.1 q.1 →
+      room' ≡ set room told p → (V : List (ℤ × ℤ)) × IsJoining A' B' S old room' (told + n) r V
+  joins_next true r room' n h k low high e =
+      let far = h.0 refl in
+      let o = taken_is_open (W ++ p ∷ []) A B A' B' q S u.state t in
+      let same : r ≡ q = pair_same r q low (omega (arith, ints, clamps)) in
+      rw (k, same) (joins_none room' far e)
+  joins_next false r room' n h k low high e =
+      let none : n ≡ 0 = k in
+      let same : told + n ≡ told = omega (arith, none) in
+      let touch : q.0 ≤ℤ (p.1 +ℤ pos 1) = by_lt_z (p.1 +ℤ pos 1) q.0 (λ lt. absurd (untrue false refl h (omega (arith, ints)))) (λ le. le) in
+      rw same (joins_both r room' touch (pair_same r (p.0, int_max p.1 q.1) low high) e)
 
 -- ---- the first pair, and the end
 
@@ -102,7 +129,7 @@ pub joining_begins : (A B A' B' : List (ℤ × ℤ)) (p : ℤ × ℤ) (old : Lis
 joining_begins A B A' B' p old m n t =
     let u = uniting_begins A B m n in
     let o = taken_is_open [] A B A' B' p (Union (Covers A) (Covers B)) u t in
-    ([], record { state = uniting_next [] (p ∷ []) A B A' B' p (Union (Covers A) (Covers B)) u t (first_run p o) (≤ℤ_refl p.0, tt); count = refl; room = refl })
+    ([], record { state = uniting_next [] (p ∷ []) A B A' B' p (Union (Covers A) (Covers B)) u t (first_run p o) (≤ℤ_refl p.0, tt); count = refl; room = laid_more [] old })
 
 pub joining_none : (A B old : List (ℤ × ℤ)) → IsMaximal A → IsMaximal B → A ≡ [] → B ≡ [] → (L : List (ℤ × ℤ)) × IsLaid (Union (Covers A) (Covers B)) old old 0 L
 joining_none A B old m n e f = ([], record { runs = all_united [] A B (Union (Covers A) (Covers B)) e f (uniting_begins A B m n); count = refl; room = refl })
@@ -114,12 +141,9 @@ joining_ends A B p S old room room' told e f (W, u) h = (
   record {
     runs = all_united (W ++ p ∷ []) A B S e f u.state;
     count = length_more W p told u.count;
-    room = h ∙ put;
+    room = h ∙ u.room p;
   },
 )
-  where
-    put : set room told p ≡ laid (W ++ p ∷ []) old
-    put = subst (λ (n : ℕ). set room n p ≡ laid (W ++ p ∷ []) old) (sym u.count) (subst (λ (M : List (ℤ × ℤ)). set M (length W) p ≡ laid (W ++ p ∷ []) old) (sym u.room) (laid_more W old p))
 
 -- ---- that what is held is a run in the range
 
@@ -127,11 +151,9 @@ pub taken_is_run : (whole : ℤ × ℤ) (A B A' B' : List (ℤ × ℤ)) (q : ℤ
 taken_is_run whole A B A' B' q r s (inl (e, f, h)) = first_is_run whole q A' (subst (IsRunListIn whole) e r)
 taken_is_run whole A B A' B' q r s (inr (e, f, h)) = first_is_run whole q B' (subst (IsRunListIn whole) e s)
 
-pub joined_is_run : (whole p q r : ℤ × ℤ) → IsRunIn whole p → IsRunIn whole q → r ≡ (p.0, int_max p.1 q.1) → IsRunIn whole r
-joined_is_run whole p q r o k e = subst (IsRunIn whole) (sym e) (
-  let a = o.0 in omega (arith, ints, clamps),
-  (o.1.0, let a = o.1.1 in let b = k.1.1 in omega (arith, ints, clamps)),
-)
+pub joined_is_run : (gap : Bool) (whole p q r : ℤ × ℤ) → IsRunIn whole p → IsRunIn whole q → r.0 ≡ cond gap q.0 p.0 → r.1 ≡ int_max p.1 q.1 → IsRunIn whole r
+joined_is_run true whole p q r (o, (a, b)) (o', (a', b')) low high = (omega (arith, ints, clamps), (omega (arith, ints, clamps), omega (arith, ints, clamps)))
+joined_is_run false whole p q r (o, (a, b)) (o', (a', b')) low high = (omega (arith, ints, clamps), (omega (arith, ints, clamps), omega (arith, ints, clamps)))
 
 -- ---- the same, by the places in two lists
 

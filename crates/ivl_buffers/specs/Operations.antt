@@ -1,7 +1,6 @@
 -- What is made of the members of one list, or of two.
 --     MadeOfOne whole making S      the members; the numbers of the range that are no members
 --     MadeOfTwo making S T      the members of either, of both, of the first alone, of exactly one
---     IsOneWalk making      one walk over the runs of two sets makes it here: all but the members of exactly one
 --     HoldsOf asking S T      what is asked of the members of two lists
 use Rattle.std.specs.Prelude.{ℤ}
 use Rattle.ivl_laws.specs.Sets.{Complement, HasSome, Intersection, IsSubset, SameMembers, SymmetricDifference, Union, Without}
@@ -21,12 +20,6 @@ MadeOfTwo Either S T = Union S T
 MadeOfTwo Both S T = Intersection S T
 MadeOfTwo FirstAlone S T = Without S T
 MadeOfTwo OneAlone S T = SymmetricDifference S T
-
-abbrev pub IsOneWalk : OfTwo → Type 0
-IsOneWalk Either = Unit {0}
-IsOneWalk Both = Unit {0}
-IsOneWalk FirstAlone = Unit {0}
-IsOneWalk OneAlone = ⊥
 
 abbrev pub HoldsOf : Asking → (ℤ → Type 0) → (ℤ → Type 0) → Type 0
 HoldsOf Within S T = IsSubset S T

@@ -2,20 +2,23 @@
 //!
 //! A walk writes the runs of its answer to the first places of the buffer, as many as there are
 //! places, and returns the number of all of them. It is linear in the runs of both lists, and does
-//! not allocate.
-ghost use Rattle.std.specs.Prelude.{◌≡◌, ◌+◌, ◌^◌, ◌<◌, ◌≤◌, ℤ, ◌+ℤ◌, ◌-ℤ◌, ◌<ℤ◌, pos, IfSome, List, [], MatchOption, None, drop, length, map, slice_set};
+//! not allocate. In the loops of `union`, `intersection` and `symmetric_difference` no branch hangs on
+//! the values: what a comparison tells is added to a place as 0 or 1, or chooses by a conditional
+//! move.
+ghost use Rattle.std.specs.Prelude.{◌≡◌, ◌⊎◌, ◌++◌, ◌+◌, ◌^◌, ◌<◌, ◌≤◌, ℤ, ◌+ℤ◌, ◌-ℤ◌, ◌<ℤ◌, if◌then◌else◌, pos, IfSome, List, [], MatchOption, None, drop, length, map, slice_set};
 ghost use Rattle.std.specs.Int.{int_max, int_min};
-ghost use Rattle.ivl_laws.specs.Sets.{Complement, Intersection, Union, Without};
+ghost use Rattle.ivl_laws.specs.Sets.{Complement, Intersection, SymmetricDifference, Union, Without};
 ghost use Rattle.ivl_laws.specs.Runs.{Covers, IsRunListIn};
 ghost use Rattle.ivl_laws.specs.Walks.{TakesFirst};
-ghost use Rattle.ivl_buffers.specs.Merging.{IsLaid, IsRunIn, LaysNext};
+ghost use Rattle.ivl_buffers.specs.Merging.{IsLaid, IsRunIn, LaysNext, laid};
 
 use crate::run::Run;
-use crate::run_lists::leaves_free;
+use crate::run_lists::{leaves_free, one_if};
 use crate::sorted_lookup::pair_at;
 use intervallum::interval::Interval;
 use intervallum::ops::Whole;
 use intervallum::width::Width;
+use std::hint::select_unpredictable;
 
 /// Writes the members of both run lists.
 pub fn intersection<R: Run>(a: &[R], b: &[R], out: &mut [R]) -> usize
@@ -29,20 +32,14 @@ pub fn intersection<R: Run>(a: &[R], b: &[R], out: &mut [R]) -> usize
     let mut count = 0;
     let mut i = 0;
     let mut j = 0;
-    let mut first = pair_at(a, 0);
-    let mut second = pair_at(b, 0);
-    'walk: while let Some(runs) = first.zip(second) {
+    'walk: while let Some(runs) = pair_at(a, i).zip(pair_at(b, j)) {
         let (run, other) = runs;
         let start = run.lower().max(other.lower());
         let end = run.upper().min(other.upper());
         count = lay(out, count, R::of(start, end));
-        if run.upper() <= other.upper() {
-            i += 1;
-            first = pair_at(a, i);
-        } else {
-            j += 1;
-            second = pair_at(b, j);
-        }
+        let ends_first = run.upper() <= other.upper();
+        i += usize::from(ends_first);
+        j += usize::from(!ends_first);
     }
     count
 }
@@ -72,7 +69,8 @@ pub fn difference<R: Run>(a: &[R], b: &[R], out: &mut [R]) -> usize
                 held = pair_at(a, i);
             }
         } else {
-            count = lay(out, count, run);
+            put(out, count, run);
+            count += 1;
             i += 1;
             held = pair_at(a, i);
         }
@@ -116,16 +114,85 @@ pub fn union<R: Run>(a: &[R], b: &[R], out: &mut [R]) -> usize
         return 0;
     };
     'walk: while let Some(run) = take_first(a, &mut i, b, &mut j) {
-        if leaves_free(held, run) {
-            put(out, count, held);
-            count += 1;
-            held = run;
-        } else {
-            held = R::of(held.lower(), held.upper().max(run.upper()));
-        }
+        let is_gap = leaves_free(held, run);
+        // written over by the next step unless a gap follows, and for good at the end
+        put(out, count, held);
+        count += usize::from(is_gap);
+        let lower = select_unpredictable(is_gap, run.lower(), held.lower());
+        held = R::of(lower, held.upper().max(run.upper()));
     }
     put(out, count, held);
     count + 1
+}
+
+/// Writes the members of exactly one of the two run lists.
+pub fn symmetric_difference<R: Run>(a: &[R], b: &[R], out: &mut [R]) -> usize
+    requires first { IsRunListIn R.Bound.whole (map R.pair a.now) }
+    requires second { IsRunListIn R.Bound.whole (map R.pair b.now) }
+    requires counted { length a.now + length b.now < 2 ^ 63 }
+    ensures runs { (L : List (ℤ × ℤ)) × IsLaid (SymmetricDifference (Covers (map R.pair a.now)) (Covers (map R.pair b.now)))
+        (map R.pair out.old) (map R.pair out.new) result L }
+    ensures at_most { result ≤ length a.now + length b.now }
+{
+    let (mut i, mut j, mut count) = (0, 0, 0);
+    // all below it is done
+    let mut from = R::Bound::min_value();
+    // where the last run starts, and whether the next one goes on with it
+    let mut start = from;
+    let mut is_joined = false;
+    'walk: while i < a.len() && j < b.len() {
+        let (run, other) = (a[i], b[j]);
+        let (u, v) = (run.upper(), other.upper());
+        let x = run.lower().max(from);
+        let y = other.lower().max(from);
+        let upper = select_unpredictable(x <= y, u, v);
+        let next = x.max(y);
+        let is_filled = x != y;
+        start = select_unpredictable(is_joined, start, x.min(y));
+        let end = upper.min(next.sub_in_range(one_if(is_filled)));
+        count -= usize::from(is_joined);
+        put_if(out, count, R::of(start, end), is_filled);
+        count += usize::from(is_filled);
+        let is_left = u != v;
+        i += usize::from(u <= v);
+        j += usize::from(v <= u);
+        from = u.min(v).add_in_range(one_if(is_left));
+        is_joined = is_left & (next == from);
+    }
+    let Some((head, more)) = left_of(a, i, b, j).split_first() else {
+        return count;
+    };
+    let lower = select_unpredictable(is_joined, start, head.lower().max(from));
+    count -= usize::from(is_joined);
+    put(out, count, R::of(lower, head.upper()));
+    append(out, count + 1, more)
+}
+
+/// The pairs that are left of one of two lists, of which the other has none left.
+fn left_of<'a, R: Run>(a: &'a [R], i: usize, b: &'a [R], j: usize) -> &'a [R]
+    requires ended { (length a.now ≡ i) ⊎ (length b.now ≡ j) }
+    requires first { i ≤ length a.now }
+    requires second { j ≤ length b.now }
+    ensures left { result.now ≡ drop i a.now ++ drop j b.now }
+    ensures ended { (drop i a.now ≡ []) ⊎ (drop j b.now ≡ []) }
+{
+    if i < a.len() { &a[i..] } else { &b[j..] }
+}
+
+/// Writes pairs from a place of the buffer on, as many as there are places. Returns the place after
+/// them.
+fn append<R: Run>(out: &mut [R], place: usize, runs: &[R]) -> usize
+    requires { place + length runs.now < 2 ^ 64 }
+    ensures laid { (L room : List (ℤ × ℤ)) → place ≡ length L → map R.pair out.old ≡ laid L room
+        → map R.pair out.new ≡ laid (L ++ map R.pair runs.now) room }
+    ensures end { result ≡ place + length runs.now }
+{
+    let mut end = place;
+    for run in runs {
+        put(out, end, *run);
+        end += 1;
+    }
+    end
 }
 
 /// Takes the pair that starts first of those at two places, if there is one, and advances its
@@ -143,13 +210,10 @@ fn take_first<R: Run>(a: &[R], i: &mut usize, b: &[R], j: &mut usize) -> Option<
 {
     match (pair_at(a, *i), pair_at(b, *j)) {
         (Some(run), Some(other)) => {
-            if run.lower() <= other.lower() {
-                *i += 1;
-                Some(run)
-            } else {
-                *j += 1;
-                Some(other)
-            }
+            let is_first = run.lower() <= other.lower();
+            *i += usize::from(is_first);
+            *j += usize::from(!is_first);
+            Some(select_unpredictable(is_first, run, other))
         }
         (Some(run), None) => {
             *i += 1;
@@ -196,11 +260,18 @@ fn lay<R: Run>(out: &mut [R], count: usize, run: R) -> usize
     requires { count < 2 ^ 63 }
     ensures { LaysNext (R.pair run) (map R.pair out.old) (map R.pair out.new) count result }
 {
-    if run.upper() < run.lower() {
-        return count;
+    let is_filled = run.lower() <= run.upper();
+    put_if(out, count, run, is_filled);
+    count + usize::from(is_filled)
+}
+
+/// Writes a pair at a place of the buffer, if a condition holds and there is such a place.
+fn put_if<R: Run>(out: &mut [R], place: usize, run: R, condition: bool)
+    ensures { map R.pair out.new ≡ (if condition then slice_set (map R.pair out.old) place (R.pair run) else map R.pair out.old) }
+{
+    if place < out.len() {
+        out[place] = select_unpredictable(condition, run, out[place]);
     }
-    put(out, count, run);
-    count + 1
 }
 
 /// Writes a pair at a place of the buffer, if there is such a place.

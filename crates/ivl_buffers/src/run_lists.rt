@@ -1,5 +1,6 @@
 //! Lists that are already the runs of a set.
-ghost use Rattle.std.specs.Prelude.{◌↔◌, ◌+◌, ◌^◌, ◌<◌, ◌≤◌, ◌+ℤ◌, ◌≤ℤ◌, IsTrue, length, map, pos};
+ghost use Rattle.std.specs.Prelude.{◌≡◌, ◌↔◌, ◌+◌, ◌^◌, ◌<◌, ◌≤◌, ◌+ℤ◌, ◌≤ℤ◌, IsTrue, length, map, pos};
+ghost use Rattle.std.specs.Int.{from_bool};
 ghost use Rattle.ivl_laws.specs.Runs.{IsRunListIn};
 ghost use Rattle.ivl_buffers.specs.Merging.{IsRunIn};
 
@@ -7,6 +8,7 @@ use crate::run::Run;
 use intervallum::interval::Interval;
 use intervallum::ops::Range;
 use intervallum::width::Width;
+use std::hint::select_unpredictable;
 
 /// Returns true exactly when no pair is crossed, the pairs ascend with at least one number missing
 /// between neighbours, and all are in the range. `O(n)`, does not allocate.
@@ -21,7 +23,7 @@ pub fn is_run_list<R: Run>(runs: &[R]) -> bool
     }
     let mut last = *first;
     for run in rest {
-        if !is_run(*run) || !leaves_free(last, *run) {
+        if !is_next(last, *run) {
             return false;
         }
         last = *run;
@@ -47,6 +49,26 @@ fn is_run<R: Run>(run: R) -> bool
     run.lower() <= run.upper() && Interval::in_range(run.lower(), run.upper())
 }
 
+/// True exactly when a pair is a run, and some number lies above another run and below it.
+fn is_next<R: Run>(last: R, run: R) -> bool
+    requires { IsRunIn R.Bound.whole (R.pair last) }
+    ensures { IsTrue result ↔ (IsRunIn R.Bound.whole (R.pair run) × (((R.pair last).1 +ℤ pos 2) ≤ℤ (R.pair run).0)) }
+{
+    let (start, end) = (run.lower(), run.upper());
+    if end < start {
+        return false;
+    }
+    if R::Bound::max_value() < end {
+        return false;
+    }
+    let below = last.upper();
+    if start <= below {
+        return false;
+    }
+    // what is above another run starts in the range
+    below.add_in_range(R::Bound::one()) < start
+}
+
 /// Returns true exactly when some number lies above one run and below another.
 pub fn leaves_free<R: Run>(last: R, run: R) -> bool
     requires last { IsRunIn R.Bound.whole (R.pair last) }
@@ -54,5 +76,12 @@ pub fn leaves_free<R: Run>(last: R, run: R) -> bool
     ensures { IsTrue result ↔ (((R.pair last).1 +ℤ pos 2) ≤ℤ (R.pair run).0) }
 {
     let (end, start) = (last.upper(), run.lower());
-    end < start && end.add_in_range(R::Bound::one()) < start
+    end.add_in_range(one_if(end < start)) < start
+}
+
+/// One if a condition holds, and zero if not.
+pub(crate) fn one_if<B: Width>(condition: bool) -> B
+    ensures { B.value result ≡ pos (from_bool condition) }
+{
+    select_unpredictable(condition, B::one(), B::zero())
 }

@@ -3,10 +3,10 @@ ghost use Rattle.std.specs.Prelude.{◌+◌, ◌^◌, ◌<◌, ◌≤◌, ℤ, I
 ghost use Rattle.ivl_laws.specs.Sets.{Complement, IsBetween, IsSubset, Union};
 ghost use Rattle.ivl_laws.specs.Runs.{Covers, IsRunListIn, IsRunsOf};
 ghost use Rattle.ivl_buffers.specs.Answers.{AnswersSet, IsWritten};
-ghost use Rattle.ivl_buffers.specs.Operations.{IsOneWalk, MadeOfOne, MadeOfTwo};
+ghost use Rattle.ivl_buffers.specs.Operations.{MadeOfOne, MadeOfTwo};
 ghost use Rattle.ivl_buffers.specs.Merging.{IsLaid};
 
-use crate::merging::{complement, difference, intersection, union};
+use crate::merging::{complement, difference, intersection, symmetric_difference, union};
 use crate::reading::{are_inside, set_of};
 use crate::run::Run;
 use crate::run_lists::can_walk;
@@ -101,7 +101,7 @@ pub fn of_two<R: Run>(alloc: Global, making: OfTwo, a: &[R], b: &[R], out: &mut 
     ensures { AnswersSet R.Bound.whole (Union (Covers (map R.pair a.now)) (Covers (map R.pair b.now)))
         (MadeOfTwo making (Covers (map R.pair a.now)) (Covers (map R.pair b.now))) (map R.pair out.old) (map R.pair out.new) result }
 {
-    if is_merged(making, a, b) {
+    if is_merged(a, b) {
         return merge(making, a, b, out);
     }
     if !are_inside(a) || !are_inside(b) {
@@ -130,20 +130,18 @@ fn made_of_two<R: Run>(
     }
 }
 
-/// True only if both lists are lists of runs, and one walk over both makes the answer.
-fn is_merged<R: Run>(making: OfTwo, a: &[R], b: &[R]) -> bool
-    ensures making { IsTrue result → IsOneWalk making }
+/// True only if both lists are lists of runs, so that one walk over both makes the answer.
+fn is_merged<R: Run>(a: &[R], b: &[R]) -> bool
     ensures first { IsTrue result → IsRunListIn R.Bound.whole (map R.pair a.now) }
     ensures second { IsTrue result → IsRunListIn R.Bound.whole (map R.pair b.now) }
     ensures counted { IsTrue result → length a.now + length b.now < 2 ^ 63 }
 {
-    !matches!(making, OfTwo::OneAlone) && can_walk(a) && can_walk(b)
+    can_walk(a) && can_walk(b)
 }
 
 /// Writes what is made of two run lists, and returns its number of runs. If there may be too little
 /// room, counts them first.
 fn merge<R: Run>(making: OfTwo, a: &[R], b: &[R], out: &mut [R]) -> i64
-    requires making { IsOneWalk making }
     requires first { IsRunListIn R.Bound.whole (map R.pair a.now) }
     requires second { IsRunListIn R.Bound.whole (map R.pair b.now) }
     requires counted { length a.now + length b.now < 2 ^ 63 }
@@ -163,7 +161,6 @@ fn merge<R: Run>(making: OfTwo, a: &[R], b: &[R], out: &mut [R]) -> i64
 /// Writes as many runs of what is made of two run lists as there is room for, and returns the
 /// number of all of them.
 fn walk<R: Run>(making: OfTwo, a: &[R], b: &[R], out: &mut [R]) -> usize
-    requires making { IsOneWalk making }
     requires first { IsRunListIn R.Bound.whole (map R.pair a.now) }
     requires second { IsRunListIn R.Bound.whole (map R.pair b.now) }
     requires counted { length a.now + length b.now < 2 ^ 63 }
@@ -175,6 +172,6 @@ fn walk<R: Run>(making: OfTwo, a: &[R], b: &[R], out: &mut [R]) -> usize
         OfTwo::Either => union(a, b, out),
         OfTwo::Both => intersection(a, b, out),
         OfTwo::FirstAlone => difference(a, b, out),
-        OfTwo::OneAlone => unreachable!(),
+        OfTwo::OneAlone => symmetric_difference(a, b, out),
     }
 }

@@ -1,9 +1,9 @@
-use Rattle.std.proofs.Common.{◌+◌, map, arith}
+use Rattle.std.proofs.Common.{◌+◌, map, refl, arith}
 use Rattle.ivl_laws.proofs.Orders.{lt_number}
 use Rattle.ivl_interval.proofs.Pairs.{not_below}
 use Rattle.intervallum.proofs.Intersections.{ends_before, ends_by}
-use Rattle.ivl_buffers.proofs.Output.{one_more_at_most}
-use Rattle.ivl_buffers.proofs.Differences.{cut_list, held_ended, held_list, held_place, parting_alone, parting_begins, parting_first, parting_second}
+use Rattle.ivl_buffers.proofs.Output.{lays_put, one_more_at_most}
+use Rattle.ivl_buffers.proofs.Differences.{cut_list, held_ended, held_is_run, held_list, held_place, parting_alone, parting_begins, parting_first, parting_second}
 use Rattle.ivl_buffers.proofs.RunLists.{run_at}
 use Rattle.ivl_buffers.proofs.merging.difference.Goals as goal
 
@@ -81,13 +81,15 @@ walk-preserved g c =
     let inv = c.walk.invariant in
     let h = inv.place _ c.in-Some.is in
     let e = c.pair_at-held-else-j-b.ensures in
-    let more = one_more_at_most _ _ _ _ _ c.lay-count.ensures in
+    let is_run = held_is_run pair a b c.walk.held c.walk.i c.walk.j c.in-Some.run' (map pair c.args.out.now) (map pair c.walk.out) (map pair c.walk.out) c.walk.count c.walk.count g.R.Bound.Width.whole
+    c.in-Some.is inv.list inv.state in
+    let laid = lays_put (pair c.in-Some.run') (pair c.in-Some.run') _ _ c.walk.count refl is_run.0 c.put.ensures in
     record {
       place = held_place pair a b _ (c.walk.i + 1) e;
       ended = held_ended pair a b _ (c.walk.i + 1) e;
       first = omega (arith, h);
       second = inv.second;
-      count = omega (arith, more, inv.count);
+      count = omega (arith, inv.count);
       list = held_list pair a b g.R.Bound.Width.whole _ (c.walk.i + 1) e c.requires.first;
-      state = parting_alone pair a b c.walk.held c.walk.i c.walk.j c.in-Some.run' _ _ _ _ _ g.R.Bound.Width.whole c.in-Some.is inv.list inv.state c.if-j-b.false c.lay-count.ensures _ e;
+      state = parting_alone pair a b c.walk.held c.walk.i c.walk.j c.in-Some.run' _ _ _ _ _ g.R.Bound.Width.whole c.in-Some.is inv.list inv.state c.if-j-b.false laid _ e;
     }

@@ -1,5 +1,4 @@
-use Rattle.std.proofs.Common.{◌≡◌, ◌+◌, ◌-◌, ◌≤◌, ℤ, List, length, map}
-use Rattle.std.specs.Prelude.{slice_get}
+use Rattle.std.proofs.Common.{◌+◌, ◌-◌, ◌≤◌, ℤ, List, length, map}
 use Rattle.ivl_buffers.proofs.Output.{IsLaying}
 use Rattle.ivl_buffers.proofs.Intersections.{common_from, common_of}
 use Rattle.ivl_buffers.proofs.merging.intersection.Given as goal
@@ -7,8 +6,6 @@ use Rattle.ivl_buffers.proofs.merging.intersection.Given as goal
 -- what is laid, and what the two lists have in common from the two places on, make up the answer
 abbrev pub invariant-walk : goal.invariant-walk
 invariant-walk g l = record {
-  held : l.first ≡ slice_get l.a l.i;
-  other : l.second ≡ slice_get l.b l.j;
   first : l.i ≤ length l.a;
   second : l.j ≤ length l.b;
   count : l.count ≤ l.i + l.j;

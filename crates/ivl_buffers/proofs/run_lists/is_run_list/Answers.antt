@@ -5,7 +5,7 @@ use Rattle.ivl_buffers.proofs.run_lists.is_run_list.Goals as goal
 pub loop-run-preserved : goal.loop-run-preserved
 loop-run-preserved g c =
     read_next g.R.Run.pair g.R.Bound.Width.whole (map g.R.Run.pair c.args.runs.now) c.in-Some.rest.now c.loop-run.last c.run-item.result c.loop-run.run-index
-    c.loop-run-test.true c.run-item.is c.loop-run.invariant (c.is_run-in-loop-run.ensures.0 c.if-not-is_run-2.false) (c.leaves_free.ensures.0 c.if-not-leaves_free.false)
+    c.loop-run-test.true c.run-item.is c.loop-run.invariant (c.is_next.ensures.0 c.if-not-is_next.false).0 (c.is_next.ensures.0 c.if-not-is_next.false).1
 
 pub returns : goal.returns
 returns g c =
