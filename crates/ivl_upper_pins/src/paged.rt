@@ -6,11 +6,11 @@ ghost use Rattle.ivl_laws.specs.Runs.{Covers, IsRunsOf};
 ghost use Rattle.intervallum.specs.Neighbours.{IsGreatest, IsLeast};
 ghost use Rattle.intervallum.specs.FirstFit.{FitsAt, IsFirstFit};
 
-use ivl_paged::paged_set::PagedSet;
 use intervallum::interval::Interval;
 use intervallum::interval_set::IntervalSet;
 use intervallum::ops::Range;
 use intervallum::width::{SizeNumber, Width};
+use ivl_paged::paged_set::PagedSet;
 use std::alloc::{AllocError, Global};
 
 /// Adds a value if `in_range` allows it, and returns whether it was not a member before.
