@@ -85,14 +85,8 @@ fn best_of<B: Width>(
                 end: End::All,
             });
         };
-        let Best { point, end } = one_solution(
-            alloc,
-            network,
-            variable,
-            half,
-            wanted,
-            &mut left.nodes,
-        )?;
+        let nodes = &mut left.nodes;
+        let Best { point, end } = one_solution(alloc, network, variable, half, wanted, nodes)?;
         match point {
             Some(point) => {
                 network.domains();
