@@ -113,7 +113,11 @@ fn best_within_limits() {
     assert_eq!(best(100, 0), (None, End::Nodes));
     assert_eq!(best(100, 1_000), (Some(9), End::All));
     // each solution that is found on the way is better than the one before it
-    let numbers: Vec<Option<i64>> = (1..100).map(|solutions| best(solutions, 1_000)).take_while(|best| best.1 == End::Solutions).map(|best| best.0).collect();
+    let numbers: Vec<Option<i64>> = (1..100)
+        .map(|solutions| best(solutions, 1_000))
+        .take_while(|best| best.1 == End::Solutions)
+        .map(|best| best.0)
+        .collect();
     assert!(numbers.len() > 1 && numbers.is_sorted_by(|one, next| one < next));
     // the nodes of all searches are counted together
     let last = (1..1_000).find(|nodes| best(100, *nodes).1 == End::All).unwrap();
