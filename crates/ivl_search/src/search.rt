@@ -2,7 +2,8 @@
 //!
 //! A point gives each variable, named by its index from 0, a number of its domain; it is a solution
 //! if each constraint holds at it. [`solutions`] returns the solutions, none of them twice, and says
-//! whether these are all.
+//! whether these are all. [`least`] and [`greatest`] return one in which a variable has its least or
+//! greatest number.
 //!
 //! The search narrows the domains by the constraints, takes the smallest domain that has two members
 //! or more, the first of these if there are several, and cuts it in two: the least member and the
