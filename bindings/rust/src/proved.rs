@@ -75,7 +75,7 @@ pub mod examples {
     pub use super::ivl_store::network::{Network, Settled};
     pub use super::ivl_store::store::{Constraint, Post, Store, StoreFault};
     pub use super::ivl_within::within::{
-        Combined, add_within, differences_in_window, image, kept, sub_within, sums_in_window,
+        Combined, add_within, differences_in_window, pair_in_window, results_in_set, sub_within, sums_in_window,
     };
     pub use super::kleene::SKleene;
     pub use super::prelude::*;

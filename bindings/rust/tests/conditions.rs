@@ -94,7 +94,7 @@ fn numbers_outside_the_range_are_no_members() {
 fn debug_builds_test_the_conditions_of_the_proved_face() {
     use intervallum::proved::ivl_store::network::Network;
     use intervallum::proved::ivl_store::store::{Constraint, Post, Store};
-    use intervallum::proved::ivl_within::within::{Combined, image};
+    use intervallum::proved::ivl_within::within::{Combined, pair_in_window};
     use intervallum::proved::steps::{Probes, Walk};
     use intervallum::proved::sweep::{Op, images};
 
@@ -128,7 +128,7 @@ fn debug_builds_test_the_conditions_of_the_proved_face() {
         Walk::new(&empty()).advance() => "the condition of `advance` is broken: self.peek().is_some()";
         Probes::new(&set()).look(1) => "the condition of `look` is broken: i < self.len()";
         images(&set(), &set(), Op::Difference) => "the condition of `images` is broken: match op { Op::Sum => a.fits_add(b), Op::Difference => a.fits_sub(b), Op::Product => a.fits_mul(b) }";
-        image(run(), Interval::empty(), Combined::Sum, run()) => "the condition of `image` is broken: !a.is_empty() && !b.is_empty() && !window.is_empty()";
+        pair_in_window(run(), Interval::empty(), Combined::Sum, run()) => "the condition of `pair_in_window` is broken: !a.is_empty() && !b.is_empty() && !window.is_empty()";
         Network::<u8>::new(Global).require(Constraint { x: 0, y: 0, z: 0 }) => "the condition of `require` is broken: constraint.distinct()";
         Store::<u8>::new(Global, vec![set()].into()).post_all(&[Post::Require(Constraint { x: 0, y: 0, z: 0 })]) => "the condition of `post_all` is broken: posts.iter().all(|post| match post { Post::Require(c) => c.distinct(), Post::Restrict(..) => true })";
     }

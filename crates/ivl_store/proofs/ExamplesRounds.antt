@@ -13,7 +13,7 @@ use Rattle.ivl_store.specs.declared.store.change.Change.TheVariants.{Domain, Var
 use Rattle.ivl_store.specs.Network.{work}
 use Rattle.ivl_store.specs.Trail.{past_at}
 use Rattle.ivl_store.specs.Settled.{any_lost, AreLost, AreSettled, AreCleared}
-use Rattle.ivl_store.specs.Keeping.{IsLeftOf, AreLeftAt, narrowed_at}
+use Rattle.ivl_store.specs.NarrowedSets.{IsLeftOf, AreLeftAt, narrowed_at}
 use Rattle.ivl_store.specs.Measure.{covers, count_from}
 
 -- x + y = z for variables 0, 1 and 2

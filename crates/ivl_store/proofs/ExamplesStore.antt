@@ -7,7 +7,7 @@ use Rattle.ivl_store.specs.declared.store.constraint.Constraint.{Constraint}
 use Rattle.ivl_store.specs.declared.store.post.Post.TheVariants.{Restrict, Require}
 use Rattle.ivl_store.specs.Solutions.{AreDistinct, Names, IsSolution, LostMember}
 use Rattle.ivl_store.specs.Narrowing.{Narrowed, first_unknown, first_unknown_of}
-use Rattle.ivl_store.specs.Keeping.{narrowed_at}
+use Rattle.ivl_store.specs.NarrowedSets.{narrowed_at}
 use Rattle.ivl_store.specs.Measure.{total, count_from}
 use Rattle.ivl_store.specs.Posts.{constraints_of, CutBy, HasEmpty, first_unknown_post}
 use Rattle.ivl_store.specs.Settled.{any_lost}

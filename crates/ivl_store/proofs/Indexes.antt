@@ -7,7 +7,7 @@ use Rattle.std.proofs.lemmas.List.{get_or-set_other, get_or-set_same, get_or_def
 use Rattle.ivl_store.specs.declared.network.index.Index.{Index}
 use Rattle.ivl_store.specs.declared.network.index.Links.{Links}
 use Rattle.ivl_store.specs.declared.store.constraint.Constraint.{Constraint}
-use Rattle.ivl_store.specs.Keeping.{narrowed_at}
+use Rattle.ivl_store.specs.NarrowedSets.{narrowed_at}
 use Rattle.ivl_store.specs.Narrowing.{AllPresent}
 use Rattle.ivl_store.specs.Queue.{AreLinks, IsIndex, IsLastNaming}
 use Rattle.ivl_store.specs.Solutions.{Names}

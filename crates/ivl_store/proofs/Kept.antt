@@ -6,7 +6,7 @@ use Rattle.std.proofs.lemmas.List.{length-set, length-take, set-set, set_comm}
 use Rattle.ivl_store.specs.declared.store.change.Change.{Change}
 use Rattle.ivl_store.specs.declared.store.change.Change.TheVariants.{Domain, Domains, Variable, Require}
 use Rattle.ivl_store.specs.declared.store.constraint.Constraint.{Constraint}
-use Rattle.ivl_store.specs.Keeping.{narrowed_at}
+use Rattle.ivl_store.specs.NarrowedSets.{narrowed_at}
 use Rattle.ivl_store.specs.Narrowing.{AllPresent}
 use Rattle.ivl_store.specs.Trail.{AreKeptFrom, IsKeptFrom, IsPresent, IsSoundTrail, KeepsAt, Past, past_at, revert, reverted}
 use Rattle.ivl_store.proofs.Places.{length-replaced}

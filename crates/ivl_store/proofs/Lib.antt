@@ -8,10 +8,10 @@ pub mod Counts
 pub mod Families
 pub mod Histories
 pub mod Indexes
-pub mod Keeping
 pub mod Kept
 pub mod Lists
 pub mod Logging
+pub mod NarrowedSets
 pub mod Narrowings
 pub mod Orders
 pub mod Partly

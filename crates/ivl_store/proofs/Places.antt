@@ -17,7 +17,7 @@ use Rattle.ivl_store.specs.declared.store.constraint.Constraint.{Constraint}
 use Rattle.ivl_store.specs.declared.store.marks.Lost.{Lost}
 use Rattle.ivl_store.specs.Solutions.{AreDistinct, Names, HasSolutionAt, IsSolution, Supports, LiesWithin, LostMember}
 use Rattle.ivl_store.specs.Narrowing.{Narrowed, AllPresent, first_unknown, first_unknown_of}
-use Rattle.ivl_store.specs.Keeping.{IsLeftOf, AreLeftAt, narrowed_at}
+use Rattle.ivl_store.specs.NarrowedSets.{IsLeftOf, AreLeftAt, narrowed_at}
 use Rattle.ivl_store.specs.Settled.{AreLost, any_lost}
 use Rattle.ivl_store.proofs.Families.{narrowing_keeps, narrowed_has_solution, has_solution_narrowed}
 

@@ -10,7 +10,7 @@ use Rattle.ivl_laws.proofs.SetLaws.{sums_are_monotone, differences_are_monotone}
 use Rattle.ivl_store.specs.declared.store.change.Change.{Change}
 use Rattle.ivl_store.specs.declared.store.change.Change.TheVariants.{Domain, Domains, Variable, Require}
 use Rattle.ivl_store.specs.declared.store.constraint.Constraint.{Constraint}
-use Rattle.ivl_store.specs.Keeping.{narrowed_at}
+use Rattle.ivl_store.specs.NarrowedSets.{narrowed_at}
 use Rattle.ivl_store.specs.Narrowing.{AllPresent, IsFixed, Narrowed}
 use Rattle.ivl_store.specs.Network.{IsSoundNetwork}
 use Rattle.ivl_store.specs.Settled.{AreCleared, AreSettled}

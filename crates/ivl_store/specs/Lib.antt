@@ -1,5 +1,5 @@
 pub mod FamilyLaws
-pub mod Keeping
+pub mod NarrowedSets
 pub mod Measure
 pub mod Narrowing
 pub mod Network

@@ -13,7 +13,7 @@ use Rattle.std.specs.Prelude.{◌≡◌, ◌<◌, ◌≤◌, ◌-◌, ◌++◌, 
 use Rattle.ivl_store.specs.declared.store.change.Change.{Change}
 use Rattle.ivl_store.specs.declared.store.change.Change.TheVariants.{Domain, Domains, Variable, Require}
 use Rattle.ivl_store.specs.declared.store.constraint.Constraint.{Constraint}
-use Rattle.ivl_store.specs.Keeping.{narrowed_at}
+use Rattle.ivl_store.specs.NarrowedSets.{narrowed_at}
 use Rattle.ivl_store.specs.Narrowing.{AllPresent}
 
 pub record Past : Type 0 where

@@ -13,6 +13,7 @@ use Rattle.ivl_laws.proofs.Merging.{covers-append, covers-append_left, covers-ap
 use Rattle.ivl_laws.proofs.Results.{pairwise-next, map-next}
 use Rattle.ivl_laws.proofs.Products.{sums_of_runs, differences_of_runs}
 use Rattle.ivl_laws.proofs.Intervals.{none_is_crossed, in_range_is_within}
+use Rattle.ivl_laws.proofs.Places.{IsMaximal-take, covers-take}
 use Rattle.ivl_laws.proofs.Runs.{lower_end, upper_end}
 use Rattle.ivl_within.specs.Within.{Clipped, SumsBy, pair_by}
 use Rattle.ivl_within.specs.declared.within.Combined.{Combined}
@@ -35,15 +36,6 @@ module _ (w : ℤ × ℤ) (old A B entries new : List (ℤ × ℤ)) where
         (λ n. ⊎_elim (λ a. (k z).1 (inl ((h z).1 (inr (a, n.1))))) (λ b. (k z).1 (inr (b, n.1))) (covers-append A B z n.0)),
   )
 
-  -- the same where there is nothing old
-  grown_alone : SameMembers (Covers entries) (Clipped w (Covers A))
-      → SameMembers (Covers new) (Union (Covers entries) (Clipped w (Covers B)))
-      → SameMembers (Covers new) (Clipped w (Covers (A ++ B)))
-  grown_alone h k z = (
-    (λ c. ⊎_elim (λ e. let a = (h z).0 e in (covers-append_left A B z a.0, a.1)) (λ b. (covers-append_right A B z b.0, b.1)) ((k z).0 c)),
-    (λ n. ⊎_elim (λ a. (k z).1 (inl ((h z).1 (a, n.1)))) (λ b. (k z).1 (inr (b, n.1))) (covers-append A B z n.0)),
-  )
-
 -- an entry that covers a clipped interval was pushed
 pushed : (w : ℤ × ℤ) (entries new : List (ℤ × ℤ)) (e q : ℤ × ℤ) → new ≡ entries ++ e ∷ [] → SameMembers (IsBetween e) (Clipped w (IsBetween q))
     → SameMembers (Covers new) (Union (Covers entries) (Clipped w (Covers (q ∷ []))))
@@ -61,14 +53,26 @@ row_grows w f old entries new xs j x e l is p h i =
     subst (λ (m : List (ℤ × ℤ)). SameMembers (Covers new) (Union (Covers old) (Clipped w (Covers m)))) (sym next)
     (grown w old (map f (take j xs)) (f x ∷ []) entries new i (pushed w entries new e (f x) p h))
 
-pub rows_grow : (w : ℤ × ℤ) (f : ℤ × ℤ → ℤ × ℤ → ℤ × ℤ) (entries new L M : List (ℤ × ℤ)) (i : ℕ) (p : ℤ × ℤ) → i < length L → p ≡ get_or L i p
+pub rows_grow : (w : ℤ × ℤ) (f : ℤ × ℤ → ℤ × ℤ → ℤ × ℤ) (old entries new L M : List (ℤ × ℤ)) (i : ℕ) (p : ℤ × ℤ) → i < length L → p ≡ get_or L i p
     → SameMembers (Covers new) (Union (Covers entries) (Clipped w (Covers (map (f p) M))))
-    → SameMembers (Covers entries) (Clipped w (Covers (pairwise f (take i L) M)))
-    → SameMembers (Covers new) (Clipped w (Covers (pairwise f (take (i + 1) L) M)))
-rows_grow w f entries new L M i p l is k h =
+    → SameMembers (Covers entries) (Union (Covers old) (Clipped w (Covers (pairwise f (take i L) M))))
+    → SameMembers (Covers new) (Union (Covers old) (Clipped w (Covers (pairwise f (take (i + 1) L) M))))
+rows_grow w f old entries new L M i p l is k h =
     let next : pairwise f (take (i + 1) L) M ≡ pairwise f (take i L) M ++ map (f p) M = pairwise-next f L M i p l ∙ ap (λ (y : ℤ × ℤ). pairwise f (take i L) M ++ map (f y) M) (sym is) in
-    subst (λ (m : List (ℤ × ℤ)). SameMembers (Covers new) (Clipped w (Covers m))) (sym next)
-    (grown_alone w [] (pairwise f (take i L) M) (map (f p) M) entries new h k)
+    subst (λ (m : List (ℤ × ℤ)). SameMembers (Covers new) (Union (Covers old) (Clipped w (Covers m)))) (sym next)
+    (grown w old (pairwise f (take i L) M) (map (f p) M) entries new h k)
+
+-- what covers the whole window beside the old covers all that is clipped to it
+pub whole_window : (w : ℤ × ℤ) (old new : List (ℤ × ℤ)) (S T : ℤ → Type 0) → SameMembers (Covers new) (Union (Covers old) (Clipped w S)) → IsSubset S T
+    → IsSubset (IsBetween w) (Covers new) → SameMembers (Covers new) (Union (Covers old) (Clipped w T))
+whole_window w old new S T h part whole z = (
+  (λ c. ⊎_elim inl (λ a. inr (part z a.0, a.1)) ((h z).0 c)),
+  ⊎_elim (λ o. (h z).1 (inl o)) (λ n. whole z n.1),
+)
+
+-- the whole window was pushed
+pub whole_pushed : (w e : ℤ × ℤ) (entries new : List (ℤ × ℤ)) → new ≡ entries ++ e ∷ [] → SameMembers (IsBetween e) (IsBetween w) → IsSubset (IsBetween w) (Covers new)
+whole_pushed w e entries new is same z b = subst (λ (n : List (ℤ × ℤ)). Covers n z) (sym is) (covers-append_right entries (e ∷ []) z (inl ((same z).1 b)))
 
 -- ---- all rows
 
@@ -76,13 +80,30 @@ sums_of_both : (op : Combined) (L M : List (ℤ × ℤ)) → IsMaximal L → IsM
 sums_of_both Sum L M l m z = let e = sums_of_runs L M z l m in (e.1, e.0)
 sums_of_both Difference L M l m z = let e = differences_of_runs L M z l m in (e.1, e.0)
 
-pub clipped_sums : (w : ℤ × ℤ) (op : Combined) (L M entries : List (ℤ × ℤ)) (i : ℕ) → IsMaximal L → IsMaximal M → length L ≤ i
-    → SameMembers (Covers entries) (Clipped w (Covers (pairwise (pair_by op) (take i L) M)))
-    → SameMembers (Covers entries) (Clipped w (SumsBy op (Covers L) (Covers M)))
-clipped_sums w op L M entries i l m h k =
-    let all = subst (λ (N : List (ℤ × ℤ)). SameMembers (Covers entries) (Clipped w (Covers (pairwise (pair_by op) N M)))) (take_all i L h) k in
+pub clipped_sums : (w : ℤ × ℤ) (op : Combined) (L M old entries : List (ℤ × ℤ)) (i : ℕ) → IsMaximal L → IsMaximal M → length L ≤ i
+    → SameMembers (Covers entries) (Union (Covers old) (Clipped w (Covers (pairwise (pair_by op) (take i L) M))))
+    → SameMembers (Covers entries) (Union (Covers old) (Clipped w (SumsBy op (Covers L) (Covers M))))
+clipped_sums w op L M old entries i l m h k =
+    let all = subst (λ (N : List (ℤ × ℤ)). SameMembers (Covers entries) (Union (Covers old) (Clipped w (Covers (pairwise (pair_by op) N M))))) (take_all i L h) k in
     let both = sums_of_both op L M l m in
-    λ z. ((λ c. let a = (all z).0 c in ((both z).0 a.0, a.1)), (λ s. (all z).1 ((both z).1 s.0, s.1)))
+    λ z. (
+      (λ c. ⊎_elim inl (λ a. inr ((both z).0 a.0, a.1)) ((all z).0 c)),
+      ⊎_elim (λ o. (all z).1 (inl o)) (λ s. (all z).1 (inr ((both z).1 s.0, s.1))),
+    )
+
+-- the results of a part of a list are among those of all of it
+pub part_of_sums : (op : Combined) (S S' T : ℤ → Type 0) → IsSubset S S' → IsSubset (SumsBy op S T) (SumsBy op S' T)
+part_of_sums Sum S S' T part z (x, y, s, t, e) = (x, y, part x s, t, e)
+part_of_sums Difference S S' T part z (x, y, s, t, e) = (x, y, part x s, t, e)
+
+pub some_sums : (op : Combined) (L M : List (ℤ × ℤ)) (k : ℕ) → IsMaximal L → IsMaximal M → IsSubset (Covers (pairwise (pair_by op) (take k L) M)) (SumsBy op (Covers L) (Covers M))
+some_sums op L M k l m z c = part_of_sums op (Covers (take k L)) (Covers L) (Covers M) (covers-take L k) z ((sums_of_both op (take k L) M (IsMaximal-take L k l) m z).0 c)
+
+-- nothing is old
+pub none_old : (old new : List (ℤ × ℤ)) (S : ℤ → Type 0) → old ≡ [] → SameMembers (Covers new) (Union (Covers old) S) → SameMembers (Covers new) S
+none_old old new S e h z =
+    let k = subst (λ (n : List (ℤ × ℤ)). SameMembers (Covers new) (Union (Covers n) S)) e h z in
+    ((λ c. ⊎_elim (λ n. absurd n) (λ s. s) (k.0 c)), (λ s. k.1 (inr s)))
 
 -- the results of two sets of one run each
 pub clipped_pair : (w : ℤ × ℤ) (op : Combined) (L M : List (ℤ × ℤ)) (p q r : ℤ × ℤ) → L ≡ p ∷ [] → M ≡ q ∷ [] → p.0 ≤ℤ p.1 → q.0 ≤ℤ q.1

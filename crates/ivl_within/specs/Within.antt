@@ -3,6 +3,7 @@
 --     SumsBy op S T      the sums, or the differences, of a member of each
 --     pair_by op p q      the pair that holds those of two intervals that are not crossed
 --     reach_by op w p      from the least to the greatest number whose result with one of p is in w
+--     reach_back_by op w q      the same where one of q stands second
 use Rattle.std.specs.Prelude.{ℤ}
 use Rattle.ivl_laws.specs.Sets.{IsBetween, Intersection, Sums, Differences}
 use Rattle.ivl_laws.specs.Arithmetic.{interval_sum, interval_difference}
@@ -23,3 +24,7 @@ pair_by Difference = interval_difference
 abbrev pub reach_by : Combined → ℤ × ℤ → ℤ × ℤ → ℤ × ℤ
 reach_by Sum w p = interval_difference w p
 reach_by Difference w p = interval_difference p w
+
+abbrev pub reach_back_by : Combined → ℤ × ℤ → ℤ × ℤ → ℤ × ℤ
+reach_back_by Sum w q = interval_difference w q
+reach_back_by Difference w q = interval_sum w q

@@ -4,18 +4,19 @@ ghost use Rattle.ivl_laws.specs.Sets.{Differences, HasSome, IsBetween, Sums, Wit
 ghost use Rattle.ivl_laws.specs.Runs.{Covers, IsMaximal, IsRunListIn, IsRunsOf};
 ghost use Rattle.ivl_within.specs.Within.{Clipped, SumsBy};
 
-mod images;
+mod by_runs;
 mod members;
+mod pairs;
 mod rows;
 
-pub use images::image;
 use intervallum::interval::Interval;
 use intervallum::interval_set::IntervalSet;
 use intervallum::ops::{Fits, IsEmpty, Whole};
 use intervallum::sweep::coalesce;
 use intervallum::width::Width;
-pub use members::kept;
-use rows::push_row;
+pub use members::results_in_set;
+pub use pairs::pair_in_window;
+use rows::push_rows;
 use std::alloc::{AllocError, Global};
 
 /// What is made of two numbers: their sum, or the first less the second.
@@ -164,7 +165,7 @@ fn combine<B: Width>(
     let left = a.iter().as_slice();
     let right = b.iter().as_slice();
     if left.len() == 1 && right.len() == 1 {
-        return IntervalSet::of(a.allocator(), image(left[0], right[0], op, window));
+        return IntervalSet::of(a.allocator(), pair_in_window(left[0], right[0], op, window));
     }
     combine_runs(a.allocator(), left, b, op, window, room)
 }
@@ -184,8 +185,6 @@ fn combine_runs<B: Width>(
     ensures { IfOk result (λ L. IsRunsOf L (Clipped window (SumsBy op (Covers left.now) (Covers right.now)))) }
 {
     let mut entries = Vec::with_capacity(alloc, room)?;
-    for run in left {
-        push_row(&mut entries, *run, right, op, window)?;
-    }
+    push_rows(&mut entries, left, right, op, window)?;
     coalesce(alloc, entries)
 }

@@ -5,7 +5,7 @@ use intervallum::interval::Interval;
 use intervallum::interval_set::IntervalSet;
 use intervallum::ops::{Intersection, IsEmpty, Whole};
 use intervallum::width::Width;
-use ivl_within::within::{Combined, add_within, image, kept, sub_within};
+use ivl_within::within::{Combined, add_within, pair_in_window, results_in_set, sub_within};
 use std::alloc::{AllocError, Global};
 use std::process::Abort;
 
@@ -129,9 +129,9 @@ fn ends_of_signed_bounds(rt: HostRuntime) {
 
 // The runs of a set, and the text of its members among the sums of `SEVERAL_RUNS`, or among the
 // differences.
-type Kept = (&'static [(i16, i16)], Combined, &'static str);
+type Results = (&'static [(i16, i16)], Combined, &'static str);
 
-const KEPT: [Kept; 5] = [
+const RESULTS: [Results; 5] = [
     (
         &[(0, 3), (11, 20), (70, 71), (100, 200)],
         Combined::Sum,
@@ -147,17 +147,57 @@ const KEPT: [Kept; 5] = [
     (&[], Combined::Sum, "{}"),
 ];
 
-/// The members that are kept of the set of a row are printed as its text.
-fn check_kept(rt: &(impl Alloc<A = Global> + Abort), &(x, op, text): &Kept) {
-    let [a, b] = SEVERAL_RUNS;
-    let members = kept(&set_of(rt, x), &set_of(rt, a), &set_of(rt, b), op);
+// The same among the sums of two multiples of 6 from 0 to 378, or among the differences: thousands of
+// pairs of runs, and few runs that they are looked for in.
+const OF_MULTIPLES: [Results; 4] = [
+    (
+        &[(7, 7), (30, 37), (755, 757)],
+        Combined::Sum,
+        "{[30..30][36..36][756..756]}",
+    ),
+    (
+        &[(-7, -5), (1, 5), (377, 390)],
+        Combined::Difference,
+        "{[-6..-6][378..378]}",
+    ),
+    (&[(1, 1), (3, 3), (5, 6)], Combined::Difference, "[6..6]"),
+    (&[(1, 1), (3, 3)], Combined::Sum, "{}"),
+];
+
+/// The results in the set of a row are printed as its text.
+fn check_results(
+    rt: &(impl Alloc<A = Global> + Abort),
+    [a, b]: [&IntervalSet<i16>; 2],
+    &(x, op, text): &Results,
+) {
+    let members = results_in_set(&set_of(rt, x), a, b, op);
     check_printed(rt, &made(rt, members), text);
 }
 
 #[test]
-fn members_that_are_kept(rt: HostRuntime) {
-    for row in &KEPT {
-        check_kept(&rt, row);
+fn members_that_are_results(rt: HostRuntime) {
+    let [a, b] = SEVERAL_RUNS;
+    let sets = [&set_of(&rt, a), &set_of(&rt, b)];
+    for row in &RESULTS {
+        check_results(&rt, sets, row);
+    }
+}
+
+/// The multiples of 6 from 0 to 378, each a run.
+fn multiples(rt: &(impl Alloc<A = Global> + Abort)) -> IntervalSet<i16> {
+    let mut set = set_of(rt, &[(0, 0)]);
+    for &step in &[6i16, 12, 24, 48, 96, 192] {
+        let (sums, _) = made(rt, add_within(&set, &set_of(rt, &[(0, 0), (step, step)])));
+        set = sums;
+    }
+    set
+}
+
+#[test]
+fn few_members_among_many_results(rt: HostRuntime) {
+    let set = &multiples(&rt);
+    for row in &OF_MULTIPLES {
+        check_results(&rt, [set, set], row);
     }
 }
 
@@ -214,8 +254,8 @@ fn sets_with_no_run(rt: HostRuntime) {
     check_cut(&rt, add_within(whole, whole), whole, true);
 }
 
-/// `image`, unless an interval is empty.
-fn image_if_filled(
+/// `pair_in_window`, unless an interval is empty.
+fn pair_if_filled(
     a: Interval<i16>,
     b: Interval<i16>,
     op: Combined,
@@ -224,20 +264,20 @@ fn image_if_filled(
     if a.is_empty() || b.is_empty() || window.is_empty() {
         return None;
     }
-    Some(image(a, b, op, window))
+    Some(pair_in_window(a, b, op, window))
 }
 
 /// The sums, or the differences, of [3..5] and [10..20] that are in a window.
-fn check_image(rt: &impl Abort, op: Combined, bounds: (i16, i16), wanted: Option<Interval<i16>>) {
+fn check_pair(rt: &impl Abort, op: Combined, bounds: (i16, i16), wanted: Option<Interval<i16>>) {
     let (a, b) = (interval_of(rt, (3, 5)), interval_of(rt, (10, 20)));
-    assert!(rt; image_if_filled(a, b, op, interval_of(rt, bounds)) == wanted);
+    assert!(rt; pair_if_filled(a, b, op, interval_of(rt, bounds)) == wanted);
 }
 
 // The sums are [13..25], and the differences [-17..-5].
 #[test]
 fn two_intervals(rt: HostRuntime) {
     let (below, within) = (interval_of(&rt, (-9, -5)), interval_of(&rt, (14, 18)));
-    check_image(&rt, Combined::Sum, (14, 18), Some(within));
-    check_image(&rt, Combined::Difference, (-9, 40), Some(below));
-    check_image(&rt, Combined::Sum, (18, 14), None);
+    check_pair(&rt, Combined::Sum, (14, 18), Some(within));
+    check_pair(&rt, Combined::Difference, (-9, 40), Some(below));
+    check_pair(&rt, Combined::Sum, (18, 14), None);
 }

@@ -1,7 +1,7 @@
 //! The changes that a network writes down from its first mark on, and how they are taken back.
 ghost use Rattle.std.specs.Prelude.{None, slice_index_or, ◌-◌, ◌≡◌, ◌<◌, ◌≤◌, ◌&&◌, ◌⊎◌, [], ℕ, OnOk, false, length, take, true};
 ghost use Rattle.std.specs.Vec.{vec_capacity, vec_len};
-ghost use Rattle.ivl_store.specs.Keeping.{narrowed_at};
+ghost use Rattle.ivl_store.specs.NarrowedSets.{narrowed_at};
 ghost use Rattle.ivl_store.specs.Network.{IsSoundNetwork};
 ghost use Rattle.ivl_store.specs.Queue.{IsIndex, IsQueue};
 ghost use Rattle.ivl_store.specs.Trail.{AreKeptFrom, IsKeptFrom, IsPresent, KeepsAt, past_at, revert, with_change};

@@ -11,8 +11,8 @@ ghost use Rattle.ivl_store.specs.Trail.{revert};
 ghost use Rattle.ivl_store.specs.declared.store.constraint.Constraint.{Constraint};
 
 use super::change::Change;
-use super::keeping::keep_within;
 use super::marks::clear_marks;
+use super::narrowed_sets::narrowed_to;
 use super::post::first_unknown_post;
 use super::{Constraint, Post, Store, StoreFault};
 use intervallum::interval_set::IntervalSet;
@@ -196,7 +196,7 @@ impl<B: Width> Store<B> {
         ensures lost { IfOk result (λ r. r.0 ≡ false → self.new ≡ self.old) }
         ensures back { IfOk result (λ r. (constraints : List Constraint) → revert r.1 (record { domains = self.new; constraints = constraints }) ≡ record { domains = self.old; constraints = constraints }) }
     {
-        let left = keep_within(&self.domains[i], allowed)?;
+        let left = narrowed_to(&self.domains[i], allowed)?;
         let lost = left.is_some();
         let old = self.swap(i, left);
         Ok((lost, Change::Domain(i, old)))

@@ -1,7 +1,7 @@
 //! Domains that are replaced, so that what stood there can be put back.
 ghost use Rattle.std.specs.Prelude.{◌≡◌, ◌<◌, ◌-◌, ℤ, List, Option, Some, is_some, length, slice_set, take};
 ghost use Rattle.ivl_laws.specs.Runs.{IsRunListIn};
-ghost use Rattle.ivl_store.specs.Keeping.{narrowed_at};
+ghost use Rattle.ivl_store.specs.NarrowedSets.{narrowed_at};
 
 use super::Store;
 use intervallum::interval_set::IntervalSet;

@@ -4,6 +4,7 @@ ghost use Rattle.ivl_laws.specs.Sets.{Intersection};
 ghost use Rattle.ivl_laws.specs.Runs.{Covers, IsRunsOf};
 ghost use Rattle.ivl_within.specs.Within.{SumsBy};
 
+use super::by_runs::results_by_runs;
 use super::{Combined, combine};
 use intervallum::interval_set::IntervalSet;
 use intervallum::ops::{Intersection, IsEmpty};
@@ -13,8 +14,13 @@ use std::alloc::AllocError;
 /// Returns the members of `x` that are the sum, or the difference, of a member of `a` and one of
 /// `b`.
 ///
-/// Makes only the results between the least and the greatest member of `x`, at the cost of
-/// [`sums_in_window`](super::sums_in_window), and intersects them with `x` unless `x` is one run.
+/// Makes the `k` pairs of runs whose results reach the interval from the least to the greatest member
+/// of `x`, at the cost of [`sums_in_window`](super::sums_in_window), and intersects these results with
+/// `x` unless `x` is one run. If `k` may be large, first looks for the results in each run of `x` alone,
+/// and is done with a run at a pair that makes all of it: `O(log n + log m)` if that is the first one.
+/// Goes back to the pairs if this takes longer than they do. So `O((n + k + p) log (n m))` at most, for
+/// `n` and `m` runs of `a` and `b` and `p` of `x`. Allocates as it goes, at most about `6 k + 3 p` runs.
+///
 /// Returns the empty set if `x` is empty, and then does not allocate.
 ///
 /// # Errors
@@ -25,10 +31,10 @@ use std::alloc::AllocError;
 /// let a: IntervalSet<i16> = [(0, 0), (10, 12), (90, 95)].to_interval_set(alloc)?;
 /// let b: IntervalSet<i16> = [(1, 2), (50, 60)].to_interval_set(alloc)?;
 /// let x = IntervalSet::new(alloc, 60, 93)?;
-/// let sums = kept(&x, &a, &b, Combined::Sum)?;
+/// let sums = results_in_set(&x, &a, &b, Combined::Sum)?;
 /// assert!(rt; sums == [(60, 72), (91, 93)].to_interval_set(alloc)?);
 /// ```
-pub fn kept<B: Width>(
+pub fn results_in_set<B: Width>(
     x: &IntervalSet<B>,
     a: &IntervalSet<B>,
     b: &IntervalSet<B>,
@@ -38,6 +44,9 @@ pub fn kept<B: Width>(
 {
     if x.is_empty() {
         return Ok(IntervalSet::empty(x.allocator()));
+    }
+    if let Some(results) = results_by_runs(x, a, b, op)? {
+        return Ok(results);
     }
     let made = combine(a, b, op, x.hull(), 0)?;
     if x.interval_count() == 1 {

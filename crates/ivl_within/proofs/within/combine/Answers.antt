@@ -14,8 +14,8 @@ use Rattle.ivl_within.proofs.within.combine.Goals as goal
 pub returns-then-is_empty : goal.returns-then-is_empty
 returns-then-is_empty g c = none_in_window _ _ _ c.empty.ensures (c.is_empty.ensures.crossed.0 c.if-is_empty.true)
 
-pub image-requires : goal.image-requires
-image-requires g c = record {
+pub pair_in_window-requires : goal.pair_in_window-requires
+pair_in_window-requires g c = record {
   left = open_here_seen c.as_slice-left.result.now c.args.a.now 0 c.index-left-0.result (c.as_slice-left.ensures.value ∙ c.iter.ensures.rest)
       c.iter.ensures.runs.maximal (omega arith) c.index-left-0.is;
   right = open_here_seen c.as_slice-right.result.now c.args.b.now 0 c.index-right-0.result (c.as_slice-right.ensures.value ∙ c.iter-2.ensures.rest)
@@ -47,5 +47,5 @@ returns-then-right-eq1 g c =
     let other : M ≡ q ∷ [] = sym right ∙ one_item c.as_slice-right.result.now q (omega arith) c.index-right-0.is in
     let filled = open_here_seen c.as_slice-left.result.now L 0 p left c.iter.ensures.runs.maximal (omega arith) c.index-left-0.is in
     let filled' = open_here_seen c.as_slice-right.result.now M 0 q right c.iter-2.ensures.runs.maximal (omega arith) c.index-right-0.is in
-    let same = clipped_pair c.args.window c.args.op L M p q c.image.result one other filled filled' c.image.ensures in
-    IfOk-weaker c.of.result _ _ (λ N h. IsRunsOf-same (IsBetween c.image.result) (Clipped c.args.window (SumsBy c.args.op (Covers L) (Covers M))) N same h) c.of.ensures.members
+    let same = clipped_pair c.args.window c.args.op L M p q c.pair_in_window.result one other filled filled' c.pair_in_window.ensures in
+    IfOk-weaker c.of.result _ _ (λ N h. IsRunsOf-same (IsBetween c.pair_in_window.result) (Clipped c.args.window (SumsBy c.args.op (Covers L) (Covers M))) N same h) c.of.ensures.members

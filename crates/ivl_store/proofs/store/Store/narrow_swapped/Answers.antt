@@ -1,7 +1,7 @@
 use Rattle.std.proofs.Common.{◌≡◌, ◌∙◌, List, subst, ap}
 use Rattle.std.specs.Prelude.{ℤ, All}
 use Rattle.ivl_laws.specs.Runs.{IsRunListIn}
-use Rattle.ivl_store.specs.Keeping.{AreLeftAt, narrowed_at}
+use Rattle.ivl_store.specs.NarrowedSets.{AreLeftAt, narrowed_at}
 use Rattle.ivl_store.proofs.Places.{after, lost_after, narrowed_after, none_after}
 use Rattle.ivl_store.proofs.store.Store.narrow_swapped.Goals as goal
 

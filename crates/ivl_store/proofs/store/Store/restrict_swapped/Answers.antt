@@ -1,7 +1,7 @@
 use Rattle.std.proofs.Common.{◌≡◌, List, [], ap, subst, get_or}
 use Rattle.std.specs.Prelude.{ℤ}
 use Rattle.ivl_laws.specs.Runs.{Covers}
-use Rattle.ivl_store.specs.Keeping.{IsLeftOf}
+use Rattle.ivl_store.specs.NarrowedSets.{IsLeftOf}
 use Rattle.ivl_within.proofs.Lists.{entry_seen}
 use Rattle.ivl_store.proofs.Places.{cut_after}
 use Rattle.ivl_store.proofs.store.Store.restrict_swapped.Goals as goal

@@ -6,10 +6,10 @@ use Rattle.ivl_within.proofs.within.rows.reach.Goals as goal
 
 pub returns-in-Sum : goal.returns-in-Sum
 returns-in-Sum g c =
-    let P : ℤ × ℤ → Type 0 = λ whole. SameMembers (IsBetween c.image.result) (Clipped whole (IsBetween (interval_difference c.args.window c.args.run))) in
-    rw c.in-Sum.is (subst P c.whole.ensures.value c.image.ensures)
+    let P : ℤ × ℤ → Type 0 = λ whole. SameMembers (IsBetween c.pair_in_window.result) (Clipped whole (IsBetween (interval_difference c.args.window c.args.run))) in
+    rw c.in-Sum.is (subst P c.whole.ensures.value c.pair_in_window.ensures)
 
 pub returns-in-Difference : goal.returns-in-Difference
 returns-in-Difference g c =
-    let P : ℤ × ℤ → Type 0 = λ whole. SameMembers (IsBetween c.image-in-Difference.result) (Clipped whole (IsBetween (interval_difference c.args.run c.args.window))) in
-    rw c.in-Difference.is (subst P c.whole-in-Difference.ensures.value c.image-in-Difference.ensures)
+    let P : ℤ × ℤ → Type 0 = λ whole. SameMembers (IsBetween c.pair_in_window-in-Difference.result) (Clipped whole (IsBetween (interval_difference c.args.run c.args.window))) in
+    rw c.in-Difference.is (subst P c.whole-in-Difference.ensures.value c.pair_in_window-in-Difference.ensures)

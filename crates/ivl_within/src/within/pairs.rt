@@ -15,10 +15,10 @@ use intervallum::width::Width;
 ///
 /// ```
 /// let (a, b): (Interval<i16>, Interval<i16>) = (Interval::new(3, 5), Interval::new(10, 20));
-/// let sums = image(a, b, Combined::Sum, Interval::new(14, 18));
+/// let sums = pair_in_window(a, b, Combined::Sum, Interval::new(14, 18));
 /// assert!(rt; sums == Interval::new(14, 18));
 /// ```
-pub fn image<B: Width>(
+pub fn pair_in_window<B: Width>(
     a: Interval<B>,
     b: Interval<B>,
     op: Combined,

@@ -8,7 +8,7 @@ use Rattle.ivl_laws.proofs.SetLaws.{sums_are_monotone, differences_are_monotone}
 use Rattle.ivl_within.specs.declared.within.Combined.{Combined}
 use Rattle.ivl_within.specs.declared.within.Combined.TheVariants.{Sum, Difference}
 use Rattle.ivl_within.specs.Within.{Clipped, SumsBy, pair_by}
-use Rattle.ivl_store.specs.Keeping.{IsLeftOf}
+use Rattle.ivl_store.specs.NarrowedSets.{IsLeftOf}
 
 -- ---- by a set that is given
 

@@ -4,8 +4,8 @@ use Rattle.std.specs.Option.{IsSome}
 use Rattle.ivl_laws.specs.Sets.{IsBetween}
 use Rattle.ivl_laws.proofs.Intervals.{in_range_is_within}
 use Rattle.ivl_within.proofs.Clipping.{clip_is, clip_none_above, clip_none_below, max_seen, min_seen, at_least_in_range, at_most_in_range}
-use Rattle.ivl_within.proofs.within.images.clip.Goals as goal
-use Rattle.ivl_within.proofs.within.images.clip.Goals.{in_default-via-in-Some+in_default, in_default-via-in_default}
+use Rattle.ivl_within.proofs.within.pairs.clip.Goals as goal
+use Rattle.ivl_within.proofs.within.pairs.clip.Goals.{in_default-via-in-Some+in_default, in_default-via-in_default}
 
 pub returns-in-Some-Some : goal.returns-in-Some-Some
 returns-in-Some-Some g c =

@@ -1,8 +1,8 @@
 use Rattle.std.proofs.Common.{◌≡◌, ◌∙◌, [], sym, inl, inr, get_or}
 use Rattle.std.proofs.lemmas.List.{get_or_default}
 use Rattle.std.proofs.lemmas.Bool.{false≢true}
-use Rattle.ivl_store.proofs.store.keeping.narrowed_sets.Goals as goal
-use Rattle.ivl_store.proofs.store.keeping.narrowed_sets.Goals.{then-has_x_later, else-has_x_later+in_ok-left_of_x, then-c, else-c+in_ok-left_of_y}
+use Rattle.ivl_store.proofs.store.narrowed_sets.narrowed_sets.Goals as goal
+use Rattle.ivl_store.proofs.store.narrowed_sets.narrowed_sets.Goals.{then-has_x_later, else-has_x_later+in_ok-left_of_x, then-c, else-c+in_ok-left_of_y}
 
 pub returns : goal.returns
 returns g c =

@@ -1,0 +1,40 @@
+use Rattle.std.proofs.Common.{◌≡◌, ◌∷◌, [], ◌∙◌, subst}
+use Rattle.std.proofs.lemmas.Result.{IfOk-weaker}
+use Rattle.ivl_laws.specs.Sets.{IsBetween}
+use Rattle.ivl_laws.specs.Runs.{Covers, IsMaximal}
+use Rattle.ivl_within.specs.Within.{SumsBy}
+use Rattle.intervallum.proofs.Equality.{differ_by_size, same_by_size}
+use Rattle.ivl_store.proofs.NarrowedSets.{keeps_all_within, keeps_some_within, left_same, one_run, runs_keep}
+use Rattle.ivl_store.proofs.store.narrowed_sets.narrowed_by.Goals as goal
+use Rattle.ivl_store.proofs.store.narrowed_sets.narrowed_by.Goals.{then-ne, else-ne}
+
+pub narrowed_run-requires-clause-one_run : goal.narrowed_run-requires-clause-one_run
+narrowed_run-requires-clause-one_run g c = one_run _ _ _ (c.as_slice-runs.ensures.value ∙ c.iter.ensures.rest) c.if-runs-eq1.true c.index-runs-0.is
+
+pub narrowed_run-requires-clause-within : goal.narrowed_run-requires-clause-within
+narrowed_run-requires-clause-within g c = λ z b. ((c.pair_in_window.ensures z).0 b).1
+
+pub returns-then-right-eq1 : goal.returns-then-right-eq1
+returns-then-right-eq1 g c =
+    let w = g.B.Width.whole in
+    let x : c.args.x.now ≡ c.index-runs-0.result ∷ [] = one_run _ _ _ (c.as_slice-runs.ensures.value ∙ c.iter.ensures.rest) c.if-runs-eq1.true c.index-runs-0.is in
+    let a : c.args.a.now ≡ c.index-left-0.result ∷ [] = one_run _ _ _ (c.as_slice-left.ensures.value ∙ c.iter-2.ensures.rest) c.if-left-eq1.true c.index-left-0.is in
+    let b : c.args.b.now ≡ c.index-right-0.result ∷ [] = one_run _ _ _ (c.as_slice-right.ensures.value ∙ c.iter-3.ensures.rest) c.if-right-eq1.true c.index-right-0.is in
+    let filled = (subst IsMaximal a c.iter-2.ensures.runs.maximal).0 in
+    let filled' = (subst IsMaximal b c.iter-3.ensures.runs.maximal).0 in
+    IfOk-weaker c.narrowed_run.result _ _
+    (λ left h. left_same w c.args.x.now (IsBetween c.pair_in_window.result) (SumsBy c.args.op (Covers c.args.a.now) (Covers c.args.b.now)) left
+    (runs_keep c.args.op _ _ _ _ _ _ c.pair_in_window.result x a b filled filled' c.pair_in_window.ensures) h) c.narrowed_run.ensures
+
+pub returns : goal.returns
+returns g c =
+    let w = g.B.Width.whole in
+    let left = Covers c.in_ok-left.left in
+    let x = Covers c.args.x.now in
+    elim c.if-ne.branch [
+      | then-ne b ↦ rw b.result-is (keeps_some_within w _ c.in_ok-left.left _ c.iter.ensures.runs c.in_ok-left.ensures
+          (differ_by_size g.met.B.Output.SizeNumber.ordered _ _ c.ne.result left x c.ne.ensures c.size.ensures c.size-2.ensures b.if-ne.true))
+      | else-ne b ↦ rw b.result-is (keeps_all_within w _ c.in_ok-left.left _ c.iter.ensures.runs c.in_ok-left.ensures
+          (same_by_size g.met.B.Output.SizeNumber.ordered _ _ c.ne.result left x c.ne.ensures c.size.ensures c.size-2.ensures b.if-ne.false
+          (λ z h. ((c.in_ok-left.ensures.members z).0 h).0)))
+    ]
