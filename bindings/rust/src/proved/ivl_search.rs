@@ -1,4 +1,4 @@
-//! All solutions of constraints `x + y = z` over finite domains: see [`search`].
+//! All solutions of constraints `x + y = z` over finite domains, and the best one: see [`search`].
 //!
 //! ```
 //! # use intervallum::proved::examples::*;

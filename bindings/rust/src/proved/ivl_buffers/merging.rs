@@ -2,16 +2,19 @@
 //!
 //! A walk writes the runs of its answer to the first places of the buffer, as many as there are
 //! places, and returns the number of all of them. It is linear in the runs of both lists, and does
-//! not allocate.
+//! not allocate. In the loops of `union`, `intersection` and `symmetric_difference` no branch hangs on
+//! the values: what a comparison tells is added to a place as 0 or 1, or chooses by a conditional
+//! move.
 
 #[allow(unused_imports)]
 use crate::rattle::prelude::*;
 use crate::proved::ivl_buffers::run::Run;
-use crate::proved::ivl_buffers::run_lists::leaves_free;
+use crate::proved::ivl_buffers::run_lists::{leaves_free, one_if};
 use crate::proved::ivl_buffers::sorted_lookup::pair_at;
 use crate::proved::intervallum::interval::Interval;
 use crate::proved::intervallum::ops::Whole;
 use crate::proved::intervallum::width::Width;
+use crate::rattle::std::hint::select_unpredictable;
 
 /// Writes the members of both run lists.
 ///
@@ -31,20 +34,14 @@ pub fn intersection<R: Run>(a: &[R], b: &[R], out: &mut [R]) -> usize {
     let mut count = 0;
     let mut i = 0;
     let mut j = 0;
-    let mut first = pair_at(a, 0);
-    let mut second = pair_at(b, 0);
-    'walk: while let Some(runs) = first.zip(second) {
+    'walk: while let Some(runs) = pair_at(a, i).zip(pair_at(b, j)) {
         let (run, other) = runs;
         let start = run.lower().max(other.lower());
         let end = run.upper().min(other.upper());
         count = lay(out, count, R::of(start, end));
-        if run.upper() <= other.upper() {
-            i += 1;
-            first = pair_at(a, i);
-        } else {
-            j += 1;
-            second = pair_at(b, j);
-        }
+        let ends_first = run.upper() <= other.upper();
+        i += usize::from(ends_first);
+        j += usize::from(!ends_first);
     }
     count
 }
@@ -80,7 +77,8 @@ pub fn difference<R: Run>(a: &[R], b: &[R], out: &mut [R]) -> usize {
                 held = pair_at(a, i);
             }
         } else {
-            count = lay(out, count, run);
+            put(out, count, run);
+            count += 1;
             i += 1;
             held = pair_at(a, i);
         }
@@ -136,16 +134,80 @@ pub fn union<R: Run>(a: &[R], b: &[R], out: &mut [R]) -> usize {
         return 0;
     };
     'walk: while let Some(run) = take_first(a, &mut i, b, &mut j) {
-        if leaves_free(held, run) {
-            put(out, count, held);
-            count += 1;
-            held = run;
-        } else {
-            held = R::of(held.lower(), held.upper().max(run.upper()));
-        }
+        let is_gap = leaves_free(held, run);
+        // written over by the next step unless a gap follows, and for good at the end
+        put(out, count, held);
+        count += usize::from(is_gap);
+        let lower = select_unpredictable(is_gap, run.lower(), held.lower());
+        held = R::of(lower, held.upper().max(run.upper()));
     }
     put(out, count, held);
     count + 1
+}
+
+/// Writes the members of exactly one of the two run lists.
+///
+/// # Proved
+///
+/// ```text
+/// requires first { IsRunListIn R.Bound.whole (map R.pair a.now) }
+/// requires second { IsRunListIn R.Bound.whole (map R.pair b.now) }
+/// requires counted { length a.now + length b.now < 2 ^ 63 }
+/// ensures runs { (L : List (ℤ × ℤ)) × IsLaid (SymmetricDifference (Covers (map R.pair a.now)) (Covers (map R.pair b.now)))
+///     (map R.pair out.old) (map R.pair out.new) result L }
+/// ensures at_most { result ≤ length a.now + length b.now }
+/// ```
+///
+/// Words: [`IsRunListIn`](crate::definitions#IsRunListIn), [`IsLaid`](crate::definitions#IsLaid), [`SymmetricDifference`](crate::definitions#SymmetricDifference), [`Covers`](crate::definitions#Covers).
+pub fn symmetric_difference<R: Run>(a: &[R], b: &[R], out: &mut [R]) -> usize {
+    let (mut i, mut j, mut count) = (0, 0, 0);
+    // all below it is done
+    let mut from = R::Bound::min_value();
+    // where the last run starts, and whether the next one goes on with it
+    let mut start = from;
+    let mut is_joined = false;
+    'walk: while i < a.len() && j < b.len() {
+        let (run, other) = (a[i], b[j]);
+        let (u, v) = (run.upper(), other.upper());
+        let x = run.lower().max(from);
+        let y = other.lower().max(from);
+        let upper = select_unpredictable(x <= y, u, v);
+        let next = x.max(y);
+        let is_filled = x != y;
+        start = select_unpredictable(is_joined, start, x.min(y));
+        let end = upper.min(next.sub_in_range(one_if(is_filled)));
+        count -= usize::from(is_joined);
+        put_if(out, count, R::of(start, end), is_filled);
+        count += usize::from(is_filled);
+        let is_left = u != v;
+        i += usize::from(u <= v);
+        j += usize::from(v <= u);
+        from = u.min(v).add_in_range(one_if(is_left));
+        is_joined = is_left & (next == from);
+    }
+    let Some((head, more)) = left_of(a, i, b, j).split_first() else {
+        return count;
+    };
+    let lower = select_unpredictable(is_joined, start, head.lower().max(from));
+    count -= usize::from(is_joined);
+    put(out, count, R::of(lower, head.upper()));
+    append(out, count + 1, more)
+}
+
+/// The pairs that are left of one of two lists, of which the other has none left.
+fn left_of<'a, R: Run>(a: &'a [R], i: usize, b: &'a [R], j: usize) -> &'a [R] {
+    if i < a.len() { &a[i..] } else { &b[j..] }
+}
+
+/// Writes pairs from a place of the buffer on, as many as there are places. Returns the place after
+/// them.
+fn append<R: Run>(out: &mut [R], place: usize, runs: &[R]) -> usize {
+    let mut end = place;
+    for run in runs {
+        put(out, end, *run);
+        end += 1;
+    }
+    end
 }
 
 /// Takes the pair that starts first of those at two places, if there is one, and advances its
@@ -153,13 +215,10 @@ pub fn union<R: Run>(a: &[R], b: &[R], out: &mut [R]) -> usize {
 fn take_first<R: Run>(a: &[R], i: &mut usize, b: &[R], j: &mut usize) -> Option<R> {
     match (pair_at(a, *i), pair_at(b, *j)) {
         (Some(run), Some(other)) => {
-            if run.lower() <= other.lower() {
-                *i += 1;
-                Some(run)
-            } else {
-                *j += 1;
-                Some(other)
-            }
+            let is_first = run.lower() <= other.lower();
+            *i += usize::from(is_first);
+            *j += usize::from(!is_first);
+            Some(select_unpredictable(is_first, run, other))
         }
         (Some(run), None) => {
             *i += 1;
@@ -193,11 +252,16 @@ fn lay_below<R: Run>(out: &mut [R], count: usize, run: R, other: R) -> usize {
 
 /// Writes a pair unless it is crossed. Returns the new number of runs.
 fn lay<R: Run>(out: &mut [R], count: usize, run: R) -> usize {
-    if run.upper() < run.lower() {
-        return count;
+    let is_filled = run.lower() <= run.upper();
+    put_if(out, count, run, is_filled);
+    count + usize::from(is_filled)
+}
+
+/// Writes a pair at a place of the buffer, if a condition holds and there is such a place.
+fn put_if<R: Run>(out: &mut [R], place: usize, run: R, condition: bool) {
+    if place < out.len() {
+        out[place] = select_unpredictable(condition, run, out[place]);
     }
-    put(out, count, run);
-    count + 1
 }
 
 /// Writes a pair at a place of the buffer, if there is such a place.

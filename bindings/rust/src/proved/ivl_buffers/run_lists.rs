@@ -6,6 +6,7 @@ use crate::proved::ivl_buffers::run::Run;
 use crate::proved::intervallum::interval::Interval;
 use crate::proved::intervallum::ops::Range;
 use crate::proved::intervallum::width::Width;
+use crate::rattle::std::hint::select_unpredictable;
 
 /// Returns true exactly when no pair is crossed, the pairs ascend with at least one number missing
 /// between neighbours, and all are in the range. `O(n)`, does not allocate.
@@ -26,7 +27,7 @@ pub fn is_run_list<R: Run>(runs: &[R]) -> bool {
     }
     let mut last = *first;
     for run in rest {
-        if !is_run(*run) || !leaves_free(last, *run) {
+        if !is_next(last, *run) {
             return false;
         }
         last = *run;
@@ -47,6 +48,23 @@ fn is_run<R: Run>(run: R) -> bool {
     run.lower() <= run.upper() && Interval::in_range(run.lower(), run.upper())
 }
 
+/// True exactly when a pair is a run, and some number lies above another run and below it.
+fn is_next<R: Run>(last: R, run: R) -> bool {
+    let (start, end) = (run.lower(), run.upper());
+    if end < start {
+        return false;
+    }
+    if R::Bound::max_value() < end {
+        return false;
+    }
+    let below = last.upper();
+    if start <= below {
+        return false;
+    }
+    // what is above another run starts in the range
+    below.add_in_range(R::Bound::one()) < start
+}
+
 /// Returns true exactly when some number lies above one run and below another.
 ///
 /// # Proved
@@ -60,5 +78,10 @@ fn is_run<R: Run>(run: R) -> bool {
 /// Words: [`IsRunIn`](crate::definitions#IsRunIn).
 pub fn leaves_free<R: Run>(last: R, run: R) -> bool {
     let (end, start) = (last.upper(), run.lower());
-    end < start && end.add_in_range(R::Bound::one()) < start
+    end.add_in_range(one_if(end < start)) < start
+}
+
+/// One if a condition holds, and zero if not.
+pub(crate) fn one_if<B: Width>(condition: bool) -> B {
+    select_unpredictable(condition, B::one(), B::zero())
 }

@@ -2,7 +2,7 @@
 
 #[allow(unused_imports)]
 use crate::rattle::prelude::*;
-use crate::proved::ivl_buffers::merging::{complement, difference, intersection, union};
+use crate::proved::ivl_buffers::merging::{complement, difference, intersection, symmetric_difference, union};
 use crate::proved::ivl_buffers::reading::{are_inside, set_of};
 use crate::proved::ivl_buffers::run::Run;
 use crate::proved::ivl_buffers::run_lists::can_walk;
@@ -97,7 +97,7 @@ fn walk_rest<R: Run>(a: &[R], out: &mut [R]) -> i64 {
 ///
 /// Words: [`AnswersSet`](crate::definitions#AnswersSet), [`Union`](crate::definitions#Union), [`Covers`](crate::definitions#Covers), [`MadeOfTwo`](crate::definitions#MadeOfTwo).
 pub fn of_two<R: Run>(alloc: Global, making: OfTwo, a: &[R], b: &[R], out: &mut [R]) -> i64 {
-    if is_merged(making, a, b) {
+    if is_merged(a, b) {
         return merge(making, a, b, out);
     }
     if !are_inside(a) || !are_inside(b) {
@@ -122,9 +122,9 @@ fn made_of_two<R: Run>(
     }
 }
 
-/// True only if both lists are lists of runs, and one walk over both makes the answer.
-fn is_merged<R: Run>(making: OfTwo, a: &[R], b: &[R]) -> bool {
-    !matches!(making, OfTwo::OneAlone) && can_walk(a) && can_walk(b)
+/// True only if both lists are lists of runs, so that one walk over both makes the answer.
+fn is_merged<R: Run>(a: &[R], b: &[R]) -> bool {
+    can_walk(a) && can_walk(b)
 }
 
 /// Writes what is made of two run lists, and returns its number of runs. If there may be too little
@@ -147,6 +147,6 @@ fn walk<R: Run>(making: OfTwo, a: &[R], b: &[R], out: &mut [R]) -> usize {
         OfTwo::Either => union(a, b, out),
         OfTwo::Both => intersection(a, b, out),
         OfTwo::FirstAlone => difference(a, b, out),
-        OfTwo::OneAlone => unreachable!(),
+        OfTwo::OneAlone => symmetric_difference(a, b, out),
     }
 }

@@ -2,7 +2,8 @@
 //!
 //! A point gives each variable, named by its index from 0, a number of its domain; it is a solution
 //! if each constraint holds at it. [`solutions`] returns the solutions, none of them twice, and says
-//! whether these are all.
+//! whether these are all. [`least`] and [`greatest`] return one in which a variable has its least or
+//! greatest number.
 //!
 //! The search narrows the domains by the constraints, takes the smallest domain that has two members
 //! or more, the first of these if there are several, and cuts it in two: the least member and the
@@ -18,11 +19,17 @@ use crate::rattle::std::alloc::{AllocError, Global};
 
 mod choice;
 mod descent;
+mod optimum;
 mod setup;
 mod steps;
 
 use descent::{Kept, search};
+use optimum::{Wanted, best_at};
 use setup::{first_unknown, network_of};
+
+/// How many narrowings one node takes at most. A caller with a budget of narrowings divides it by
+/// this number, to get [`Limits::nodes`].
+pub const NARROWINGS_PER_NODE: u64 = 500;
 
 /// How long a search may go on.
 #[derive(Clone, Copy, Debug, PartialEq, Eq)]
@@ -30,8 +37,8 @@ pub struct Limits {
     /// The search stops when it has found so many solutions.
     pub solutions: usize,
     /// The search visits so many nodes at most. A node is a choice of domains that it narrows, by
-    /// 10,000 narrowings at most; where these do not suffice, the same domains count as a further
-    /// node.
+    /// [`NARROWINGS_PER_NODE`] narrowings at most; where these do not suffice, the same domains count
+    /// as a further node.
     pub nodes: u64,
 }
 
@@ -53,6 +60,17 @@ pub struct Found<B> {
     /// The solutions. Each has a number for each variable, in the order of the variables.
     pub points: Vec<Vec<B>>,
     /// Why the search ended.
+    pub end: End,
+}
+
+/// The best solution that a search found, and why it ended.
+#[derive(Debug)]
+pub struct Best<B> {
+    /// The solution, if one was found. It has a number for each variable, in the order of the
+    /// variables.
+    pub point: Option<Vec<B>>,
+    /// Why the search ended. With [`End::All`] there is no better solution, and none at all if no
+    /// point is given.
     pub end: End,
 }
 
@@ -129,6 +147,7 @@ impl From<AllocError> for SearchFault {
 /// ensures once { IfOk result (λ found. EachOnce (map (λ point. map B.value point.items) found.points.items)) }
 /// ensures complete { IfOk result (λ found. found.end ≡ End.All → (point : List ℤ) → Solves constraints.now domains.now point → Contains (map (λ point. map B.value point.items) found.points.items) point) }
 /// ensures bounded { IfOk result (λ found. length found.points.items ≤ limits.solutions) }
+/// ensures full { IfOk result (λ found. found.end ≡ End.Solutions → length found.points.items ≡ limits.solutions) }
 /// ```
 ///
 /// Words: [`AreDistinct`](crate::definitions#AreDistinct), [`first_unknown_of`](crate::definitions#first_unknown_of), [`Solves`](crate::definitions#Solves), [`EachOnce`](crate::definitions#EachOnce).
@@ -172,6 +191,7 @@ pub fn solutions<B: Width>(
 /// ensures once { IfOk result (λ o. IfSome o (λ found. EachOnce (map (λ point. map B.value point.items) found.points.items))) }
 /// ensures complete { IfOk result (λ o. IfSome o (λ found. found.end ≡ End.All → (point : List ℤ) → Solves constraints.now domains.now point → Contains (map (λ point. map B.value point.items) found.points.items) point)) }
 /// ensures bounded { IfOk result (λ o. IfSome o (λ found. length found.points.items ≤ limits.solutions)) }
+/// ensures full { IfOk result (λ o. IfSome o (λ found. found.end ≡ End.Solutions → length found.points.items ≡ limits.solutions)) }
 /// ```
 ///
 /// Words: [`AreDistinct`](crate::definitions#AreDistinct), [`first_unknown_of`](crate::definitions#first_unknown_of), [`Solves`](crate::definitions#Solves), [`EachOnce`](crate::definitions#EachOnce).
@@ -247,6 +267,7 @@ pub fn all_distinct(constraints: &[Constraint]) -> bool {
 /// ensures unknown { (i : ℕ) → (result ≡ Err (SearchFault.Variable i)) ↔ (first_unknown_of (length domains.now) constraints.now ≡ Some i) }
 /// ensures counted { IfOk result (λ r. (points : List (List ℤ)) × (length points ≡ r.0) × Finds (Solves constraints.now domains.now) points r.1) }
 /// ensures bounded { IfOk result (λ r. r.0 ≤ limits.solutions) }
+/// ensures full { IfOk result (λ r. r.1 ≡ End.Solutions → r.0 ≡ limits.solutions) }
 /// ```
 ///
 /// Words: [`AreDistinct`](crate::definitions#AreDistinct), [`first_unknown_of`](crate::definitions#first_unknown_of), [`Finds`](crate::definitions#Finds), [`Solves`](crate::definitions#Solves).
@@ -268,6 +289,122 @@ pub fn count<B: Width>(
     };
     let end = search(alloc, &mut network, DEPTH, &mut left, &mut found)?;
     Ok((limits.solutions - left.solutions, end))
+}
+
+/// Returns a solution in which a variable has its least number: no solution gives it a smaller one.
+/// It is one of these if there are several, and none exactly if there is no solution, where the
+/// search ended with [`End::All`]. After another end it is the best solution of those that were
+/// found.
+///
+/// Each solution that is found is better than the one before it, and `limits.solutions` bounds their
+/// number. With 0, no point is given.
+///
+/// The caller must ensure that each constraint has three different variables. Check with
+/// [`Constraint::distinct`], or [`all_distinct`] for a list.
+///
+/// Copies the domains once. Each search looks for one solution among the lower half of the numbers
+/// that the variable can still have; then these are cut to what is below it, or to the upper half if
+/// there is none. So there are at most 64 searches, which share the nodes. Memory is that of two
+/// solutions and of the domains that one branch replaces.
+///
+/// # Errors
+///
+/// [`SearchFault::Variable`] for an unknown index, before anything else: the first one of the
+/// constraints, or else `variable`. [`SearchFault::Memory`] if allocation fails.
+///
+/// ```
+/// # use intervallum::proved::examples::*;
+/// # fn main() -> Result<(), std::boxed::Box<dyn std::error::Error>> {
+/// # let alloc = Global;
+/// // x + y = z, for x and y from 0 to 2 and z 3 or 4: the least y is 1, in 2 + 1 = 3
+/// let low = IntervalSet::new(alloc, 0, 2)?;
+/// let domains = Vec::from_array(alloc, [ low.try_clone()?, low, IntervalSet::new(alloc, 3, 4)?])?;
+/// let constraints = [Constraint { x: 0, y: 1, z: 2 }];
+/// let limits = Limits { solutions: 100, nodes: 100_000 };
+/// let best = least(alloc, &domains, &constraints, 1, limits)?;
+/// assert_eq!(best.end, End::All);
+/// assert!(best.point.is_some_and(|point| point.as_slice() == [2, 1, 3].as_slice()));
+/// # Ok(())
+/// # }
+/// ```
+///
+/// # Proved
+///
+/// ```text
+/// requires { All AreDistinct constraints.now }
+/// ensures unknown { (i : ℕ) → (result ≡ Err (SearchFault.Variable i)) ↔ (first_unknown_or variable (length domains.now) constraints.now ≡ Some i) }
+/// ensures sound { IfOk result (λ best. IfSome best.point (λ point. Solves constraints.now domains.now (map B.value point.items))) }
+/// ensures best { IfOk result (λ best. best.end ≡ End.All → IfSome best.point (λ point. IsLeastAt variable (Solves constraints.now domains.now) (map B.value point.items))) }
+/// ensures none { IfOk result (λ best. best.end ≡ End.All → IfNone best.point ((point : List ℤ) → ¬ (Solves constraints.now domains.now point))) }
+/// ensures full { IfOk result (λ best. best.end ≡ End.Solutions → IfNone best.point (limits.solutions ≡ 0)) }
+/// ```
+///
+/// Words: [`AreDistinct`](crate::definitions#AreDistinct), [`first_unknown_or`](crate::definitions#first_unknown_or), [`Solves`](crate::definitions#Solves), [`IsLeastAt`](crate::definitions#IsLeastAt).
+pub fn least<B: Width>(
+    alloc: Global,
+    domains: &[IntervalSet<B>],
+    constraints: &[Constraint],
+    variable: usize,
+    limits: Limits,
+) -> Result<Best<B>, SearchFault> {
+    debug_assert!({ #[allow(unused_imports)] use crate::proved::ivl_interval::ops::*; all_distinct(constraints) }, "{}", "the condition of `least` is broken: all_distinct(constraints)");
+    best_at(alloc, domains, constraints, variable, limits, Wanted::Least)
+}
+
+/// Returns a solution in which a variable has its greatest number, as [`least`] does one with its
+/// least: no solution gives it a greater one.
+///
+/// The caller must ensure that each constraint has three different variables. Check with
+/// [`Constraint::distinct`], or [`all_distinct`] for a list.
+///
+/// # Errors
+///
+/// Those of [`least`].
+///
+/// ```
+/// # use intervallum::proved::examples::*;
+/// # fn main() -> Result<(), std::boxed::Box<dyn std::error::Error>> {
+/// # let alloc = Global;
+/// // x + y = z, for x and y from 0 to 2 and z 3 or 4: the greatest z is 4, in 2 + 2 = 4
+/// let low = IntervalSet::new(alloc, 0, 2)?;
+/// let domains = Vec::from_array(alloc, [ low.try_clone()?, low, IntervalSet::new(alloc, 3, 4)?])?;
+/// let constraints = [Constraint { x: 0, y: 1, z: 2 }];
+/// let limits = Limits { solutions: 100, nodes: 100_000 };
+/// let best = greatest(alloc, &domains, &constraints, 2, limits)?;
+/// assert_eq!(best.end, End::All);
+/// assert!(best.point.is_some_and(|point| point.as_slice() == [2, 2, 4].as_slice()));
+/// # Ok(())
+/// # }
+/// ```
+///
+/// # Proved
+///
+/// ```text
+/// requires { All AreDistinct constraints.now }
+/// ensures unknown { (i : ℕ) → (result ≡ Err (SearchFault.Variable i)) ↔ (first_unknown_or variable (length domains.now) constraints.now ≡ Some i) }
+/// ensures sound { IfOk result (λ best. IfSome best.point (λ point. Solves constraints.now domains.now (map B.value point.items))) }
+/// ensures best { IfOk result (λ best. best.end ≡ End.All → IfSome best.point (λ point. IsGreatestAt variable (Solves constraints.now domains.now) (map B.value point.items))) }
+/// ensures none { IfOk result (λ best. best.end ≡ End.All → IfNone best.point ((point : List ℤ) → ¬ (Solves constraints.now domains.now point))) }
+/// ensures full { IfOk result (λ best. best.end ≡ End.Solutions → IfNone best.point (limits.solutions ≡ 0)) }
+/// ```
+///
+/// Words: [`AreDistinct`](crate::definitions#AreDistinct), [`first_unknown_or`](crate::definitions#first_unknown_or), [`Solves`](crate::definitions#Solves), [`IsGreatestAt`](crate::definitions#IsGreatestAt).
+pub fn greatest<B: Width>(
+    alloc: Global,
+    domains: &[IntervalSet<B>],
+    constraints: &[Constraint],
+    variable: usize,
+    limits: Limits,
+) -> Result<Best<B>, SearchFault> {
+    debug_assert!({ #[allow(unused_imports)] use crate::proved::ivl_interval::ops::*; all_distinct(constraints) }, "{}", "the condition of `greatest` is broken: all_distinct(constraints)");
+    best_at(
+        alloc,
+        domains,
+        constraints,
+        variable,
+        limits,
+        Wanted::Greatest,
+    )
 }
 
 // A branch is cut at most so often, so that no call overflows the stack.

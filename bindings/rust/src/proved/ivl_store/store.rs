@@ -27,9 +27,9 @@ use crate::rattle::prelude::*;
 pub mod callers;
 pub(crate) mod change;
 mod constraint;
-mod keeping;
 
 pub(crate) mod marks;
+mod narrowed_sets;
 mod narrowing;
 mod post;
 mod posting;

@@ -3,18 +3,19 @@
 #[allow(unused_imports)]
 use crate::rattle::prelude::*;
 
-mod images;
+mod by_runs;
 mod members;
+mod pairs;
 mod rows;
 
-pub use images::image;
 use crate::proved::intervallum::interval::Interval;
 use crate::proved::intervallum::interval_set::IntervalSet;
 use crate::proved::intervallum::ops::{Fits, IsEmpty, Whole};
 use crate::proved::intervallum::sweep::coalesce;
 use crate::proved::intervallum::width::Width;
-pub use members::kept;
-use rows::push_row;
+pub use members::results_in_set;
+pub use pairs::pair_in_window;
+use rows::push_rows;
 use crate::rattle::std::alloc::{AllocError, Global};
 
 /// What is made of two numbers: their sum, or the first less the second.
@@ -201,7 +202,7 @@ fn combine<B: Width>(
     let left = a.iter().as_slice();
     let right = b.iter().as_slice();
     if left.len() == 1 && right.len() == 1 {
-        return IntervalSet::of(a.allocator(), image(left[0], right[0], op, window));
+        return IntervalSet::of(a.allocator(), pair_in_window(left[0], right[0], op, window));
     }
     combine_runs(a.allocator(), left, b, op, window, room)
 }
@@ -216,8 +217,6 @@ fn combine_runs<B: Width>(
     room: usize,
 ) -> Result<IntervalSet<B>, AllocError> {
     let mut entries = Vec::with_capacity(alloc, room)?;
-    for run in left {
-        push_row(&mut entries, *run, right, op, window)?;
-    }
+    push_rows(&mut entries, left, right, op, window)?;
     coalesce(alloc, entries)
 }

@@ -62,13 +62,19 @@ fn better<B: Width>(
 /// The value up to which a domain is searched first, or `None` if the domain is empty: its least
 /// member, or one in its middle if it has more than 64.
 fn cut_value<B: Width>(domain: &IntervalSet<B>) -> Option<B> {
-    let count = domain.size().number();
-    if count > 64 {
-        if let Some(middle) = member_at(domain, count / 2) {
-            return Some(middle);
-        }
+    if domain.size().number() > 64 {
+        middle(domain)
+    } else {
+        domain.first()
     }
-    domain.first()
+}
+
+/// A member in the middle of a domain, or `None` if the domain is empty.
+pub(super) fn middle<B: Width>(domain: &IntervalSet<B>) -> Option<B> {
+    match member_at(domain, domain.size().number() / 2) {
+        Some(value) => Some(value),
+        None => domain.first(),
+    }
 }
 
 /// The member with so many members below it.
@@ -85,10 +91,23 @@ pub(super) fn up_to<B: Width>(alloc: Global, value: B) -> Result<IntervalSet<B>,
     IntervalSet::new(alloc, B::min_value(), value)
 }
 
+/// The numbers from a value on.
+pub(super) fn from<B: Width>(alloc: Global, value: B) -> Result<IntervalSet<B>, AllocError> {
+    IntervalSet::new(alloc, value, B::max_value())
+}
+
 /// The numbers above a value.
 pub(super) fn above<B: Width>(alloc: Global, value: B) -> Result<IntervalSet<B>, AllocError> {
     match value.checked_add(B::one()) {
         Some(next) => IntervalSet::new(alloc, next, B::max_value()),
+        None => Ok(IntervalSet::empty(alloc)),
+    }
+}
+
+/// The numbers below a value.
+pub(super) fn below<B: Width>(alloc: Global, value: B) -> Result<IntervalSet<B>, AllocError> {
+    match value.checked_sub(B::one()) {
+        Some(last) => IntervalSet::new(alloc, B::min_value(), last),
         None => Ok(IntervalSet::empty(alloc)),
     }
 }

@@ -18,6 +18,18 @@ pub(super) fn first_unknown(constraints: &[Constraint], count: usize) -> Option<
     None
 }
 
+/// Returns the first such index, or else the variable if it is not below `count`.
+pub(super) fn first_unknown_or(
+    variable: usize,
+    count: usize,
+    constraints: &[Constraint],
+) -> Option<usize> {
+    match first_unknown(constraints, count) {
+        None if variable >= count => Some(variable),
+        unknown => unknown,
+    }
+}
+
 fn unknown_in(constraint: &Constraint, count: usize) -> Option<usize> {
     if constraint.x >= count {
         Some(constraint.x)

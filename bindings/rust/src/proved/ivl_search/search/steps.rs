@@ -3,6 +3,7 @@
 
 #[allow(unused_imports)]
 use crate::rattle::prelude::*;
+use super::NARROWINGS_PER_NODE;
 use super::choice::{Node, above, node_of, up_to};
 use crate::proved::intervallum::interval_set::IntervalSet;
 use crate::proved::intervallum::ops::Bounded;
@@ -10,12 +11,9 @@ use crate::proved::intervallum::width::Width;
 use crate::proved::ivl_store::network::{Network, Settled};
 use crate::rattle::std::alloc::{AllocError, Global};
 
-// So many narrowings count as one node.
-const NARROWINGS: u64 = 10_000;
-
 /// Narrows the domains, and says what to do with them.
 pub(super) fn advance<B: Width>(network: &mut Network<B>) -> Result<Node<B>, AllocError> {
-    match network.settle(NARROWINGS) {
+    match network.settle(NARROWINGS_PER_NODE) {
         Ok(Settled::All) => Ok(node_of(network.domains())),
         Ok(Settled::Unfinished) => Ok(Node::Unsettled),
         Err(_) => Err(AllocError),
@@ -52,7 +50,7 @@ pub(super) fn leave<B: Width>(
 }
 
 /// Cuts a domain to its members in a set.
-fn restrict<B: Width>(
+pub(super) fn restrict<B: Width>(
     network: &mut Network<B>,
     variable: usize,
     allowed: &IntervalSet<B>,

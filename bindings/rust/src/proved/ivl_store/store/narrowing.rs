@@ -4,8 +4,8 @@
 use crate::rattle::prelude::*;
 use super::change::Change;
 use super::constraint::first_unknown_of;
-use super::keeping::narrowed_sets;
 use super::marks::{Lost, move_marks, no_marks};
+use super::narrowed_sets::narrowed_sets;
 use super::{Constraint, Store, StoreFault};
 use crate::proved::intervallum::width::Width;
 use crate::rattle::std::alloc::AllocError;
@@ -16,9 +16,10 @@ impl<B: Width> Store<B> {
     /// of both, all over the domains before the call. Returns true exactly when some domain lost a
     /// member.
     ///
-    /// A variable that stands in two places takes the rule of its last. Each domain costs a sum or
-    /// difference of two domains, cut to its own hull, and an intersection unless it is one run;
-    /// `O(1)` if all three are single runs. A domain that keeps its members is not written.
+    /// A variable that stands in two places takes the rule of its last. For each domain looks for the
+    /// sums or differences of the other two in it, at the cost of
+    /// [`results_in_set`](crate::proved::ivl_within::within::results_in_set); `O(1)` if all three are single runs. A
+    /// domain that keeps its members is not written.
     ///
     /// # Errors
     ///

@@ -3,8 +3,8 @@
 #[allow(unused_imports)]
 use crate::rattle::prelude::*;
 use super::change::Change;
-use super::keeping::keep_within;
 use super::marks::clear_marks;
+use super::narrowed_sets::narrowed_to;
 use super::post::first_unknown_post;
 use super::{Constraint, Post, Store, StoreFault};
 use crate::proved::intervallum::interval_set::IntervalSet;
@@ -144,7 +144,7 @@ impl<B: Width> Store<B> {
         i: usize,
         allowed: &IntervalSet<B>,
     ) -> Result<(bool, Change<B>), AllocError> {
-        let left = keep_within(&self.domains[i], allowed)?;
+        let left = narrowed_to(&self.domains[i], allowed)?;
         let lost = left.is_some();
         let old = self.swap(i, left);
         Ok((lost, Change::Domain(i, old)))

@@ -7,7 +7,7 @@ use crate::proved::intervallum::interval::Interval;
 use crate::proved::intervallum::interval_set::IntervalSet;
 use crate::proved::intervallum::ops::{Cardinality, Intersection};
 use crate::proved::intervallum::width::Width;
-use crate::proved::ivl_within::within::{Combined, image, kept};
+use crate::proved::ivl_within::within::{Combined, pair_in_window, results_in_set};
 use crate::rattle::std::alloc::AllocError;
 
 /// Returns what narrowing leaves at x, y and z, or `None` for a place that loses no member. A
@@ -27,37 +27,19 @@ pub(super) fn narrowed_sets<B: Width>(
     let left_of_x = if c.has_x_later() {
         None
     } else {
-        keep_differences(x, z, y)?
+        narrowed_by(x, z, y, Combined::Difference)?
     };
     let left_of_y = if c.y == c.z {
         None
     } else {
-        keep_differences(y, z, x)?
+        narrowed_by(y, z, x, Combined::Difference)?
     };
-    let left_of_z = keep_sums(z, x, y)?;
+    let left_of_z = narrowed_by(z, x, y, Combined::Sum)?;
     Ok((left_of_x, left_of_y, left_of_z))
 }
 
-/// Keeps the members of `x` that are a member of `a` plus one of `b`.
-fn keep_sums<B: Width>(
-    x: &IntervalSet<B>,
-    a: &IntervalSet<B>,
-    b: &IntervalSet<B>,
-) -> Result<Option<IntervalSet<B>>, AllocError> {
-    keep(x, a, b, Combined::Sum)
-}
-
-/// Keeps the members of `x` that are a member of `a` less one of `b`.
-fn keep_differences<B: Width>(
-    x: &IntervalSet<B>,
-    a: &IntervalSet<B>,
-    b: &IntervalSet<B>,
-) -> Result<Option<IntervalSet<B>>, AllocError> {
-    keep(x, a, b, Combined::Difference)
-}
-
-/// Keeps the members of `x` that are made of one of `a` and one of `b`. Returns `None` if all are.
-fn keep<B: Width>(
+/// Returns the members of `x` that are made of one of `a` and one of `b`, or `None` if all are.
+fn narrowed_by<B: Width>(
     x: &IntervalSet<B>,
     a: &IntervalSet<B>,
     b: &IntervalSet<B>,
@@ -68,40 +50,40 @@ fn keep<B: Width>(
     let right = b.iter().as_slice();
     if runs.len() == 1 && left.len() == 1 && right.len() == 1 {
         let run = runs[0];
-        return keep_run(x, run, image(left[0], right[0], op, run));
+        return narrowed_run(x, run, pair_in_window(left[0], right[0], op, run));
     }
-    let kept = kept(x, a, b, op)?;
+    let left = results_in_set(x, a, b, op)?;
     // a subset, so the sizes decide
-    Ok(if kept.size() != x.size() {
-        Some(kept)
+    Ok(if left.size() != x.size() {
+        Some(left)
     } else {
         None
     })
 }
 
-/// Returns the set of `kept` in place of a set of one run, or `None` if that is the same run.
-fn keep_run<B: Width>(
+/// Returns the set of `left` in place of a set of one run, or `None` if that is the same run.
+fn narrowed_run<B: Width>(
     x: &IntervalSet<B>,
     run: Interval<B>,
-    kept: Interval<B>,
+    left: Interval<B>,
 ) -> Result<Option<IntervalSet<B>>, AllocError> {
     x.in_whole();
-    if kept == run {
+    if left == run {
         return Ok(None);
     }
-    Ok(Some(IntervalSet::of(x.allocator(), kept)?))
+    Ok(Some(IntervalSet::of(x.allocator(), left)?))
 }
 
-/// Keeps the members of `x` that are in another set. Returns `None` if all are.
-pub(super) fn keep_within<B: Width>(
+/// Returns the members of `x` that are in another set, or `None` if all are.
+pub(super) fn narrowed_to<B: Width>(
     x: &IntervalSet<B>,
     allowed: &IntervalSet<B>,
 ) -> Result<Option<IntervalSet<B>>, AllocError> {
     x.in_whole();
-    let kept = x.intersection(allowed)?;
+    let left = x.intersection(allowed)?;
     // a subset, so the sizes decide
-    Ok(if kept.size() != x.size() {
-        Some(kept)
+    Ok(if left.size() != x.size() {
+        Some(left)
     } else {
         None
     })

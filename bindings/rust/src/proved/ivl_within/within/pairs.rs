@@ -17,7 +17,7 @@ use crate::proved::intervallum::width::Width;
 /// # fn main() -> Result<(), std::boxed::Box<dyn std::error::Error>> {
 /// # let alloc = Global;
 /// let (a, b): (Interval<i16>, Interval<i16>) = (Interval::new(3, 5), Interval::new(10, 20));
-/// let sums = image(a, b, Combined::Sum, Interval::new(14, 18));
+/// let sums = pair_in_window(a, b, Combined::Sum, Interval::new(14, 18));
 /// assert!(sums == Interval::new(14, 18));
 /// # Ok(())
 /// # }
@@ -33,13 +33,13 @@ use crate::proved::intervallum::width::Width;
 /// ```
 ///
 /// Words: [`SameMembers`](crate::definitions#SameMembers), [`IsBetween`](crate::definitions#IsBetween), [`Clipped`](crate::definitions#Clipped), [`pair_by`](crate::definitions#pair_by).
-pub fn image<B: Width>(
+pub fn pair_in_window<B: Width>(
     a: Interval<B>,
     b: Interval<B>,
     op: Combined,
     window: Interval<B>,
 ) -> Interval<B> {
-    debug_assert!({ #[allow(unused_imports)] use crate::proved::ivl_interval::ops::*; !a.is_empty() && !b.is_empty() && !window.is_empty() }, "{}", "the condition of `image` is broken: !a.is_empty() && !b.is_empty() && !window.is_empty()");
+    debug_assert!({ #[allow(unused_imports)] use crate::proved::ivl_interval::ops::*; !a.is_empty() && !b.is_empty() && !window.is_empty() }, "{}", "the condition of `pair_in_window` is broken: !a.is_empty() && !b.is_empty() && !window.is_empty()");
     let (lower, upper) = (b.lower().number(), b.upper().number());
     match op {
         Combined::Sum => clip(
