@@ -79,7 +79,7 @@ impl Blocks {
         }
     }
 
-    /// Takes and returns the lowest `count` consecutive free blocks, or returns `None` if there are none. The caller
+    /// TakesBlocks and returns the lowest `count` consecutive free blocks, or returns `None` if there are none. The caller
     /// must ensure that `count` is above 0. Does not allocate.
     pub fn take(&mut self, count: u64) -> Option<Interval<u64>>
         requires { 0 < count }
@@ -89,7 +89,7 @@ impl Blocks {
         self.free.take_first_fit(count)
     }
 
-    /// Gives blocks back; blocks that are already free stay free.
+    /// GivesBlocks blocks back; blocks that are already free stay free.
     ///
     /// # Errors
     ///

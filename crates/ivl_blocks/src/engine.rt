@@ -6,8 +6,8 @@ ghost use Rattle.ivl_laws.specs.Sets.{IsSubset};
 ghost use Rattle.ivl_lines.specs.Answered.{IsAnswered};
 ghost use Rattle.ivl_lines.specs.Lines.{ended_lines_of, lines_of};
 ghost use Rattle.ivl_lines.specs.Words.{words_between};
-ghost use Rattle.ivl_blocks.specs.Answering.{AnswersLine, Gives, IsBlockSet, Shows, ShowsLongest, Takes};
-ghost use Rattle.ivl_blocks.specs.Lines.{asked_count, given_of};
+ghost use Rattle.ivl_blocks.specs.Answering.{AnswersLine, GivesBlocks, IsBlockSet, ShowsFree, ShowsLongest, TakesBlocks};
+ghost use Rattle.ivl_blocks.specs.Lines.{asked_blocks, given_blocks};
 ghost use Rattle.ivl_blocks.specs.Outcome.{outcome_of};
 
 use crate::blocks::Blocks;
@@ -73,7 +73,7 @@ pub fn session<R: Read, W: Write>(
 
 fn take<W: Write>(blocks: &mut Blocks, words: &str, writer: &mut W) -> io::Result<()>
     ensures answer { OnOk result ((text : List ℕ)
-        × Takes (asked_count (words_between words.now)) blocks.old text blocks.new
+        × TakesBlocks (asked_blocks (words_between words.now)) blocks.old text blocks.new
         × Appends (W.contents writer.old) (W.contents writer.new) text) }
     ensures left { IsSubset (Covers blocks.new) (Covers blocks.old) }
 {
@@ -88,7 +88,7 @@ fn take<W: Write>(blocks: &mut Blocks, words: &str, writer: &mut W) -> io::Resul
 
 fn give<W: Write>(blocks: &mut Blocks, words: &str, writer: &mut W) -> io::Result<()>
     ensures answer { OnOk result ((text : List ℕ)
-        × Gives (given_of (words_between words.now)) blocks.old text blocks.new
+        × GivesBlocks (given_blocks (words_between words.now)) blocks.old text blocks.new
         × Appends (W.contents writer.old) (W.contents writer.new) text) }
     ensures within { IsBlockSet blocks.old → IsBlockSet blocks.new }
 {
@@ -108,7 +108,7 @@ fn give<W: Write>(blocks: &mut Blocks, words: &str, writer: &mut W) -> io::Resul
 
 fn show<W: Write>(blocks: &Blocks, words: &str, writer: &mut W) -> io::Result<()>
     ensures { OnOk result ((text : List ℕ)
-        × Shows (words_between words.now) blocks.now text blocks.now
+        × ShowsFree (words_between words.now) blocks.now text blocks.now
         × Appends (W.contents writer.old) (W.contents writer.new) text) }
 {
     match next_word(words) {

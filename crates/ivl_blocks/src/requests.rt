@@ -2,7 +2,7 @@
 ghost use Rattle.std.specs.Prelude.{◌≡◌, ◌≤◌, pos, IfSome};
 ghost use Rattle.ivl_laws.specs.Sets.{IsBetween, IsSubset};
 ghost use Rattle.ivl_lines.specs.Words.{words_between};
-ghost use Rattle.ivl_blocks.specs.Lines.{asked_count, given_of, block_of};
+ghost use Rattle.ivl_blocks.specs.Lines.{asked_blocks, given_blocks, block_of};
 
 use crate::blocks::LAST;
 use intervallum::interval::Interval;
@@ -11,7 +11,7 @@ use ivl_lines::{number_from, one_word, two_words};
 
 /// Returns how many blocks `take` asks for, or `None` if the words after it are not one number from 1 to 2^40 - 1.
 pub fn count_from(words: &str) -> Option<u64>
-    ensures value { result ≡ asked_count (words_between words.now) }
+    ensures value { result ≡ asked_blocks (words_between words.now) }
     ensures above { IfSome result (λ count. 1 ≤ count) }
 {
     let count = block_from(one_word(words)?)?;
@@ -20,7 +20,7 @@ pub fn count_from(words: &str) -> Option<u64>
 
 /// Returns the blocks that `give` names, or `None` if the words after it are not two blocks in order.
 pub fn given_from(words: &str) -> Option<Interval<u64>>
-    ensures value { result ≡ given_of (words_between words.now) }
+    ensures value { result ≡ given_blocks (words_between words.now) }
     ensures within { IfSome result (λ run. IsSubset (IsBetween run) (IsBetween (pos 0, pos 1099511627775))) }
 {
     let (first, last) = two_words(words)?;
