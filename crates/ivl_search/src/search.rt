@@ -27,14 +27,18 @@ mod steps;
 use descent::{Kept, search};
 use setup::{first_unknown, network_of};
 
+/// How many narrowings one node takes at most. A caller with a budget of narrowings divides it by
+/// this number, to get [`Limits::nodes`].
+pub const NARROWINGS_PER_NODE: u64 = 500;
+
 /// How long a search may go on.
 #[derive(Clone, Copy, Debug, PartialEq, Eq)]
 pub struct Limits {
     /// The search stops when it has found so many solutions.
     pub solutions: usize,
     /// The search visits so many nodes at most. A node is a choice of domains that it narrows, by
-    /// 10,000 narrowings at most; where these do not suffice, the same domains count as a further
-    /// node.
+    /// [`NARROWINGS_PER_NODE`] narrowings at most; where these do not suffice, the same domains count
+    /// as a further node.
     pub nodes: u64,
 }
 
@@ -118,6 +122,7 @@ pub fn solutions<B: Width>(
     ensures once { IfOk result (λ found. EachOnce (map (λ point. map B.value point.items) found.points.items)) }
     ensures complete { IfOk result (λ found. found.end ≡ End.All → (point : List ℤ) → Solves constraints.now domains.now point → Contains (map (λ point. map B.value point.items) found.points.items) point) }
     ensures bounded { IfOk result (λ found. length found.points.items ≤ limits.solutions) }
+    ensures full { IfOk result (λ found. found.end ≡ End.Solutions → length found.points.items ≡ limits.solutions) }
 {
     if let Some(i) = first_unknown(constraints, domains.len()) {
         return Err(SearchFault::Variable(i));
@@ -154,6 +159,7 @@ pub fn try_solutions<B: Width>(
     ensures once { IfOk result (λ o. IfSome o (λ found. EachOnce (map (λ point. map B.value point.items) found.points.items))) }
     ensures complete { IfOk result (λ o. IfSome o (λ found. found.end ≡ End.All → (point : List ℤ) → Solves constraints.now domains.now point → Contains (map (λ point. map B.value point.items) found.points.items) point)) }
     ensures bounded { IfOk result (λ o. IfSome o (λ found. length found.points.items ≤ limits.solutions)) }
+    ensures full { IfOk result (λ o. IfSome o (λ found. found.end ≡ End.Solutions → length found.points.items ≡ limits.solutions)) }
 {
     if all_distinct(constraints) {
         match solutions(alloc, domains, constraints, limits) {
@@ -207,6 +213,7 @@ pub fn count<B: Width>(
     ensures unknown { (i : ℕ) → (result ≡ Err (SearchFault.Variable i)) ↔ (first_unknown_of (length domains.now) constraints.now ≡ Some i) }
     ensures counted { IfOk result (λ r. (points : List (List ℤ)) × (length points ≡ r.0) × Finds (Solves constraints.now domains.now) points r.1) }
     ensures bounded { IfOk result (λ r. r.0 ≤ limits.solutions) }
+    ensures full { IfOk result (λ r. r.1 ≡ End.Solutions → r.0 ≡ limits.solutions) }
 {
     if let Some(i) = first_unknown(constraints, domains.len()) {
         return Err(SearchFault::Variable(i));

@@ -33,6 +33,7 @@ pub(super) fn search<B: Width>(
     ensures marked { OnOk result (network.new.marked ≡ network.old.marked) }
     ensures is_kept { OnOk result (found.new.is_kept ≡ found.old.is_kept) }
     ensures nodes { OnOk result (left.new.nodes ≤ left.old.nodes) }
+    ensures full { IfOk result (λ end. end ≡ End.Solutions → left.new.solutions ≡ 0) }
     ensures finds { IfOk result (λ end. (more : List (List ℤ)) × Finds (Solves network.old.constraints network.old.domains) more end
         × (found.old.is_kept ≡ true → map (λ point. map B.value point.items) found.new.points.items ≡ map (λ point. map B.value point.items) found.old.points.items ++ more)
         × (length more + left.new.solutions ≡ left.old.solutions)) }

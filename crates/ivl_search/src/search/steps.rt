@@ -10,15 +10,13 @@ ghost use Rattle.ivl_store.specs.Solutions.{SupportedBy};
 ghost use Rattle.ivl_search.specs.Nodes.{AreSingle, IsNodeOf, IsOnlyPoint};
 ghost use Rattle.ivl_search.specs.Points.{Solves};
 
+use super::NARROWINGS_PER_NODE;
 use super::choice::{Node, above, node_of, up_to};
 use intervallum::interval_set::IntervalSet;
 use intervallum::ops::Bounded;
 use intervallum::width::Width;
 use ivl_store::network::{Network, Settled};
 use std::alloc::{AllocError, Global};
-
-// So many narrowings count as one node.
-const NARROWINGS: u64 = 10_000;
 
 /// Narrows the domains, and says what to do with them.
 pub(super) fn advance<B: Width>(network: &mut Network<B>) -> Result<Node<B>, AllocError>
@@ -30,7 +28,7 @@ pub(super) fn advance<B: Width>(network: &mut Network<B>) -> Result<Node<B>, All
     ensures node { IfOk result (IsNodeOf B.value B.whole network.new.domains) }
     ensures supported { IfOk result (λ node. node ≡ Node.Leaf → SupportedBy network.old.constraints (set_at network.new.domains)) }
 {
-    match network.settle(NARROWINGS) {
+    match network.settle(NARROWINGS_PER_NODE) {
         Ok(Settled::All) => Ok(node_of(network.domains())),
         Ok(Settled::Unfinished) => Ok(Node::Unsettled),
         Err(_) => Err(AllocError),
