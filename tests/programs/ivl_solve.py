@@ -20,7 +20,7 @@ FORMS = {
 }
 
 # A search of a line with the first limit visits so many nodes.
-NODES = 100
+NODES = 2000
 
 SHORT = {"\t": "\\t", "\r": "\\r", "\n": "\\n"}
 

@@ -172,6 +172,26 @@ fn solutions_of_a_sum(rt: HostRuntime) {
     check_session(&rt, lines, answers);
 }
 
+// TO + GO = OUT, each letter another digit: 21 + 81 = 102, and nothing else. `t-o` is T less O, and not 0; `ten` is ten
+// times what the last column carries, `tens` ten times what the first one does, which is O.
+const PUZZLE: &str = "var t 1 9\nvar o 1 9\nvar g 1 9\nvar u 0 9\n\
+    var t-o -9 -1 1 9\nsum o t-o t\nvar t-g -9 -1 1 9\nsum g t-g t\nvar t-u -9 -1 1 9\nsum u t-u t\n\
+    var o-g -9 -1 1 9\nsum g o-g o\nvar o-u -9 -1 1 9\nsum u o-u o\nvar g-u -9 -1 1 9\nsum u g-u g\n\
+    var zero 0 0\nvar o2 1 9\nsum o zero o2\nvar oo 2 18\nsum o o2 oo\n\
+    var carry 0 1\nvar nine 0 0 9 9\nvar ten 0 0 10 10\nsum carry nine ten\nsum t ten oo\n\
+    var tg 2 18\nsum t g tg\nvar all 2 19\nsum tg carry all\n\
+    var nines 0 0 9 9\nvar tens 0 0 10 10\nsum o nines tens\nsum u tens all\n\
+    solve\ncount\n";
+
+#[test]
+fn a_puzzle(rt: HostRuntime) {
+    let answers = "ok\nok\nok\nok\nok\nok\nok\nok\nok\nok\nok\nok\nok\nok\nok\nok\n\
+        ok\nok\nok\nok\nok\nok\nok\nok\nok\nok\nok\nok\nok\nok\nok\nok\nok\nok\n\
+        t 2 o 1 g 8 u 0 t-o 1 t-g -6 t-u 2 o-g -7 o-u 1 g-u 8 zero 0 o2 1 oo 2 carry 0 nine 0 ten 0 tg 10 all 10 nines 9 tens 10\n\
+        ok\ncount 1\nok\n";
+    check_session(&rt, PUZZLE, answers);
+}
+
 // Without variables there is one point, which has no numbers. Names are printed escaped.
 #[test]
 fn solutions_without_sums(rt: HostRuntime) {

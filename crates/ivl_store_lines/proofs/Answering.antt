@@ -1,9 +1,10 @@
 -- The answer to a line, by what was carried out or told.
-use Rattle.std.proofs.Common.{◌≡◌, ◌≤◌, ℕ, ℤ, List, [], ◌++◌, length, map, get_or, Option, None, Some, inl, inr, refl, sym, ap}
+use Rattle.std.proofs.Common.{◌≡◌, ◌∙◌, ◌≤◌, ◌^◌, ◌-◌, ℕ, ℤ, List, [], ◌++◌, length, map, get_or, Option, None, Some, inl, inr, refl, sym, ap}
 use Rattle.std.specs.Prelude.{IsSome, IsTrue, codes, decimal}
 use Rattle.std.proofs.lemmas.List.{length-map}
 use Rattle.ivl_lines.specs.Lines.{with_newline}
 use Rattle.ivl_search.specs.declared.search.End.{End}
+use Rattle.ivl_search.specs.declared.search.End.TheVariants.{Solutions}
 use Rattle.ivl_search.specs.Points.{Finds, Solves}
 use Rattle.ivl_store_lines.specs.Answering.{AnswersAsked, AnswersRead}
 use Rattle.ivl_store_lines.specs.Faults.{Told}
@@ -31,8 +32,8 @@ no_request None name words (Some asked) old none fault memory = inr (inr (refl, 
 
 pub solved : {V : Type 0} → (numbers : V → List ℤ) (most : ℕ) (old : State) (names : List (List ℕ)) (points : List V) (end : End)
     → names ≡ old.names → Finds (Solves old.constraints old.domains) (map numbers points) end → length points ≤ most
-    → AnswersAsked old (solve most) (point_lines names (map numbers points) ++ end_line (length points) end) old
-solved numbers most old names points end named finds few =
+    → (end ≡ Solutions → length points ≡ most) → AnswersAsked old (solve most) (point_lines names (map numbers points) ++ end_line (length points) end) old
+solved numbers most old names points end named finds few full =
     inl (
       refl,
       refl,
@@ -41,14 +42,15 @@ solved numbers most old names points end named finds few =
         end = end;
         finds = finds;
         at_most = rw (length-map points numbers) few;
+        full = (λ stopped. length-map points numbers ∙ full stopped);
         shown = rw (named, length-map points numbers) refl;
       },
     )
 
 pub counted : (old : State) (points : List (List ℤ)) (found : ℕ) (end : End)
-    → length points ≡ found → Finds (Solves old.constraints old.domains) points end
+    → length points ≡ found → Finds (Solves old.constraints old.domains) points end → (end ≡ Solutions → found ≡ 2 ^ 64 - 1)
     → AnswersAsked old count (codes "count " ++ with_newline (decimal found) ++ end_line found end) old
-counted old points found end as_many finds =
+counted old points found end as_many finds full =
     inl (
       refl,
       refl,
@@ -56,6 +58,7 @@ counted old points found end as_many finds =
         points = points;
         end = end;
         finds = finds;
+        full = (λ stopped. as_many ∙ full stopped);
         shown = ap (λ n. codes "count " ++ with_newline (decimal n) ++ end_line n end) (sym as_many);
       },
     )

@@ -4,7 +4,7 @@
 --     end_line count end      whether the solutions found are all, by how many they are
 --     IsSolved most state text      the text shows solutions, none of them twice, and says how their search ended
 --     IsCounted state text      the text says how many solutions there are, and how their search ended
-use Rattle.std.specs.Prelude.{◌≡◌, ◌≤◌, ◌==◌, ℕ, ℤ, List, [], ◌∷◌, ◌++◌, codes, decimal, if◌then◌else◌, length}
+use Rattle.std.specs.Prelude.{◌≡◌, ◌≤◌, ◌==◌, ◌^◌, ◌-◌, ℕ, ℤ, List, [], ◌∷◌, ◌++◌, codes, decimal, if◌then◌else◌, length}
 use Rattle.std.specs.Fmt.{signed_decimal}
 use Rattle.ivl_lines.specs.Escapes.{escaped}
 use Rattle.ivl_lines.specs.Lines.{with_newline}
@@ -39,10 +39,12 @@ pub record IsSolved (most : ℕ) (state : State) (text : List ℕ) : Type 0 wher
   pub end : End
   pub finds : Finds (Solves state.constraints state.domains) points end
   pub at_most : length points ≤ most
+  pub full : end ≡ Solutions → length points ≡ most
   pub shown : text ≡ point_lines state.names points ++ end_line (length points) end
 
 pub record IsCounted (state : State) (text : List ℕ) : Type 0 where
   pub points : List (List ℤ)
   pub end : End
   pub finds : Finds (Solves state.constraints state.domains) points end
+  pub full : end ≡ Solutions → length points ≡ 2 ^ 64 - 1
   pub shown : text ≡ codes "count " ++ with_newline (decimal (length points)) ++ end_line (length points) end

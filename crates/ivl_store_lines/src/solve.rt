@@ -1,20 +1,18 @@
 //! The solutions of the constraints over the domains, as a search finds them within the limit of a line.
-ghost use Rattle.std.specs.Prelude.{◌≡◌, ◌≤◌, ℤ, List, IfOk, length, map};
+ghost use Rattle.std.specs.Prelude.{◌≡◌, ◌≤◌, ◌^◌, ◌-◌, ℤ, List, IfOk, length, map};
 ghost use Rattle.ivl_search.specs.Points.{Finds, Solves};
 
 use crate::solver::Solver;
 use ivl_search::search;
-use ivl_search::search::{End, Found, Limits};
+use ivl_search::search::{End, Found, Limits, NARROWINGS_PER_NODE};
 use std::alloc::AllocError;
-
-// So many narrowings of the limit are one node of a search.
-const NARROWINGS_PER_NODE: u64 = 10_000;
 
 impl Solver {
     /// Returns solutions, `most` of them at most, and how their search ended.
     pub fn solutions(&self, most: u64) -> Result<Found<i64>, AllocError>
         ensures finds { IfOk result (λ found. Finds (Solves self.now.constraints self.now.domains) (map (λ point. point.items) found.points.items) found.end) }
         ensures at_most { IfOk result (λ found. length found.points.items ≤ most) }
+        ensures full { IfOk result (λ found. found.end ≡ End.Solutions → length found.points.items ≡ most) }
     {
         let limits = self.limits(most as usize);
         match search::solutions(self.allocator(), self.domains(), self.constraints(), limits) {
@@ -25,7 +23,8 @@ impl Solver {
 
     /// Returns how many solutions there are, and how their search ended.
     pub fn count(&self) -> Result<(usize, End), AllocError>
-        ensures { IfOk result (λ counted. (points : List (List ℤ)) × (length points ≡ counted.0) × Finds (Solves self.now.constraints self.now.domains) points counted.1) }
+        ensures found { IfOk result (λ counted. (points : List (List ℤ)) × (length points ≡ counted.0) × Finds (Solves self.now.constraints self.now.domains) points counted.1) }
+        ensures full { IfOk result (λ counted. counted.1 ≡ End.Solutions → counted.0 ≡ 2 ^ 64 - 1) }
     {
         let limits = self.limits(usize::MAX);
         match search::count(self.allocator(), self.domains(), self.constraints(), limits) {

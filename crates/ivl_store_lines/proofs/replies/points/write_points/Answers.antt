@@ -1,8 +1,7 @@
-use Rattle.std.proofs.Common.{◌≡◌, ◌<◌, ◌+◌, ◌++◌, ◌∷◌, [], ℕ, ℤ, List, length, get_or, map, take, ap, sym, ◌∙◌, subst, rules}
+use Rattle.std.proofs.Common.{ℕ, List, map, sym, subst}
 use Rattle.std.specs.Prelude.{string_bytes}
 use Rattle.std.specs.Io.KnownBytes.{Appends}
 use Rattle.std.proofs.KnownBytes.{Appends-trans}
-use Rattle.ivl_store_lines.specs.Solved.{point_line, point_lines}
 use Rattle.ivl_store_lines.proofs.Points.{lines_so_far}
 use Rattle.ivl_store_lines.proofs.replies.points.write_points.Goals as goal
 
