@@ -104,10 +104,6 @@ class Searched:
             return found == most
         return line == (b"ok" if found else b"no solution") and self.first(found + 1) == found
 
-    def after(self, written, place):
-        """Where the answer ends, or None if it is wrong."""
-        raise NotImplementedError
-
 
 class Listed(Searched):
     """The answer to `solve`: so many solutions at most."""
@@ -357,13 +353,8 @@ def searched_lines(dice, count):
         x, y = dice.sample(names, 2)
         sums = [f"sum {x} {y} {z}" for z in names if z not in (x, y) and point[x] + point[y] == point[z]]
         cut = f"cut {x} {dice.randrange(-5, 1)} {dice.randrange(1, 6)}"
-        lines.append(dice.choice([cut, "show", *sums, *["solve", "count", f"solve {dice.randrange(6)}", *searches(dice, x)] * 2]))
+        lines.append(dice.choice([cut, "show", *sums, *["solve", "count", f"solve {dice.randrange(6)}"] * 2]))
     return [line.encode() for line in lines]
-
-
-def searches(dice, name):
-    """Lines that search for a solution that is best for a variable."""
-    return []
 
 
 def random_lines(dice, count):
