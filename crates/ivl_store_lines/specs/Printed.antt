@@ -4,7 +4,7 @@
 --     variable_line name variable domains      the line of the variable with this index; nothing without one
 --     domain_lines names domains      the lines of all variables
 --     state_line domains progress      whether a domain is empty, and if none is, how far the domains are narrowed
---     Replies asked new text      the text answers a request that is carried out
+--     IsReply asked new text      the text is an answer to a request that is carried out
 use Rattle.std.specs.Prelude.{◌≡◌, ℕ, ℤ, Bool, true, false, List, [], ◌∷◌, ◌++◌, codes, get_or, if◌then◌else◌, Option, None, Some}
 use Rattle.std.specs.List.{list_any}
 use Rattle.ivl_lines.specs.Escapes.{escaped}
@@ -52,13 +52,13 @@ progress_text Budget = codes "unfinished"
 abbrev pub state_line : List (List (ℤ × ℤ)) → Progress → List ℕ
 state_line domains progress = with_newline (if list_any has_no_run domains then codes "no solution" else progress_text progress)
 
-abbrev pub Replies : Asked → State → List ℕ → Type 0
-Replies (var name pairs) new text = text ≡ state_line new.domains new.progress
-Replies (cut name pairs) new text = text ≡ state_line new.domains new.progress
-Replies (sum x y z) new text = text ≡ state_line new.domains new.progress
-Replies (limit n) new text = text ≡ state_line new.domains new.progress
-Replies go_on new text = text ≡ state_line new.domains new.progress
-Replies (show None) new text = text ≡ domain_lines new.names new.domains ++ state_line new.domains new.progress
-Replies (show (Some name)) new text = text ≡ variable_line name (variable_named new.names name) new.domains ++ state_line new.domains new.progress
-Replies (solve most) new text = IsSolved most new text
-Replies count new text = IsCounted new text
+abbrev pub IsReply : Asked → State → List ℕ → Type 0
+IsReply (var name pairs) new text = text ≡ state_line new.domains new.progress
+IsReply (cut name pairs) new text = text ≡ state_line new.domains new.progress
+IsReply (sum x y z) new text = text ≡ state_line new.domains new.progress
+IsReply (limit n) new text = text ≡ state_line new.domains new.progress
+IsReply go_on new text = text ≡ state_line new.domains new.progress
+IsReply (show None) new text = text ≡ domain_lines new.names new.domains ++ state_line new.domains new.progress
+IsReply (show (Some name)) new text = text ≡ variable_line name (variable_named new.names name) new.domains ++ state_line new.domains new.progress
+IsReply (solve most) new text = IsSolved most new text
+IsReply count new text = IsCounted new text

@@ -6,7 +6,7 @@ ghost use Rattle.ivl_lines.specs.Lines.{ended_lines_of, lines_of};
 ghost use Rattle.ivl_lines.specs.Words.{words_between};
 ghost use Rattle.ivl_store_lines.specs.Answering.{AnswersAsked, AnswersLine, AnswersWords};
 ghost use Rattle.ivl_store_lines.specs.Outcome.{outcome_of};
-ghost use Rattle.ivl_store_lines.specs.Printed.{Replies, state_line};
+ghost use Rattle.ivl_store_lines.specs.Printed.{IsReply, state_line};
 ghost use Rattle.ivl_store_lines.specs.Requests.{asked_of, count, solve};
 ghost use Rattle.ivl_store_lines.specs.Solving.{State};
 
@@ -127,7 +127,7 @@ fn answer_change<W: Write>(
     request: Request<'_>,
     writer: &mut W,
 ) -> io::Result<()>
-    requires { (new : State) → Replies (asked_of request) new (state_line new.domains new.progress) }
+    requires { (new : State) → IsReply (asked_of request) new (state_line new.domains new.progress) }
     ensures { OnOk result ((text : List ℕ)
         × AnswersAsked solver.old (asked_of request.entry) text solver.new
         × Appends (W.contents writer.old) (W.contents writer.new) text) }
