@@ -1,6 +1,8 @@
 #!/usr/bin/env python3
 """The solver beside brute force: usage: tests/programs/ivl_solve.py [PROGRAM] [--seconds N] [--seed N]"""
 
+import itertools
+import math
 import unicodedata
 
 from ivl_run import LEAST, joined, number, text
@@ -13,7 +15,12 @@ FORMS = {
     b"limit": b"limit n",
     b"go": b"go on",
     b"show": b"show or show x",
+    b"solve": b"solve or solve n",
+    b"count": b"count",
 }
+
+# A search of a line with the first limit visits so many nodes.
+NODES = 2000
 
 SHORT = {"\t": "\\t", "\r": "\\r", "\n": "\\n"}
 
@@ -40,6 +47,94 @@ def supported(domains, sums):
                 is_done = is_done and members == domains[name]
                 domains[name] = members
     return domains
+
+
+def points(domains, sums):
+    """The points that solve the sums, one after another, each as a list of numbers in the order of the variables."""
+    names = list(domains)
+
+    def extended(point):
+        if len(point) == len(names):
+            yield list(point.values())
+            return
+        name = names[len(point)]
+        for value in domains[name]:
+            longer = {**point, name: value}
+            if all(longer[x] + longer[y] == longer[z] for x, y, z in sums if name in (x, y, z) and {x, y, z} <= set(longer)):
+                yield from extended(longer)
+
+    return extended({})
+
+
+class Searched:
+    """The answer to a line that searches: which solutions it finds, and whether it is unfinished, is left to the program."""
+
+    def __init__(self, solver, line):
+        self.sums = list(solver.sums)
+        self.domains = supported(dict(solver.domains), self.sums)
+        self.line = line
+        self.is_sure = solver.limit >= 10**6 and 2 * math.prod(map(len, self.domains.values())) <= NODES
+
+    def __repr__(self):
+        return f"an answer to {self.line!r} over {self.domains}, {self.sums}"
+
+    def first(self, count):
+        """How many solutions there are, but no more than this."""
+        return sum(1 for _ in itertools.islice(points(self.domains, self.sums), count))
+
+    def number_of(self, name, text):
+        """The number of a solution's line for a variable, or None if it is none of its domain."""
+        return next((value for value in self.domains[name] if text == str(value).encode()), None)
+
+    def point(self, line):
+        """The solution that a line tells, or None."""
+        words = line.split(b" ") if line else []
+        if words[::2] != [escaped(name) for name in self.domains] or len(words) % 2:
+            return None
+        point = dict(zip(self.domains, map(self.number_of, self.domains, words[1::2])))
+        if None in point.values() or any(point[x] + point[y] != point[z] for x, y, z in self.sums):
+            return None
+        return tuple(point.values())
+
+    def is_end(self, line, found, most):
+        """Whether this may be the last line after so many solutions."""
+        if line == b"unfinished":
+            return not self.is_sure
+        if line == b"more possible":
+            return found == most
+        return line == (b"ok" if found else b"no solution") and self.first(found + 1) == found
+
+
+class Listed(Searched):
+    """The answer to `solve`: so many solutions at most."""
+
+    def __init__(self, solver, line, most):
+        super().__init__(solver, line)
+        self.most = most
+
+    def after(self, written, place):
+        found = set()
+        while (end := written.find(b"\n", place)) >= 0:
+            line, place = written[place:end], end + 1
+            point = self.point(line)
+            if point is None:
+                return place if self.is_end(line, len(found), self.most) else None
+            if point in found or len(found) == self.most:
+                return None
+            found.add(point)
+        return None
+
+
+class Counted(Searched):
+    """The answer to `count`."""
+
+    def after(self, written, place):
+        lines = written[place:].split(b"\n", 2)
+        if len(lines) < 3 or not lines[0].startswith(b"count ") or not lines[0][6:].isdigit():
+            return None
+        found = int(lines[0][6:])
+        is_right = self.first(found) == found and self.is_end(lines[1], found, None)
+        return len(written) - len(lines[2]) if is_right else None
 
 
 class Solver:
@@ -78,12 +173,16 @@ class Solver:
             return b"unknown command " + escaped(name)
         if name == b"show":
             return self.fault_of_show(words)
+        if name == b"count":
+            return b"write " + FORMS[name] if words else None
         if name == b"sum":
             return self.fault_of_sum(words)
         if name == b"go":
             return None if words == [b"on"] else b"write " + FORMS[name]
-        if name == b"limit":
-            return self.fault_of_limit(words)
+        if name == b"limit" or name == b"solve" and words:
+            return self.fault_of_number(name, words)
+        if name == b"solve":
+            return None
         if not words:
             return b"write " + FORMS[name]
         for word in words[1:]:
@@ -109,9 +208,9 @@ class Solver:
             return b"unknown variable " + escaped(words[0])
         return None
 
-    def fault_of_limit(self, words):
+    def fault_of_number(self, name, words):
         if len(words) != 1:
-            return b"write " + FORMS[b"limit"]
+            return b"write " + FORMS[name]
         if number(words[0]) is None or number(words[0]) < 0:
             return b"bad number " + escaped(words[0])
         return None
@@ -133,6 +232,10 @@ class Solver:
         if name == b"show":
             lines = [escaped(name) + b" " + self.text(self.domains[name]) + b"\n" for name in words or self.domains]
             return b"".join(lines) + self.state()
+        if name == b"solve":
+            return Listed(self, name, number(words[0]) if words else None)
+        if name == b"count":
+            return Counted(self, name)
         if name == b"limit":
             self.limit = number(words[0])
             return self.state()
@@ -205,13 +308,17 @@ def random_pairs(dice):
 
 def random_line(dice):
     variable = lambda: dice.choice(["x", "y", "z", "u", "v", "w"] if dice.random() < 0.95 else ["q", "\u00e9", "xx", "\t", "\x1b[2J", "\u00e9\\\x9b", "\0\x7f", "x\r\ry"])
-    name = dice.choice(["var", "cut", "cut", "sum", "sum", "show", "show", "limit", "go"])
+    name = dice.choice(["var", "cut", "cut", "sum", "sum", "show", "show", "limit", "go", "solve", "count"])
     if name == "sum":
         parts = dice.sample("xyzuvw", 3) if dice.random() < 0.8 else [variable() for _ in range(dice.choice([3, 3, 2, 4]))]
     elif name == "show":
         parts = [] if dice.random() < 0.6 else [variable() for _ in range(dice.choice([1, 1, 1, 2]))]
+    elif name == "solve":
+        parts = [dice.choice(["0", "1", "2", "3", "20", "1000"])] if dice.random() < 0.5 else dice.choice([[]] * 9 + [["-1"], ["x"], ["1", "2"], [str(2**63)]])
+    elif name == "count":
+        parts = [] if dice.random() < 0.95 else ["1"]
     elif name == "limit":
-        parts = [dice.choice(["0", "1", "2", "3", "5", "1000000", "1000000"])] if dice.random() < 0.9 else dice.choice([[], ["-1"], ["x"], ["1", "2"], [str(2**63 - 1)]])
+        parts = [dice.choice(["0", "1", "2", "3", "5", "1000000", "1000000", "1000000"])] if dice.random() < 0.9 else dice.choice([[], ["-1"], ["x"], ["1", "2"], [str(2**63 - 1)]])
     elif name == "go":
         parts = ["on"] if dice.random() < 0.95 else dice.choice([[], ["on", "on"], ["off"]])
     else:
@@ -229,14 +336,33 @@ def stopped_lines(dice, count):
     for _ in range(count):
         lower = dice.randrange(-60, 20)
         cut = f"cut {dice.choice(names)} {lower} {lower + dice.randrange(20, 90)}"
-        line = dice.choice(["sum " + " ".join(dice.sample(names, 3)), cut, "go on", "show", "limit 1", f"limit {dice.randrange(5)}"])
+        line = dice.choice(["sum " + " ".join(dice.sample(names, 3)), cut, "go on", "show", "solve 3", "limit 1", f"limit {dice.randrange(5)}"])
         lines.append(line.encode())
     return lines
 
 
+def searched_lines(dice, count):
+    """Small domains with sums that have solutions, and many searches."""
+    names = dice.sample(["x", "y", "z", "u", "v\t", "\u00e9"], dice.randrange(3, 7))
+    point = {name: dice.randrange(-3, 4) for name in names}
+    lines = ["solve", "count"]
+    for name in names:
+        numbers = sorted(point[name] + dice.randrange(-2, 3) for _ in range(dice.randrange(3)))
+        lines.append(" ".join(["var", name, *(str(value) for value in [point[name], *numbers] for _ in "lu")]))
+    for _ in range(count):
+        x, y = dice.sample(names, 2)
+        sums = [f"sum {x} {y} {z}" for z in names if z not in (x, y) and point[x] + point[y] == point[z]]
+        cut = f"cut {x} {dice.randrange(-5, 1)} {dice.randrange(1, 6)}"
+        lines.append(dice.choice([cut, "show", *sums, *["solve", "count", f"solve {dice.randrange(6)}"] * 2]))
+    return [line.encode() for line in lines]
+
+
 def random_lines(dice, count):
-    if dice.random() < 0.3:
+    kind = dice.random()
+    if kind < 0.25:
         return stopped_lines(dice, min(count, 20))
+    if kind < 0.5:
+        return searched_lines(dice, min(count, 20))
     # short sessions, so that many begin anew before their domains are empty
     first = [b"var %s %d %d" % (name, lower, lower + dice.randrange(0, 12)) for name in (b"x", b"y", b"z", b"u") for lower in [dice.randrange(-6, 6)]]
     return first + [random_line(dice) for _ in range(min(count, 40))]

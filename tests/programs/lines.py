@@ -1,7 +1,8 @@
 """What the tests of the programs share: lines in random pieces, a full disk, and the comparison with a model.
 
 A test is a function `lines(random, count)` that returns random lines, and a class with `answer(line)`, which returns the text
-that the program has to write for a line. Everything here is plain Python; nothing of the library is used.
+that the program has to write for a line, or an object for a line that may be answered in several ways: its `after(written, place)`
+returns where an answer to it that stands at this place ends, or `None` if none stands there. Everything here is plain Python; nothing of the library is used.
 """
 
 import argparse
@@ -36,6 +37,13 @@ def run(program, data, dice):
     return child.wait(), written, said
 
 
+def place_after(written, place, text):
+    """Where the answer that stands at this place ends, or None if it is another."""
+    if not isinstance(text, bytes):
+        return text.after(written, place)
+    return place + len(text) if written[place : place + len(text)] == text else None
+
+
 def check_run(program, make_model, make_lines, dice):
     """One session beside the model; returns how many lines it had."""
     model = make_model()
@@ -45,14 +53,15 @@ def check_run(program, make_model, make_lines, dice):
     expected = [model.answer(line[:-1] if line.endswith(b"\r") else line) for line in lines]
     data = b"\n".join(lines) + dice.choice([b"", b"\n"])
     status, written, said = run(program, data, dice)
-    if (status, written, said) == (0, b"".join(expected), b""):
-        return len(lines)
     place = 0
     for number, (line, text) in enumerate(zip(lines, expected), 1):
-        if written[place : place + len(text)] != text:
-            found = written[place : place + max(len(text), 80)]
+        after = place_after(written, place, text)
+        if after is None:
+            found = written[place : place + 80]
             raise SystemExit(f"line {number}, {line!r}: {found!r} was written where {text!r} should be")
-        place += len(text)
+        place = after
+    if (status, written[place:], said) == (0, b"", b""):
+        return len(lines)
     raise SystemExit(f"after {len(lines)} lines: status {status}, {said!r}, {written[place:]!r} at the end")
 
 

@@ -21,8 +21,11 @@ Narrows the domains of variables by sums: reads one line at a time from standard
   go on                narrows further
   show                 the domain of each variable
   show x               the domain of this one
+  solve                all solutions, one per line; solve n: n of them at most
+  count                how many solutions there are
 
-Each is answered `ok`, `unfinished` if the limit stopped it, or `no solution` once a domain is empty.
+Each is answered `ok`, `unfinished` if the limit stopped it, or `no solution` once a domain is empty. `solve` and
+`count` print what they found before that, or `more possible` where there may be others.
 --version prints the version.
 ";
 

@@ -1,19 +1,17 @@
 -- The answer to a line, by what was carried out or told.
-use Rattle.std.proofs.Common.{◌≡◌, ◌≢◌, ℕ, ℤ, List, [], ◌++◌, get_or, Option, None, Some, inl, inr, refl, sym, ap}
-use Rattle.std.specs.Prelude.{IsSome, IsTrue}
+use Rattle.std.proofs.Common.{◌≡◌, ◌∙◌, ◌≤◌, ◌^◌, ◌-◌, ℕ, ℤ, List, [], ◌++◌, length, map, get_or, Option, None, Some, inl, inr, refl, sym, ap}
+use Rattle.std.specs.Prelude.{IsSome, IsTrue, codes, decimal}
+use Rattle.std.proofs.lemmas.List.{length-map}
+use Rattle.ivl_lines.specs.Lines.{with_newline}
+use Rattle.ivl_search.specs.declared.search.End.{End}
+use Rattle.ivl_search.specs.declared.search.End.TheVariants.{Solutions}
+use Rattle.ivl_search.specs.Points.{Finds, Solves}
 use Rattle.ivl_store_lines.specs.Answering.{AnswersAsked, AnswersRead}
 use Rattle.ivl_store_lines.specs.Faults.{Told}
-use Rattle.ivl_store_lines.specs.Printed.{domain_line, domain_lines, reply, state_line, told_line}
-use Rattle.ivl_store_lines.specs.Requests.{Asked, var, cut, sum, limit, go_on, show, needs_list, why_no_request}
+use Rattle.ivl_store_lines.specs.Printed.{domain_line, domain_lines, state_line, told_line}
+use Rattle.ivl_store_lines.specs.Requests.{Asked, show, solve, count, needs_list, why_no_request}
+use Rattle.ivl_store_lines.specs.Solved.{end_line, point_lines}
 use Rattle.ivl_store_lines.specs.Solving.{State, fault_of, variable_named}
-
-pub changed_reply : (asked : Asked) (new : State) → ((name : Option (List ℕ)) → asked ≢ show name) → state_line new.domains new.progress ≡ reply asked new
-changed_reply (var name pairs) new other = refl
-changed_reply (cut name pairs) new other = refl
-changed_reply (sum x y z) new other = refl
-changed_reply (limit n) new other = refl
-changed_reply go_on new other = refl
-changed_reply (show name) new other = absurd (other name refl)
 
 pub shown_reply : (asked : Asked) (old : State) → asked ≡ show None → AnswersAsked old asked (domain_lines old.names old.domains ++ state_line old.domains old.progress) old
 shown_reply asked old e = rw e (inl (refl, refl, refl))
@@ -31,3 +29,36 @@ pub no_request : (told : Option Told) (name : List ℕ) (words : List (List ℕ)
 no_request (Some why) name words o old none fault memory = rw (none refl) (inl (ap (λ (t : Option Told). told_line t) (fault refl)), refl)
 no_request None name words None old none fault memory = (inr (memory refl, refl), refl)
 no_request None name words (Some asked) old none fault memory = inr (inr (refl, refl))
+
+pub solved : {V : Type 0} → (numbers : V → List ℤ) (most : ℕ) (old : State) (names : List (List ℕ)) (points : List V) (end : End)
+    → names ≡ old.names → Finds (Solves old.constraints old.domains) (map numbers points) end → length points ≤ most
+    → (end ≡ Solutions → length points ≡ most) → AnswersAsked old (solve most) (point_lines names (map numbers points) ++ end_line (length points) end) old
+solved numbers most old names points end named finds few full =
+    inl (
+      refl,
+      refl,
+      record {
+        points = map numbers points;
+        end = end;
+        finds = finds;
+        at_most = rw (length-map points numbers) few;
+        full = (λ stopped. length-map points numbers ∙ full stopped);
+        shown = rw (named, length-map points numbers) refl;
+      },
+    )
+
+pub counted : (old : State) (points : List (List ℤ)) (found : ℕ) (end : End)
+    → length points ≡ found → Finds (Solves old.constraints old.domains) points end → (end ≡ Solutions → found ≡ 2 ^ 64 - 1)
+    → AnswersAsked old count (codes "count " ++ with_newline (decimal found) ++ end_line found end) old
+counted old points found end as_many finds full =
+    inl (
+      refl,
+      refl,
+      record {
+        points = points;
+        end = end;
+        finds = finds;
+        full = (λ stopped. as_many ∙ full stopped);
+        shown = ap (λ n. codes "count " ++ with_newline (decimal n) ++ end_line n end) (sym as_many);
+      },
+    )

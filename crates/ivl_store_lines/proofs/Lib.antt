@@ -5,3 +5,4 @@ pub mod Answering
 pub mod Names
 pub mod Adding
 pub mod Settling
+pub mod Points

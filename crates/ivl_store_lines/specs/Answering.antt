@@ -8,12 +8,12 @@ use Rattle.ivl_lines.specs.Lines.{words_of}
 use Rattle.ivl_store_lines.specs.Faults.{Told, no_text}
 use Rattle.ivl_store_lines.specs.Requests.{Asked, needs_list, request_of, why_no_request}
 use Rattle.ivl_store_lines.specs.Solving.{State, Carries, fault_of}
-use Rattle.ivl_store_lines.specs.Printed.{told_line, reply}
+use Rattle.ivl_store_lines.specs.Printed.{told_line, IsReply}
 
 -- carried out, or refused with its fault, or out of memory; only the first changes anything
 abbrev pub AnswersAsked : State → Asked → List ℕ → State → Type 0
 AnswersAsked old asked text new =
-    ((fault_of asked old ≡ None) × Carries asked old new × (text ≡ reply asked new))
+    ((fault_of asked old ≡ None) × Carries asked old new × IsReply asked new text)
     ⊎ ((why : Told) × (fault_of asked old ≡ Some why) × (text ≡ told_line (Some why)) × (new ≡ old))
     ⊎ ((text ≡ told_line None) × (new ≡ old))
 

@@ -2,5 +2,6 @@ pub mod Faults
 pub mod Outcome
 pub mod Requests
 pub mod Solving
+pub mod Solved
 pub mod Printed
 pub mod Answering

@@ -4,8 +4,8 @@
 --     variable_line name variable domains      the line of the variable with this index; nothing without one
 --     domain_lines names domains      the lines of all variables
 --     state_line domains progress      whether a domain is empty, and if none is, how far the domains are narrowed
---     reply asked new      the answer to a request that is carried out
-use Rattle.std.specs.Prelude.{ℕ, ℤ, Bool, true, false, List, [], ◌∷◌, ◌++◌, codes, get_or, if◌then◌else◌, Option, None, Some}
+--     IsReply asked new text      the text is an answer to a request that is carried out
+use Rattle.std.specs.Prelude.{◌≡◌, ℕ, ℤ, Bool, true, false, List, [], ◌∷◌, ◌++◌, codes, get_or, if◌then◌else◌, Option, None, Some}
 use Rattle.std.specs.List.{list_any}
 use Rattle.ivl_lines.specs.Escapes.{escaped}
 use Rattle.ivl_lines.specs.Lines.{with_newline}
@@ -13,8 +13,9 @@ use Rattle.ivl_lines.specs.Sets.{pairs_text}
 use Rattle.ivl_store_lines.specs.declared.progress.Progress.{Progress}
 use Rattle.ivl_store_lines.specs.declared.progress.Progress.TheVariants.{Complete, Budget}
 use Rattle.ivl_store_lines.specs.Faults.{Told, no_text, no_command, no_form, no_number, out_of_range, unknown, defined, repeated}
-use Rattle.ivl_store_lines.specs.Requests.{Asked, var, cut, sum, limit, go_on, show}
+use Rattle.ivl_store_lines.specs.Requests.{Asked, var, cut, sum, limit, go_on, show, solve, count}
 use Rattle.ivl_store_lines.specs.Solving.{State, variable_named}
+use Rattle.ivl_store_lines.specs.Solved.{IsSolved, IsCounted}
 
 abbrev pub told_line : Option Told → List ℕ
 told_line None = with_newline (codes "error: out of memory")
@@ -51,11 +52,13 @@ progress_text Budget = codes "unfinished"
 abbrev pub state_line : List (List (ℤ × ℤ)) → Progress → List ℕ
 state_line domains progress = with_newline (if list_any has_no_run domains then codes "no solution" else progress_text progress)
 
-abbrev pub reply : Asked → State → List ℕ
-reply (var name pairs) new = state_line new.domains new.progress
-reply (cut name pairs) new = state_line new.domains new.progress
-reply (sum x y z) new = state_line new.domains new.progress
-reply (limit n) new = state_line new.domains new.progress
-reply go_on new = state_line new.domains new.progress
-reply (show None) new = domain_lines new.names new.domains ++ state_line new.domains new.progress
-reply (show (Some name)) new = variable_line name (variable_named new.names name) new.domains ++ state_line new.domains new.progress
+abbrev pub IsReply : Asked → State → List ℕ → Type 0
+IsReply (var name pairs) new text = text ≡ state_line new.domains new.progress
+IsReply (cut name pairs) new text = text ≡ state_line new.domains new.progress
+IsReply (sum x y z) new text = text ≡ state_line new.domains new.progress
+IsReply (limit n) new text = text ≡ state_line new.domains new.progress
+IsReply go_on new text = text ≡ state_line new.domains new.progress
+IsReply (show None) new text = text ≡ domain_lines new.names new.domains ++ state_line new.domains new.progress
+IsReply (show (Some name)) new text = text ≡ variable_line name (variable_named new.names name) new.domains ++ state_line new.domains new.progress
+IsReply (solve most) new text = IsSolved most new text
+IsReply count new text = IsCounted new text

@@ -1,5 +1,5 @@
 -- What a line asks for, by its words.
---     name_and_pairs, name_and_some_pairs, with_pairs, three_names, limit_of, only_on, shown_by words      the words after a command, by its form; `None` if they do not have it
+--     name_and_pairs, name_and_some_pairs, with_pairs, three_names, limit_of, only_on, shown_by, most_of, counted_by words      the words after a command, by its form; `None` if they do not have it
 --     natural_of word      the number of i64 from 0 up that a word is; `None` if it is no such number
 --     request_of name words      what a command and the words after it ask for; `None` if they are no request
 --     asked_of request      the request as the program keeps it
@@ -19,6 +19,8 @@ pub data Asked : Type 0 where
   limit : ℕ → Asked
   go_on : Asked
   show : Option (List ℕ) → Asked
+  solve : ℕ → Asked
+  count : Asked
 
 -- a name, and numbers two by two
 abbrev pub name_and_pairs : List (List ℕ) → Option (List ℕ × List (ℤ × ℤ))
@@ -59,6 +61,16 @@ shown_by [] = Some (show None)
 shown_by (name ∷ []) = Some (show (Some name))
 shown_by _ = None
 
+-- how many solutions at most; without a number as many as a machine can count
+abbrev pub most_of : List (List ℕ) → Option ℕ
+most_of [] = Some (2 ^ 64 - 1)
+most_of (word ∷ []) = natural_of word
+most_of _ = None
+
+abbrev pub counted_by : List (List ℕ) → Option Asked
+counted_by [] = Some count
+counted_by _ = None
+
 abbrev pub request_of : List ℕ → List (List ℕ) → Option Asked
 request_of name words =
     if bytes_eq name (codes "var") then with_pairs var (name_and_pairs words)
@@ -67,6 +79,8 @@ request_of name words =
     else if bytes_eq name (codes "limit") then option_map limit (limit_of words)
     else if bytes_eq name (codes "go") then only_on words
     else if bytes_eq name (codes "show") then shown_by words
+    else if bytes_eq name (codes "solve") then option_map solve (most_of words)
+    else if bytes_eq name (codes "count") then counted_by words
     else None
 
 abbrev pub asked_of : Request → Asked
@@ -76,6 +90,8 @@ asked_of (kept.Sum x y z) = sum x.now y.now z.now
 asked_of (kept.Limit n) = limit n
 asked_of kept.GoOn = go_on
 asked_of (kept.Show name) = show (option_map (λ word. word.now) name)
+asked_of (kept.Solve most) = solve most
+asked_of kept.Count = count
 
 abbrev pub first_bad_number_of : List (List ℕ) → Option (List ℕ)
 first_bad_number_of words = find (λ word. is_none (number_of word)) words
@@ -93,6 +109,10 @@ abbrev pub why_no_limit : List (List ℕ) → Told
 why_no_limit (word ∷ []) = no_number word
 why_no_limit _ = no_form (codes "limit n")
 
+abbrev pub why_no_most : List (List ℕ) → Told
+why_no_most (word ∷ []) = no_number word
+why_no_most _ = no_form (codes "solve or solve n")
+
 abbrev pub why_no_request : List ℕ → List (List ℕ) → Told
 why_no_request name words =
     if bytes_eq name (codes "var") then why_no_pairs (codes "var x l u l u ..") words
@@ -101,6 +121,8 @@ why_no_request name words =
     else if bytes_eq name (codes "limit") then why_no_limit words
     else if bytes_eq name (codes "go") then no_form (codes "go on")
     else if bytes_eq name (codes "show") then no_form (codes "show or show x")
+    else if bytes_eq name (codes "solve") then why_no_most words
+    else if bytes_eq name (codes "count") then no_form (codes "count")
     else no_command name
 
 abbrev pub is_no_word : List (List ℕ) → Bool

@@ -18,7 +18,7 @@ use Rattle.ivl_store.specs.Solutions.{IsGreatestFamily}
 use Rattle.ivl_store_lines.specs.declared.progress.Progress.{Progress}
 use Rattle.ivl_store_lines.specs.declared.progress.Progress.TheVariants.{Complete, Budget}
 use Rattle.ivl_store_lines.specs.Faults.{Told, out_of_range, unknown, defined, repeated}
-use Rattle.ivl_store_lines.specs.Requests.{Asked, var, cut, sum, limit, go_on, show}
+use Rattle.ivl_store_lines.specs.Requests.{Asked, var, cut, sum, limit, go_on, show, solve, count}
 
 -- one name and one domain for each variable
 pub record State : Type 0 where
@@ -93,6 +93,8 @@ Carries (sum x y z) old new = Adds x y z old new
 Carries (limit n) old new = Limits n old new
 Carries go_on old new = GoesOn old new
 Carries (show name) old new = new ≡ old
+Carries (solve most) old new = new ≡ old
+Carries count old new = new ≡ old
 
 -- no bound of a set over i64 is its least number
 abbrev pub range_fault : List (ℤ × ℤ) → Option Told
@@ -127,3 +129,5 @@ fault_of (limit n) old = None
 fault_of go_on old = None
 fault_of (show None) old = None
 fault_of (show (Some name)) old = show_fault name (variable_named old.names name)
+fault_of (solve most) old = None
+fault_of count old = None

@@ -1,17 +1,20 @@
 //! What answers the lines of a session of the store, and how the session ends.
-ghost use Rattle.std.specs.Prelude.{◌≡◌, ◌≢◌, ℕ, List, ◌++◌, [], IfSome, IsErrOf, OnOk, Option};
+ghost use Rattle.std.specs.Prelude.{◌≡◌, ℕ, List, ◌++◌, [], IfSome, IsErrOf, OnOk};
 ghost use Rattle.std.specs.Io.KnownBytes.{Appends, Consumes, IsAtEnd};
 ghost use Rattle.ivl_lines.specs.Answered.{IsAnswered};
 ghost use Rattle.ivl_lines.specs.Lines.{ended_lines_of, lines_of};
 ghost use Rattle.ivl_lines.specs.Words.{words_between};
 ghost use Rattle.ivl_store_lines.specs.Answering.{AnswersAsked, AnswersLine, AnswersWords};
 ghost use Rattle.ivl_store_lines.specs.Outcome.{outcome_of};
-ghost use Rattle.ivl_store_lines.specs.Requests.{asked_of, show};
+ghost use Rattle.ivl_store_lines.specs.Printed.{IsReply, state_line};
+ghost use Rattle.ivl_store_lines.specs.Requests.{asked_of, count, solve};
 ghost use Rattle.ivl_store_lines.specs.Solving.{State};
 
 use crate::fault::Fault;
 use crate::progress::Progress;
-use crate::replies::{write_fault, write_shown, write_state, write_variable};
+use crate::replies::{
+    write_count, write_fault, write_shown, write_solutions, write_state, write_variable,
+};
 use crate::request::{Request, request_from};
 use crate::solver::Solver;
 use ivl_lines::{Answers, LineFault, SessionFault, first_word, line_text, next_word, serve};
@@ -26,7 +29,7 @@ impl Answers for Solver {
 
     fn may_take_long(&self, line: &[u8]) -> bool {
         match first_word(line) {
-            "cut" | "sum" | "go" => true,
+            "cut" | "sum" | "go" | "solve" | "count" => true,
             _ => false,
         }
     }
@@ -113,6 +116,8 @@ fn answer_request<W: Write>(
     match request {
         Request::Show(None) => write_shown(writer, solver),
         Request::Show(Some(name)) => write_variable(writer, solver, name),
+        Request::Solve(most) => answer_solve(solver, most, writer),
+        Request::Count => answer_count(solver, writer),
         change => answer_change(solver, change, writer),
     }
 }
@@ -122,7 +127,7 @@ fn answer_change<W: Write>(
     request: Request<'_>,
     writer: &mut W,
 ) -> io::Result<()>
-    requires { (name : Option (List ℕ)) → asked_of request ≢ show name }
+    requires { (new : State) → IsReply (asked_of request) new (state_line new.domains new.progress) }
     ensures { OnOk result ((text : List ℕ)
         × AnswersAsked solver.old (asked_of request.entry) text solver.new
         × Appends (W.contents writer.old) (W.contents writer.new) text) }
@@ -130,6 +135,29 @@ fn answer_change<W: Write>(
     match solver.carry_out(request) {
         Ok(()) => write_state(writer, solver),
         Err(fault) => write_fault(writer, &fault),
+    }
+}
+
+// Searches for solutions, and then writes what was found. Nothing is written before the search ends.
+fn answer_solve<W: Write>(solver: &Solver, most: u64, writer: &mut W) -> io::Result<()>
+    ensures { OnOk result ((text : List ℕ)
+        × AnswersAsked solver.now (solve most) text solver.now
+        × Appends (W.contents writer.old) (W.contents writer.new) text) }
+{
+    match solver.solutions(most) {
+        Ok(found) => write_solutions(writer, solver.names(), &found),
+        Err(_) => write_fault(writer, &Fault::Memory),
+    }
+}
+
+fn answer_count<W: Write>(solver: &Solver, writer: &mut W) -> io::Result<()>
+    ensures { OnOk result ((text : List ℕ)
+        × AnswersAsked solver.now count text solver.now
+        × Appends (W.contents writer.old) (W.contents writer.new) text) }
+{
+    match solver.count() {
+        Ok((found, end)) => write_count(writer, found, end),
+        Err(_) => write_fault(writer, &Fault::Memory),
     }
 }
 

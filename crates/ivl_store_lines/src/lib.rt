@@ -6,6 +6,7 @@ mod fault;
 mod progress;
 mod replies;
 mod request;
+mod solve;
 mod solver;
 mod whole;
 

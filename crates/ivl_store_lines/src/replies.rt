@@ -7,11 +7,14 @@ ghost use Rattle.ivl_store_lines.specs.Faults.{told_of};
 ghost use Rattle.ivl_store_lines.specs.Printed.{domain_line, domain_lines, progress_text, state_line, told_line};
 ghost use Rattle.ivl_store_lines.specs.Requests.{show};
 
+mod points;
+
 use crate::fault::Fault;
 use crate::progress::Progress;
 use crate::solver::Solver;
 use intervallum::interval_set::IntervalSet;
 use ivl_lines::Escaped;
+pub use points::{write_count, write_solutions};
 use std::io;
 use std::io::Write;
 

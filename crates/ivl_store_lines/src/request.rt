@@ -2,7 +2,7 @@
 ghost use Rattle.std.specs.Prelude.{◌≡◌, ◌≢◌, ◌∷◌, [], IfErr, IfOk, IsSome, IsTrue, None, Some, codes, option_map};
 ghost use Rattle.ivl_lines.specs.Words.{words_between};
 ghost use Rattle.ivl_store_lines.specs.Faults.{no_form, told_of};
-ghost use Rattle.ivl_store_lines.specs.Requests.{asked_of, cut, first_bad_number_of, limit_of, name_and_pairs, name_and_some_pairs, natural_of, needs_list, only_on, request_of, shown_by, why_no_limit, why_no_pairs, why_no_request, with_pairs};
+ghost use Rattle.ivl_store_lines.specs.Requests.{asked_of, counted_by, cut, first_bad_number_of, limit_of, most_of, name_and_pairs, name_and_some_pairs, natural_of, needs_list, only_on, request_of, shown_by, why_no_limit, why_no_most, why_no_pairs, why_no_request, with_pairs};
 
 use crate::fault::Fault;
 use ivl_lines::{next_word, number_from, one_word, pairs_from, three_words};
@@ -24,6 +24,10 @@ pub enum Request<'a> {
     GoOn,
     /// `show`: the domain of each variable; `show x`: that of this one.
     Show(Option<&'a str>),
+    /// `solve n`: so many solutions at most, and whether these are all; `solve`: without a bound.
+    Solve(u64),
+    /// `count`: how many solutions there are.
+    Count,
 }
 
 const VAR: &str = "var x l u l u ..";
@@ -37,6 +41,10 @@ const LIMIT: &str = "limit n";
 const GO_ON: &str = "go on";
 
 const SHOW: &str = "show or show x";
+
+const SOLVE: &str = "solve or solve n";
+
+const COUNT: &str = "count";
 
 /// Reads the request of a command and the words after it. Linear in the line; allocates the list
 /// of the pairs.
@@ -70,6 +78,8 @@ pub fn request_from<'a>(
             None => Err(Fault::Form(GO_ON)),
         },
         "show" => show_from(words),
+        "solve" => Ok(Request::Solve(most_from(words)?)),
+        "count" => count_from(words),
         _ => Err(Fault::Command(name)),
     }
 }
@@ -151,6 +161,33 @@ fn limit_from<'a>(words: &'a str) -> Result<u64, Fault<'a>>
     match natural_from(word) {
         Some(limit) => Ok(limit),
         None => Err(Fault::Number(word)),
+    }
+}
+
+/// The number of solutions at most, which is the only word; without a word there is no bound.
+fn most_from<'a>(words: &'a str) -> Result<u64, Fault<'a>>
+    ensures ok { IfOk result (λ n. most_of (words_between words.entry.now) ≡ Some n) }
+    ensures refused { IfErr result (λ fault. most_of (words_between words.entry.now) ≡ None) }
+    ensures fault { IfErr result (λ fault. told_of fault ≡ Some (why_no_most (words_between words.entry.now))) }
+{
+    if next_word(words).is_none() {
+        return Ok(u64::MAX);
+    }
+    let Some(word) = one_word(words) else {
+        return Err(Fault::Form(SOLVE));
+    };
+    natural_from(word).ok_or(Fault::Number(word))
+}
+
+/// The request of `count`, after which there is no word.
+fn count_from<'a>(words: &'a str) -> Result<Request<'a>, Fault<'a>>
+    ensures ok { IfOk result (λ request. counted_by (words_between words.entry.now) ≡ Some (asked_of request)) }
+    ensures refused { IfErr result (λ fault. counted_by (words_between words.entry.now) ≡ None) }
+    ensures fault { IfErr result (λ fault. told_of fault ≡ Some (no_form (codes "count"))) }
+{
+    match next_word(words) {
+        None => Ok(Request::Count),
+        Some(_) => Err(Fault::Form(COUNT)),
     }
 }
 

@@ -85,7 +85,7 @@ impl Solver {
                 self.settle()?;
                 Ok(())
             }
-            Request::Show(None) => Ok(()),
+            Request::Show(None) | Request::Solve(_) | Request::Count => Ok(()),
             Request::Show(Some(name)) => {
                 self.known(name)?;
                 Ok(())
@@ -107,6 +107,14 @@ impl Solver {
         self.network.domains()
     }
 
+    /// Returns the constraints, in the order in which they were first required.
+    pub fn constraints(&self) -> &[Constraint]
+        ensures same { result.now ≡ self.now.constraints }
+        ensures distinct { All AreDistinct self.now.constraints }
+    {
+        self.network.constraints()
+    }
+
     /// Returns the domain of the variable that has this name.
     ///
     /// # Errors
@@ -126,6 +134,13 @@ impl Solver {
         ensures { IsTrue result ↔ Any (λ L. L ≡ []) self.now.domains }
     {
         self.some_empty
+    }
+
+    /// Returns how many narrowings a line may make. `O(1)`.
+    pub fn limit(&self) -> u64
+        ensures { result ≡ self.now.limit }
+    {
+        self.limit
     }
 
     /// Returns how far the domains are narrowed. `O(1)`.

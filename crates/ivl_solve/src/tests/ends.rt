@@ -132,7 +132,8 @@ fn flushed_before_a_line_that_may_take_long(rt: HostRuntime) {
 // or one line is answered with out of memory, as an error or as unfinished.
 #[test]
 fn one_refused_request(rt: HostRuntime) -> Result<(), Fail> {
-    let mut input: &[u8] = b"var x 1 9\nvar y 1 9\nvar z 11 11\nsum x y z\ncut x 2 5\nshow\n";
+    let mut input: &[u8] =
+        b"var x 1 9\nvar y 1 9\nvar z 11 11\nsum x y z\ncut x 2 5\nshow\ncut x 2 3\nsolve\ncount\n";
     let mut written = Vec::with_capacity(rt.alloc(), 1024)?;
     if let Err(fault) = session(rt.alloc(), &mut input, &mut written) {
         assert_eq!(rt; fault, SessionFault::Memory);
@@ -144,7 +145,8 @@ fn one_refused_request(rt: HostRuntime) -> Result<(), Fail> {
         .count();
     assert!(rt; refused <= 2);
     if refused == 0 {
-        let all: &[u8] = b"ok\nok\nok\nok\nok\nx [2..5]\ny [6..9]\nz [11..11]\nok\n";
+        let all: &[u8] =
+            b"ok\nok\nok\nok\nok\nx [2..5]\ny [6..9]\nz [11..11]\nok\nok\nx 2 y 9 z 11\nx 3 y 8 z 11\nok\ncount 2\nok\n";
         assert_eq!(rt; written.as_slice(), all);
     }
     Ok(())

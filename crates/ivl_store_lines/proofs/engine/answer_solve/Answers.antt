@@ -1,0 +1,18 @@
+use Rattle.std.proofs.Common.{◌++◌, length, map}
+use Rattle.std.specs.Prelude.{string_bytes}
+use Rattle.std.proofs.lemmas.Result.{on_ok_weaker}
+use Rattle.ivl_store_lines.specs.Solved.{end_line, point_lines}
+use Rattle.ivl_store_lines.proofs.Answering.{solved}
+use Rattle.ivl_store_lines.proofs.engine.answer_solve.Goals as goal
+
+pub returns-in-Ok : goal.returns-in-Ok
+returns-in-Ok g c =
+    let names = map string_bytes c.names.result.now in
+    let found = c.in-Ok.found in
+    on_ok_weaker c.write_solutions.result
+    (λ written. (
+      point_lines names (map (λ point. point.items) found.points.items) ++ end_line (length found.points.items) found.end,
+      solved (λ point. point.items) c.args.most c.args.solver.now names found.points.items found.end c.names.ensures c.in-Ok.ensures.finds c.in-Ok.ensures.at_most c.in-Ok.ensures.full,
+      written,
+    ))
+    c.write_solutions.ensures

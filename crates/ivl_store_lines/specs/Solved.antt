@@ -1,0 +1,50 @@
+-- What is printed of the solutions of the constraints over the domains.
+--     point_line names point      a solution: the name and the number of each variable, with spaces between
+--     point_lines names points      a line for each solution
+--     end_line count end      whether the solutions found are all, by how many they are
+--     IsSolved most state text      the text shows solutions, none of them twice, and says how their search ended
+--     IsCounted state text      the text says how many solutions there are, and how their search ended
+use Rattle.std.specs.Prelude.{◌≡◌, ◌≤◌, ◌==◌, ◌^◌, ◌-◌, ℕ, ℤ, List, [], ◌∷◌, ◌++◌, codes, decimal, if◌then◌else◌, length}
+use Rattle.std.specs.Fmt.{signed_decimal}
+use Rattle.ivl_lines.specs.Escapes.{escaped}
+use Rattle.ivl_lines.specs.Lines.{with_newline}
+use Rattle.ivl_search.specs.declared.search.End.{End}
+use Rattle.ivl_search.specs.declared.search.End.TheVariants.{All, Solutions, Nodes}
+use Rattle.ivl_search.specs.Points.{Finds, Solves}
+use Rattle.ivl_store_lines.specs.Solving.{State}
+
+-- each variable with its number, after a separator, which is a space from the second on
+abbrev pub entries : List ℕ → List (List ℕ) → List ℤ → List ℕ
+entries separator [] numbers = []
+entries separator (name ∷ names) [] = []
+entries separator (name ∷ names) (number ∷ numbers) = separator ++ (escaped name ++ (codes " " ++ signed_decimal number)) ++ entries (codes " ") names numbers
+
+abbrev pub point_line : List (List ℕ) → List ℤ → List ℕ
+point_line names point = with_newline (entries [] names point)
+
+abbrev pub point_lines : List (List ℕ) → List (List ℤ) → List ℕ
+point_lines names [] = []
+point_lines names (point ∷ points) = point_line names point ++ point_lines names points
+
+abbrev pub end_text : ℕ → End → List ℕ
+end_text count All = if count == 0 then codes "no solution" else codes "ok"
+end_text count Solutions = codes "more possible"
+end_text count Nodes = codes "unfinished"
+
+abbrev pub end_line : ℕ → End → List ℕ
+end_line count end = with_newline (end_text count end)
+
+pub record IsSolved (most : ℕ) (state : State) (text : List ℕ) : Type 0 where
+  pub points : List (List ℤ)
+  pub end : End
+  pub finds : Finds (Solves state.constraints state.domains) points end
+  pub at_most : length points ≤ most
+  pub full : end ≡ Solutions → length points ≡ most
+  pub shown : text ≡ point_lines state.names points ++ end_line (length points) end
+
+pub record IsCounted (state : State) (text : List ℕ) : Type 0 where
+  pub points : List (List ℤ)
+  pub end : End
+  pub finds : Finds (Solves state.constraints state.domains) points end
+  pub full : end ≡ Solutions → length points ≡ 2 ^ 64 - 1
+  pub shown : text ≡ codes "count " ++ with_newline (decimal (length points)) ++ end_line (length points) end
