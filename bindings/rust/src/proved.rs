@@ -69,7 +69,9 @@ pub mod examples {
     #[cfg(feature = "json")]
     pub use super::ivl_json::{ItemFault, JsonFault, JsonForm};
     pub use super::ivl_paged::PagedSet;
-    pub use super::ivl_search::search::{End, Found, Limits, SearchFault, all_distinct, count, solutions, try_solutions};
+    pub use super::ivl_search::search::{
+        Best, End, Found, Limits, SearchFault, all_distinct, count, greatest, least, solutions, try_solutions,
+    };
     pub use super::ivl_store::network::{Network, Settled};
     pub use super::ivl_store::store::{Constraint, Post, Store, StoreFault};
     pub use super::ivl_within::within::{

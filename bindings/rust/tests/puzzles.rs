@@ -2,7 +2,7 @@
 use intervallum::proved::Global;
 use intervallum::proved::interval_set::{IntervalSet, ToIntervalSet};
 use intervallum::proved::ivl_search::search::{
-    End, Limits, SearchFault, all_distinct, count, solutions, try_solutions,
+    End, Limits, SearchFault, all_distinct, count, greatest, least, solutions, try_solutions,
 };
 use intervallum::proved::ivl_store::store::Constraint;
 use intervallum::proved::ops::Contains;
@@ -59,6 +59,17 @@ fn has_solutions(text: &str, number: usize, nodes: u64) {
     assert_eq!(found(&instance, Limits { solutions: 1_000, nodes: 0 }), (Vec::new(), End::Nodes));
 }
 
+/// The least and the greatest number of a variable over all solutions; none if there is no solution.
+fn bounds(instance: &Instance, variable: usize, limits: Limits) -> [Option<i64>; 2] {
+    [least, greatest].map(|best| {
+        let best = best(Global, &instance.domains, &instance.constraints, variable, limits).unwrap();
+        assert_eq!(best.end, End::All);
+        let point = best.point?;
+        assert!(solves(instance, &point));
+        Some(point[variable])
+    })
+}
+
 #[test]
 fn small_instances() {
     // no variable: the point without numbers
@@ -75,6 +86,46 @@ fn small_instances() {
 }
 
 #[test]
+fn best_of_small_instances() {
+    let limits = Limits { solutions: 100, nodes: 10_000 };
+    // no constraint, z = x + y, y = x + 1
+    assert_eq!(bounds(&instance("domain 1 2 7 7\ndomain 0 1"), 0, limits), [Some(1), Some(7)]);
+    assert_eq!(bounds(&instance("domain 2 9\ndomain 3 9\ndomain 0 13\nsum 0 1 2"), 2, limits), [Some(5), Some(13)]);
+    assert_eq!(bounds(&instance("domain 0 199\ndomain 1 1\ndomain 50 99\nsum 0 1 2"), 0, limits), [Some(49), Some(98)]);
+    // the ends of the range
+    let whole = format!("domain {} {}", -i64::MAX, i64::MAX);
+    assert_eq!(bounds(&instance(&whole), 0, limits), [Some(-i64::MAX), Some(i64::MAX)]);
+    // an empty domain, and x + one = y and y + one = x
+    for text in ["domain 1 2\ndomain", "domain 0 9\ndomain 0 9\ndomain 1 1\nsum 0 2 1\nsum 1 2 0"] {
+        assert_eq!(bounds(&instance(text), 0, limits), [None, None]);
+    }
+}
+
+#[test]
+fn best_within_limits() {
+    let Instance { domains, constraints } = instance("domain 0 9\ndomain 0 9\ndomain 0 9\nsum 0 1 2");
+    let best = |solutions, nodes| {
+        let limits = Limits { solutions, nodes };
+        let best = greatest(Global, &domains, &constraints, 2, limits).unwrap();
+        (best.point.map(|point| point[2]), best.end)
+    };
+    assert_eq!(best(0, 1_000), (None, End::Solutions));
+    assert_eq!(best(100, 0), (None, End::Nodes));
+    assert_eq!(best(100, 1_000), (Some(9), End::All));
+    // each solution that is found on the way is better than the one before it
+    let numbers: Vec<Option<i64>> = (1..100)
+        .map(|solutions| best(solutions, 1_000))
+        .take_while(|best| best.1 == End::Solutions)
+        .map(|best| best.0)
+        .collect();
+    assert!(numbers.len() > 1 && numbers.is_sorted_by(|one, next| one < next));
+    // the nodes of all searches are counted together
+    let last = (1..1_000).find(|nodes| best(100, *nodes).1 == End::All).unwrap();
+    assert!((1..last).all(|nodes| best(100, nodes).1 == End::Nodes));
+    assert!((1..last).any(|nodes| best(100, nodes).0.is_some_and(|number| number < 9)));
+}
+
+#[test]
 fn constraints_that_are_refused() {
     let limits = Limits { solutions: 9, nodes: 9 };
     let Instance { domains, .. } = instance("domain 1 2\ndomain 1 2\ndomain 1 2");
@@ -85,6 +136,14 @@ fn constraints_that_are_refused() {
     assert_eq!(solutions(Global, &domains, &unknown, limits).err(), Some(SearchFault::Variable(8)));
     assert_eq!(try_solutions(Global, &domains, &unknown, limits).err(), Some(SearchFault::Variable(8)));
     assert_eq!(count(Global, &domains, &unknown, limits), Err(SearchFault::Variable(8)));
+    // the constraints first, and then the variable
+    let known = [Constraint { x: 0, y: 1, z: 2 }];
+    for best in [least, greatest] {
+        let fault = |constraints, variable| best(Global, &domains, constraints, variable, limits).err();
+        assert_eq!(fault(&unknown, 9), Some(SearchFault::Variable(8)));
+        assert_eq!(fault(&known, 3), Some(SearchFault::Variable(3)));
+        assert_eq!(fault(&known, 2), None);
+    }
 }
 
 #[test]
@@ -110,6 +169,31 @@ fn send_more_money() {
 #[test]
 fn golomb_rulers_of_five_marks() {
     has_solutions(include_str!("puzzles/golomb5_11.txt"), 4, 106);
+}
+
+#[test]
+fn shortest_golomb_ruler_of_five_marks() {
+    // marks and distances up to 25; the last mark is no longer fixed
+    let longer = |line: &str| match line.strip_prefix("domain ") {
+        Some("11 11") => "domain 1 25\n".to_string(),
+        Some(runs) => format!("domain {}\n", runs.replace("11", "25")),
+        None => format!("{line}\n"),
+    };
+    let text: String = include_str!("puzzles/golomb5_11.txt").lines().map(longer).collect();
+    let instance = instance(&text);
+    let limits = Limits { solutions: 100, nodes: 10_000 };
+    let best = least(Global, &instance.domains, &instance.constraints, 4, limits).unwrap();
+    assert_eq!((best.point.map(|point| point[4]), best.end), (Some(11), End::All));
+}
+
+#[test]
+fn corners_of_magic_squares_of_three() {
+    let instance = instance(include_str!("puzzles/magic3.txt"));
+    let limits = Limits { solutions: 100, nodes: 1_000 };
+    // corners are even, edges are odd, and the middle is 5
+    for (cell, least, greatest) in [(0, 2, 8), (1, 1, 9), (4, 5, 5), (8, 2, 8)] {
+        assert_eq!(bounds(&instance, cell, limits), [Some(least), Some(greatest)]);
+    }
 }
 
 #[test]
@@ -173,6 +257,10 @@ fn random_instances_beside_all_points() {
         assert_eq!(end, End::All);
         points.sort();
         assert_eq!(points, by_trying_all(&instance));
+        let variable = random.below(instance.domains.len());
+        let numbers = || points.iter().map(|point| point[variable]);
+        let limits = Limits { solutions: 9, nodes: u64::MAX };
+        assert_eq!(bounds(&instance, variable, limits), [numbers().min(), numbers().max()]);
         count += points.len();
     }
     assert!(count > 1_000);

@@ -95,7 +95,7 @@ cut_solves constraints old new variable S same known cut point = (
   }),
 )
 
-le_or_lt : (x v : ℤ) → (x ≤ℤ v) ⊎ (v <ℤ x)
+pub le_or_lt : (x v : ℤ) → (x ≤ℤ v) ⊎ (v <ℤ x)
 le_or_lt x v = by_lt_z v x (λ lt. inr lt) (λ le. inl le)
 
 not_both : (x v : ℤ) → x ≤ℤ v → v <ℤ x → ⊥
@@ -147,19 +147,20 @@ single_solution constraints sets one point only s =
     get_or_default point k d _ lt ∙ (only.only k known (coordinate point k)).0 (s.members k known)
     ∙ sym (get_or_default one k d _ (subst (λ n. k < n) (sym only.one_each) known)))
 
+-- the members of sets of the range are of the range
+pub in_range : (whole : ℤ × ℤ) (sets : List (List (ℤ × ℤ))) → All (IsRunListIn whole) sets → (i : ℕ) (v : ℤ) → set_at sets i v → IsBetween whole v
+in_range whole [] a i v h = absurd h
+in_range whole (s ∷ sets) a zero v h = (All-head (IsRunListIn whole) s sets a).within v h
+in_range whole (s ∷ sets) a (suc i) v h = in_range whole sets (All-tail (IsRunListIn whole) s sets a) i v h
+
 -- a cut to the numbers of the range that have a property is one to all numbers that have it
 pub cut_in_range : (whole : ℤ × ℤ) (old marked new : List (List (ℤ × ℤ))) (variable : ℕ) (part : List (ℤ × ℤ)) (S : ℤ → Type 0) → All (IsRunListIn whole) old
     → SameMembers (Covers part) (Intersection (IsBetween whole) S) → marked ≡ old → IsCutAt variable (Covers part) (set_at marked) (set_at new)
     → IsCutAt variable S (set_at old) (set_at new)
 cut_in_range whole old marked new variable part S ranges same is cut i v = (
   (λ h. let k = (cut i v).0 h in (subst (λ sets. set_at sets i v) is k.0, λ e. ((same v).0 (k.1 e)).1)),
-  (λ h. (cut i v).1 (subst (λ sets. set_at sets i v) (sym is) h.0, λ e. (same v).1 (in_range old ranges i h.0, h.1 e))),
+  (λ h. (cut i v).1 (subst (λ sets. set_at sets i v) (sym is) h.0, λ e. (same v).1 (in_range whole old ranges i v h.0, h.1 e))),
 )
-  where
-    in_range : (sets : List (List (ℤ × ℤ))) → All (IsRunListIn whole) sets → (j : ℕ) → set_at sets j v → IsBetween whole v
-    in_range [] a j h = absurd h
-    in_range (s ∷ sets) a zero h = (All-head (IsRunListIn whole) s sets a).within v h
-    in_range (s ∷ sets) a (suc j) h = in_range sets (All-tail (IsRunListIn whole) s sets a) j h
 
 -- a point with one more number
 pub only_more : (sets : List (List (ℤ × ℤ))) (point : List ℤ) (k : ℕ) (x : ℤ) → length point ≡ k

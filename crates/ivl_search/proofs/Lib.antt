@@ -1,3 +1,5 @@
+pub mod Better
 pub mod Cuts
+pub mod Popping
 pub mod Progress
 pub mod Requiring

@@ -14,7 +14,7 @@ pub record IsLeft (solves : List ℤ → Type 0) (found : List (List ℤ)) (rest
   pub apart : (point : List ℤ) → Contains found point → rest point → ⊥
   pub cases : (point : List ℤ) → solves point → Contains found point ⊎ rest point
 
-Contains-none : (point : List ℤ) → Contains [] point → ⊥
+pub Contains-none : (point : List ℤ) → Contains [] point → ⊥
 Contains-none point c = let lt = c.1 in absurd (omega (arith, lt))
 
 Contains-head : (point : List ℤ) (points : List (List ℤ)) → Contains (point ∷ points) point

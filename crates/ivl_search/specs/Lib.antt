@@ -1,2 +1,3 @@
+pub mod Best
 pub mod Nodes
 pub mod Points

@@ -3,10 +3,14 @@
 --     SumHolds point c      the numbers of x and y add up to that of z
 --     Solves cs sets point      the point gives each variable a member of its set, and each constraint holds at it
 --     EachOnce points      no point stands twice in the list
+--     IsLeastAt variable solves point, IsGreatestAt variable solves point      no solution gives the variable a smaller number; a greater one
+--     first_unknown_or variable count cs      the first index of the constraints that is not below the count, or else the variable if it is not
 --     Finds solves points end      the points are solutions, none of them twice, and all of them if the search ended with that
-use Rattle.std.specs.Prelude.{◌≡◌, ◌<◌, ℕ, ℤ, pos, ◌+ℤ◌, List, [], ◌∷◌, All, Contains, length, slice_index_or}
+use Rattle.std.specs.Prelude.{◌≡◌, ◌<◌, ℕ, ℤ, pos, ◌+ℤ◌, ◌≤ℤ◌, List, [], ◌∷◌, All, Contains, Option, None, Some, if◌then◌else◌, length, nat_le, slice_index_or}
+use Rattle.std.specs.Option.{option_or}
 use Rattle.ivl_laws.specs.Families.{set_at}
 use Rattle.ivl_store.specs.declared.store.constraint.Constraint.{Constraint}
+use Rattle.ivl_store.specs.Narrowing.{first_unknown_of}
 use Rattle.ivl_search.specs.declared.search.End.{End}
 use Rattle.ivl_search.specs.declared.search.End.TheVariants.{All as AllFound}
 
@@ -29,3 +33,12 @@ pub record Finds (solves : List ℤ → Type 0) (points : List (List ℤ)) (end 
   pub sound : All solves points
   pub once : EachOnce points
   pub complete : end ≡ AllFound → (point : List ℤ) → solves point → Contains points point
+
+abbrev pub IsLeastAt : ℕ → (List ℤ → Type 0) → List ℤ → Type 0
+IsLeastAt variable solves point = (other : List ℤ) → solves other → coordinate point variable ≤ℤ coordinate other variable
+
+abbrev pub IsGreatestAt : ℕ → (List ℤ → Type 0) → List ℤ → Type 0
+IsGreatestAt variable solves point = (other : List ℤ) → solves other → coordinate other variable ≤ℤ coordinate point variable
+
+abbrev pub first_unknown_or : ℕ → ℕ → List Constraint → Option ℕ
+first_unknown_or variable count constraints = option_or (first_unknown_of count constraints) (if nat_le count variable then Some variable else None)

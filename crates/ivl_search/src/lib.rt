@@ -1,4 +1,4 @@
-//! All solutions of constraints `x + y = z` over finite domains: see [`search`].
+//! All solutions of constraints `x + y = z` over finite domains, and the best one: see [`search`].
 //!
 //! ```
 //! // x + y = z, for x and y from 0 to 2 and z 3 or 4: three points

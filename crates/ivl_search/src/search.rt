@@ -2,16 +2,17 @@
 //!
 //! A point gives each variable, named by its index from 0, a number of its domain; it is a solution
 //! if each constraint holds at it. [`solutions`] returns the solutions, none of them twice, and says
-//! whether these are all.
+//! whether these are all. [`least`] and [`greatest`] return one in which a variable has its least or
+//! greatest number.
 //!
 //! The search narrows the domains by the constraints, takes the smallest domain that has two members
 //! or more, the first of these if there are several, and cuts it in two: the least member and the
 //! others, or halves if it has more than 64. It searches the lower part first. The order in which
 //! solutions are found is no part of the contract.
-ghost use Rattle.std.specs.Prelude.{◌≡◌, ◌≤◌, ◌↔◌, ℕ, ℤ, List, All, Contains, Err, IfOk, IfSome, IsNone, IsTrue, Some, length, map};
+ghost use Rattle.std.specs.Prelude.{◌≡◌, ◌≤◌, ◌↔◌, ℕ, ℤ, List, All, Contains, Err, IfNone, IfOk, IfSome, IsNone, IsTrue, Some, length, map};
 ghost use Rattle.ivl_store.specs.Narrowing.{first_unknown_of};
 ghost use Rattle.ivl_store.specs.Solutions.{AreDistinct};
-ghost use Rattle.ivl_search.specs.Points.{EachOnce, Finds, Solves};
+ghost use Rattle.ivl_search.specs.Points.{EachOnce, Finds, IsGreatestAt, IsLeastAt, Solves, first_unknown_or};
 
 use intervallum::interval_set::IntervalSet;
 use intervallum::width::Width;
@@ -21,10 +22,12 @@ use thiserror::Error;
 
 mod choice;
 mod descent;
+mod optimum;
 mod setup;
 mod steps;
 
 use descent::{Kept, search};
+use optimum::{Wanted, best_at};
 use setup::{first_unknown, network_of};
 
 /// How many narrowings one node takes at most. A caller with a budget of narrowings divides it by
@@ -60,6 +63,17 @@ pub struct Found<B> {
     /// The solutions. Each has a number for each variable, in the order of the variables.
     pub points: Vec<Vec<B>>,
     /// Why the search ended.
+    pub end: End,
+}
+
+/// The best solution that a search found, and why it ended.
+#[derive(Drop, Debug)]
+pub struct Best<B> {
+    /// The solution, if one was found. It has a number for each variable, in the order of the
+    /// variables.
+    pub point: Option<Vec<B>>,
+    /// Why the search ended. With [`End::All`] there is no better solution, and none at all if no
+    /// point is given.
     pub end: End,
 }
 
@@ -226,6 +240,98 @@ pub fn count<B: Width>(
     };
     let end = search(alloc, &mut network, DEPTH, &mut left, &mut found)?;
     Ok((limits.solutions - left.solutions, end))
+}
+
+/// Returns a solution in which a variable has its least number: no solution gives it a smaller one.
+/// It is one of these if there are several, and none exactly if there is no solution, where the
+/// search ended with [`End::All`]. After another end it is the best solution of those that were
+/// found.
+///
+/// Each solution that is found is better than the one before it, and `limits.solutions` bounds their
+/// number. With 0, no point is given.
+///
+/// The caller must ensure that each constraint has three different variables. Check with
+/// [`Constraint::distinct`], or [`all_distinct`] for a list.
+///
+/// Copies the domains once. Each search looks for one solution among the lower half of the numbers
+/// that the variable can still have; then these are cut to what is below it, or to the upper half if
+/// there is none. So there are at most 64 searches, which share the nodes. Memory is that of two
+/// solutions and of the domains that one branch replaces.
+///
+/// # Errors
+///
+/// [`SearchFault::Variable`] for an unknown index, before anything else: the first one of the
+/// constraints, or else `variable`. [`SearchFault::Memory`] if allocation fails.
+///
+/// ```
+/// // x + y = z, for x and y from 0 to 2 and z 3 or 4: the least y is 1, in 2 + 1 = 3
+/// let low = IntervalSet::new(alloc, 0, 2)?;
+/// let domains = vec![in alloc; low.try_clone()?, low, IntervalSet::new(alloc, 3, 4)?]?;
+/// let constraints = [Constraint { x: 0, y: 1, z: 2 }];
+/// let limits = Limits { solutions: 100, nodes: 100_000 };
+/// let best = least(alloc, &domains, &constraints, 1, limits)?;
+/// assert_eq!(rt; best.end, End::All);
+/// assert!(rt; best.point.is_some_and(|point| point.as_slice() == [2, 1, 3].as_slice()));
+/// ```
+pub fn least<B: Width>(
+    alloc: Global,
+    domains: &[IntervalSet<B>],
+    constraints: &[Constraint],
+    variable: usize,
+    limits: Limits,
+) -> Result<Best<B>, SearchFault>
+    requires { All AreDistinct constraints.now }
+    ensures unknown { (i : ℕ) → (result ≡ Err (SearchFault.Variable i)) ↔ (first_unknown_or variable (length domains.now) constraints.now ≡ Some i) }
+    ensures sound { IfOk result (λ best. IfSome best.point (λ point. Solves constraints.now domains.now (map B.value point.items))) }
+    ensures best { IfOk result (λ best. best.end ≡ End.All → IfSome best.point (λ point. IsLeastAt variable (Solves constraints.now domains.now) (map B.value point.items))) }
+    ensures none { IfOk result (λ best. best.end ≡ End.All → IfNone best.point ((point : List ℤ) → ¬ (Solves constraints.now domains.now point))) }
+    ensures full { IfOk result (λ best. best.end ≡ End.Solutions → IfNone best.point (limits.solutions ≡ 0)) }
+{
+    best_at(alloc, domains, constraints, variable, limits, Wanted::Least)
+}
+
+/// Returns a solution in which a variable has its greatest number, as [`least`] does one with its
+/// least: no solution gives it a greater one.
+///
+/// The caller must ensure that each constraint has three different variables. Check with
+/// [`Constraint::distinct`], or [`all_distinct`] for a list.
+///
+/// # Errors
+///
+/// Those of [`least`].
+///
+/// ```
+/// // x + y = z, for x and y from 0 to 2 and z 3 or 4: the greatest z is 4, in 2 + 2 = 4
+/// let low = IntervalSet::new(alloc, 0, 2)?;
+/// let domains = vec![in alloc; low.try_clone()?, low, IntervalSet::new(alloc, 3, 4)?]?;
+/// let constraints = [Constraint { x: 0, y: 1, z: 2 }];
+/// let limits = Limits { solutions: 100, nodes: 100_000 };
+/// let best = greatest(alloc, &domains, &constraints, 2, limits)?;
+/// assert_eq!(rt; best.end, End::All);
+/// assert!(rt; best.point.is_some_and(|point| point.as_slice() == [2, 2, 4].as_slice()));
+/// ```
+pub fn greatest<B: Width>(
+    alloc: Global,
+    domains: &[IntervalSet<B>],
+    constraints: &[Constraint],
+    variable: usize,
+    limits: Limits,
+) -> Result<Best<B>, SearchFault>
+    requires { All AreDistinct constraints.now }
+    ensures unknown { (i : ℕ) → (result ≡ Err (SearchFault.Variable i)) ↔ (first_unknown_or variable (length domains.now) constraints.now ≡ Some i) }
+    ensures sound { IfOk result (λ best. IfSome best.point (λ point. Solves constraints.now domains.now (map B.value point.items))) }
+    ensures best { IfOk result (λ best. best.end ≡ End.All → IfSome best.point (λ point. IsGreatestAt variable (Solves constraints.now domains.now) (map B.value point.items))) }
+    ensures none { IfOk result (λ best. best.end ≡ End.All → IfNone best.point ((point : List ℤ) → ¬ (Solves constraints.now domains.now point))) }
+    ensures full { IfOk result (λ best. best.end ≡ End.Solutions → IfNone best.point (limits.solutions ≡ 0)) }
+{
+    best_at(
+        alloc,
+        domains,
+        constraints,
+        variable,
+        limits,
+        Wanted::Greatest,
+    )
 }
 
 // A branch is cut at most so often, so that no call overflows the stack.

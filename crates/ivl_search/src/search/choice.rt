@@ -1,7 +1,7 @@
 //! What a search does with narrowed domains, and where it cuts one.
 ghost use Rattle.std.specs.Prelude.{◌≡◌, ◌<◌, IfOk, IfSome, MatchOption, None, length, ℤ};
 ghost use Rattle.ivl_laws.specs.Runs.{Covers};
-ghost use Rattle.ivl_laws.specs.Sets.{Above, AtMost, HasNone, IsBetween, Only, SameMembers};
+ghost use Rattle.ivl_laws.specs.Sets.{Above, AtLeast, AtMost, Below, HasNone, IsBetween, Only, SameMembers};
 ghost use Rattle.ivl_search.specs.Nodes.{IsNodeOf};
 
 use intervallum::interval_set::IntervalSet;
@@ -73,13 +73,21 @@ fn better<B: Width>(
 fn cut_value<B: Width>(domain: &IntervalSet<B>) -> Option<B>
     ensures { MatchOption result (HasNone (Covers domain.now)) (λ x. IsBetween B.whole (B.value x)) }
 {
-    let count = domain.size().number();
-    if count > 64 {
-        if let Some(middle) = member_at(domain, count / 2) {
-            return Some(middle);
-        }
+    if domain.size().number() > 64 {
+        middle(domain)
+    } else {
+        domain.first()
     }
-    domain.first()
+}
+
+/// A member in the middle of a domain, or `None` if the domain is empty.
+pub(super) fn middle<B: Width>(domain: &IntervalSet<B>) -> Option<B>
+    ensures { MatchOption result (HasNone (Covers domain.now)) (λ x. IsBetween B.whole (B.value x)) }
+{
+    match member_at(domain, domain.size().number() / 2) {
+        Some(value) => Some(value),
+        None => domain.first(),
+    }
 }
 
 /// The member with so many members below it.
@@ -101,6 +109,14 @@ pub(super) fn up_to<B: Width>(alloc: Global, value: B) -> Result<IntervalSet<B>,
     IntervalSet::new(alloc, B::min_value(), value)
 }
 
+/// The numbers from a value on.
+pub(super) fn from<B: Width>(alloc: Global, value: B) -> Result<IntervalSet<B>, AllocError>
+    requires { IsBetween B.whole (B.value value) }
+    ensures { IfOk result (λ L. SameMembers (Covers L) (AtLeast (B.value value) (IsBetween B.whole))) }
+{
+    IntervalSet::new(alloc, value, B::max_value())
+}
+
 /// The numbers above a value.
 pub(super) fn above<B: Width>(alloc: Global, value: B) -> Result<IntervalSet<B>, AllocError>
     requires { IsBetween B.whole (B.value value) }
@@ -108,6 +124,17 @@ pub(super) fn above<B: Width>(alloc: Global, value: B) -> Result<IntervalSet<B>,
 {
     match value.checked_add(B::one()) {
         Some(next) => IntervalSet::new(alloc, next, B::max_value()),
+        None => Ok(IntervalSet::empty(alloc)),
+    }
+}
+
+/// The numbers below a value.
+pub(super) fn below<B: Width>(alloc: Global, value: B) -> Result<IntervalSet<B>, AllocError>
+    requires { IsBetween B.whole (B.value value) }
+    ensures { IfOk result (λ L. SameMembers (Covers L) (Below (B.value value) (IsBetween B.whole))) }
+{
+    match value.checked_sub(B::one()) {
+        Some(last) => IntervalSet::new(alloc, B::min_value(), last),
         None => Ok(IntervalSet::empty(alloc)),
     }
 }

@@ -2,7 +2,7 @@
 ghost use Rattle.std.specs.Prelude.{◌≡◌, ◌↔◌, ◌⊎◌, ◌++◌, [], ℤ, List, All, Contains, IfOk, None, OnOk, length};
 ghost use Rattle.ivl_store.specs.Narrowing.{AllPresent, first_unknown as first_unknown_in, first_unknown_of};
 ghost use Rattle.ivl_store.specs.Solutions.{AreDistinct};
-ghost use Rattle.ivl_search.specs.Points.{Solves};
+ghost use Rattle.ivl_search.specs.Points.{Solves, first_unknown_or};
 
 use intervallum::interval_set::IntervalSet;
 use intervallum::width::Width;
@@ -20,6 +20,20 @@ pub(super) fn first_unknown(constraints: &[Constraint], count: usize) -> Option<
         }
     }
     None
+}
+
+/// Returns the first such index, or else the variable if it is not below `count`.
+pub(super) fn first_unknown_or(
+    variable: usize,
+    count: usize,
+    constraints: &[Constraint],
+) -> Option<usize>
+    ensures { result ≡ first_unknown_or variable count constraints.now }
+{
+    match first_unknown(constraints, count) {
+        None if variable >= count => Some(variable),
+        unknown => unknown,
+    }
 }
 
 fn unknown_in(constraint: &Constraint, count: usize) -> Option<usize>

@@ -78,7 +78,7 @@ pub(super) fn leave<B: Width>(
 }
 
 /// Cuts a domain to its members in a set.
-fn restrict<B: Width>(
+pub(super) fn restrict<B: Width>(
     network: &mut Network<B>,
     variable: usize,
     allowed: &IntervalSet<B>,

@@ -1,4 +1,4 @@
-use Rattle.std.proofs.Common.{◌≡◌, ◌↔◌, Result, Ok, Err, ◌∙◌}
+use Rattle.std.proofs.Common.{◌≡◌, ◌↔◌, Result, Ok, Err}
 use Rattle.ivl_search.proofs.search.try_solutions.Goals as goal
 
 -- a fault that is passed on is told exactly where it was

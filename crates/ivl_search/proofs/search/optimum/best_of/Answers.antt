@@ -1,0 +1,69 @@
+use Rattle.std.proofs.Common.{◌≡◌, ◌<◌, List, Some, ap, length, map, subst, sym, ◌∙◌}
+use Rattle.std.specs.Prelude.{ℤ, ◌↔◌, IfNone, IfSome}
+use Rattle.std.proofs.lemmas.List.{length-map}
+use Rattle.ivl_laws.specs.Families.{set_at}
+use Rattle.ivl_laws.specs.Sets.{IsBetween}
+use Rattle.ivl_store.specs.Network.{IsCutAt}
+use Rattle.ivl_search.specs.Best.{IsBetter}
+use Rattle.ivl_search.specs.Points.{Solves, coordinate}
+use Rattle.ivl_search.proofs.Better.{AreAhead, ahead_after, ahead_of_next, best_at_end, number_at}
+use Rattle.ivl_search.proofs.Cuts.{cut_solves, in_range}
+use Rattle.ivl_search.proofs.search.optimum.best_of.Goals as goal
+
+pub returns-in_default-clause-best : goal.returns-in_default-clause-best
+returns-in_default-clause-best g c = λ _.
+    let v = c.loop-left.invariant in
+    let cs = c.args.network.now.constraints in
+    let start = c.args.network.now.domains in
+    let sets = c.narrowed_middle.new.network.domains in
+    let same = subst (λ cs. (point : List ℤ) → Solves cs c.loop-left.network.domains point ↔ Solves cs sets point) v.constraints c.narrowed_middle.ensures.same in
+    let none = subst (λ o. IfNone o ((point : List ℤ) → ¬ (Solves c.loop-left.network.constraints sets point))) c.in_default.is c.in_ok-half.ensures.none in
+    best_at_end (λ point. map g.B.Width.value point.items) c.args.wanted c.args.variable (Solves cs start) c.loop-left.best (Solves cs sets)
+    (ahead_after (λ point. map g.B.Width.value point.items) c.args.wanted c.args.variable (Solves cs start) c.loop-left.best (Solves cs c.loop-left.network.domains) (Solves cs sets) v.ahead same)
+    (subst (λ cs. (point : List ℤ) → ¬ (Solves cs sets point)) v.constraints none)
+
+pub keep_better-requires : goal.keep_better-requires
+keep_better-requires g c =
+    let value = g.B.Width.value in
+    let cs = c.narrowed_middle.new.network.constraints in
+    let sets = c.one_solution.new.network.domains in
+    let point = c.in-Some-point.point in
+    let count : length sets ≡ length c.args.network.now.domains = ap length c.in_ok-point.ensures.domains ∙ c.narrowed_middle.ensures.kept_count ∙ c.loop-left.invariant.kept_count in
+    let lt : c.args.variable < length sets = subst (λ n. c.args.variable < n) (sym count) c.requires.known in
+    let is : c.in_ok-point.field-0.point ≡ Some point = cc in
+    let found = subst (λ o. IfSome o (λ point. Solves cs c.narrowed_middle.new.network.domains (map g.B.Width.value point.items))) is c.in_ok-point.ensures.sound in
+    let here : Solves cs sets (map value point.items) = subst (λ D. Solves cs D (map value point.items)) (sym c.in_ok-point.ensures.domains) found in
+    let in_point : c.args.variable < length point.items = subst (λ n. c.args.variable < n) (sym here.one_each ∙ length-map point.items value) lt in
+    subst (IsBetween g.B.Width.whole) (number_at value point.items c.args.variable c.index.result.now in_point c.index.ensures)
+    (in_range g.B.Width.whole sets c.domains.ensures.runs c.args.variable (coordinate (map value point.items) c.args.variable) (here.members c.args.variable lt))
+
+pub loop-left-preserved-in-Some-point : goal.loop-left-preserved-in-Some-point
+loop-left-preserved-in-Some-point g c =
+    let v = c.loop-left.invariant in
+    let value = g.B.Width.value in
+    let cs = c.args.network.now.constraints in
+    let start = c.args.network.now.domains in
+    let narrowed = c.narrowed_middle.new.network.domains in
+    let sets = c.one_solution.new.network.domains in
+    let new = c.keep_better.new.network.domains in
+    let point = c.in-Some-point.point in
+    let cut = c.in_ok-keep_better-in-Some-point.ensures in
+    let count : length sets ≡ length start = ap length c.in_ok-point.ensures.domains ∙ c.narrowed_middle.ensures.kept_count ∙ v.kept_count in
+    let lt : c.args.variable < length sets = subst (λ n. c.args.variable < n) (sym count) c.requires.known in
+    let is : c.in_ok-point.field-0.point ≡ Some point = cc in
+    let found = subst (λ o. IfSome o (λ point. Solves c.narrowed_middle.new.network.constraints narrowed (map g.B.Width.value point.items))) is c.in_ok-point.ensures.sound in
+    let known : Solves cs narrowed (map value point.items) = subst (λ cs. Solves cs narrowed (map value point.items)) (c.narrowed_middle.ensures.constraints ∙ v.constraints) found in
+    let here : Solves cs sets (map value point.items) = subst (λ D. Solves cs D (map value point.items)) (sym c.in_ok-point.ensures.domains) known in
+    let in_point : c.args.variable < length point.items = subst (λ n. c.args.variable < n) (sym here.one_each ∙ length-map point.items value) lt in
+    let number = number_at value point.items c.args.variable c.index.result.now in_point c.index.ensures in
+    let same = subst (λ cs. (point : List ℤ) → Solves cs c.loop-left.network.domains point ↔ Solves cs narrowed point) v.constraints c.narrowed_middle.ensures.same in
+    let ahead = subst (λ D. AreAhead (λ point. map g.B.Width.value point.items) c.args.wanted c.args.variable (Solves cs start) c.loop-left.best (Solves cs D)) (sym c.in_ok-point.ensures.domains)
+    (ahead_after (λ point. map g.B.Width.value point.items) c.args.wanted c.args.variable (Solves cs start) c.loop-left.best (Solves cs c.loop-left.network.domains) (Solves cs narrowed) v.ahead same) in
+    let better = subst (λ x. IsCutAt c.args.variable (IsBetter c.args.wanted x) (set_at sets) (set_at new)) (sym number) cut.cut in
+    record {
+      constraints = cut.constraints ∙ c.in_ok-point.ensures.constraints ∙ c.narrowed_middle.ensures.constraints ∙ v.constraints;
+      kept_count = cut.kept_count ∙ count;
+      ahead = ahead_of_next (λ point. map g.B.Width.value point.items) c.args.wanted c.args.variable (Solves cs start) c.loop-left.best (Solves cs sets) (Solves cs new) point ahead here
+          (cut_solves cs sets new c.args.variable (IsBetter c.args.wanted (coordinate (map value point.items) c.args.variable)) cut.kept_count lt better);
+      full = tt;
+    }

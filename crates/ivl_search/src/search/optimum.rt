@@ -1,0 +1,265 @@
+//! The best solution: a solution is looked for among the better half of a variable's numbers, and the
+//! domain is cut to what is better than it, or to the other half if there is none.
+ghost use Rattle.std.specs.Prelude.{◌≡◌, ◌↔◌, ◌<◌, ◌≤◌, ℕ, ℤ, List, All, Err, IfNone, IfOk, IfSome, OnOk, Some, length, map};
+ghost use Rattle.ivl_laws.specs.Families.{set_at};
+ghost use Rattle.ivl_laws.specs.Runs.{Covers};
+ghost use Rattle.ivl_laws.specs.Sets.{Intersection, IsBetween, SameMembers};
+ghost use Rattle.ivl_store.specs.Narrowing.{AllPresent};
+ghost use Rattle.ivl_store.specs.Network.{IsCutAt};
+ghost use Rattle.ivl_store.specs.Solutions.{AreDistinct};
+ghost use Rattle.ivl_search.specs.Best.{IsAsGood, IsBestAt, IsBetter};
+ghost use Rattle.ivl_search.specs.Points.{Solves, coordinate, first_unknown_or};
+
+use super::choice::{Node, above, below, from, middle, up_to};
+use super::descent::{Kept, search};
+use super::setup::{first_unknown_or, network_of};
+use super::steps::{advance, restrict};
+use super::{Best, DEPTH, End, Limits, SearchFault};
+use intervallum::interval_set::IntervalSet;
+use intervallum::width::Width;
+use ivl_store::network::Network;
+use ivl_store::store::Constraint;
+use std::alloc::{AllocError, Global};
+
+/// Which numbers of a variable are better.
+#[derive(Clone, Copy, Debug)]
+pub(super) enum Wanted {
+    /// Smaller ones.
+    Least,
+    /// Greater ones.
+    Greatest,
+}
+
+/// Returns the best solution over the domains.
+pub(super) fn best_at<B: Width>(
+    alloc: Global,
+    domains: &[IntervalSet<B>],
+    constraints: &[Constraint],
+    variable: usize,
+    limits: Limits,
+    wanted: Wanted,
+) -> Result<Best<B>, SearchFault>
+    requires { All AreDistinct constraints.now }
+    ensures unknown { (i : ℕ) → (result ≡ Err (SearchFault.Variable i)) ↔ (first_unknown_or variable (length domains.now) constraints.now ≡ Some i) }
+    ensures sound { IfOk result (λ best. IfSome best.point (λ point. Solves constraints.now domains.now (map B.value point.items))) }
+    ensures best { IfOk result (λ best. best.end ≡ End.All → IfSome best.point (λ point. IsBestAt wanted variable (Solves constraints.now domains.now) (map B.value point.items))) }
+    ensures none { IfOk result (λ best. best.end ≡ End.All → IfNone best.point ((point : List ℤ) → ¬ (Solves constraints.now domains.now point))) }
+    ensures full { IfOk result (λ best. best.end ≡ End.Solutions → IfNone best.point (limits.solutions ≡ 0)) }
+{
+    if let Some(i) = first_unknown_or(variable, domains.len(), constraints) {
+        return Err(SearchFault::Variable(i));
+    }
+    let mut network = network_of(alloc, domains, constraints)?;
+    let best = best_of(alloc, &mut network, variable, limits, wanted)?;
+    Ok(best)
+}
+
+/// Returns the best solution over the domains of the network, which are cut on the way.
+fn best_of<B: Width>(
+    alloc: Global,
+    network: &mut Network<B>,
+    variable: usize,
+    limits: Limits,
+    wanted: Wanted,
+) -> Result<Best<B>, AllocError>
+    requires known { variable < length network.old.domains }
+    requires present { All (AllPresent (length network.old.domains)) network.old.constraints }
+    ensures sound { IfOk result (λ best. IfSome best.point (λ point. Solves network.old.constraints network.old.domains (map B.value point.items))) }
+    ensures best { IfOk result (λ best. best.end ≡ End.All → IfSome best.point (λ point. IsBestAt wanted variable (Solves network.old.constraints network.old.domains) (map B.value point.items))) }
+    ensures none { IfOk result (λ best. best.end ≡ End.All → IfNone best.point ((point : List ℤ) → ¬ (Solves network.old.constraints network.old.domains point))) }
+    ensures full { IfOk result (λ best. best.end ≡ End.Solutions → IfNone best.point (limits.solutions ≡ 0)) }
+{
+    let mut left = limits;
+    let mut best = None;
+    while left.nodes > 0 {
+        if left.solutions == 0 {
+            return Ok(Best {
+                point: best,
+                end: End::Solutions,
+            });
+        }
+        left.nodes -= 1;
+        let Some(half) = narrowed_middle(network, variable)? else {
+            return Ok(Best {
+                point: best,
+                end: End::All,
+            });
+        };
+        let nodes = &mut left.nodes;
+        let Best { point, end } = one_solution(alloc, network, variable, half, wanted, nodes)?;
+        match point {
+            Some(point) => {
+                network.domains();
+                keep_better(alloc, network, variable, point[variable], wanted)?;
+                left.solutions -= 1;
+                best = Some(point);
+            }
+            None if end == End::All => keep_worse(alloc, network, variable, half, wanted)?,
+            None => return Ok(Best { point: best, end }),
+        }
+    }
+    Ok(Best {
+        point: best,
+        end: End::Nodes,
+    })
+}
+
+/// Narrows the domains, and returns a member in the middle of one of them, or `None` if no point
+/// solves.
+fn narrowed_middle<B: Width>(
+    network: &mut Network<B>,
+    variable: usize,
+) -> Result<Option<B>, AllocError>
+    requires known { variable < length network.old.domains }
+    requires present { All (AllPresent (length network.old.domains)) network.old.constraints }
+    ensures constraints { network.new.constraints ≡ network.old.constraints }
+    ensures kept_count { length network.new.domains ≡ length network.old.domains }
+    ensures same { (point : List ℤ) → Solves network.old.constraints network.old.domains point ↔ Solves network.old.constraints network.new.domains point }
+    ensures none { IfOk result (λ half. IfNone half ((point : List ℤ) → ¬ (Solves network.old.constraints network.new.domains point))) }
+    ensures in_range { IfOk result (λ half. IfSome half (λ value. IsBetween B.whole (B.value value))) }
+{
+    match advance(network)? {
+        Node::Dead => Ok(None),
+        _ => Ok(middle(&network.domains()[variable])),
+    }
+}
+
+/// Searches for one solution whose number is as good as a value, and takes the nodes off those that
+/// are left. The network is left as it was.
+fn one_solution<B: Width>(
+    alloc: Global,
+    network: &mut Network<B>,
+    variable: usize,
+    value: B,
+    wanted: Wanted,
+    nodes: &mut u64,
+) -> Result<Best<B>, AllocError>
+    requires in_range { IsBetween B.whole (B.value value) }
+    requires known { variable < length network.old.domains }
+    requires present { All (AllPresent (length network.old.domains)) network.old.constraints }
+    ensures domains { OnOk result (network.new.domains ≡ network.old.domains) }
+    ensures constraints { OnOk result (network.new.constraints ≡ network.old.constraints) }
+    ensures nodes { OnOk result (nodes.new ≤ nodes.old) }
+    ensures sound { IfOk result (λ one. IfSome one.point (λ point. Solves network.old.constraints network.old.domains (map B.value point.items))) }
+    ensures none { IfOk result (λ one. one.end ≡ End.All → IfNone one.point ((point : List ℤ) → Solves network.old.constraints network.old.domains point → IsBetter wanted (coordinate point variable) (B.value value))) }
+    ensures full { IfOk result (λ one. one.end ≡ End.Solutions → IfNone one.point ⊥) }
+{
+    let mark = network.mark()?;
+    keep_as_good(alloc, network, variable, value, wanted)?;
+    let mut left = Limits {
+        solutions: 1,
+        nodes: *nodes,
+    };
+    let mut found = Kept {
+        is_kept: true,
+        points: Vec::new(alloc),
+    };
+    let end = search(alloc, network, DEPTH, &mut left, &mut found)?;
+    network.undo_to(mark);
+    *nodes = left.nodes;
+    let point = found.points.pop();
+    Ok(Best { point, end })
+}
+
+/// Cuts a domain to its members that are better than a value.
+fn keep_better<B: Width>(
+    alloc: Global,
+    network: &mut Network<B>,
+    variable: usize,
+    value: B,
+    wanted: Wanted,
+) -> Result<(), AllocError>
+    requires { IsBetween B.whole (B.value value) }
+    ensures constraints { OnOk result (network.new.constraints ≡ network.old.constraints) }
+    ensures kept_count { OnOk result (length network.new.domains ≡ length network.old.domains) }
+    ensures cut { OnOk result (IsCutAt variable (IsBetter wanted (B.value value)) (set_at network.old.domains) (set_at network.new.domains)) }
+{
+    let allowed = better_than(alloc, value, wanted)?;
+    network.domains();
+    restrict(network, variable, &allowed)?;
+    Ok(())
+}
+
+/// Cuts a domain to its members that are as good as a value.
+fn keep_as_good<B: Width>(
+    alloc: Global,
+    network: &mut Network<B>,
+    variable: usize,
+    value: B,
+    wanted: Wanted,
+) -> Result<(), AllocError>
+    requires { IsBetween B.whole (B.value value) }
+    ensures constraints { OnOk result (network.new.constraints ≡ network.old.constraints) }
+    ensures marked { OnOk result (network.new.marked ≡ network.old.marked) }
+    ensures kept_count { OnOk result (length network.new.domains ≡ length network.old.domains) }
+    ensures cut { OnOk result (IsCutAt variable (IsAsGood wanted (B.value value)) (set_at network.old.domains) (set_at network.new.domains)) }
+{
+    let allowed = as_good_as(alloc, value, wanted)?;
+    network.domains();
+    restrict(network, variable, &allowed)?;
+    Ok(())
+}
+
+/// Cuts a domain to its members that are worse than a value.
+fn keep_worse<B: Width>(
+    alloc: Global,
+    network: &mut Network<B>,
+    variable: usize,
+    value: B,
+    wanted: Wanted,
+) -> Result<(), AllocError>
+    requires { IsBetween B.whole (B.value value) }
+    ensures constraints { OnOk result (network.new.constraints ≡ network.old.constraints) }
+    ensures kept_count { OnOk result (length network.new.domains ≡ length network.old.domains) }
+    ensures cut { OnOk result (IsCutAt variable (λ number. IsBetter wanted number (B.value value)) (set_at network.old.domains) (set_at network.new.domains)) }
+{
+    let allowed = worse_than(alloc, value, wanted)?;
+    network.domains();
+    restrict(network, variable, &allowed)?;
+    Ok(())
+}
+
+/// The numbers that are better than a value.
+fn better_than<B: Width>(
+    alloc: Global,
+    value: B,
+    wanted: Wanted,
+) -> Result<IntervalSet<B>, AllocError>
+    requires { IsBetween B.whole (B.value value) }
+    ensures { IfOk result (λ L. SameMembers (Covers L) (Intersection (IsBetween B.whole) (IsBetter wanted (B.value value)))) }
+{
+    match wanted {
+        Wanted::Least => below(alloc, value),
+        Wanted::Greatest => above(alloc, value),
+    }
+}
+
+/// The value, and the numbers that are better.
+fn as_good_as<B: Width>(
+    alloc: Global,
+    value: B,
+    wanted: Wanted,
+) -> Result<IntervalSet<B>, AllocError>
+    requires { IsBetween B.whole (B.value value) }
+    ensures { IfOk result (λ L. SameMembers (Covers L) (Intersection (IsBetween B.whole) (IsAsGood wanted (B.value value)))) }
+{
+    match wanted {
+        Wanted::Least => up_to(alloc, value),
+        Wanted::Greatest => from(alloc, value),
+    }
+}
+
+/// The numbers than which a value is better.
+fn worse_than<B: Width>(
+    alloc: Global,
+    value: B,
+    wanted: Wanted,
+) -> Result<IntervalSet<B>, AllocError>
+    requires { IsBetween B.whole (B.value value) }
+    ensures { IfOk result (λ L. SameMembers (Covers L) (Intersection (IsBetween B.whole) (λ number. IsBetter wanted number (B.value value)))) }
+{
+    match wanted {
+        Wanted::Least => above(alloc, value),
+        Wanted::Greatest => below(alloc, value),
+    }
+}
