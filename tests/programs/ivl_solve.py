@@ -17,6 +17,8 @@ FORMS = {
     b"show": b"show or show x",
     b"solve": b"solve or solve n",
     b"count": b"count",
+    b"min": b"min x",
+    b"max": b"max x",
 }
 
 # A search of a line with the first limit visits so many nodes.
@@ -137,6 +139,29 @@ class Counted(Searched):
         return len(written) - len(lines[2]) if is_right else None
 
 
+class Best(Searched):
+    """The answer to `min` or `max`: a solution, and no other is better if it is the last word."""
+
+    def __init__(self, solver, line, name, choose):
+        super().__init__(solver, line)
+        self.place, self.choose = list(self.domains).index(name), choose
+        # it may search ten halves, each with the nodes of a search
+        self.is_sure = self.is_sure and 20 * math.prod(map(len, self.domains.values())) <= NODES
+
+    def after(self, written, place):
+        lines = written[place:].split(b"\n", 2)
+        if len(lines) < 2:
+            return None
+        if lines[0] == b"no solution" or lines[0] == b"unfinished" and not self.is_sure:
+            return place + len(lines[0]) + 1 if lines[0] == b"unfinished" or self.first(1) == 0 else None
+        point = self.point(lines[0])
+        if point is None or len(lines) < 3 or lines[1] not in (b"ok", b"unfinished"):
+            return None
+        best = self.choose(other[self.place] for other in points(self.domains, self.sums))
+        is_right = point[self.place] == best if lines[1] == b"ok" else not self.is_sure
+        return len(written) - len(lines[2]) if is_right else None
+
+
 class Solver:
     """Domains as sets of their members, in the order in which they were defined.
 
@@ -175,6 +200,10 @@ class Solver:
             return self.fault_of_show(words)
         if name == b"count":
             return b"write " + FORMS[name] if words else None
+        if name in (b"min", b"max") and len(words) != 1:
+            return b"write " + FORMS[name]
+        if name in (b"min", b"max"):
+            return self.fault_of_show(words)
         if name == b"sum":
             return self.fault_of_sum(words)
         if name == b"go":
@@ -236,6 +265,8 @@ class Solver:
             return Listed(self, name, number(words[0]) if words else None)
         if name == b"count":
             return Counted(self, name)
+        if name in (b"min", b"max"):
+            return Best(self, name, words[0], min if name == b"min" else max)
         if name == b"limit":
             self.limit = number(words[0])
             return self.state()
@@ -308,7 +339,7 @@ def random_pairs(dice):
 
 def random_line(dice):
     variable = lambda: dice.choice(["x", "y", "z", "u", "v", "w"] if dice.random() < 0.95 else ["q", "\u00e9", "xx", "\t", "\x1b[2J", "\u00e9\\\x9b", "\0\x7f", "x\r\ry"])
-    name = dice.choice(["var", "cut", "cut", "sum", "sum", "show", "show", "limit", "go", "solve", "count"])
+    name = dice.choice(["var", "cut", "cut", "sum", "sum", "show", "show", "limit", "go", "solve", "count", "min", "max"])
     if name == "sum":
         parts = dice.sample("xyzuvw", 3) if dice.random() < 0.8 else [variable() for _ in range(dice.choice([3, 3, 2, 4]))]
     elif name == "show":
@@ -317,6 +348,8 @@ def random_line(dice):
         parts = [dice.choice(["0", "1", "2", "3", "20", "1000"])] if dice.random() < 0.5 else dice.choice([[]] * 9 + [["-1"], ["x"], ["1", "2"], [str(2**63)]])
     elif name == "count":
         parts = [] if dice.random() < 0.95 else ["1"]
+    elif name in ("min", "max"):
+        parts = [variable() for _ in range(dice.choice([1] * 19 + [0, 2]))]
     elif name == "limit":
         parts = [dice.choice(["0", "1", "2", "3", "5", "1000000", "1000000", "1000000"])] if dice.random() < 0.9 else dice.choice([[], ["-1"], ["x"], ["1", "2"], [str(2**63 - 1)]])
     elif name == "go":
@@ -336,7 +369,7 @@ def stopped_lines(dice, count):
     for _ in range(count):
         lower = dice.randrange(-60, 20)
         cut = f"cut {dice.choice(names)} {lower} {lower + dice.randrange(20, 90)}"
-        line = dice.choice(["sum " + " ".join(dice.sample(names, 3)), cut, "go on", "show", "solve 3", "limit 1", f"limit {dice.randrange(5)}"])
+        line = dice.choice(["sum " + " ".join(dice.sample(names, 3)), cut, "go on", "show", "solve 3", f"min {dice.choice(names)}", "limit 1", f"limit {dice.randrange(5)}"])
         lines.append(line.encode())
     return lines
 
@@ -353,7 +386,7 @@ def searched_lines(dice, count):
         x, y = dice.sample(names, 2)
         sums = [f"sum {x} {y} {z}" for z in names if z not in (x, y) and point[x] + point[y] == point[z]]
         cut = f"cut {x} {dice.randrange(-5, 1)} {dice.randrange(1, 6)}"
-        lines.append(dice.choice([cut, "show", *sums, *["solve", "count", f"solve {dice.randrange(6)}"] * 2]))
+        lines.append(dice.choice([cut, "show", *sums, *["solve", "count", f"solve {dice.randrange(6)}", f"min {x}", f"max {x}"] * 2]))
     return [line.encode() for line in lines]
 
 

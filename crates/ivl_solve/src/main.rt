@@ -23,9 +23,10 @@ Narrows the domains of variables by sums: reads one line at a time from standard
   show x               the domain of this one
   solve                all solutions, one per line; solve n: n of them at most
   count                how many solutions there are
+  min x, max x         a solution in which x has its least, its greatest number
 
-Each is answered `ok`, `unfinished` if the limit stopped it, or `no solution` once a domain is empty. `solve` and
-`count` print what they found before that, or `more possible` where there may be others.
+Each is answered `ok`, `unfinished` if the limit stopped it, or `no solution` once a domain is empty. A search prints
+what it found before that; `solve n` ends with `more possible` where there may be others.
 --version prints the version.
 ";
 

@@ -5,12 +5,12 @@ use Rattle.std.proofs.lemmas.List.{length-map}
 use Rattle.ivl_lines.specs.Lines.{with_newline}
 use Rattle.ivl_search.specs.declared.search.End.{End}
 use Rattle.ivl_search.specs.declared.search.End.TheVariants.{Solutions}
-use Rattle.ivl_search.specs.Points.{Finds, Solves}
+use Rattle.ivl_search.specs.Points.{Finds, IsGreatestAt, IsLeastAt, Solves}
 use Rattle.ivl_store_lines.specs.Answering.{AnswersAsked, AnswersRead}
 use Rattle.ivl_store_lines.specs.Faults.{Told}
 use Rattle.ivl_store_lines.specs.Printed.{domain_line, domain_lines, state_line, told_line}
-use Rattle.ivl_store_lines.specs.Requests.{Asked, show, solve, count, needs_list, why_no_request}
-use Rattle.ivl_store_lines.specs.Solved.{end_line, point_lines}
+use Rattle.ivl_store_lines.specs.Requests.{Asked, show, solve, count, least, greatest, needs_list, why_no_request}
+use Rattle.ivl_store_lines.specs.Solved.{IsBest, best_text, end_line, point_lines}
 use Rattle.ivl_store_lines.specs.Solving.{State, fault_of, variable_named}
 
 pub shown_reply : (asked : Asked) (old : State) → asked ≡ show None → AnswersAsked old asked (domain_lines old.names old.domains ++ state_line old.domains old.progress) old
@@ -62,3 +62,11 @@ counted old points found end as_many finds full =
         shown = ap (λ n. codes "count " ++ with_newline (decimal n) ++ end_line n end) (sym as_many);
       },
     )
+
+pub least_shown : (name : List ℕ) (old : State) (names : List (List ℕ)) (found : Option (List ℤ)) (end : End)
+    → names ≡ old.names → IsBest IsLeastAt name old found end → AnswersAsked old (least name) (best_text names found end) old
+least_shown name old names found end named best = inl (rw best.named refl, refl, (found, end, best, rw named refl))
+
+pub greatest_shown : (name : List ℕ) (old : State) (names : List (List ℕ)) (found : Option (List ℤ)) (end : End)
+    → names ≡ old.names → IsBest IsGreatestAt name old found end → AnswersAsked old (greatest name) (best_text names found end) old
+greatest_shown name old names found end named best = inl (rw best.named refl, refl, (found, end, best, rw named refl))

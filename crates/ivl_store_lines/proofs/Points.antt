@@ -1,11 +1,13 @@
 -- The lines of points, and the points that a search found.
-use Rattle.std.proofs.Common.{◌≡◌, ◌<◌, ◌+◌, ◌++◌, ◌∷◌, [], ℕ, ℤ, List, length, get_or, map, take, ap, sym, ◌∙◌, append_assoc, refl, subst}
-use Rattle.std.specs.Prelude.{All, Contains}
+use Rattle.std.proofs.Common.{◌≡◌, ◌≢◌, ◌<◌, ◌+◌, ◌++◌, ◌∷◌, [], ℕ, ℤ, List, length, get_or, map, take, ap, sym, ◌∙◌, append_assoc, refl, subst, Option, None, Some}
+use Rattle.std.specs.Prelude.{All, Contains, IfNone, IfSome, option_map}
 use Rattle.std.proofs.lemmas.List.{append-nil, map-append, map-id, take_more}
 use Rattle.ivl_search.specs.declared.search.End.{End}
-use Rattle.ivl_search.specs.declared.search.End.TheVariants.{All as AllFound}
-use Rattle.ivl_search.specs.Points.{EachOnce, Finds}
-use Rattle.ivl_store_lines.specs.Solved.{point_line, point_lines}
+use Rattle.ivl_search.specs.declared.search.End.TheVariants.{All as AllFound, Solutions}
+use Rattle.ivl_search.specs.Points.{EachOnce, Finds, Solves}
+use Rattle.ivl_store.specs.declared.store.constraint.Constraint.{Constraint}
+use Rattle.ivl_store_lines.specs.Solved.{IsBest, point_line, point_lines}
+use Rattle.ivl_store_lines.specs.Solving.{State, variable_named}
 
 one_more : (names : List (List ℕ)) (points : List (List ℤ)) (point : List ℤ) → point_lines names (points ++ point ∷ []) ≡ point_lines names points ++ point_line names point
 one_more names [] point = append-nil (point_line names point)
@@ -31,3 +33,31 @@ pub finds_plain : {V : Type 0} → (numbers : V → List ℤ) (points : List V) 
     → Finds solves (map numbers points) end
 finds_plain numbers points solves end sound once complete =
     subst (λ found. Finds solves found end) (plain numbers points) (record { sound = sound; once = once; complete = complete })
+
+-- ---- a point that may have been found
+
+some_plain : {V : Type 0} → (numbers : V → List ℤ) (P : List ℤ → Type 0) (found : Option V) → IfSome found (λ point. P (map (λ (x : ℤ). x) (numbers point))) → IfSome (option_map numbers found) P
+some_plain numbers P None p = p
+some_plain numbers P (Some point) p = subst P (map-id (numbers point)) p
+
+none_plain : {V : Type 0} → (numbers : V → List ℤ) (P : Type 0) (found : Option V) → IfNone found P → IfNone (option_map numbers found) P
+none_plain numbers P None p = p
+none_plain numbers P (Some point) p = p
+
+-- what a search found is told: that it found all, only where it did
+pub best_told : {V : Type 0} → (best : ℕ → (List ℤ → Type 0) → List ℤ → Type 0) (numbers : V → List ℤ) (name : List ℕ) (old : State) (variable : ℕ)
+    (constraints : List Constraint) (domains : List (List (ℤ × ℤ))) (found told : Option V) (end said : End)
+    → variable_named old.names name ≡ Some variable → constraints ≡ old.constraints → domains ≡ old.domains
+    → IfSome found (λ point. Solves constraints domains (map (λ (x : ℤ). x) (numbers point)))
+    → (end ≡ AllFound → IfSome found (λ point. best variable (Solves constraints domains) (map (λ (x : ℤ). x) (numbers point))))
+    → (end ≡ AllFound → IfNone found ((point : List ℤ) → ¬ (Solves constraints domains point)))
+    → told ≡ found → (said ≡ AllFound → end ≡ AllFound) → said ≢ Solutions → IsBest best name old (option_map numbers told) said
+best_told best numbers name old variable constraints domains found told end said named same_constraints same_domains sound is_best none same all searched =
+    rw same (record {
+      variable = variable;
+      named = named;
+      sound = rw (← same_constraints, ← same_domains) (some_plain numbers (Solves constraints domains) found sound);
+      is_best = (λ every. rw (← same_constraints, ← same_domains) (some_plain numbers (best variable (Solves constraints domains)) found (is_best (all every))));
+      none = (λ every. rw (← same_constraints, ← same_domains) (none_plain numbers ((point : List ℤ) → ¬ (Solves constraints domains point)) found (none (all every))));
+      searched = searched;
+    })

@@ -8,14 +8,15 @@
 use Rattle.std.specs.Prelude.{◌≡◌, ℕ, ℤ, Bool, true, false, List, [], ◌∷◌, ◌++◌, codes, get_or, if◌then◌else◌, Option, None, Some}
 use Rattle.std.specs.List.{list_any}
 use Rattle.ivl_lines.specs.Escapes.{escaped}
+use Rattle.ivl_search.specs.Points.{IsGreatestAt, IsLeastAt}
 use Rattle.ivl_lines.specs.Lines.{with_newline}
 use Rattle.ivl_lines.specs.Sets.{pairs_text}
 use Rattle.ivl_store_lines.specs.declared.progress.Progress.{Progress}
 use Rattle.ivl_store_lines.specs.declared.progress.Progress.TheVariants.{Complete, Budget}
 use Rattle.ivl_store_lines.specs.Faults.{Told, no_text, no_command, no_form, no_number, out_of_range, unknown, defined, repeated}
-use Rattle.ivl_store_lines.specs.Requests.{Asked, var, cut, sum, limit, go_on, show, solve, count}
+use Rattle.ivl_store_lines.specs.Requests.{Asked, var, cut, sum, limit, go_on, show, solve, count, least, greatest}
 use Rattle.ivl_store_lines.specs.Solving.{State, variable_named}
-use Rattle.ivl_store_lines.specs.Solved.{IsSolved, IsCounted}
+use Rattle.ivl_store_lines.specs.Solved.{IsSolved, IsCounted, ShowsBest}
 
 abbrev pub told_line : Option Told → List ℕ
 told_line None = with_newline (codes "error: out of memory")
@@ -62,3 +63,5 @@ IsReply (show None) new text = text ≡ domain_lines new.names new.domains ++ st
 IsReply (show (Some name)) new text = text ≡ variable_line name (variable_named new.names name) new.domains ++ state_line new.domains new.progress
 IsReply (solve most) new text = IsSolved most new text
 IsReply count new text = IsCounted new text
+IsReply (least name) new text = ShowsBest IsLeastAt name new text
+IsReply (greatest name) new text = ShowsBest IsGreatestAt name new text

@@ -1,5 +1,5 @@
 -- What a line asks for, by its words.
---     name_and_pairs, name_and_some_pairs, with_pairs, three_names, limit_of, only_on, shown_by, most_of, counted_by words      the words after a command, by its form; `None` if they do not have it
+--     name_and_pairs, name_and_some_pairs, with_pairs, three_names, limit_of, only_on, shown_by, most_of, counted_by, best_by words      the words after a command, by its form; `None` if they do not have it
 --     natural_of word      the number of i64 from 0 up that a word is; `None` if it is no such number
 --     request_of name words      what a command and the words after it ask for; `None` if they are no request
 --     asked_of request      the request as the program keeps it
@@ -21,6 +21,8 @@ pub data Asked : Type 0 where
   show : Option (List ℕ) → Asked
   solve : ℕ → Asked
   count : Asked
+  least : List ℕ → Asked
+  greatest : List ℕ → Asked
 
 -- a name, and numbers two by two
 abbrev pub name_and_pairs : List (List ℕ) → Option (List ℕ × List (ℤ × ℤ))
@@ -71,6 +73,11 @@ abbrev pub counted_by : List (List ℕ) → Option Asked
 counted_by [] = Some count
 counted_by _ = None
 
+-- the name of a variable
+abbrev pub best_by : (List ℕ → Asked) → List (List ℕ) → Option Asked
+best_by asked (name ∷ []) = Some (asked name)
+best_by asked _ = None
+
 abbrev pub request_of : List ℕ → List (List ℕ) → Option Asked
 request_of name words =
     if bytes_eq name (codes "var") then with_pairs var (name_and_pairs words)
@@ -81,6 +88,8 @@ request_of name words =
     else if bytes_eq name (codes "show") then shown_by words
     else if bytes_eq name (codes "solve") then option_map solve (most_of words)
     else if bytes_eq name (codes "count") then counted_by words
+    else if bytes_eq name (codes "min") then best_by least words
+    else if bytes_eq name (codes "max") then best_by greatest words
     else None
 
 abbrev pub asked_of : Request → Asked
@@ -92,6 +101,8 @@ asked_of kept.GoOn = go_on
 asked_of (kept.Show name) = show (option_map (λ word. word.now) name)
 asked_of (kept.Solve most) = solve most
 asked_of kept.Count = count
+asked_of (kept.Least name) = least name.now
+asked_of (kept.Greatest name) = greatest name.now
 
 abbrev pub first_bad_number_of : List (List ℕ) → Option (List ℕ)
 first_bad_number_of words = find (λ word. is_none (number_of word)) words
@@ -123,6 +134,8 @@ why_no_request name words =
     else if bytes_eq name (codes "show") then no_form (codes "show or show x")
     else if bytes_eq name (codes "solve") then why_no_most words
     else if bytes_eq name (codes "count") then no_form (codes "count")
+    else if bytes_eq name (codes "min") then no_form (codes "min x")
+    else if bytes_eq name (codes "max") then no_form (codes "max x")
     else no_command name
 
 abbrev pub is_no_word : List (List ℕ) → Bool

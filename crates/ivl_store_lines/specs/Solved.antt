@@ -4,14 +4,17 @@
 --     end_line count end      whether the solutions found are all, by how many they are
 --     IsSolved most state text      the text shows solutions, none of them twice, and says how their search ended
 --     IsCounted state text      the text says how many solutions there are, and how their search ended
-use Rattle.std.specs.Prelude.{◌≡◌, ◌≤◌, ◌==◌, ◌^◌, ◌-◌, ℕ, ℤ, List, [], ◌∷◌, ◌++◌, codes, decimal, if◌then◌else◌, length}
+--     IsBest best name state found end      the point found is the best solution for the variable with this name, if the search ended with all, and a
+--                       solution in any case
+--     ShowsBest best name state text      the text shows such a point, and says how the search ended
+use Rattle.std.specs.Prelude.{◌≡◌, ◌≢◌, ◌≤◌, ◌==◌, ◌^◌, ◌-◌, IfNone, IfSome, Option, None, Some, ℕ, ℤ, List, [], ◌∷◌, ◌++◌, codes, decimal, if◌then◌else◌, length}
 use Rattle.std.specs.Fmt.{signed_decimal}
 use Rattle.ivl_lines.specs.Escapes.{escaped}
 use Rattle.ivl_lines.specs.Lines.{with_newline}
 use Rattle.ivl_search.specs.declared.search.End.{End}
 use Rattle.ivl_search.specs.declared.search.End.TheVariants.{All, Solutions, Nodes}
 use Rattle.ivl_search.specs.Points.{Finds, Solves}
-use Rattle.ivl_store_lines.specs.Solving.{State}
+use Rattle.ivl_store_lines.specs.Solving.{State, variable_named}
 
 -- each variable with its number, after a separator, which is a space from the second on
 abbrev pub entries : List ℕ → List (List ℕ) → List ℤ → List ℕ
@@ -48,3 +51,19 @@ pub record IsCounted (state : State) (text : List ℕ) : Type 0 where
   pub finds : Finds (Solves state.constraints state.domains) points end
   pub full : end ≡ Solutions → length points ≡ 2 ^ 64 - 1
   pub shown : text ≡ codes "count " ++ with_newline (decimal (length points)) ++ end_line (length points) end
+
+abbrev pub best_text : List (List ℕ) → Option (List ℤ) → End → List ℕ
+best_text names None end = end_line 0 end
+best_text names (Some point) end = point_line names point ++ end_line 1 end
+
+-- what `least` and `greatest` of a search promise; the search does not end because it found enough
+pub record IsBest (best : ℕ → (List ℤ → Type 0) → List ℤ → Type 0) (name : List ℕ) (state : State) (found : Option (List ℤ)) (end : End) : Type 0 where
+  pub variable : ℕ
+  pub named : variable_named state.names name ≡ Some variable
+  pub sound : IfSome found (Solves state.constraints state.domains)
+  pub is_best : end ≡ All → IfSome found (best variable (Solves state.constraints state.domains))
+  pub none : end ≡ All → IfNone found ((point : List ℤ) → ¬ (Solves state.constraints state.domains point))
+  pub searched : end ≢ Solutions
+
+abbrev pub ShowsBest : (ℕ → (List ℤ → Type 0) → List ℤ → Type 0) → List ℕ → State → List ℕ → Type 0
+ShowsBest best name state text = (found : Option (List ℤ)) × (end : End) × IsBest best name state found end × (text ≡ best_text state.names found end)

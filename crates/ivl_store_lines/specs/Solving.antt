@@ -18,7 +18,7 @@ use Rattle.ivl_store.specs.Solutions.{IsGreatestFamily}
 use Rattle.ivl_store_lines.specs.declared.progress.Progress.{Progress}
 use Rattle.ivl_store_lines.specs.declared.progress.Progress.TheVariants.{Complete, Budget}
 use Rattle.ivl_store_lines.specs.Faults.{Told, out_of_range, unknown, defined, repeated}
-use Rattle.ivl_store_lines.specs.Requests.{Asked, var, cut, sum, limit, go_on, show, solve, count}
+use Rattle.ivl_store_lines.specs.Requests.{Asked, var, cut, sum, limit, go_on, show, solve, count, least, greatest}
 
 -- one name and one domain for each variable
 pub record State : Type 0 where
@@ -95,6 +95,8 @@ Carries go_on old new = GoesOn old new
 Carries (show name) old new = new ≡ old
 Carries (solve most) old new = new ≡ old
 Carries count old new = new ≡ old
+Carries (least name) old new = new ≡ old
+Carries (greatest name) old new = new ≡ old
 
 -- no bound of a set over i64 is its least number
 abbrev pub range_fault : List (ℤ × ℤ) → Option Told
@@ -131,3 +133,5 @@ fault_of (show None) old = None
 fault_of (show (Some name)) old = show_fault name (variable_named old.names name)
 fault_of (solve most) old = None
 fault_of count old = None
+fault_of (least name) old = show_fault name (variable_named old.names name)
+fault_of (greatest name) old = show_fault name (variable_named old.names name)

@@ -7,13 +7,13 @@ ghost use Rattle.ivl_lines.specs.Words.{words_between};
 ghost use Rattle.ivl_store_lines.specs.Answering.{AnswersAsked, AnswersLine, AnswersWords};
 ghost use Rattle.ivl_store_lines.specs.Outcome.{outcome_of};
 ghost use Rattle.ivl_store_lines.specs.Printed.{IsReply, state_line};
-ghost use Rattle.ivl_store_lines.specs.Requests.{asked_of, count, solve};
+ghost use Rattle.ivl_store_lines.specs.Requests.{asked_of, count, greatest, least, solve};
 ghost use Rattle.ivl_store_lines.specs.Solving.{State};
 
 use crate::fault::Fault;
 use crate::progress::Progress;
 use crate::replies::{
-    write_count, write_fault, write_shown, write_solutions, write_state, write_variable,
+    write_best, write_count, write_fault, write_shown, write_solutions, write_state, write_variable,
 };
 use crate::request::{Request, request_from};
 use crate::solver::Solver;
@@ -29,7 +29,7 @@ impl Answers for Solver {
 
     fn may_take_long(&self, line: &[u8]) -> bool {
         match first_word(line) {
-            "cut" | "sum" | "go" | "solve" | "count" => true,
+            "cut" | "sum" | "go" | "solve" | "count" | "min" | "max" => true,
             _ => false,
         }
     }
@@ -118,6 +118,8 @@ fn answer_request<W: Write>(
         Request::Show(Some(name)) => write_variable(writer, solver, name),
         Request::Solve(most) => answer_solve(solver, most, writer),
         Request::Count => answer_count(solver, writer),
+        Request::Least(name) => answer_least(solver, name, writer),
+        Request::Greatest(name) => answer_greatest(solver, name, writer),
         change => answer_change(solver, change, writer),
     }
 }
@@ -158,6 +160,28 @@ fn answer_count<W: Write>(solver: &Solver, writer: &mut W) -> io::Result<()>
     match solver.count() {
         Ok((found, end)) => write_count(writer, found, end),
         Err(_) => write_fault(writer, &Fault::Memory),
+    }
+}
+
+fn answer_least<W: Write>(solver: &Solver, name: &str, writer: &mut W) -> io::Result<()>
+    ensures { OnOk result ((text : List ℕ)
+        × AnswersAsked solver.now (least name.now) text solver.now
+        × Appends (W.contents writer.old) (W.contents writer.new) text) }
+{
+    match solver.least(name) {
+        Ok(best) => write_best(writer, solver.names(), &best),
+        Err(fault) => write_fault(writer, &fault),
+    }
+}
+
+fn answer_greatest<W: Write>(solver: &Solver, name: &str, writer: &mut W) -> io::Result<()>
+    ensures { OnOk result ((text : List ℕ)
+        × AnswersAsked solver.now (greatest name.now) text solver.now
+        × Appends (W.contents writer.old) (W.contents writer.new) text) }
+{
+    match solver.greatest(name) {
+        Ok(best) => write_best(writer, solver.names(), &best),
+        Err(fault) => write_fault(writer, &fault),
     }
 }
 

@@ -14,7 +14,7 @@ use crate::progress::Progress;
 use crate::solver::Solver;
 use intervallum::interval_set::IntervalSet;
 use ivl_lines::Escaped;
-pub use points::{write_count, write_solutions};
+pub use points::{write_best, write_count, write_solutions};
 use std::io;
 use std::io::Write;
 

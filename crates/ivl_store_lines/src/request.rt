@@ -2,7 +2,7 @@
 ghost use Rattle.std.specs.Prelude.{◌≡◌, ◌≢◌, ◌∷◌, [], IfErr, IfOk, IsSome, IsTrue, None, Some, codes, option_map};
 ghost use Rattle.ivl_lines.specs.Words.{words_between};
 ghost use Rattle.ivl_store_lines.specs.Faults.{no_form, told_of};
-ghost use Rattle.ivl_store_lines.specs.Requests.{asked_of, counted_by, cut, first_bad_number_of, limit_of, most_of, name_and_pairs, name_and_some_pairs, natural_of, needs_list, only_on, request_of, shown_by, why_no_limit, why_no_most, why_no_pairs, why_no_request, with_pairs};
+ghost use Rattle.ivl_store_lines.specs.Requests.{asked_of, best_by, counted_by, cut, first_bad_number_of, greatest, least, limit_of, most_of, name_and_pairs, name_and_some_pairs, natural_of, needs_list, only_on, request_of, shown_by, why_no_limit, why_no_most, why_no_pairs, why_no_request, with_pairs};
 
 use crate::fault::Fault;
 use ivl_lines::{next_word, number_from, one_word, pairs_from, three_words};
@@ -28,6 +28,10 @@ pub enum Request<'a> {
     Solve(u64),
     /// `count`: how many solutions there are.
     Count,
+    /// `min x`: a solution with the least number for this variable.
+    Least(&'a str),
+    /// `max x`: a solution with the greatest number for this variable.
+    Greatest(&'a str),
 }
 
 const VAR: &str = "var x l u l u ..";
@@ -45,6 +49,10 @@ const SHOW: &str = "show or show x";
 const SOLVE: &str = "solve or solve n";
 
 const COUNT: &str = "count";
+
+const MIN: &str = "min x";
+
+const MAX: &str = "max x";
 
 /// Reads the request of a command and the words after it. Linear in the line; allocates the list
 /// of the pairs.
@@ -80,6 +88,8 @@ pub fn request_from<'a>(
         "show" => show_from(words),
         "solve" => Ok(Request::Solve(most_from(words)?)),
         "count" => count_from(words),
+        "min" => Ok(Request::Least(name_from(words, MIN)?)),
+        "max" => Ok(Request::Greatest(name_from(words, MAX)?)),
         _ => Err(Fault::Command(name)),
     }
 }
@@ -189,6 +199,17 @@ fn count_from<'a>(words: &'a str) -> Result<Request<'a>, Fault<'a>>
         None => Ok(Request::Count),
         Some(_) => Err(Fault::Form(COUNT)),
     }
+}
+
+/// The name of a variable, which is the only word.
+fn name_from<'a>(words: &'a str, form: &'static str) -> Result<&'a str, Fault<'a>>
+    ensures least { IfOk result (λ name. best_by least (words_between words.entry.now) ≡ Some (least name.now)) }
+    ensures greatest { IfOk result (λ name. best_by greatest (words_between words.entry.now) ≡ Some (greatest name.now)) }
+    ensures no_least { IfErr result (λ fault. best_by least (words_between words.entry.now) ≡ None) }
+    ensures no_greatest { IfErr result (λ fault. best_by greatest (words_between words.entry.now) ≡ None) }
+    ensures fault { IfErr result (λ fault. told_of fault ≡ Some (no_form form.entry.now)) }
+{
+    one_word(words).ok_or(Fault::Form(form))
 }
 
 /// The number that a word is, or `None` if it is not a number of `i64` from 0 up.

@@ -1,10 +1,15 @@
 //! The solutions of the constraints over the domains, as a search finds them within the limit of a line.
-ghost use Rattle.std.specs.Prelude.{◌≡◌, ◌≤◌, ◌^◌, ◌-◌, ℤ, List, IfOk, length, map};
-ghost use Rattle.ivl_search.specs.Points.{Finds, Solves};
+ghost use Rattle.std.specs.Prelude.{◌≡◌, ◌≢◌, ◌≤◌, ◌^◌, ◌-◌, ℤ, List, IfErr, IfOk, length, map, option_map};
+ghost use Rattle.ivl_search.specs.Points.{Finds, IsGreatestAt, IsLeastAt, Solves};
+ghost use Rattle.ivl_store_lines.specs.Faults.{told_of};
+ghost use Rattle.ivl_store_lines.specs.Requests.{greatest as greatest_of, least as least_of};
+ghost use Rattle.ivl_store_lines.specs.Solved.{IsBest};
+ghost use Rattle.ivl_store_lines.specs.Solving.{fault_of};
 
+use crate::fault::Fault;
 use crate::solver::Solver;
 use ivl_search::search;
-use ivl_search::search::{End, Found, Limits, NARROWINGS_PER_NODE};
+use ivl_search::search::{Best, End, Found, Limits, NARROWINGS_PER_NODE};
 use std::alloc::AllocError;
 
 impl Solver {
@@ -33,11 +38,74 @@ impl Solver {
         }
     }
 
+    /// Returns a solution with the least number for a variable, and how the search for it ended.
+    ///
+    /// # Errors
+    ///
+    /// `Unknown` if no variable has the name, `Memory` if allocation fails.
+    pub fn least<'a>(&self, name: &'a str) -> Result<Best<i64>, Fault<'a>>
+        ensures best { IfOk result (λ best. IsBest IsLeastAt name.now self.now (option_map (λ point. point.items) best.point) best.end) }
+        ensures fault { IfErr result (λ fault. told_of fault ≡ fault_of (least_of name.now) self.now) }
+    {
+        let variable = self.known(name)?;
+        let limits = self.limits(usize::MAX);
+        match search::least(
+            self.allocator(),
+            self.domains(),
+            self.constraints(),
+            variable,
+            limits,
+        ) {
+            Ok(best) => Ok(ended(best)),
+            Err(_) => Err(Fault::Memory),
+        }
+    }
+
+    /// Returns a solution with the greatest number for a variable, as [`Solver::least`] does one with
+    /// its least.
+    ///
+    /// # Errors
+    ///
+    /// Those of [`Solver::least`].
+    pub fn greatest<'a>(&self, name: &'a str) -> Result<Best<i64>, Fault<'a>>
+        ensures best { IfOk result (λ best. IsBest IsGreatestAt name.now self.now (option_map (λ point. point.items) best.point) best.end) }
+        ensures fault { IfErr result (λ fault. told_of fault ≡ fault_of (greatest_of name.now) self.now) }
+    {
+        let variable = self.known(name)?;
+        let limits = self.limits(usize::MAX);
+        match search::greatest(
+            self.allocator(),
+            self.domains(),
+            self.constraints(),
+            variable,
+            limits,
+        ) {
+            Ok(best) => Ok(ended(best)),
+            Err(_) => Err(Fault::Memory),
+        }
+    }
+
     /// How long a search may go on.
     fn limits(&self, solutions: usize) -> Limits
         ensures { result.solutions ≡ solutions }
     {
         let nodes = (self.limit() / NARROWINGS_PER_NODE).max(1);
         Limits { solutions, nodes }
+    }
+}
+
+/// The best solution, where a search that stopped is told as unfinished.
+fn ended(best: Best<i64>) -> Best<i64>
+    ensures point { result.point ≡ best.point }
+    ensures all { result.end ≡ End.All → best.end ≡ End.All }
+    ensures searched { result.end ≢ End.Solutions }
+{
+    let end = match best.end {
+        End::All => End::All,
+        End::Solutions | End::Nodes => End::Nodes,
+    };
+    Best {
+        point: best.point,
+        end,
     }
 }

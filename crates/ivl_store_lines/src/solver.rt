@@ -86,7 +86,7 @@ impl Solver {
                 Ok(())
             }
             Request::Show(None) | Request::Solve(_) | Request::Count => Ok(()),
-            Request::Show(Some(name)) => {
+            Request::Show(Some(name)) | Request::Least(name) | Request::Greatest(name) => {
                 self.known(name)?;
                 Ok(())
             }
@@ -218,8 +218,12 @@ impl Solver {
         Ok(())
     }
 
-    /// The variable of a name.
-    fn known<'a>(&self, name: &'a str) -> Result<usize, Fault<'a>>
+    /// Returns the variable of a name.
+    ///
+    /// # Errors
+    ///
+    /// `Unknown` if no variable has it.
+    pub fn known<'a>(&self, name: &'a str) -> Result<usize, Fault<'a>>
         ensures ok { IfOk result (λ i. index_in self.now.names name.now ≡ Some i) }
         ensures present { IfOk result (λ i. i < length self.now.domains) }
         ensures none { IfErr result (λ fault. index_in self.now.names name.now ≡ None) }

@@ -1,13 +1,13 @@
 //! The lines of solutions.
-ghost use Rattle.std.specs.Prelude.{◌≡◌, ◌++◌, ◌<◌, ℕ, List, [], IfNone, IfSome, OnOk, codes, decimal, length, map, string_bytes};
+ghost use Rattle.std.specs.Prelude.{◌≡◌, ◌++◌, ◌<◌, ℕ, List, [], IfNone, IfSome, OnOk, codes, decimal, length, map, option_map, string_bytes};
 ghost use Rattle.std.specs.Fmt.{signed_decimal};
 ghost use Rattle.std.specs.Io.KnownBytes.{Appends};
 ghost use Rattle.ivl_lines.specs.Escapes.{escaped};
 ghost use Rattle.ivl_lines.specs.Lines.{with_newline};
-ghost use Rattle.ivl_store_lines.specs.Solved.{end_line, entries, point_line, point_lines};
+ghost use Rattle.ivl_store_lines.specs.Solved.{best_text, end_line, entries, point_line, point_lines};
 
 use ivl_lines::Escaped;
-use ivl_search::search::{End, Found};
+use ivl_search::search::{Best, End, Found};
 use std::io;
 use std::io::Write;
 
@@ -32,6 +32,20 @@ pub fn write_count<W: Write>(writer: &mut W, count: usize, end: End) -> io::Resu
 {
     writeln!(writer, "count {count}")?;
     write_end(writer, count, end)
+}
+
+/// Writes the best solution, if one was found, and then how the search ended.
+pub fn write_best<W: Write>(writer: &mut W, names: &[String], best: &Best<i64>) -> io::Result<()>
+    ensures { OnOk result (Appends (W.contents writer.old) (W.contents writer.new)
+        (best_text (map string_bytes names.now) (option_map (λ point. point.items) best.now.point) best.now.end)) }
+{
+    match &best.point {
+        Some(point) => {
+            write_point(writer, names, point)?;
+            write_end(writer, 1, best.end)
+        }
+        None => write_end(writer, 0, best.end),
+    }
 }
 
 fn write_points<W: Write>(writer: &mut W, names: &[String], points: &[Vec<i64>]) -> io::Result<()>

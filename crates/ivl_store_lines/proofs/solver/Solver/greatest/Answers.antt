@@ -1,0 +1,11 @@
+use Rattle.ivl_search.specs.Points.{IsGreatestAt}
+use Rattle.ivl_store_lines.proofs.Points.{best_told}
+use Rattle.ivl_store_lines.proofs.solver.Solver.greatest.Goals as goal
+
+pub returns-in-Ok-clause-best : goal.returns-in-Ok-clause-best
+returns-in-Ok-clause-best c =
+    let best = c.in-Ok.best in
+    best_told IsGreatestAt (λ point. point.items) c.args.name.now c.args.self.now c.in_ok-variable.variable c.constraints.result.now c.domains.result.now
+    best.point c.ended.result.point best.end c.ended.result.end
+    c.in_ok-variable.ensures.ok c.constraints.ensures.same c.domains.ensures c.in-Ok.ensures.sound c.in-Ok.ensures.best c.in-Ok.ensures.none
+    c.ended.ensures.point c.ended.ensures.all c.ended.ensures.searched
