@@ -80,7 +80,7 @@ impl Blocks {
     }
 
     /// TakesBlocks and returns the lowest `count` consecutive free blocks, or returns `None` if there are none. The caller
-    /// must ensure that `count` is above 0. Does not allocate.
+    /// must ensure that `count` is above 0. Never fails for want of memory.
     pub fn take(&mut self, count: u64) -> Option<Interval<u64>>
         requires { 0 < count }
         ensures { MatchOption result (((v : ℤ) → ¬ (FitsAt count (Covers self.old) v)) × (self.new ≡ self.old))
