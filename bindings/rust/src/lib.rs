@@ -26,12 +26,15 @@
 //! | compare sets | `==`, [`is_subset`](IntervalSet::is_subset), [`is_superset`](IntervalSet::is_superset), [`is_disjoint`](IntervalSet::is_disjoint), [`overlap`](IntervalSet::overlap) |
 //! | compute with members | `+`, `-`, `*`, [`checked_add`](IntervalSet::checked_add), [`fits_add`](IntervalSet::fits_add) and so on |
 //!
+//! A [`PagedSet`] has the same edits and questions, and is for more than some 1,000 runs that change: an edit moves the runs of
+//! one page, where that of an [`IntervalSet`] may move all runs above it. [`to_set`](PagedSet::to_set) and `from` convert.
+//!
 //! # Two faces
 //!
 //! [`proved`] is the proved surface as it is: it takes an allocator and returns a `Result`, so that a failed allocation is an
 //! error and nothing more, and its docs have each call's contract, clause by clause. The root is for programs in which running
-//! out of memory may end the process: [`IntervalSet`] has methods that need no trait in scope, and the traits of a set of
-//! Rust's std. Each of its methods is one call of the proved face. Its conditions are tested in every build.
+//! out of memory may end the process: [`IntervalSet`] and [`PagedSet`] have methods that need no trait in scope, and the traits
+//! of a set of Rust's std. Each method is one call of the proved face. Its conditions are tested in every build.
 //!
 //! # What is proved, and what is trusted
 //!
@@ -72,12 +75,12 @@ pub mod set;
 /// assert!(open == IntervalSet::new(8, 13));
 /// ```
 pub mod prelude {
-    pub use crate::{IntervalSet, SizeNumber, Width};
+    pub use crate::{IntervalSet, PagedSet, SizeNumber, Width};
 }
 
 pub use proved::width::{SizeNumber, Width};
 #[doc(inline)]
-pub use set::IntervalSet;
+pub use set::{IntervalSet, PagedSet};
 
 /// The page for Rust, whose examples run with those of the docs.
 #[cfg(doctest)]

@@ -4,12 +4,14 @@ mod conversions;
 mod edits;
 mod iterators;
 mod operators;
+mod paged;
 mod pieces;
 mod reads;
 #[cfg(feature = "serde")]
 mod serde;
 
 pub use iterators::{IntoIter, Iter, Range, Values};
+pub use paged::PagedSet;
 pub use pieces::Piece;
 
 use crate::proved::ops::{Complement, Difference, Intersection, SymmetricDifference, Union};

@@ -1,8 +1,8 @@
 //! What a broken condition gets: at the root, in every build, a panic that names the call, the condition and the values, or
 //! `None`; in the proved face, in debug builds, a panic that names both.
-use intervallum::IntervalSet;
 use intervallum::proved::Global;
 use intervallum::proved::{self, Interval, ops::*, width::Width};
+use intervallum::{IntervalSet, PagedSet};
 use std::panic::{UnwindSafe, catch_unwind};
 
 type Set = IntervalSet<u8>;
@@ -53,6 +53,32 @@ fn the_root_panics_with_the_values() {
         { let mut a = set(); a += 235; } => "IntervalSet::add(10..=20, 235): the sums must be from 0 to 254";
         { let mut a = set(); a -= set(); } => "IntervalSet::sub(10..=20, 10..=20): the differences must be from 0 to 254";
     }
+}
+
+#[test]
+fn paged_sets_panic_with_the_values() {
+    let set = || PagedSet::from(10..=20u8);
+    panics! {
+        set().insert(255) => "PagedSet::insert(255): the value must be from 0 to 254";
+        set().insert_interval(250..=255) => "PagedSet::insert_interval(250..=255): the numbers must be from 0 to 254";
+        set().first_fit(0) => "PagedSet::first_fit(0): the count must be above 0";
+        set().first_fit_from(12, 0) => "PagedSet::first_fit_from(12, 0): the count must be above 0";
+        set().take_first_fit(0) => "PagedSet::take_first_fit(0): the count must be above 0";
+        set().extend([1, 255]) => "PagedSet::extend(255): the numbers must be from 0 to 254";
+        [3..=4, 0..=255].into_iter().collect::<PagedSet<u8>>() => "PagedSet::from_iter(0..=255): the numbers must be from 0 to 254";
+        PagedSet::from([(1, 255u8)]) => "PagedSet::from(1..=255): the numbers must be from 0 to 254";
+        PagedSet::from(9..=255u8) => "PagedSet::from(9..=255): the numbers must be from 0 to 254";
+    }
+    let mut set = set();
+    assert_eq!(
+        (set.checked_insert(255), set.checked_insert(20), set.checked_insert_interval(250..=255)),
+        (None, Some(false), None)
+    );
+    assert_eq!(
+        (set.checked_first_fit(0), set.checked_first_fit_from(12, 0), set.checked_take_first_fit(0)),
+        (None, None, None)
+    );
+    assert_eq!((set.len(), set.to_string()), (11, "[10..20]".into()), "a call that returns None changes nothing");
 }
 
 #[test]

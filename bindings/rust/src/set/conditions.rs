@@ -12,8 +12,8 @@ pub fn memory<R>(result: Result<R, AllocError>) -> R {
 /// Panics with a call and its values, and the condition that does not hold.
 #[cold]
 #[track_caller]
-pub fn broken(call: fmt::Arguments<'_>, condition: impl Display) -> ! {
-    panic!("IntervalSet::{call}: {condition}")
+pub fn broken(set: &str, call: fmt::Arguments<'_>, condition: impl Display) -> ! {
+    panic!("{set}::{call}: {condition}")
 }
 
 /// Returns the condition that some numbers are in the range.
@@ -30,14 +30,15 @@ pub fn numbers_between(lower: i128, upper: i128) -> impl Display {
     })
 }
 
-/// The value of a checked form, or a panic with the condition and the call.
+/// The value of a checked form, or a panic with the condition and the call: of an `IntervalSet`, or of the set that is named.
 macro_rules! unless_broken {
-    ($checked:expr, $condition:expr, $($call:tt)*) => {
+    ($set:ident: $checked:expr, $condition:expr, $($call:tt)*) => {
         match $checked {
             Some(result) => result,
-            None => broken(format_args!($($call)*), $condition),
+            None => broken(stringify!($set), format_args!($($call)*), $condition),
         }
     };
+    ($($rest:tt)*) => { unless_broken!(IntervalSet: $($rest)*) };
 }
 
 pub(super) use unless_broken;

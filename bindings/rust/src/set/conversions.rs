@@ -1,7 +1,7 @@
 //! Traits of std that make, copy, hash and print sets.
 use super::conditions::memory;
 use super::iterators::interval_of;
-use super::{IntervalSet, Piece};
+use super::{IntervalSet, PagedSet, Piece};
 use crate::proved::ops::Bounded as _;
 use crate::proved::width::Width;
 use crate::proved::{self, Global, Interval};
@@ -15,7 +15,15 @@ macro_rules! from_pieces {
         impl<T: Width> From<$piece> for IntervalSet<T> {
             #[track_caller]
             fn from(piece: $piece) -> Self {
-                Self(memory(proved::IntervalSet::of(Global, interval_of("from", &piece))))
+                Self(memory(proved::IntervalSet::of(Global, interval_of("IntervalSet", "from", &piece))))
+            }
+        }
+
+        /// Makes the set of the numbers of a range. All must be in the range of `T`.
+        impl<T: Width> From<$piece> for PagedSet<T> {
+            #[track_caller]
+            fn from(piece: $piece) -> Self {
+                Self::of_interval(interval_of("PagedSet", "from", &piece))
             }
         }
     )*};
@@ -27,7 +35,15 @@ from_pieces!(Range<T>, RangeInclusive<T>, RangeFrom<T>, RangeTo<T>, RangeToInclu
 impl<T: Width, P: Piece<T>, const N: usize> From<[P; N]> for IntervalSet<T> {
     #[track_caller]
     fn from(pieces: [P; N]) -> Self {
-        Self::gathered("from", pieces)
+        Self::gathered("IntervalSet", "from", pieces)
+    }
+}
+
+/// Makes the set of every piece: values, ranges or pairs. All numbers must be in the range.
+impl<T: Width, P: Piece<T>, const N: usize> From<[P; N]> for PagedSet<T> {
+    #[track_caller]
+    fn from(pieces: [P; N]) -> Self {
+        Self::from(&IntervalSet::gathered("PagedSet", "from", pieces))
     }
 }
 

@@ -46,7 +46,7 @@ impl<T: Width> IntervalSet<T> {
     /// ```
     #[track_caller]
     pub fn insert_interval(&mut self, range: impl Piece<T>) {
-        memory(self.0.insert_interval(interval_of("insert_interval", &range)));
+        memory(self.0.insert_interval(interval_of("IntervalSet", "insert_interval", &range)));
     }
 
     /// Does what [`insert_interval`](Self::insert_interval) does, or returns `None` if its condition does not hold.

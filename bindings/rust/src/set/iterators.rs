@@ -1,5 +1,5 @@
 //! Iterators over members, and sets from iterators.
-use super::conditions::{broken, memory, numbers_between, unless_broken, within_range};
+use super::conditions::{broken, memory, numbers_between, within_range};
 use super::{IntervalSet, Piece};
 use crate::proved::interval_set::{IntoRuns, Members};
 use crate::proved::ops::{Bounded, Empty, IsEmpty, StrictShrinkLeft, StrictShrinkRight};
@@ -50,6 +50,11 @@ impl<T: Width, I: DoubleEndedIterator<Item = Interval<T>>> DoubleEndedIterator f
 
 impl<T: Width, I: DoubleEndedIterator<Item = Interval<T>> + FusedIterator> FusedIterator for Values<T, I> {}
 
+/// Returns an iterator over the numbers of runs.
+pub(super) fn values_of<T: Width, I>(runs: I) -> Values<T, I> {
+    Values { first: Interval::empty(), between: runs, last: Interval::empty() }
+}
+
 /// Iterates over the members, in ascending order.
 impl<T: Width> IntoIterator for IntervalSet<T> {
     type Item = T;
@@ -57,7 +62,7 @@ impl<T: Width> IntoIterator for IntervalSet<T> {
     type IntoIter = IntoIter<T>;
 
     fn into_iter(self) -> IntoIter<T> {
-        Values { first: Interval::empty(), between: self.0.into_iter(), last: Interval::empty() }
+        values_of(self.0.into_iter())
     }
 }
 
@@ -75,28 +80,32 @@ impl<'a, T: Width> IntoIterator for &'a IntervalSet<T> {
 /// Makes the set of every piece. All numbers must be in the range. `O(k log k)` for `k` pieces.
 impl<T: Width, P: Piece<T>> FromIterator<P> for IntervalSet<T> {
     fn from_iter<I: IntoIterator<Item = P>>(pieces: I) -> Self {
-        Self::gathered("from_iter", pieces)
+        Self::gathered("IntervalSet", "from_iter", pieces)
     }
 }
 
 /// Adds every piece. All numbers must be in the range; after a panic the set is unchanged. `O(k log k + n)` for `k` pieces.
 impl<T: Width, P: Piece<T>> Extend<P> for IntervalSet<T> {
     fn extend<I: IntoIterator<Item = P>>(&mut self, pieces: I) {
-        memory(self.0.extend(pieces.into_iter().map(|piece| interval_of("extend", &piece))));
+        memory(self.0.extend(pieces.into_iter().map(|piece| interval_of("IntervalSet", "extend", &piece))));
     }
 }
 
 impl<T: Width> IntervalSet<T> {
     /// Returns the set of every piece, for the call of this name.
-    pub(super) fn gathered<P: Piece<T>>(call: &str, pieces: impl IntoIterator<Item = P>) -> Self {
-        let intervals = pieces.into_iter().map(|piece| interval_of(call, &piece)).collect();
+    #[track_caller]
+    pub(super) fn gathered<P: Piece<T>>(set: &str, call: &str, pieces: impl IntoIterator<Item = P>) -> Self {
+        let intervals = pieces.into_iter().map(|piece| interval_of(set, call, &piece)).collect();
         Self(memory(coalesce(Global, intervals)))
     }
 }
 
 /// Returns the interval of a piece. Panics if some number is outside the range.
 #[track_caller]
-pub(super) fn interval_of<T: Width>(call: &str, piece: &impl Piece<T>) -> Interval<T> {
+pub(super) fn interval_of<T: Width>(set: &str, call: &str, piece: &impl Piece<T>) -> Interval<T> {
     let (lower, upper) = piece.numbers();
-    unless_broken!(piece.interval(), within_range::<T>("the numbers"), "{call}({})", numbers_between(lower, upper))
+    let Some(interval) = piece.interval() else {
+        broken(set, format_args!("{call}({})", numbers_between(lower, upper)), within_range::<T>("the numbers"))
+    };
+    interval
 }
