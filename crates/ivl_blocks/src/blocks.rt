@@ -79,7 +79,7 @@ impl Blocks {
         }
     }
 
-    /// TakesBlocks and returns the lowest `count` consecutive free blocks, or returns `None` if there are none. The caller
+    /// Takes and returns the lowest `count` consecutive free blocks, or returns `None` if there are none. The caller
     /// must ensure that `count` is above 0. Never fails for want of memory.
     pub fn take(&mut self, count: u64) -> Option<Interval<u64>>
         requires { 0 < count }
@@ -89,7 +89,7 @@ impl Blocks {
         self.free.take_first_fit(count)
     }
 
-    /// GivesBlocks blocks back; blocks that are already free stay free.
+    /// Gives blocks back; blocks that are already free stay free.
     ///
     /// # Errors
     ///
