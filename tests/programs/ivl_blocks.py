@@ -1,43 +1,25 @@
 #!/usr/bin/env python3
 """The free blocks beside a list of their runs: usage: tests/programs/ivl_blocks.py [PROGRAM] [--seconds N] [--seed N]"""
 
-from ivl_run import number
+from ivl_ports import FreeNumbers
 from lines import main
 
 LAST = 2**40 - 1
-TAKE = b"error: write take COUNT, with a count from 1 to 1099511627775\n"
-GIVE = b"error: write give FIRST LAST, blocks from 0 to 1099511627775 in order\n"
-COMMANDS = b"error: write take COUNT, give FIRST LAST, free or largest\n"
 
-
-class Blocks:
+class Blocks(FreeNumbers):
     """The runs of the free blocks, ascending."""
+
+    least, greatest = 0, LAST
+    refused = {
+        b"take": b"error: write take COUNT, with a count from 1 to 1099511627775\n",
+        b"give": b"error: write give FIRST LAST, blocks from 0 to 1099511627775 in order\n",
+        b"free": b"error: write free\n",
+        b"largest": b"error: write largest\n",
+        None: b"error: write take COUNT, give FIRST LAST, free or largest\n",
+    }
 
     def __init__(self):
         self.runs = [(0, LAST)]
-
-    def answer(self, line):
-        try:
-            line.decode()
-        except UnicodeDecodeError:
-            return b"error: not UTF-8\n"
-        words = [word for word in line.split(b" ") if word]
-        if not words:
-            return b""
-        name, numbers = words[0], [number(word) for word in words[1:]]
-        if name == b"take":
-            return self.take(*numbers) if len(numbers) == 1 and self.are_in_range(numbers, 1) else TAKE
-        if name == b"give":
-            fits = len(numbers) == 2 and self.are_in_range(numbers, 0) and numbers[0] <= numbers[1]
-            return self.give(*numbers) if fits else GIVE
-        if name == b"free":
-            return b"error: write free\n" if numbers else self.shown()
-        if name == b"largest":
-            return b"error: write largest\n" if numbers else self.largest()
-        return COMMANDS
-
-    def are_in_range(self, numbers, least):
-        return all(value is not None and least <= value <= LAST for value in numbers)
 
     def take(self, count):
         for i, (lower, upper) in enumerate(self.runs):
@@ -64,6 +46,8 @@ class Blocks:
         if not self.runs:
             return b"none\n"
         return b"[%d..%d]\n" % max(self.runs, key=lambda run: (run[1] - run[0], -run[0]))
+
+    shows = {b"free": shown, b"largest": largest}
 
 
 def random_count(dice):

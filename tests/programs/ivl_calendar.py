@@ -5,7 +5,7 @@ import datetime
 import re
 
 from ivl_run import number
-from lines import main
+from lines import Commands, main
 
 ROOM = b"error: write room NAME, with a new name\n"
 BOOK = b"error: write book NAME FIRST LAST, with a known room and dates in order, such as 2026-03-01\n"
@@ -61,22 +61,15 @@ def runs_of(days):
     return runs
 
 
-class Calendar:
+class Calendar(Commands):
     """The days on which each room is busy."""
 
     def __init__(self):
         self.rooms = {}
 
-    def answer(self, line):
-        try:
-            line.decode()
-        except UnicodeDecodeError:
-            return b"error: not UTF-8\n"
-        words = [word for word in line.split(b" ") if word]
-        if not words:
-            return b""
+    def answer_command(self, name, words):
         answers = {b"room": self.room, b"book": self.book, b"gap": self.gap, b"free": self.free}
-        return answers[words[0]](words[1:]) if words[0] in answers else COMMANDS
+        return answers[name](words) if name in answers else COMMANDS
 
     def room(self, words):
         if len(words) != 1 or words[0] in self.rooms:

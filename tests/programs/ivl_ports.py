@@ -4,39 +4,39 @@
 import re
 
 from ivl_run import number
-from lines import main
-
-TAKE = b"error: write take COUNT, with a count from 1 to 65535\n"
-GIVE = b"error: write give FIRST LAST, ports from 1024 to 65535 in order\n"
-COMMANDS = b"error: write take COUNT, give FIRST LAST or free\n"
+from lines import Commands, main
 
 
-class Ports:
+class FreeNumbers(Commands):
+    """Numbers from `least` to `greatest`, which are taken and given back; `refused` has the answer to a line that is not understood."""
+
+    def answer_command(self, name, words):
+        numbers = [number(word) for word in words]
+        if name == b"take" and len(numbers) == 1 and self.are_in_range(numbers, 1):
+            return self.take(*numbers)
+        if name == b"give" and len(numbers) == 2 and self.are_in_range(numbers, self.least) and numbers[0] <= numbers[1]:
+            return self.give(*numbers)
+        if name in self.shows and not words:
+            return self.shows[name](self)
+        return self.refused.get(name, self.refused[None])
+
+    def are_in_range(self, numbers, least):
+        return all(value is not None and least <= value <= self.greatest for value in numbers)
+
+
+class Ports(FreeNumbers):
     """A byte for each number from 0 to 65535, which is 1 if it is a free port."""
+
+    least, greatest = 1024, 65535
+    refused = {
+        b"take": b"error: write take COUNT, with a count from 1 to 65535\n",
+        b"give": b"error: write give FIRST LAST, ports from 1024 to 65535 in order\n",
+        b"free": b"error: write free\n",
+        None: b"error: write take COUNT, give FIRST LAST or free\n",
+    }
 
     def __init__(self):
         self.free = bytearray(1024) + bytearray(b"\1" * (65536 - 1024))
-
-    def answer(self, line):
-        try:
-            line.decode()
-        except UnicodeDecodeError:
-            return b"error: not UTF-8\n"
-        words = [word for word in line.split(b" ") if word]
-        if not words:
-            return b""
-        name, numbers = words[0], [number(word) for word in words[1:]]
-        if name == b"take":
-            return self.take(*numbers) if len(numbers) == 1 and self.are_in_range(numbers, 1) else TAKE
-        if name == b"give":
-            fits = len(numbers) == 2 and self.are_in_range(numbers, 1024) and numbers[0] <= numbers[1]
-            return self.give(*numbers) if fits else GIVE
-        if name == b"free":
-            return b"error: write free\n" if numbers else self.shown()
-        return COMMANDS
-
-    def are_in_range(self, numbers, least):
-        return all(value is not None and least <= value <= 65535 for value in numbers)
 
     def take(self, count):
         first = self.free.find(b"\1" * count)
@@ -55,6 +55,8 @@ class Ports:
         runs = [b"[%d..%d]" % (run.start(), run.end() - 1) for run in re.finditer(b"\1+", self.free)]
         text = b"".join(runs)
         return b"%d free: %s\n" % (sum(self.free), text if len(runs) == 1 else b"{" + text + b"}")
+
+    shows = {b"free": shown}
 
 
 def random_count(dice):

@@ -2,7 +2,7 @@
 """The check of ranges beside plain lists of pairs: usage: tests/programs/ivl_ranges.py [PROGRAM] [--seconds N] [--seed N]"""
 
 from ivl_run import GREATEST, LEAST, joined, number, text
-from lines import main
+from lines import Commands, main
 
 RANGES = b"error: write ranges such as -1..1 5..5, with the lower end first\n"
 LENGTH = b"error: write length NUMBER, from 0 to 4294967295\n"
@@ -26,7 +26,7 @@ def safe_in(index, offset, length):
     return joined(index)
 
 
-class Access:
+class Access(Commands):
     """The runs of i and of k, and the length of the array."""
 
     def __init__(self):
@@ -34,15 +34,7 @@ class Access:
         self.offset = []
         self.length = 0
 
-    def answer(self, line):
-        try:
-            line.decode()
-        except UnicodeDecodeError:
-            return b"error: not UTF-8\n"
-        words = [word for word in line.split(b" ") if word]
-        if not words:
-            return b""
-        name, words = words[0], words[1:]
+    def answer_command(self, name, words):
         if name in (b"i", b"k"):
             return self.set_ranges(name, [range_from(word) for word in words])
         if name == b"length":

@@ -6,7 +6,7 @@ import math
 import unicodedata
 
 from ivl_run import LEAST, joined, number, text
-from lines import main
+from lines import Commands, main
 
 FORMS = {
     b"var": b"var x l u l u ..",
@@ -162,7 +162,7 @@ class Best(Searched):
         return len(written) - len(lines[2]) if is_right else None
 
 
-class Solver:
+class Solver(Commands):
     """Domains as sets of their members, in the order in which they were defined.
 
     Narrowings are made in rounds: a sum whose domains have changed since it narrowed waits for the next round, and of a
@@ -179,18 +179,9 @@ class Solver:
         self.limit = 10**6
         self.progress = b"ok"
 
-    def answer(self, line):
-        try:
-            line.decode()
-        except UnicodeDecodeError:
-            return b"error: not UTF-8\n"
-        words = [word for word in line.split(b" ") if word]
-        if not words:
-            return b""
-        fault = self.fault(words[0], words[1:])
-        if fault:
-            return b"error: " + fault + b"\n"
-        return self.carried_out(words[0], words[1:])
+    def answer_command(self, name, words):
+        fault = self.fault(name, words)
+        return b"error: " + fault + b"\n" if fault else self.carried_out(name, words)
 
     def fault(self, name, words):
         """Why the words are not carried out, or None."""

@@ -15,6 +15,18 @@ import time
 SPOILED = [b"", b" ", b"\r", b"\xff", b"show \xe9", b"\t", b"frob 1 2", b"show show", b"9"]
 
 
+class Commands:
+    """A model whose lines are words between spaces, a command first: `answer_command(name, words)` answers it."""
+
+    def answer(self, line):
+        try:
+            line.decode()
+        except UnicodeDecodeError:
+            return b"error: not UTF-8\n"
+        words = [word for word in line.split(b" ") if word]
+        return self.answer_command(words[0], words[1:]) if words else b""
+
+
 def in_pieces(pipe, data, dice):
     """Writes the data in pieces of random sizes, so that lines are cut anywhere."""
     place = 0

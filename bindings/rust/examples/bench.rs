@@ -12,7 +12,7 @@ use std::time::{Duration, Instant};
 
 type Set = IntervalSet<i64>;
 
-const SIZES: [usize; 6] = [10, 100, 300, 1_000, 10_000, 100_000];
+const SIZES: [usize; 7] = [10, 100, 300, 1_000, 10_000, 100_000, 1_000_000];
 
 /// A linear congruential generator.
 struct Generator(u64);
@@ -118,7 +118,7 @@ impl Inputs {
             copy: a.clone(),
             pairs: shuffled(dense(n, 1), 3),
             probes: probes(1000, 5, &a),
-            edits: probes(n.min(10_000), 6, &a),
+            edits: probes(n.min(10_000).min(1_000_000_000 / n), 6, &a),
             tree: Tree(dense(n, 1).into_iter().collect()),
             few: (dense(10, 2).into_iter().collect(), dense(100_000, 1).into_iter().collect()),
             sparse: if n <= 300 { (apart(n, 1, n), apart(n, 2, 1)) } else { Default::default() },
@@ -256,7 +256,7 @@ fn long<'a>(inputs: &'a Inputs) -> Vec<Measure<'a>> {
 fn measures(inputs: &Inputs) -> Vec<Measure<'_>> {
     match inputs.n {
         300 => long(inputs).into_iter().filter(|measure| measure.0 == "plus_sparse").collect(),
-        100_000 => questions(inputs),
+        100_000.. => [makings(inputs), merges(inputs), questions(inputs)].into_iter().flatten().collect(),
         _ => [makings(inputs), merges(inputs), questions(inputs), long(inputs)].into_iter().flatten().collect(),
     }
 }
