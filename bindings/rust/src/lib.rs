@@ -46,7 +46,7 @@
 //! # Features
 //!
 //! None: this package depends on nothing but `core` and `alloc`. The package `intervallum-proved-serde` has the same sources and
-//! the features `serde` (`Serialize` and `Deserialize` of [`IntervalSet`]) and `json` (the proved reading and writing of JSON).
+//! the features `serde` (`Serialize` and `Deserialize` of both sets) and `json` (the proved reading and writing of JSON).
 #![no_std]
 #![forbid(unsafe_code)]
 #![warn(missing_docs)]

@@ -1,7 +1,7 @@
 //! The JSON form of a set by serde is the one that the proved calls read and write.
-use intervallum::IntervalSet;
 use intervallum::proved::ivl_json::JsonForm;
 use intervallum::proved::{self, Global};
+use intervallum::{IntervalSet, PagedSet};
 use serde_json::Value;
 
 /// Texts of sets of `i8`; `None` where they are refused.
@@ -37,6 +37,9 @@ fn both_read_and_write_alike() {
         let by_proof = proved::IntervalSet::<i8>::from_value(Global, &value).ok().map(IntervalSet::from);
         let by_serde: Option<IntervalSet<i8>> = serde_json::from_str(text).ok();
         assert_eq!(by_serde, by_proof, "{text}");
+        let paged: Option<PagedSet<i8>> = serde_json::from_str(text).ok();
+        assert_eq!(paged.as_ref().map(PagedSet::to_set), by_proof, "{text}");
+        assert_eq!(paged.map(|set| serde_json::to_string(&set).unwrap()).as_deref(), written, "{text}");
         let by_serde = by_serde.map(|set| serde_json::to_string(&set).unwrap());
         assert_eq!(by_serde.as_deref(), written, "{text}");
         let by_proof = by_proof.map(|set| set.as_proved().to_value(Global).unwrap().to_string());

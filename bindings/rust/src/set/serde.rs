@@ -1,10 +1,10 @@
-//! The JSON form of a set, by serde: `null` for the empty set, else the array of the runs, as in `[[1,2],[5,5]]`.
+//! The JSON form of a set of either kind, by serde: `null` for the empty set, else the array of the runs, as in `[[1,2],[5,5]]`.
 //!
 //! What is read may have its runs in any order; they may overlap, touch, cross or be `null`.
-use super::IntervalSet;
 use super::conditions::within_range;
+use super::{IntervalSet, PagedSet};
 use crate::proved::interval::Interval;
-use crate::proved::ops::{Bounded, Range};
+use crate::proved::ops::Range;
 use crate::proved::width::Width;
 use alloc::vec::Vec;
 use core::{fmt, marker::PhantomData};
@@ -15,7 +15,7 @@ use serde::ser::{Serialize, Serializer};
 struct Number<T>(T);
 
 /// The runs of a set that is not empty.
-struct Runs<'a, T: Width>(&'a [Interval<T>]);
+struct Runs<'a, S>(&'a S);
 
 impl<T: Width> Serialize for Number<T> {
     fn serialize<S: Serializer>(&self, serializer: S) -> Result<S::Ok, S::Error> {
@@ -26,24 +26,31 @@ impl<T: Width> Serialize for Number<T> {
     }
 }
 
-impl<T: Width> Serialize for Runs<'_, T> {
-    fn serialize<S: Serializer>(&self, serializer: S) -> Result<S::Ok, S::Error> {
-        serializer.collect_seq(self.0.iter().map(|run| (Number(run.lower()), Number(run.upper()))))
-    }
+macro_rules! form {
+    ($set:ident) => {
+        impl<T: Width> Serialize for Runs<'_, $set<T>> {
+            fn serialize<S: Serializer>(&self, serializer: S) -> Result<S::Ok, S::Error> {
+                serializer.collect_seq(self.0.runs().map(|run| (Number(*run.start()), Number(*run.end()))))
+            }
+        }
+
+        impl<T: Width> Serialize for $set<T> {
+            fn serialize<S: Serializer>(&self, serializer: S) -> Result<S::Ok, S::Error> {
+                (!self.is_empty()).then(|| Runs(self)).serialize(serializer)
+            }
+        }
+
+        impl<'de, T: Width> Deserialize<'de> for $set<T> {
+            fn deserialize<D: Deserializer<'de>>(deserializer: D) -> Result<Self, D::Error> {
+                let pairs = Option::<Vec<Option<(Number<T>, Number<T>)>>>::deserialize(deserializer)?;
+                Ok(pairs.into_iter().flatten().flatten().map(|pair| Interval::new(pair.0.0, pair.1.0)).collect())
+            }
+        }
+    };
 }
 
-impl<T: Width> Serialize for IntervalSet<T> {
-    fn serialize<S: Serializer>(&self, serializer: S) -> Result<S::Ok, S::Error> {
-        (!self.is_empty()).then(|| Runs(self.0.runs())).serialize(serializer)
-    }
-}
-
-impl<'de, T: Width> Deserialize<'de> for IntervalSet<T> {
-    fn deserialize<D: Deserializer<'de>>(deserializer: D) -> Result<Self, D::Error> {
-        let pairs = Option::<Vec<Option<(Number<T>, Number<T>)>>>::deserialize(deserializer)?;
-        Ok(pairs.into_iter().flatten().flatten().map(|pair| Interval::new(pair.0.0, pair.1.0)).collect())
-    }
-}
+form!(IntervalSet);
+form!(PagedSet);
 
 impl<'de, T: Width> Deserialize<'de> for Number<T> {
     fn deserialize<D: Deserializer<'de>>(deserializer: D) -> Result<Self, D::Error> {
