@@ -4,3 +4,5 @@ pub mod Removing
 pub mod Iterating
 pub mod Fitting
 pub mod Counting
+pub mod Heads
+pub mod Widening

@@ -3,12 +3,14 @@
 --     StartsUpTo P v n      the first n pages have a number up to v, and the others none
 --     IsPageSpan P u v i j      the pages before i lie below u, those from j on above v, and those between i and the last within
 --     IsPageCut P p i Q      Q is P with the numbers of an interval removed from page i
+--     AreHeads value H P      each element of H is the least number of the page at its place
 --     IsLongest n S      n members of S stand in a row somewhere, and nowhere more
 use Rattle.std.specs.Prelude.{◌≡◌, ℕ, ◌+◌, ◌-◌, ◌<◌, ◌≤◌, ℤ, pos, ◌+ℤ◌, ◌≤ℤ◌, ◌<ℤ◌, List, [], ◌∷◌, ◌++◌, drop, length, take}
 use Rattle.ivl_laws.specs.Families.{set_at}
 use Rattle.ivl_laws.specs.Sets.{IsBetween, Without}
-use Rattle.ivl_laws.specs.Runs.{IsRunsOf}
+use Rattle.ivl_laws.specs.Runs.{Covers, IsRunsOf}
 use Rattle.intervallum.specs.FirstFit.{FitsAt}
+use Rattle.intervallum.specs.Neighbours.{IsLeast}
 
 abbrev pub flattened : List (List (ℤ × ℤ)) → List (ℤ × ℤ)
 flattened [] = []
@@ -34,6 +36,13 @@ pub record IsPageCut (P : List (List (ℤ × ℤ))) (p : ℤ × ℤ) (i : ℕ) (
   pub left : List (List (ℤ × ℤ))
   pub pages : Q ≡ take i P ++ (left ++ drop (i + 1) P)
   pub members : IsRunsOf (flattened left) (Without (set_at P i) (IsBetween p))
+
+-- there are as many as pages; each has a number, by `value`
+abbrev pub AreHeads : {X : Type 0} → (X → ℤ) → List X → List (List (ℤ × ℤ)) → Type 0
+AreHeads value [] [] = Unit {0}
+AreHeads value [] (L ∷ P) = ⊥
+AreHeads value (h ∷ H) [] = ⊥
+AreHeads value (h ∷ H) (L ∷ P) = IsLeast (value h) (Covers L) × AreHeads value H P
 
 -- what the longest run of a page has
 pub record IsLongest (n : ℕ) (S : ℤ → Type 0) : Type 0 where

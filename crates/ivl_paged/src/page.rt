@@ -1,11 +1,11 @@
 //! One page: a few of the runs of a set.
-ghost use Rattle.std.specs.Prelude.{◌≡◌, ◌↔◌, ◌⊎◌, ◌<◌, ◌≤◌, ℕ, ℤ, ◌≤ℤ◌, IsSomeAnd, IsTrue, List, IfOk, IsOk, MatchOption, OnErr, OnOk};
+ghost use Rattle.std.specs.Prelude.{◌≡◌, ◌↔◌, ◌⊎◌, ◌<◌, ◌≤◌, ℕ, ℤ, ◌≤ℤ◌, ◌<ℤ◌, IsSomeAnd, IsTrue, List, IfOk, IsOk, MatchOption, OnErr, OnOk, length};
 ghost use Rattle.ivl_laws.specs.Bounds.{width_of};
 ghost use Rattle.ivl_laws.specs.Sets.{HasSome, IsBetween, IsSubset, Union, Without};
 ghost use Rattle.ivl_laws.specs.Runs.{Covers, IsMaximal, IsRunsOf};
 ghost use Rattle.intervallum.specs.Edits.{widened};
 ghost use Rattle.intervallum.specs.FirstFit.{FitsAt};
-ghost use Rattle.intervallum.specs.Neighbours.{IsLeast};
+ghost use Rattle.intervallum.specs.Neighbours.{IsLeast, IsRunWith};
 ghost use Rattle.ivl_paged.specs.Pages.{IsLongest};
 
 use intervallum::interval::Interval;
@@ -16,8 +16,8 @@ use std::alloc::AllocError;
 use std::hint::select_unpredictable;
 use std::marker::Model;
 
-/// A set that is not empty, beside its least member and the length of its longest run, so that a
-/// search reads no run.
+/// A set that is not empty, beside its least member and the length of its longest run, so that no run
+/// is read for either.
 #[derive(Drop)]
 pub(crate) struct Page<B: Width> {
     head: B,
@@ -86,34 +86,87 @@ impl<B: Width> Page<B> {
         }
     }
 
-    /// Adds the members of an interval.
-    pub(crate) fn insert_interval(&mut self, interval: Interval<B>) -> Result<(), AllocError>
+    /// Adds the members of an interval. Returns true exactly when its first number was a member.
+    pub(crate) fn insert_interval(&mut self, interval: Interval<B>) -> Result<bool, AllocError>
         requires { interval.0 ≤ℤ interval.1 }
         ensures ok { OnOk result (IsRunsOf self.new (Union (Covers self.old) (IsBetween interval))) }
+        ensures was_member { IfOk result (λ was_member. IsTrue was_member ↔ Covers self.old interval.0) }
         ensures err { OnErr result (self.new ≡ self.old) }
     {
-        self.set.insert_interval(interval)?;
-        self.head = self.set.lower();
+        let count = self.set.interval_count();
         let run = self.set.run_at(interval.lower_bound());
-        self.longest = longer(self.longest, run);
-        Ok(())
+        if ends_at_or_above(run, interval.upper_bound()) {
+            return Ok(true);
+        }
+        self.set.insert_interval(interval)?;
+        self.head = self.head.min(interval.lower_bound());
+        let joined = run_after(&self.set, count, interval);
+        self.longest = longer(self.longest, joined);
+        Ok(run.is_some())
     }
 
-    /// Removes the members of an interval, which leaves some.
-    pub(crate) fn remove_interval(&mut self, interval: Interval<B>) -> Result<(), AllocError>
+    /// Removes the members of an interval, which leaves some. Returns true exactly when its first
+    /// number was a member.
+    pub(crate) fn remove_interval(&mut self, interval: Interval<B>) -> Result<bool, AllocError>
+        requires filled { interval.0 ≤ℤ interval.1 }
         requires some { HasSome (Without (Covers self.old) (IsBetween interval)) }
         ensures ok { OnOk result (IsRunsOf self.new (Without (Covers self.old) (IsBetween interval))) }
+        ensures was_member { IfOk result (λ was_member. IsTrue was_member ↔ Covers self.old interval.0) }
         ensures err { OnErr result (self.new ≡ self.old) }
         // it cannot fail unless it lies inside a run and splits it
         ensures in_place { ¬ (IsSubset (IsBetween (widened interval)) (Covers self.old)) → IsOk result }
     {
+        self.set.interval_count();
         let run = self.set.run_at(interval.lower_bound());
+        if run.is_none() && interval.upper_bound() <= interval.lower_bound() {
+            return Ok(false);
+        }
         let keeps = lies_in_shorter(run, interval, self.longest);
         self.set.remove_interval(interval)?;
-        self.head = self.set.lower();
+        self.head = head_after(self.head, interval.lower_bound(), &self.set);
         self.longest = longest_after(self.longest, keeps, &self.set);
-        Ok(())
+        Ok(run.is_some())
     }
+}
+
+/// Whether a run, if there is one, ends at a value or above.
+fn ends_at_or_above<B: Width>(run: Option<Interval<B>>, value: B) -> bool
+    ensures { IsTrue result → IsSomeAnd run (λ p. B.value value ≤ℤ p.1) }
+{
+    match run {
+        Some(run) => value <= run.upper_bound(),
+        None => false,
+    }
+}
+
+/// The run that holds an interval which was added to a set that had `count` runs. If there is one run
+/// more, it is the interval itself.
+fn run_after<B: Width>(
+    set: &IntervalSet<B>,
+    count: usize,
+    interval: Interval<B>,
+) -> Option<Interval<B>>
+    requires { count < length set.now → IsRunWith interval.0 (Covers set.now) interval }
+    ensures { MatchOption result
+        (¬ (Covers set.now interval.0))
+        (IsRunWith interval.0 (Covers set.now)) }
+{
+    if count < set.interval_count() {
+        return Some(interval);
+    }
+    set.run_at(interval.lower_bound())
+}
+
+/// The least member after a removal of numbers from `lower` on, before which it was `before`.
+fn head_after<B: Width>(before: B, lower: B, set: &IntervalSet<B>) -> B
+    requires some { HasSome (Covers set.now) }
+    requires kept { B.value before <ℤ B.value lower → IsLeast (B.value before) (Covers set.now) }
+    ensures { IsLeast (B.value result) (Covers set.now) }
+{
+    if before < lower {
+        return before;
+    }
+    set.lower()
 }
 
 /// The greater of a length and that of a run, if there is one.

@@ -9,8 +9,8 @@ use crate::proved::intervallum::width::{SizeNumber, Width};
 use crate::rattle::std::alloc::AllocError;
 use crate::rattle::std::hint::select_unpredictable;
 
-/// A set that is not empty, beside its least member and the length of its longest run, so that a
-/// search reads no run.
+/// A set that is not empty, beside its least member and the length of its longest run, so that no run
+/// is read for either.
 pub(crate) struct Page<B: Width> {
     head: B,
     longest: B::Output,
@@ -53,24 +53,63 @@ impl<B: Width> Page<B> {
         }
     }
 
-    /// Adds the members of an interval.
-    pub(crate) fn insert_interval(&mut self, interval: Interval<B>) -> Result<(), AllocError> {
-        self.set.insert_interval(interval)?;
-        self.head = self.set.lower();
+    /// Adds the members of an interval. Returns true exactly when its first number was a member.
+    pub(crate) fn insert_interval(&mut self, interval: Interval<B>) -> Result<bool, AllocError> {
+        let count = self.set.interval_count();
         let run = self.set.run_at(interval.lower_bound());
-        self.longest = longer(self.longest, run);
-        Ok(())
+        if ends_at_or_above(run, interval.upper_bound()) {
+            return Ok(true);
+        }
+        self.set.insert_interval(interval)?;
+        self.head = self.head.min(interval.lower_bound());
+        let joined = run_after(&self.set, count, interval);
+        self.longest = longer(self.longest, joined);
+        Ok(run.is_some())
     }
 
-    /// Removes the members of an interval, which leaves some.
-    pub(crate) fn remove_interval(&mut self, interval: Interval<B>) -> Result<(), AllocError> {
+    /// Removes the members of an interval, which leaves some. Returns true exactly when its first
+    /// number was a member.
+    pub(crate) fn remove_interval(&mut self, interval: Interval<B>) -> Result<bool, AllocError> {
+        self.set.interval_count();
         let run = self.set.run_at(interval.lower_bound());
+        if run.is_none() && interval.upper_bound() <= interval.lower_bound() {
+            return Ok(false);
+        }
         let keeps = lies_in_shorter(run, interval, self.longest);
         self.set.remove_interval(interval)?;
-        self.head = self.set.lower();
+        self.head = head_after(self.head, interval.lower_bound(), &self.set);
         self.longest = longest_after(self.longest, keeps, &self.set);
-        Ok(())
+        Ok(run.is_some())
     }
+}
+
+/// Whether a run, if there is one, ends at a value or above.
+fn ends_at_or_above<B: Width>(run: Option<Interval<B>>, value: B) -> bool {
+    match run {
+        Some(run) => value <= run.upper_bound(),
+        None => false,
+    }
+}
+
+/// The run that holds an interval which was added to a set that had `count` runs. If there is one run
+/// more, it is the interval itself.
+fn run_after<B: Width>(
+    set: &IntervalSet<B>,
+    count: usize,
+    interval: Interval<B>,
+) -> Option<Interval<B>> {
+    if count < set.interval_count() {
+        return Some(interval);
+    }
+    set.run_at(interval.lower_bound())
+}
+
+/// The least member after a removal of numbers from `lower` on, before which it was `before`.
+fn head_after<B: Width>(before: B, lower: B, set: &IntervalSet<B>) -> B {
+    if before < lower {
+        return before;
+    }
+    set.lower()
 }
 
 /// The greater of a length and that of a run, if there is one.
