@@ -6,3 +6,4 @@ pub mod Fitting
 pub mod Counting
 pub mod Heads
 pub mod Widening
+pub mod Longest

@@ -1,6 +1,6 @@
 -- Numbers added to a page or removed from it: what a search for the first of them tells, and when the number of runs grows.
-use Rattle.std.proofs.Common.{◌≡◌, ⊎_elim, inl, inr, ◌<◌, ◌≤◌, ℤ, pos, ◌+ℤ◌, ◌-ℤ◌, ◌≤ℤ◌, Bool, true, false, IsTrue, ◌↔◌, List, ◌∷◌, length, refl, sym, subst, arith}
-use Rattle.std.specs.Prelude.{IsSomeAnd, MatchOption, None, Option, Some, is_some, not}
+use Rattle.std.proofs.Common.{◌≡◌, ⊎_elim, inl, inr, ◌<◌, ◌≤◌, ℤ, pos, ◌+ℤ◌, ◌-ℤ◌, ◌≤ℤ◌, Bool, true, false, IsTrue, ◌↔◌, List, ◌∷◌, length, sym, subst, arith}
+use Rattle.std.specs.Prelude.{IsSomeAnd, MatchOption, None, Option, Some}
 use Rattle.std.proofs.lemmas.Int.{ints, by_lt_z}
 use Rattle.ivl_laws.specs.Counts.{IsIn}
 use Rattle.ivl_laws.specs.Sets.{IsBetween, Only, Union, Without}
@@ -85,21 +85,6 @@ nothing_to_add (Some run) L p v w m e f found h = record {
     ⊎_elim (λ c. c) (λ b. let low = b.0 in let high = b.1 in let from = found.holds.0 in found.inside z (omega (arith, ints, from, e, low), omega (arith, ints, high, f, h))),
   );
 }
-
-pub no_run : {T : Type 0} (o : Option T) (t : Bool) → is_some o ≡ not t → t ≡ true → o ≡ None
-no_run None t e h = refl
-no_run (Some x) t e h = absurd (cc)
-
-pub nothing_to_remove : (o : Option (ℤ × ℤ)) (L : List (ℤ × ℤ)) (p : ℤ × ℤ) (v : ℤ) → IsMaximal L → v ≡ p.0 → p.1 ≤ℤ p.0 → o ≡ None → MatchOption o (¬ (Covers L v)) (IsRunWith v (Covers L)) →
-    IsRunsOf L (Without (Covers L) (IsBetween p))
-nothing_to_remove None L p v m e one none free = record {
-  maximal = m;
-  members = λ z. (
-    (λ c. (c, λ b. let low = b.0 in let high = b.1 in free (subst (Covers L) (omega (arith, ints, low, high, one, e)) c))),
-    (λ s. s.0),
-  );
-}
-nothing_to_remove (Some run) L p v m e one none free = absurd (cc)
 
 -- a number that is no member
 pub absent : (whole : ℤ × ℤ) (L : List (ℤ × ℤ)) (v : ℤ) (t : Bool) → IsRunListIn whole L → t ≡ false → (IsTrue t ↔ IsBetween whole v) → ¬ (Covers L v)

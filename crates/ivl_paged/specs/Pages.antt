@@ -5,9 +5,11 @@
 --     IsPageCut P p i Q      Q is P with the numbers of an interval removed from page i
 --     AreHeads value H P      each element of H is the least number of the page at its place
 --     IsLongest n S      n members of S stand in a row somewhere, and nowhere more
+--     IsLongestPart p S      p lies in S, and nowhere in S stand more numbers in a row than p has
 use Rattle.std.specs.Prelude.{◌≡◌, ℕ, ◌+◌, ◌-◌, ◌<◌, ◌≤◌, ℤ, pos, ◌+ℤ◌, ◌≤ℤ◌, ◌<ℤ◌, List, [], ◌∷◌, ◌++◌, drop, length, take}
 use Rattle.ivl_laws.specs.Families.{set_at}
-use Rattle.ivl_laws.specs.Sets.{IsBetween, Without}
+use Rattle.ivl_laws.specs.Bounds.{width_of}
+use Rattle.ivl_laws.specs.Sets.{IsBetween, IsSubset, Without}
 use Rattle.ivl_laws.specs.Runs.{Covers, IsRunsOf}
 use Rattle.intervallum.specs.FirstFit.{FitsAt}
 use Rattle.intervallum.specs.Neighbours.{IsLeast}
@@ -48,3 +50,8 @@ AreHeads value (h ∷ H) (L ∷ P) = IsLeast (value h) (Covers L) × AreHeads va
 pub record IsLongest (n : ℕ) (S : ℤ → Type 0) : Type 0 where
   pub fits : (v : ℤ) × FitsAt n S v
   pub most : (m : ℕ) (v : ℤ) → FitsAt m S v → m ≤ n
+
+-- the longest run, or one of them
+pub record IsLongestPart (p : ℤ × ℤ) (S : ℤ → Type 0) : Type 0 where
+  pub inside : IsSubset (IsBetween p) S
+  pub longest : IsLongest (width_of p) S

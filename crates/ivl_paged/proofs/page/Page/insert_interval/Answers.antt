@@ -3,8 +3,8 @@ use Rattle.ivl_laws.specs.Runs.{Covers, IsRunsOf}
 use Rattle.ivl_laws.specs.Sets.{IsBetween, Union}
 use Rattle.std.specs.Int.{int_min}
 use Rattle.ivl_laws.proofs.Orders.{min_number}
-use Rattle.ivl_paged.proofs.Fitting.{grown_by_run}
 use Rattle.ivl_paged.proofs.Heads.{least_of_union, lower_of}
+use Rattle.ivl_paged.proofs.Longest.{grown_part}
 use Rattle.ivl_paged.proofs.Widening.{alone_if_more, nothing_to_add}
 use Rattle.ivl_paged.proofs.page.Page.insert_interval.Goals as goal
 
@@ -24,6 +24,6 @@ invariant_of-self-2 g c = (
   least_of_union (Covers c.self.inside.set) (Covers c.insert_interval.new.self) c.args.interval (g.B.Width.value c.self.inside.head) (g.B.Width.value c.min-self-inside.result) c.requires c.self.invariant.0 c.in_ok-insert_interval.ensures.ok.members
       (lower_of (g.B.Width.value c.self.inside.head) c.args.interval.0 (g.B.Width.value c.min-self-inside.result)
       (min_number g.met.B.Width.ordered _ _ _ c.min-self-inside.ensures ∙ ap (λ (x : ℤ). int_min (g.B.Width.value c.self.inside.head) x) c.lower_bound-2.ensures)),
-  grown_by_run c.run_after-joined.result _ _ (Covers c.self.inside.set) (Covers c.insert_interval.new.self) c.args.interval c.args.interval.0 refl c.self.invariant.1
+  grown_part c.run_after-joined.result c.self.inside.longest c.longer-self-inside.result (Covers c.self.inside.set) (Covers c.insert_interval.new.self) c.args.interval c.args.interval.0 refl c.self.invariant.1
       c.in_ok-insert_interval.ensures.ok.members c.requires c.run_after-joined.ensures c.longer-self-inside.ensures,
 )
