@@ -1,11 +1,11 @@
 -- Members of pages that stand in a row: the longest run of a page, and the lowest place with room.
 use Rattle.std.proofs.Common.{◌≡◌, ◌⊎◌, ⊎_elim, inl, inr, ℕ, zero, suc, ◌+◌, ◌-◌, ◌<◌, ◌≤◌, ℤ, pos, ◌+ℤ◌, ◌-ℤ◌, ◌≤ℤ◌, Bool, true, false, cond, List, [], ◌∷◌, ◌++◌, length, length-drop, get_or, take, take_all, drop, Some, None, refl, sym, ap, subst, ◌∙◌, arith}
-use Rattle.std.specs.Prelude.{Option, MatchOption, IsSomeAnd}
+use Rattle.std.specs.Prelude.{Option, MatchOption}
 use Rattle.std.proofs.lemmas.Int.{ints, by_lt_z}
 use Rattle.std.proofs.lemmas.List.{drop_more}
 use Rattle.ivl_laws.specs.Bounds.{width_of}
 use Rattle.ivl_laws.specs.Counts.{IsIn}
-use Rattle.ivl_laws.specs.Sets.{AtLeast, IsBetween, IsSubset, SameMembers, Union, Without}
+use Rattle.ivl_laws.specs.Sets.{AtLeast, IsBetween, IsSubset, SameMembers, Union}
 use Rattle.ivl_laws.specs.Runs.{Covers, IsMaximal}
 use Rattle.ivl_laws.proofs.Counts.{in-append}
 use Rattle.ivl_laws.proofs.Intervals.{width_of-filled}
@@ -91,9 +91,6 @@ longest_next size L i d x y r false m h is so_far w up down e =
     subst (λ (M : List (ℤ × ℤ)). IsLongest (size r) (Covers M)) (sym (more_is L i d m h is))
     (subst (λ (n : ℕ). IsLongest n (Covers (take i L ++ d ∷ []))) (ap size (sym e)) (longest_same L i (size x) d m h is so_far (omega (arith, lt, w))))
 
-pub longest_of_all : (L : List (ℤ × ℤ)) (i n : ℕ) → length L ≤ i → IsLongest n (Covers (take i L)) → IsLongest n (Covers L)
-longest_of_all L i n h = subst (λ (M : List (ℤ × ℤ)). IsLongest n (Covers M)) (take_all i L h)
-
 -- ---- the longest run after an edit
 
 -- numbers in a row that share one with a run lie in it
@@ -158,52 +155,11 @@ longest_grown k n S T run p old same filled r (more, wide, which) = record { fit
         share zero v f over down = omega arith
         share (suc m) v f over down = let le = in_run (suc m) T run v p.0 v r f (omega (arith, ints), omega (arith, ints)) (over, down) in omega (arith, le, wide)
 
--- p was removed from S, which left T, and lies in a run of S that is not the longest
-longest_kept : (k : ℕ) (S T : ℤ → Type 0) (run p : ℤ × ℤ) → IsLongest k S → SameMembers T (Without S (IsBetween p)) → IsRunWith p.0 S run → p.1 ≤ℤ run.1 → width_of run < k → IsLongest k T
-longest_kept k S T run p old same r high less = record {
-  fits = (
-    old.fits.0,
-    λ z b. (same z).1 (
-      old.fits.1 z b,
-      λ c. let low = r.holds.0 in
-          let lo = c.0 in
-          let hi = c.1 in
-          let le = in_run k S run old.fits.0 p.0 z r old.fits.1 b (omega (arith, ints, low, lo), omega (arith, ints, high, hi)) in
-          omega (arith, le, less),
-    ),
-  );
-  most = λ m v f. old.most m v (λ z b. ((same z).0 (f z b)).0);
-}
-
 -- the same where a search at v, the first number of p, found the run
 pub grown_by_run : (o : Option (ℤ × ℤ)) (k n : ℕ) (S T : ℤ → Type 0) (p : ℤ × ℤ) (v : ℤ) → v ≡ p.0 → IsLongest k S → SameMembers T (Union S (IsBetween p)) → p.0 ≤ℤ p.1 → MatchOption o (¬ (T v)) (IsRunWith v T) →
     MatchOption o (n ≡ k) (λ run. (k ≤ n) × (width_of run ≤ n) × ((n ≡ k) ⊎ (n ≡ width_of run))) → IsLongest n T
 grown_by_run None k n S T p v e old same filled free h = absurd (free (subst T (sym e) ((same p.0).1 (inr (omega (arith, ints), filled)))))
 grown_by_run (Some run) k n S T p v e old same filled r h = longest_grown k n S T run p old same filled (subst (λ (x : ℤ). IsRunWith x T run) e r) h
-
-pub kept_by_run : (o : Option (ℤ × ℤ)) (k : ℕ) (S T : ℤ → Type 0) (p : ℤ × ℤ) (v : ℤ) → v ≡ p.0 → IsLongest k S → SameMembers T (Without S (IsBetween p)) → MatchOption o (¬ (S v)) (IsRunWith v S) →
-    IsSomeAnd o (λ run. (p.1 ≤ℤ run.1) × (width_of run < k)) → IsLongest k T
-kept_by_run None k S T p v e old same free h = absurd h
-kept_by_run (Some run) k S T p v e old same r h = longest_kept k S T run p old same (subst (λ (x : ℤ). IsRunWith x S run) e r) h.0 h.1
-
--- what is said of the run that an option has
-pub of_some : (o : Option (ℤ × ℤ)) (run : ℤ × ℤ) (N : Type 0) (X : ℤ × ℤ → Type 0) → o ≡ Some run → X run → MatchOption o N X
-of_some None run N X e x = absurd (cc)
-of_some (Some p) run N X e x = let same : run ≡ p = cc in subst X same x
-
-pub some_with : (o : Option (ℤ × ℤ)) (run : ℤ × ℤ) (X : ℤ × ℤ → Type 0) → o ≡ Some run → X run → IsSomeAnd o X
-some_with None run X e x = absurd (cc)
-some_with (Some p) run X e x = let same : run ≡ p = cc in subst X same x
-
-pub longest_of_some : (n : ℕ) (S : ℤ → Type 0) (x : ℤ) → S x → IsLongest n S → 0 < n
-longest_of_some n S x c l = let one = l.most 1 x (λ z b. let low = b.0 in let high = b.1 in let same : x ≡ z = omega (arith, ints, low, high) in subst S same c) in omega (arith, one)
-
--- a search for as many numbers as the longest run had found some
-pub as_long_as_before : (n : ℕ) (S : ℤ → Type 0) (run : ℤ × ℤ) → ((m : ℕ) (v : ℤ) → FitsAt m S v → m ≤ n) → IsFirstFit n S run → IsLongest n S
-as_long_as_before n S run most f = record {
-  fits = (run.0, λ z b. let high = b.1 in let e = f.count in f.members z (b.0, omega (arith, ints, high, e)));
-  most = most;
-}
 
 -- ---- two lists of which one follows the other
 

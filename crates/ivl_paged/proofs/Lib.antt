@@ -4,3 +4,6 @@ pub mod Removing
 pub mod Iterating
 pub mod Fitting
 pub mod Counting
+pub mod Heads
+pub mod Widening
+pub mod Longest

@@ -23,7 +23,7 @@ side_of j k = ⊎_elim (λ lt. inl lt) (λ le. inr (⊎_elim (λ gt. inr gt) (λ
 at_same : (P : List (List (ℤ × ℤ))) (j k : ℕ) (z : ℤ) → j ≡ k → set_at P j z → set_at P k z
 at_same P j k z e c = subst (λ (i : ℕ). set_at P i z) e c
 
-beyond : (P : List (List (ℤ × ℤ))) (k : ℕ) (z : ℤ) → length P ≤ k → set_at P k z → ⊥
+pub beyond : (P : List (List (ℤ × ℤ))) (k : ℕ) (z : ℤ) → length P ≤ k → set_at P k z → ⊥
 beyond [] k z h c = c
 beyond (L ∷ P) zero z h c = absurd (omega arith)
 beyond (L ∷ P) (suc k) z h c = beyond P k z (omega arith) c

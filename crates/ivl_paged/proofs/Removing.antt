@@ -4,13 +4,15 @@ use Rattle.std.specs.Prelude.{Result, Ok, Err, OnOk}
 use Rattle.std.proofs.lemmas.Int.{ints}
 use Rattle.std.proofs.lemmas.List.{drop_at, length-take-le}
 use Rattle.ivl_laws.specs.Families.{set_at}
-use Rattle.ivl_laws.specs.Sets.{IsBetween, IsSubset, SameMembers, Union, Without}
+use Rattle.ivl_laws.specs.Sets.{IsBetween, IsSubset, Only, SameMembers, Union, Without}
 use Rattle.ivl_laws.specs.Runs.{Covers, IsMaximal, IsRunsOf}
 use Rattle.ivl_laws.proofs.Merging.{covers-append, covers-append_left, covers-append_right}
 use Rattle.ivl_laws.proofs.Runs.{runs_are_unique}
 use Rattle.intervallum.specs.Edits.{widened}
 use Rattle.intervallum.proofs.Splicing.{IsMaximal-append}
+use Rattle.intervallum.specs.Neighbours.{IsLeast}
 use Rattle.ivl_paged.specs.Pages.{IsPageCut, IsPageSpan, flattened}
+use Rattle.ivl_paged.proofs.Heads.{span_of_least}
 use Rattle.ivl_paged.proofs.Paging.{IsMaximal-dropped, IsMaximal-first, covers_page, cut_at, flattened-append, pages_ascend, removed, removed_from_one}
 
 -- ---- one page
@@ -23,14 +25,12 @@ set_is (L ∷ P) (suc i) M h =
     ap (λ (N : List (List (ℤ × ℤ))). L ∷ N) (set_is P i M (omega arith)) ∙ ap (λ (n : ℕ). take (suc i) (L ∷ P) ++ (M ∷ drop n (L ∷ P))) (sym e)
 
 -- the page lies within the interval
-pub cut_whole : (P : List (List (ℤ × ℤ))) (p : ℤ × ℤ) (i : ℕ) → IsSubset (set_at P i) (IsBetween p) → IsPageCut P p i (take i P ++ drop (suc i) P)
-cut_whole P p i within =
-    let more : suc i ≡ i + 1 = omega arith in
-    record {
-      left = [];
-      pages = ap (λ (n : ℕ). take i P ++ drop n P) more;
-      members = record { maximal = tt; members = λ z. ((λ c. absurd c), (λ (a, n). absurd (n (within z a)))) };
-    }
+pub cut_whole : (P : List (List (ℤ × ℤ))) (p : ℤ × ℤ) (i : ℕ) → IsSubset (set_at P i) (IsBetween p) → IsPageCut P p i (take i P ++ drop (i + 1) P)
+cut_whole P p i within = record {
+  left = [];
+  pages = refl;
+  members = record { maximal = tt; members = λ z. ((λ c. absurd c), (λ (a, n). absurd (n (within z a)))) };
+}
 
 pub cut_some : (P : List (List (ℤ × ℤ))) (M : List (ℤ × ℤ)) (p : ℤ × ℤ) (i : ℕ) → i < length P → IsRunsOf M (Without (set_at P i) (IsBetween p)) → IsPageCut P p i (set P i M)
 cut_some P M p i h made = record {
@@ -213,3 +213,17 @@ greatest_is_cut S v greatest h = let high = greatest (v +ℤ pos 1) (h (v +ℤ p
 pub on_ok_holds : {A E : Type 0} (X : Type 0) (r : Result A E) (a : A) → r ≡ Ok a → OnOk r X → X
 on_ok_holds X (Ok b) a e made = made
 on_ok_holds X (Err b) a e made = absurd (cc)
+
+-- the least number removed from the first page
+pub removed_least : (P Q : List (List (ℤ × ℤ))) (p : ℤ × ℤ) (v : ℤ) → IsMaximal (flattened P) → 0 < length P → p ≡ (v, v) → IsLeast v (set_at P 0) → IsPageCut P p 0 Q →
+    IsRunsOf (flattened Q) (Without (Covers (flattened P)) (Only v))
+removed_least P Q p v m some e l c =
+    let one : 1 - 0 ≡ 1 = omega arith in
+    let made = removed_once P Q (v, v) 0 1 m (span_of_least P v m some l) one (subst (λ (q : ℤ × ℤ). IsPageCut P q 0 Q) e c) in
+    record {
+      maximal = made.maximal;
+      members = λ z. (
+        (λ s. let (a, n) = (made.members z).0 s in (a, λ same. n (omega (arith, ints, same), omega (arith, ints, same)))),
+        (λ (a, n). (made.members z).1 (a, λ b. let low = b.0 in let high = b.1 in n (omega (arith, ints, low, high)))),
+      );
+    }

@@ -3,12 +3,16 @@
 --     StartsUpTo P v n      the first n pages have a number up to v, and the others none
 --     IsPageSpan P u v i j      the pages before i lie below u, those from j on above v, and those between i and the last within
 --     IsPageCut P p i Q      Q is P with the numbers of an interval removed from page i
+--     AreHeads value H P      each element of H is the least number of the page at its place
 --     IsLongest n S      n members of S stand in a row somewhere, and nowhere more
+--     IsLongestPart p S      p lies in S, and nowhere in S stand more numbers in a row than p has
 use Rattle.std.specs.Prelude.{◌≡◌, ℕ, ◌+◌, ◌-◌, ◌<◌, ◌≤◌, ℤ, pos, ◌+ℤ◌, ◌≤ℤ◌, ◌<ℤ◌, List, [], ◌∷◌, ◌++◌, drop, length, take}
 use Rattle.ivl_laws.specs.Families.{set_at}
-use Rattle.ivl_laws.specs.Sets.{IsBetween, Without}
-use Rattle.ivl_laws.specs.Runs.{IsRunsOf}
+use Rattle.ivl_laws.specs.Bounds.{width_of}
+use Rattle.ivl_laws.specs.Sets.{IsBetween, IsSubset, Without}
+use Rattle.ivl_laws.specs.Runs.{Covers, IsRunsOf}
 use Rattle.intervallum.specs.FirstFit.{FitsAt}
+use Rattle.intervallum.specs.Neighbours.{IsLeast}
 
 abbrev pub flattened : List (List (ℤ × ℤ)) → List (ℤ × ℤ)
 flattened [] = []
@@ -35,7 +39,19 @@ pub record IsPageCut (P : List (List (ℤ × ℤ))) (p : ℤ × ℤ) (i : ℕ) (
   pub pages : Q ≡ take i P ++ (left ++ drop (i + 1) P)
   pub members : IsRunsOf (flattened left) (Without (set_at P i) (IsBetween p))
 
+-- there are as many as pages; each has a number, by `value`
+abbrev pub AreHeads : {X : Type 0} → (X → ℤ) → List X → List (List (ℤ × ℤ)) → Type 0
+AreHeads value [] [] = Unit {0}
+AreHeads value [] (L ∷ P) = ⊥
+AreHeads value (h ∷ H) [] = ⊥
+AreHeads value (h ∷ H) (L ∷ P) = IsLeast (value h) (Covers L) × AreHeads value H P
+
 -- what the longest run of a page has
 pub record IsLongest (n : ℕ) (S : ℤ → Type 0) : Type 0 where
   pub fits : (v : ℤ) × FitsAt n S v
   pub most : (m : ℕ) (v : ℤ) → FitsAt m S v → m ≤ n
+
+-- the longest run, or one of them
+pub record IsLongestPart (p : ℤ × ℤ) (S : ℤ → Type 0) : Type 0 where
+  pub inside : IsSubset (IsBetween p) S
+  pub longest : IsLongest (width_of p) S

@@ -16,6 +16,7 @@
 #![tactic(auto)]
 
 mod page;
+mod page_list;
 pub mod paged_set;
 mod pages;
 

@@ -14,7 +14,7 @@ mod neighbours;
 mod rank;
 mod text;
 
-use crate::page::Page;
+use crate::page_list::PageList;
 use crate::pages;
 use intervallum::interval::Interval;
 use intervallum::interval_set::IntervalSet;
@@ -28,10 +28,10 @@ use std::marker::Model;
 /// A set of integers for many runs that change. A contract sees the list of its runs, each a pair
 /// of numbers, as it does of an `IntervalSet`.
 ///
-/// The runs stand in pages of fewer than 128, each with its least member in the list of pages, where
-/// a search begins. An edit in one page moves the runs of that page. A page that gets 128 is split in
-/// two, which moves the list of pages; if there is no memory for that, the page grows. A page that
-/// gets at most half of that is joined with a neighbour if both then have at most 96. A page is
+/// The runs stand in pages of fewer than 128. The least members of the pages stand in a list of their
+/// own, where a search begins. An edit in one page moves the runs of that page. A page that gets 128
+/// is split in two, which moves both lists; if there is no memory for that, the page grows. A page
+/// that gets at most half of that is joined with a neighbour if both then have at most 96. A page is
 /// removed when it is empty.
 ///
 /// If an allocation fails, the set is unchanged.
@@ -45,7 +45,7 @@ use std::marker::Model;
 #[derive(Drop)]
 pub struct PagedSet<B: Width> {
     alloc: Global,
-    pages: Vec<Page<B>>,
+    pages: PageList<B>,
     /// How many runs the pages have together.
     count: usize,
 }
@@ -53,9 +53,9 @@ pub struct PagedSet<B: Width> {
 impl<B: Width> Model for PagedSet<B> {
     ghost Value = { List (ℤ × ℤ) };
 
-    ghost view = { λ s. flattened s.pages.items };
+    ghost view = { λ s. flattened s.pages };
 
-    ghost invariant = { λ s. IsRunListIn B.whole (flattened s.pages.items) × (s.count ≡ length (flattened s.pages.items)) };
+    ghost invariant = { λ s. IsRunListIn B.whole (flattened s.pages) × (s.count ≡ length (flattened s.pages)) };
 }
 
 impl<B: Width> PagedSet<B> {
@@ -69,7 +69,7 @@ impl<B: Width> PagedSet<B> {
     {
         PagedSet {
             alloc,
-            pages: Vec::new(alloc),
+            pages: PageList::new(alloc),
             count: 0,
         }
     }
@@ -111,7 +111,7 @@ impl<B: Width> PagedSet<B> {
             return true;
         }
         // a page has a member
-        self.pages[0].head();
+        self.pages.head(0);
         false
     }
 
@@ -126,11 +126,11 @@ impl<B: Width> PagedSet<B> {
     pub fn contains(&self, value: &B) -> bool
         ensures { IsTrue result ↔ Covers self.now (B.value value.now) }
     {
-        let count = pages::starts_up_to(&self.pages, *value);
+        let count = self.pages.starts_up_to(*value);
         if count == 0 {
             return false;
         }
-        self.pages[count - 1].set().contains(value)
+        self.pages.page(count - 1).set().contains(value)
     }
 
     /// Adds a value. Returns true exactly when it was not a member before.
@@ -157,11 +157,8 @@ impl<B: Width> PagedSet<B> {
         ensures err { OnErr result (self.new ≡ self.old) }
     {
         self.in_whole();
-        if self.contains(&value) {
-            return Ok(false);
-        }
-        self.insert_interval(Interval::singleton(value))?;
-        Ok(true)
+        let was_member = self.add(Interval::singleton(value))?;
+        Ok(!was_member)
     }
 
     /// Removes a value, which may be any value of its type. Returns true exactly when it was a
@@ -184,11 +181,10 @@ impl<B: Width> PagedSet<B> {
         ensures err { OnErr result (self.new ≡ self.old) }
     {
         self.in_whole();
-        if !self.contains(&value) {
+        if !Interval::in_range(value, value) {
             return Ok(false);
         }
-        self.remove_interval(Interval::singleton(value))?;
-        Ok(true)
+        self.cut(Interval::singleton(value))
     }
 
     /// Adds the members of an interval, which may be empty.
@@ -215,13 +211,25 @@ impl<B: Width> PagedSet<B> {
         if interval.is_empty() {
             return Ok(());
         }
+        self.add(interval)?;
+        Ok(())
+    }
+
+    /// Adds the members of an interval. Returns true exactly when its first number was a member.
+    fn add(&mut self, interval: Interval<B>) -> Result<bool, AllocError>
+        requires { interval.0 ≤ℤ interval.1 }
+        ensures ok { OnOk result (IsRunsOf self.new (Union (Covers self.old) (IsBetween interval))) }
+        ensures was_member { IfOk result (λ was_member. IsTrue was_member ↔ Covers self.old interval.0) }
+        ensures err { OnErr result (self.new ≡ self.old) }
+    {
         interval.in_whole();
         if self.pages.is_empty() {
             self.count = pages::push_first(self.alloc, &mut self.pages, interval)?;
-            return Ok(());
+            return Ok(false);
         }
-        self.count = pages::insert_interval(&mut self.pages, self.count, interval)?;
-        Ok(())
+        let (count, was_member) = pages::insert_interval(&mut self.pages, self.count, interval)?;
+        self.count = count;
+        Ok(was_member)
     }
 
     /// Removes the members of an interval, which may be empty.
@@ -248,15 +256,32 @@ impl<B: Width> PagedSet<B> {
         ensures in_place { ¬ (IsSubset (IsBetween (widened interval)) (Covers self.old)) → IsOk result }
     {
         self.in_whole();
-        if interval.is_empty() || self.pages.is_empty() {
+        if interval.is_empty() {
             return Ok(());
         }
-        self.count = pages::remove_interval(&mut self.pages, self.count, interval)?;
+        self.cut(interval)?;
         Ok(())
     }
 
-    /// Removes and returns the least member, or returns `None` if the set is empty. `O(log n)`; if a
-    /// page then has no runs, the list of pages moves. Never fails.
+    /// Removes the members of an interval. Returns true exactly when its first number was a member.
+    fn cut(&mut self, interval: Interval<B>) -> Result<bool, AllocError>
+        requires { interval.0 ≤ℤ interval.1 }
+        ensures ok { OnOk result (IsRunsOf self.new (Without (Covers self.old) (IsBetween interval))) }
+        ensures was_member { IfOk result (λ was_member. IsTrue was_member ↔ Covers self.old interval.0) }
+        ensures err { OnErr result (self.new ≡ self.old) }
+        ensures in_place { ¬ (IsSubset (IsBetween (widened interval)) (Covers self.old)) → IsOk result }
+    {
+        if self.pages.is_empty() {
+            return Ok(false);
+        }
+        let (count, was_member) = pages::remove_interval(&mut self.pages, self.count, interval)?;
+        self.count = count;
+        Ok(was_member)
+    }
+
+    /// Removes and returns the least member, or returns `None` if the set is empty. Searches the first
+    /// page alone, and moves its runs: `O(log n)`. If it then has no runs, the list of pages moves.
+    /// Never fails.
     ///
     /// ```
     /// let mut a = PagedSet::new(alloc);
@@ -272,13 +297,12 @@ impl<B: Width> PagedSet<B> {
         ensures in_range { IfSome result (λ v. IsBetween B.whole (B.value v)) }
     {
         self.in_whole();
-        match self.first() {
-            Some(least) => {
-                self.remove_interval(Interval::singleton(least)).unwrap();
-                Some(least)
-            }
-            None => None,
+        if self.pages.is_empty() {
+            return None;
         }
+        let (count, least) = pages::pop_first(&mut self.pages, self.count);
+        self.count = count;
+        Some(least)
     }
 
     /// Removes and returns the greatest member, or returns `None` if the set is empty. `O(log n)`.
@@ -348,7 +372,7 @@ impl<B: Width> PagedSet<B> {
         ensures { IfOk result (λ L. L ≡ self.now) }
     {
         let mut runs = Vec::new(self.alloc);
-        for page in &self.pages {
+        for page in self.pages.as_slice() {
             runs.extend_from_slice(page.set().iter().as_slice())?;
         }
         coalesce(self.alloc, runs)

@@ -1,8 +1,8 @@
 //! Searches and edits in a list of pages, which together hold one list of runs.
-ghost use Rattle.std.specs.Prelude.{◌≡◌, ◌⊎◌, ◌++◌, ◌+◌, ◌<◌, ◌≤◌, ℤ, pos, ◌+ℤ◌, ◌≤ℤ◌, List, [], drop, length, set, take, slice_index_or, IfOk, IsOk, MatchOption, OnErr, OnOk};
+ghost use Rattle.std.specs.Prelude.{◌≡◌, ◌↔◌, ◌⊎◌, ◌++◌, ◌+◌, ◌<◌, ◌≤◌, ℤ, pos, ◌+ℤ◌, ◌≤ℤ◌, List, [], drop, length, set, take, slice_index_or, IfOk, IsOk, IsTrue, MatchOption, OnErr, OnOk};
 ghost use Rattle.ivl_laws.specs.Counts.{IsCountOf};
 ghost use Rattle.ivl_laws.specs.Families.{set_at};
-ghost use Rattle.ivl_laws.specs.Sets.{AtLeast, HasNone, IsBetween, IsSubset, Union, Without};
+ghost use Rattle.ivl_laws.specs.Sets.{AtLeast, HasNone, IsBetween, IsSubset, Only, Union, Without};
 ghost use Rattle.ivl_laws.specs.Runs.{Covers, IsMaximal, IsRunListIn, IsRunsOf};
 ghost use Rattle.intervallum.specs.Edits.{widened};
 ghost use Rattle.intervallum.specs.FirstFit.{FitsAt, IsFirstFit};
@@ -10,13 +10,15 @@ ghost use Rattle.intervallum.specs.Neighbours.{IsLeast};
 ghost use Rattle.ivl_paged.specs.Pages.{IsPageCut, IsPageSpan, StartsUpTo, flattened};
 
 use crate::page::Page;
+use crate::page_list::PageList;
 use intervallum::interval::Interval;
 use intervallum::interval_set::IntervalSet;
-use intervallum::ops::{Bounded, Cardinality, IsEmpty, ShrinkLeft, StrictShrinkRight, Union};
+use intervallum::ops::{
+    Bounded, Cardinality, Contains, IsEmpty, ShrinkLeft, Singleton, StrictShrinkRight, Union,
+};
 use intervallum::sweep::coalesce;
 use intervallum::width::{SizeNumber, Width};
 use std::alloc::{AllocError, Global};
-use std::hint::select_unpredictable;
 
 /// A page that gets so many runs is split, unless there is no memory for it. With 8 in its place, the
 /// tests split and join pages at almost every edit.
@@ -32,11 +34,11 @@ const FIRST_RUNS: usize = MOST_RUNS / 4 * 3;
 pub(crate) fn pages_of<B: Width>(
     alloc: Global,
     runs: &[Interval<B>],
-) -> Result<Vec<Page<B>>, AllocError>
+) -> Result<PageList<B>, AllocError>
     requires { IsMaximal runs.now }
-    ensures { IfOk result (λ pages. flattened pages.items ≡ runs.now) }
+    ensures { IfOk result (λ pages. flattened pages ≡ runs.now) }
 {
-    let mut pages = Vec::new(alloc);
+    let mut pages = PageList::new(alloc);
     let mut start = 0;
     'parts: while start < runs.len() {
         let end = start.saturating_add(FIRST_RUNS).min(runs.len());
@@ -64,22 +66,6 @@ pub(crate) fn copy_of<B: Width>(alloc: Global, page: &Page<B>) -> Result<Page<B>
     ensures { IfOk result (λ L. L ≡ page.now) }
 {
     page_of(alloc, page.set().runs())
-}
-
-/// How many pages start at a value or below. Binary search.
-pub(crate) fn starts_up_to<B: Width>(pages: &[Page<B>], value: B) -> usize
-    requires { IsMaximal (flattened pages.now) }
-    ensures { StartsUpTo pages.now (B.value value) result }
-{
-    let mut first = 0;
-    let mut left = pages.len();
-    'search: while 0 < left {
-        let half = left - left / 2;
-        left -= half;
-        let is_up_to = pages[first + half - 1].head() <= value;
-        first = select_unpredictable(is_up_to, first + half, first);
-    }
-    first
 }
 
 /// How many members pages have together.
@@ -160,15 +146,31 @@ pub(crate) fn fit_within<B: Width>(
 
 /// The places of the pages that a change of the numbers from `lower` to `upper` may touch: the
 /// first, and the one after the last. It is one page at least.
-fn span<B: Width>(pages: &[Page<B>], lower: B, upper: B) -> (usize, usize)
+fn span<B: Width>(pages: &PageList<B>, lower: B, upper: B) -> (usize, usize)
     requires some { 0 < length pages.now }
     requires runs { IsMaximal (flattened pages.now) }
     requires in_order { B.value lower ≤ℤ B.value upper }
     ensures { IsPageSpan pages.now (B.value lower) (B.value upper) result.0 result.1 }
 {
-    let start = starts_up_to(pages, lower);
-    let end = starts_up_to(pages, upper);
+    let start = pages.starts_up_to(lower);
+    let end = starts_from(pages, start, upper);
     (start.saturating_sub(1), end.max(1))
+}
+
+/// How many pages start at a value or below, of which `start` do that start at a lower one. The next
+/// page mostly starts above the value, and then no search is needed.
+fn starts_from<B: Width>(pages: &PageList<B>, start: usize, value: B) -> usize
+    requires runs { IsMaximal (flattened pages.now) }
+    requires starts { (u : ℤ) × (u ≤ℤ B.value value) × StartsUpTo pages.now u start }
+    ensures { StartsUpTo pages.now (B.value value) result }
+{
+    if pages.len() <= start {
+        return start;
+    }
+    if value < pages.head(start) {
+        return start;
+    }
+    pages.starts_up_to(value)
 }
 
 /// The number after, or the number itself if it is the greatest of the range.
@@ -185,14 +187,14 @@ fn one_above<B: Width>(value: B) -> B
 /// Puts an interval into the first page of a list that has none. Returns how many runs there are.
 pub(crate) fn push_first<B: Width>(
     alloc: Global,
-    pages: &mut Vec<Page<B>>,
+    pages: &mut PageList<B>,
     interval: Interval<B>,
 ) -> Result<usize, AllocError>
     requires filled { interval.0 ≤ℤ interval.1 }
-    requires none { pages.old.items ≡ [] }
-    ensures ok { OnOk result (IsRunsOf (flattened pages.new.items) (IsBetween interval)) }
-    ensures count { IfOk result (λ n. n ≡ length (flattened pages.new.items)) }
-    ensures err { OnErr result (flattened pages.new.items ≡ flattened pages.old.items) }
+    requires none { pages.old ≡ [] }
+    ensures ok { OnOk result (IsRunsOf (flattened pages.new) (IsBetween interval)) }
+    ensures count { IfOk result (λ n. n ≡ length (flattened pages.new)) }
+    ensures err { OnErr result (flattened pages.new ≡ flattened pages.old) }
 {
     let first = IntervalSet::of(alloc, interval)?;
     let count = first.interval_count();
@@ -201,19 +203,20 @@ pub(crate) fn push_first<B: Width>(
 }
 
 /// Adds the members of an interval to pages of which there is one at least, with `count` runs.
-/// Returns how many runs there are then.
+/// Returns how many runs there are then, and whether the first number of the interval was a member.
 pub(crate) fn insert_interval<B: Width>(
-    pages: &mut Vec<Page<B>>,
+    pages: &mut PageList<B>,
     count: usize,
     interval: Interval<B>,
-) -> Result<usize, AllocError>
+) -> Result<(usize, bool), AllocError>
     requires filled { interval.0 ≤ℤ interval.1 }
-    requires some { 0 < length pages.old.items }
-    requires runs { IsRunListIn B.whole (flattened pages.old.items) }
-    requires count { count ≡ length (flattened pages.old.items) }
-    ensures count { IfOk result (λ n. n ≡ length (flattened pages.new.items)) }
-    ensures ok { OnOk result (IsRunsOf (flattened pages.new.items) (Union (Covers (flattened pages.old.items)) (IsBetween interval))) }
-    ensures err { OnErr result (flattened pages.new.items ≡ flattened pages.old.items) }
+    requires some { 0 < length pages.old }
+    requires runs { IsRunListIn B.whole (flattened pages.old) }
+    requires count { count ≡ length (flattened pages.old) }
+    ensures count { IfOk result (λ r. r.0 ≡ length (flattened pages.new)) }
+    ensures was_member { IfOk result (λ r. IsTrue r.1 ↔ Covers (flattened pages.old) interval.0) }
+    ensures ok { OnOk result (IsRunsOf (flattened pages.new) (Union (Covers (flattened pages.old)) (IsBetween interval))) }
+    ensures err { OnErr result (flattened pages.new ≡ flattened pages.old) }
 {
     // no memory holds more runs than a `usize` counts
     if count == usize::MAX {
@@ -222,184 +225,191 @@ pub(crate) fn insert_interval<B: Width>(
     interval.in_whole();
     let upper = one_above(interval.upper());
     let (start, end) = span(pages, interval.lower(), upper);
-    let count = insert_between(pages, count, start, end, interval)?;
+    let edit = insert_between(pages, count, start, end, interval)?;
     balance(pages, start);
-    Ok(count)
+    Ok(edit)
 }
 
 /// Adds the members of an interval to the pages from `start` to before `end`, where there are
-/// `count` runs in all. Returns how many there are then.
+/// `count` runs in all. Returns what [`insert_interval`] does.
 fn insert_between<B: Width>(
-    pages: &mut Vec<Page<B>>,
+    pages: &mut PageList<B>,
     count: usize,
     start: usize,
     end: usize,
     interval: Interval<B>,
-) -> Result<usize, AllocError>
+) -> Result<(usize, bool), AllocError>
     requires filled { interval.0 ≤ℤ interval.1 }
-    requires runs { IsRunListIn B.whole (flattened pages.old.items) }
-    requires count { count ≡ length (flattened pages.old.items) }
+    requires runs { IsRunListIn B.whole (flattened pages.old) }
+    requires count { count ≡ length (flattened pages.old) }
     requires room { count < usize.MAX }
-    requires span { (v : ℤ) × ((v ≡ interval.1 +ℤ pos 1) ⊎ ((v ≡ interval.1) × (interval.1 ≡ B.whole.1))) × IsPageSpan pages.old.items interval.0 v start end }
-    ensures ok { OnOk result (IsRunsOf (flattened pages.new.items) (Union (Covers (flattened pages.old.items)) (IsBetween interval))) }
-    ensures count { IfOk result (λ n. n ≡ length (flattened pages.new.items)) }
-    ensures err { OnErr result (flattened pages.new.items ≡ flattened pages.old.items) }
+    requires span { (v : ℤ) × ((v ≡ interval.1 +ℤ pos 1) ⊎ ((v ≡ interval.1) × (interval.1 ≡ B.whole.1))) × IsPageSpan pages.old interval.0 v start end }
+    ensures ok { OnOk result (IsRunsOf (flattened pages.new) (Union (Covers (flattened pages.old)) (IsBetween interval))) }
+    ensures count { IfOk result (λ r. r.0 ≡ length (flattened pages.new)) }
+    ensures was_member { IfOk result (λ r. IsTrue r.1 ↔ set_at pages.old start interval.0) }
+    ensures err { OnErr result (flattened pages.new ≡ flattened pages.old) }
 {
     if end - start == 1 {
         return insert_into_one(pages, count, start, interval);
     }
-    let others = runs_beside(&pages[start..end], count);
-    let mut joined = pages[start].set().union(pages[end - 1].set())?;
+    let others = runs_beside(&pages.as_slice()[start..end], count);
+    let was_member = pages.page(start).set().contains(&interval.lower());
+    let mut joined = pages.page(start).set().union(pages.page(end - 1).set())?;
     joined.insert_interval(interval)?;
     let here = joined.interval_count();
     replace(pages, start, end, joined);
-    Ok(others + here)
+    Ok((others + here, was_member))
 }
 
 /// Adds the members of an interval to page `i`, where there are `count` runs in all. Returns how many
-/// there are then.
+/// there are then, and whether the first number of the interval was a member of the page.
 fn insert_into_one<B: Width>(
-    pages: &mut Vec<Page<B>>,
+    pages: &mut PageList<B>,
     count: usize,
     i: usize,
     interval: Interval<B>,
-) -> Result<usize, AllocError>
+) -> Result<(usize, bool), AllocError>
     requires filled { interval.0 ≤ℤ interval.1 }
-    requires less { i < length pages.old.items }
-    requires count { count ≡ length (flattened pages.old.items) }
+    requires less { i < length pages.old }
+    requires count { count ≡ length (flattened pages.old) }
     requires room { count < usize.MAX }
-    ensures ok { OnOk result ((L : List (ℤ × ℤ)) × (pages.new.items ≡ set pages.old.items i L) × IsRunsOf L (Union (set_at pages.old.items i) (IsBetween interval))) }
-    ensures count { IfOk result (λ n. n ≡ length (flattened pages.new.items)) }
-    ensures err { OnErr result (pages.new.items ≡ pages.old.items) }
+    ensures ok { OnOk result ((L : List (ℤ × ℤ)) × (pages.new ≡ set pages.old i L) × IsRunsOf L (Union (set_at pages.old i) (IsBetween interval))) }
+    ensures count { IfOk result (λ r. r.0 ≡ length (flattened pages.new)) }
+    ensures was_member { IfOk result (λ r. IsTrue r.1 ↔ set_at pages.old i interval.0) }
+    ensures err { OnErr result (pages.new ≡ pages.old) }
 {
-    let page = &mut pages[i];
-    let others = count - page.set().interval_count();
-    page.insert_interval(interval)?;
-    Ok(others + page.set().interval_count())
+    let others = count - pages.page(i).set().interval_count();
+    let was_member = pages.insert_into(i, interval)?;
+    Ok((others + pages.page(i).set().interval_count(), was_member))
 }
 
 /// Removes the members of an interval from pages of which there is one at least, with `count` runs.
-/// Returns how many runs there are then.
+/// Returns how many runs there are then, and whether the first number of the interval was a member.
 pub(crate) fn remove_interval<B: Width>(
-    pages: &mut Vec<Page<B>>,
+    pages: &mut PageList<B>,
     count: usize,
     interval: Interval<B>,
-) -> Result<usize, AllocError>
+) -> Result<(usize, bool), AllocError>
     requires filled { interval.0 ≤ℤ interval.1 }
-    requires some { 0 < length pages.old.items }
-    requires runs { IsRunListIn B.whole (flattened pages.old.items) }
-    requires count { count ≡ length (flattened pages.old.items) }
-    ensures count { IfOk result (λ n. n ≡ length (flattened pages.new.items)) }
-    ensures ok { OnOk result (IsRunsOf (flattened pages.new.items) (Without (Covers (flattened pages.old.items)) (IsBetween interval))) }
-    ensures err { OnErr result (flattened pages.new.items ≡ flattened pages.old.items) }
-    ensures in_place { ¬ (IsSubset (IsBetween (widened interval)) (Covers (flattened pages.old.items))) → IsOk result }
+    requires some { 0 < length pages.old }
+    requires runs { IsRunListIn B.whole (flattened pages.old) }
+    requires count { count ≡ length (flattened pages.old) }
+    ensures count { IfOk result (λ r. r.0 ≡ length (flattened pages.new)) }
+    ensures was_member { IfOk result (λ r. IsTrue r.1 ↔ Covers (flattened pages.old) interval.0) }
+    ensures ok { OnOk result (IsRunsOf (flattened pages.new) (Without (Covers (flattened pages.old)) (IsBetween interval))) }
+    ensures err { OnErr result (flattened pages.new ≡ flattened pages.old) }
+    ensures in_place { ¬ (IsSubset (IsBetween (widened interval)) (Covers (flattened pages.old))) → IsOk result }
 {
     let (start, end) = span(pages, interval.lower(), interval.upper());
-    let count = remove_between(pages, count, start, end, interval)?;
+    let edit = remove_between(pages, count, start, end, interval)?;
     balance(pages, start);
-    Ok(count)
+    Ok(edit)
 }
 
 /// Removes the members of an interval from the pages from `start` to before `end`, where there are
 /// `count` runs in all. Of several, the first and the last are cut, and those between removed:
-/// nothing is allocated. Returns how many runs there are then.
+/// nothing is allocated. Returns what [`remove_interval`] does.
 fn remove_between<B: Width>(
-    pages: &mut Vec<Page<B>>,
+    pages: &mut PageList<B>,
     count: usize,
     start: usize,
     end: usize,
     interval: Interval<B>,
-) -> Result<usize, AllocError>
+) -> Result<(usize, bool), AllocError>
     requires filled { interval.0 ≤ℤ interval.1 }
-    requires runs { IsRunListIn B.whole (flattened pages.old.items) }
-    requires count { count ≡ length (flattened pages.old.items) }
-    requires span { IsPageSpan pages.old.items interval.0 interval.1 start end }
-    ensures count { IfOk result (λ n. n ≡ length (flattened pages.new.items)) }
-    ensures ok { OnOk result (IsRunsOf (flattened pages.new.items) (Without (Covers (flattened pages.old.items)) (IsBetween interval))) }
-    ensures err { OnErr result (flattened pages.new.items ≡ flattened pages.old.items) }
-    ensures in_place { ¬ (IsSubset (IsBetween (widened interval)) (Covers (flattened pages.old.items))) → IsOk result }
+    requires runs { IsRunListIn B.whole (flattened pages.old) }
+    requires count { count ≡ length (flattened pages.old) }
+    requires span { IsPageSpan pages.old interval.0 interval.1 start end }
+    ensures count { IfOk result (λ r. r.0 ≡ length (flattened pages.new)) }
+    ensures was_member { IfOk result (λ r. IsTrue r.1 ↔ set_at pages.old start interval.0) }
+    ensures ok { OnOk result (IsRunsOf (flattened pages.new) (Without (Covers (flattened pages.old)) (IsBetween interval))) }
+    ensures err { OnErr result (flattened pages.new ≡ flattened pages.old) }
+    ensures in_place { ¬ (IsSubset (IsBetween (widened interval)) (Covers (flattened pages.old))) → IsOk result }
 {
     if end - start == 1 {
         return remove_from_one(pages, count, start, interval);
     }
-    let count = remove_from_one(pages, count, end - 1, interval).unwrap();
-    let count = runs_beside(&pages[start + 1..end - 1], count);
-    take_out(pages, start + 1, end - 1);
-    let count = remove_from_one(pages, count, start, interval).unwrap();
-    Ok(count)
+    let was_member = pages.page(start).set().contains(&interval.lower());
+    let (count, _) = remove_from_one(pages, count, end - 1, interval).unwrap();
+    let count = runs_beside(&pages.as_slice()[start + 1..end - 1], count);
+    pages.take_out(start + 1, end - 1);
+    let (count, _) = remove_from_one(pages, count, start, interval).unwrap();
+    Ok((count, was_member))
 }
 
 /// Removes the members of an interval from page `i`, and the page if it has no others, where there
-/// are `count` runs in all. Returns how many runs there are then.
+/// are `count` runs in all. Returns how many runs there are then, and whether the first number of the
+/// interval was a member of the page.
 fn remove_from_one<B: Width>(
-    pages: &mut Vec<Page<B>>,
+    pages: &mut PageList<B>,
     count: usize,
     i: usize,
     interval: Interval<B>,
-) -> Result<usize, AllocError>
+) -> Result<(usize, bool), AllocError>
     requires filled { interval.0 ≤ℤ interval.1 }
-    requires less { i < length pages.old.items }
-    requires count { count ≡ length (flattened pages.old.items) }
-    ensures ok { OnOk result (IsPageCut pages.old.items interval i pages.new.items) }
-    ensures count { IfOk result (λ n. n ≡ length (flattened pages.new.items)) }
-    ensures err { OnErr result (pages.new.items ≡ pages.old.items) }
-    ensures in_place { ¬ (IsSubset (IsBetween (widened interval)) (set_at pages.old.items i)) → IsOk result }
+    requires less { i < length pages.old }
+    requires count { count ≡ length (flattened pages.old) }
+    ensures ok { OnOk result (IsPageCut pages.old interval i pages.new) }
+    ensures count { IfOk result (λ r. r.0 ≡ length (flattened pages.new)) }
+    ensures was_member { IfOk result (λ r. IsTrue r.1 ↔ set_at pages.old i interval.0) }
+    ensures err { OnErr result (pages.new ≡ pages.old) }
+    ensures in_place { ¬ (IsSubset (IsBetween (widened interval)) (set_at pages.old i)) → IsOk result }
 {
-    let page = &mut pages[i];
+    let page = pages.page(i);
     let others = count - page.set().interval_count();
     if page.lies_within(&interval) {
+        let was_member = page.set().contains(&interval.lower());
         pages.remove(i);
-        return Ok(others);
+        return Ok((others, was_member));
     }
     // no memory holds more runs than a `usize` counts
     if count == usize::MAX && page.has_inside(&interval) {
         return Err(AllocError);
     }
-    page.remove_interval(interval)?;
-    Ok(others + page.set().interval_count())
+    let was_member = pages.remove_from(i, interval)?;
+    Ok((others + pages.page(i).set().interval_count(), was_member))
+}
+
+/// Removes the least member from pages of which there is one at least, with `count` runs. Returns how
+/// many runs there are then, and that member.
+pub(crate) fn pop_first<B: Width>(pages: &mut PageList<B>, count: usize) -> (usize, B)
+    requires some { 0 < length pages.old }
+    requires runs { IsRunListIn B.whole (flattened pages.old) }
+    requires count { count ≡ length (flattened pages.old) }
+    ensures count { result.0 ≡ length (flattened pages.new) }
+    ensures least { IsLeast (B.value result.1) (Covers (flattened pages.old)) }
+    ensures rest { IsRunsOf (flattened pages.new) (Without (Covers (flattened pages.old)) (Only (B.value result.1))) }
+{
+    let least = pages.head(0);
+    let (count, _) = remove_from_one(pages, count, 0, Interval::singleton(least)).unwrap();
+    balance(pages, 0);
+    (count, least)
 }
 
 /// Puts one page, or none if the set is empty, in the place of those from `start` to before `end`.
-fn replace<B: Width>(pages: &mut Vec<Page<B>>, start: usize, end: usize, set: IntervalSet<B>)
+fn replace<B: Width>(pages: &mut PageList<B>, start: usize, end: usize, set: IntervalSet<B>)
     requires in_order { start < end }
-    requires at_most { end ≤ length pages.old.items }
-    ensures { flattened pages.new.items ≡ flattened (take start pages.old.items) ++ (set ++ flattened (drop end pages.old.items)) }
+    requires at_most { end ≤ length pages.old }
+    ensures { flattened pages.new ≡ flattened (take start pages.old) ++ (set ++ flattened (drop end pages.old)) }
 {
     if set.is_empty() {
-        take_out(pages, start, end);
+        pages.take_out(start, end);
     } else {
-        take_out(pages, start + 1, end);
-        put(pages, start, Page::of(set));
+        pages.take_out(start + 1, end);
+        pages.put(start, Page::of(set));
     }
-}
-
-/// Takes out the pages from `start` to before `end`.
-fn take_out<B: Width>(pages: &mut Vec<Page<B>>, start: usize, end: usize)
-    requires in_order { start ≤ end }
-    requires at_most { end ≤ length pages.old.items }
-    ensures { pages.new.items ≡ take start pages.old.items ++ drop end pages.old.items }
-{
-    drop(pages.drain(start..end));
-}
-
-/// Puts a page in the place of another.
-fn put<B: Width>(pages: &mut Vec<Page<B>>, i: usize, page: Page<B>)
-    requires { i < length pages.old.items }
-    ensures { pages.new.items ≡ set pages.old.items i page }
-{
-    pages[i] = page;
 }
 
 /// Splits page `i` if there is one and it is full, or joins it with a neighbour if both have few
 /// runs. If allocation fails, the pages stay as they are.
-fn balance<B: Width>(pages: &mut Vec<Page<B>>, i: usize)
-    requires { IsMaximal (flattened pages.old.items) }
-    ensures { flattened pages.new.items ≡ flattened pages.old.items }
+fn balance<B: Width>(pages: &mut PageList<B>, i: usize)
+    requires { IsMaximal (flattened pages.old) }
+    ensures { flattened pages.new ≡ flattened pages.old }
 {
     if pages.len() <= i {
         return;
     }
-    let count = pages[i].set().interval_count();
+    let count = pages.page(i).set().interval_count();
     if count >= MOST_RUNS {
         // without memory the page grows beyond its measure
         let _split = split(pages, i);
@@ -409,10 +419,10 @@ fn balance<B: Width>(pages: &mut Vec<Page<B>>, i: usize)
 }
 
 /// Joins page `i` with the one after it, and with the one before it, where both have few runs.
-fn join_neighbours<B: Width>(pages: &mut Vec<Page<B>>, i: usize)
-    requires runs { IsMaximal (flattened pages.old.items) }
-    requires less { i < length pages.old.items }
-    ensures { flattened pages.new.items ≡ flattened pages.old.items }
+fn join_neighbours<B: Width>(pages: &mut PageList<B>, i: usize)
+    requires runs { IsMaximal (flattened pages.old) }
+    requires less { i < length pages.old }
+    ensures { flattened pages.new ≡ flattened pages.old }
 {
     join_if_few(pages, i);
     if i > 0 {
@@ -421,15 +431,15 @@ fn join_neighbours<B: Width>(pages: &mut Vec<Page<B>>, i: usize)
 }
 
 /// Joins page `i` with the one after it, if there is one and both have few runs together.
-fn join_if_few<B: Width>(pages: &mut Vec<Page<B>>, i: usize)
-    requires { IsMaximal (flattened pages.old.items) }
-    ensures { flattened pages.new.items ≡ flattened pages.old.items }
+fn join_if_few<B: Width>(pages: &mut PageList<B>, i: usize)
+    requires { IsMaximal (flattened pages.old) }
+    ensures { flattened pages.new ≡ flattened pages.old }
 {
     if pages.len() < 2 || pages.len() - 2 < i {
         return;
     }
-    let here = pages[i].set().interval_count();
-    let next = pages[i + 1].set().interval_count();
+    let here = pages.page(i).set().interval_count();
+    let next = pages.page(i + 1).set().interval_count();
     if here.saturating_add(next) <= FIRST_RUNS {
         // without memory both pages stay
         let _joined = join(pages, i);
@@ -437,25 +447,27 @@ fn join_if_few<B: Width>(pages: &mut Vec<Page<B>>, i: usize)
 }
 
 /// Puts the runs of page `i` and of the one after it in one page.
-fn join<B: Width>(pages: &mut Vec<Page<B>>, i: usize) -> Result<(), AllocError>
-    requires runs { IsMaximal (flattened pages.old.items) }
-    requires less { i + 1 < length pages.old.items }
-    ensures { flattened pages.new.items ≡ flattened pages.old.items }
+fn join<B: Width>(pages: &mut PageList<B>, i: usize) -> Result<(), AllocError>
+    requires runs { IsMaximal (flattened pages.old) }
+    requires less { i + 1 < length pages.old }
+    requires fits { length pages.old < usize.MAX }
+    ensures { flattened pages.new ≡ flattened pages.old }
 {
-    let both = pages[i].set().union(pages[i + 1].set())?;
+    let both = pages.page(i).set().union(pages.page(i + 1).set())?;
     replace(pages, i, i + 2, both);
     Ok(())
 }
 
 /// Splits page `i`, which has two runs at least, in the middle.
-fn split<B: Width>(pages: &mut Vec<Page<B>>, i: usize) -> Result<(), AllocError>
-    requires less { i < length pages.old.items }
-    requires runs { 1 < length (slice_index_or pages.old.items i []) }
-    ensures { flattened pages.new.items ≡ flattened pages.old.items }
+fn split<B: Width>(pages: &mut PageList<B>, i: usize) -> Result<(), AllocError>
+    requires less { i < length pages.old }
+    requires fits { length pages.old < usize.MAX }
+    requires runs { 1 < length (slice_index_or pages.old i []) }
+    ensures { flattened pages.new ≡ flattened pages.old }
 {
-    let (low, high) = halves(pages[i].set())?;
+    let (low, high) = halves(pages.page(i).set())?;
     pages.insert(i + 1, high)?;
-    put(pages, i, low);
+    pages.put(i, low);
     Ok(())
 }
 

@@ -23,6 +23,7 @@
 use crate::rattle::prelude::*;
 
 mod page;
+mod page_list;
 pub mod paged_set;
 mod pages;
 

@@ -2,6 +2,7 @@
 ghost use Rattle.std.specs.Prelude.{◌≡◌, IfOk};
 
 use super::PagedSet;
+use crate::page_list::PageList;
 use crate::pages::copy_of;
 use intervallum::width::Width;
 use std::alloc::AllocError;
@@ -19,8 +20,8 @@ impl<B: Width> PagedSet<B> {
         ensures { IfOk result (λ L. L ≡ self.now) }
     {
         self.in_whole();
-        let mut pages = Vec::with_capacity(self.alloc, self.pages.len())?;
-        for page in &self.pages {
+        let mut pages = PageList::with_capacity(self.alloc, self.pages.len())?;
+        for page in self.pages.as_slice() {
             pages.push(copy_of(self.alloc, page)?)?;
         }
         Ok(PagedSet {

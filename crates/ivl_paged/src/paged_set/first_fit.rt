@@ -29,7 +29,7 @@ impl<B: Width> PagedSet<B> {
             ((v : ℤ) → ¬ (FitsAt (B.Output.size count) (Covers self.now) v))
             (IsFirstFit (B.Output.size count) (Covers self.now)) }
     {
-        pages::fit_in(&self.pages, count)
+        pages::fit_in(self.pages.as_slice(), count)
     }
 
     /// Returns the lowest interval of exactly `count` consecutive members that are all at least
@@ -51,10 +51,10 @@ impl<B: Width> PagedSet<B> {
             ((w : ℤ) → ¬ (FitsAt (B.Output.size count) (AtLeast (B.value v) (Covers self.now)) w))
             (IsFirstFit (B.Output.size count) (AtLeast (B.value v) (Covers self.now))) }
     {
-        let place = pages::starts_up_to(&self.pages, v);
-        match pages::fit_within(&self.pages, place, v, count) {
+        let place = self.pages.starts_up_to(v);
+        match pages::fit_within(self.pages.as_slice(), place, v, count) {
             Some(run) => Some(run),
-            None => pages::fit_in(&self.pages[place..], count),
+            None => pages::fit_in(&self.pages.as_slice()[place..], count),
         }
     }
 

@@ -135,7 +135,7 @@ impl<B: Width> PagedSet<B> {
     {
         Runs {
             first: &[],
-            between: &self.pages,
+            between: self.pages.as_slice(),
             last: &[],
         }
     }

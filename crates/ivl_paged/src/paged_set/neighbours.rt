@@ -25,12 +25,12 @@ impl<B: Width> PagedSet<B> {
             (HasNone (AtLeast (B.value v) (Covers self.now)))
             (λ x. IsLeast (B.value x) (AtLeast (B.value v) (Covers self.now))) }
     {
-        let count = pages::starts_up_to(&self.pages, v);
-        match pages::next_within(&self.pages, count, v) {
+        let count = self.pages.starts_up_to(v);
+        match pages::next_within(self.pages.as_slice(), count, v) {
             Some(next) => Some(next),
             None => {
                 if count < self.pages.len() {
-                    Some(self.pages[count].head())
+                    Some(self.pages.head(count))
                 } else {
                     None
                 }
@@ -53,11 +53,11 @@ impl<B: Width> PagedSet<B> {
             (HasNone (AtMost (B.value v) (Covers self.now)))
             (λ x. IsGreatest (B.value x) (AtMost (B.value v) (Covers self.now))) }
     {
-        let count = pages::starts_up_to(&self.pages, v);
+        let count = self.pages.starts_up_to(v);
         if count == 0 {
             return None;
         }
-        self.pages[count - 1].set().previous_to(v)
+        self.pages.page(count - 1).set().previous_to(v)
     }
 
     /// Returns the run that holds `v`, the longest interval of members with `v` in it, or `None` if
@@ -75,10 +75,10 @@ impl<B: Width> PagedSet<B> {
             (¬ (Covers self.now (B.value v)))
             (IsRunWith (B.value v) (Covers self.now)) }
     {
-        let count = pages::starts_up_to(&self.pages, v);
+        let count = self.pages.starts_up_to(v);
         if count == 0 {
             return None;
         }
-        self.pages[count - 1].set().run_at(v)
+        self.pages.page(count - 1).set().run_at(v)
     }
 }

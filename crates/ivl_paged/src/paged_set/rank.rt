@@ -34,7 +34,7 @@ impl<B: Width> PagedSet<B> {
     pub fn size(&self) -> B::Output
         ensures { IsCountOf (B.Output.size result) (Covers self.now) }
     {
-        pages::size_of(&self.pages)
+        pages::size_of(self.pages.as_slice())
     }
 
     /// Returns the number of members below `v`, which may be any value of its type. Adds up what
@@ -48,12 +48,12 @@ impl<B: Width> PagedSet<B> {
     pub fn rank(&self, v: B) -> B::Output
         ensures { IsCountOf (B.Output.size result) (Below (B.value v) (Covers self.now)) }
     {
-        let count = pages::starts_up_to(&self.pages, v);
+        let count = self.pages.starts_up_to(v);
         if count == 0 {
             return <B::Output as SizeNumber>::zero();
         }
-        let below = pages::size_of(&self.pages[..count - 1]);
-        let here = self.pages[count - 1].set().rank(v);
+        let below = pages::size_of(&self.pages.as_slice()[..count - 1]);
+        let here = self.pages.page(count - 1).set().rank(v);
         below.add_in_range(here)
     }
 
@@ -72,7 +72,7 @@ impl<B: Width> PagedSet<B> {
             (λ x. Covers self.now (B.value x) × IsCountOf (B.Output.size i) (Below (B.value x) (Covers self.now))) }
     {
         let mut left = i;
-        for page in &self.pages {
+        for page in self.pages.as_slice() {
             match left.checked_sub(page.set().size()) {
                 Some(rest) => left = rest,
                 None => return page.set().nth(left),

@@ -4,16 +4,16 @@
 use crate::rattle::prelude::*;
 use crate::proved::intervallum::interval::Interval;
 use crate::proved::intervallum::interval_set::IntervalSet;
-use crate::proved::intervallum::ops::{Bounded, Cardinality};
-use crate::proved::intervallum::width::{SizeNumber, Width};
+use crate::proved::intervallum::ops::{Bounded, Cardinality, Contains, Empty};
+use crate::proved::intervallum::width::Width;
 use crate::rattle::std::alloc::AllocError;
 use crate::rattle::std::hint::select_unpredictable;
 
-/// A set that is not empty, beside its least member and the length of its longest run, so that a
-/// search reads no run.
+/// A set that is not empty, beside its least member and one of its longest runs, so that a search
+/// reads no run, and neither does an edit that leaves that run as it is.
 pub(crate) struct Page<B: Width> {
     head: B,
-    longest: B::Output,
+    longest: Interval<B>,
     set: IntervalSet<B>,
 }
 
@@ -32,7 +32,7 @@ impl<B: Width> Page<B> {
 
     /// How many members the longest run has.
     pub(crate) fn longest(&self) -> B::Output {
-        self.longest
+        self.longest.size()
     }
 
     /// The runs, as a set, which has a member.
@@ -53,73 +53,114 @@ impl<B: Width> Page<B> {
         }
     }
 
-    /// Adds the members of an interval.
-    pub(crate) fn insert_interval(&mut self, interval: Interval<B>) -> Result<(), AllocError> {
-        self.set.insert_interval(interval)?;
-        self.head = self.set.lower();
+    /// Adds the members of an interval. Returns true exactly when its first number was a member.
+    pub(crate) fn insert_interval(&mut self, interval: Interval<B>) -> Result<bool, AllocError> {
+        let count = self.set.interval_count();
         let run = self.set.run_at(interval.lower_bound());
-        self.longest = longer(self.longest, run);
-        Ok(())
+        if ends_at_or_above(run, interval.upper_bound()) {
+            return Ok(true);
+        }
+        self.set.insert_interval(interval)?;
+        self.head = self.head.min(interval.lower_bound());
+        let joined = run_after(&self.set, count, interval);
+        self.longest = longer(self.longest, joined);
+        Ok(run.is_some())
     }
 
-    /// Removes the members of an interval, which leaves some.
-    pub(crate) fn remove_interval(&mut self, interval: Interval<B>) -> Result<(), AllocError> {
-        let run = self.set.run_at(interval.lower_bound());
-        let keeps = lies_in_shorter(run, interval, self.longest);
+    /// Removes the members of an interval, which leaves some. Returns true exactly when its first
+    /// number was a member.
+    pub(crate) fn remove_interval(&mut self, interval: Interval<B>) -> Result<bool, AllocError> {
+        let size = self.set.size();
+        let has_first = has_first_of_many(&self.set, interval);
         self.set.remove_interval(interval)?;
-        self.head = self.set.lower();
-        self.longest = longest_after(self.longest, keeps, &self.set);
-        Ok(())
+        if self.set.size() == size {
+            return Ok(false);
+        }
+        self.head = head_after(self.head, interval.lower_bound(), &self.set);
+        self.longest = longest_after(self.longest, interval, &self.set);
+        Ok(has_first)
     }
 }
 
-/// The greater of a length and that of a run, if there is one.
-fn longer<B: Width>(longest: B::Output, run: Option<Interval<B>>) -> B::Output {
+/// Whether a run, if there is one, ends at a value or above.
+fn ends_at_or_above<B: Width>(run: Option<Interval<B>>, value: B) -> bool {
+    match run {
+        Some(run) => value <= run.upper_bound(),
+        None => false,
+    }
+}
+
+/// The run that holds an interval which was added to a set that had `count` runs. If there is one run
+/// more, it is the interval itself.
+fn run_after<B: Width>(
+    set: &IntervalSet<B>,
+    count: usize,
+    interval: Interval<B>,
+) -> Option<Interval<B>> {
+    if count < set.interval_count() {
+        return Some(interval);
+    }
+    set.run_at(interval.lower_bound())
+}
+
+/// The least member after a removal of numbers from `lower` on, before which it was `before`.
+fn head_after<B: Width>(before: B, lower: B, set: &IntervalSet<B>) -> B {
+    if before < lower {
+        return before;
+    }
+    set.lower()
+}
+
+/// Whether the first number of an interval is a member, or true if the interval has no other: whether
+/// it was a member is then told by the size after its removal, without a search.
+fn has_first_of_many<B: Width>(set: &IntervalSet<B>, interval: Interval<B>) -> bool {
+    let lower = interval.lower_bound();
+    if lower < interval.upper_bound() {
+        set.contains(&lower)
+    } else {
+        true
+    }
+}
+
+/// The longer of a run and another, if there is one.
+fn longer<B: Width>(longest: Interval<B>, run: Option<Interval<B>>) -> Interval<B> {
     match run {
         Some(run) => {
-            let size = run.size();
-            if size >= longest { size } else { longest }
+            if run.size() >= longest.size() {
+                run
+            } else {
+                longest
+            }
         }
         None => longest,
     }
 }
 
-/// Whether an interval that begins in a run also ends there, and the run is shorter than the longest.
-fn lies_in_shorter<B: Width>(
-    run: Option<Interval<B>>,
-    interval: Interval<B>,
-    longest: B::Output,
-) -> bool {
-    match run {
-        Some(run) => {
-            if run.size() >= longest {
-                return false;
-            }
-            interval.upper_bound() <= run.upper_bound()
-        }
-        None => false,
-    }
-}
-
-/// How many members the longest of the runs has that a removal left, where it may have kept the
-/// longest. If not, there is often another run that is as long.
-fn longest_after<B: Width>(before: B::Output, keeps: bool, set: &IntervalSet<B>) -> B::Output {
-    if keeps {
+/// One of the longest runs after a removal, before which it was `before`. The runs are read only if
+/// that one was cut.
+fn longest_after<B: Width>(
+    before: Interval<B>,
+    removed: Interval<B>,
+    set: &IntervalSet<B>,
+) -> Interval<B> {
+    if before.upper_bound() < removed.lower_bound() {
         return before;
     }
-    match set.first_fit(before) {
-        Some(_) => before,
-        None => longest_of(set.runs()),
+    if removed.upper_bound() < before.lower_bound() {
+        return before;
     }
+    longest_of(set.runs())
 }
 
-/// How many members the longest of some runs has.
-fn longest_of<B: Width>(runs: &[Interval<B>]) -> B::Output {
-    let mut longest = <B::Output as SizeNumber>::zero();
+/// One of the longest of some runs, or an empty interval if there are none.
+fn longest_of<B: Width>(runs: &[Interval<B>]) -> Interval<B> {
+    let mut longest = Interval::empty();
+    let mut most = longest.size();
     for run in runs {
         let size = run.size();
-        let is_longer = size >= longest;
-        longest = select_unpredictable(is_longer, size, longest);
+        let is_longer = size >= most;
+        most = select_unpredictable(is_longer, size, most);
+        longest = select_unpredictable(is_longer, *run, longest);
     }
     longest
 }

@@ -12,7 +12,7 @@ mod neighbours;
 mod rank;
 mod text;
 
-use crate::proved::ivl_paged::page::Page;
+use crate::proved::ivl_paged::page_list::PageList;
 use crate::proved::ivl_paged::pages;
 use crate::proved::intervallum::interval::Interval;
 use crate::proved::intervallum::interval_set::IntervalSet;
@@ -25,10 +25,10 @@ use crate::rattle::std::alloc::{AllocError, Global};
 /// A set of integers for many runs that change. A contract sees the list of its runs, each a pair
 /// of numbers, as it does of an `IntervalSet`.
 ///
-/// The runs stand in pages of fewer than 128, each with its least member in the list of pages, where
-/// a search begins. An edit in one page moves the runs of that page. A page that gets 128 is split in
-/// two, which moves the list of pages; if there is no memory for that, the page grows. A page that
-/// gets at most half of that is joined with a neighbour if both then have at most 96. A page is
+/// The runs stand in pages of fewer than 128. The least members of the pages stand in a list of their
+/// own, where a search begins. An edit in one page moves the runs of that page. A page that gets 128
+/// is split in two, which moves both lists; if there is no memory for that, the page grows. A page
+/// that gets at most half of that is joined with a neighbour if both then have at most 96. A page is
 /// removed when it is empty.
 ///
 /// If an allocation fails, the set is unchanged.
@@ -46,7 +46,7 @@ use crate::rattle::std::alloc::{AllocError, Global};
 /// ```
 pub struct PagedSet<B: Width> {
     alloc: Global,
-    pages: Vec<Page<B>>,
+    pages: PageList<B>,
     /// How many runs the pages have together.
     count: usize,
 }
@@ -71,7 +71,7 @@ impl<B: Width> PagedSet<B> {
     pub fn new(alloc: Global) -> Self {
         PagedSet {
             alloc,
-            pages: Vec::new(alloc),
+            pages: PageList::new(alloc),
             count: 0,
         }
     }
@@ -133,7 +133,7 @@ impl<B: Width> PagedSet<B> {
             return true;
         }
         // a page has a member
-        self.pages[0].head();
+        self.pages.head(0);
         false
     }
 
@@ -159,11 +159,11 @@ impl<B: Width> PagedSet<B> {
     ///
     /// Words: [`Covers`](crate::definitions#Covers).
     pub fn contains(&self, value: &B) -> bool {
-        let count = pages::starts_up_to(&self.pages, *value);
+        let count = self.pages.starts_up_to(*value);
         if count == 0 {
             return false;
         }
-        self.pages[count - 1].set().contains(value)
+        self.pages.page(count - 1).set().contains(value)
     }
 
     /// Adds a value. Returns true exactly when it was not a member before.
@@ -201,11 +201,8 @@ impl<B: Width> PagedSet<B> {
     /// Words: [`IsBetween`](crate::definitions#IsBetween), [`IsRunsOf`](crate::definitions#IsRunsOf), [`Union`](crate::definitions#Union), [`Covers`](crate::definitions#Covers), [`Only`](crate::definitions#Only).
     pub fn insert(&mut self, value: B) -> Result<bool, AllocError> {
         self.in_whole();
-        if self.contains(&value) {
-            return Ok(false);
-        }
-        self.insert_interval(Interval::singleton(value))?;
-        Ok(true)
+        let was_member = self.add(Interval::singleton(value))?;
+        Ok(!was_member)
     }
 
     /// Removes a value, which may be any value of its type. Returns true exactly when it was a
@@ -239,11 +236,10 @@ impl<B: Width> PagedSet<B> {
     /// Words: [`IsRunsOf`](crate::definitions#IsRunsOf), [`Without`](crate::definitions#Without), [`Covers`](crate::definitions#Covers), [`Only`](crate::definitions#Only).
     pub fn remove(&mut self, value: B) -> Result<bool, AllocError> {
         self.in_whole();
-        if !self.contains(&value) {
+        if !Interval::in_range(value, value) {
             return Ok(false);
         }
-        self.remove_interval(Interval::singleton(value))?;
-        Ok(true)
+        self.cut(Interval::singleton(value))
     }
 
     /// Adds the members of an interval, which may be empty.
@@ -281,13 +277,20 @@ impl<B: Width> PagedSet<B> {
         if interval.is_empty() {
             return Ok(());
         }
+        self.add(interval)?;
+        Ok(())
+    }
+
+    /// Adds the members of an interval. Returns true exactly when its first number was a member.
+    fn add(&mut self, interval: Interval<B>) -> Result<bool, AllocError> {
         interval.in_whole();
         if self.pages.is_empty() {
             self.count = pages::push_first(self.alloc, &mut self.pages, interval)?;
-            return Ok(());
+            return Ok(false);
         }
-        self.count = pages::insert_interval(&mut self.pages, self.count, interval)?;
-        Ok(())
+        let (count, was_member) = pages::insert_interval(&mut self.pages, self.count, interval)?;
+        self.count = count;
+        Ok(was_member)
     }
 
     /// Removes the members of an interval, which may be empty.
@@ -324,15 +327,26 @@ impl<B: Width> PagedSet<B> {
     /// Words: [`IsRunsOf`](crate::definitions#IsRunsOf), [`Without`](crate::definitions#Without), [`Covers`](crate::definitions#Covers), [`IsBetween`](crate::definitions#IsBetween), [`HasNone`](crate::definitions#HasNone), [`IsSubset`](crate::definitions#IsSubset), [`widened`](crate::definitions#widened).
     pub fn remove_interval(&mut self, interval: Interval<B>) -> Result<(), AllocError> {
         self.in_whole();
-        if interval.is_empty() || self.pages.is_empty() {
+        if interval.is_empty() {
             return Ok(());
         }
-        self.count = pages::remove_interval(&mut self.pages, self.count, interval)?;
+        self.cut(interval)?;
         Ok(())
     }
 
-    /// Removes and returns the least member, or returns `None` if the set is empty. `O(log n)`; if a
-    /// page then has no runs, the list of pages moves. Never fails.
+    /// Removes the members of an interval. Returns true exactly when its first number was a member.
+    fn cut(&mut self, interval: Interval<B>) -> Result<bool, AllocError> {
+        if self.pages.is_empty() {
+            return Ok(false);
+        }
+        let (count, was_member) = pages::remove_interval(&mut self.pages, self.count, interval)?;
+        self.count = count;
+        Ok(was_member)
+    }
+
+    /// Removes and returns the least member, or returns `None` if the set is empty. Searches the first
+    /// page alone, and moves its runs: `O(log n)`. If it then has no runs, the list of pages moves.
+    /// Never fails.
     ///
     /// ```
     /// # use intervallum::proved::examples::*;
@@ -359,13 +373,12 @@ impl<B: Width> PagedSet<B> {
     /// Words: [`Covers`](crate::definitions#Covers), [`IsRunsOf`](crate::definitions#IsRunsOf), [`Without`](crate::definitions#Without), [`Only`](crate::definitions#Only), [`IsBetween`](crate::definitions#IsBetween).
     pub fn pop_first(&mut self) -> Option<B> {
         self.in_whole();
-        match self.first() {
-            Some(least) => {
-                self.remove_interval(Interval::singleton(least)).unwrap();
-                Some(least)
-            }
-            None => None,
+        if self.pages.is_empty() {
+            return None;
         }
+        let (count, least) = pages::pop_first(&mut self.pages, self.count);
+        self.count = count;
+        Some(least)
     }
 
     /// Removes and returns the greatest member, or returns `None` if the set is empty. `O(log n)`.
@@ -475,7 +488,7 @@ impl<B: Width> PagedSet<B> {
     /// ```
     pub fn to_set(&self) -> Result<IntervalSet<B>, AllocError> {
         let mut runs = Vec::new(self.alloc);
-        for page in &self.pages {
+        for page in self.pages.as_slice() {
             runs.extend_from_slice(page.set().iter().as_slice())?;
         }
         coalesce(self.alloc, runs)

@@ -11,5 +11,5 @@ page_of-requires-clause-runs g c =
 pub parts-preserved : goal.parts-preserved
 parts-preserved g c = (
   omega arith,
-  ap flattened c.in_ok-push.ensures.items ∙ parts_so_far c.parts.pages.items c.args.runs.now c.in_ok-page_of.field-0 c.parts.start c.min-end.result (omega arith) c.parts.invariant.1 c.in_ok-page_of.ensures,
+  ap flattened c.in_ok-push.ensures.ok ∙ parts_so_far c.parts.pages c.args.runs.now c.in_ok-page_of.field-0 c.parts.start c.min-end.result (omega arith) c.parts.invariant.1 c.in_ok-page_of.ensures,
 )

@@ -4,7 +4,7 @@ use Rattle.ivl_paged.proofs.pages.pages_of.Given as goal
 
 -- the runs of the pages so far
 abbrev pub invariant-parts : goal.invariant-parts
-invariant-parts g l = (l.start ≤ length l.runs) × (flattened l.pages.items ≡ take l.start l.runs)
+invariant-parts g l = (l.start ≤ length l.runs) × (flattened l.pages ≡ take l.start l.runs)
 
 abbrev pub decreases-parts : goal.decreases-parts
 decreases-parts g l = length l.runs - l.start

@@ -5,6 +5,6 @@ use Rattle.ivl_paged.proofs.pages.split.Goals as goal
 
 pub returns : goal.returns
 returns g c =
-    let P = c.args.pages.now.items in
-    let page : c.index.result.now ≡ get_or P c.args.i [] = c.index.ensures ∙ get_or_default P c.args.i _ [] c.requires.less in
-    rw (c.put.ensures, c.in_ok-insert.ensures.items) (split_page P c.in_ok-low.low c.in_ok-low.high c.args.i c.requires.less (c.in_ok-low.ensures ∙ c.set.ensures.same ∙ page))
+    let P = c.args.pages.now in
+    let page : c.page.result.now ≡ get_or P c.args.i [] = c.page.ensures ∙ get_or_default P c.args.i _ [] c.requires.less in
+    rw (c.put.ensures, c.in_ok-insert.ensures.ok) (split_page P c.in_ok-low.low c.in_ok-low.high c.args.i c.requires.less (c.in_ok-low.ensures ∙ c.set.ensures.same ∙ page))

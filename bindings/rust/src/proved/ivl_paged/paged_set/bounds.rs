@@ -34,7 +34,7 @@ impl<B: Width> PagedSet<B> {
         if self.pages.is_empty() {
             return None;
         }
-        Some(self.pages[0].head())
+        Some(self.pages.head(0))
     }
 
     /// Returns the greatest member, or `None` if there is none. `O(1)`. Does not allocate.
@@ -64,7 +64,7 @@ impl<B: Width> PagedSet<B> {
         if count == 0 {
             return None;
         }
-        Some(self.pages[count - 1].set().upper())
+        Some(self.pages.page(count - 1).set().upper())
     }
 
     /// Returns the least interval that holds the members: from the least to the greatest, or empty
@@ -94,7 +94,7 @@ impl<B: Width> PagedSet<B> {
         if count == 0 {
             return Interval::empty();
         }
-        let lower = self.pages[0].head();
-        Interval::new(lower, self.pages[count - 1].set().upper())
+        let lower = self.pages.head(0);
+        Interval::new(lower, self.pages.page(count - 1).set().upper())
     }
 }

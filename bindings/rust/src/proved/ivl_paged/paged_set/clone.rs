@@ -3,6 +3,7 @@
 #[allow(unused_imports)]
 use crate::rattle::prelude::*;
 use super::PagedSet;
+use crate::proved::ivl_paged::page_list::PageList;
 use crate::proved::ivl_paged::pages::copy_of;
 use crate::proved::intervallum::width::Width;
 use crate::rattle::std::alloc::AllocError;
@@ -29,8 +30,8 @@ impl<B: Width> PagedSet<B> {
     /// ```
     pub fn try_clone(&self) -> Result<Self, AllocError> {
         self.in_whole();
-        let mut pages = Vec::with_capacity(self.alloc, self.pages.len())?;
-        for page in &self.pages {
+        let mut pages = PageList::with_capacity(self.alloc, self.pages.len())?;
+        for page in self.pages.as_slice() {
             pages.push(copy_of(self.alloc, page)?)?;
         }
         Ok(PagedSet {

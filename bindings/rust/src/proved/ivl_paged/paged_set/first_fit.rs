@@ -39,7 +39,7 @@ impl<B: Width> PagedSet<B> {
     /// Words: [`FitsAt`](crate::definitions#FitsAt), [`Covers`](crate::definitions#Covers), [`IsFirstFit`](crate::definitions#IsFirstFit).
     pub fn first_fit(&self, count: B::Output) -> Option<Interval<B>> {
         debug_assert!({ #[allow(unused_imports)] use crate::proved::ivl_interval::ops::*; crate::proved::ivl_interval::width::SizeNumber::number(count) > 0 }, "{}", "the condition of `first_fit` is broken: crate::proved::ivl_interval::width::SizeNumber::number(count) > 0");
-        pages::fit_in(&self.pages, count)
+        pages::fit_in(self.pages.as_slice(), count)
     }
 
     /// Returns the lowest interval of exactly `count` consecutive members that are all at least
@@ -73,10 +73,10 @@ impl<B: Width> PagedSet<B> {
     /// Words: [`FitsAt`](crate::definitions#FitsAt), [`AtLeast`](crate::definitions#AtLeast), [`Covers`](crate::definitions#Covers), [`IsFirstFit`](crate::definitions#IsFirstFit).
     pub fn first_fit_from(&self, v: B, count: B::Output) -> Option<Interval<B>> {
         debug_assert!({ #[allow(unused_imports)] use crate::proved::ivl_interval::ops::*; crate::proved::ivl_interval::width::SizeNumber::number(count) > 0 }, "{}", "the condition of `first_fit_from` is broken: crate::proved::ivl_interval::width::SizeNumber::number(count) > 0");
-        let place = pages::starts_up_to(&self.pages, v);
-        match pages::fit_within(&self.pages, place, v, count) {
+        let place = self.pages.starts_up_to(v);
+        match pages::fit_within(self.pages.as_slice(), place, v, count) {
             Some(run) => Some(run),
-            None => pages::fit_in(&self.pages[place..], count),
+            None => pages::fit_in(&self.pages.as_slice()[place..], count),
         }
     }
 

@@ -150,7 +150,7 @@ impl<B: Width> PagedSet<B> {
     pub fn iter(&self) -> Runs<'_, B> {
         Runs {
             first: &[],
-            between: &self.pages,
+            between: self.pages.as_slice(),
             last: &[],
         }
     }

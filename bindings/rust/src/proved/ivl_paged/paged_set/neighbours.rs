@@ -34,12 +34,12 @@ impl<B: Width> PagedSet<B> {
     ///
     /// Words: [`HasNone`](crate::definitions#HasNone), [`AtLeast`](crate::definitions#AtLeast), [`Covers`](crate::definitions#Covers), [`IsLeast`](crate::definitions#IsLeast).
     pub fn next_from(&self, v: B) -> Option<B> {
-        let count = pages::starts_up_to(&self.pages, v);
-        match pages::next_within(&self.pages, count, v) {
+        let count = self.pages.starts_up_to(v);
+        match pages::next_within(self.pages.as_slice(), count, v) {
             Some(next) => Some(next),
             None => {
                 if count < self.pages.len() {
-                    Some(self.pages[count].head())
+                    Some(self.pages.head(count))
                 } else {
                     None
                 }
@@ -73,11 +73,11 @@ impl<B: Width> PagedSet<B> {
     ///
     /// Words: [`HasNone`](crate::definitions#HasNone), [`AtMost`](crate::definitions#AtMost), [`Covers`](crate::definitions#Covers), [`IsGreatest`](crate::definitions#IsGreatest).
     pub fn previous_to(&self, v: B) -> Option<B> {
-        let count = pages::starts_up_to(&self.pages, v);
+        let count = self.pages.starts_up_to(v);
         if count == 0 {
             return None;
         }
-        self.pages[count - 1].set().previous_to(v)
+        self.pages.page(count - 1).set().previous_to(v)
     }
 
     /// Returns the run that holds `v`, the longest interval of members with `v` in it, or `None` if
@@ -106,10 +106,10 @@ impl<B: Width> PagedSet<B> {
     ///
     /// Words: [`Covers`](crate::definitions#Covers), [`IsRunWith`](crate::definitions#IsRunWith).
     pub fn run_at(&self, v: B) -> Option<Interval<B>> {
-        let count = pages::starts_up_to(&self.pages, v);
+        let count = self.pages.starts_up_to(v);
         if count == 0 {
             return None;
         }
-        self.pages[count - 1].set().run_at(v)
+        self.pages.page(count - 1).set().run_at(v)
     }
 }

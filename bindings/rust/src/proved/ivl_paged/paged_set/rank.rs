@@ -52,7 +52,7 @@ impl<B: Width> PagedSet<B> {
     ///
     /// Words: [`IsCountOf`](crate::definitions#IsCountOf), [`Covers`](crate::definitions#Covers).
     pub fn size(&self) -> B::Output {
-        pages::size_of(&self.pages)
+        pages::size_of(self.pages.as_slice())
     }
 
     /// Returns the number of members below `v`, which may be any value of its type. Adds up what
@@ -77,12 +77,12 @@ impl<B: Width> PagedSet<B> {
     ///
     /// Words: [`IsCountOf`](crate::definitions#IsCountOf), [`Below`](crate::definitions#Below), [`Covers`](crate::definitions#Covers).
     pub fn rank(&self, v: B) -> B::Output {
-        let count = pages::starts_up_to(&self.pages, v);
+        let count = self.pages.starts_up_to(v);
         if count == 0 {
             return <B::Output as SizeNumber>::zero();
         }
-        let below = pages::size_of(&self.pages[..count - 1]);
-        let here = self.pages[count - 1].set().rank(v);
+        let below = pages::size_of(&self.pages.as_slice()[..count - 1]);
+        let here = self.pages.page(count - 1).set().rank(v);
         below.add_in_range(here)
     }
 
@@ -112,7 +112,7 @@ impl<B: Width> PagedSet<B> {
     /// Words: [`IsCountOf`](crate::definitions#IsCountOf), [`Covers`](crate::definitions#Covers), [`Below`](crate::definitions#Below).
     pub fn nth(&self, i: B::Output) -> Option<B> {
         let mut left = i;
-        for page in &self.pages {
+        for page in self.pages.as_slice() {
             match left.checked_sub(page.set().size()) {
                 Some(rest) => left = rest,
                 None => return page.set().nth(left),

@@ -10,44 +10,44 @@ use Rattle.ivl_paged.proofs.paged_set.PagedSet.rank.Goals as goal
 
 pub returns-then-count-eq0 : goal.returns-then-count-eq0
 returns-then-count-eq0 g c =
-    let P = c.self.inside.pages.items in
+    let P = c.self.inside.pages in
     let v = g.B.Width.value c.args.v in
     let n = c.starts_up_to-count.result in
-    let s : StartsUpTo P v n = subst (λ (N : List (List (ℤ × ℤ))). StartsUpTo N v n) c.deref.ensures.value c.starts_up_to-count.ensures in
+    let s : StartsUpTo P v n = c.starts_up_to-count.ensures in
     no_rank_seen P c.args.self.now v n _ c.self.invariant.0.maximal c.self.view_is s c.if-count-eq0.true c.zero.ensures
 
 pub size_of-below-requires : goal.size_of-below-requires
 size_of-below-requires g c =
-    let P = c.self.inside.pages.items in
+    let P = c.self.inside.pages in
     let k = c.starts_up_to-count.result - 1 in
-    taken_is_run_list g.B.Width.whole P (take k c.deref-2.result.now) k (ap (λ (Q : List (List (ℤ × ℤ))). take k Q) c.deref-2.ensures.value) c.self.invariant.0 (IsMaximal-taken P k c.self.invariant.0.maximal)
+    taken_is_run_list g.B.Width.whole P (take k c.as_slice.result.now) k (ap (λ (Q : List (List (ℤ × ℤ))). take k Q) c.as_slice.ensures.value) c.self.invariant.0 (IsMaximal-taken P k c.self.invariant.0.maximal)
 
 pub add_in_range-requires : goal.add_in_range-requires
 add_in_range-requires g c =
-    let P = c.self.inside.pages.items in
+    let P = c.self.inside.pages in
     let v = g.B.Width.value c.args.v in
     let n = c.starts_up_to-count.result in
-    let s : StartsUpTo P v n = subst (λ (N : List (List (ℤ × ℤ))). StartsUpTo N v n) c.deref.ensures.value c.starts_up_to-count.ensures in
+    let s : StartsUpTo P v n = c.starts_up_to-count.ensures in
     let most = s.at_most in
     let none = c.if-count-eq0.false in
     let some : 0 < n = omega arith in
-    let page : c.index.result.now ≡ get_or P (n - 1) [] = c.index.ensures ∙ get_or_default P (n - 1) _ [] (omega arith) in
+    let page : c.page.result.now ≡ get_or P (n - 1) [] = c.page.ensures ∙ get_or_default P (n - 1) _ [] (omega arith) in
     let below : IsCountOf (g.B.Output.SizeNumber.size c.size_of-below.result) (Covers (flattened (take (n - 1) P))) =
-    subst (λ (Q : List (List (ℤ × ℤ))). IsCountOf (g.B.Output.SizeNumber.size c.size_of-below.result) (Covers (flattened (take (n - 1) Q)))) c.deref-2.ensures.value c.size_of-below.ensures in
+    subst (λ (Q : List (List (ℤ × ℤ))). IsCountOf (g.B.Output.SizeNumber.size c.size_of-below.result) (Covers (flattened (take (n - 1) Q)))) c.as_slice.ensures.value c.size_of-below.ensures in
     ranks_fit g.B.Width.whole P c.args.self.now v _ _ c.self.invariant.0 c.self.view_is g.met.B.Width.countable
     (ranks_seen P c.args.self.now c.set.result.now v n _ _ c.self.invariant.0.maximal c.self.view_is s some (c.set.ensures.same ∙ page) below c.rank-here.ensures)
 
 pub returns : goal.returns
 returns g c =
-    let P = c.self.inside.pages.items in
+    let P = c.self.inside.pages in
     let v = g.B.Width.value c.args.v in
     let n = c.starts_up_to-count.result in
-    let s : StartsUpTo P v n = subst (λ (N : List (List (ℤ × ℤ))). StartsUpTo N v n) c.deref.ensures.value c.starts_up_to-count.ensures in
+    let s : StartsUpTo P v n = c.starts_up_to-count.ensures in
     let most = s.at_most in
     let none = c.if-count-eq0.false in
     let some : 0 < n = omega arith in
-    let page : c.index.result.now ≡ get_or P (n - 1) [] = c.index.ensures ∙ get_or_default P (n - 1) _ [] (omega arith) in
+    let page : c.page.result.now ≡ get_or P (n - 1) [] = c.page.ensures ∙ get_or_default P (n - 1) _ [] (omega arith) in
     let below : IsCountOf (g.B.Output.SizeNumber.size c.size_of-below.result) (Covers (flattened (take (n - 1) P))) =
-    subst (λ (Q : List (List (ℤ × ℤ))). IsCountOf (g.B.Output.SizeNumber.size c.size_of-below.result) (Covers (flattened (take (n - 1) Q)))) c.deref-2.ensures.value c.size_of-below.ensures in
+    subst (λ (Q : List (List (ℤ × ℤ))). IsCountOf (g.B.Output.SizeNumber.size c.size_of-below.result) (Covers (flattened (take (n - 1) Q)))) c.as_slice.ensures.value c.size_of-below.ensures in
     subst (λ (k : ℕ). IsCountOf k (Below v (Covers c.args.self.now))) (sym c.add_in_range.ensures)
     (ranks_seen P c.args.self.now c.set.result.now v n _ _ c.self.invariant.0.maximal c.self.view_is s some (c.set.ensures.same ∙ page) below c.rank-here.ensures)

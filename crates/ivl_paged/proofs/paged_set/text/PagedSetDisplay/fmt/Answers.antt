@@ -6,7 +6,7 @@ use Rattle.ivl_paged.proofs.Iterating.{nothing_left, read_all, read_next, two_at
 use Rattle.ivl_paged.proofs.paged_set.text.PagedSetDisplay.fmt.Goals as goal
 
 pub runs-init : goal.runs-init
-runs-init g c = (0, sym c.iter-left.ensures.rest, search rules)
+runs-init g c = (0, sym c.iter-left.ensures.rest, search (rules, c.in_ok-write_str.ensures.writes))
 
 pub runs-preserved : goal.runs-preserved
 runs-preserved g c =

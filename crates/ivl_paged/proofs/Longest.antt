@@ -1,0 +1,124 @@
+-- One of the longest runs of a page: among the runs so far, and after an edit.
+use Rattle.std.proofs.Common.{◌≡◌, ◌⊎◌, ⊎_elim, inl, inr, ℕ, ◌+◌, ◌<◌, ◌≤◌, ℤ, Bool, true, false, cond, List, [], ◌∷◌, ◌++◌, length, get_or, take, take_all, Some, None, refl, sym, ap, subst, ◌∙◌, arith}
+use Rattle.std.specs.Prelude.{◌≤ℤ◌, ◌<ℤ◌, Option, MatchOption, nat_eq}
+use Rattle.std.specs.declared.cmp.Ordering.{Ordering}
+use Rattle.std.proofs.lemmas.Bool.Decides.{nat_tests}
+use Rattle.std.proofs.lemmas.Int.{ints, by_lt_z}
+use Rattle.ivl_laws.specs.Bounds.{OrdersByCount, width_of}
+use Rattle.ivl_laws.specs.Counts.{IsCountOf}
+use Rattle.ivl_laws.specs.Sets.{IsBetween, IsCrossed, IsSubset, SameMembers, Union, Without}
+use Rattle.ivl_laws.specs.Runs.{Covers, IsMaximal}
+use Rattle.ivl_laws.proofs.Counts.{IsCountOf-same, count_is_unique, decide_in, same_count_same_members}
+use Rattle.ivl_laws.proofs.Intervals.{width_of-crossed, width_of-filled}
+use Rattle.ivl_laws.proofs.Merging.{covers-append_left, covers-append_right}
+use Rattle.intervallum.specs.FirstFit.{FitsAt}
+use Rattle.intervallum.specs.Neighbours.{IsLeast, IsRunWith}
+use Rattle.intervallum.proofs.Ranks.{more_is}
+use Rattle.ivl_paged.specs.Pages.{IsLongestPart}
+use Rattle.ivl_paged.proofs.Fitting.{grown_by_run, longest_next, longest_of_none}
+
+-- a part of a set than which none is longer
+pub longest_part : (p : ℤ × ℤ) (S : ℤ → Type 0) → IsSubset (IsBetween p) S → ((m : ℕ) (v : ℤ) → FitsAt m S v → m ≤ width_of p) → IsLongestPart p S
+longest_part p S inside most = record { inside = inside; longest = record { fits = (p.0, fits); most = most } }
+  where
+    fits : FitsAt (width_of p) S p.0
+    fits z b =
+        let low = b.0 in
+        let high = b.1 in
+        by_lt_z p.1 p.0
+        (λ crossed. let none = width_of-crossed p crossed in absurd (omega (arith, ints, none, low, high)))
+        (λ filled. let width = width_of-filled p filled in inside z (low, omega (arith, ints, width, high)))
+
+-- ---- among the runs so far
+
+pub no_part : (L : List (ℤ × ℤ)) (p : ℤ × ℤ) → IsCrossed p → IsLongestPart p (Covers (take 0 L))
+no_part L p crossed = record {
+  inside = λ z b. let low = b.0 in let high = b.1 in absurd (omega (arith, ints, crossed, low, high));
+  longest = longest_of_none L (width_of p) (width_of-crossed p crossed);
+}
+
+-- x is the longest so far and d the next run; the test t decides
+pub next_part : (L : List (ℤ × ℤ)) (i : ℕ) (d x r : ℤ × ℤ) (t : Bool) → IsMaximal L → i < length L → d ≡ get_or L i d → IsLongestPart x (Covers (take i L)) →
+    (t ≡ true → width_of x ≤ width_of d) → (t ≡ false → width_of d < width_of x) → r ≡ cond t d x → IsLongestPart r (Covers (take (i + 1) L))
+next_part L i d x r t m h is so_far up down e = record {
+  inside = λ z b. subst (λ (M : List (ℤ × ℤ)). Covers M z) (sym (more_is L i d m h is)) (either t e z b);
+  longest = longest_next width_of L i d x d r t m h is so_far.longest refl up down e;
+}
+  where
+    either : (t : Bool) → r ≡ cond t d x → (z : ℤ) → IsBetween r z → Covers (take i L ++ d ∷ []) z
+    either true e z b = covers-append_right (take i L) (d ∷ []) z (inl (subst (λ (p : ℤ × ℤ). IsBetween p z) e b))
+    either false e z b = covers-append_left (take i L) (d ∷ []) z (so_far.inside z (subst (λ (p : ℤ × ℤ). IsBetween p z) e b))
+
+-- the size of the longest is chosen by the same test
+pub size_of_next : {A : Type 0} (size : A → ℕ) (y m n : A) (d x r : ℤ × ℤ) (t : Bool) → size y ≡ width_of d → size m ≡ width_of x → n ≡ cond t y m → r ≡ cond t d x → size n ≡ width_of r
+size_of_next size y m n d x r true here before e f = ap size e ∙ here ∙ sym (ap width_of f)
+size_of_next size y m n d x r false here before e f = ap size e ∙ before ∙ sym (ap width_of f)
+
+pub part_of_all : (L : List (ℤ × ℤ)) (i : ℕ) (p : ℤ × ℤ) → length L ≤ i → IsLongestPart p (Covers (take i L)) → IsLongestPart p (Covers L)
+part_of_all L i p h = subst (λ (M : List (ℤ × ℤ)). IsLongestPart p (Covers M)) (take_all i L h)
+
+-- ---- after an edit
+
+-- p was added to S, which made T, and a search at v, its first number, found the run that holds it there
+pub grown_part : (o : Option (ℤ × ℤ)) (x r : ℤ × ℤ) (S T : ℤ → Type 0) (p : ℤ × ℤ) (v : ℤ) → v ≡ p.0 → IsLongestPart x S → SameMembers T (Union S (IsBetween p)) → p.0 ≤ℤ p.1 → MatchOption o (¬ (T v)) (IsRunWith v T) →
+    MatchOption o (r ≡ x) (λ run. (width_of x ≤ width_of r) × (width_of run ≤ width_of r) × ((r ≡ x) ⊎ (r ≡ run))) → IsLongestPart r T
+grown_part None x r S T p v e old same filled free h = absurd (free (subst T (sym e) ((same p.0).1 (inr (omega (arith, ints), filled)))))
+grown_part (Some run) x r S T p v e old same filled found (more, wide, which) = record {
+  inside = ⊎_elim
+      (λ q z b. (same z).1 (inl (old.inside z (subst (λ (k : ℤ × ℤ). IsBetween k z) q b))))
+      (λ q z b. found.inside z (subst (λ (k : ℤ × ℤ). IsBetween k z) q b))
+      which;
+  longest = grown_by_run (Some run) (width_of x) (width_of r) S T p v e old.longest same filled found
+      (more, wide, ⊎_elim (λ q. inl (ap width_of q)) (λ q. inr (ap width_of q)) which);
+}
+
+-- p was removed from S, which left T, and does not meet the longest run x
+pub kept_part : (x p : ℤ × ℤ) (S T : ℤ → Type 0) → IsLongestPart x S → SameMembers T (Without S (IsBetween p)) → (x.1 <ℤ p.0) ⊎ (p.1 <ℤ x.0) → IsSubset (IsBetween x) T
+kept_part x p S T old same apart z b = (same z).1 (
+  old.inside z b,
+  λ c. let low = b.0 in
+      let high = b.1 in
+      let from = c.0 in
+      let to = c.1 in
+      ⊎_elim (λ lt. omega (arith, ints, lt, high, from)) (λ lt. omega (arith, ints, lt, low, to)) apart,
+)
+
+pub none_longer : (x p : ℤ × ℤ) (S T : ℤ → Type 0) → IsLongestPart x S → SameMembers T (Without S (IsBetween p)) → (m : ℕ) (v : ℤ) → FitsAt m T v → m ≤ width_of x
+none_longer x p S T old same m v f = old.longest.most m v (λ z b. ((same z).0 (f z b)).0)
+
+-- ---- what the sizes tell of a removal
+
+equal_numbers : (m n : ℕ) (r : Bool) → r ≡ nat_eq m n → r ≡ true → m ≡ n
+equal_numbers m n r e f = grind (arith, nat_tests)
+
+-- what a test of two sizes says that succeeds
+pub sizes_same : {N : Type 0} {size : N → ℕ} {eq : N → N → Bool} {partial : N → N → Option Ordering} {total : N → N → Ordering}
+    (o : OrdersByCount size eq partial total) (x y : N) (r : Bool) → r ≡ eq x y → r ≡ true → size x ≡ size y
+sizes_same {size = size} o x y r e f = equal_numbers (size x) (size y) r (e ∙ o.equal x y) f
+
+-- as many are left: the same members
+pub same_left : (S T : ℤ → Type 0) (p : ℤ × ℤ) (a b : ℕ) → SameMembers T (Without S (IsBetween p)) → IsCountOf a S → IsCountOf b T → b ≡ a → SameMembers S T
+same_left S T p a b same u w e z =
+    let all = same_count_same_members T S a (λ x t. ((same x).0 t).0) (subst (λ (n : ℕ). IsCountOf n T) e w) u z in (all.1, all.0)
+
+pub none_removed : (S T : ℤ → Type 0) (p : ℤ × ℤ) (z : ℤ) → SameMembers T (Without S (IsBetween p)) → SameMembers S T → IsBetween p z → ¬ (S z)
+none_removed S T p z same left c s = ((same z).0 ((left z).0 s)).1 c
+
+pub least_of_same : (S T : ℤ → Type 0) (x : ℤ) → SameMembers S T → IsLeast x S → IsLeast x T
+least_of_same S T x same l = ((same x).0 l.0, λ z t. l.1 z ((same z).1 t))
+
+pub part_of_same : (S T : ℤ → Type 0) (x : ℤ × ℤ) → SameMembers S T → IsLongestPart x S → IsLongestPart x T
+part_of_same S T x same l = record {
+  inside = λ z b. (same z).0 (l.inside z b);
+  longest = record {
+    fits = (l.longest.fits.0, λ z b. (same z).0 (l.longest.fits.1 z b));
+    most = λ m v f. l.longest.most m v (λ z b. (same z).1 (f z b));
+  };
+}
+
+-- fewer are left of one number: it was a member
+pub one_removed : (S T : ℤ → Type 0) (p : ℤ × ℤ) (a b : ℕ) → SameMembers T (Without S (IsBetween p)) → IsCountOf a S → IsCountOf b T → ¬ (b ≡ a) → p.1 ≤ℤ p.0 → S p.0
+one_removed S T p a b same (xs, dx, ix, ex) w n one = ⊎_elim (λ i. (ix p.0).1 i) (λ missing. absurd (n (count_is_unique S b a (IsCountOf-same T S b (λ z. (
+  (λ t. ((same z).0 t).0),
+  (λ s. (same z).1 (s, λ c. let low = c.0 in let high = c.1 in let at : p.0 ≡ z = omega (arith, ints, low, high, one) in missing ((ix p.0).0 (subst S (sym at) s)))),
+)) w) (xs, dx, ix, ex)))) (decide_in xs p.0)
