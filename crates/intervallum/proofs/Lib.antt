@@ -28,6 +28,7 @@ pub mod Fits
 pub mod Scaling
 pub mod Shifting
 pub mod Splicing
+pub mod SpanEnds
 pub mod Allocating
 pub mod Touching
 pub mod Popping

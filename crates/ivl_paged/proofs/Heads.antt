@@ -1,5 +1,5 @@
 -- Pages beside their least members: what an edit of both lists keeps, and what a search among the least members finds.
-use Rattle.std.proofs.Common.{◌≡◌, ℕ, zero, suc, ◌<◌, ◌≤◌, ℤ, ◌≤ℤ◌, ◌<ℤ◌, List, [], ◌∷◌, ◌++◌, ◌⊎◌, ◌↔◌, Bool, IsTrue, ⊎_elim, inl, inr, length, get_or, take, drop, set, refl, sym, subst, arith}
+use Rattle.std.proofs.Common.{◌≡◌, ℕ, zero, suc, ◌<◌, ◌≤◌, ℤ, ◌≤ℤ◌, ◌<ℤ◌, List, [], ◌∷◌, ◌++◌, ◌⊎◌, ◌↔◌, Bool, true, false, cond, IsTrue, ⊎_elim, inl, inr, length, get_or, take, drop, set, refl, sym, subst, arith}
 use Rattle.std.specs.Int.{int_min}
 use Rattle.std.proofs.lemmas.Int.{ints, by_lt_z, clamps}
 use Rattle.ivl_laws.specs.Families.{set_at}
@@ -142,3 +142,8 @@ least_of_union S T p h x filled l same (a, b, which) = (
 
 pub least_is_kept : (S T : ℤ → Type 0) (p : ℤ × ℤ) (h : ℤ) → IsLeast h S → SameMembers T (Without S (IsBetween p)) → h <ℤ p.0 → IsLeast h T
 least_is_kept S T p h l same lt = ((same h).1 (l.0, λ b. let low = b.0 in omega (arith, ints, lt, low)), λ z c. l.1 z ((same z).0 c).0)
+
+-- what a search has taken last stays up to the value
+pub chosen_up_to : {X : Type 0} (value : X → ℤ) (v : ℤ) (h l r : X) (t : Bool) → (IsTrue t → value h ≤ℤ v) → value l ≤ℤ v → r ≡ cond t h l → value r ≤ℤ v
+chosen_up_to value v h l r true up le e = subst (λ x. value x ≤ℤ v) (sym e) (up refl)
+chosen_up_to value v h l r false up le e = subst (λ x. value x ≤ℤ v) (sym e) le

@@ -1,5 +1,5 @@
 //! Which runs of a set an edit changes.
-ghost use Rattle.std.specs.Prelude.{◌≡◌, ◌⊎◌, ◌+◌, ◌<◌, ◌≤◌, pos, ◌+ℤ◌, ◌-ℤ◌, ◌≤ℤ◌, [], None, Some, drop, length, take};
+ghost use Rattle.std.specs.Prelude.{◌≡◌, ◌⊎◌, ◌+◌, ◌<◌, ◌≤◌, pos, ◌+ℤ◌, ◌-ℤ◌, ◌≤ℤ◌, [], IsSomeAnd, None, Some, drop, length, slice_get, take};
 ghost use Rattle.ivl_laws.specs.Sets.{IsBetween, IsSubset, Union, Without};
 ghost use Rattle.ivl_laws.specs.Runs.{Covers, IsMaximal, IsRunsOf, StartsBy};
 ghost use Rattle.intervallum.specs.Edits.{IsSpan, replaced, widened};
@@ -9,19 +9,40 @@ ghost use Rattle.intervallum.specs.Places.{EndBelow, EndsFrom, StartAbove};
 use crate::interval::Interval;
 use crate::interval_set::IntervalSet;
 use crate::ops::{Bounded, IsEmpty, Range, StrictShrinkLeft, StrictShrinkRight};
-use crate::steps::{Probes, last_up_to, runs_before};
+use crate::steps::{Place, Probes, find, last_up_to};
 use crate::width::Width;
 
 /// The places of the runs that end at `lower` or above and start at `upper` or below: the first,
-/// and the one after the last. `O(log n)`; the search for the second starts at the first.
+/// and the one after the last. `O(log n)`; the search for the second starts at the first, and there
+/// is none if both numbers are in one run.
 pub(super) fn span<B: Width>(set: &IntervalSet<B>, lower: B, upper: B) -> (usize, usize)
     requires { B.value lower ≤ℤ B.value upper }
     ensures { IsSpan set.now (B.value lower) (B.value upper) result.0 result.1 }
 {
+    set.in_whole();
     let mut probes = Probes::new(set);
-    let start = runs_before(&mut probes, lower);
-    let end = last_up_to(&mut probes, upper, start);
-    (start, end)
+    match find(&mut probes, lower) {
+        Place::In(i) => (i, last_from_run(&mut probes, upper, i)),
+        Place::Gap(i) => (i, last_up_to(&mut probes, upper, i)),
+    }
+}
+
+/// How many runs start at a value or below, as run `i` does, where those before it end below.
+fn last_from_run<B: Width>(probes: &mut Probes<'_, B>, value: B, i: usize) -> usize
+    requires run { IsSomeAnd (slice_get probes.old.runs i) (λ run. run.0 ≤ℤ B.value value) }
+    requires below { EndBelow (B.value value) (take i probes.old.runs) }
+    ensures starts { StartsBy (B.value value) (take result probes.old.runs) }
+    ensures above { StartAbove (B.value value) (drop result probes.old.runs) }
+    ensures at_most { result ≤ length probes.old.runs }
+    ensures onwards { i ≤ result }
+{
+    probes.in_whole();
+    let run = probes.look(i);
+    if value <= run.upper() {
+        i + 1
+    } else {
+        last_up_to(probes, value, i)
+    }
 }
 
 /// The places of the runs that overlap or touch an interval: the first, and the one after the last.

@@ -1,4 +1,4 @@
-use Rattle.std.proofs.Common.{◌≡◌, ℤ, ◌+◌, length, min, sym, ap, ◌∙◌, take, take_all, subst, List, arith}
+use Rattle.std.proofs.Common.{ℤ, length, ap, take_all, List, arith}
 use Rattle.ivl_laws.specs.Bounds.{width_of}
 use Rattle.intervallum.specs.Members.{members_of}
 use Rattle.intervallum.proofs.MemberCounts.{left_counted, more_counted}

@@ -1,8 +1,9 @@
 use Rattle.std.proofs.Common.{rules, ◌≡◌, ◌∙◌, ◌+◌, ◌-◌, ◌/◌, ◌<◌, arith, ℤ, List, ap, get_or, length, refl, subst, sym}
+use Rattle.std.proofs.lemmas.Int.{ints}
 use Rattle.ivl_laws.specs.Families.{set_at}
-use Rattle.ivl_laws.proofs.Orders.{le_number}
+use Rattle.ivl_laws.proofs.Orders.{le_number, lt_number}
 use Rattle.intervallum.specs.Neighbours.{IsLeast}
-use Rattle.ivl_paged.proofs.Heads.{head_at, heads_length}
+use Rattle.ivl_paged.proofs.Heads.{chosen_up_to, head_at, heads_length}
 use Rattle.ivl_paged.proofs.Paging.{search_begins, search_goes}
 use Rattle.ivl_paged.proofs.page_list.PageList.starts_up_to.Goals as goal
 
@@ -11,7 +12,7 @@ search-init g c =
     let same = heads_length g.B.Width.value c.self.inside.heads.items c.self.inside.pages.items c.self.invariant in
     let view = ap (λ (Q : List (List (ℤ × ℤ))). length Q) c.self.view_is in
     let heads = ap length c.as_slice-heads.ensures.value in
-    (search_begins c.args.self.now (g.B.Width.value c.args.value) (length c.as_slice-heads.result.now) (omega (arith, same, view, heads)), omega (arith, same, view, heads))
+    (search_begins c.args.self.now (g.B.Width.value c.args.value) (length c.as_slice-heads.result.now) (omega (arith, same, view, heads)), omega (arith, same, view, heads), omega (arith, ints))
 
 pub search-preserved : goal.search-preserved
 search-preserved g c =
@@ -32,4 +33,11 @@ search-preserved g c =
           c.requires inv (omega (arith, some)) (omega arith) (omega arith) (omega arith) refl here
           (le_number g.met.B.Width.ordered _ _ _ c.le-is_up_to.ensures) c.select_unpredictable-first.ensures,
       c.search.invariant.1,
+      chosen_up_to g.B.Width.value (g.B.Width.value c.args.value) c.index-heads-first.result c.search.last c.select_unpredictable-last.result c.le-is_up_to.result (le_number g.met.B.Width.ordered _ _ _ c.le-is_up_to.ensures).0 c.search.invariant.2 c.select_unpredictable-last.ensures,
     )
+
+pub returns-then-lt : goal.returns-then-lt
+returns-then-lt g c =
+    let lt = (lt_number g.met.B.Width.ordered _ _ _ c.lt.ensures).0 c.if-lt.true in
+    let le = c.search.invariant.2 in
+    absurd (omega (arith, ints, lt, le))
