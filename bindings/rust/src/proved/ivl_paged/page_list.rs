@@ -61,11 +61,18 @@ impl<B: Width> PageList<B> {
         let heads = self.heads.as_slice();
         let mut first = 0;
         let mut left = heads.len();
+        let mut last = value;
         'search: while 0 < left {
             let half = left - left / 2;
             left -= half;
-            let is_up_to = heads[first + half - 1] <= value;
+            let head = heads[first + half - 1];
+            let is_up_to = head <= value;
             first = select_unpredictable(is_up_to, first + half, first);
+            last = select_unpredictable(is_up_to, head, last);
+        }
+        // never so, but asked: where each step chooses two values, the compiler chooses without a jump
+        if value < last {
+            return 0;
         }
         first
     }

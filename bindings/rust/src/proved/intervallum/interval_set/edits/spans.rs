@@ -5,16 +5,30 @@ use crate::rattle::prelude::*;
 use crate::proved::intervallum::interval::Interval;
 use crate::proved::intervallum::interval_set::IntervalSet;
 use crate::proved::intervallum::ops::{Bounded, IsEmpty, Range, StrictShrinkLeft, StrictShrinkRight};
-use crate::proved::intervallum::steps::{Probes, last_up_to, runs_before};
+use crate::proved::intervallum::steps::{Place, Probes, find, last_up_to};
 use crate::proved::intervallum::width::Width;
 
 /// The places of the runs that end at `lower` or above and start at `upper` or below: the first,
-/// and the one after the last. `O(log n)`; the search for the second starts at the first.
+/// and the one after the last. `O(log n)`; the search for the second starts at the first, and there
+/// is none if both numbers are in one run.
 pub(super) fn span<B: Width>(set: &IntervalSet<B>, lower: B, upper: B) -> (usize, usize) {
+    set.in_whole();
     let mut probes = Probes::new(set);
-    let start = runs_before(&mut probes, lower);
-    let end = last_up_to(&mut probes, upper, start);
-    (start, end)
+    match find(&mut probes, lower) {
+        Place::In(i) => (i, last_from_run(&mut probes, upper, i)),
+        Place::Gap(i) => (i, last_up_to(&mut probes, upper, i)),
+    }
+}
+
+/// How many runs start at a value or below, as run `i` does, where those before it end below.
+fn last_from_run<B: Width>(probes: &mut Probes<'_, B>, value: B, i: usize) -> usize {
+    probes.in_whole();
+    let run = probes.look(i);
+    if value <= run.upper() {
+        i + 1
+    } else {
+        last_up_to(probes, value, i)
+    }
 }
 
 /// The places of the runs that overlap or touch an interval: the first, and the one after the last.
