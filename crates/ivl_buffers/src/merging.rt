@@ -4,7 +4,7 @@
 //! places, and returns the number of all of them. It is linear in the runs of both lists, and does
 //! not allocate. In the loops of `union`, `intersection` and `symmetric_difference` no branch hangs on
 //! the values: what a comparison tells is added to a place as 0 or 1, or chooses by a conditional
-//! move.
+//! move. No caller takes in a walk over two lists, so that its loop has all registers to itself.
 ghost use Rattle.std.specs.Prelude.{◌≡◌, ◌⊎◌, ◌++◌, ◌+◌, ◌^◌, ◌<◌, ◌≤◌, ℤ, ◌+ℤ◌, ◌-ℤ◌, ◌<ℤ◌, if◌then◌else◌, not, pos, IfSome, List, [], MatchOption, None, Some, drop, length, map, slice_get, slice_set};
 ghost use Rattle.std.specs.Int.{from_bool, int_max, int_min};
 ghost use Rattle.std.specs.Option.{option_zip};
@@ -22,6 +22,7 @@ use intervallum::width::Width;
 use std::hint::select_unpredictable;
 
 /// Writes the members of both run lists.
+#[inline(never)]
 pub fn intersection<R: Run>(a: &[R], b: &[R], out: &mut [R]) -> usize
     requires first { IsRunListIn R.Bound.whole (map R.pair a.now) }
     requires second { IsRunListIn R.Bound.whole (map R.pair b.now) }
@@ -48,6 +49,7 @@ pub fn intersection<R: Run>(a: &[R], b: &[R], out: &mut [R]) -> usize
 }
 
 /// Writes the members of the first run list that are not in the second.
+#[inline(never)]
 pub fn difference<R: Run>(a: &[R], b: &[R], out: &mut [R]) -> usize
     requires first { IsRunListIn R.Bound.whole (map R.pair a.now) }
     requires second { IsRunListIn R.Bound.whole (map R.pair b.now) }
@@ -102,6 +104,7 @@ pub fn complement<R: Run>(runs: &[R], out: &mut [R]) -> usize
 }
 
 /// Writes the members of either run list.
+#[inline(never)]
 pub fn union<R: Run>(a: &[R], b: &[R], out: &mut [R]) -> usize
     requires first { IsRunListIn R.Bound.whole (map R.pair a.now) }
     requires second { IsRunListIn R.Bound.whole (map R.pair b.now) }
@@ -129,6 +132,7 @@ pub fn union<R: Run>(a: &[R], b: &[R], out: &mut [R]) -> usize
 }
 
 /// Writes the members of exactly one of the two run lists.
+#[inline(never)]
 pub fn symmetric_difference<R: Run>(a: &[R], b: &[R], out: &mut [R]) -> usize
     requires first { IsRunListIn R.Bound.whole (map R.pair a.now) }
     requires second { IsRunListIn R.Bound.whole (map R.pair b.now) }
@@ -247,12 +251,20 @@ fn next_heads<R: Run>(
     ensures { result ≡ option_zip (slice_get a.now (i + from_bool ends_first)) (slice_get b.now (j + from_bool (not ends_first))) }
 {
     let (run, other) = heads;
-    if i + 1 < a.len() && j + 1 < b.len() {
-        let next = select_unpredictable(ends_first, a[i + 1], run);
-        let more = select_unpredictable(ends_first, other, b[j + 1]);
-        return Some((next, more));
+    match (pair_at(a, i + 1), pair_at(b, j + 1)) {
+        (Some(next), Some(more)) => {
+            let first = select_unpredictable(ends_first, next, run);
+            let second = select_unpredictable(ends_first, other, more);
+            Some((first, second))
+        }
+        (next, more) => {
+            if ends_first {
+                next.zip(Some(other))
+            } else {
+                Some(run).zip(more)
+            }
+        }
     }
-    pair_at(a, i + usize::from(ends_first)).zip(pair_at(b, j + usize::from(!ends_first)))
 }
 
 /// The part of a run above another one that ends below its end.

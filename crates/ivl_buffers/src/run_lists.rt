@@ -121,14 +121,27 @@ fn four_are_linked<R: Run>(first: &[R], second: &[R], third: &[R], fourth: &[R])
     ensures { IsTrue result ↔ (AreLinked R.Bound.whole (map R.pair first.now) × AreLinked R.Bound.whole (map R.pair second.now)
         × AreLinked R.Bound.whole (map R.pair third.now) × AreLinked R.Bound.whole (map R.pair fourth.now)) }
 {
+    let (more, others, rest) = (
+        as_long_as(second, first),
+        as_long_as(third, first),
+        as_long_as(fourth, first),
+    );
     let last = first.len() - 1;
     let mut are_all = true;
     for i in 0..last {
-        let are_two = is_linked_at(first, i) & is_linked_at(second, i);
-        let are_more = is_linked_at(third, i) & is_linked_at(fourth, i);
+        let are_two = is_linked_at(first, i) & is_linked_at(more, i);
+        let are_more = is_linked_at(others, i) & is_linked_at(rest, i);
         are_all = are_all & are_two & are_more;
     }
     are_all
+}
+
+/// The same pairs, as many as another list has: a compiler that knows it need not test each index.
+fn as_long_as<'a, R: Run>(runs: &'a [R], other: &[R]) -> &'a [R]
+    requires { length runs.now ≡ length other.now }
+    ensures { result.now ≡ runs.now }
+{
+    &runs[..other.len()]
 }
 
 /// As `are_linked`, from the first pair on.
