@@ -251,20 +251,12 @@ fn next_heads<R: Run>(
     ensures { result ≡ option_zip (slice_get a.now (i + from_bool ends_first)) (slice_get b.now (j + from_bool (not ends_first))) }
 {
     let (run, other) = heads;
-    match (pair_at(a, i + 1), pair_at(b, j + 1)) {
-        (Some(next), Some(more)) => {
-            let first = select_unpredictable(ends_first, next, run);
-            let second = select_unpredictable(ends_first, other, more);
-            Some((first, second))
-        }
-        (next, more) => {
-            if ends_first {
-                next.zip(Some(other))
-            } else {
-                Some(run).zip(more)
-            }
-        }
+    if i + 1 < a.len() && j + 1 < b.len() {
+        let next = select_unpredictable(ends_first, a[i + 1], run);
+        let more = select_unpredictable(ends_first, other, b[j + 1]);
+        return Some((next, more));
     }
+    pair_at(a, i + usize::from(ends_first)).zip(pair_at(b, j + usize::from(!ends_first)))
 }
 
 /// The part of a run above another one that ends below its end.
