@@ -1,13 +1,12 @@
 -- The complement of a run list, from a place on: what is left of the range above the runs before that place.
-use Rattle.std.proofs.Common.{◌≡◌, inl, inr, ⊎_elim, ℕ, ◌+◌, ◌<◌, ◌≤◌, ℤ, ◌≤ℤ◌, ◌<ℤ◌, List, [], ◌∷◌, length, get_or, map, drop, sym, subst, arith}
+use Rattle.std.proofs.Common.{◌≡◌, inl, ⊎_elim, ℕ, ◌+◌, ◌<◌, ◌≤◌, ℤ, ◌≤ℤ◌, ◌<ℤ◌, List, [], ◌∷◌, length, get_or, map, drop, sym, subst, arith}
 use Rattle.std.proofs.lemmas.Int.{ints, clamps}
 use Rattle.ivl_laws.specs.Bounds.{IsBoundRange}
-use Rattle.ivl_laws.specs.Sets.{Complement, IsBetween, SameMembers, Without}
+use Rattle.ivl_laws.specs.Sets.{Complement, SameMembers, Without}
 use Rattle.ivl_laws.specs.Runs.{Covers, IsMaximal, IsRunListIn}
 use Rattle.ivl_buffers.specs.Merging.{IsLaid, IsRunIn, LaysNext}
-use Rattle.ivl_buffers.proofs.Differences.{above_is, above_part, below_part, part_alone, part_first, part_second}
+use Rattle.ivl_buffers.proofs.Differences.{above_part, below_part, part_alone, part_first, part_second}
 use Rattle.ivl_buffers.proofs.Output.{IsLaying, laying_begins, laying_ends, laying_same}
-use Rattle.ivl_buffers.proofs.RunLists.{first_is_run}
 use Rattle.ivl_buffers.proofs.Suffixes.{rest_all, rest_at, rest_list, rest_none}
 
 -- a number of the range is no member, or is in the one run of the range and not in the list

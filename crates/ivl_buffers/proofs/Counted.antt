@@ -1,5 +1,5 @@
 -- Whether a set has a member, by the number of its runs.
-use Rattle.std.proofs.Common.{◌≡◌, ◌↔◌, inl, inr, ⊎_elim, ℕ, ◌+◌, ℤ, List, [], ◌∷◌, length, IsTrue, nat_eq, nat_lt, arith}
+use Rattle.std.proofs.Common.{◌≡◌, ◌↔◌, inl, ⊎_elim, ℕ, ℤ, List, [], ◌∷◌, length, IsTrue, nat_eq, nat_lt, arith}
 use Rattle.std.proofs.lemmas.Bool.{eq-eqb, eqb-true, lt-ltb, ltb-true}
 use Rattle.ivl_laws.specs.Sets.{HasNone, HasSome, Intersection, IsSubset, Without}
 use Rattle.ivl_laws.specs.Runs.{Covers, IsRunsOf}

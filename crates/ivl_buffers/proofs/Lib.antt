@@ -6,6 +6,7 @@ pub mod LeastMember
 pub mod InOrder
 pub mod Suffixes
 pub mod RunLists
+pub mod Links
 pub mod Output
 pub mod Intersections
 pub mod Differences

@@ -5,6 +5,7 @@ pub mod Sums
 pub mod Products
 pub mod Lookup
 pub mod Merging
+pub mod Links
 pub mod Beside
 pub mod Rank
 pub mod Edits

@@ -8,7 +8,7 @@ ghost use Rattle.ivl_buffers.specs.Operations.{HoldsOf};
 use crate::merging::{difference, intersection};
 use crate::reading::{are_inside, set_of};
 use crate::run::Run;
-use crate::run_lists::can_walk;
+use crate::run_lists::can_walk_both;
 use crate::writing::{OUT_OF_MEMORY, OUT_OF_RANGE};
 use intervallum::ops::{Cardinality, Overlap, Subset};
 use intervallum::width::Width;
@@ -30,7 +30,7 @@ pub fn ask<R: Run>(alloc: Global, asking: Asking, a: &[R], b: &[R]) -> i64
     ensures { AnswersQuestion R.Bound.whole (Union (Covers (map R.pair a.now)) (Covers (map R.pair b.now)))
         (HoldsOf asking (Covers (map R.pair a.now)) (Covers (map R.pair b.now))) result }
 {
-    if can_walk(a) && can_walk(b) {
+    if can_walk_both(a, b) {
         return if holds(asking, a, b) { 1 } else { 0 };
     }
     if !are_inside(a) || !are_inside(b) {

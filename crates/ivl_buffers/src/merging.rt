@@ -4,9 +4,10 @@
 //! places, and returns the number of all of them. It is linear in the runs of both lists, and does
 //! not allocate. In the loops of `union`, `intersection` and `symmetric_difference` no branch hangs on
 //! the values: what a comparison tells is added to a place as 0 or 1, or chooses by a conditional
-//! move.
-ghost use Rattle.std.specs.Prelude.{◌≡◌, ◌⊎◌, ◌++◌, ◌+◌, ◌^◌, ◌<◌, ◌≤◌, ℤ, ◌+ℤ◌, ◌-ℤ◌, ◌<ℤ◌, if◌then◌else◌, pos, IfSome, List, [], MatchOption, None, drop, length, map, slice_set};
-ghost use Rattle.std.specs.Int.{int_max, int_min};
+//! move. No caller takes in a walk over two lists, so that its loop has all registers to itself.
+ghost use Rattle.std.specs.Prelude.{◌≡◌, ◌⊎◌, ◌++◌, ◌+◌, ◌^◌, ◌<◌, ◌≤◌, ℤ, ◌+ℤ◌, ◌-ℤ◌, ◌<ℤ◌, if◌then◌else◌, not, pos, IfSome, List, [], MatchOption, None, Some, drop, length, map, slice_get, slice_set};
+ghost use Rattle.std.specs.Int.{from_bool, int_max, int_min};
+ghost use Rattle.std.specs.Option.{option_zip};
 ghost use Rattle.ivl_laws.specs.Sets.{Complement, Intersection, SymmetricDifference, Union, Without};
 ghost use Rattle.ivl_laws.specs.Runs.{Covers, IsRunListIn};
 ghost use Rattle.ivl_laws.specs.Walks.{TakesFirst};
@@ -21,6 +22,7 @@ use intervallum::width::Width;
 use std::hint::select_unpredictable;
 
 /// Writes the members of both run lists.
+#[inline(never)]
 pub fn intersection<R: Run>(a: &[R], b: &[R], out: &mut [R]) -> usize
     requires first { IsRunListIn R.Bound.whole (map R.pair a.now) }
     requires second { IsRunListIn R.Bound.whole (map R.pair b.now) }
@@ -32,12 +34,14 @@ pub fn intersection<R: Run>(a: &[R], b: &[R], out: &mut [R]) -> usize
     let mut count = 0;
     let mut i = 0;
     let mut j = 0;
-    'walk: while let Some(runs) = pair_at(a, i).zip(pair_at(b, j)) {
+    let mut heads = pair_at(a, 0).zip(pair_at(b, 0));
+    'walk: while let Some(runs) = heads {
         let (run, other) = runs;
         let start = run.lower().max(other.lower());
         let end = run.upper().min(other.upper());
         count = lay(out, count, R::of(start, end));
         let ends_first = run.upper() <= other.upper();
+        heads = next_heads(a, i, b, j, runs, ends_first);
         i += usize::from(ends_first);
         j += usize::from(!ends_first);
     }
@@ -45,6 +49,7 @@ pub fn intersection<R: Run>(a: &[R], b: &[R], out: &mut [R]) -> usize
 }
 
 /// Writes the members of the first run list that are not in the second.
+#[inline(never)]
 pub fn difference<R: Run>(a: &[R], b: &[R], out: &mut [R]) -> usize
     requires first { IsRunListIn R.Bound.whole (map R.pair a.now) }
     requires second { IsRunListIn R.Bound.whole (map R.pair b.now) }
@@ -99,6 +104,7 @@ pub fn complement<R: Run>(runs: &[R], out: &mut [R]) -> usize
 }
 
 /// Writes the members of either run list.
+#[inline(never)]
 pub fn union<R: Run>(a: &[R], b: &[R], out: &mut [R]) -> usize
     requires first { IsRunListIn R.Bound.whole (map R.pair a.now) }
     requires second { IsRunListIn R.Bound.whole (map R.pair b.now) }
@@ -126,6 +132,7 @@ pub fn union<R: Run>(a: &[R], b: &[R], out: &mut [R]) -> usize
 }
 
 /// Writes the members of exactly one of the two run lists.
+#[inline(never)]
 pub fn symmetric_difference<R: Run>(a: &[R], b: &[R], out: &mut [R]) -> usize
     requires first { IsRunListIn R.Bound.whole (map R.pair a.now) }
     requires second { IsRunListIn R.Bound.whole (map R.pair b.now) }
@@ -225,6 +232,31 @@ fn take_first<R: Run>(a: &[R], i: &mut usize, b: &[R], j: &mut usize) -> Option<
         }
         (None, None) => None,
     }
+}
+
+/// The pairs at two places of two lists, once one of the places has advanced, from those that stand
+/// there before: both next pairs are read before it is known which place advances.
+fn next_heads<R: Run>(
+    a: &[R],
+    i: usize,
+    b: &[R],
+    j: usize,
+    heads: (R, R),
+    ends_first: bool,
+) -> Option<(R, R)>
+    requires first { i < length a.now }
+    requires second { j < length b.now }
+    requires first_head { slice_get a.now i ≡ Some heads.0 }
+    requires second_head { slice_get b.now j ≡ Some heads.1 }
+    ensures { result ≡ option_zip (slice_get a.now (i + from_bool ends_first)) (slice_get b.now (j + from_bool (not ends_first))) }
+{
+    let (run, other) = heads;
+    if i + 1 < a.len() && j + 1 < b.len() {
+        let next = select_unpredictable(ends_first, a[i + 1], run);
+        let more = select_unpredictable(ends_first, other, b[j + 1]);
+        return Some((next, more));
+    }
+    pair_at(a, i + usize::from(ends_first)).zip(pair_at(b, j + usize::from(!ends_first)))
 }
 
 /// The part of a run above another one that ends below its end.

@@ -9,7 +9,7 @@ ghost use Rattle.ivl_buffers.specs.Merging.{IsLaid};
 use crate::merging::{complement, difference, intersection, symmetric_difference, union};
 use crate::reading::{are_inside, set_of};
 use crate::run::Run;
-use crate::run_lists::can_walk;
+use crate::run_lists::{can_walk, can_walk_both};
 use crate::writing::{OUT_OF_RANGE, tell};
 use intervallum::interval_set::IntervalSet;
 use intervallum::ops::{Complement, Difference, Intersection, SymmetricDifference, Union};
@@ -101,7 +101,7 @@ pub fn of_two<R: Run>(alloc: Global, making: OfTwo, a: &[R], b: &[R], out: &mut 
     ensures { AnswersSet R.Bound.whole (Union (Covers (map R.pair a.now)) (Covers (map R.pair b.now)))
         (MadeOfTwo making (Covers (map R.pair a.now)) (Covers (map R.pair b.now))) (map R.pair out.old) (map R.pair out.new) result }
 {
-    if is_merged(a, b) {
+    if can_walk_both(a, b) {
         return merge(making, a, b, out);
     }
     if !are_inside(a) || !are_inside(b) {
@@ -128,15 +128,6 @@ fn made_of_two<R: Run>(
         OfTwo::FirstAlone => left.difference(&right),
         OfTwo::OneAlone => left.symmetric_difference(&right),
     }
-}
-
-/// True only if both lists are lists of runs, so that one walk over both makes the answer.
-fn is_merged<R: Run>(a: &[R], b: &[R]) -> bool
-    ensures first { IsTrue result → IsRunListIn R.Bound.whole (map R.pair a.now) }
-    ensures second { IsTrue result → IsRunListIn R.Bound.whole (map R.pair b.now) }
-    ensures counted { IsTrue result → length a.now + length b.now < 2 ^ 63 }
-{
-    can_walk(a) && can_walk(b)
 }
 
 /// Writes what is made of two run lists, and returns its number of runs. If there may be too little

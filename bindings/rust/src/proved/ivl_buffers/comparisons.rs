@@ -5,7 +5,7 @@ use crate::rattle::prelude::*;
 use crate::proved::ivl_buffers::merging::{difference, intersection};
 use crate::proved::ivl_buffers::reading::{are_inside, set_of};
 use crate::proved::ivl_buffers::run::Run;
-use crate::proved::ivl_buffers::run_lists::can_walk;
+use crate::proved::ivl_buffers::run_lists::can_walk_both;
 use crate::proved::ivl_buffers::writing::{OUT_OF_MEMORY, OUT_OF_RANGE};
 use crate::proved::intervallum::ops::{Cardinality, Overlap, Subset};
 use crate::proved::intervallum::width::Width;
@@ -33,7 +33,7 @@ pub enum Asking {
 ///
 /// Words: [`AnswersQuestion`](crate::definitions#AnswersQuestion), [`Union`](crate::definitions#Union), [`Covers`](crate::definitions#Covers), [`HoldsOf`](crate::definitions#HoldsOf).
 pub fn ask<R: Run>(alloc: Global, asking: Asking, a: &[R], b: &[R]) -> i64 {
-    if can_walk(a) && can_walk(b) {
+    if can_walk_both(a, b) {
         return if holds(asking, a, b) { 1 } else { 0 };
     }
     if !are_inside(a) || !are_inside(b) {

@@ -4,7 +4,7 @@
 //! places, and returns the number of all of them. It is linear in the runs of both lists, and does
 //! not allocate. In the loops of `union`, `intersection` and `symmetric_difference` no branch hangs on
 //! the values: what a comparison tells is added to a place as 0 or 1, or chooses by a conditional
-//! move.
+//! move. No caller takes in a walk over two lists, so that its loop has all registers to itself.
 
 #[allow(unused_imports)]
 use crate::rattle::prelude::*;
@@ -17,6 +17,7 @@ use crate::proved::intervallum::width::Width;
 use crate::rattle::std::hint::select_unpredictable;
 
 /// Writes the members of both run lists.
+#[inline(never)]
 ///
 /// # Proved
 ///
@@ -34,12 +35,14 @@ pub fn intersection<R: Run>(a: &[R], b: &[R], out: &mut [R]) -> usize {
     let mut count = 0;
     let mut i = 0;
     let mut j = 0;
-    'walk: while let Some(runs) = pair_at(a, i).zip(pair_at(b, j)) {
+    let mut heads = pair_at(a, 0).zip(pair_at(b, 0));
+    'walk: while let Some(runs) = heads {
         let (run, other) = runs;
         let start = run.lower().max(other.lower());
         let end = run.upper().min(other.upper());
         count = lay(out, count, R::of(start, end));
         let ends_first = run.upper() <= other.upper();
+        heads = next_heads(a, i, b, j, runs, ends_first);
         i += usize::from(ends_first);
         j += usize::from(!ends_first);
     }
@@ -47,6 +50,7 @@ pub fn intersection<R: Run>(a: &[R], b: &[R], out: &mut [R]) -> usize {
 }
 
 /// Writes the members of the first run list that are not in the second.
+#[inline(never)]
 ///
 /// # Proved
 ///
@@ -113,6 +117,7 @@ pub fn complement<R: Run>(runs: &[R], out: &mut [R]) -> usize {
 }
 
 /// Writes the members of either run list.
+#[inline(never)]
 ///
 /// # Proved
 ///
@@ -146,6 +151,7 @@ pub fn union<R: Run>(a: &[R], b: &[R], out: &mut [R]) -> usize {
 }
 
 /// Writes the members of exactly one of the two run lists.
+#[inline(never)]
 ///
 /// # Proved
 ///
@@ -230,6 +236,25 @@ fn take_first<R: Run>(a: &[R], i: &mut usize, b: &[R], j: &mut usize) -> Option<
         }
         (None, None) => None,
     }
+}
+
+/// The pairs at two places of two lists, once one of the places has advanced, from those that stand
+/// there before: both next pairs are read before it is known which place advances.
+fn next_heads<R: Run>(
+    a: &[R],
+    i: usize,
+    b: &[R],
+    j: usize,
+    heads: (R, R),
+    ends_first: bool,
+) -> Option<(R, R)> {
+    let (run, other) = heads;
+    if i + 1 < a.len() && j + 1 < b.len() {
+        let next = select_unpredictable(ends_first, a[i + 1], run);
+        let more = select_unpredictable(ends_first, other, b[j + 1]);
+        return Some((next, more));
+    }
+    pair_at(a, i + usize::from(ends_first)).zip(pair_at(b, j + usize::from(!ends_first)))
 }
 
 /// The part of a run above another one that ends below its end.

@@ -19,20 +19,7 @@ use crate::rattle::std::hint::select_unpredictable;
 ///
 /// Words: [`IsRunListIn`](crate::definitions#IsRunListIn).
 pub fn is_run_list<R: Run>(runs: &[R]) -> bool {
-    let Some((first, rest)) = runs.split_first() else {
-        return true;
-    };
-    if !is_run(*first) {
-        return false;
-    }
-    let mut last = *first;
-    for run in rest {
-        if !is_next(last, *run) {
-            return false;
-        }
-        last = *run;
-    }
-    true
+    has_ends(runs) & are_linked(runs)
 }
 
 /// The most runs of a list that is walked, so that the number of runs of an answer fits `i64`.
@@ -43,26 +30,122 @@ pub(crate) fn can_walk<R: Run>(runs: &[R]) -> bool {
     runs.len() <= MOST_RUNS && is_run_list(runs)
 }
 
+/// Returns true only if both are lists of runs, and their numbers leave room to count with.
+pub(crate) fn can_walk_both<R: Run>(a: &[R], b: &[R]) -> bool {
+    a.len() <= MOST_RUNS && b.len() <= MOST_RUNS && are_run_lists(a, b)
+}
+
+/// True exactly when both are lists of runs.
+fn are_run_lists<R: Run>(a: &[R], b: &[R]) -> bool {
+    has_ends(a) & has_ends(b) & are_both_linked(a, b)
+}
+
+/// True exactly when the first pair, if there is one, does not start below the range, and the last
+/// one is a run in the range.
+fn has_ends<R: Run>(runs: &[R]) -> bool {
+    if runs.is_empty() {
+        return true;
+    }
+    let (first, last) = (runs[0], runs[runs.len() - 1]);
+    R::Bound::min_value() <= first.lower() && is_run(last)
+}
+
 /// True exactly when the pair is not crossed and its bounds are in the range.
 fn is_run<R: Run>(run: R) -> bool {
     run.lower() <= run.upper() && Interval::in_range(run.lower(), run.upper())
 }
 
-/// True exactly when a pair is a run, and some number lies above another run and below it.
-fn is_next<R: Run>(last: R, run: R) -> bool {
-    let (start, end) = (run.lower(), run.upper());
-    if end < start {
-        return false;
+/// The fewest pairs that are tested in parts.
+const FEWEST_IN_PARTS: usize = 64;
+
+/// True exactly when each pair of both lists but their last is linked to the next.
+fn are_both_linked<R: Run>(a: &[R], b: &[R]) -> bool {
+    let count = a.len().min(b.len());
+    if count < FEWEST_IN_PARTS {
+        return are_linked(a) & are_linked(b);
     }
-    if R::Bound::max_value() < end {
-        return false;
+    let part = (count - 1) / 2;
+    let (first, more) = split_at_pair(a, part);
+    let (second, a_rest) = split_at_pair(more, part);
+    let (third, others) = split_at_pair(b, part);
+    let (fourth, b_rest) = split_at_pair(others, part);
+    four_are_linked(first, second, third, fourth) & are_linked(a_rest) & are_linked(b_rest)
+}
+
+/// True exactly when each pair but the last is linked to the next.
+fn are_linked<R: Run>(runs: &[R]) -> bool {
+    if runs.len() < FEWEST_IN_PARTS {
+        return are_linked_in_turn(runs);
     }
-    let below = last.upper();
-    if start <= below {
-        return false;
+    let part = (runs.len() - 1) / 4;
+    let (first, others) = split_at_pair(runs, part);
+    let (second, more) = split_at_pair(others, part);
+    let (third, few) = split_at_pair(more, part);
+    let (fourth, rest) = split_at_pair(few, part);
+    four_are_linked(first, second, third, fourth) & are_linked_in_turn(rest)
+}
+
+/// The pairs up to the one at a place, and those from it on: it is in both.
+fn split_at_pair<R: Run>(runs: &[R], i: usize) -> (&[R], &[R]) {
+    (&runs[..i + 1], &runs[i..])
+}
+
+/// True exactly when each pair but the last of each of four parts, which are equally long, is linked to
+/// the next. The four are read side by side: so none waits for the memory of another, and no branch
+/// hangs on the values.
+fn four_are_linked<R: Run>(first: &[R], second: &[R], third: &[R], fourth: &[R]) -> bool {
+    let (more, others, rest) = (
+        as_long_as(second, first),
+        as_long_as(third, first),
+        as_long_as(fourth, first),
+    );
+    let last = first.len() - 1;
+    let mut are_all = true;
+    for i in 0..last {
+        let are_two = is_linked_at(first, i) & is_linked_at(more, i);
+        let are_more = is_linked_at(others, i) & is_linked_at(rest, i);
+        are_all = are_all & are_two & are_more;
     }
-    // what is above another run starts in the range
-    below.add_in_range(R::Bound::one()) < start
+    are_all
+}
+
+/// The same pairs, as many as another list has: a compiler that knows it need not test each index.
+fn as_long_as<'a, R: Run>(runs: &'a [R], other: &[R]) -> &'a [R] {
+    &runs[..other.len()]
+}
+
+/// As `are_linked`, from the first pair on.
+fn are_linked_in_turn<R: Run>(runs: &[R]) -> bool {
+    if runs.is_empty() {
+        return true;
+    }
+    let last = runs.len() - 1;
+    let mut are_all = true;
+    for i in 0..last {
+        are_all = are_all & is_linked_at(runs, i);
+    }
+    are_all
+}
+
+/// True exactly when the pair at a place is linked to the next: whether it is and those after it are
+/// linked decides of those from it on.
+fn is_linked_at<R: Run>(runs: &[R], i: usize) -> bool {
+    is_linked(runs[i], runs[i + 1])
+}
+
+/// True exactly when a pair is not crossed, and the number above it is in the range and below another
+/// pair.
+fn is_linked<R: Run>(run: R, next: R) -> bool {
+    let is_open = run.lower() <= run.upper();
+    is_open & is_below(run, next)
+}
+
+/// True exactly when the number above a pair is in the range and below another pair.
+fn is_below<R: Run>(run: R, next: R) -> bool {
+    match run.upper().checked_add(R::Bound::one()) {
+        Some(above) => above < next.lower(),
+        None => false,
+    }
 }
 
 /// Returns true exactly when some number lies above one run and below another.

@@ -5,7 +5,7 @@ use crate::rattle::prelude::*;
 use crate::proved::ivl_buffers::merging::{complement, difference, intersection, symmetric_difference, union};
 use crate::proved::ivl_buffers::reading::{are_inside, set_of};
 use crate::proved::ivl_buffers::run::Run;
-use crate::proved::ivl_buffers::run_lists::can_walk;
+use crate::proved::ivl_buffers::run_lists::{can_walk, can_walk_both};
 use crate::proved::ivl_buffers::writing::{OUT_OF_RANGE, tell};
 use crate::proved::intervallum::interval_set::IntervalSet;
 use crate::proved::intervallum::ops::{Complement, Difference, Intersection, SymmetricDifference, Union};
@@ -97,7 +97,7 @@ fn walk_rest<R: Run>(a: &[R], out: &mut [R]) -> i64 {
 ///
 /// Words: [`AnswersSet`](crate::definitions#AnswersSet), [`Union`](crate::definitions#Union), [`Covers`](crate::definitions#Covers), [`MadeOfTwo`](crate::definitions#MadeOfTwo).
 pub fn of_two<R: Run>(alloc: Global, making: OfTwo, a: &[R], b: &[R], out: &mut [R]) -> i64 {
-    if is_merged(a, b) {
+    if can_walk_both(a, b) {
         return merge(making, a, b, out);
     }
     if !are_inside(a) || !are_inside(b) {
@@ -120,11 +120,6 @@ fn made_of_two<R: Run>(
         OfTwo::FirstAlone => left.difference(&right),
         OfTwo::OneAlone => left.symmetric_difference(&right),
     }
-}
-
-/// True only if both lists are lists of runs, so that one walk over both makes the answer.
-fn is_merged<R: Run>(a: &[R], b: &[R]) -> bool {
-    can_walk(a) && can_walk(b)
 }
 
 /// Writes what is made of two run lists, and returns its number of runs. If there may be too little

@@ -1,4 +1,4 @@
-use Rattle.std.proofs.Common.{◌≡◌, ◌+◌, ℤ, length, map, ap, sym, subst, arith, ◌∙◌}
+use Rattle.std.proofs.Common.{◌≡◌, ℤ, map, ap, sym, subst, arith, ◌∙◌}
 use Rattle.ivl_laws.proofs.Orders.{le_number, not_le_number}
 use Rattle.intervallum.proofs.Intersections.{ends_before, ends_by}
 use Rattle.ivl_buffers.specs.Merging.{IsRunIn}
