@@ -36,7 +36,7 @@ images_are op L M l m = record {
   members = result_members op L M l m;
 }
 
-pub are_images : (op : Op) (L M E : List (ℤ × ℤ)) → IsMaximal L → IsMaximal M → E ≡ pairwise (result_of op) L M → AreImages op L M E
+are_images : (op : Op) (L M E : List (ℤ × ℤ)) → IsMaximal L → IsMaximal M → E ≡ pairwise (result_of op) L M → AreImages op L M E
 are_images op L M E l m e = subst (AreImages op L M) (sym e) (images_are op L M l m)
 
 pub exact_results_are_monotone : (op : Op) (S S' T T' : ℤ → Type 0) → IsSubset S S' → IsSubset T T' → IsSubset (ExactResultsBy op S T) (ExactResultsBy op S' T')
@@ -58,17 +58,9 @@ entry_fits op S W M j q h e f z r = f z (exact_results_are_monotone op S S (IsBe
 pub open_here : (L : List (ℤ × ℤ)) (i : ℕ) (p : ℤ × ℤ) → IsMaximal L → i < length L → p ≡ get_or L i p → p.0 ≤ℤ p.1
 open_here L i p m h e = subst (λ (t : ℤ × ℤ). t.0 ≤ℤ t.1) (sym e) (open_at L i p m h)
 
-module _ (op : Op) (L L' M M' : List (ℤ × ℤ)) where
-  pub row_fits_seen : (W : ℤ → Type 0) (i : ℕ) (p : ℤ × ℤ) → L ≡ L' → M ≡ M' → i < length L → p ≡ get_or L i p → IsSubset (ExactResultsBy op (Covers L') (Covers M')) W →
-      IsSubset (ExactResultsBy op (IsBetween p) (Covers M)) W
-  row_fits_seen W i p e f h is fits = row_fits op L (Covers M) W i p h is
-      (subst (λ (N : List (ℤ × ℤ)). IsSubset (ExactResultsBy op (Covers N) (Covers M)) W) (sym e)
-      (subst (λ (N : List (ℤ × ℤ)). IsSubset (ExactResultsBy op (Covers L') (Covers N)) W) (sym f) fits))
-
-  pub are_images_seen : (E : List (ℤ × ℤ)) (i : ℕ) → L ≡ L' → M ≡ M' → IsMaximal L' → IsMaximal M' → length L ≤ i → E ≡ pairwise (result_of op) (take i L) M → AreImages op L' M' E
-  are_images_seen E i e f l m h is =
-      subst (λ (N : List (ℤ × ℤ)). AreImages op N M' E) e (subst (λ (N : List (ℤ × ℤ)). AreImages op L N E) f
-      (are_images op L M E (subst IsMaximal (sym e) l) (subst IsMaximal (sym f) m) (is ∙ ap (λ (N : List (ℤ × ℤ)). pairwise (result_of op) N M) (take_all i L h))))
+-- the entries are made of all runs of the first list
+pub are_images_to : (op : Op) (L M E : List (ℤ × ℤ)) (i : ℕ) → IsMaximal L → IsMaximal M → length L ≤ i → E ≡ pairwise (result_of op) (take i L) M → AreImages op L M E
+are_images_to op L M E i l m h is = are_images op L M E l m (is ∙ ap (λ (N : List (ℤ × ℤ)). pairwise (result_of op) N M) (take_all i L h))
 
 -- ---- results with one value
 

@@ -4,6 +4,7 @@ pub mod Walking
 pub mod Joins
 pub mod Pushing
 pub mod Sweeping
+pub mod Halves
 pub mod Images
 pub mod Fitting
 pub mod Text

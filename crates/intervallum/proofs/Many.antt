@@ -1,10 +1,11 @@
 -- The sets of a list: those of its two parts, and three sets.
-use Rattle.std.proofs.Common.{◌≡◌, ◌⊎◌, ⊎_elim, inl, inr, ℕ, zero, suc, ◌-◌, ◌≤◌, ◌<◌, ℤ, List, [], ◌∷◌, map, length, get_or, take, drop, take_all, length-drop, subst, arith}
+use Rattle.std.proofs.Common.{◌≡◌, ◌⊎◌, ⊎_elim, inl, inr, ℕ, zero, suc, ◌-◌, ◌≤◌, ◌<◌, ℤ, List, [], ◌∷◌, map, length, get_or, take, drop, subst, arith}
 use Rattle.std.specs.Prelude.{◌↔◌}
 use Rattle.ivl_laws.specs.Sets.{Intersection, IsBetween, IsSubset, Union}
 use Rattle.ivl_laws.specs.Runs.{Covers, IsRunsOf}
 use Rattle.ivl_laws.proofs.SetLaws.{IsRunsOf-same}
 use Rattle.intervallum.specs.Many.{IsInEach, IsInSome}
+use Rattle.intervallum.proofs.Sweeping.{from_place}
 
 module _ {X : Type 0} (f : X → List (ℤ × ℤ)) where
   some_split : (xs : List X) (n : ℕ) (z : ℤ) → (IsInSome (map f (take n xs)) z ⊎ IsInSome (map f (drop n xs)) z) ↔ IsInSome (map f xs) z
@@ -25,14 +26,11 @@ module _ {X : Type 0} (f : X → List (ℤ × ℤ)) where
     (λ s. let t = (each_split xs n z).1 s.1 in ((s.0, t.0), t.1)),
   )
 
-  rest : (xs : List X) (n : ℕ) → take (length xs - n) (drop n xs) ≡ drop n xs
-  rest xs n = take_all (length xs - n) (drop n xs) (let many = length-drop n xs in omega (arith, many))
-
   -- L is the union of K and M, which have the sets of the two parts
   pub union_of_parts : (xs : List X) (n : ℕ) (K M L : List (ℤ × ℤ)) → IsRunsOf K (IsInSome (map f (take n xs))) → IsRunsOf M (IsInSome (map f (take (length xs - n) (drop n xs)))) →
       IsRunsOf L (Union (Covers K) (Covers M)) → IsRunsOf L (IsInSome (map f xs))
   union_of_parts xs n K M L k m = IsRunsOf-same (Union (Covers K) (Covers M)) (IsInSome (map f xs)) L (λ z.
-      let upper : IsRunsOf M (IsInSome (map f (drop n xs))) = subst (λ (ys : List X). IsRunsOf M (IsInSome (map f ys))) (rest xs n) m in (
+      let upper : IsRunsOf M (IsInSome (map f (drop n xs))) = subst (λ (ys : List X). IsRunsOf M (IsInSome (map f ys))) (from_place xs n) m in (
         ⊎_elim (λ c. (some_split xs n z).0 (inl ((k.members z).0 c))) (λ c. (some_split xs n z).0 (inr ((upper.members z).0 c))),
         (λ s. ⊎_elim (λ t. inl ((k.members z).1 t)) (λ t. inr ((upper.members z).1 t)) ((some_split xs n z).1 s)),
       ))
@@ -43,7 +41,7 @@ module _ {X : Type 0} (f : X → List (ℤ × ℤ)) where
       IsRunsOf L (Intersection (Covers K) (Covers M)) → IsRunsOf L (Intersection (IsBetween whole) (IsInEach (map f xs)))
   common_of_parts whole xs n K M L k m = IsRunsOf-same (Intersection (Covers K) (Covers M)) (Intersection (IsBetween whole) (IsInEach (map f xs))) L (λ z.
       let upper : IsRunsOf M (Intersection (IsBetween whole) (IsInEach (map f (drop n xs)))) =
-      subst (λ (ys : List X). IsRunsOf M (Intersection (IsBetween whole) (IsInEach (map f ys)))) (rest xs n) m in (
+      subst (λ (ys : List X). IsRunsOf M (Intersection (IsBetween whole) (IsInEach (map f ys)))) (from_place xs n) m in (
         (λ c. let s = (k.members z).0 c.0 in let t = (upper.members z).0 c.1 in (s.0, (each_split xs n z).0 (s.1, t.1))),
         (λ s. let t = (each_split xs n z).1 s.1 in ((k.members z).1 (s.0, t.0), (upper.members z).1 (s.0, t.1))),
       ))

@@ -3,7 +3,12 @@
 //! Each operand is owned or borrowed. The caller must ensure that the results of each call are in
 //! the range: check with `fits_add`, `fits_sub` and `fits_mul`. With an empty operand this always
 //! holds. Each call returns a new set; borrowed operands are unchanged, and owned ones are
-//! consumed. Two sets with more than `usize::MAX` pairs of runs count as a failed allocation.
+//! consumed.
+//!
+//! The results of at most 256 pairs of runs are sorted together. Of more pairs, those of the first
+//! runs are tried: if half of their results join with others, the results of each run of the shorter
+//! operand are made in turn and united by twos, and no list of all results is made. Otherwise more
+//! than `usize::MAX` pairs of runs count as a failed allocation.
 //!
 //! Sums and differences are exact. A product has, for each pair of runs, all numbers from the least
 //! to the greatest product of the two: `{[1..2]} * {[10..10]}` is `{[10..20]}`.
@@ -27,8 +32,8 @@ impl<B: Width> Add<IntervalSet<B>> for IntervalSet<B> {
     /// Returns all sums of a member of `self` and a member of `rhs`. The caller must ensure that
     /// the sums are in the range. Check with `fits_add`.
     ///
-    /// `O(n m log (n m))` for `n` and `m` runs. Allocates at most `2 n m` runs. Fails only if
-    /// allocation fails.
+    /// `O(n m log (n m))` for `n` and `m` runs. Needs memory for at most `2 n m` runs
+    /// at a time. Fails only if allocation fails.
     ///
     /// ```
     /// let (a, b) = (IntervalSet::new(alloc, 1, 2)?, IntervalSet::new(alloc, 10, 20)?);
@@ -50,8 +55,8 @@ impl<B: Width> Add<&IntervalSet<B>> for IntervalSet<B> {
     /// Returns all sums of a member of `self` and a member of `rhs`. The caller must ensure that
     /// the sums are in the range. Check with `fits_add`.
     ///
-    /// `O(n m log (n m))` for `n` and `m` runs. Allocates at most `2 n m` runs. Fails only if
-    /// allocation fails.
+    /// `O(n m log (n m))` for `n` and `m` runs. Needs memory for at most `2 n m` runs
+    /// at a time. Fails only if allocation fails.
     fn add(self, rhs: &IntervalSet<B>) -> Result<IntervalSet<B>, AllocError> {
         combine(&self, rhs, Op::Sum)
     }
@@ -67,8 +72,8 @@ impl<B: Width> Add<IntervalSet<B>> for &IntervalSet<B> {
     /// Returns all sums of a member of `self` and a member of `rhs`. The caller must ensure that
     /// the sums are in the range. Check with `fits_add`.
     ///
-    /// `O(n m log (n m))` for `n` and `m` runs. Allocates at most `2 n m` runs. Fails only if
-    /// allocation fails.
+    /// `O(n m log (n m))` for `n` and `m` runs. Needs memory for at most `2 n m` runs
+    /// at a time. Fails only if allocation fails.
     fn add(self, rhs: IntervalSet<B>) -> Result<IntervalSet<B>, AllocError> {
         combine(self, &rhs, Op::Sum)
     }
@@ -84,8 +89,8 @@ impl<B: Width> Add<&IntervalSet<B>> for &IntervalSet<B> {
     /// Returns all sums of a member of `self` and a member of `rhs`. The caller must ensure that
     /// the sums are in the range. Check with `fits_add`.
     ///
-    /// `O(n m log (n m))` for `n` and `m` runs. Allocates at most `2 n m` runs. Fails only if
-    /// allocation fails.
+    /// `O(n m log (n m))` for `n` and `m` runs. Needs memory for at most `2 n m` runs
+    /// at a time. Fails only if allocation fails.
     fn add(self, rhs: &IntervalSet<B>) -> Result<IntervalSet<B>, AllocError> {
         combine(self, rhs, Op::Sum)
     }
@@ -187,8 +192,8 @@ impl<B: Width> Sub<IntervalSet<B>> for IntervalSet<B> {
     /// Returns all differences of a member of `self` and a member of `rhs`. The caller must ensure
     /// that the differences are in the range. Check with `fits_sub`.
     ///
-    /// `O(n m log (n m))` for `n` and `m` runs. Allocates at most `2 n m` runs. Fails only if
-    /// allocation fails.
+    /// `O(n m log (n m))` for `n` and `m` runs. Needs memory for at most `2 n m` runs
+    /// at a time. Fails only if allocation fails.
     ///
     /// ```
     /// let (a, b) = (IntervalSet::new(alloc, 1, 2)?, IntervalSet::new(alloc, 10, 20)?);
@@ -210,8 +215,8 @@ impl<B: Width> Sub<&IntervalSet<B>> for IntervalSet<B> {
     /// Returns all differences of a member of `self` and a member of `rhs`. The caller must ensure
     /// that the differences are in the range. Check with `fits_sub`.
     ///
-    /// `O(n m log (n m))` for `n` and `m` runs. Allocates at most `2 n m` runs. Fails only if
-    /// allocation fails.
+    /// `O(n m log (n m))` for `n` and `m` runs. Needs memory for at most `2 n m` runs
+    /// at a time. Fails only if allocation fails.
     fn sub(self, rhs: &IntervalSet<B>) -> Result<IntervalSet<B>, AllocError> {
         combine(&self, rhs, Op::Difference)
     }
@@ -227,8 +232,8 @@ impl<B: Width> Sub<IntervalSet<B>> for &IntervalSet<B> {
     /// Returns all differences of a member of `self` and a member of `rhs`. The caller must ensure
     /// that the differences are in the range. Check with `fits_sub`.
     ///
-    /// `O(n m log (n m))` for `n` and `m` runs. Allocates at most `2 n m` runs. Fails only if
-    /// allocation fails.
+    /// `O(n m log (n m))` for `n` and `m` runs. Needs memory for at most `2 n m` runs
+    /// at a time. Fails only if allocation fails.
     fn sub(self, rhs: IntervalSet<B>) -> Result<IntervalSet<B>, AllocError> {
         combine(self, &rhs, Op::Difference)
     }
@@ -244,8 +249,8 @@ impl<B: Width> Sub<&IntervalSet<B>> for &IntervalSet<B> {
     /// Returns all differences of a member of `self` and a member of `rhs`. The caller must ensure
     /// that the differences are in the range. Check with `fits_sub`.
     ///
-    /// `O(n m log (n m))` for `n` and `m` runs. Allocates at most `2 n m` runs. Fails only if
-    /// allocation fails.
+    /// `O(n m log (n m))` for `n` and `m` runs. Needs memory for at most `2 n m` runs
+    /// at a time. Fails only if allocation fails.
     fn sub(self, rhs: &IntervalSet<B>) -> Result<IntervalSet<B>, AllocError> {
         combine(self, rhs, Op::Difference)
     }
@@ -351,8 +356,8 @@ impl<B: Width> Mul<IntervalSet<B>> for IntervalSet<B> {
     /// Returns, for each pair of runs, the numbers from the least to the greatest product. The
     /// caller must ensure that the products are in the range. Check with `fits_mul`.
     ///
-    /// `O(n m log (n m))` for `n` and `m` runs. Allocates at most `2 n m` runs. Fails only if
-    /// allocation fails.
+    /// `O(n m log (n m))` for `n` and `m` runs. Needs memory for at most `2 n m` runs
+    /// at a time. Fails only if allocation fails.
     ///
     /// ```
     /// let (a, b) = (IntervalSet::new(alloc, 1, 2)?, IntervalSet::new(alloc, 10, 10)?);
@@ -374,8 +379,8 @@ impl<B: Width> Mul<&IntervalSet<B>> for IntervalSet<B> {
     /// Returns, for each pair of runs, the numbers from the least to the greatest product. The
     /// caller must ensure that the products are in the range. Check with `fits_mul`.
     ///
-    /// `O(n m log (n m))` for `n` and `m` runs. Allocates at most `2 n m` runs. Fails only if
-    /// allocation fails.
+    /// `O(n m log (n m))` for `n` and `m` runs. Needs memory for at most `2 n m` runs
+    /// at a time. Fails only if allocation fails.
     fn mul(self, rhs: &IntervalSet<B>) -> Result<IntervalSet<B>, AllocError> {
         combine(&self, rhs, Op::Product)
     }
@@ -391,8 +396,8 @@ impl<B: Width> Mul<IntervalSet<B>> for &IntervalSet<B> {
     /// Returns, for each pair of runs, the numbers from the least to the greatest product. The
     /// caller must ensure that the products are in the range. Check with `fits_mul`.
     ///
-    /// `O(n m log (n m))` for `n` and `m` runs. Allocates at most `2 n m` runs. Fails only if
-    /// allocation fails.
+    /// `O(n m log (n m))` for `n` and `m` runs. Needs memory for at most `2 n m` runs
+    /// at a time. Fails only if allocation fails.
     fn mul(self, rhs: IntervalSet<B>) -> Result<IntervalSet<B>, AllocError> {
         combine(self, &rhs, Op::Product)
     }
@@ -408,8 +413,8 @@ impl<B: Width> Mul<&IntervalSet<B>> for &IntervalSet<B> {
     /// Returns, for each pair of runs, the numbers from the least to the greatest product. The
     /// caller must ensure that the products are in the range. Check with `fits_mul`.
     ///
-    /// `O(n m log (n m))` for `n` and `m` runs. Allocates at most `2 n m` runs. Fails only if
-    /// allocation fails.
+    /// `O(n m log (n m))` for `n` and `m` runs. Needs memory for at most `2 n m` runs
+    /// at a time. Fails only if allocation fails.
     fn mul(self, rhs: &IntervalSet<B>) -> Result<IntervalSet<B>, AllocError> {
         combine(self, rhs, Op::Product)
     }
