@@ -1,30 +1,75 @@
 //! Which runs of a set an edit changes.
-ghost use Rattle.std.specs.Prelude.{◌≡◌, ◌⊎◌, ◌+◌, ◌<◌, ◌≤◌, pos, ◌+ℤ◌, ◌-ℤ◌, ◌≤ℤ◌, [], IsSomeAnd, None, Some, drop, length, slice_get, take};
+ghost use Rattle.std.specs.Prelude.{◌≡◌, ◌⊎◌, ◌+◌, ◌<◌, ◌≤◌, pos, ◌+ℤ◌, ◌-ℤ◌, ◌≤ℤ◌, [], IsSomeAnd, IsTrue, None, Some, drop, length, slice_get, take};
 ghost use Rattle.ivl_laws.specs.Sets.{IsBetween, IsSubset, Union, Without};
 ghost use Rattle.ivl_laws.specs.Runs.{Covers, IsMaximal, IsRunsOf, StartsBy};
 ghost use Rattle.intervallum.specs.Edits.{IsSpan, replaced, widened};
 ghost use Rattle.intervallum.specs.HeldRun.{led_by};
-ghost use Rattle.intervallum.specs.Places.{EndBelow, EndsFrom, StartAbove};
+ghost use Rattle.intervallum.specs.Places.{EndBelow, EndsFrom, IsPlaceOf, StartAbove};
 
 use crate::interval::Interval;
 use crate::interval_set::IntervalSet;
 use crate::ops::{Bounded, IsEmpty, Range, StrictShrinkLeft, StrictShrinkRight};
-use crate::steps::{Place, Probes, find, last_up_to};
+use crate::steps::{Place, Probes, find, find_from, last_up_to};
 use crate::width::Width;
 
 /// The places of the runs that end at `lower` or above and start at `upper` or below: the first,
-/// and the one after the last. `O(log n)`; the search for the second starts at the first, and there
-/// is none if both numbers are in one run.
-pub(super) fn span<B: Width>(set: &IntervalSet<B>, lower: B, upper: B) -> (usize, usize)
+/// and the one after the last. The search for the second starts at the first, and there is none if
+/// both numbers are in one run.
+pub(super) fn span<B: Width>(
+    set: &IntervalSet<B>,
+    place: Option<usize>,
+    lower: B,
+    upper: B,
+) -> (usize, usize)
     requires { B.value lower ≤ℤ B.value upper }
     ensures { IsSpan set.now (B.value lower) (B.value upper) result.0 result.1 }
 {
     set.in_whole();
     let mut probes = Probes::new(set);
-    match find(&mut probes, lower) {
+    match find_near(&mut probes, lower, place) {
         Place::In(i) => (i, last_from_run(&mut probes, upper, i)),
         Place::Gap(i) => (i, last_up_to(&mut probes, upper, i)),
     }
+}
+
+/// The place of a value. Searches from a place on, if one is given and the runs before it end below
+/// the value, and else all runs.
+fn find_near<B: Width>(probes: &mut Probes<'_, B>, value: B, place: Option<usize>) -> Place
+    ensures place { IsPlaceOf probes.old.runs (B.value value) result }
+    ensures same { probes.new.runs ≡ probes.old.runs }
+{
+    match place {
+        Some(place) => find_beside(probes, value, place),
+        None => find(probes, value),
+    }
+}
+
+/// The place of a value. Searches from a place on, if the runs before it end below the value, and else
+/// all runs.
+fn find_beside<B: Width>(probes: &mut Probes<'_, B>, value: B, place: usize) -> Place
+    ensures place { IsPlaceOf probes.old.runs (B.value value) result }
+    ensures same { probes.new.runs ≡ probes.old.runs }
+{
+    if ends_before(probes, place, value) {
+        find_from(probes, value, place)
+    } else {
+        find(probes, value)
+    }
+}
+
+/// Whether there are runs up to a place, and those before it end below a value.
+fn ends_before<B: Width>(probes: &mut Probes<'_, B>, place: usize, value: B) -> bool
+    ensures at_most { IsTrue result → place ≤ length probes.old.runs }
+    ensures below { IsTrue result → EndBelow (B.value value) (take place probes.old.runs) }
+    ensures same { probes.new.runs ≡ probes.old.runs }
+{
+    if place == 0 {
+        return true;
+    }
+    if probes.len() < place {
+        return false;
+    }
+    probes.look(place - 1).upper() < value
 }
 
 /// How many runs start at a value or below, as run `i` does, where those before it end below.
@@ -46,14 +91,18 @@ fn last_from_run<B: Width>(probes: &mut Probes<'_, B>, value: B, i: usize) -> us
 }
 
 /// The places of the runs that overlap or touch an interval: the first, and the one after the last.
-pub(super) fn touched<B: Width>(set: &IntervalSet<B>, interval: &Interval<B>) -> (usize, usize)
+pub(super) fn touched<B: Width>(
+    set: &IntervalSet<B>,
+    place: Option<usize>,
+    interval: &Interval<B>,
+) -> (usize, usize)
     requires { interval.now.0 ≤ℤ interval.now.1 }
     ensures { IsSpan set.now (interval.now.0 -ℤ pos 1) (interval.now.1 +ℤ pos 1) result.0 result.1 }
 {
     set.in_whole();
     let below = one_below(interval.lower());
     let above = one_above(interval.upper());
-    span(set, below, above)
+    span(set, place, below, above)
 }
 
 /// The number before, or the number itself if it is the least of the range.

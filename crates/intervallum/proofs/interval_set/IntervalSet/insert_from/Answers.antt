@@ -9,7 +9,7 @@ use Rattle.ivl_laws.proofs.Runs.{lower_end}
 use Rattle.intervallum.specs.Edits.{replaced, widened}
 use Rattle.intervallum.proofs.Allocating.{some_in_span}
 use Rattle.intervallum.proofs.Sweeping.{adds_nothing}
-use Rattle.intervallum.proofs.interval_set.IntervalSet.insert_interval.Goals as goal
+use Rattle.intervallum.proofs.interval_set.IntervalSet.insert_from.Goals as goal
 
 pub replace-requires-clause-runs : goal.replace-requires-clause-runs
 replace-requires-clause-runs g c =

@@ -9,7 +9,7 @@ use Rattle.ivl_laws.proofs.Runs.{lower_end}
 use Rattle.intervallum.specs.Edits.{IsSpan, replaced, widened}
 use Rattle.intervallum.proofs.Allocating.{ok_unless_split}
 use Rattle.intervallum.proofs.Splicing.{left_where_none}
-use Rattle.intervallum.proofs.interval_set.IntervalSet.remove_interval.Goals as goal
+use Rattle.intervallum.proofs.interval_set.IntervalSet.remove_from.Goals as goal
 
 pub returns-then-start-end-clause-ok : goal.returns-then-start-end-clause-ok
 returns-then-start-end-clause-ok g c =
