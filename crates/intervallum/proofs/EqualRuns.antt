@@ -1,5 +1,8 @@
--- Two lists that are compared run by run, two at a time.
-use Rattle.std.proofs.Common.{◌≡◌, ◌↔◌, ◌∙◌, ◌<◌, ◌+◌, ◌*◌, ℕ, ℤ, pos, List, length, get_or, sym, arith}
+-- Two lists that are compared run by run, some at a time.
+use Rattle.std.proofs.Common.{◌≡◌, ◌↔◌, ◌∙◌, ◌&&◌, ◌<◌, ◌+◌, ◌-◌, ◌++◌, Bool, IsTrue, ℕ, ℤ, pos, List, length, length-drop, get_or, take, take_all, drop, ap, ap₂, sym, arith}
+use Rattle.std.proofs.Math.Seq.{take-add}
+use Rattle.std.proofs.lemmas.Bool.{and_parts, and_from}
+use Rattle.std.proofs.lemmas.List.{take-append-drop}
 use borrow.Author.Count.{below_more}
 use Rattle.intervallum.specs.Sweeps.{run_at}
 use Rattle.intervallum.proofs.Sweeping.{same_item}
@@ -14,6 +17,22 @@ same_here A B i p q h k is is' =
     let b : run_at B i ≡ q = same_item B i (pos 0, pos 0) q k ∙ sym is' in
     ((λ e. a ∙ e ∙ sym b), (λ e. sym a ∙ e ∙ b))
 
-pub same_to_next : (A B : List (ℤ × ℤ)) (i : ℕ) → ((k : ℕ) → k < 2 * i → SameAt A B k) → SameAt A B (2 * i) → SameAt A B (2 * i + 1) → (k : ℕ) → k < 2 * (i + 1) → SameAt A B k
-same_to_next A B i below here next k h =
-    below_more (SameAt A B) (2 * i + 1) (below_more (SameAt A B) (2 * i) below here) next k (omega arith)
+-- a test of the runs before a place, and one of those that were read there
+pub same_to_next : (A B : List (ℤ × ℤ)) (i : ℕ) (before here : Bool) (p q : ℤ × ℤ) → i < length A → i < length B → p ≡ get_or A i p → q ≡ get_or B i q →
+    (IsTrue before ↔ ((k : ℕ) → k < i → SameAt A B k)) → (IsTrue here ↔ (p ≡ q)) → IsTrue (before && here) ↔ ((k : ℕ) → k < i + 1 → SameAt A B k)
+same_to_next A B i before here p q h k is is' t u =
+    let at = same_here A B i p q h k is is' in (
+      (λ both. let parts = and_parts before here both in below_more (SameAt A B) i (t.0 parts.0) (at.0 (u.0 parts.1))),
+      (λ same. and_from before here (t.1 (λ j less. same j (omega arith))) (u.1 (at.1 (same i (omega arith))))),
+    )
+
+-- one part more is the same
+pub same_part : (A B : List (ℤ × ℤ)) (n m k : ℕ) → k ≡ n + m → take n A ≡ take n B → take m (drop n A) ≡ take m (drop n B) → take k A ≡ take k B
+same_part A B n m k e f g =
+    ap (λ (j : ℕ). take j A) e ∙ take-add n m A ∙ ap₂ (λ (X Y : List (ℤ × ℤ)). X ++ Y) f g ∙ sym (take-add n m B) ∙ ap (λ (j : ℕ). take j B) (sym e)
+
+pub same_rest : (A B : List (ℤ × ℤ)) (n : ℕ) → take n A ≡ take n B → drop n A ≡ drop n B → A ≡ B
+same_rest A B n f g = sym (take-append-drop n A) ∙ ap₂ (λ (X Y : List (ℤ × ℤ)). X ++ Y) f g ∙ take-append-drop n B
+
+pub rest_of : (L : List (ℤ × ℤ)) (n : ℕ) → take (length L - n) (drop n L) ≡ drop n L
+rest_of L n = let left = length-drop n L in take_all (length L - n) (drop n L) (omega (arith, left))

@@ -15,6 +15,7 @@ pub mod RunBounds
 pub mod Singles
 pub mod MergeState
 pub mod Intersections
+pub mod Inclusions
 pub mod HeldRun
 pub mod Listing
 pub mod Differences

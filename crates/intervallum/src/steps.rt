@@ -2,6 +2,7 @@
 //! often a walk has advanced and how often a search has looked at a run.
 mod complement;
 mod differences;
+mod inclusion;
 mod intersection;
 mod looks;
 mod places;
@@ -13,6 +14,7 @@ mod walk;
 
 pub(crate) use complement::gaps;
 pub(crate) use differences::{one_alone, without};
+pub(crate) use inclusion::is_within;
 pub use intersection::common;
 pub(crate) use intersection::have_common;
 pub(crate) use places::{first_from, last_up_to, runs_before, runs_up_to};

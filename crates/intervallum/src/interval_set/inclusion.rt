@@ -5,10 +5,11 @@ ghost use Rattle.ivl_laws.specs.Runs.{Covers};
 ghost use Rattle.intervallum.specs.Places.{EndBelow, HoldsAt};
 
 use super::IntervalSet;
+use super::lopsided::is_far_shorter;
 use crate::interval::Interval;
 use crate::kleene::SKleene;
 use crate::ops::{Bounded, Cardinality, Entailment, ProperSubset, Subset};
-use crate::steps::{Place, Probes, find_from};
+use crate::steps::{Place, Probes, Walk, find_from, is_within};
 use crate::width::Width;
 
 impl<B: Width> Subset for IntervalSet<B> {
@@ -17,8 +18,9 @@ impl<B: Width> Subset for IntervalSet<B> {
     /// Returns true exactly when each member is a member of `other`, so always for an empty set.
     /// Does not allocate.
     ///
-    /// `O(n log (m / n + 2))`: searches for each of the `n` runs among the `m` of `other`, from
-    /// where the last search ended. `O(1)` if this set has more members than `other`.
+    /// `O(n log (m / n + 2))`: walks over the `n` runs and the `m` of `other`, or if these are far
+    /// more (16 times), searches for each of the `n` from where the last search ended. `O(1)` if this
+    /// set has more members than `other`.
     ///
     /// ```
     /// let (a, b) = (IntervalSet::new(alloc, 1, 2)?, IntervalSet::new(alloc, 0, 10)?);
@@ -28,16 +30,27 @@ impl<B: Width> Subset for IntervalSet<B> {
         if self.size() > other.size() {
             return false;
         }
-        let mut runs = Probes::new(other);
-        let mut from = 0;
-        for run in self.as_runs() {
-            match holder(&mut runs, run, from) {
-                Some(place) => from = place,
-                None => return false,
-            }
+        if is_far_shorter(self, other) {
+            return few_are_within(self, other);
         }
-        true
+        is_within(Walk::new(self), Walk::new(other))
     }
+}
+
+/// Whether each member of a set of few runs is a member of one of many: searches for each of the few
+/// among the many, from where the last search ended.
+fn few_are_within<B: Width>(few: &IntervalSet<B>, many: &IntervalSet<B>) -> bool
+    ensures { IsTrue result ↔ IsSubset (Covers few.now) (Covers many.now) }
+{
+    let mut runs = Probes::new(many);
+    let mut from = 0;
+    for run in few.as_runs() {
+        match holder(&mut runs, run, from) {
+            Some(place) => from = place,
+            None => return false,
+        }
+    }
+    true
 }
 
 /// The place of the run that holds each number of another run, or `None` if no run does. The runs

@@ -1,13 +1,15 @@
 //! What is asked of lists of intervals: whether they are run lists, whether two are the same, how many numbers they cover.
-ghost use Rattle.std.specs.Prelude.{◌≡◌, ◌↔◌, ◌+◌, ◌<◌, pos, ◌+ℤ◌, ◌≤ℤ◌, IsTrue, length};
+ghost use Rattle.std.specs.Prelude.{◌≡◌, ◌↔◌, pos, ◌+ℤ◌, ◌≤ℤ◌, IsTrue, length};
 ghost use Rattle.ivl_laws.specs.Runs.{Covers, IsMaximal, IsRunListIn};
 ghost use Rattle.ivl_laws.specs.Counts.{IsCountOf};
-ghost use Rattle.intervallum.specs.Sweeps.{run_at};
 
 use super::builder::grown;
 use crate::interval::Interval;
 use crate::ops::{Bounded, Cardinality, IsEmpty};
 use crate::width::{SizeNumber, Width};
+
+/// How many runs of two lists are compared by one branch.
+const GROUP: usize = 4;
 
 /// Two lists have the same runs in the same places.
 pub(super) fn are_the_same<B: Width>(a: &[Interval<B>], b: &[Interval<B>]) -> bool
@@ -18,31 +20,31 @@ pub(super) fn are_the_same<B: Width>(a: &[Interval<B>], b: &[Interval<B>]) -> bo
     if a.len() != b.len() {
         return false;
     }
-    let pairs = a.len() / 2;
-    for i in 0..pairs {
-        if !two_are_the_same(a, b, 2 * i) {
+    let groups = a.len() / GROUP;
+    for i in 0..groups {
+        let from = i * GROUP;
+        if !all_are_the_same(&a[from..from + GROUP], &b[from..from + GROUP]) {
             return false;
         }
     }
-    if a.len() % 2 == 0 {
-        return true;
-    }
-    let last = a.len() - 1;
-    is_same(a[last], b[last])
+    let rest = groups * GROUP;
+    all_are_the_same(&a[rest..], &b[rest..])
 }
 
-/// Two lists have the same runs at a place and the next.
-fn two_are_the_same<B: Width>(a: &[Interval<B>], b: &[Interval<B>], i: usize) -> bool
+/// Two lists of the same length have the same runs in the same places, by one branch for all.
+fn all_are_the_same<B: Width>(a: &[Interval<B>], b: &[Interval<B>]) -> bool
     requires left { IsMaximal a.now }
     requires right { IsMaximal b.now }
-    requires there { i + 1 < length a.now }
-    requires there_too { i + 1 < length b.now }
-    ensures { IsTrue result ↔ ((run_at a.now i ≡ run_at b.now i) × (run_at a.now (i + 1) ≡ run_at b.now (i + 1))) }
+    requires length { length a.now ≡ length b.now }
+    ensures { IsTrue result ↔ (a.now ≡ b.now) }
 {
-    // by one branch for both
-    let first_is_same = is_same(a[i], b[i]);
-    let next_is_same = is_same(a[i + 1], b[i + 1]);
-    first_is_same & next_is_same
+    // a compiler that sees the same length twice need not test each index
+    let others = &b[..a.len()];
+    let mut are_same = true;
+    for i in 0..a.len() {
+        are_same = are_same & is_same(a[i], others[i]);
+    }
+    are_same
 }
 
 /// Two intervals that are not empty have the same bounds.

@@ -6,6 +6,7 @@ use crate::rattle::prelude::*;
 
 mod complement;
 mod differences;
+mod inclusion;
 mod intersection;
 mod looks;
 mod places;
@@ -17,6 +18,7 @@ mod walk;
 
 pub(crate) use complement::gaps;
 pub(crate) use differences::{one_alone, without};
+pub(crate) use inclusion::is_within;
 pub use intersection::common;
 pub(crate) use intersection::have_common;
 pub(crate) use places::{first_from, last_up_to, runs_before, runs_up_to};

@@ -7,30 +7,34 @@ use crate::proved::intervallum::interval::Interval;
 use crate::proved::intervallum::ops::{Bounded, Cardinality, IsEmpty};
 use crate::proved::intervallum::width::{SizeNumber, Width};
 
+/// How many runs of two lists are compared by one branch.
+const GROUP: usize = 4;
+
 /// Two lists have the same runs in the same places.
 pub(super) fn are_the_same<B: Width>(a: &[Interval<B>], b: &[Interval<B>]) -> bool {
     if a.len() != b.len() {
         return false;
     }
-    let pairs = a.len() / 2;
-    for i in 0..pairs {
-        if !two_are_the_same(a, b, 2 * i) {
+    let groups = a.len() / GROUP;
+    for i in 0..groups {
+        let from = i * GROUP;
+        if !all_are_the_same(&a[from..from + GROUP], &b[from..from + GROUP]) {
             return false;
         }
     }
-    if a.len() % 2 == 0 {
-        return true;
-    }
-    let last = a.len() - 1;
-    is_same(a[last], b[last])
+    let rest = groups * GROUP;
+    all_are_the_same(&a[rest..], &b[rest..])
 }
 
-/// Two lists have the same runs at a place and the next.
-fn two_are_the_same<B: Width>(a: &[Interval<B>], b: &[Interval<B>], i: usize) -> bool {
-    // by one branch for both
-    let first_is_same = is_same(a[i], b[i]);
-    let next_is_same = is_same(a[i + 1], b[i + 1]);
-    first_is_same & next_is_same
+/// Two lists of the same length have the same runs in the same places, by one branch for all.
+fn all_are_the_same<B: Width>(a: &[Interval<B>], b: &[Interval<B>]) -> bool {
+    // a compiler that sees the same length twice need not test each index
+    let others = &b[..a.len()];
+    let mut are_same = true;
+    for i in 0..a.len() {
+        are_same = are_same & is_same(a[i], others[i]);
+    }
+    are_same
 }
 
 /// Two intervals that are not empty have the same bounds.

@@ -1,36 +1,41 @@
-use Rattle.std.proofs.Common.{◌≡◌, ◌-◌, ◌<◌, ℕ, ℤ, pos, List, length, refl, ap, arith}
-use Rattle.std.proofs.lemmas.List.{ext_get_or}
-use borrow.Author.Count.{below_more}
-use Rattle.intervallum.specs.Sweeps.{run_at}
-use Rattle.intervallum.proofs.Images.{open_here}
-use Rattle.intervallum.proofs.EqualRuns.{SameAt, same_here}
+use Rattle.std.proofs.Common.{◌≡◌, ◌+◌, ◌*◌, ◌-◌, ◌/◌, ℕ, ℤ, List, length, take, drop, ap, sym, true≢false, ◌∙◌, arith}
+use Rattle.ivl_laws.proofs.Adding.{untrue}
+use Rattle.ivl_laws.proofs.Places.{IsMaximal-drop, IsMaximal-take}
+use Rattle.intervallum.proofs.EqualRuns.{rest_of, same_part, same_rest}
 use Rattle.intervallum.proofs.interval_set.run_lists.are_the_same.Goals as goal
 
-pub returns-then-a-eq0 : goal.returns-then-a-eq0
-returns-then-a-eq0 g c =
-    let L = c.args.a.now in
-    let same : length L ≡ length c.args.b.now = c.if-a-b.false in
-    let even = c.if-a-eq0.true in
-    let past = c.loop-i-test.false in
-    let all : L ≡ c.args.b.now = ext_get_or (pos 0, pos 0) L c.args.b.now same (λ k h. c.loop-i.invariant k (omega arith)) in
-    ((λ _. all), (λ _. refl))
+pub all_are_the_same-requires-clause-left : goal.all_are_the_same-requires-clause-left
+all_are_the_same-requires-clause-left g c = let n = c.loop-i.i * 4 in IsMaximal-take (drop n c.args.a.now) (n + 4 - n) (IsMaximal-drop c.args.a.now n c.requires.left)
 
-pub is_same-requires-clause-run : goal.is_same-requires-clause-run
-is_same-requires-clause-run g c = open_here c.args.a.now (length c.args.a.now - 1) c.index-a-last.result c.requires.left (let odd = c.if-a-eq0.false in omega arith) c.index-a-last.is
+pub all_are_the_same-requires-clause-right : goal.all_are_the_same-requires-clause-right
+all_are_the_same-requires-clause-right g c = let n = c.loop-i.i * 4 in IsMaximal-take (drop n c.args.b.now) (n + 4 - n) (IsMaximal-drop c.args.b.now n c.requires.right)
 
-pub is_same-requires-clause-other : goal.is_same-requires-clause-other
-is_same-requires-clause-other g c =
-    open_here c.args.b.now (length c.args.a.now - 1) c.index-b-last.result c.requires.right (let odd = c.if-a-eq0.false in let same = c.if-a-b.false in omega arith) c.index-b-last.is
+pub all_are_the_same-requires-2-clause-left : goal.all_are_the_same-requires-2-clause-left
+all_are_the_same-requires-2-clause-left g c =
+    let n = length c.args.a.now / 4 * 4 in IsMaximal-take (drop n c.args.a.now) (length c.args.a.now - n) (IsMaximal-drop c.args.a.now n c.requires.left)
+
+pub all_are_the_same-requires-2-clause-right : goal.all_are_the_same-requires-2-clause-right
+all_are_the_same-requires-2-clause-right g c =
+    let n = length c.args.a.now / 4 * 4 in IsMaximal-take (drop n c.args.b.now) (length c.args.b.now - n) (IsMaximal-drop c.args.b.now n c.requires.right)
+
+pub loop-i-preserved : goal.loop-i-preserved
+loop-i-preserved g c =
+    let n = c.loop-i.i * 4 in
+    same_part c.args.a.now c.args.b.now n (n + 4 - n) ((c.loop-i.i + 1) * 4) (omega arith) c.loop-i.invariant (c.all_are_the_same.ensures.0 c.if-not-all_are_the_same.false)
+
+pub returns-then-not-all_are_the_same : goal.returns-then-not-all_are_the_same
+returns-then-not-all_are_the_same g c =
+    let n = c.loop-i.i * 4 in
+    let other = untrue _ c.if-not-all_are_the_same.true c.all_are_the_same.ensures in
+    ((λ t. absurd (true≢false (sym t))), (λ e. absurd (other (ap (λ (L : List (ℤ × ℤ)). take (n + 4 - n) (drop n L)) e))))
 
 pub returns : goal.returns
 returns g c =
     let L = c.args.a.now in
     let M = c.args.b.now in
-    let same : length L ≡ length M = c.if-a-b.false in
-    let odd = c.if-a-eq0.false in
-    let past = c.loop-i-test.false in
-    let last = same_here L M (length L - 1) c.index-a-last.result c.index-b-last.result (omega arith) (omega arith) c.index-a-last.is c.index-b-last.is in
-    let before : (k : ℕ) → k < length L - 1 → SameAt L M k = λ k h. c.loop-i.invariant k (omega arith) in (
-      (λ t. ext_get_or (pos 0, pos 0) L M same (λ k h. below_more (SameAt L M) (length L - 1) before (last.0 (c.is_same.ensures.0 t)) k (omega arith))),
-      (λ e. c.is_same.ensures.1 (last.1 (ap (λ (N : List (ℤ × ℤ)). run_at N (length L - 1)) e))),
+    let groups : c.loop-i.i ≡ length L / 4 = let past = c.loop-i-test.false in let most = c.loop-i.auto.i-end in omega arith in
+    let n = length L / 4 * 4 in
+    let before : take n L ≡ take n M = ap (λ (k : ℕ). take (k * 4) L) (sym groups) ∙ c.loop-i.invariant ∙ ap (λ (k : ℕ). take (k * 4) M) groups in (
+      (λ t. same_rest L M n before (sym (rest_of L n) ∙ c.all_are_the_same-2.ensures.0 t ∙ rest_of M n)),
+      (λ e. c.all_are_the_same-2.ensures.1 (rest_of L n ∙ ap (λ (N : List (ℤ × ℤ)). drop n N) e ∙ sym (rest_of M n))),
     )

@@ -1,8 +1,8 @@
 use Rattle.std.proofs.Common.{◌≡◌}
 use Rattle.ivl_laws.specs.Runs.{IsMaximal}
 use Rattle.intervallum.proofs.Finding.{FoundFor}
-use Rattle.intervallum.proofs.interval_set.inclusion.IntervalSetSubset.is_subset.Given as goal
+use Rattle.intervallum.proofs.interval_set.inclusion.few_are_within.Given as goal
 
 -- the runs so far are held, and the next one is looked for from a place below it
 abbrev pub invariant-loop-run : goal.invariant-loop-run
-invariant-loop-run g l = (l.runs.runs ≡ l.fn.other) × (l.run-items ≡ l.fn.self) × IsMaximal l.run-items × FoundFor l.run-items l.fn.other l.run-index l.from
+invariant-loop-run g l = (l.runs.runs ≡ l.fn.many) × (l.run-items ≡ l.fn.few) × IsMaximal l.run-items × FoundFor l.run-items l.fn.many l.run-index l.from
