@@ -3,7 +3,12 @@
 //! Each operand is owned or borrowed. The caller must ensure that the results of each call are in
 //! the range: check with `fits_add`, `fits_sub` and `fits_mul`. With an empty operand this always
 //! holds. Each call returns a new set; borrowed operands are unchanged, and owned ones are
-//! consumed. Two sets with more than `usize::MAX` pairs of runs count as a failed allocation.
+//! consumed.
+//!
+//! The results of at most 256 pairs of runs are sorted together. Of more pairs, those of the first
+//! runs are tried: if half of their results join with others, the results of each run of the shorter
+//! operand are made in turn and united by twos, and no list of all results is made. Otherwise more
+//! than `usize::MAX` pairs of runs count as a failed allocation.
 //!
 //! Sums and differences are exact. A product has, for each pair of runs, all numbers from the least
 //! to the greatest product of the two: `{[1..2]} * {[10..10]}` is `{[10..20]}`.
@@ -30,8 +35,8 @@ impl<B: Width> Add<IntervalSet<B>> for IntervalSet<B> {
     /// Returns all sums of a member of `self` and a member of `rhs`. The caller must ensure that
     /// the sums are in the range. Check with `fits_add`.
     ///
-    /// `O(n m log (n m))` for `n` and `m` runs. Allocates at most `2 n m` runs. Fails only if
-    /// allocation fails.
+    /// `O(n m log (n m))` for `n` and `m` runs. Needs memory for at most `2 n m` runs
+    /// at a time. Fails only if allocation fails.
     ///
     /// ```
     /// # use intervallum::proved::examples::*;
@@ -63,8 +68,8 @@ impl<B: Width> Add<&IntervalSet<B>> for IntervalSet<B> {
     /// Returns all sums of a member of `self` and a member of `rhs`. The caller must ensure that
     /// the sums are in the range. Check with `fits_add`.
     ///
-    /// `O(n m log (n m))` for `n` and `m` runs. Allocates at most `2 n m` runs. Fails only if
-    /// allocation fails.
+    /// `O(n m log (n m))` for `n` and `m` runs. Needs memory for at most `2 n m` runs
+    /// at a time. Fails only if allocation fails.
     fn add(self, rhs: &IntervalSet<B>) -> Result<IntervalSet<B>, AllocError> {
         debug_assert!({ #[allow(unused_imports)] use crate::proved::ivl_interval::ops::*; self.fits_add(rhs) }, "{}", "the condition of `add` is broken: self.fits_add(rhs)");
         combine(&self, rhs, Op::Sum)
@@ -85,8 +90,8 @@ impl<B: Width> Add<IntervalSet<B>> for &IntervalSet<B> {
     /// Returns all sums of a member of `self` and a member of `rhs`. The caller must ensure that
     /// the sums are in the range. Check with `fits_add`.
     ///
-    /// `O(n m log (n m))` for `n` and `m` runs. Allocates at most `2 n m` runs. Fails only if
-    /// allocation fails.
+    /// `O(n m log (n m))` for `n` and `m` runs. Needs memory for at most `2 n m` runs
+    /// at a time. Fails only if allocation fails.
     fn add(self, rhs: IntervalSet<B>) -> Result<IntervalSet<B>, AllocError> {
         debug_assert!({ #[allow(unused_imports)] use crate::proved::ivl_interval::ops::*; self.fits_add(&rhs) }, "{}", "the condition of `add` is broken: self.fits_add(&rhs)");
         combine(self, &rhs, Op::Sum)
@@ -107,8 +112,8 @@ impl<B: Width> Add<&IntervalSet<B>> for &IntervalSet<B> {
     /// Returns all sums of a member of `self` and a member of `rhs`. The caller must ensure that
     /// the sums are in the range. Check with `fits_add`.
     ///
-    /// `O(n m log (n m))` for `n` and `m` runs. Allocates at most `2 n m` runs. Fails only if
-    /// allocation fails.
+    /// `O(n m log (n m))` for `n` and `m` runs. Needs memory for at most `2 n m` runs
+    /// at a time. Fails only if allocation fails.
     fn add(self, rhs: &IntervalSet<B>) -> Result<IntervalSet<B>, AllocError> {
         debug_assert!({ #[allow(unused_imports)] use crate::proved::ivl_interval::ops::*; self.fits_add(rhs) }, "{}", "the condition of `add` is broken: self.fits_add(rhs)");
         combine(self, rhs, Op::Sum)
@@ -264,8 +269,8 @@ impl<B: Width> Sub<IntervalSet<B>> for IntervalSet<B> {
     /// Returns all differences of a member of `self` and a member of `rhs`. The caller must ensure
     /// that the differences are in the range. Check with `fits_sub`.
     ///
-    /// `O(n m log (n m))` for `n` and `m` runs. Allocates at most `2 n m` runs. Fails only if
-    /// allocation fails.
+    /// `O(n m log (n m))` for `n` and `m` runs. Needs memory for at most `2 n m` runs
+    /// at a time. Fails only if allocation fails.
     ///
     /// ```
     /// # use intervallum::proved::examples::*;
@@ -297,8 +302,8 @@ impl<B: Width> Sub<&IntervalSet<B>> for IntervalSet<B> {
     /// Returns all differences of a member of `self` and a member of `rhs`. The caller must ensure
     /// that the differences are in the range. Check with `fits_sub`.
     ///
-    /// `O(n m log (n m))` for `n` and `m` runs. Allocates at most `2 n m` runs. Fails only if
-    /// allocation fails.
+    /// `O(n m log (n m))` for `n` and `m` runs. Needs memory for at most `2 n m` runs
+    /// at a time. Fails only if allocation fails.
     fn sub(self, rhs: &IntervalSet<B>) -> Result<IntervalSet<B>, AllocError> {
         debug_assert!({ #[allow(unused_imports)] use crate::proved::ivl_interval::ops::*; self.fits_sub(rhs) }, "{}", "the condition of `sub` is broken: self.fits_sub(rhs)");
         combine(&self, rhs, Op::Difference)
@@ -319,8 +324,8 @@ impl<B: Width> Sub<IntervalSet<B>> for &IntervalSet<B> {
     /// Returns all differences of a member of `self` and a member of `rhs`. The caller must ensure
     /// that the differences are in the range. Check with `fits_sub`.
     ///
-    /// `O(n m log (n m))` for `n` and `m` runs. Allocates at most `2 n m` runs. Fails only if
-    /// allocation fails.
+    /// `O(n m log (n m))` for `n` and `m` runs. Needs memory for at most `2 n m` runs
+    /// at a time. Fails only if allocation fails.
     fn sub(self, rhs: IntervalSet<B>) -> Result<IntervalSet<B>, AllocError> {
         debug_assert!({ #[allow(unused_imports)] use crate::proved::ivl_interval::ops::*; self.fits_sub(&rhs) }, "{}", "the condition of `sub` is broken: self.fits_sub(&rhs)");
         combine(self, &rhs, Op::Difference)
@@ -341,8 +346,8 @@ impl<B: Width> Sub<&IntervalSet<B>> for &IntervalSet<B> {
     /// Returns all differences of a member of `self` and a member of `rhs`. The caller must ensure
     /// that the differences are in the range. Check with `fits_sub`.
     ///
-    /// `O(n m log (n m))` for `n` and `m` runs. Allocates at most `2 n m` runs. Fails only if
-    /// allocation fails.
+    /// `O(n m log (n m))` for `n` and `m` runs. Needs memory for at most `2 n m` runs
+    /// at a time. Fails only if allocation fails.
     fn sub(self, rhs: &IntervalSet<B>) -> Result<IntervalSet<B>, AllocError> {
         debug_assert!({ #[allow(unused_imports)] use crate::proved::ivl_interval::ops::*; self.fits_sub(rhs) }, "{}", "the condition of `sub` is broken: self.fits_sub(rhs)");
         combine(self, rhs, Op::Difference)
@@ -502,8 +507,8 @@ impl<B: Width> Mul<IntervalSet<B>> for IntervalSet<B> {
     /// Returns, for each pair of runs, the numbers from the least to the greatest product. The
     /// caller must ensure that the products are in the range. Check with `fits_mul`.
     ///
-    /// `O(n m log (n m))` for `n` and `m` runs. Allocates at most `2 n m` runs. Fails only if
-    /// allocation fails.
+    /// `O(n m log (n m))` for `n` and `m` runs. Needs memory for at most `2 n m` runs
+    /// at a time. Fails only if allocation fails.
     ///
     /// ```
     /// # use intervallum::proved::examples::*;
@@ -535,8 +540,8 @@ impl<B: Width> Mul<&IntervalSet<B>> for IntervalSet<B> {
     /// Returns, for each pair of runs, the numbers from the least to the greatest product. The
     /// caller must ensure that the products are in the range. Check with `fits_mul`.
     ///
-    /// `O(n m log (n m))` for `n` and `m` runs. Allocates at most `2 n m` runs. Fails only if
-    /// allocation fails.
+    /// `O(n m log (n m))` for `n` and `m` runs. Needs memory for at most `2 n m` runs
+    /// at a time. Fails only if allocation fails.
     fn mul(self, rhs: &IntervalSet<B>) -> Result<IntervalSet<B>, AllocError> {
         debug_assert!({ #[allow(unused_imports)] use crate::proved::ivl_interval::ops::*; self.fits_mul(rhs) }, "{}", "the condition of `mul` is broken: self.fits_mul(rhs)");
         combine(&self, rhs, Op::Product)
@@ -557,8 +562,8 @@ impl<B: Width> Mul<IntervalSet<B>> for &IntervalSet<B> {
     /// Returns, for each pair of runs, the numbers from the least to the greatest product. The
     /// caller must ensure that the products are in the range. Check with `fits_mul`.
     ///
-    /// `O(n m log (n m))` for `n` and `m` runs. Allocates at most `2 n m` runs. Fails only if
-    /// allocation fails.
+    /// `O(n m log (n m))` for `n` and `m` runs. Needs memory for at most `2 n m` runs
+    /// at a time. Fails only if allocation fails.
     fn mul(self, rhs: IntervalSet<B>) -> Result<IntervalSet<B>, AllocError> {
         debug_assert!({ #[allow(unused_imports)] use crate::proved::ivl_interval::ops::*; self.fits_mul(&rhs) }, "{}", "the condition of `mul` is broken: self.fits_mul(&rhs)");
         combine(self, &rhs, Op::Product)
@@ -579,8 +584,8 @@ impl<B: Width> Mul<&IntervalSet<B>> for &IntervalSet<B> {
     /// Returns, for each pair of runs, the numbers from the least to the greatest product. The
     /// caller must ensure that the products are in the range. Check with `fits_mul`.
     ///
-    /// `O(n m log (n m))` for `n` and `m` runs. Allocates at most `2 n m` runs. Fails only if
-    /// allocation fails.
+    /// `O(n m log (n m))` for `n` and `m` runs. Needs memory for at most `2 n m` runs
+    /// at a time. Fails only if allocation fails.
     fn mul(self, rhs: &IntervalSet<B>) -> Result<IntervalSet<B>, AllocError> {
         debug_assert!({ #[allow(unused_imports)] use crate::proved::ivl_interval::ops::*; self.fits_mul(rhs) }, "{}", "the condition of `mul` is broken: self.fits_mul(rhs)");
         combine(self, rhs, Op::Product)
