@@ -134,12 +134,59 @@ impl<B: Width> IntervalSet<B> {
     ///
     /// Words: [`IsRunsOf`](crate::definitions#IsRunsOf), [`Union`](crate::definitions#Union), [`Covers`](crate::definitions#Covers), [`IsBetween`](crate::definitions#IsBetween), [`HasNone`](crate::definitions#HasNone), [`HasSome`](crate::definitions#HasSome), [`Intersection`](crate::definitions#Intersection), [`widened`](crate::definitions#widened).
     pub fn insert_interval(&mut self, interval: Interval<B>) -> Result<(), AllocError> {
+        self.insert_from(interval, None)
+    }
+
+    /// Adds the members of an interval, as [`IntervalSet::insert_interval`] does. The search begins at
+    /// a place, which is a number of runs and may be any: it changes how long the search takes, and
+    /// nothing else.
+    ///
+    /// Where the runs before the place lie below the interval and do not touch it, the search goes on
+    /// from there by steps that are doubled: `O(log d + k)`, if the first of the `k` runs that the
+    /// interval overlaps or touches is `d` runs from the place. Else it is the binary search of all.
+    /// If the number of runs changes, those above the interval move, as they do there.
+    ///
+    /// # Errors
+    ///
+    /// Fails only if allocation fails. The set is then unchanged.
+    ///
+    /// ```
+    /// # use intervallum::proved::examples::*;
+    /// # fn main() -> Result<(), std::boxed::Box<dyn std::error::Error>> {
+    /// # let alloc = Global;
+    /// let mut a: IntervalSet<i32> = [(1, 2), (5, 6), (10, 12)].to_interval_set(alloc)?;
+    /// a.insert_interval_near(Interval::new(8, 9), 1)?;
+    /// assert!(a == [(1, 2), (5, 6), (8, 12)].to_interval_set(alloc)?);
+    /// # Ok(())
+    /// # }
+    /// ```
+    ///
+    /// # Proved
+    ///
+    /// ```text
+    /// ensures ok { OnOk result (IsRunsOf self.new (Union (Covers self.old) (IsBetween interval))) }
+    /// ensures err { OnErr result (self.new ≡ self.old) }
+    /// ensures empty { HasNone (IsBetween interval) → IsOk result }
+    /// ensures in_place { HasSome (Intersection (Covers self.old) (IsBetween (widened interval))) → IsOk result }
+    /// ```
+    ///
+    /// Words: [`IsRunsOf`](crate::definitions#IsRunsOf), [`Union`](crate::definitions#Union), [`Covers`](crate::definitions#Covers), [`IsBetween`](crate::definitions#IsBetween), [`HasNone`](crate::definitions#HasNone), [`HasSome`](crate::definitions#HasSome), [`Intersection`](crate::definitions#Intersection), [`widened`](crate::definitions#widened).
+    pub fn insert_interval_near(
+        &mut self,
+        interval: Interval<B>,
+        place: usize,
+    ) -> Result<(), AllocError> {
+        self.insert_from(interval, Some(place))
+    }
+
+    /// Adds the members of an interval, by a search from a place on, if one is given.
+    fn insert_from(&mut self, interval: Interval<B>, place: Option<usize>) -> Result<(), AllocError> {
         let runs = self.as_runs();
         if interval.is_empty() {
             return Ok(());
         }
         interval.in_whole();
-        let (start, end) = touched(self, &interval);
+        let (start, end) = touched(self, place, &interval);
         let run = joined(runs, start, end, interval);
         self.replace(start, end, Some(run), None)
     }
@@ -176,11 +223,58 @@ impl<B: Width> IntervalSet<B> {
     ///
     /// Words: [`IsRunsOf`](crate::definitions#IsRunsOf), [`Without`](crate::definitions#Without), [`Covers`](crate::definitions#Covers), [`IsBetween`](crate::definitions#IsBetween), [`HasNone`](crate::definitions#HasNone), [`IsSubset`](crate::definitions#IsSubset), [`widened`](crate::definitions#widened).
     pub fn remove_interval(&mut self, interval: Interval<B>) -> Result<(), AllocError> {
+        self.remove_from(interval, None)
+    }
+
+    /// Removes the members of an interval, as [`IntervalSet::remove_interval`] does. The search begins
+    /// at a place, which is a number of runs and may be any: it changes how long the search takes, and
+    /// nothing else.
+    ///
+    /// Where the runs before the place lie below the interval, the search goes on from there by steps
+    /// that are doubled: `O(log d + k)`, if the first of the `k` runs that the interval overlaps is `d`
+    /// runs from the place. Else it is the binary search of all. If the number of runs changes, those
+    /// above the interval move, as they do there.
+    ///
+    /// # Errors
+    ///
+    /// Fails only if allocation fails. The set is then unchanged.
+    ///
+    /// ```
+    /// # use intervallum::proved::examples::*;
+    /// # fn main() -> Result<(), std::boxed::Box<dyn std::error::Error>> {
+    /// # let alloc = Global;
+    /// let mut a: IntervalSet<i32> = [(1, 4), (6, 6), (10, 12)].to_interval_set(alloc)?;
+    /// a.remove_interval_near(Interval::new(11, 20), 2)?;
+    /// assert!(a == [(1, 4), (6, 6), (10, 10)].to_interval_set(alloc)?);
+    /// # Ok(())
+    /// # }
+    /// ```
+    ///
+    /// # Proved
+    ///
+    /// ```text
+    /// ensures ok { OnOk result (IsRunsOf self.new (Without (Covers self.old) (IsBetween interval))) }
+    /// ensures err { OnErr result (self.new ≡ self.old) }
+    /// ensures empty { HasNone (IsBetween interval) → IsOk result }
+    /// ensures in_place { ¬ (IsSubset (IsBetween (widened interval)) (Covers self.old)) → IsOk result }
+    /// ```
+    ///
+    /// Words: [`IsRunsOf`](crate::definitions#IsRunsOf), [`Without`](crate::definitions#Without), [`Covers`](crate::definitions#Covers), [`IsBetween`](crate::definitions#IsBetween), [`HasNone`](crate::definitions#HasNone), [`IsSubset`](crate::definitions#IsSubset), [`widened`](crate::definitions#widened).
+    pub fn remove_interval_near(
+        &mut self,
+        interval: Interval<B>,
+        place: usize,
+    ) -> Result<(), AllocError> {
+        self.remove_from(interval, Some(place))
+    }
+
+    /// Removes the members of an interval, by a search from a place on, if one is given.
+    fn remove_from(&mut self, interval: Interval<B>, place: Option<usize>) -> Result<(), AllocError> {
         let runs = self.as_runs();
         if interval.is_empty() {
             return Ok(());
         }
-        let (start, end) = span(self, interval.lower(), interval.upper());
+        let (start, end) = span(self, place, interval.lower(), interval.upper());
         if start == end {
             return Ok(());
         }

@@ -5,19 +5,54 @@ use crate::rattle::prelude::*;
 use crate::proved::intervallum::interval::Interval;
 use crate::proved::intervallum::interval_set::IntervalSet;
 use crate::proved::intervallum::ops::{Bounded, IsEmpty, Range, StrictShrinkLeft, StrictShrinkRight};
-use crate::proved::intervallum::steps::{Place, Probes, find, last_up_to};
+use crate::proved::intervallum::steps::{Place, Probes, find, find_from, last_up_to};
 use crate::proved::intervallum::width::Width;
 
 /// The places of the runs that end at `lower` or above and start at `upper` or below: the first,
-/// and the one after the last. `O(log n)`; the search for the second starts at the first, and there
-/// is none if both numbers are in one run.
-pub(super) fn span<B: Width>(set: &IntervalSet<B>, lower: B, upper: B) -> (usize, usize) {
+/// and the one after the last. The search for the second starts at the first, and there is none if
+/// both numbers are in one run.
+pub(super) fn span<B: Width>(
+    set: &IntervalSet<B>,
+    place: Option<usize>,
+    lower: B,
+    upper: B,
+) -> (usize, usize) {
     set.in_whole();
     let mut probes = Probes::new(set);
-    match find(&mut probes, lower) {
+    match find_near(&mut probes, lower, place) {
         Place::In(i) => (i, last_from_run(&mut probes, upper, i)),
         Place::Gap(i) => (i, last_up_to(&mut probes, upper, i)),
     }
+}
+
+/// The place of a value. Searches from a place on, if one is given and the runs before it end below
+/// the value, and else all runs.
+fn find_near<B: Width>(probes: &mut Probes<'_, B>, value: B, place: Option<usize>) -> Place {
+    match place {
+        Some(place) => find_beside(probes, value, place),
+        None => find(probes, value),
+    }
+}
+
+/// The place of a value. Searches from a place on, if the runs before it end below the value, and else
+/// all runs.
+fn find_beside<B: Width>(probes: &mut Probes<'_, B>, value: B, place: usize) -> Place {
+    if ends_before(probes, place, value) {
+        find_from(probes, value, place)
+    } else {
+        find(probes, value)
+    }
+}
+
+/// Whether there are runs up to a place, and those before it end below a value.
+fn ends_before<B: Width>(probes: &mut Probes<'_, B>, place: usize, value: B) -> bool {
+    if place == 0 {
+        return true;
+    }
+    if probes.len() < place {
+        return false;
+    }
+    probes.look(place - 1).upper() < value
 }
 
 /// How many runs start at a value or below, as run `i` does, where those before it end below.
@@ -32,11 +67,15 @@ fn last_from_run<B: Width>(probes: &mut Probes<'_, B>, value: B, i: usize) -> us
 }
 
 /// The places of the runs that overlap or touch an interval: the first, and the one after the last.
-pub(super) fn touched<B: Width>(set: &IntervalSet<B>, interval: &Interval<B>) -> (usize, usize) {
+pub(super) fn touched<B: Width>(
+    set: &IntervalSet<B>,
+    place: Option<usize>,
+    interval: &Interval<B>,
+) -> (usize, usize) {
     set.in_whole();
     let below = one_below(interval.lower());
     let above = one_above(interval.upper());
-    span(set, below, above)
+    span(set, place, below, above)
 }
 
 /// The number before, or the number itself if it is the least of the range.
