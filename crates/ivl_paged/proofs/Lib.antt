@@ -7,3 +7,4 @@ pub mod Counting
 pub mod Heads
 pub mod Widening
 pub mod Longest
+pub mod PageSearch

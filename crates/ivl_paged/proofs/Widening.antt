@@ -1,10 +1,10 @@
 -- Numbers added to a page or removed from it: what a search for the first of them tells, and when the number of runs grows.
-use Rattle.std.proofs.Common.{◌≡◌, ⊎_elim, inl, inr, ◌<◌, ◌≤◌, ℤ, pos, ◌+ℤ◌, ◌-ℤ◌, ◌≤ℤ◌, Bool, true, false, IsTrue, ◌↔◌, List, ◌∷◌, length, sym, subst, arith}
+use Rattle.std.proofs.Common.{◌≡◌, ⊎_elim, inl, inr, ◌<◌, ◌≤◌, ℤ, pos, ◌+ℤ◌, ◌-ℤ◌, ◌≤ℤ◌, List, ◌∷◌, length, sym, subst, arith}
 use Rattle.std.specs.Prelude.{IsSomeAnd, MatchOption, None, Option, Some}
 use Rattle.std.proofs.lemmas.Int.{ints, by_lt_z}
 use Rattle.ivl_laws.specs.Counts.{IsIn}
-use Rattle.ivl_laws.specs.Sets.{IsBetween, Only, Union, Without}
-use Rattle.ivl_laws.specs.Runs.{Covers, IsMaximal, IsRunListIn, IsRunsOf}
+use Rattle.ivl_laws.specs.Sets.{IsBetween, Union, Without}
+use Rattle.ivl_laws.specs.Runs.{Covers, IsMaximal, IsRunsOf}
 use Rattle.ivl_laws.proofs.Counts.{in_without, length-without, without}
 use Rattle.ivl_laws.proofs.Lengths.{decide_covers, length-starts, length_by_starts, start_of, starts}
 use Rattle.ivl_laws.proofs.Places.{start_in}
@@ -86,13 +86,14 @@ nothing_to_add (Some run) L p v w m e f found h = record {
   );
 }
 
--- a number that is no member
-pub absent : (whole : ℤ × ℤ) (L : List (ℤ × ℤ)) (v : ℤ) (t : Bool) → IsRunListIn whole L → t ≡ false → (IsTrue t ↔ IsBetween whole v) → ¬ (Covers L v)
-absent whole L v true r e k c = absurd (cc)
-absent whole L v false r e k c = absurd (let t = k.1 (r.within v c) in cc)
-
-pub without_absent : (L : List (ℤ × ℤ)) (v : ℤ) → IsMaximal L → ¬ (Covers L v) → IsRunsOf L (Without (Covers L) (Only v))
-without_absent L v m n = record {
+-- the search found none, and p has no other number
+pub nothing_to_remove : (o : Option (ℤ × ℤ)) (L : List (ℤ × ℤ)) (p : ℤ × ℤ) (v : ℤ) → IsMaximal L → v ≡ p.0 → MatchOption o (¬ (Covers L v)) (IsRunWith v (Covers L)) → (o ≡ None) × (p.1 ≤ℤ p.0) →
+    IsRunsOf L (Without (Covers L) (IsBetween p))
+nothing_to_remove None L p v m e free (none, one) = record {
   maximal = m;
-  members = λ z. ((λ c. (c, λ e. n (subst (Covers L) e c))), (λ s. s.0));
+  members = λ z. (
+    (λ c. (c, λ b. let low = b.0 in let high = b.1 in free (subst (Covers L) (omega (arith, ints, low, high, one, e)) c))),
+    (λ s. s.0),
+  );
 }
+nothing_to_remove (Some run) L p v m e found (none, one) = absurd (cc)

@@ -17,6 +17,7 @@
 
 mod page;
 mod page_list;
+mod page_search;
 pub mod paged_set;
 mod pages;
 

@@ -1,5 +1,5 @@
 //! One page: a few of the runs of a set.
-ghost use Rattle.std.specs.Prelude.{◌≡◌, ◌↔◌, ◌⊎◌, ◌<◌, ◌≤◌, ℕ, ℤ, ◌≤ℤ◌, ◌<ℤ◌, IsSomeAnd, IsTrue, List, IfOk, IsOk, MatchOption, OnErr, OnOk, length};
+ghost use Rattle.std.specs.Prelude.{◌≡◌, ◌↔◌, ◌⊎◌, ◌<◌, ◌≤◌, ℕ, ℤ, ◌≤ℤ◌, ◌<ℤ◌, IsSomeAnd, IsTrue, List, IfOk, IsOk, MatchOption, None, OnErr, OnOk, length};
 ghost use Rattle.ivl_laws.specs.Bounds.{width_of};
 ghost use Rattle.ivl_laws.specs.Sets.{HasSome, IsBetween, IsSubset, Union, Without};
 ghost use Rattle.ivl_laws.specs.Runs.{Covers, IsMaximal, IsRunsOf};
@@ -8,9 +8,10 @@ ghost use Rattle.intervallum.specs.FirstFit.{FitsAt};
 ghost use Rattle.intervallum.specs.Neighbours.{IsLeast, IsRunWith};
 ghost use Rattle.ivl_paged.specs.Pages.{IsLongest, IsLongestPart};
 
+use crate::page_search::{find_run, run_before};
 use intervallum::interval::Interval;
 use intervallum::interval_set::IntervalSet;
-use intervallum::ops::{Bounded, Cardinality, Contains, Empty};
+use intervallum::ops::{Bounded, Cardinality, Empty};
 use intervallum::width::Width;
 use std::alloc::AllocError;
 use std::hint::select_unpredictable;
@@ -86,6 +87,22 @@ impl<B: Width> Page<B> {
         }
     }
 
+    /// The run that has a value, if one has it.
+    pub(crate) fn run_at(&self, value: B) -> Option<Interval<B>>
+        ensures { MatchOption result
+            (¬ (Covers self.now (B.value value)))
+            (IsRunWith (B.value value) (Covers self.now)) }
+    {
+        find_run(self.set.runs(), value).1
+    }
+
+    /// Returns true exactly when a value is a member.
+    pub(crate) fn contains(&self, value: B) -> bool
+        ensures { IsTrue result ↔ Covers self.now (B.value value) }
+    {
+        self.run_at(value).is_some()
+    }
+
     /// Adds the members of an interval. Returns true exactly when its first number was a member.
     pub(crate) fn insert_interval(&mut self, interval: Interval<B>) -> Result<bool, AllocError>
         requires { interval.0 ≤ℤ interval.1 }
@@ -94,13 +111,15 @@ impl<B: Width> Page<B> {
         ensures err { OnErr result (self.new ≡ self.old) }
     {
         let count = self.set.interval_count();
-        let run = self.set.run_at(interval.lower_bound());
+        let (place, run) = find_run(self.set.runs(), interval.lower_bound());
         if ends_at_or_above(run, interval.upper_bound()) {
             return Ok(true);
         }
-        self.set.insert_interval(interval)?;
+        // the run before the place may touch the interval, the one before that cannot
+        self.set
+            .insert_interval_near(interval, place.saturating_sub(1))?;
         self.head = self.head.min(interval.lower_bound());
-        let joined = run_after(&self.set, count, interval);
+        let joined = run_after(&self.set, count, place, interval);
         self.longest = longer(self.longest, joined);
         Ok(run.is_some())
     }
@@ -116,15 +135,15 @@ impl<B: Width> Page<B> {
         // it cannot fail unless it lies inside a run and splits it
         ensures in_place { ¬ (IsSubset (IsBetween (widened interval)) (Covers self.old)) → IsOk result }
     {
-        let size = self.set.size();
-        let has_first = has_first_of_many(&self.set, interval);
-        self.set.remove_interval(interval)?;
-        if self.set.size() == size {
+        let (place, run) = find_run(self.set.runs(), interval.lower_bound());
+        if is_no_member(run, interval) {
             return Ok(false);
         }
+        self.set
+            .remove_interval_near(interval, place.saturating_sub(1))?;
         self.head = head_after(self.head, interval.lower_bound(), &self.set);
         self.longest = longest_after(self.longest, interval, &self.set);
-        Ok(has_first)
+        Ok(run.is_some())
     }
 }
 
@@ -138,11 +157,22 @@ fn ends_at_or_above<B: Width>(run: Option<Interval<B>>, value: B) -> bool
     }
 }
 
-/// The run that holds an interval which was added to a set that had `count` runs. If there is one run
-/// more, it is the interval itself.
+/// Whether an interval has one number alone, and no run that has it was found.
+fn is_no_member<B: Width>(run: Option<Interval<B>>, interval: Interval<B>) -> bool
+    ensures { IsTrue result → (run ≡ None) × (interval.1 ≤ℤ interval.0) }
+{
+    match run {
+        Some(_) => false,
+        None => interval.upper_bound() <= interval.lower_bound(),
+    }
+}
+
+/// The run that holds an interval which was added to a set that had `count` runs, of which `place` started
+/// at its first number or below. If there is one run more, it is the interval itself.
 fn run_after<B: Width>(
     set: &IntervalSet<B>,
     count: usize,
+    place: usize,
     interval: Interval<B>,
 ) -> Option<Interval<B>>
     requires { count < length set.now → IsRunWith interval.0 (Covers set.now) interval }
@@ -153,7 +183,23 @@ fn run_after<B: Width>(
     if count < set.interval_count() {
         return Some(interval);
     }
-    set.run_at(interval.lower_bound())
+    run_beside(set, place, interval.lower_bound())
+}
+
+/// The run that has a value, if one has it. Looks first at the run before a place, and at the next.
+fn run_beside<B: Width>(set: &IntervalSet<B>, place: usize, value: B) -> Option<Interval<B>>
+    ensures { MatchOption result
+        (¬ (Covers set.now (B.value value)))
+        (IsRunWith (B.value value) (Covers set.now)) }
+{
+    let runs = set.runs();
+    if let Some(run) = run_before(runs, place, value) {
+        return Some(run);
+    }
+    if let Some(run) = run_before(runs, place.saturating_add(1), value) {
+        return Some(run);
+    }
+    set.run_at(value)
 }
 
 /// The least member after a removal of numbers from `lower` on, before which it was `before`.
@@ -166,20 +212,6 @@ fn head_after<B: Width>(before: B, lower: B, set: &IntervalSet<B>) -> B
         return before;
     }
     set.lower()
-}
-
-/// Whether the first number of an interval is a member, or true if the interval has no other: whether
-/// it was a member is then told by the size after its removal, without a search.
-fn has_first_of_many<B: Width>(set: &IntervalSet<B>, interval: Interval<B>) -> bool
-    ensures many { interval.0 <ℤ interval.1 → (IsTrue result ↔ Covers set.now interval.0) }
-    ensures one { ¬ (interval.0 <ℤ interval.1) → IsTrue result }
-{
-    let lower = interval.lower_bound();
-    if lower < interval.upper_bound() {
-        set.contains(&lower)
-    } else {
-        true
-    }
 }
 
 /// The longer of a run and another, if there is one.

@@ -18,7 +18,7 @@ use crate::page_list::PageList;
 use crate::pages;
 use intervallum::interval::Interval;
 use intervallum::interval_set::IntervalSet;
-use intervallum::ops::{Contains, IsEmpty, Singleton};
+use intervallum::ops::{IsEmpty, Singleton};
 use intervallum::sweep::coalesce;
 use intervallum::width::Width;
 pub use iter::Runs;
@@ -130,7 +130,7 @@ impl<B: Width> PagedSet<B> {
         if count == 0 {
             return false;
         }
-        self.pages.page(count - 1).set().contains(value)
+        self.pages.page(count - 1).contains(*value)
     }
 
     /// Adds a value. Returns true exactly when it was not a member before.

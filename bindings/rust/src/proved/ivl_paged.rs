@@ -24,6 +24,7 @@ use crate::rattle::prelude::*;
 
 mod page;
 mod page_list;
+mod page_search;
 pub mod paged_set;
 mod pages;
 

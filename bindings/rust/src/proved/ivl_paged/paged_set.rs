@@ -16,7 +16,7 @@ use crate::proved::ivl_paged::page_list::PageList;
 use crate::proved::ivl_paged::pages;
 use crate::proved::intervallum::interval::Interval;
 use crate::proved::intervallum::interval_set::IntervalSet;
-use crate::proved::intervallum::ops::{Contains, IsEmpty, Singleton};
+use crate::proved::intervallum::ops::{IsEmpty, Singleton};
 use crate::proved::intervallum::sweep::coalesce;
 use crate::proved::intervallum::width::Width;
 pub use iter::Runs;
@@ -163,7 +163,7 @@ impl<B: Width> PagedSet<B> {
         if count == 0 {
             return false;
         }
-        self.pages.page(count - 1).set().contains(value)
+        self.pages.page(count - 1).contains(*value)
     }
 
     /// Adds a value. Returns true exactly when it was not a member before.

@@ -110,6 +110,6 @@ impl<B: Width> PagedSet<B> {
         if count == 0 {
             return None;
         }
-        self.pages.page(count - 1).set().run_at(v)
+        self.pages.page(count - 1).run_at(v)
     }
 }

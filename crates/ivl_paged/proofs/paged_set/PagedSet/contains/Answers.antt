@@ -21,4 +21,4 @@ returns g c =
     let most = s.at_most in
     let some = c.if-count-eq0.false in
     let page : c.page.result.now ≡ get_or P (n - 1) [] = c.page.ensures ∙ get_or_default P (n - 1) _ [] (omega arith) in
-    found_in_page P c.args.self.now c.set.result.now v n c.contains.result c.self.invariant.0.maximal s c.self.view_is (c.set.ensures.same ∙ page) c.contains.ensures
+    found_in_page P c.args.self.now c.page.result.now v n c.contains.result c.self.invariant.0.maximal s c.self.view_is page c.contains.ensures

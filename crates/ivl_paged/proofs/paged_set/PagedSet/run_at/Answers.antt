@@ -22,4 +22,4 @@ returns g c =
     let none = c.if-count-eq0.false in
     let some : 0 < n = omega arith in
     let page : c.page.result.now ≡ get_or P (n - 1) [] = c.page.ensures ∙ get_or_default P (n - 1) _ [] (omega arith) in
-    run_seen P c.args.self.now c.self.invariant.0.maximal c.self.view_is c.set.result.now v n c.run_at.result s (c.set.ensures.same ∙ page) c.run_at.ensures
+    run_seen P c.args.self.now c.self.invariant.0.maximal c.self.view_is c.page.result.now v n c.run_at.result s page c.run_at.ensures
