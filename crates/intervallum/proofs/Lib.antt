@@ -53,3 +53,4 @@ pub mod Trimmed
 pub mod Placing
 pub mod Alone
 pub mod AloneSteps
+pub mod Edges

@@ -4,24 +4,49 @@
 use crate::rattle::prelude::*;
 use super::probes::Probes;
 use super::search::{Place, find, find_from};
+use crate::proved::intervallum::ops::Bounded;
 use crate::proved::intervallum::width::Width;
 
 /// How many runs end below a value.
 pub(crate) fn runs_before<B: Width>(probes: &mut Probes<'_, B>, value: B) -> usize {
     probes.in_whole();
-    match find(probes, value) {
+    if ends_from(probes, value) {
+        return 0;
+    }
+    match place_of(probes, value) {
         Place::In(first) => first,
         Place::Gap(first) => first,
     }
 }
 
+/// Whether no run ends below a value, as in a set that is cut from above alone.
+fn ends_from<B: Width>(probes: &mut Probes<'_, B>, value: B) -> bool {
+    probes.len() == 0 || value <= probes.look(0).upper()
+}
+
 /// How many runs start at a value or below.
 pub(crate) fn runs_up_to<B: Width>(probes: &mut Probes<'_, B>, value: B) -> usize {
     probes.in_whole();
-    match find(probes, value) {
+    if starts_by(probes, value) {
+        return probes.len();
+    }
+    match place_of(probes, value) {
         Place::In(last) => last + 1,
         Place::Gap(i) => i,
     }
+}
+
+/// Whether no run starts above a value, as in a set that is cut from below alone.
+fn starts_by<B: Width>(probes: &mut Probes<'_, B>, value: B) -> bool {
+    let count = probes.len();
+    count == 0 || probes.look(count - 1).lower() <= value
+}
+
+/// As `find`. Not inlined: where only the number is used of what it finds, the compiler makes a jump
+/// of each choice of the search.
+#[inline(never)]
+fn place_of<B: Width>(probes: &mut Probes<'_, B>, value: B) -> Place {
+    find(probes, value)
 }
 
 /// How many runs end below a value, as the first `from` do. Looks as `find_from` does.
