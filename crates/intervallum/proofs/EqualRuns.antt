@@ -1,5 +1,5 @@
 -- Two lists that are compared run by run, some at a time.
-use Rattle.std.proofs.Common.{◌≡◌, ◌↔◌, ◌∙◌, ◌&&◌, ◌<◌, ◌+◌, ◌-◌, ◌++◌, Bool, IsTrue, ℕ, ℤ, pos, List, length, length-drop, get_or, take, take_all, drop, ap, ap₂, sym, arith}
+use Rattle.std.proofs.Common.{◌≡◌, ◌↔◌, ◌∙◌, ◌&&◌, ◌<◌, ◌+◌, ◌++◌, Bool, IsTrue, ℕ, ℤ, pos, List, length, get_or, take, drop, ap, ap₂, sym, arith}
 use Rattle.std.proofs.Math.Seq.{take-add}
 use Rattle.std.proofs.lemmas.Bool.{and_parts, and_from}
 use Rattle.std.proofs.lemmas.List.{take-append-drop}
@@ -33,6 +33,3 @@ same_part A B n m k e f g =
 
 pub same_rest : (A B : List (ℤ × ℤ)) (n : ℕ) → take n A ≡ take n B → drop n A ≡ drop n B → A ≡ B
 same_rest A B n f g = sym (take-append-drop n A) ∙ ap₂ (λ (X Y : List (ℤ × ℤ)). X ++ Y) f g ∙ take-append-drop n B
-
-pub rest_of : (L : List (ℤ × ℤ)) (n : ℕ) → take (length L - n) (drop n L) ≡ drop n L
-rest_of L n = let left = length-drop n L in take_all (length L - n) (drop n L) (omega (arith, left))

@@ -1,5 +1,5 @@
 -- The first run that is long enough.
-use Rattle.std.proofs.Common.{◌≡◌, ◌∙◌, ◌≤◌, ◌<◌, ◌+◌, ◌-◌, inl, inr, ⊎_elim, ℕ, zero, suc, ℤ, pos, ◌+ℤ◌, ◌-ℤ◌, ◌≤ℤ◌, Bool, true, false, List, [], ◌∷◌, length, length-drop, take, take_all, drop, get_or, Some, None, arith, ap, refl, sym, subst}
+use Rattle.std.proofs.Common.{◌≡◌, ◌∙◌, ◌≤◌, ◌<◌, ◌+◌, inl, inr, ⊎_elim, ℕ, zero, suc, ℤ, pos, ◌+ℤ◌, ◌-ℤ◌, ◌≤ℤ◌, Bool, true, false, List, [], ◌∷◌, length, take, drop, get_or, Some, None, arith, ap, refl, sym, subst}
 use Rattle.std.specs.Prelude.{Option, MatchOption, slice_get, IsSomeAnd}
 use Rattle.std.specs.declared.cmp.Ordering.{Ordering}
 use Rattle.std.specs.Ordering.{nat_cmp, partial_ge, is_some_and, is_ge}
@@ -152,9 +152,6 @@ pub holds_here : (R L : List (ℤ × ℤ)) (i : ℕ) (v : ℤ) → R ≡ L → I
 holds_here R L i v e m h =
     let there : IsSomeAnd (slice_get L i) (λ run. IsBetween run v) = subst (λ (M : List (ℤ × ℤ)). IsSomeAnd (slice_get M i) (λ run. IsBetween run v)) e h in
     record { less = place_is_less L i v there; has = λ d. has_item L i v d there; split = split_by_run L i v m there }
-
-pub rest_whole : (L : List (ℤ × ℤ)) (i : ℕ) → take (length L - i) (drop i L) ≡ drop i L
-rest_whole L i = take_all (length L - i) (drop i L) (omega (arith, length-drop i L))
 
 pub bounds_from : (whole : ℤ × ℤ) (L : List (ℤ × ℤ)) (i : ℕ) (v : ℤ) (d : ℤ × ℤ) (low high : ℤ) → IsRunListIn whole L → HoldsHere L v i → d ≡ get_or L i d → low ≡ v → high ≡ d.1 → IsInRange whole (low, high)
 bounds_from whole L i v d low high r h is e f =

@@ -3,6 +3,7 @@ pub mod EqualRuns
 pub mod Walking
 pub mod Joins
 pub mod Pushing
+pub mod Slices
 pub mod Sweeping
 pub mod Halves
 pub mod Images

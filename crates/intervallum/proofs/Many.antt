@@ -5,7 +5,7 @@ use Rattle.ivl_laws.specs.Sets.{Intersection, IsBetween, IsSubset, Union}
 use Rattle.ivl_laws.specs.Runs.{Covers, IsRunsOf}
 use Rattle.ivl_laws.proofs.SetLaws.{IsRunsOf-same}
 use Rattle.intervallum.specs.Many.{IsInEach, IsInSome}
-use Rattle.intervallum.proofs.Sweeping.{from_place}
+use Rattle.intervallum.proofs.Slices.{from_place}
 
 module _ {X : Type 0} (f : X → List (ℤ × ℤ)) where
   some_split : (xs : List X) (n : ℕ) (z : ℤ) → (IsInSome (map f (take n xs)) z ⊎ IsInSome (map f (drop n xs)) z) ↔ IsInSome (map f xs) z

@@ -3,7 +3,8 @@ use Rattle.std.specs.Prelude.{IsSomeAnd, slice_get}
 use Rattle.ivl_laws.specs.Sets.{AtLeast, IsBetween}
 use Rattle.ivl_laws.specs.Runs.{Covers, IsRunListIn}
 use Rattle.intervallum.specs.Neighbours.{IsGapAt}
-use Rattle.intervallum.proofs.FirstFit.{IsFitOf, fit_from_gap, rest_whole}
+use Rattle.intervallum.proofs.FirstFit.{IsFitOf, fit_from_gap}
+use Rattle.intervallum.proofs.Slices.{from_place}
 use Rattle.intervallum.proofs.Finding.{place_is_less}
 use Rattle.intervallum.proofs.Windows.{part_is_run_list}
 use Rattle.intervallum.proofs.interval_set.IntervalSet.first_fit_from.Goals as goal
@@ -31,7 +32,7 @@ returns-in-Gap g c =
     let v = g.B.Width.value c.args.v in
     let gap : IsGapAt L v c.in-Gap.i = subst (λ (M : List (ℤ × ℤ)). IsGapAt M v c.in-Gap.i) (c.new-probes.ensures.runs ∙ sym c.as_runs-runs.ensures.same) c.in-Gap.ensures.beside in
     subst (λ (M : List (ℤ × ℤ)). IsFitOf n (AtLeast v (Covers M)) c.fit_in.result) c.as_runs-runs.ensures.same
-    (fit_from_gap n L c.in-Gap.i v c.fit_in.result gap (subst (λ (M : List (ℤ × ℤ)). IsFitOf n (Covers M) c.fit_in.result) (rest_whole L c.in-Gap.i) c.fit_in.ensures))
+    (fit_from_gap n L c.in-Gap.i v c.fit_in.result gap (subst (λ (M : List (ℤ × ℤ)). IsFitOf n (Covers M) c.fit_in.result) (from_place L c.in-Gap.i) c.fit_in.ensures))
 
 pub returns-in-In : goal.returns-in-In
 returns-in-In g c =

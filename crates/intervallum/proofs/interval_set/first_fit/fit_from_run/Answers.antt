@@ -1,7 +1,8 @@
 use Rattle.std.proofs.Common.{◌∙◌, ◌+◌, ◌-◌, ◌<◌, ◌≤◌, ℕ, ℤ, List, length, subst, refl}
 use Rattle.ivl_laws.specs.Runs.{Covers}
 use Rattle.ivl_laws.proofs.Runs.{pair_same}
-use Rattle.intervallum.proofs.FirstFit.{IsFitOf, at_least_by_count, below_by_count, bounds_from, fit_in_run, fit_past_run, holds_here, rest_whole}
+use Rattle.intervallum.proofs.FirstFit.{IsFitOf, at_least_by_count, below_by_count, bounds_from, fit_in_run, fit_past_run, holds_here}
+use Rattle.intervallum.proofs.Slices.{from_place}
 use Rattle.intervallum.proofs.Windows.{part_is_run_list}
 use Rattle.intervallum.proofs.interval_set.first_fit.fit_from_run.Goals as goal
 
@@ -38,4 +39,4 @@ returns-else-ge g c =
     (g.B.Output.SizeNumber.size c.args.count) c.new-part.result c.fit_in.result c.requires.above_zero
     (c.new-part.ensures.value ∙ pair_same (g.B.Width.value c.args.v, g.B.Width.value c.upper.result) (g.B.Width.value c.args.v, c.index-runs-i.result.1) refl c.upper.ensures.value)
     (subst (λ (k : ℕ). k < g.B.Output.SizeNumber.size c.args.count) c.size.ensures.width (below_by_count g.met.B.Output.SizeNumber.ordered _ _ _ c.ge.ensures c.if-ge.false))
-    (subst (λ (M : List (ℤ × ℤ)). IsFitOf (g.B.Output.SizeNumber.size c.args.count) (Covers M) c.fit_in.result) (rest_whole c.args.runs.now (c.args.i + 1)) c.fit_in.ensures)
+    (subst (λ (M : List (ℤ × ℤ)). IsFitOf (g.B.Output.SizeNumber.size c.args.count) (Covers M) c.fit_in.result) (from_place c.args.runs.now (c.args.i + 1)) c.fit_in.ensures)

@@ -1,7 +1,8 @@
 use Rattle.std.proofs.Common.{◌≡◌, ◌+◌, ◌*◌, ◌-◌, ◌/◌, ℕ, ℤ, List, length, take, drop, ap, sym, true≢false, ◌∙◌, arith}
 use Rattle.ivl_laws.proofs.Adding.{untrue}
 use Rattle.ivl_laws.proofs.Places.{IsMaximal-drop, IsMaximal-take}
-use Rattle.intervallum.proofs.EqualRuns.{rest_of, same_part, same_rest}
+use Rattle.intervallum.proofs.EqualRuns.{same_part, same_rest}
+use Rattle.intervallum.proofs.Slices.{from_place}
 use Rattle.intervallum.proofs.interval_set.run_lists.are_the_same.Goals as goal
 
 pub all_are_the_same-requires-clause-left : goal.all_are_the_same-requires-clause-left
@@ -36,6 +37,6 @@ returns g c =
     let groups : c.loop-i.i ≡ length L / 4 = let past = c.loop-i-test.false in let most = c.loop-i.auto.i-end in omega arith in
     let n = length L / 4 * 4 in
     let before : take n L ≡ take n M = ap (λ (k : ℕ). take (k * 4) L) (sym groups) ∙ c.loop-i.invariant ∙ ap (λ (k : ℕ). take (k * 4) M) groups in (
-      (λ t. same_rest L M n before (sym (rest_of L n) ∙ c.all_are_the_same-2.ensures.0 t ∙ rest_of M n)),
-      (λ e. c.all_are_the_same-2.ensures.1 (rest_of L n ∙ ap (λ (N : List (ℤ × ℤ)). drop n N) e ∙ sym (rest_of M n))),
+      (λ t. same_rest L M n before (sym (from_place L n) ∙ c.all_are_the_same-2.ensures.0 t ∙ from_place M n)),
+      (λ e. c.all_are_the_same-2.ensures.1 (from_place L n ∙ ap (λ (N : List (ℤ × ℤ)). drop n N) e ∙ sym (from_place M n))),
     )
