@@ -1,8 +1,8 @@
 -- Runs that are laid in a room one by one, from left to right.
-use Rattle.std.proofs.Common.{◌≡◌, ◌⊎◌, inl, inr, ℕ, ◌+◌, ◌≤◌, ℤ, pos, ◌≤ℤ◌, List, [], ◌∷◌, ◌++◌, length, length-append, get_or, set, drop, take, map, ◌<◌, Bool, true, false, refl, ap, ◌∙◌, sym, subst, arith}
+use Rattle.std.proofs.Common.{◌≡◌, ◌⊎◌, inl, inr, ℕ, ◌+◌, ◌-◌, ◌≤◌, ℤ, pos, ◌≤ℤ◌, List, [], ◌∷◌, ◌++◌, length, length-append, get_or, set, drop, take, map, ◌<◌, Bool, true, false, refl, ap, ◌∙◌, sym, subst, arith}
 use Rattle.std.proofs.lemmas.Int.{ints, by_lt_z}
 use Rattle.std.proofs.lemmas.Bool.{le-leb}
-use Rattle.std.proofs.lemmas.List.{append-nil, append_assoc, length-map, length-take-le, map-append, map-set, set-get_or, take_more}
+use Rattle.std.proofs.lemmas.List.{append-nil, append_assoc, length-map, length-take-le, map-append, map-set, set-get_or, set-set, take_more}
 use Rattle.std.specs.Prelude.{cond, nat_le}
 use Rattle.ivl_laws.specs.Sets.{HasNone, IsBetween, SameMembers, Union}
 use Rattle.ivl_laws.specs.Runs.{Covers, IsMaximal}
@@ -11,7 +11,7 @@ use Rattle.ivl_laws.proofs.SetLaws.{IsRunsOf-unique}
 use Rattle.intervallum.specs.Order.{IsBelow}
 use Rattle.intervallum.proofs.MergeState.{IsBuilding, adds_above, adds_none, building_ends, building_same}
 use Rattle.ivl_buffers.specs.Answers.{IsWritten, written}
-use Rattle.ivl_buffers.specs.Merging.{IsLaid, LaysNext, laid}
+use Rattle.ivl_buffers.specs.Merging.{IsLaid, LaysNext, Stands, laid}
 
 pub laid_more : (L room : List (ℤ × ℤ)) (p : ℤ × ℤ) → set (laid L room) (length L) p ≡ laid (L ++ p ∷ []) room
 laid_more [] [] p = refl
@@ -63,6 +63,10 @@ pub put_by : {X : Type 0} (pair : X → ℤ × ℤ) (t : Bool) (out : List X) (k
     map pair (set out k (cond t run old)) ≡ cond t (set (map pair out) k (pair run)) (map pair out)
 put_by pair true out k run old e = map-set pair out k run
 put_by pair false out k run old e = ap (λ (L : List _). map pair L) (ap (λ x. set out k x) e ∙ set-get_or out k old)
+
+-- what was just written stands at its place
+pub written_stands : (room room' : List (ℤ × ℤ)) (p : ℤ × ℤ) (told place : ℕ) → room' ≡ set room place p → place ≡ told - 1 → Stands p room' told
+written_stands room room' p told place e h = let twice : set (set room place p) place p ≡ set room place p = set-set room place p p in cc
 
 -- the next pair adds its numbers, none where it is crossed
 pub lays : (W : List (ℤ × ℤ)) (r : ℤ × ℤ) (old room room' : List (ℤ × ℤ)) (told told' : ℕ) → IsMaximal W → IsBelow (pos 2) (Covers W) (IsBetween r) → told ≡ length W → room ≡ laid W old →

@@ -2,16 +2,17 @@
 //!
 //! A walk writes the runs of its answer to the first places of the buffer, as many as there are
 //! places, and returns the number of all of them. It is linear in the runs of both lists, and does
-//! not allocate. In the loops of `union`, `intersection` and `symmetric_difference` no branch hangs on
-//! the values: what a comparison tells is added to a place as 0 or 1, or chooses by a conditional
-//! move. No caller takes in a walk over two lists, so that its loop has all registers to itself.
+//! not allocate. In the loops of `union` and `intersection` no branch hangs on the values: what a
+//! comparison tells is added to a place as 0 or 1, or chooses by a conditional move. The loop of
+//! `symmetric_difference` has one such branch at most, in `put_if`. No caller takes in a walk over two
+//! lists, so that its loop has all registers to itself.
 ghost use Rattle.std.specs.Prelude.{◌≡◌, ◌⊎◌, ◌++◌, ◌+◌, ◌^◌, ◌<◌, ◌≤◌, ℤ, ◌+ℤ◌, ◌-ℤ◌, ◌<ℤ◌, if◌then◌else◌, not, pos, IfSome, List, [], MatchOption, None, Some, drop, length, map, slice_get, slice_set};
 ghost use Rattle.std.specs.Int.{from_bool, int_max, int_min};
 ghost use Rattle.std.specs.Option.{option_zip};
 ghost use Rattle.ivl_laws.specs.Sets.{Complement, Intersection, SymmetricDifference, Union, Without};
 ghost use Rattle.ivl_laws.specs.Runs.{Covers, IsRunListIn};
 ghost use Rattle.ivl_laws.specs.Walks.{TakesFirst};
-ghost use Rattle.ivl_buffers.specs.Merging.{IsLaid, IsRunIn, LaysNext, laid};
+ghost use Rattle.ivl_buffers.specs.Merging.{IsLaid, IsRunIn, LaysNext, Stands, laid};
 
 use crate::run::Run;
 use crate::run_lists::{leaves_free, one_if};
@@ -35,11 +36,12 @@ pub fn intersection<R: Run>(a: &[R], b: &[R], out: &mut [R]) -> usize
     let mut i = 0;
     let mut j = 0;
     let mut heads = pair_at(a, 0).zip(pair_at(b, 0));
+    let mut last = first_or_any(out);
     'walk: while let Some(runs) = heads {
         let (run, other) = runs;
         let start = run.lower().max(other.lower());
         let end = run.upper().min(other.upper());
-        count = lay(out, count, R::of(start, end));
+        count = lay_or_repeat(out, count, &mut last, R::of(start, end));
         let ends_first = run.upper() <= other.upper();
         heads = next_heads(a, i, b, j, runs, ends_first);
         i += usize::from(ends_first);
@@ -292,12 +294,44 @@ fn lay<R: Run>(out: &mut [R], count: usize, run: R) -> usize
     requires { count < 2 ^ 63 }
     ensures { LaysNext (R.pair run) (map R.pair out.old) (map R.pair out.new) count result }
 {
-    let is_filled = run.lower() <= run.upper();
-    put_if(out, count, run, is_filled);
-    count + usize::from(is_filled)
+    if run.upper() < run.lower() {
+        return count;
+    }
+    put(out, count, run);
+    count + 1
 }
 
-/// Writes a pair at a place of the buffer, if a condition holds and there is such a place.
+/// The pair at the first place of the buffer, or any pair if it has no place.
+fn first_or_any<R: Run>(out: &[R]) -> R
+    ensures { Stands (R.pair result) (map R.pair out.now) 0 }
+{
+    if out.is_empty() {
+        let any = R::Bound::min_value();
+        return R::of(any, any);
+    }
+    out[0]
+}
+
+/// Writes a pair, or the last one once more where it stands if the pair is crossed: so each step of
+/// a loop writes, and none reads the buffer, which would wait for what the step before has written.
+/// Before the first run the last one is what stands at the first place. Returns the new number of
+/// runs.
+fn lay_or_repeat<R: Run>(out: &mut [R], count: usize, last: &mut R, run: R) -> usize
+    requires counted { count < 2 ^ 63 }
+    requires last { Stands (R.pair last.old) (map R.pair out.old) count }
+    ensures laid { LaysNext (R.pair run) (map R.pair out.old) (map R.pair out.new) count result }
+    ensures last { Stands (R.pair last.new) (map R.pair out.new) result }
+{
+    let is_filled = run.lower() <= run.upper();
+    *last = select_unpredictable(is_filled, run, *last);
+    let told = count + usize::from(is_filled);
+    put(out, told.saturating_sub(1), *last);
+    told
+}
+
+/// Writes a pair at a place of the buffer, if a condition holds and there is such a place. A compiler
+/// may choose by a jump, since what stands there is read: this serves where the condition nearly
+/// always holds.
 fn put_if<R: Run>(out: &mut [R], place: usize, run: R, condition: bool)
     ensures { map R.pair out.new ≡ (if condition then slice_set (map R.pair out.old) place (R.pair run) else map R.pair out.old) }
 {

@@ -2,9 +2,10 @@
 //!
 //! A walk writes the runs of its answer to the first places of the buffer, as many as there are
 //! places, and returns the number of all of them. It is linear in the runs of both lists, and does
-//! not allocate. In the loops of `union`, `intersection` and `symmetric_difference` no branch hangs on
-//! the values: what a comparison tells is added to a place as 0 or 1, or chooses by a conditional
-//! move. No caller takes in a walk over two lists, so that its loop has all registers to itself.
+//! not allocate. In the loops of `union` and `intersection` no branch hangs on the values: what a
+//! comparison tells is added to a place as 0 or 1, or chooses by a conditional move. The loop of
+//! `symmetric_difference` has one such branch at most, in `put_if`. No caller takes in a walk over two
+//! lists, so that its loop has all registers to itself.
 
 #[allow(unused_imports)]
 use crate::rattle::prelude::*;
@@ -36,11 +37,12 @@ pub fn intersection<R: Run>(a: &[R], b: &[R], out: &mut [R]) -> usize {
     let mut i = 0;
     let mut j = 0;
     let mut heads = pair_at(a, 0).zip(pair_at(b, 0));
+    let mut last = first_or_any(out);
     'walk: while let Some(runs) = heads {
         let (run, other) = runs;
         let start = run.lower().max(other.lower());
         let end = run.upper().min(other.upper());
-        count = lay(out, count, R::of(start, end));
+        count = lay_or_repeat(out, count, &mut last, R::of(start, end));
         let ends_first = run.upper() <= other.upper();
         heads = next_heads(a, i, b, j, runs, ends_first);
         i += usize::from(ends_first);
@@ -277,12 +279,37 @@ fn lay_below<R: Run>(out: &mut [R], count: usize, run: R, other: R) -> usize {
 
 /// Writes a pair unless it is crossed. Returns the new number of runs.
 fn lay<R: Run>(out: &mut [R], count: usize, run: R) -> usize {
-    let is_filled = run.lower() <= run.upper();
-    put_if(out, count, run, is_filled);
-    count + usize::from(is_filled)
+    if run.upper() < run.lower() {
+        return count;
+    }
+    put(out, count, run);
+    count + 1
 }
 
-/// Writes a pair at a place of the buffer, if a condition holds and there is such a place.
+/// The pair at the first place of the buffer, or any pair if it has no place.
+fn first_or_any<R: Run>(out: &[R]) -> R {
+    if out.is_empty() {
+        let any = R::Bound::min_value();
+        return R::of(any, any);
+    }
+    out[0]
+}
+
+/// Writes a pair, or the last one once more where it stands if the pair is crossed: so each step of
+/// a loop writes, and none reads the buffer, which would wait for what the step before has written.
+/// Before the first run the last one is what stands at the first place. Returns the new number of
+/// runs.
+fn lay_or_repeat<R: Run>(out: &mut [R], count: usize, last: &mut R, run: R) -> usize {
+    let is_filled = run.lower() <= run.upper();
+    *last = select_unpredictable(is_filled, run, *last);
+    let told = count + usize::from(is_filled);
+    put(out, told.saturating_sub(1), *last);
+    told
+}
+
+/// Writes a pair at a place of the buffer, if a condition holds and there is such a place. A compiler
+/// may choose by a jump, since what stands there is read: this serves where the condition nearly
+/// always holds.
 fn put_if<R: Run>(out: &mut [R], place: usize, run: R, condition: bool) {
     if place < out.len() {
         out[place] = select_unpredictable(condition, run, out[place]);

@@ -57,7 +57,9 @@ fn first_from<R: Run>(runs: &[R], v: R::Bound) -> Option<R> {
 }
 
 /// The place of the first pair that ends at `v` or above, or the number of pairs, if the list is
-/// sorted; and whether the pair at that place has `v`.
+/// sorted; and whether the pair at that place has `v`. No caller takes it in: where one drops half of
+/// the answer, the loop for the other half gets a jump that hangs on the values.
+#[inline(never)]
 pub(crate) fn search<R: Run>(runs: &[R], v: R::Bound) -> (usize, bool) {
     let mut low = 0;
     // how many are left does not depend on what is seen, so the next look need not wait for it; both

@@ -15,6 +15,7 @@ walk-init g c = record {
   first = omega arith;
   second = omega arith;
   heads = c.zip-heads.ensures ∙ ap₂ option_zip c.pair_at.ensures c.pair_at-2.ensures;
+  last = c.first_or_any-last.ensures;
   count = omega arith;
   state = meeting_begins g.R.Run.pair c.args.a.now c.args.b.now (map g.R.Run.pair c.args.out.now);
 }
@@ -53,15 +54,16 @@ walk-preserved g c =
     let o = g.met.R.Bound.Width.ordered in
     let starts = ap (λ (p : ℤ × ℤ). p.0) c.of.ensures ∙ max_number o _ _ _ c.max-start.ensures ∙ both_ends c.lower.ensures c.lower-in-Some.ensures in
     let ends = ap (λ (p : ℤ × ℤ). p.1) c.of.ensures ∙ min_number o _ _ _ c.min-end.ensures ∙ both_starts c.upper.ensures c.upper-in-Some.ensures in
-    let more = one_more_at_most _ _ _ _ _ c.lay-count.ensures in
+    let more = one_more_at_most _ _ _ _ _ c.lay_or_repeat-count.ensures.laid in
     let one = one_moves c.le-ends_first.result _ _ c.from-i.ensures c.from-j.ensures in
     record {
       first = omega (arith, h, one);
       second = omega (arith, k, one);
       heads = c.next_heads-heads.ensures ∙ ap₂ (λ (n m : ℕ). option_zip (slice_get c.args.a.now (c.walk.i + n)) (slice_get c.args.b.now (c.walk.j + m))) (sym c.from-i.ensures) (sym c.from-j.ensures);
+      last = c.lay_or_repeat-count.ensures.last;
       count = omega (arith, more, inv.count, one);
       state = meeting_next g.R.Run.pair c.args.a.now c.args.b.now c.walk.i c.walk.j c.in-Some.runs.0 c.in-Some.runs.1 (g.R.Run.pair c.of.result)
-          _ _ _ c.walk.count c.lay-count.result c.requires.first.maximal c.requires.second.maximal at by starts ends c.lay-count.ensures inv.state
+          _ _ _ c.walk.count c.lay_or_repeat-count.result c.requires.first.maximal c.requires.second.maximal at by starts ends c.lay_or_repeat-count.ensures.laid inv.state
           c.le-ends_first.result _ _ _ _ c.upper-in-Some-2.ensures c.upper-in-Some-3.ensures (le_number o _ _ _ c.le-ends_first.ensures) c.from-i.ensures c.from-j.ensures;
     }
 
