@@ -1,18 +1,14 @@
 -- One of the longest runs of a page: among the runs so far, and after an edit.
 use Rattle.std.proofs.Common.{◌≡◌, ◌⊎◌, ⊎_elim, inl, inr, ℕ, ◌+◌, ◌<◌, ◌≤◌, ℤ, Bool, true, false, cond, List, [], ◌∷◌, ◌++◌, length, get_or, take, take_all, Some, None, refl, sym, ap, subst, ◌∙◌, arith}
-use Rattle.std.specs.Prelude.{◌≤ℤ◌, ◌<ℤ◌, Option, MatchOption, nat_eq}
-use Rattle.std.specs.declared.cmp.Ordering.{Ordering}
-use Rattle.std.proofs.lemmas.Bool.Decides.{nat_tests}
+use Rattle.std.specs.Prelude.{◌≤ℤ◌, ◌<ℤ◌, Option, MatchOption}
 use Rattle.std.proofs.lemmas.Int.{ints, by_lt_z}
-use Rattle.ivl_laws.specs.Bounds.{OrdersByCount, width_of}
-use Rattle.ivl_laws.specs.Counts.{IsCountOf}
+use Rattle.ivl_laws.specs.Bounds.{width_of}
 use Rattle.ivl_laws.specs.Sets.{IsBetween, IsCrossed, IsSubset, SameMembers, Union, Without}
 use Rattle.ivl_laws.specs.Runs.{Covers, IsMaximal}
-use Rattle.ivl_laws.proofs.Counts.{IsCountOf-same, count_is_unique, decide_in, same_count_same_members}
 use Rattle.ivl_laws.proofs.Intervals.{width_of-crossed, width_of-filled}
 use Rattle.ivl_laws.proofs.Merging.{covers-append_left, covers-append_right}
 use Rattle.intervallum.specs.FirstFit.{FitsAt}
-use Rattle.intervallum.specs.Neighbours.{IsLeast, IsRunWith}
+use Rattle.intervallum.specs.Neighbours.{IsRunWith}
 use Rattle.intervallum.proofs.Ranks.{more_is}
 use Rattle.ivl_paged.specs.Pages.{IsLongestPart}
 use Rattle.ivl_paged.proofs.Fitting.{grown_by_run, longest_next, longest_of_none}

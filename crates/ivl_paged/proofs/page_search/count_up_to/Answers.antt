@@ -1,4 +1,4 @@
-use Rattle.std.proofs.Common.{◌∙◌, ◌↔◌, ◌≤ℤ◌, ◌≤◌, ◌+◌, ℕ, ℤ, IsTrue, Bool, true, false, cond, ◌≡◌, ap, subst, arith}
+use Rattle.std.proofs.Common.{◌∙◌, ◌↔◌, ◌≤ℤ◌, ◌+◌, ℤ, IsTrue, ap, subst, arith}
 use Rattle.ivl_laws.proofs.Orders.{le_number}
 use Rattle.ivl_paged.proofs.PageSearch.{chosen_is_less, up_to_goes}
 use Rattle.ivl_paged.proofs.page_search.count_up_to.Goals as goal

@@ -1,5 +1,4 @@
-use Rattle.std.proofs.Common.{◌+◌, ◌-◌, ◌≡◌, ◌≤◌, ℕ, ℤ, List, take, drop, subst, arith, length}
-use Rattle.ivl_laws.specs.Runs.{StartsBy}
+use Rattle.std.proofs.Common.{◌+◌, ◌-◌, ◌≡◌, ℕ, ℤ, List, drop, subst, arith}
 use Rattle.ivl_laws.proofs.Places.{IsMaximal-drop, IsMaximal-take}
 use Rattle.intervallum.specs.Places.{StartAbove}
 use Rattle.ivl_paged.proofs.PageSearch.{above_from_part, at_most_in_part, starts_from_part}
