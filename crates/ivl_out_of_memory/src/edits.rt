@@ -30,6 +30,8 @@ pub fn call(alloc: Global, name: &str, a: &IntervalSet<i32>) -> Option<Result<bo
         "remove" => is_of(removed(a), REMOVED),
         "insert_interval" => is_of(inserted_interval(a), INSERTED_INTERVAL),
         "remove_interval" => is_of(removed_interval(a), REMOVED_INTERVAL),
+        "insert_interval_near" => is_of(inserted_near(a), INSERTED_INTERVAL),
+        "remove_interval_near" => is_of(removed_near(a), REMOVED_INTERVAL),
         "edit_in_place" => is_of(edited_in_place(a), EDITED),
         _ => return None,
     })
@@ -83,6 +85,21 @@ fn removed_interval(a: &IntervalSet<i32>) -> Result<IntervalSet<i32>, AllocError
     let before = lengthened(a)?;
     let mut set = before.try_clone()?;
     let refusal = set.remove_interval(Interval::new(15, 17)).err();
+    left(refusal, set, &before)
+}
+
+/// A copy with one more interval, by a search that begins behind its runs.
+fn inserted_near(a: &IntervalSet<i32>) -> Result<IntervalSet<i32>, AllocError> {
+    let mut set = a.try_clone()?;
+    let refusal = set.insert_interval_near(Interval::new(20, 30), 4).err();
+    left(refusal, set, a)
+}
+
+/// A longer copy without an interval in its last run, by a search that begins with that run.
+fn removed_near(a: &IntervalSet<i32>) -> Result<IntervalSet<i32>, AllocError> {
+    let before = lengthened(a)?;
+    let mut set = before.try_clone()?;
+    let refusal = set.remove_interval_near(Interval::new(15, 17), 3).err();
     left(refusal, set, &before)
 }
 

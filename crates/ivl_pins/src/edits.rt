@@ -64,6 +64,19 @@ pub fn set_loses_interval<B: Width>(
     set.remove_interval(interval)
 }
 
+/// Adds the numbers of an interval, and removes those of another, by searches that begin at any place.
+pub fn set_changes_near<B: Width>(
+    set: &mut IntervalSet<B>,
+    more: Interval<B>,
+    less: Interval<B>,
+    place: usize,
+) -> Result<(), AllocError>
+    ensures { OnOk result (SameMembers (Covers set.new) (Without (Union (Covers set.old) (IsBetween more)) (IsBetween less))) }
+{
+    set.insert_interval_near(more, place)?;
+    set.remove_interval_near(less, place)
+}
+
 /// Adds a member again, which cannot fail.
 pub fn member_again<B: Width>(set: &mut IntervalSet<B>, value: B)
     requires in_range { IsBetween B.whole (B.value value) }
