@@ -64,17 +64,28 @@ pub fn set_loses_interval<B: Width>(
     set.remove_interval(interval)
 }
 
-/// Adds the numbers of an interval, and removes those of another, by searches that begin at any place.
-pub fn set_changes_near<B: Width>(
+/// Adds the numbers of an interval, by a search that begins at any place.
+pub fn set_gains_interval_near<B: Width>(
     set: &mut IntervalSet<B>,
-    more: Interval<B>,
-    less: Interval<B>,
+    interval: Interval<B>,
     place: usize,
 ) -> Result<(), AllocError>
-    ensures { OnOk result (SameMembers (Covers set.new) (Without (Union (Covers set.old) (IsBetween more)) (IsBetween less))) }
+    ensures members { OnOk result (IsRunsOf set.new (Union (Covers set.old) (IsBetween interval))) }
+    ensures err { OnErr result (set.new ≡ set.old) }
 {
-    set.insert_interval_near(more, place)?;
-    set.remove_interval_near(less, place)
+    set.insert_interval_near(interval, place)
+}
+
+/// Removes the numbers of an interval, by a search that begins at any place.
+pub fn set_loses_interval_near<B: Width>(
+    set: &mut IntervalSet<B>,
+    interval: Interval<B>,
+    place: usize,
+) -> Result<(), AllocError>
+    ensures members { OnOk result (IsRunsOf set.new (Without (Covers set.old) (IsBetween interval))) }
+    ensures err { OnErr result (set.new ≡ set.old) }
+{
+    set.remove_interval_near(interval, place)
 }
 
 /// Adds a member again, which cannot fail.
