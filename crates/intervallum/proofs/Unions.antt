@@ -18,7 +18,7 @@ use Rattle.intervallum.proofs.Walking.{takes_first, takes_second}
 
 -- ---- the last of a list
 
-last_place : (L : List (ℤ × ℤ)) (p : ℤ × ℤ) → Some p ≡ slice_get L (length L - 1) → (length L - 1) + 1 ≡ length L
+pub last_place : (L : List (ℤ × ℤ)) (p : ℤ × ℤ) → Some p ≡ slice_get L (length L - 1) → (length L - 1) + 1 ≡ length L
 last_place [] p e = absurd (cc)
 last_place (x ∷ L) p e = omega arith
 

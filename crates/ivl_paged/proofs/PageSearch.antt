@@ -40,31 +40,20 @@ pub none_up_to : (v : ℤ) (L : List (ℤ × ℤ)) (row : ℕ) → IsUpTo v L 0 
 none_up_to v L row = record { starts = tt; above = inl (omega arith) }
 
 module _ (v : ℤ) (L : List (ℤ × ℤ)) (m : IsMaximal L) (n row next : ℕ) (u : IsUpTo v L n row next) where
-  -- a look at run `next`: the first k runs start at v or below if it does
-  pub up_to_goes : (k n' next' : ℕ) (d : ℤ × ℤ) (t : Bool) → next < length L → (IsTrue t ↔ ((get_or L next d).0 ≤ℤ v)) → k ≤ next + 1 → next' ≡ k + row → n' ≡ cond t k n → IsUpTo v L n' row next'
-  up_to_goes k n' next' d true h is le e f =
+  -- a look at a run up to place `next`: the first k runs start at v or below if it does
+  pub up_to_goes : (look k n' next' : ℕ) (d : ℤ × ℤ) (t : Bool) → look ≤ next → look < length L → (IsTrue t ↔ ((get_or L look d).0 ≤ℤ v)) → k ≤ look + 1 → next' ≡ k + row → n' ≡ cond t k n → IsUpTo v L n' row next'
+  up_to_goes look k n' next' d true up h is le e f =
       let R : ℕ → Type 0 = λ j. IsUpTo v L j row next' in
-      subst R (sym f) (record { starts = starts_to v L k next d (omega (arith, le)) h (is.0 refl) m; above = inl e })
-  up_to_goes k n' next' d false h is le e f =
+      subst R (sym f) (record { starts = starts_to v L k look d (omega (arith, le)) h (is.0 refl) m; above = inl e })
+  up_to_goes look k n' next' d false up h is le e f =
       let R : ℕ → Type 0 = λ j. IsUpTo v L j row next' in
-      let high : v <ℤ (get_or L next d).0 = by_lt_z v (get_or L next d).0 (λ lt. lt) (λ low. absurd (untrue false refl is low)) in
-      let behind : (next ≡ n + row) → StartAbove v (drop (n + row) L) = λ same. above_on v L next (n + row) (omega (arith, same)) (above_from v L next d h high m) in
+      let high : v <ℤ (get_or L look d).0 = by_lt_z v (get_or L look d).0 (λ lt. lt) (λ low. absurd (untrue false refl is low)) in
+      let behind : (next ≡ n + row) → StartAbove v (drop (n + row) L) = λ same. above_on v L look (n + row) (omega (arith, same, up)) (above_from v L look d h high m) in
       subst R (sym f) (record { starts = u.starts; above = inr (⊎_elim behind (λ s. s) u.above) })
 
   -- all were looked at
   pub up_to_all : length L ≤ next → StartAbove v (drop (n + row) L)
   up_to_all h = ⊎_elim (λ e. none_behind v L (n + row) (omega (arith, h, e))) (λ s. s) u.above
-
-  -- a look at the last run with so many behind it, which ends the search
-  pub up_to_ends : (last n' : ℕ) (d : ℤ × ℤ) (t : Bool) → last ≤ next → last < length L → length L ≤ last + row → (IsTrue t ↔ ((get_or L last d).0 ≤ℤ v)) → n' ≡ cond t last n →
-      StartsBy v (take n' L) × StartAbove v (drop (n' + row) L)
-  up_to_ends last n' d true le h all is f =
-      let R : ℕ → Type 0 = λ j. StartsBy v (take j L) × StartAbove v (drop (j + row) L) in
-      subst R (sym f) (starts_to v L last last d (omega arith) h (is.0 refl) m, none_behind v L (last + row) all)
-  up_to_ends last n' d false le h all is f =
-      let R : ℕ → Type 0 = λ j. StartsBy v (take j L) × StartAbove v (drop (j + row) L) in
-      let high : v <ℤ (get_or L last d).0 = by_lt_z v (get_or L last d).0 (λ lt. lt) (λ low. absurd (untrue false refl is low)) in
-      subst R (sym f) (u.starts, ⊎_elim (λ e. above_on v L last (n + row) (omega (arith, le, e)) (above_from v L last d h high m)) (λ s. s) u.above)
 
 pub chosen_is_less : (t : Bool) (k n most n' : ℕ) → n' ≡ cond t k n → k ≤ most → n ≤ most → n' ≤ most
 chosen_is_less true k n most n' e a b = omega (arith, e, a)

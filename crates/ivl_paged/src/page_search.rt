@@ -19,7 +19,9 @@ const STEP: usize = 16;
 /// How many runs start at a value or below, and the run that has it, if one has it.
 pub(crate) fn find_run<B: Width>(runs: &[Interval<B>], value: B) -> (usize, Option<Interval<B>>)
     requires { IsMaximal runs.now }
-    ensures { MatchOption result.1
+    ensures starts { StartsBy (B.value value) (take result.0 runs.now) }
+    ensures above { StartAbove (B.value value) (drop result.0 runs.now) }
+    ensures run { MatchOption result.1
         (¬ (Covers runs.now (B.value value)))
         (IsRunWith (B.value value) (Covers runs.now)) }
 {
@@ -67,14 +69,13 @@ fn row_up_to<B: Width>(runs: &[Interval<B>], value: B) -> usize
 {
     let last = runs.len() - STEP;
     let mut first = 0;
-    let mut next = STEP;
+    let mut next = 0;
     'rows: while next < last {
+        next = (next + STEP).min(last);
         let is_up_to = runs[next].lower_bound() <= value;
         first = select_unpredictable(is_up_to, next, first);
-        next += STEP;
     }
-    let is_up_to = runs[last].lower_bound() <= value;
-    select_unpredictable(is_up_to, last, first)
+    first
 }
 
 /// The run before a place, if it has a value.

@@ -29,10 +29,11 @@ use std::marker::Model;
 /// of numbers, as it does of an `IntervalSet`.
 ///
 /// The runs stand in pages of fewer than 128. The least members of the pages stand in a list of their
-/// own, where a search begins. An edit in one page moves the runs of that page. A page that gets 128
-/// is split in two, which moves both lists; if there is no memory for that, the page grows. A page
-/// that gets at most half of that is joined with a neighbour if both then have at most 96. A page is
-/// removed when it is empty.
+/// own. A search for a value is a binary search of that list, and then looks at every 16th run of one
+/// page and at 16 in a row: `O(log n)`. An edit in one page moves the runs of that page. A page that
+/// gets 128 is split in two, which moves both lists; if there is no memory for that, the page grows. A
+/// page that gets at most half of that is joined with a neighbour if both then have at most 96. A page
+/// is removed when it is empty.
 ///
 /// If an allocation fails, the set is unchanged.
 ///
@@ -115,8 +116,8 @@ impl<B: Width> PagedSet<B> {
         false
     }
 
-    /// Returns true exactly when `value`, which may be any value of its type, is a member. Binary
-    /// search: `O(log n)`. Does not allocate.
+    /// Returns true exactly when `value`, which may be any value of its type, is a member. `O(log n)`.
+    /// Does not allocate.
     ///
     /// ```
     /// let mut a = PagedSet::new(alloc);
@@ -138,8 +139,8 @@ impl<B: Width> PagedSet<B> {
     /// The caller must ensure that the value is in the range. Check with
     /// `Interval::in_range(value, value)`.
     ///
-    /// Binary search, and moves the runs of one page: `O(log n)`. Once in about as many edits as a
-    /// page has runs, a page is split and the list of pages moves.
+    /// Searches one page, and moves its runs: `O(log n)`. Once in about as many edits as a page has
+    /// runs, a page is split and the list of pages moves.
     ///
     /// # Errors
     ///

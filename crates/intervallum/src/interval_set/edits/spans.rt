@@ -63,13 +63,8 @@ fn ends_before<B: Width>(probes: &mut Probes<'_, B>, place: usize, value: B) -> 
     ensures below { IsTrue result → EndBelow (B.value value) (take place probes.old.runs) }
     ensures same { probes.new.runs ≡ probes.old.runs }
 {
-    if place == 0 {
-        return true;
-    }
-    if probes.len() < place {
-        return false;
-    }
-    probes.look(place - 1).upper() < value
+    let count = probes.len();
+    place == 0 || (place <= count && probes.look(place - 1).upper() < value)
 }
 
 /// How many runs start at a value or below, as run `i` does, where those before it end below.

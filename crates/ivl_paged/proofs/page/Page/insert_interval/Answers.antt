@@ -15,7 +15,7 @@ returns-then-ends_at_or_above-clause-ok g c =
     let L : List (ℤ × ℤ) = c.self.inside.set in
     subst (λ (M : List (ℤ × ℤ)). IsRunsOf M (Union (Covers M) (IsBetween c.args.interval))) c.self.view_is
     (nothing_to_add c.find_run-place.result.1 L c.args.interval (g.B.Width.value c.lower_bound.result) (g.B.Width.value c.upper_bound.result) c.interval_count-count.ensures.runs.maximal c.lower_bound.ensures c.upper_bound.ensures
-    (subst (λ (M : List (ℤ × ℤ)). MatchOption c.find_run-place.result.1 (¬ (Covers M (g.B.Width.value c.lower_bound.result))) (IsRunWith (g.B.Width.value c.lower_bound.result) (Covers M))) c.runs.ensures.same c.find_run-place.ensures) (c.ends_at_or_above.ensures c.if-ends_at_or_above.true))
+    (subst (λ (M : List (ℤ × ℤ)). MatchOption c.find_run-place.result.1 (¬ (Covers M (g.B.Width.value c.lower_bound.result))) (IsRunWith (g.B.Width.value c.lower_bound.result) (Covers M))) c.runs.ensures.same c.find_run-place.ensures.run) (c.ends_at_or_above.ensures c.if-ends_at_or_above.true))
 
 pub run_after-joined-requires : goal.run_after-joined-requires
 run_after-joined-requires g c = λ more.

@@ -26,7 +26,7 @@ pub returns-then-is_no_member-clause-ok : goal.returns-then-is_no_member-clause-
 returns-then-is_no_member-clause-ok g c =
     let L : List (ℤ × ℤ) = c.self.inside.set in
     let v = g.B.Width.value c.lower_bound.result in
-    let found = subst (λ (M : List (ℤ × ℤ)). MatchOption c.find_run-place.result.1 (¬ (Covers M v)) (IsRunWith v (Covers M))) c.runs.ensures.same c.find_run-place.ensures in
+    let found = subst (λ (M : List (ℤ × ℤ)). MatchOption c.find_run-place.result.1 (¬ (Covers M v)) (IsRunWith v (Covers M))) c.runs.ensures.same c.find_run-place.ensures.run in
     subst (λ (M : List (ℤ × ℤ)). IsRunsOf M (Without (Covers M) (IsBetween c.args.interval))) c.self.view_is
     (nothing_to_remove c.find_run-place.result.1 L c.args.interval v c.runs.ensures.runs.maximal c.lower_bound.ensures found (c.is_no_member.ensures c.if-is_no_member.true))
 
