@@ -3,7 +3,7 @@ use Rattle.std.proofs.Common.{◌≡◌, ◌⊎◌, ⊎_elim, inl, inr, ℕ, ◌
 use Rattle.std.specs.Prelude.{◌≤ℤ◌, ◌<ℤ◌, Option, MatchOption}
 use Rattle.std.proofs.lemmas.Int.{ints, by_lt_z}
 use Rattle.ivl_laws.specs.Bounds.{width_of}
-use Rattle.ivl_laws.specs.Sets.{IsBetween, IsCrossed, IsSubset, SameMembers, Union, Without}
+use Rattle.ivl_laws.specs.Sets.{IsBetween, IsCrossed, IsSubset, Only, SameMembers, Union, Without}
 use Rattle.ivl_laws.specs.Runs.{Covers, IsMaximal}
 use Rattle.ivl_laws.proofs.Intervals.{width_of-crossed, width_of-filled}
 use Rattle.ivl_laws.proofs.Merging.{covers-append_left, covers-append_right}
@@ -67,6 +67,13 @@ grown_part (Some run) x r S T p v e old same filled found (more, wide, which) = 
   longest = grown_by_run (Some run) (width_of x) (width_of r) S T p v e old.longest same filled found
       (more, wide, ⊎_elim (λ q. inl (ap width_of q)) (λ q. inr (ap width_of q)) which);
 }
+
+-- the number v was removed from S, which left T: so was P, which has that number alone
+pub without_alone : (S T P : ℤ → Type 0) (v : ℤ) → SameMembers P (Only v) → SameMembers T (Without S (Only v)) → SameMembers T (Without S P)
+without_alone S T P v alone made z = (
+  (λ t. let (a, n) = (made z).0 t in (a, λ b. n ((alone z).0 b))),
+  (λ (a, n). (made z).1 (a, λ e. n ((alone z).1 e))),
+)
 
 -- p was removed from S, which left T, and does not meet the longest run x
 pub kept_part : (x p : ℤ × ℤ) (S T : ℤ → Type 0) → IsLongestPart x S → SameMembers T (Without S (IsBetween p)) → (x.1 <ℤ p.0) ⊎ (p.1 <ℤ x.0) → IsSubset (IsBetween x) T

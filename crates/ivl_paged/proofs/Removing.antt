@@ -12,6 +12,7 @@ use Rattle.intervallum.specs.Edits.{widened}
 use Rattle.intervallum.proofs.Splicing.{IsMaximal-append}
 use Rattle.intervallum.specs.Neighbours.{IsLeast}
 use Rattle.ivl_paged.specs.Pages.{IsPageCut, IsPageSpan, flattened}
+use Rattle.ivl_paged.proofs.Longest.{without_alone}
 use Rattle.ivl_paged.proofs.Heads.{span_of_least}
 use Rattle.ivl_paged.proofs.Paging.{IsMaximal-dropped, IsMaximal-first, covers_page, cut_at, flattened-append, pages_ascend, removed, removed_from_one}
 
@@ -213,6 +214,16 @@ greatest_is_cut S v greatest h = let high = greatest (v +ℤ pos 1) (h (v +ℤ p
 pub on_ok_holds : {A E : Type 0} (X : Type 0) (r : Result A E) (a : A) → r ≡ Ok a → OnOk r X → X
 on_ok_holds X (Ok b) a e made = made
 on_ok_holds X (Err b) a e made = absurd (cc)
+
+-- a number removed, as the interval of it alone
+pub removed_alone : (S : ℤ → Type 0) (L : List (ℤ × ℤ)) (v : ℤ) → IsRunsOf L (Without S (Only v)) → IsRunsOf L (Without S (IsBetween (v, v)))
+removed_alone S L v r = record { maximal = r.maximal; members = without_alone S (Covers L) (IsBetween (v, v)) v alone r.members }
+  where
+    alone : SameMembers (IsBetween (v, v)) (Only v)
+    alone z = (
+      (λ b. let low = b.0 in let high = b.1 in omega (arith, ints, low, high)),
+      (λ e. (omega (arith, ints, e), omega (arith, ints, e))),
+    )
 
 -- the least number removed from the first page
 pub removed_least : (P Q : List (List (ℤ × ℤ))) (p : ℤ × ℤ) (v : ℤ) → IsMaximal (flattened P) → 0 < length P → p ≡ (v, v) → IsLeast v (set_at P 0) → IsPageCut P p 0 Q →

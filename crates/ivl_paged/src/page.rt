@@ -1,7 +1,7 @@
 //! One page: a few of the runs of a set.
 ghost use Rattle.std.specs.Prelude.{◌≡◌, ◌↔◌, ◌⊎◌, ◌<◌, ◌≤◌, ℕ, ℤ, ◌≤ℤ◌, ◌<ℤ◌, IsSomeAnd, IsTrue, List, IfOk, IsOk, MatchOption, None, OnErr, OnOk, length};
 ghost use Rattle.ivl_laws.specs.Bounds.{width_of};
-ghost use Rattle.ivl_laws.specs.Sets.{HasSome, IsBetween, IsSubset, Union, Without};
+ghost use Rattle.ivl_laws.specs.Sets.{HasSome, IsBetween, IsSubset, Only, Union, Without};
 ghost use Rattle.ivl_laws.specs.Runs.{Covers, IsMaximal, IsRunsOf};
 ghost use Rattle.intervallum.specs.Edits.{widened};
 ghost use Rattle.intervallum.specs.FirstFit.{FitsAt};
@@ -11,7 +11,7 @@ ghost use Rattle.ivl_paged.specs.Pages.{IsLongest, IsLongestPart};
 use crate::page_search::{find_run, run_before};
 use intervallum::interval::Interval;
 use intervallum::interval_set::IntervalSet;
-use intervallum::ops::{Bounded, Cardinality, Empty};
+use intervallum::ops::{Bounded, Cardinality, Empty, Singleton};
 use intervallum::width::Width;
 use std::alloc::AllocError;
 use std::hint::select_unpredictable;
@@ -144,6 +144,18 @@ impl<B: Width> Page<B> {
         self.head = head_after(self.head, interval.lower_bound(), &self.set);
         self.longest = longest_after(self.longest, interval, &self.set);
         Ok(run.is_some())
+    }
+
+    /// Removes and returns the least member, beside which there is another.
+    pub(crate) fn pop_first(&mut self) -> B
+        requires { (v : ℤ) → IsLeast v (Covers self.old) → HasSome (Without (Covers self.old) (Only v)) }
+        ensures least { IsLeast (B.value result) (Covers self.old) }
+        ensures rest { IsRunsOf self.new (Without (Covers self.old) (Only (B.value result))) }
+    {
+        let least = self.set.pop_first().unwrap();
+        self.head = self.set.lower();
+        self.longest = longest_after(self.longest, Interval::singleton(least), &self.set);
+        least
     }
 }
 

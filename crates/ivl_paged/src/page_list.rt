@@ -1,7 +1,7 @@
 //! The pages of a set, in order, beside a list of their least members.
 ghost use Rattle.std.specs.Prelude.{◌≡◌, ◌==◌, ◌↔◌, ◌+◌, ◌++◌, ◌<◌, ◌≤◌, ℤ, ◌≤ℤ◌, List, [], ◌∷◌, drop, length, set, slice_index_or, take, IfOk, IsOk, IsTrue, OnErr, OnOk};
 ghost use Rattle.ivl_laws.specs.Families.{set_at};
-ghost use Rattle.ivl_laws.specs.Sets.{HasSome, IsBetween, IsSubset, Union, Without};
+ghost use Rattle.ivl_laws.specs.Sets.{HasSome, IsBetween, IsSubset, Only, Union, Without};
 ghost use Rattle.ivl_laws.specs.Runs.{Covers, IsMaximal, IsRunsOf};
 ghost use Rattle.intervallum.specs.Edits.{widened};
 ghost use Rattle.intervallum.specs.Neighbours.{IsLeast};
@@ -211,5 +211,18 @@ impl<B: Width> PageList<B> {
         let was_member = page.remove_interval(interval)?;
         self.heads[i] = page.head();
         Ok(was_member)
+    }
+
+    /// Removes and returns the least member of page `i`, which has another.
+    pub(crate) fn pop_from(&mut self, i: usize) -> B
+        requires less { i < length self.old }
+        requires some { (v : ℤ) → IsLeast v (set_at self.old i) → HasSome (Without (set_at self.old i) (Only v)) }
+        ensures least { IsLeast (B.value result) (set_at self.old i) }
+        ensures rest { (L : List (ℤ × ℤ)) × (self.new ≡ set self.old i L) × IsRunsOf L (Without (set_at self.old i) (Only (B.value result))) }
+    {
+        let page = &mut self.pages[i];
+        let least = page.pop_first();
+        self.heads[i] = page.head();
+        least
     }
 }

@@ -280,9 +280,9 @@ impl<B: Width> PagedSet<B> {
         Ok(was_member)
     }
 
-    /// Removes and returns the least member, or returns `None` if the set is empty. Searches the first
-    /// page alone, and moves its runs: `O(log n)`. If it then has no runs, the list of pages moves.
-    /// Never fails.
+    /// Removes and returns the least member, or returns `None` if the set is empty. Searches nothing:
+    /// takes the member from the first page, whose runs move if it is a run by itself. If the page then
+    /// has no runs, the list of pages moves. Never fails.
     ///
     /// ```
     /// let mut a = PagedSet::new(alloc);

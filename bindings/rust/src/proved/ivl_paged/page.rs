@@ -5,7 +5,7 @@ use crate::rattle::prelude::*;
 use crate::proved::ivl_paged::page_search::{find_run, run_before};
 use crate::proved::intervallum::interval::Interval;
 use crate::proved::intervallum::interval_set::IntervalSet;
-use crate::proved::intervallum::ops::{Bounded, Cardinality, Empty};
+use crate::proved::intervallum::ops::{Bounded, Cardinality, Empty, Singleton};
 use crate::proved::intervallum::width::Width;
 use crate::rattle::std::alloc::AllocError;
 use crate::rattle::std::hint::select_unpredictable;
@@ -92,6 +92,14 @@ impl<B: Width> Page<B> {
         self.head = head_after(self.head, interval.lower_bound(), &self.set);
         self.longest = longest_after(self.longest, interval, &self.set);
         Ok(run.is_some())
+    }
+
+    /// Removes and returns the least member, beside which there is another.
+    pub(crate) fn pop_first(&mut self) -> B {
+        let least = self.set.pop_first().unwrap();
+        self.head = self.set.lower();
+        self.longest = longest_after(self.longest, Interval::singleton(least), &self.set);
+        least
     }
 }
 

@@ -144,4 +144,12 @@ impl<B: Width> PageList<B> {
         self.heads[i] = page.head();
         Ok(was_member)
     }
+
+    /// Removes and returns the least member of page `i`, which has another.
+    pub(crate) fn pop_from(&mut self, i: usize) -> B {
+        let page = &mut self.pages[i];
+        let least = page.pop_first();
+        self.heads[i] = page.head();
+        least
+    }
 }

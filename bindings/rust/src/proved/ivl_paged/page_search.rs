@@ -44,14 +44,13 @@ fn count_up_to<B: Width>(runs: &[Interval<B>], value: B) -> usize {
 fn row_up_to<B: Width>(runs: &[Interval<B>], value: B) -> usize {
     let last = runs.len() - STEP;
     let mut first = 0;
-    let mut next = STEP;
+    let mut next = 0;
     'rows: while next < last {
+        next = (next + STEP).min(last);
         let is_up_to = runs[next].lower_bound() <= value;
         first = select_unpredictable(is_up_to, next, first);
-        next += STEP;
     }
-    let is_up_to = runs[last].lower_bound() <= value;
-    select_unpredictable(is_up_to, last, first)
+    first
 }
 
 /// The run before a place, if it has a value.

@@ -26,10 +26,11 @@ use crate::rattle::std::alloc::{AllocError, Global};
 /// of numbers, as it does of an `IntervalSet`.
 ///
 /// The runs stand in pages of fewer than 128. The least members of the pages stand in a list of their
-/// own, where a search begins. An edit in one page moves the runs of that page. A page that gets 128
-/// is split in two, which moves both lists; if there is no memory for that, the page grows. A page
-/// that gets at most half of that is joined with a neighbour if both then have at most 96. A page is
-/// removed when it is empty.
+/// own. A search for a value is a binary search of that list, and then looks at every 16th run of one
+/// page and at 16 in a row: `O(log n)`. An edit in one page moves the runs of that page. A page that
+/// gets 128 is split in two, which moves both lists; if there is no memory for that, the page grows. A
+/// page that gets at most half of that is joined with a neighbour if both then have at most 96. A page
+/// is removed when it is empty.
 ///
 /// If an allocation fails, the set is unchanged.
 ///
@@ -137,8 +138,8 @@ impl<B: Width> PagedSet<B> {
         false
     }
 
-    /// Returns true exactly when `value`, which may be any value of its type, is a member. Binary
-    /// search: `O(log n)`. Does not allocate.
+    /// Returns true exactly when `value`, which may be any value of its type, is a member. `O(log n)`.
+    /// Does not allocate.
     ///
     /// ```
     /// # use intervallum::proved::examples::*;
@@ -171,8 +172,8 @@ impl<B: Width> PagedSet<B> {
     /// The caller must ensure that the value is in the range. Check with
     /// `Interval::in_range(value, value)`.
     ///
-    /// Binary search, and moves the runs of one page: `O(log n)`. Once in about as many edits as a
-    /// page has runs, a page is split and the list of pages moves.
+    /// Searches one page, and moves its runs: `O(log n)`. Once in about as many edits as a page has
+    /// runs, a page is split and the list of pages moves.
     ///
     /// # Errors
     ///
@@ -344,9 +345,9 @@ impl<B: Width> PagedSet<B> {
         Ok(was_member)
     }
 
-    /// Removes and returns the least member, or returns `None` if the set is empty. Searches the first
-    /// page alone, and moves its runs: `O(log n)`. If it then has no runs, the list of pages moves.
-    /// Never fails.
+    /// Removes and returns the least member, or returns `None` if the set is empty. Searches nothing:
+    /// takes the member from the first page, whose runs move if it is a run by itself. If the page then
+    /// has no runs, the list of pages moves. Never fails.
     ///
     /// ```
     /// # use intervallum::proved::examples::*;

@@ -257,10 +257,23 @@ fn remove_from_one<B: Width>(
 /// Removes the least member from pages of which there is one at least, with `count` runs. Returns how
 /// many runs there are then, and that member.
 pub(crate) fn pop_first<B: Width>(pages: &mut PageList<B>, count: usize) -> (usize, B) {
-    let least = pages.head(0);
-    let (count, _) = remove_from_one(pages, count, 0, Interval::singleton(least)).unwrap();
+    let (count, least) = pop_from_first(pages, count);
     balance(pages, 0);
     (count, least)
+}
+
+/// Removes the least member from the first page, and the page if it has no others, where there are
+/// `count` runs in all. Returns how many runs there are then, and that member.
+fn pop_from_first<B: Width>(pages: &mut PageList<B>, count: usize) -> (usize, B) {
+    let page = pages.page(0);
+    let others = count - page.set().interval_count();
+    let least = page.head();
+    if page.lies_within(&Interval::singleton(least)) {
+        pages.remove(0);
+        return (others, least);
+    }
+    let least = pages.pop_from(0);
+    (others + pages.page(0).set().interval_count(), least)
 }
 
 /// Puts one page, or none if the set is empty, in the place of those from `start` to before `end`.

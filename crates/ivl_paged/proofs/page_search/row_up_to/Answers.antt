@@ -1,6 +1,6 @@
 use Rattle.std.proofs.Common.{◌∙◌, ◌-◌, ◌+◌, ◌↔◌, ◌≤◌, ◌≤ℤ◌, ℤ, IsTrue, ap, length, subst, arith}
 use Rattle.ivl_laws.proofs.Orders.{le_number}
-use Rattle.ivl_paged.proofs.PageSearch.{chosen_is_less, none_up_to, up_to_all, up_to_goes}
+use Rattle.ivl_paged.proofs.PageSearch.{chosen_is_less, up_to_all, up_to_goes}
 use Rattle.ivl_paged.proofs.page_search.row_up_to.Goals as goal
 
 pub rows-preserved : goal.rows-preserved

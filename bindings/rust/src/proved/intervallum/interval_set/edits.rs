@@ -142,8 +142,8 @@ impl<B: Width> IntervalSet<B> {
     /// nothing else.
     ///
     /// Where the runs before the place lie below the interval and do not touch it, the search goes on
-    /// from there by steps that are doubled: `O(log d + k)`, if the first of the `k` runs that the
-    /// interval overlaps or touches is `d` runs from the place. Else it is the binary search of all.
+    /// from there by steps that are doubled: `O(log (d + 2) + k)`, if the first of the `k` runs that
+    /// the interval overlaps or touches stands `d` places further. Else it is the binary search of all.
     /// If the number of runs changes, those above the interval move, as they do there.
     ///
     /// # Errors
@@ -231,9 +231,9 @@ impl<B: Width> IntervalSet<B> {
     /// nothing else.
     ///
     /// Where the runs before the place lie below the interval, the search goes on from there by steps
-    /// that are doubled: `O(log d + k)`, if the first of the `k` runs that the interval overlaps is `d`
-    /// runs from the place. Else it is the binary search of all. If the number of runs changes, those
-    /// above the interval move, as they do there.
+    /// that are doubled: `O(log (d + 2) + k)`, if the first of the `k` runs that the interval overlaps
+    /// stands `d` places further. Else it is the binary search of all. If the number of runs changes,
+    /// those above the interval move, as they do there.
     ///
     /// # Errors
     ///

@@ -81,8 +81,7 @@ impl<B: Width> PagedSet<B> {
     }
 
     /// Returns the run that holds `v`, the longest interval of members with `v` in it, or `None` if
-    /// `v` is not a member. `v` may be any value of its type. Binary search: `O(log n)`. Does not
-    /// allocate.
+    /// `v` is not a member. `v` may be any value of its type. `O(log n)`. Does not allocate.
     ///
     /// ```
     /// # use intervallum::proved::examples::*;

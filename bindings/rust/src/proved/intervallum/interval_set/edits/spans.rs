@@ -46,13 +46,8 @@ fn find_beside<B: Width>(probes: &mut Probes<'_, B>, value: B, place: usize) -> 
 
 /// Whether there are runs up to a place, and those before it end below a value.
 fn ends_before<B: Width>(probes: &mut Probes<'_, B>, place: usize, value: B) -> bool {
-    if place == 0 {
-        return true;
-    }
-    if probes.len() < place {
-        return false;
-    }
-    probes.look(place - 1).upper() < value
+    let count = probes.len();
+    place == 0 || (place <= count && probes.look(place - 1).upper() < value)
 }
 
 /// How many runs start at a value or below, as run `i` does, where those before it end below.
