@@ -1,9 +1,10 @@
 -- Runs that are laid in a room one by one, from left to right.
-use Rattle.std.proofs.Common.{◌≡◌, ◌⊎◌, inl, inr, ℕ, ◌+◌, ◌-◌, ◌≤◌, ℤ, pos, ◌≤ℤ◌, List, [], ◌∷◌, ◌++◌, length, length-append, get_or, set, drop, take, map, ◌<◌, Bool, true, false, refl, ap, ◌∙◌, sym, subst, arith}
+use Rattle.std.proofs.Common.{◌≡◌, ◌⊎◌, inl, inr, ℕ, ◌+◌, ◌-◌, ◌≤◌, ℤ, pos, ◌≤ℤ◌, List, [], ◌∷◌, ◌++◌, length, length-append, get_or, set, drop, take, map, ◌<◌, ◌↔◌, Bool, true, false, IfSome, IsTrue, zero, suc, refl, ap, ap₂, ◌∙◌, sym, subst, arith}
 use Rattle.std.proofs.lemmas.Int.{ints, by_lt_z}
 use Rattle.std.proofs.lemmas.Bool.{le-leb}
-use Rattle.std.proofs.lemmas.List.{append-nil, append_assoc, length-map, length-take-le, map-append, map-set, set-get_or, set-set, take_more}
-use Rattle.std.specs.Prelude.{cond, nat_le}
+use Rattle.std.proofs.lemmas.List.{append-nil, append_assoc, length-map, length-take-le, map-append, map-set, set-get_or, take_more}
+use Rattle.std.specs.Int.{from_bool}
+use Rattle.std.specs.Prelude.{cond, nat_le, slice_get}
 use Rattle.ivl_laws.specs.Sets.{HasNone, IsBetween, SameMembers, Union}
 use Rattle.ivl_laws.specs.Runs.{Covers, IsMaximal}
 use Rattle.ivl_laws.proofs.Intervals.{none_is_crossed}
@@ -66,7 +67,32 @@ put_by pair false out k run old e = ap (λ (L : List _). map pair L) (ap (λ x. 
 
 -- what was just written stands at its place
 pub written_stands : (room room' : List (ℤ × ℤ)) (p : ℤ × ℤ) (told place : ℕ) → room' ≡ set room place p → place ≡ told - 1 → Stands p room' told
-written_stands room room' p told place e h = let twice : set (set room place p) place p ≡ set room place p = set-set room place p p in cc
+written_stands room room' p told place e h = subst (λ (i : ℕ). IfSome (slice_get room' i) (λ q. q ≡ p)) h (subst (λ (L : List (ℤ × ℤ)). IfSome (slice_get L place) (λ q. q ≡ p)) (sym e) (there room place))
+  where
+    there : (L : List (ℤ × ℤ)) (i : ℕ) → IfSome (slice_get (set L i p) i) (λ q. q ≡ p)
+    there [] zero = tt
+    there [] (suc i) = tt
+    there (q ∷ L) zero = refl
+    there (q ∷ L) (suc i) = there L i
+
+-- what stands there is written once more
+written_again : (room : List (ℤ × ℤ)) (p : ℤ × ℤ) (i : ℕ) → IfSome (slice_get room i) (λ q. q ≡ p) → set room i p ≡ room
+written_again [] p zero s = refl
+written_again [] p (suc i) s = refl
+written_again (q ∷ L) p zero s = ap (λ x. x ∷ L) (sym s)
+written_again (q ∷ L) p (suc i) s = ap (λ (M : List (ℤ × ℤ)). q ∷ M) (written_again L p i s)
+
+-- a pair that is filled is written behind the last, and else the last once more
+pub lays_or_repeats : {X : Type 0} (pair : X → ℤ × ℤ) (room room' : List (ℤ × ℤ)) (last run chosen : X) (t : Bool) (count told place : ℕ) → (IsTrue t ↔ ((pair run).0 ≤ℤ (pair run).1)) → chosen ≡ cond t run last →
+    told ≡ count + from_bool t → place ≡ told - 1 → room' ≡ set room place (pair chosen) → Stands (pair last) room count → LaysNext (pair run) room room' count told
+lays_or_repeats pair room room' last run chosen true count told place is c n h e s = record {
+  crossed = λ lt. let le = is.0 refl in absurd (omega (arith, ints, lt, le));
+  filled = λ le. (n, e ∙ ap₂ (λ i x. set room i (pair x)) (omega (arith, n, h)) c);
+}
+lays_or_repeats pair room room' last run chosen false count told place is c n h e s = record {
+  crossed = λ lt. (omega (arith, n), e ∙ ap₂ (λ i x. set room i (pair x)) (omega (arith, n, h)) c ∙ written_again room (pair last) (count - 1) s);
+  filled = λ le. absurd (let u = is.1 le in cc);
+}
 
 -- the next pair adds its numbers, none where it is crossed
 pub lays : (W : List (ℤ × ℤ)) (r : ℤ × ℤ) (old room room' : List (ℤ × ℤ)) (told told' : ℕ) → IsMaximal W → IsBelow (pos 2) (Covers W) (IsBetween r) → told ≡ length W → room ≡ laid W old →
