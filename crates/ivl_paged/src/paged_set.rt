@@ -281,8 +281,8 @@ impl<B: Width> PagedSet<B> {
     }
 
     /// Removes and returns the least member, or returns `None` if the set is empty. Searches nothing:
-    /// takes the member from the first page, whose runs move if it is a run by itself. If the page then
-    /// has no runs, the list of pages moves. Never fails.
+    /// `O(1)`, where the runs of the first page may move, and the list of pages if that page then has no
+    /// runs. Never fails.
     ///
     /// ```
     /// let mut a = PagedSet::new(alloc);
