@@ -1,7 +1,8 @@
 -- Pages beside their least members: what an edit of both lists keeps, and what a search among the least members finds.
-use Rattle.std.proofs.Common.{◌≡◌, ℕ, zero, suc, ◌<◌, ◌≤◌, ℤ, ◌≤ℤ◌, ◌<ℤ◌, List, [], ◌∷◌, ◌++◌, ◌⊎◌, ◌↔◌, Bool, true, false, cond, IsTrue, ⊎_elim, inl, inr, length, get_or, take, drop, set, refl, sym, subst, arith}
+use Rattle.std.proofs.Common.{◌≡◌, ℕ, zero, suc, ◌<◌, ◌≤◌, ℤ, ◌≤ℤ◌, ◌<ℤ◌, List, [], ◌∷◌, ◌++◌, ◌⊎◌, ◌↔◌, Bool, true, false, cond, IsTrue, ⊎_elim, inl, inr, length, get_or, take, drop, set, refl, sym, ap, subst, ◌∙◌, arith}
 use Rattle.std.specs.Int.{int_min}
 use Rattle.std.proofs.lemmas.Int.{ints, by_lt_z, clamps}
+use Rattle.std.proofs.lemmas.List.{get_or_default}
 use Rattle.ivl_laws.specs.Families.{set_at}
 use Rattle.ivl_laws.specs.Sets.{IsBetween, SameMembers, Union, Without}
 use Rattle.ivl_laws.specs.Runs.{Covers, IsMaximal}
@@ -62,6 +63,10 @@ module _ {X : Type 0} (value : X → ℤ) where
 
   pub heads_without : (H : List X) (P : List (List (ℤ × ℤ))) (i j : ℕ) → AreHeads value H P → AreHeads value (take i H ++ drop j H) (take i P ++ drop j P)
   heads_without H P i j h = heads_append (take i H) (drop j H) (take i P) (drop j P) (heads_take H P i h) (heads_drop H P j h)
+
+-- page i of P, of which Q is the same list, as it is lent
+pub lent_page : (P Q : List (List (ℤ × ℤ))) (L : List (ℤ × ℤ)) (i : ℕ) → P ≡ Q → i < length Q → L ≡ get_or P i L → L ≡ get_or Q i []
+lent_page P Q L i same less e = e ∙ get_or_default P i L [] (subst (λ (R : List (List (ℤ × ℤ))). i < length R) (sym same) less) ∙ ap (λ (R : List (List (ℤ × ℤ))). get_or R i []) same
 
 -- ---- the next page tells where a search for a higher number ends
 

@@ -1,18 +1,13 @@
-use Rattle.std.proofs.Common.{◌≡◌, ◌∙◌, ◌<◌, [], List, ℤ, ap, arith, get_or, length, set, subst, sym}
-use Rattle.std.proofs.lemmas.List.{get_or_default}
+use Rattle.std.proofs.Common.{List, ℤ, ap, arith, length, set, subst, sym}
 use Rattle.ivl_laws.specs.Sets.{HasSome, Only, Without}
 use Rattle.ivl_laws.specs.Runs.{Covers, IsRunsOf}
 use Rattle.intervallum.specs.Neighbours.{IsLeast}
-use Rattle.ivl_paged.proofs.Heads.{heads_length, heads_set}
+use Rattle.ivl_paged.proofs.Heads.{heads_length, heads_set, lent_page}
 use Rattle.ivl_paged.proofs.page_list.PageList.pop_from.Goals as goal
 
 pub pop_first-least-requires : goal.pop_first-least-requires
 pop_first-least-requires g c =
-    let P = c.self.inside.pages.items in
-    let i = c.args.i in
-    let view = ap (λ (Q : List (List (ℤ × ℤ))). length Q) c.self.view_is in
-    let less : i < length P = omega (arith, view, c.requires.less) in
-    let page : c.index_mut-page.result.now ≡ get_or c.args.self.now i [] = c.index_mut-page.ensures.value ∙ get_or_default P i _ [] less ∙ ap (λ (Q : List (List (ℤ × ℤ))). get_or Q i []) c.self.view_is in
+    let page = lent_page c.self.inside.pages.items c.args.self.now c.index_mut-page.result.now c.args.i c.self.view_is c.requires.less c.index_mut-page.ensures.value in
     subst (λ (L : List (ℤ × ℤ)). (v : ℤ) → IsLeast v (Covers L) → HasSome (Without (Covers L) (Only v))) (sym page) c.requires.some
 
 pub index_mut-requires : goal.index_mut-requires
@@ -26,21 +21,13 @@ invariant_of-self g c = heads_set g.B.Width.value c.self.inside.heads.items c.se
 
 pub returns-clause-least : goal.returns-clause-least
 returns-clause-least g c =
-    let P = c.self.inside.pages.items in
-    let i = c.args.i in
-    let view = ap (λ (Q : List (List (ℤ × ℤ))). length Q) c.self.view_is in
-    let less : i < length P = omega (arith, view, c.requires.less) in
-    let page : c.index_mut-page.result.now ≡ get_or c.args.self.now i [] = c.index_mut-page.ensures.value ∙ get_or_default P i _ [] less ∙ ap (λ (Q : List (List (ℤ × ℤ))). get_or Q i []) c.self.view_is in
+    let page = lent_page c.self.inside.pages.items c.args.self.now c.index_mut-page.result.now c.args.i c.self.view_is c.requires.less c.index_mut-page.ensures.value in
     subst (λ (L : List (ℤ × ℤ)). IsLeast (g.B.Width.value c.pop_first-least.result) (Covers L)) page c.pop_first-least.ensures.least
 
 pub returns-clause-rest : goal.returns-clause-rest
 returns-clause-rest g c =
-    let P = c.self.inside.pages.items in
-    let i = c.args.i in
-    let view = ap (λ (Q : List (List (ℤ × ℤ))). length Q) c.self.view_is in
-    let less : i < length P = omega (arith, view, c.requires.less) in
-    let page : c.index_mut-page.result.now ≡ get_or c.args.self.now i [] = c.index_mut-page.ensures.value ∙ get_or_default P i _ [] less ∙ ap (λ (Q : List (List (ℤ × ℤ))). get_or Q i []) c.self.view_is in (
+    let page = lent_page c.self.inside.pages.items c.args.self.now c.index_mut-page.result.now c.args.i c.self.view_is c.requires.less c.index_mut-page.ensures.value in (
       c.pop_first-least.new.self,
-      ap (λ (Q : List (List (ℤ × ℤ))). set Q i c.pop_first-least.new.self) c.self.view_is,
+      ap (λ (Q : List (List (ℤ × ℤ))). set Q c.args.i c.pop_first-least.new.self) c.self.view_is,
       subst (λ (L : List (ℤ × ℤ)). IsRunsOf c.pop_first-least.new.self (Without (Covers L) (Only (g.B.Width.value c.pop_first-least.result)))) page c.pop_first-least.ensures.rest,
     )
