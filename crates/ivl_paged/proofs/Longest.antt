@@ -1,10 +1,10 @@
 -- One of the longest runs of a page: among the runs so far, and after an edit.
 use Rattle.std.proofs.Common.{◌≡◌, ◌⊎◌, ⊎_elim, inl, inr, ℕ, ◌+◌, ◌<◌, ◌≤◌, ℤ, Bool, true, false, cond, List, [], ◌∷◌, ◌++◌, length, get_or, take, take_all, Some, None, refl, sym, ap, subst, ◌∙◌, arith}
-use Rattle.std.specs.Prelude.{◌≤ℤ◌, ◌<ℤ◌, Option, MatchOption}
+use Rattle.std.specs.Prelude.{◌≤ℤ◌, ◌<ℤ◌, IfSome, Option, MatchOption}
 use Rattle.std.proofs.lemmas.Int.{ints, by_lt_z}
 use Rattle.ivl_laws.specs.Bounds.{width_of}
 use Rattle.ivl_laws.specs.Sets.{IsBetween, IsCrossed, IsSubset, Only, SameMembers, Union, Without}
-use Rattle.ivl_laws.specs.Runs.{Covers, IsMaximal}
+use Rattle.ivl_laws.specs.Runs.{Covers, IsMaximal, IsRunsOf}
 use Rattle.ivl_laws.proofs.Intervals.{width_of-crossed, width_of-filled}
 use Rattle.ivl_laws.proofs.Merging.{covers-append_left, covers-append_right}
 use Rattle.intervallum.specs.FirstFit.{FitsAt}
@@ -68,12 +68,19 @@ grown_part (Some run) x r S T p v e old same filled found (more, wide, which) = 
       (more, wide, ⊎_elim (λ q. inl (ap width_of q)) (λ q. inr (ap width_of q)) which);
 }
 
--- the number v was removed from S, which left T: so was P, which has that number alone
-pub without_alone : (S T P : ℤ → Type 0) (v : ℤ) → SameMembers P (Only v) → SameMembers T (Without S (Only v)) → SameMembers T (Without S P)
-without_alone S T P v alone made z = (
-  (λ t. let (a, n) = (made z).0 t in (a, λ b. n ((alone z).0 b))),
-  (λ (a, n). (made z).1 (a, λ e. n ((alone z).1 e))),
+-- Q was removed from S, which left T: so was P, which has the same members
+pub without_same : (S T P Q : ℤ → Type 0) → SameMembers P Q → SameMembers T (Without S Q) → SameMembers T (Without S P)
+without_same S T P Q same made z = (
+  (λ t. let (a, n) = (made z).0 t in (a, λ b. n ((same z).0 b))),
+  (λ (a, n). (made z).1 (a, λ e. n ((same z).1 e))),
 )
+
+-- the number of x was taken out of S, which left L: so was p, which has that number alone
+pub without_popped : {X : Type 0} (value : X → ℤ) (S : ℤ → Type 0) (L : List (ℤ × ℤ)) (o : Option X) (x : X) (p : ℤ × ℤ) → o ≡ Some x → IfSome o (λ y. IsRunsOf L (Without S (Only (value y)))) →
+    SameMembers (IsBetween p) (Only (value x)) → SameMembers (Covers L) (Without S (IsBetween p))
+without_popped value S L o x p e left alone =
+    let made = subst (λ r. IfSome r (λ y. IsRunsOf L (Without S (Only (value y))))) e left in
+    without_same S (Covers L) (IsBetween p) (Only (value x)) alone made.members
 
 -- p was removed from S, which left T, and does not meet the longest run x
 pub kept_part : (x p : ℤ × ℤ) (S T : ℤ → Type 0) → IsLongestPart x S → SameMembers T (Without S (IsBetween p)) → (x.1 <ℤ p.0) ⊎ (p.1 <ℤ x.0) → IsSubset (IsBetween x) T

@@ -12,7 +12,7 @@ use Rattle.intervallum.specs.Edits.{widened}
 use Rattle.intervallum.proofs.Splicing.{IsMaximal-append}
 use Rattle.intervallum.specs.Neighbours.{IsLeast}
 use Rattle.ivl_paged.specs.Pages.{IsPageCut, IsPageSpan, flattened}
-use Rattle.ivl_paged.proofs.Longest.{without_alone}
+use Rattle.ivl_paged.proofs.Longest.{without_same}
 use Rattle.ivl_paged.proofs.Heads.{span_of_least}
 use Rattle.ivl_paged.proofs.Paging.{IsMaximal-dropped, IsMaximal-first, covers_page, cut_at, flattened-append, pages_ascend, removed, removed_from_one}
 
@@ -216,25 +216,22 @@ on_ok_holds X (Ok b) a e made = made
 on_ok_holds X (Err b) a e made = absurd (cc)
 
 -- a number removed, as the interval of it alone
+alone : (v : ℤ) → SameMembers (IsBetween (v, v)) (Only v)
+alone v z = (
+  (λ b. let low = b.0 in let high = b.1 in omega (arith, ints, low, high)),
+  (λ e. (omega (arith, ints, e), omega (arith, ints, e))),
+)
+
 pub removed_alone : (S : ℤ → Type 0) (L : List (ℤ × ℤ)) (v : ℤ) → IsRunsOf L (Without S (Only v)) → IsRunsOf L (Without S (IsBetween (v, v)))
-removed_alone S L v r = record { maximal = r.maximal; members = without_alone S (Covers L) (IsBetween (v, v)) v alone r.members }
-  where
-    alone : SameMembers (IsBetween (v, v)) (Only v)
-    alone z = (
-      (λ b. let low = b.0 in let high = b.1 in omega (arith, ints, low, high)),
-      (λ e. (omega (arith, ints, e), omega (arith, ints, e))),
-    )
+removed_alone S L v r = record { maximal = r.maximal; members = without_same S (Covers L) (IsBetween (v, v)) (Only v) (alone v) r.members }
 
 -- the least number removed from the first page
-pub removed_least : (P Q : List (List (ℤ × ℤ))) (p : ℤ × ℤ) (v : ℤ) → IsMaximal (flattened P) → 0 < length P → p ≡ (v, v) → IsLeast v (set_at P 0) → IsPageCut P p 0 Q →
+pub removed_least : (P Q : List (List (ℤ × ℤ))) (v : ℤ) → IsMaximal (flattened P) → 0 < length P → IsLeast v (set_at P 0) → IsPageCut P (v, v) 0 Q →
     IsRunsOf (flattened Q) (Without (Covers (flattened P)) (Only v))
-removed_least P Q p v m some e l c =
+removed_least P Q v m some l c =
     let one : 1 - 0 ≡ 1 = omega arith in
-    let made = removed_once P Q (v, v) 0 1 m (span_of_least P v m some l) one (subst (λ (q : ℤ × ℤ). IsPageCut P q 0 Q) e c) in
+    let made = removed_once P Q (v, v) 0 1 m (span_of_least P v m some l) one c in
     record {
       maximal = made.maximal;
-      members = λ z. (
-        (λ s. let (a, n) = (made.members z).0 s in (a, λ same. n (omega (arith, ints, same), omega (arith, ints, same)))),
-        (λ (a, n). (made.members z).1 (a, λ b. let low = b.0 in let high = b.1 in n (omega (arith, ints, low, high)))),
-      );
+      members = without_same (Covers (flattened P)) (Covers (flattened Q)) (Only v) (IsBetween (v, v)) (λ z. let (in_alone, is) = alone v z in (is, in_alone)) made.members;
     }

@@ -1,9 +1,9 @@
 use Rattle.std.proofs.Common.{◌≤ℤ◌, List, ℤ, subst, sym}
 use Rattle.std.specs.Prelude.{IfSome}
 use Rattle.ivl_laws.specs.Runs.{Covers, IsRunsOf}
-use Rattle.ivl_laws.specs.Sets.{HasSome, IsBetween, Only, Without}
+use Rattle.ivl_laws.specs.Sets.{HasSome, Only, Without}
 use Rattle.intervallum.specs.Neighbours.{IsLeast}
-use Rattle.ivl_paged.proofs.Longest.{kept_part, none_longer, without_alone}
+use Rattle.ivl_paged.proofs.Longest.{kept_part, none_longer, without_popped}
 use Rattle.ivl_paged.proofs.page.Page.pop_first.Goals as goal
 
 pub lower-self-inside-requires : goal.lower-self-inside-requires
@@ -17,13 +17,9 @@ lower-self-inside-requires g c =
     (z, (made.members z).1 s)
 
 pub longest_after-self-inside-requires-clause-most : goal.longest_after-self-inside-requires-clause-most
-longest_after-self-inside-requires-clause-most g c =
-    let made = subst (λ o. IfSome o (λ x. IsRunsOf c.pop_first.new.self (Without (Covers c.self.inside.set) (Only (g.B.Width.value x))))) c.unwrap-least.ensures c.pop_first.ensures.others in
-    none_longer c.self.inside.longest c.singleton.result (Covers c.self.inside.set) (Covers c.pop_first.new.self) c.self.invariant.1
-    (without_alone (Covers c.self.inside.set) (Covers c.pop_first.new.self) (IsBetween c.singleton.result) (g.B.Width.value c.unwrap-least.result) c.singleton.ensures.members made.members)
+longest_after-self-inside-requires-clause-most g c = none_longer c.self.inside.longest c.singleton.result (Covers c.self.inside.set) (Covers c.pop_first.new.self) c.self.invariant.1
+    (without_popped g.B.Width.value (Covers c.self.inside.set) c.pop_first.new.self c.pop_first.result c.unwrap-least.result c.singleton.result c.unwrap-least.ensures c.pop_first.ensures.others c.singleton.ensures.members)
 
 pub longest_after-self-inside-requires-clause-kept : goal.longest_after-self-inside-requires-clause-kept
-longest_after-self-inside-requires-clause-kept g c =
-    let made = subst (λ o. IfSome o (λ x. IsRunsOf c.pop_first.new.self (Without (Covers c.self.inside.set) (Only (g.B.Width.value x))))) c.unwrap-least.ensures c.pop_first.ensures.others in
-    kept_part c.self.inside.longest c.singleton.result (Covers c.self.inside.set) (Covers c.pop_first.new.self) c.self.invariant.1
-    (without_alone (Covers c.self.inside.set) (Covers c.pop_first.new.self) (IsBetween c.singleton.result) (g.B.Width.value c.unwrap-least.result) c.singleton.ensures.members made.members)
+longest_after-self-inside-requires-clause-kept g c = kept_part c.self.inside.longest c.singleton.result (Covers c.self.inside.set) (Covers c.pop_first.new.self) c.self.invariant.1
+    (without_popped g.B.Width.value (Covers c.self.inside.set) c.pop_first.new.self c.pop_first.result c.unwrap-least.result c.singleton.result c.unwrap-least.ensures c.pop_first.ensures.others c.singleton.ensures.members)
