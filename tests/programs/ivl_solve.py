@@ -53,19 +53,16 @@ def supported(domains, sums):
 
 def points(domains, sums):
     """The points that solve the sums, one after another, each as a list of numbers in the order of the variables."""
-    names = list(domains)
-
-    def extended(point):
-        if len(point) == len(names):
-            yield list(point.values())
-            return
-        name = names[len(point)]
-        for value in domains[name]:
-            longer = {**point, name: value}
-            if all(longer[x] + longer[y] == longer[z] for x, y, z in sums if name in (x, y, z) and {x, y, z} <= set(longer)):
-                yield from extended(longer)
-
-    return extended({})
+    # without a cut after each choice, wide domains that have no point would take hours
+    left = supported(dict(domains), sums)
+    if not all(left.values()):
+        return
+    chosen = next((name for name, members in left.items() if len(members) > 1), None)
+    if chosen is None:
+        yield [value for (value,) in left.values()]
+        return
+    for value in left[chosen]:
+        yield from points({**left, chosen: {value}}, sums)
 
 
 class Searched:
@@ -144,7 +141,7 @@ class Best(Searched):
 
     def __init__(self, solver, line, name, choose):
         super().__init__(solver, line)
-        self.place, self.choose = list(self.domains).index(name), choose
+        self.name, self.choose = name, choose
         # it may search ten halves, each with the nodes of a search
         self.is_sure = self.is_sure and 20 * math.prod(map(len, self.domains.values())) <= NODES
 
@@ -157,9 +154,14 @@ class Best(Searched):
         point = self.point(lines[0])
         if point is None or len(lines) < 3 or lines[1] not in (b"ok", b"unfinished"):
             return None
-        best = self.choose(other[self.place] for other in points(self.domains, self.sums))
-        is_right = point[self.place] == best if lines[1] == b"ok" else not self.is_sure
+        is_right = self.is_best(point) if lines[1] == b"ok" else not self.is_sure
         return len(written) - len(lines[2]) if is_right else None
+
+    def is_best(self, point):
+        """Whether no solution is better."""
+        value = point[list(self.domains).index(self.name)]
+        better = {other for other in self.domains[self.name] if self.choose(other, value) != value}
+        return next(points({**self.domains, self.name: better}, self.sums), None) is None
 
 
 class Solver(Commands):
