@@ -1,5 +1,5 @@
 #!/usr/bin/env python3
-"""The solver beside brute force: usage: tests/programs/ivl_solve.py [PROGRAM] [--seconds N] [--seed N]"""
+"""The solver beside plain sets of members: usage: tests/programs/ivl_solve.py [PROGRAM] [--seconds N] [--seed N]"""
 
 import itertools
 import math
