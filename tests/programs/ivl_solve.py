@@ -53,7 +53,7 @@ def supported(domains, sums):
 
 def points(domains, sums):
     """The points that solve the sums, one after another, each as a list of numbers in the order of the variables."""
-    # without a cut after each choice, wide domains that have no point would take hours
+    # without a cut after each choice, wide domains that have no point take minutes or more
     left = supported(dict(domains), sums)
     if not all(left.values()):
         return

@@ -1,9 +1,12 @@
-//! Expressions as deep as a stack of 8 MB bears with room to spare, and what is said of them.
+//! Expressions and searches as deep as a stack of 8 MB bears with room to spare, and what is said of them.
 use intervallum::proved::examples::*;
 use intervallum::proved::intervallum::interval_set::IntervalSet;
 use intervallum::proved::ivl_expr::{EvalFault, Expr, eval};
+use intervallum::proved::ivl_search::search::{End, Limits, solutions};
 
 const LEVELS: usize = 4_000;
+// a search cuts so often on one branch, and no more
+const CUTS: usize = 4_000;
 
 /// `x0 + 1 + 1 ..`, or `1 + (1 + (.. x0))`.
 fn nested(is_left: bool) -> Expr<i64> {
@@ -40,4 +43,16 @@ fn a_missing_variable_is_found_at_the_bottom() {
             assert!(matches!(eval(Global, &nested(is_left), &[]), Err(EvalFault::Missing(0))));
         });
     }
+}
+
+#[test]
+fn a_branch_of_too_many_cuts_ends_a_search() {
+    on_a_stack_of_8_mb(|| {
+        let domains: Vec<_> = (0..=CUTS).map(|_| IntervalSet::new(Global, 0_i64, 1).unwrap()).collect();
+        let limits = Limits { solutions: 1, nodes: 1_000_000 };
+        let found = solutions(Global, &domains[..CUTS], &[], limits).unwrap();
+        assert!(matches!(found.end, End::Solutions) && found.points.len() == 1);
+        let found = solutions(Global, &domains, &[], limits).unwrap();
+        assert!(matches!(found.end, End::Nodes) && found.points.is_empty());
+    });
 }

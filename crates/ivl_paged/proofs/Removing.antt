@@ -215,13 +215,14 @@ pub on_ok_holds : {A E : Type 0} (X : Type 0) (r : Result A E) (a : A) → r ≡
 on_ok_holds X (Ok b) a e made = made
 on_ok_holds X (Err b) a e made = absurd (cc)
 
--- a number removed, as the interval of it alone
+-- an interval that has one number alone
 alone : (v : ℤ) → SameMembers (IsBetween (v, v)) (Only v)
 alone v z = (
   (λ b. let low = b.0 in let high = b.1 in omega (arith, ints, low, high)),
   (λ e. (omega (arith, ints, e), omega (arith, ints, e))),
 )
 
+-- a number removed, as the interval of it alone
 pub removed_alone : (S : ℤ → Type 0) (L : List (ℤ × ℤ)) (v : ℤ) → IsRunsOf L (Without S (Only v)) → IsRunsOf L (Without S (IsBetween (v, v)))
 removed_alone S L v r = record { maximal = r.maximal; members = without_same S (Covers L) (IsBetween (v, v)) (Only v) (alone v) r.members }
 
