@@ -15,6 +15,7 @@ import subprocess
 import sys
 import threading
 import time
+import types
 
 import intervallum
 from intervallum import IntervalSet, OutOfRange
@@ -506,8 +507,16 @@ def misuse():
     assert 0 not in none and none.next_from(0) is none.previous_to(0) is none.run_at(0) is none.nth(0) is None and none.rank(1) == 0
     assert hash(none) == hash(IntervalSet()) and ~~none == none and none.sums(many) == none and not none.overlaps(none)
     # a list of bounds that changes while it is read has no more bounds than the library is told of
+    # nor other ones, and a pair that reads its own second bound anew is told, too
     changing = [[Number(lambda: changing[1].clear()), 5], [7, 8]]
     raises(TypeError, lambda: IntervalSet(changing), "changed while it was read")
+    other = [[Number(lambda: other[1].__setitem__(0, 1)), 5], [7, 8]]
+    raises(TypeError, lambda: IntervalSet(other), "changed while it was read")
+    itself = [Number(lambda: itself.__setitem__(1, 9)), 5]
+    raises(TypeError, lambda: IntervalSet([itself, 3]), "changed while it was read")
+    # runs equal sequences of the same pairs alone
+    assert a.runs() != [1] and a.runs() != [5] and a.runs() != ["15"] and a.runs() == [[1, 5]] and IntervalSet().runs() == []
+    without_numpy(a)
     # nothing changes a set
     for name in ("size", "bounds", "other"):
         raises(AttributeError, lambda: setattr(a, name, 1))
@@ -515,6 +524,39 @@ def misuse():
     assert a.runs() == [(1, 5)] and a is a.copy() is copy.copy(a)
     without_library()
     print("bindings: Python: misuse is told")
+
+
+class Wrapping(Number):
+    """A number of numpy: what is computed with it wraps in its own type."""
+
+    def __eq__(self, other):
+        return self.read() % 2**64 == other % 2**64
+
+    def __lt__(self, other):
+        return self.read() % 2**63 < other
+
+    __hash__ = None
+
+
+def without_numpy(a):
+    """What arrays of numpy once got wrong, by an array that stands for theirs."""
+    least = IntervalSet([(-(2**63) + 5, 0)])
+    assert Wrapping(lambda: 2**63 + 5) not in least and Wrapping(lambda: 3) in a
+    lent = []
+    theirs = types.SimpleNamespace(
+        ndarray=type("ndarray", (), {"shape": (1, 2), "ndim": 2, "size": 2}),
+        ma=types.SimpleNamespace(isMaskedArray=lambda items: True),
+        frombuffer=lambda memory, **words: lent.append(memory) or types.SimpleNamespace(reshape=lambda *shape: shape),
+        int64=int,
+        uint64=int,
+    )
+    before, intervallum.numpy = intervallum.numpy, theirs
+    try:
+        raises(TypeError, lambda: IntervalSet(theirs.ndarray()), "a masked array has no set")
+        a.array()
+        assert memoryview(lent[0]).readonly
+    finally:
+        intervallum.numpy = before
 
 
 def without_library():
@@ -579,6 +621,10 @@ def threads(count):
     print("bindings: Python: two threads had %d right answers each" % (10 * count))
 
 
+class Named(IntervalSet):
+    """A set of a user's own class, with an attribute."""
+
+
 def doubled(a):
     return a.sums(a), a.bounds, hash(a)
 
@@ -588,6 +634,10 @@ def processes():
     given = [IntervalSet(), IntervalSet([(1, 5), 9]), ~IntervalSet([3]), IntervalSet([2**64 - 2, (0, 7)], bounds="u64")]
     for protocol in range(pickle.HIGHEST_PROTOCOL + 1):
         assert pickle.loads(pickle.dumps(given, protocol)) == given
+        named = Named([(1, 5)], bounds="u64")
+        named.name = "mine"
+        back = pickle.loads(pickle.dumps(named, protocol))
+        assert (type(back), back, back.bounds, back.name) == (Named, named, "u64", "mine")
     with multiprocessing.get_context("spawn").Pool(2) as pool:
         for a, (made, bounds, told) in zip(given, pool.map(doubled, given)):
             assert made == a.sums(a) and bounds == a.bounds

@@ -21,7 +21,7 @@
 #include <stddef.h>
 #include <stdint.h>
 
-#define IVL_VERSION "1.0.0"
+#define IVL_VERSION "2.0.0"
 
 #ifdef __cplusplus
 extern "C" {

@@ -28,7 +28,7 @@ SOURCES = ("intervallum/__init__.py", "intervallum/py.typed")
 LIBRARY = "intervallum/libintervallum.so"
 LICENSES = ("LICENSE-APACHE", "LICENSE-MIT")
 # what an archive of the sources has of bindings/rust, in its folder `rust`
-CRATE = ("Cargo.toml", "src", "c/Cargo.toml", "c/src")
+CRATE = ("Cargo.toml", "build.rs", "src", "c/Cargo.toml", "c/src")
 
 
 def _read(path):
@@ -168,6 +168,9 @@ def build_sdist(sdist_directory, config_settings=None):
     for part in CRATE:
         for path in _files(os.path.join(crate, part)):
             files["rust/" + os.path.relpath(path, crate)] = _read(path)
+    # the tests and examples that the manifest names are not there
+    manifest = files["rust/Cargo.toml"].decode()
+    files["rust/Cargo.toml"] = re.sub(r"(?ms)^\[\[(?:example|test)\]\]\n.*?(?=^\[|\Z)", "", manifest).encode()
     files["PKG-INFO"] = _metadata()
     with tarfile.open(os.path.join(sdist_directory, name + ".tar.gz"), "w:gz") as archive:
         for path, text in sorted(files.items()):

@@ -9,9 +9,9 @@ LAST = 2**40 - 1
 class Blocks(FreeNumbers):
     """The runs of the free blocks, ascending."""
 
-    least, greatest = 0, LAST
+    least, greatest, most = 0, LAST, LAST + 1
     refused = {
-        b"take": b"error: write take COUNT, with a count from 1 to 1099511627775\n",
+        b"take": b"error: write take COUNT, with a count from 1 to 1099511627776\n",
         b"give": b"error: write give FIRST LAST, blocks from 0 to 1099511627775 in order\n",
         b"free": b"error: write free\n",
         b"largest": b"error: write largest\n",
@@ -52,7 +52,7 @@ class Blocks(FreeNumbers):
 
 def random_count(dice):
     if dice.random() < 0.1:
-        return dice.choice(["0", "-1", "-0", "+3", "007", "x", "1.5", "1099511627775", "1099511627776", str(2**63), str(2**64)])
+        return dice.choice(["0", "-1", "-0", "+3", "007", "x", "1.5", "1099511627775", "1099511627776", "1099511627777", str(2**63), str(2**64)])
     return str(dice.choice([1, 1, 2, 3, 5, 8, 40, 700, 5000]) if dice.random() < 0.97 else dice.randrange(1, LAST))
 
 

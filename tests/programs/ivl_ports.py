@@ -8,26 +8,26 @@ from lines import Commands, main
 
 
 class FreeNumbers(Commands):
-    """Numbers from `least` to `greatest`, which are taken and given back; `refused` has the answer to a line that is not understood."""
+    """Numbers from `least` to `greatest`, which are taken, `most` at a time, and given back; `refused` has the answer to a line that is not understood."""
 
     def answer_command(self, name, words):
         numbers = [number(word) for word in words]
-        if name == b"take" and len(numbers) == 1 and self.are_in_range(numbers, 1):
+        if name == b"take" and len(numbers) == 1 and numbers[0] is not None and 1 <= numbers[0] <= self.most:
             return self.take(*numbers)
-        if name == b"give" and len(numbers) == 2 and self.are_in_range(numbers, self.least) and numbers[0] <= numbers[1]:
+        if name == b"give" and len(numbers) == 2 and self.are_in_range(numbers) and numbers[0] <= numbers[1]:
             return self.give(*numbers)
         if name in self.shows and not words:
             return self.shows[name](self)
         return self.refused.get(name, self.refused[None])
 
-    def are_in_range(self, numbers, least):
-        return all(value is not None and least <= value <= self.greatest for value in numbers)
+    def are_in_range(self, numbers):
+        return all(value is not None and self.least <= value <= self.greatest for value in numbers)
 
 
 class Ports(FreeNumbers):
     """A byte for each number from 0 to 65535, which is 1 if it is a free port."""
 
-    least, greatest = 1024, 65535
+    least, greatest, most = 1024, 65535, 65535
     refused = {
         b"take": b"error: write take COUNT, with a count from 1 to 65535\n",
         b"give": b"error: write give FIRST LAST, ports from 1024 to 65535 in order\n",

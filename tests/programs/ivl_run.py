@@ -197,7 +197,7 @@ def random_lines(dice, count):
     return [random_line(dice) for _ in range(count)]
 
 
-# Sums of 64 and of 4,096 runs, and then of 16,777,216, which take seconds.
+# Sums of 64 and of 4,096 runs, and then of 16,777,216, which take seconds. As many products are in range of smaller numbers.
 QUICK = [
     b"set a 0 0 2 2 4 4 6 6 8 8 10 10 12 12 14 14",
     b"timesv b a 100",
@@ -207,6 +207,7 @@ QUICK = [
     b"timesv b a 100000000",
     b"count a",
 ]
+SLOW = [(QUICK, 7, b"plus c a b"), (QUICK, 7, b"minus c a b"), ([*QUICK[:5], b"timesv b a 100"], 6, b"times c a b")]
 
 if __name__ == "__main__":
-    main("ivl_run", Calculator, random_lines, b"show a", (QUICK, 7, b"plus c a b"))
+    main("ivl_run", Calculator, random_lines, b"show a", SLOW)

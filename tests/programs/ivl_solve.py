@@ -21,8 +21,10 @@ FORMS = {
     b"max": b"max x",
 }
 
-# A search of a line with the first limit visits so many nodes.
-NODES = 2000
+# A search visits one node for so much of the limit.
+NARROWINGS_PER_NODE = 500
+# A narrowing counts for one, and for one more for each so many pairs of runs of two of its domains.
+PAIRS = 256
 
 SHORT = {"\t": "\\t", "\r": "\\r", "\n": "\\n"}
 
@@ -72,7 +74,9 @@ class Searched:
         self.sums = list(solver.sums)
         self.domains = supported(dict(solver.domains), self.sums)
         self.line = line
-        self.is_sure = solver.limit >= 10**6 and 2 * math.prod(map(len, self.domains.values())) <= NODES
+        self.nodes = solver.limit // NARROWINGS_PER_NODE
+        self.is_known = not all(solver.domains.values())
+        self.is_sure = self.is_known or 0 < self.nodes and 2 * math.prod(map(len, self.domains.values())) <= self.nodes
 
     def __repr__(self):
         return f"an answer to {self.line!r} over {self.domains}, {self.sums}"
@@ -100,7 +104,7 @@ class Searched:
         if line == b"unfinished":
             return not self.is_sure
         if line == b"more possible":
-            return found == most
+            return found == most and not self.is_known
         return line == (b"ok" if found else b"no solution") and self.first(found + 1) == found
 
 
@@ -143,7 +147,7 @@ class Best(Searched):
         super().__init__(solver, line)
         self.name, self.choose = name, choose
         # it may search ten halves, each with the nodes of a search
-        self.is_sure = self.is_sure and 20 * math.prod(map(len, self.domains.values())) <= NODES
+        self.is_sure = self.is_sure and 20 * math.prod(map(len, self.domains.values())) <= self.nodes
 
     def after(self, written, place):
         lines = written[place:].split(b"\n", 2)
@@ -293,9 +297,9 @@ class Solver(Commands):
         return self.round[-1] if self.round else None
 
     def settle(self):
-        left = supported(dict(self.domains), self.sums)
-        count = 0
-        while count < self.limit and (place := self.first()) is not None:
+        all_left = supported(dict(self.domains), self.sums)
+        left = self.limit
+        while (place := self.first()) is not None and (cost := self.cost(place)) <= left:
             x, y, z = self.sums[place]
             a, b, c = self.domains[x], self.domains[y], self.domains[z]
             self.replace(x, {u for u in a if any(u + v in c for v in b)})
@@ -303,10 +307,15 @@ class Solver(Commands):
             self.replace(z, {w for w in c if any(w - v in a for v in b)})
             self.round.pop()
             self.is_settled[place] = True
-            count += 1
+            left -= cost
         self.progress = b"ok" if all(self.is_settled) else b"unfinished"
-        assert self.progress != b"ok" or self.domains == left
-        assert all(left[name] <= members for name, members in self.domains.items())
+        assert self.progress != b"ok" or self.domains == all_left
+        assert all(all_left[name] <= members for name, members in self.domains.items())
+
+    def cost(self, place):
+        """What narrowing by a sum counts for."""
+        x, y, z = (len(joined((value, value) for value in self.domains[name])) for name in self.sums[place])
+        return 1 + (x * y + x * z + y * z) // PAIRS
 
     def text(self, members):
         return text(joined((value, value) for value in members)).encode()
@@ -385,8 +394,10 @@ def searched_lines(dice, count):
 
 def random_lines(dice, count):
     kind = dice.random()
-    if kind < 0.25:
+    if kind < 0.2:
         return stopped_lines(dice, min(count, 20))
+    if kind < 0.3:
+        return holed_lines(dice, min(count, 20))
     if kind < 0.5:
         return searched_lines(dice, min(count, 20))
     # short sessions, so that many begin anew before their domains are empty
@@ -394,8 +405,23 @@ def random_lines(dice, count):
     return first + [random_line(dice) for _ in range(min(count, 40))]
 
 
+def holed_lines(dice, count):
+    """Domains of many runs, so that a narrowing may count for more than a line may make."""
+    names = "xyzu"
+    lines = [b"limit %d" % dice.randrange(1, 8)]
+    for name in names:
+        numbers = sorted(dice.sample(range(60), dice.randrange(8, 20)))
+        lines.append(" ".join(["var", name, *(str(value) for value in numbers for _ in "lu")]).encode())
+    for _ in range(count):
+        lower = dice.randrange(-5, 50)
+        cut = f"cut {dice.choice(names)} {lower} {lower + dice.randrange(10, 60)}"
+        line = dice.choice(["sum " + " ".join(dice.sample(names, 3)), cut, "go on", "go on", "show", f"limit {dice.randrange(12)}"])
+        lines.append(line.encode())
+    return lines
+
+
 # The last sum empties the domains one member a round, which takes seconds.
 QUICK = [b"limit 1000000000", b"var a 0 40000000", b"var b 0 40000000", b"var one 1 1", b"sum a one b", b"show"]
 
 if __name__ == "__main__":
-    main("ivl_solve", Solver, random_lines, b"show", (QUICK, 9, b"sum b one a"))
+    main("ivl_solve", Solver, random_lines, b"show", [(QUICK, 9, b"sum b one a")])

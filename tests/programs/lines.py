@@ -103,8 +103,9 @@ def check_answers_are_seen(program, quick, count, slow):
         raise SystemExit(f"{count} answers were seen after {seen:.1f} s, and that to {slow!r} after {answered:.1f} s")
 
 
-def main(name, make_model, make_lines, full_disk_line, slow=None):
-    """Compares the program with its model until the time is over. `slow` is for a program with lines that may take long."""
+def main(name, make_model, make_lines, full_disk_line, slow=()):
+    """Compares the program with its model until the time is over. `slow` has, for each kind of line that may take long, quick lines, how many
+    lines their answers have, and such a line."""
     parser = argparse.ArgumentParser()
     parser.add_argument("program", nargs="?", default=f"crates/{name}/out/{name}")
     parser.add_argument("--seconds", type=float, default=30)
@@ -114,8 +115,8 @@ def main(name, make_model, make_lines, full_disk_line, slow=None):
     count = 0
     try:
         check_full_disk(options.program, name, full_disk_line)
-        if slow is not None:
-            check_answers_are_seen(options.program, *slow)
+        for quick_and_slow in slow:
+            check_answers_are_seen(options.program, *quick_and_slow)
         end = time.monotonic() + options.seconds
         while time.monotonic() < end:
             count += check_run(options.program, make_model, make_lines, dice)

@@ -1,7 +1,7 @@
 #!/usr/bin/env python3
 """What `./run` says and does around a program: help, version, wrong words, a limit on memory, a terminal, a pipe.
 
-usage: tests/programs/start.py     wants crates/ivl_run/out/ivl_run as the gate builds it
+usage: tests/programs/start.py PROGRAM     the calculator, as the gate built it in crates/ivl_run/out, or as Cargo did
 """
 
 import os
@@ -12,6 +12,9 @@ import sys
 TOP = os.path.dirname(os.path.dirname(os.path.dirname(os.path.realpath(__file__))))
 RUN = os.path.join(TOP, "run")
 OUT = os.path.join(TOP, "crates", "ivl_run", "out")
+BY_CARGO = b"run: this is the proved source as Cargo compiled it; ./run --prove proves it here first, and runs what was proved\n"
+# What `./run` takes, and says first: the program that Cargo builds is tried also where one was proved.
+WORDS, LEAD = [], b""
 
 # Sums of 64, of 4,096 and of 16,777,216 runs, which take 256 MB.
 LARGE = b"""set a 0 0 2 2 4 4 6 6 8 8 10 10 12 12 14 14
@@ -29,14 +32,14 @@ show d
 
 def said(arguments, data=b""):
     """The status of `./run`, and what it writes to standard output and to standard error."""
-    ran = subprocess.run([RUN, *arguments], input=data, capture_output=True, check=False)
+    ran = subprocess.run([RUN, *arguments, *(WORDS if data else [])], input=data, capture_output=True, check=False)
     return ran.returncode, ran.stdout, ran.stderr
 
 
 def on_a_terminal(data):
     """What `./run` writes where a terminal is its standard input."""
     master, slave = pty.openpty()
-    child = subprocess.Popen([RUN], stdin=slave, stdout=subprocess.PIPE, stderr=subprocess.PIPE)
+    child = subprocess.Popen([RUN, *WORDS], stdin=slave, stdout=subprocess.PIPE, stderr=subprocess.PIPE)
     os.close(slave)
     os.write(master, data)
     written, told = child.communicate(timeout=60)
@@ -49,12 +52,16 @@ def expect(what, found, expected):
         raise SystemExit(f"start: {what}: {found!r} where {expected!r} should be")
 
 
-def main():
-    if not os.access(os.path.join(OUT, "ivl_run"), os.X_OK):
-        raise SystemExit("start: crates/ivl_run/out/ivl_run is not built")
-    # it was proved just now: ./run need not look again
-    with open(os.path.join(OUT, "run.proved"), "w", encoding="utf-8"):
-        pass
+def main(program):
+    global WORDS, LEAD
+    if not os.access(program, os.X_OK):
+        raise SystemExit(f"start: {program} is not built")
+    if os.path.realpath(program) == os.path.join(OUT, "ivl_run"):
+        # it was proved just now: ./run need not look again
+        with open(os.path.join(OUT, "run.proved"), "w", encoding="utf-8"):
+            pass
+    else:
+        WORDS, LEAD = ["--try"], BY_CARGO
     version = open(os.path.join(TOP, "VERSION"), encoding="utf-8").read().strip().encode()
     expect("--version", said(["--version"]), (0, b"ivl_run " + version + b"\n", b""))
     expect("solve --version", said(["solve", "--version"]), (0, b"ivl_solve " + version + b"\n", b""))
@@ -64,14 +71,14 @@ def main():
     for words in (["--frob"], ["frob"], ["--memory"], ["--memory", "much"], ["--memory=5X"]):
         status, text, told = said(words)
         expect(words, (status, text, bool(told)), (2, b"", True))
-    expect("a pipe", said([], b"set a 1 5\nquit\nshow a"), (0, b"ok\nbad line\n[1..5]\n", b""))
-    expect("a limit", said(["--memory", "200M"], LARGE), (0, b"ok\n" * 6 + b"refused 4 memory\n0\nok\n[1..5]\n", b""))
+    expect("a pipe", said([], b"set a 1 5\nquit\nshow a"), (0, b"ok\nbad line\n[1..5]\n", LEAD))
+    expect("a limit", said(["--memory", "200M"], LARGE), (0, b"ok\n" * 6 + b"refused 4 memory\n0\nok\n[1..5]\n", LEAD))
     status, written, told = on_a_terminal(b"set a 1 5\nfrob\nfrob\nshow a\nquit\nshow a\n")
     expect("a terminal", (status, written), (0, b"ok\nbad line\nbad line\n[1..5]\n"))
-    hint = b"run: one line at a time; ./run --help lists them; quit ends it\n"
+    hint = LEAD + b"run: one line at a time; ./run --help lists them; quit ends it\n"
     expect("a terminal", told, hint + b"run: ./run --help lists the lines that are understood\n")
     print("start: as it should be")
 
 
 if __name__ == "__main__":
-    sys.exit(main())
+    sys.exit(main(sys.argv[1]))

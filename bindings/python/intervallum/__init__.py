@@ -30,7 +30,7 @@ import sys
 from array import array as Numbers
 from typing import Any, Callable, Iterable, Iterator, Literal, Sequence, SupportsIndex, Union, overload
 
-__version__ = "1.0.0"
+__version__ = "2.0.0"
 __all__ = ["IntervalSet", "OutOfMemory", "OutOfRange", "ProductOutOfRange", "Runs"]
 
 
@@ -202,7 +202,8 @@ class Runs(collections.abc.Sequence[tuple[int, int]]):
     def __eq__(self, other: object) -> bool:
         if not isinstance(other, collections.abc.Sequence) or isinstance(other, (str, bytes)):
             return NotImplemented
-        return len(self) == len(other) and all(mine == tuple(theirs) for mine, theirs in zip(self, other))
+        pairs = zip(self, other)
+        return len(self) == len(other) and all(isinstance(pair, collections.abc.Iterable) and mine == tuple(pair) for mine, pair in pairs)
 
     def __repr__(self) -> str:
         return "Runs(%r)" % list(self)
@@ -584,7 +585,8 @@ class IntervalSet(collections.abc.Set[int]):
         return self
 
     def __reduce__(self) -> tuple[Any, ...]:
-        return IntervalSet, (list(self.runs()), self._type.name)
+        # a class of the caller's comes back as itself, with what it keeps
+        return type(self), (list(self.runs()), self._type.name), getattr(self, "__dict__", None)
 
     def __repr__(self) -> str:
         last = "" if self._type.is_signed else ", bounds=%r" % self._type.name
@@ -603,19 +605,28 @@ def _pairs(bounds: _Bounds, items: Iterable[Item]) -> tuple[Any, int, int]:
         items = [items]
     pairs: list[Any] = list(items)
     kinds = set(map(type, pairs))
+    lists: list[tuple[Any, tuple[Any, ...]]] = []
     # in the usual cases, no item is looked at by itself
     if kinds == {int}:
         pairs = list(zip(pairs, pairs))
     elif not (kinds <= {tuple, list} and set(map(len, pairs)) <= {2}):
         pairs = [pair for item in pairs for pair in _pairs_of_item(item)]
+    elif list in kinds:
+        lists = [(pair, tuple(pair)) for pair in pairs if type(pair) is list]
+        pairs = list(map(tuple, pairs))
     try:
         flat = Numbers(bounds.code, itertools.chain.from_iterable(pairs))
     except OverflowError:
         raise bounds.outside(next(n for pair in pairs for n in map(operator.index, pair) if not bounds.holds(n))) from None
-    # reading a bound may run code of its type, which may change a list of bounds that has been counted
-    if len(flat) != 2 * len(pairs):
-        raise TypeError("a pair has two bounds: a list of bounds was changed while it was read")
+    for pair, bounds_before in lists:
+        _is_unchanged(pair, bounds_before)
     return flat, flat.buffer_info()[0], len(pairs)
+
+
+def _is_unchanged(pair: Any, bounds_before: tuple[Any, ...]) -> None:
+    """Raises an error if a list of bounds is another one now: reading a bound may run code of its type, which may change the list."""
+    if len(pair) != 2 or pair[0] is not bounds_before[0] or pair[1] is not bounds_before[1]:
+        raise TypeError("a pair has two bounds: a list of bounds was changed while it was read")
 
 
 def _pairs_of_item(item: Any) -> Iterable[tuple[int, int]]:
@@ -629,7 +640,10 @@ def _pairs_of_item(item: Any) -> Iterable[tuple[int, int]]:
     if isinstance(item, (tuple, list)):
         if len(item) != 2:
             raise TypeError("a pair has two bounds: %r" % (item,))
-        return [(operator.index(item[0]), operator.index(item[1]))]
+        lower, upper = item
+        pair = operator.index(lower), operator.index(upper)
+        _is_unchanged(item, (lower, upper))
+        return [pair]
     if isinstance(item, collections.abc.Set):
         return [(number, number) for number in map(operator.index, item)]
     if numpy is not None and isinstance(item, numpy.ndarray) and item.shape == (2,):

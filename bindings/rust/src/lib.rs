@@ -4,6 +4,11 @@
 //! ```
 //! use intervallum::IntervalSet;
 //!
+//! // a set is made of a range; of ranges, pairs or values in any order; of what an iterator yields; of a text
+//! let day = IntervalSet::from(8..18u8);
+//! let lunch: IntervalSet<u8> = [13, 12].into_iter().collect();
+//! assert_eq!((&day & !&lunch).to_string().parse(), Ok(IntervalSet::from([(8, 11), (14, 17)])));
+//!
 //! let mut booked = IntervalSet::from([9..=10u8, 13..=15]);
 //! booked.insert(11);                                     // 11 joins the run from 9
 //! assert_eq!(booked.to_string(), "{[9..11][13..15]}");
@@ -16,25 +21,30 @@
 //!
 //! | Task | Calls of [`IntervalSet`] |
 //! |---|---|
-//! | make a set | [`new`](IntervalSet::new), [`singleton`](IntervalSet::singleton), [`empty`](IntervalSet::empty), [`whole`](IntervalSet::whole), `from` a range or an array of values, ranges or pairs, `collect` |
-//! | edit it | [`insert`](IntervalSet::insert), [`remove`](IntervalSet::remove), [`insert_interval`](IntervalSet::insert_interval), [`remove_interval`](IntervalSet::remove_interval), `extend`, [`pop_first`](IntervalSet::pop_first), [`pop_last`](IntervalSet::pop_last), [`take_first_fit`](IntervalSet::take_first_fit), [`split_off`](IntervalSet::split_off), [`clear`](IntervalSet::clear) |
+//! | make a set | `from` a range, or an array, slice or `Vec` of values, ranges, pairs or sets; `collect`, `parse`; [`new`](IntervalSet::new), [`singleton`](IntervalSet::singleton), [`empty`](IntervalSet::empty), [`whole`](IntervalSet::whole), [`limits`](IntervalSet::limits) |
+//! | edit it | [`insert`](IntervalSet::insert), [`remove`](IntervalSet::remove), [`insert_interval`](IntervalSet::insert_interval), [`remove_interval`](IntervalSet::remove_interval), `extend`, [`append`](IntervalSet::append), [`retain`](IntervalSet::retain), [`pop_first`](IntervalSet::pop_first), [`pop_last`](IntervalSet::pop_last), [`take_first_fit`](IntervalSet::take_first_fit), [`split_off`](IntervalSet::split_off), [`clear`](IntervalSet::clear) |
 //! | ask for members | [`contains`](IntervalSet::contains), [`includes`](IntervalSet::includes), [`overlaps`](IntervalSet::overlaps), [`lower`](IntervalSet::lower), [`upper`](IntervalSet::upper), [`first`](IntervalSet::first), [`last`](IntervalSet::last), [`hull`](IntervalSet::hull), [`next_from`](IntervalSet::next_from), [`previous_to`](IntervalSet::previous_to), [`nth`](IntervalSet::nth) |
 //! | count | [`len`](IntervalSet::len), [`size`](IntervalSet::size), [`rank`](IntervalSet::rank), [`size_within`](IntervalSet::size_within), [`intersection_size`](IntervalSet::intersection_size), [`union_size`](IntervalSet::union_size), [`difference_size`](IntervalSet::difference_size), [`interval_count`](IntervalSet::interval_count), [`is_empty`](IntervalSet::is_empty) |
-//! | iterate | [`iter`](IntervalSet::iter) over members, [`range`](IntervalSet::range) over those of a range, [`runs`](IntervalSet::runs), [`runs_within`](IntervalSet::runs_within) |
+//! | iterate | [`iter`](IntervalSet::iter) over members, [`range`](IntervalSet::range) over those of a range, [`runs`](IntervalSet::runs), [`runs_within`](IntervalSet::runs_within), [`into_runs`](IntervalSet::into_runs) |
 //! | find room | [`first_fit`](IntervalSet::first_fit), [`first_fit_from`](IntervalSet::first_fit_from), [`best_fit`](IntervalSet::best_fit), [`gaps_within`](IntervalSet::gaps_within), [`run_at`](IntervalSet::run_at) |
-//! | combine sets | `\|`, `&`, `^`, `!`, [`difference`](IntervalSet::difference), [`within`](IntervalSet::within), [`union_of`](IntervalSet::union_of), [`intersection_of`](IntervalSet::intersection_of) |
-//! | compare sets | `==`, [`is_subset`](IntervalSet::is_subset), [`is_superset`](IntervalSet::is_superset), [`is_disjoint`](IntervalSet::is_disjoint), [`overlap`](IntervalSet::overlap) |
+//! | combine sets | `\|`, `&`, `^`, `!`, `\|=`, [`difference`](IntervalSet::difference), [`within`](IntervalSet::within), [`union_of`](IntervalSet::union_of), [`intersection_of`](IntervalSet::intersection_of) |
+//! | compare sets | `==`, `<`, [`is_subset`](IntervalSet::is_subset), [`is_superset`](IntervalSet::is_superset), [`is_disjoint`](IntervalSet::is_disjoint), [`overlap`](IntervalSet::overlap) |
 //! | compute with members | `+`, `-`, `*`, [`checked_add`](IntervalSet::checked_add), [`fits_add`](IntervalSet::fits_add) and so on |
 //!
-//! A [`PagedSet`] has the same edits and questions, and is for more than some 1,000 runs that change: an edit moves the runs of
-//! one page, where that of an [`IntervalSet`] may move all runs above it. [`to_set`](PagedSet::to_set) and `from` convert.
+//! A [`PagedSet`] has the same calls but for `+`, `-` and `*`, and is for more than some 1,000 runs that change: an edit moves the runs
+//! of one page, where that of an [`IntervalSet`] may move all runs above it. Calls with two sets take one of either kind.
+//!
+//! # Values
+//!
+//! Sets have integers of at most 64 bits, less the greatest value of an unsigned type and the least of a signed one; all values of
+//! `u8`, `u16` and `u32` as [`Full`]; `char`s; IPv4 addresses; or values of a type of yours that is [`Width`].
 //!
 //! # Two faces
 //!
 //! [`proved`] is the proved surface as it is: it takes an allocator and returns a `Result`, so that a failed allocation is an
 //! error and nothing more, and its docs have each call's contract, clause by clause. The root is for programs in which running
 //! out of memory may end the process: [`IntervalSet`] and [`PagedSet`] have methods that need no trait in scope, and the traits
-//! of a set of Rust's std. Each method is one call of the proved face. Its conditions are tested in every build.
+//! of a set of Rust's std. Each method is one call of the proved face, or some few. Its conditions are tested in every build.
 //!
 //! # What is proved, and what is trusted
 //!
@@ -45,17 +55,22 @@
 //!
 //! # Features
 //!
-//! None: this package depends on nothing but `core` and `alloc`. The package `intervallum-proved-serde` has the same sources and
-//! the features `serde` (`Serialize` and `Deserialize` of both sets) and `json` (the proved reading and writing of JSON).
+//! None is enabled by itself, and then the crate depends on nothing but `core` and `alloc`.
+//!
+//! - `serde`: `Serialize` and `Deserialize` of both sets, as the sequence of the runs: `[[1,2],[5,5]]` in JSON.
+//! - `json`: [`proved`]`::ivl_json`, the proved reading and writing of JSON, over `serde_json`.
+//!
+//! # Machines of 32 bits
+//!
+//! The proofs are about a `usize` of 64 bits. On 32 bits the crate compiles but for `proved::ivl_buffers`, and its tests pass; nothing
+//! is proved there. [`len`](IntervalSet::len) then answers `usize::MAX` for sets with more members.
 #![no_std]
 #![forbid(unsafe_code)]
 #![warn(missing_docs)]
 
-#[cfg(not(target_pointer_width = "64"))]
-compile_error!("proved where `usize` has 64 bits");
-
 extern crate alloc;
 
+mod bounds;
 pub mod definitions;
 pub mod proved;
 pub mod rattle;
@@ -71,18 +86,36 @@ pub mod set;
 /// let open = morning.union(&noon);           // the two touch, so they are one run
 /// assert_eq!(open.interval_count(), 1);
 /// assert_eq!(open.size(), 6u32);
-/// assert!(open.contains(&12) && !open.contains(&14));
+/// assert!(open.contains(12) && !open.contains(14));
 /// assert!(open == IntervalSet::new(8, 13));
 /// ```
 pub mod prelude {
-    pub use crate::{IntervalSet, PagedSet, SizeNumber, Width};
+    pub use crate::{Full, IntervalSet, PagedSet, Size, Width};
 }
 
+pub use bounds::Full;
 pub use proved::width::{SizeNumber, Width};
 #[doc(inline)]
 pub use set::{IntervalSet, PagedSet};
 
-/// The page for Rust, whose examples run with those of the docs.
+/// The size of a set, for glob imports: [`SizeNumber`] has a method `number` as [`Width`] has, and the integers are both.
+pub trait Size: SizeNumber {
+    /// Returns the size as a number.
+    ///
+    /// ```
+    /// use intervallum::prelude::*;
+    ///
+    /// let a = IntervalSet::from(1..=9u8);
+    /// assert_eq!((a.size().to_u128(), a.size().number(), a.lower().number()), (9, 9, 1));
+    /// ```
+    fn to_u128(self) -> u128 {
+        self.number()
+    }
+}
+
+impl<S: SizeNumber> Size for S {}
+
+/// The page of the package, whose examples run with those of the docs.
 #[cfg(doctest)]
-#[doc = include_str!("../../../docs/RUST.md")]
+#[doc = include_str!("../README.md")]
 pub mod page {}

@@ -15,8 +15,8 @@
 //! | [`ivl_store`] | domains of variables, narrowed by constraints `x + y = z` |
 //! | [`ivl_search`] | the points that solve such constraints: all of them, or as many as limits allow |
 //! | [`ivl_expr`] | expressions over sets, for range analysis |
-//! | [`ivl_buffers`] | sets as lists of pairs in the caller's memory, which the library for C has |
-//! | `ivl_json` | JSON, with the feature `json` of the package `intervallum-proved-serde` |
+//! | `ivl_buffers` | sets as lists of pairs in the caller's memory, which the library for C has; where `usize` has 64 bits |
+//! | `ivl_json` | JSON, with the feature `json` |
 //!
 //! ```
 //! use intervallum::proved::prelude::*;
@@ -47,8 +47,9 @@ pub mod ivl_expr;
 pub mod ivl_interval;
 #[cfg(feature = "json")]
 pub mod ivl_json;
-// the source imports two traits for whose methods Rust does not ask
+// the source imports two traits for whose methods Rust does not ask; it counts bytes of lists up to 2^61 pairs
 #[allow(unused_imports)]
+#[cfg(target_pointer_width = "64")]
 pub mod ivl_buffers;
 pub mod ivl_paged;
 pub mod ivl_search;

@@ -1,31 +1,39 @@
 //! Sets with the methods and traits of a set of std, over the proved ones.
+//!
+//! What both kinds have is written once, by macros that are called for each.
+mod below;
+mod combining;
 mod conditions;
 mod conversions;
 mod edits;
 mod iterators;
+mod making;
 mod operators;
 mod paged;
 mod pieces;
 mod reads;
 #[cfg(feature = "serde")]
 mod serde;
+mod text;
 
-pub use iterators::{IntoIter, Iter, Range, Values};
-pub use paged::PagedSet;
-pub use pieces::Piece;
+pub use below::{AnySet, Lent};
+pub use iterators::{
+    IntoIter, IntoRuns, Iter, Members, PagedIter, PagedRange, PagedRuns, PagedRunsWithin, Range, Runs,
+};
+pub use pieces::{Piece, Pieces};
+pub use text::ParseSetError;
 
-use crate::proved::ops::{Complement, Difference, Intersection, SymmetricDifference, Union};
-use crate::proved::{self, Global, Interval, width::Width};
-use alloc::vec::Vec;
-use conditions::{broken, memory, unless_broken, within_range};
+use crate::proved::{self, width::Width};
 
 /// A set of integers, stored as ascending runs that neither overlap nor touch.
 ///
-/// `T` is one of Rust's integer types of at most 64 bits, or a type of your own that keeps the laws of [`Width`]. The numbers
-/// of a set are those from [`T::min_value()`](Width::min_value) to [`T::max_value()`](Width::max_value): one less than those
-/// of the type, so that the size of a set is a number of the unsigned type. 255 is a member of no set of `u8`.
+/// `T` is one of Rust's integer types of at most 64 bits, a `char`, an IPv4 address, a [`Full`](crate::Full) integer, or a type
+/// of your own that keeps the laws of [`Width`]. The numbers of a set are those of [`limits`](Self::limits): for an integer of
+/// Rust one less than those of the type, so that the size of a set is a number of the unsigned type. 255 is a member of no
+/// set of `u8`, but of sets of `Full<u8>`.
 ///
-/// If the condition of a method does not hold, it panics with its name, the condition and the values; the method `checked_..`
+/// Values and ranges are passed by value. A call that adds numbers needs them to be in the limits; a call that asks or removes
+/// takes any, and a number outside the limits is no member. If the condition of a method does not hold, it panics with its name, the condition and the values; the method `checked_..`
 /// beside it returns `None` instead. If an allocation fails, the process aborts, as in std.
 ///
 /// ```
@@ -38,158 +46,30 @@ use conditions::{broken, memory, unless_broken, within_range};
 /// assert_eq!(hours.to_string(), "[8..16]");
 /// ```
 ///
-/// Each method is one call of a [`proved::IntervalSet`], whose page has the contract. `n` and `m` are the numbers of runs.
-#[derive(PartialEq, Eq)]
-pub struct IntervalSet<T: Width>(proved::IntervalSet<T>);
+/// Each method is one call of a [`proved::IntervalSet`], or some few, and links its contract. `n` and `m` are the numbers of runs.
+pub struct IntervalSet<T: Width>(Option<proved::IntervalSet<T>>);
 
-/// Sets from bounds.
-impl<T: Width> IntervalSet<T> {
-    /// Returns the empty set. Does not allocate.
-    pub fn empty() -> Self {
-        Self(proved::IntervalSet::empty(Global))
-    }
-
-    /// Returns the set of the numbers from `lower` to `upper`, both included. Both must be in the range, and `lower` must not
-    /// be above `upper`.
-    ///
-    /// ```
-    /// # use intervallum::IntervalSet;
-    /// assert_eq!(IntervalSet::new(1, 5).len(), 5);
-    /// assert_eq!(IntervalSet::checked_new(1u8, 255), None);
-    /// ```
-    #[track_caller]
-    pub fn new(lower: T, upper: T) -> Self {
-        let condition = within_range::<T>("the first bound must not be above the second, and both");
-        unless_broken!(Self::checked_new(lower, upper), condition, "new({}, {})", lower.number(), upper.number())
-    }
-
-    /// Returns [`new`](Self::new), or `None` if its condition does not hold.
-    pub fn checked_new(lower: T, upper: T) -> Option<Self> {
-        let can = Interval::in_range(lower, upper) && lower <= upper;
-        can.then(|| Self(memory(proved::IntervalSet::new(Global, lower, upper))))
-    }
-
-    /// Returns the set of one value, which must be in the range.
-    #[track_caller]
-    pub fn singleton(value: T) -> Self {
-        let condition = within_range::<T>("the value");
-        unless_broken!(Self::checked_singleton(value), condition, "singleton({})", value.number())
-    }
-
-    /// Returns [`singleton`](Self::singleton), or `None` if its condition does not hold.
-    pub fn checked_singleton(value: T) -> Option<Self> {
-        Self::checked_new(value, value)
-    }
-
-    /// Returns the set of all numbers of the range.
-    ///
-    /// ```
-    /// # use intervallum::IntervalSet;
-    /// assert_eq!(IntervalSet::<i8>::whole().to_string(), "[-127..127]");
-    /// ```
-    pub fn whole() -> Self {
-        Self(memory(proved::IntervalSet::whole(Global)))
-    }
-}
-
-/// Sets from sets.
-impl<T: Width> IntervalSet<T> {
-    /// Returns the members of either set, as `|` does. `O(n + m)`.
-    ///
-    /// ```
-    /// # use intervallum::IntervalSet;
-    /// let (a, b) = (IntervalSet::new(1, 5), IntervalSet::new(4, 9));
-    /// assert_eq!(a.union(&b), IntervalSet::new(1, 9));
-    /// assert_eq!(a.intersection(&b), IntervalSet::new(4, 5));
-    /// assert_eq!(a.difference(&b), IntervalSet::new(1, 3));
-    /// assert_eq!(a.symmetric_difference(&b), IntervalSet::from([1..=3, 6..=9]));
-    /// ```
-    pub fn union(&self, other: &Self) -> Self {
-        Self(memory(self.0.union(&other.0)))
-    }
-
-    /// Returns the members of both sets, as `&` does. `O(n + m)`, or `O(k log n)` if one set has only `k` runs, far fewer than
-    /// the other.
-    pub fn intersection(&self, other: &Self) -> Self {
-        Self(memory(self.0.intersection(&other.0)))
-    }
-
-    /// Returns the members that are not in `other`. `O(n + m)`, or less as for [`intersection`](Self::intersection). This is
-    /// not the operator `-`, which subtracts members.
-    pub fn difference(&self, other: &Self) -> Self {
-        Self(memory(self.0.difference(&other.0)))
-    }
-
-    /// Returns the members of exactly one of the sets, as `^` does. `O(n + m)`.
-    pub fn symmetric_difference(&self, other: &Self) -> Self {
-        Self(memory(self.0.symmetric_difference(&other.0)))
-    }
-
-    /// Returns the members of any of the sets: none if there is no set. `O(n log k)` for `k` sets of `n` runs in all.
-    ///
-    /// ```
-    /// # use intervallum::IntervalSet;
-    /// let (a, b, c) = (IntervalSet::new(1, 2), IntervalSet::new(8, 9), IntervalSet::new(3, 5));
-    /// assert_eq!(IntervalSet::union_of([&a, &b, &c]), IntervalSet::from([1..=5, 8..=9]));
-    /// ```
-    pub fn union_of<'a>(sets: impl IntoIterator<Item = &'a Self>) -> Self
-    where
-        T: 'a,
-    {
-        let sets: Vec<_> = sets.into_iter().map(Self::as_proved).collect();
-        Self(memory(proved::IntervalSet::union_of(Global, &sets)))
-    }
-
-    /// Returns the members of each of the sets: the whole range of the type if there is no set. `O(n log k)` for `k` sets of
-    /// `n` runs in all.
-    ///
-    /// ```
-    /// # use intervallum::IntervalSet;
-    /// let (a, b, c) = (IntervalSet::new(1, 9), IntervalSet::new(3, 20), IntervalSet::new(0, 5));
-    /// assert_eq!(IntervalSet::intersection_of([&a, &b, &c]), IntervalSet::new(3, 5));
-    /// assert_eq!(IntervalSet::<u8>::intersection_of([]), IntervalSet::whole());
-    /// ```
-    pub fn intersection_of<'a>(sets: impl IntoIterator<Item = &'a Self>) -> Self
-    where
-        T: 'a,
-    {
-        let sets: Vec<_> = sets.into_iter().map(Self::as_proved).collect();
-        Self(memory(proved::IntervalSet::intersection_of(Global, &sets)))
-    }
-
-    /// Returns the complement within the type's range, as `!` does. `O(n)`.
-    ///
-    /// ```
-    /// # use intervallum::IntervalSet;
-    /// assert_eq!(IntervalSet::new(10u8, 254).complement(), IntervalSet::new(0, 9));
-    /// ```
-    pub fn complement(&self) -> Self {
-        Self(memory(self.0.complement()))
-    }
-
-    /// Returns the members that lie in a range. `O(log n + k)` for the `k` runs of the result.
-    ///
-    /// ```
-    /// # use intervallum::IntervalSet;
-    /// let a = IntervalSet::from([1..=2, 5..=9]);
-    /// assert_eq!(a.within(2..7), IntervalSet::from([2..=2, 5..=6]));
-    /// assert_eq!(a.gaps_within(0..=7), IntervalSet::from([0..=0, 3..=4]));
-    /// ```
-    pub fn within(&self, range: impl Piece<T>) -> Self {
-        Self(memory(self.0.intersection(&range.clamped())))
-    }
-
-    /// Returns the numbers of a range that are not members, and are in the type's range. `O(log n + k)`, where `k` runs overlap
-    /// it.
-    pub fn gaps_within(&self, range: impl Piece<T>) -> Self {
-        Self(memory(self.0.gaps_within(&range.clamped())))
-    }
-}
-
-/// The proved set below.
-impl<T: Width> IntervalSet<T> {
-    /// Returns the proved set. `from` converts both ways, without a copy.
-    pub fn as_proved(&self) -> &proved::IntervalSet<T> {
-        &self.0
-    }
-}
+/// A set of integers as [`IntervalSet`] is, for many runs that change: an edit moves the runs of one page, and not all those
+/// above it.
+///
+/// Choose it for sets of more than some 1,000 runs that are edited run by run. Below that size, and for all that reads or
+/// merges whole sets, an [`IntervalSet`] is faster. It has the calls of an [`IntervalSet`] but for `+`, `-` and `*`. Those that
+/// combine whole sets, and whose other operand may be of either kind, copy the runs of a paged set into a list first.
+///
+/// The numbers of a set, the conditions of its methods and what happens when memory runs out are those of [`IntervalSet`].
+///
+/// ```
+/// use intervallum::{IntervalSet, PagedSet};
+///
+/// let mut free = PagedSet::from(0..1_000_000u64);
+/// assert_eq!(free.take_first_fit(8), Some(0..=7));
+/// assert!(free.remove(500) && !free.contains(500) && free.insert(7));
+/// assert_eq!(free.to_string(), "{[7..499][501..999999]}");
+/// free |= IntervalSet::from([0..=3, 500..=500]);
+/// assert_eq!(free.to_set(), IntervalSet::from([0..=3, 7..=999_999]));
+/// ```
+///
+/// Each method is one call of a [`proved::PagedSet`], or some few, and links its contract. `n` is the number of runs.
+///
+/// [`proved::PagedSet`]: crate::proved::ivl_paged::PagedSet
+pub struct PagedSet<T: Width>(Option<proved::ivl_paged::PagedSet<T>>);

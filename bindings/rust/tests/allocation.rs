@@ -139,6 +139,13 @@ fn is_same(a: &Paged, b: &Paged) -> bool {
     a == b && a.interval_count() == b.interval_count() && a.iter().count() == a.interval_count() && a.size() == b.size()
 }
 
+/// A set whose runs came one by one, so that a page of 64 is full, where one that was made of a list has room for 128.
+fn grown_of(list: &Set) -> Paged {
+    let mut paged = Paged::new(Global);
+    list.iter().for_each(|run| paged.insert_interval(*run).unwrap());
+    paged
+}
+
 /// Makes an edit with one allocation after another refused, on the set that `made` makes.
 fn refused_in_turn(name: &str, made: &dyn Fn() -> Paged, edit: PagedEdit) -> (u32, u32) {
     let (old, mut want) = (made(), made());
@@ -170,12 +177,13 @@ fn each_allocation_of_a_paged_set_fails_in_turn() {
     for count in [0, 1, 4, 64, 95, 96, 97, 126, 127, 128, 192, 300, 1000] {
         let list = pairs(count, 9, 0);
         for (name, edit) in PAGED_EDITS {
-            // with room in its pages, and, as a copy has none, without
             let roomy = || Paged::of_set(&list).unwrap();
-            let exact = || roomy().try_clone().unwrap();
-            for (f, e) in [refused_in_turn(name, &roomy, edit), refused_in_turn(name, &exact, edit)] {
-                failures += f;
-                errors += e;
+            let grown = || grown_of(&list);
+            let (with_room, without) = (refused_in_turn(name, &roomy, edit), refused_in_turn(name, &grown, edit));
+            failures += with_room.0 + without.0;
+            errors += with_room.1 + without.1;
+            if count == 64 && name == "insert" {
+                assert_eq!((with_room, without), ((0, 0), (1, 1)), "only the page that is full has to grow");
             }
         }
         for at in 0.. {

@@ -1,303 +1,56 @@
-//! 100,000 random calls of the root's surface beside a `BTreeSet`, each answer compared.
-use intervallum::IntervalSet;
-use std::collections::BTreeSet;
-use std::collections::hash_map::DefaultHasher;
-use std::hash::{Hash, Hasher};
-use std::ops::RangeInclusive;
+//! Random calls of the root's surface beside a `BTreeSet`, for each kind of sets, each answer compared.
 
-type Set = IntervalSet<i8>;
-type Model = BTreeSet<i8>;
+/// Sets whose runs stand in one list.
+mod lists {
+    type Set = IntervalSet<i8>;
 
-const STEPS: u32 = 100_000;
-const WHOLE: RangeInclusive<i8> = -127..=127;
+    const STEPS: u32 = 100_000;
 
-/// A generator of random numbers: xorshift64*.
-struct Random(u64);
+    include!("beside/calls.rs");
 
-impl Random {
-    fn below(&mut self, end: u64) -> u64 {
-        self.0 ^= self.0 >> 12;
-        self.0 ^= self.0 << 25;
-        self.0 ^= self.0 >> 27;
-        (self.0.wrapping_mul(0x2545_f491_4f6c_dd1d) >> 33) % end
-    }
-
-    /// Any value of the type; -128 is outside the range.
-    fn value(&mut self) -> i8 {
-        self.below(256) as u8 as i8
-    }
-
-    fn small(&mut self) -> i8 {
-        self.below(7) as i8 - 3
-    }
-
-    fn member_range(&mut self) -> RangeInclusive<i8> {
-        let lower = self.value().max(-127);
-        lower..=lower.saturating_add(self.below(12) as i8 - 2)
-    }
-}
-
-/// The runs of a model.
-fn runs(model: &Model) -> Vec<RangeInclusive<i8>> {
-    let mut runs: Vec<RangeInclusive<i8>> = Vec::new();
-    for &x in model {
-        match runs.last_mut() {
-            Some(run) if *run.end() + 1 == x => *run = *run.start()..=x,
-            _ => runs.push(x..=x),
-        }
-    }
-    runs
-}
-
-/// What a call of arithmetic answers: the results, from the least to the greatest of each pair of runs.
-fn arithmetic(a: &Model, b: &Model, op: fn(i32, i32) -> i32) -> Option<Model> {
-    let mut all = Model::new();
-    for p in runs(a) {
-        for q in runs(b) {
-            let corners = [*p.start(), *p.end()].map(|x| [*q.start(), *q.end()].map(|y| op(x.into(), y.into())));
-            let (least, greatest) = (corners.iter().flatten().min()?, corners.iter().flatten().max()?);
-            if *least < -127 || *greatest > 127 {
-                return None;
-            }
-            all.extend(*least as i8..=*greatest as i8);
-        }
-    }
-    Some(all)
-}
-
-/// The lowest `count` consecutive members from a value on.
-fn fit(model: &Model, from: i8, count: u8) -> Option<RangeInclusive<i8>> {
-    let rest = runs(&model.range(from..).copied().collect());
-    let run = rest.into_iter().find(|run| run.end().abs_diff(*run.start()) >= count - 1)?;
-    Some(*run.start()..=(i16::from(*run.start()) + i16::from(count) - 1) as i8)
-}
-
-/// The lowest `count` numbers of the shortest run that has so many.
-fn best_fit(model: &Model, count: u8) -> Option<RangeInclusive<i8>> {
-    let width = |run: &RangeInclusive<i8>| run.end().abs_diff(*run.start());
-    let run = runs(model).into_iter().filter(|run| width(run) >= count - 1).min_by_key(width)?;
-    Some(*run.start()..=(i16::from(*run.start()) + i16::from(count) - 1) as i8)
-}
-
-fn assert_same(set: &Set, model: &Model, step: u32, what: &str) {
-    let wanted = runs(model);
-    let is_same = set.len() == model.len() && set.interval_count() == wanted.len() && set.runs().eq(wanted);
-    assert!(is_same, "step {step}, {what}: {set:?} beside {model:?}");
-}
-
-/// Edits the first pair; returns the name of the call.
-fn edit(random: &mut Random, set: &mut Set, model: &mut Model) -> &'static str {
-    let (x, range) = (random.value(), random.member_range());
-    match random.below(14) {
-        0 | 1 => {
-            let is_new = (x != -128).then(|| model.insert(x));
-            assert_eq!(set.checked_insert(x), is_new);
-            "insert"
-        }
-        2 => {
-            let member = *WHOLE.start().max(&x);
-            assert_eq!(set.insert(member), model.insert(member));
-            "insert"
-        }
-        3 => {
-            assert_eq!(set.remove(x), model.remove(&x));
-            "remove"
-        }
-        4 | 5 => {
-            set.insert_interval(range.clone());
-            model.extend(range);
-            "insert_interval"
-        }
-        6 => {
-            set.insert_interval((x.max(-127), *range.end()));
-            model.extend(x.max(-127)..=*range.end());
-            "insert_interval of a pair"
-        }
-        7 => {
-            set.remove_interval(x..*range.end());
-            model.retain(|y| !(x..*range.end()).contains(y));
-            "remove_interval"
-        }
-        8 => {
-            set.extend([range.clone(), 3..=4]);
-            model.extend(range.chain(3..=4));
-            "extend"
-        }
-        9 => {
-            let values = [x, random.value(), random.value()];
-            let can = values.iter().all(|x| WHOLE.contains(x));
-            assert_eq!(set.checked_extend(values), can.then(|| model.extend(values)));
-            "checked_extend"
-        }
-        10 => {
-            assert_eq!((set.pop_first(), set.pop_last()), (model.pop_first(), model.pop_last()));
-            "pop"
-        }
-        11 => {
-            let count = random.below(9) as u8 + 1;
-            let taken = fit(model, -128, count);
-            assert_eq!(set.take_first_fit(count), taken);
-            model.retain(|y| taken.as_ref().is_none_or(|run| !run.contains(y)));
-            "take_first_fit"
-        }
-        12 => {
-            let (mut above, wanted) = (set.split_off(x), model.split_off(&x));
-            assert_eq!(runs(&wanted), above.runs().collect::<Vec<_>>());
-            // most of the members come back
-            above.remove_interval(x..=x.saturating_add(3));
-            *set |= above;
-            model.extend(wanted.into_iter().filter(|y| *y > x.saturating_add(3)));
-            "split_off"
-        }
-        _ => {
-            if random.below(20) == 0 {
-                set.clear();
-                model.clear();
-            }
-            "clear"
-        }
-    }
-}
-
-/// A set made of two, by method and by operator, and its model; none where a condition is broken.
-fn make(random: &mut Random, a: &Set, b: &Set, m: &Model, n: &Model) -> (&'static str, Option<(Set, Model)>) {
-    let (x, small, range) = (random.value(), random.small(), random.member_range());
-    let only = |x: i8| Model::from([x]);
-    // half of the results of arithmetic lie in the range
-    let reach = if random.below(2) == 0 { -11..=11 } else { WHOLE };
-    let near = |model: &Model| model.range(reach.clone()).copied().collect::<Model>();
-    let (p, q, u, v) = (a.within(reach.clone()), b.within(reach.clone()), near(m), near(n));
-    let both = |set: Option<Set>, model: Option<Model>, what: &str| {
-        assert_eq!(set.is_some(), model.is_some(), "{what}");
-        set.zip(model)
-    };
-    let count = random.below(6) as usize;
-    let (sets, models) = ([a, b, &p, &q, a], [m, n, &u, &v, m]);
-    let many = (sets.into_iter().take(count), models.into_iter().take(count));
-    match random.below(16) {
-        0 => ("union", Some((a.union(b), m | n))),
-        1 => ("|", Some((a | b, m | n))),
-        2 => ("intersection", Some((a.intersection(b), m & n))),
-        3 => ("&", Some((a.clone() & b.clone(), m & n))),
-        4 => ("difference", Some((a.difference(b), m - n))),
-        5 => ("symmetric_difference", Some((a.symmetric_difference(b), m ^ n))),
-        6 => ("^", Some((a.clone() ^ b, m ^ n))),
-        7 => ("!", Some((!a, WHOLE.filter(|x| !m.contains(x)).collect()))),
-        8 => (
-            "within",
-            Some((a.within(x..*range.end()), m.iter().copied().filter(|y| (x..*range.end()).contains(y)).collect())),
-        ),
-        9 => ("gaps_within", Some((a.gaps_within(range.clone()), range.filter(|y| !m.contains(y)).collect()))),
-        10 => ("+", both(p.checked_add(&q), arithmetic(&u, &v, |x, y| x + y), "+")),
-        11 => ("-", both(p.checked_sub(&q), arithmetic(&u, &v, |x, y| x - y), "-")),
-        12 => ("*", both(p.checked_mul(&q), arithmetic(&u, &v, |x, y| x * y), "*")),
-        13 => ("union_of", Some((Set::union_of(many.0), many.1.fold(Model::new(), |all, one| &all | one)))),
-        14 => (
-            "intersection_of",
-            Some((Set::intersection_of(many.0), many.1.fold(WHOLE.collect(), |all: Model, one| &all & one))),
-        ),
-        _ => match random.below(3) {
-            0 => ("+ value", both(p.checked_add_value(small), arithmetic(&u, &only(small), |x, y| x + y), "+ value")),
-            1 => ("- value", both(p.checked_sub_value(small), arithmetic(&u, &only(small), |x, y| x - y), "- value")),
-            _ => ("* value", both(p.checked_mul_value(small), arithmetic(&u, &only(small), |x, y| x * y), "* value")),
-        },
-    }
-}
-
-fn hash(set: &Set) -> u64 {
-    let mut hasher = DefaultHasher::new();
-    set.hash(&mut hasher);
-    hasher.finish()
-}
-
-/// What a set is asked, with a value and a range.
-fn ask(random: &mut Random, set: &Set, model: &Model) {
-    let (x, range, count) = (random.value(), random.member_range(), random.below(9) as u8);
-    assert_eq!(set.contains(x), model.contains(&x));
-    assert_eq!(set.next_from(x), model.range(x..).next().copied());
-    assert_eq!(set.previous_to(x), model.range(..=x).next_back().copied());
-    assert_eq!(set.run_at(x), runs(model).into_iter().find(|run| run.contains(&x)));
-    assert_eq!(usize::from(set.rank(x)), model.range(..x).count());
-    assert_eq!(set.nth(count), model.iter().copied().nth(count.into()));
-    assert_eq!(set.includes(range.clone()), range.clone().all(|y| model.contains(&y)));
-    assert_eq!(set.overlaps(range.clone()), range.clone().any(|y| model.contains(&y)));
-    assert_eq!(set.checked_first_fit(count), (count > 0).then(|| fit(model, -128, count)));
-    assert_eq!(set.checked_first_fit_from(x, count), (count > 0).then(|| fit(model, x, count)));
-    assert_eq!(set.checked_best_fit(count), (count > 0).then(|| best_fit(model, count)));
-    let met = runs(model).into_iter().filter(|run| run.clone().any(|y| range.contains(&y)));
-    assert!(set.runs_within(range.clone()).eq(met));
-    assert_eq!(usize::from(set.size_within(range.clone())), range.clone().filter(|y| model.contains(y)).count());
-    assert_eq!((set.checked_lower(), set.checked_upper()), (model.first().copied(), model.last().copied()));
-    assert_eq!((set.first(), set.last()), (model.first().copied(), model.last().copied()));
-    assert_eq!(set.hull(), model.first().zip(model.last()).map(|(least, greatest)| *least..=*greatest));
-    assert_eq!((set.is_empty(), set.is_singleton()), (model.is_empty(), model.len() == 1));
-}
-
-/// Iteration from both ends, by value, and over a range; sets that are made again from what was read.
-fn iterate(random: &mut Random, set: &Set, model: &Model) {
-    let (range, from_end) = (random.member_range(), random.below(2) == 0);
-    let (mut left, mut wanted) = (set.clone().into_iter(), model.clone().into_iter());
-    let (mut part, end) = (set.range(range.clone()), *range.end());
-    let mut part_wanted: Vec<i8> = range.filter(|x| model.contains(x)).collect();
-    for _ in 0..random.below(300) {
-        let one = if from_end { (left.next_back(), wanted.next_back()) } else { (left.next(), wanted.next()) };
-        assert_eq!(one.0, one.1);
-        if random.below(2) == 0 {
-            assert_eq!(part.next(), (!part_wanted.is_empty()).then(|| part_wanted.remove(0)));
-        } else {
-            assert_eq!(part.next_back(), part_wanted.pop());
-        }
-    }
-    assert!(left.eq(wanted) && part.eq(part_wanted), "up to {end}");
-    assert!(set.iter().eq(model.iter().copied()) && model.iter().all(|x| set.contains(x)));
-    let again: Set = set.iter().collect();
-    let by_runs: Set = set.runs().rev().collect();
-    let by_reference: Set = model.iter().collect();
-    assert!(again == *set && by_runs == *set && by_reference == *set && hash(&again) == hash(&by_runs));
-}
-
-fn compare(a: &Set, b: &Set, m: &Model, n: &Model) {
-    assert_eq!(a.overlap(b), !m.is_disjoint(n));
-    assert_eq!(a.is_disjoint(b), m.is_disjoint(n));
-    assert_eq!(a.is_subset(b), m.is_subset(n));
-    assert_eq!(a.is_superset(b), m.is_superset(n));
-    assert_eq!(a.is_proper_subset(b), m.is_subset(n) && m != n);
-    assert_eq!(a.is_proper_superset(b), m.is_superset(n) && m != n);
-    assert_eq!(usize::from(a.intersection_size(b)), (m & n).len());
-    assert_eq!(usize::from(a.union_size(b)), (m | n).len());
-    assert_eq!(usize::from(a.difference_size(b)), (m - n).len());
-    assert_eq!(a == b, m == n);
-    assert_eq!(
-        format!("{a:?}"),
-        format!("{{{}}}", runs(m).iter().map(|r| format!("{r:?}")).collect::<Vec<_>>().join(", "))
-    );
-}
-
-#[test]
-fn random_calls_answer_as_a_btree_set() {
-    let mut random = Random(0x9e37_79b9_7f4a_7c15);
-    let (mut sets, mut models) = (vec![Set::empty(); 3], vec![Model::new(); 3]);
-    for step in 0..STEPS {
-        let (i, j) = (random.below(3) as usize, random.below(3) as usize);
-        let what = match random.below(5) {
-            0 | 1 => edit(&mut random, &mut sets[i], &mut models[i]),
-            2 => {
-                let (what, made) = make(&mut random, &sets[i], &sets[j], &models[i], &models[j]);
-                if let Some((set, model)) = made {
-                    (sets[i], models[i]) = (set, model);
+    /// What a call of arithmetic answers: the results, from the least to the greatest of each pair of runs.
+    fn arithmetic(a: &Model, b: &Model, op: fn(i32, i32) -> i32) -> Option<Model> {
+        let mut all = Model::new();
+        for p in runs(a) {
+            for q in runs(b) {
+                let corners = [*p.start(), *p.end()].map(|x| [*q.start(), *q.end()].map(|y| op(x.into(), y.into())));
+                let (least, greatest) = (corners.iter().flatten().min()?, corners.iter().flatten().max()?);
+                if *least < -127 || *greatest > 127 {
+                    return None;
                 }
-                what
+                all.extend(*least as i8..=*greatest as i8);
             }
-            3 => {
-                ask(&mut random, &sets[i], &models[i]);
-                compare(&sets[i], &sets[j], &models[i], &models[j]);
-                "a question"
-            }
-            _ => {
-                iterate(&mut random, &sets[i], &models[i]);
-                "iteration"
-            }
+        }
+        Some(all)
+    }
+
+    /// A set computed of the members of one or two, and its model; none where a condition is broken.
+    fn computed(random: &mut Random, [p, q]: [&Set; 2], [u, v]: [&Model; 2]) -> (&'static str, Option<(Set, Model)>) {
+        let small = random.below(7) as i8 - 3;
+        let only = Model::from([small]);
+        let (what, set, model) = match random.below(6) {
+            0 => ("+", p.checked_add(q), arithmetic(u, v, |x, y| x + y)),
+            1 => ("-", p.checked_sub(q), arithmetic(u, v, |x, y| x - y)),
+            2 => ("*", p.checked_mul(q), arithmetic(u, v, |x, y| x * y)),
+            3 => ("+ value", p.checked_add_value(small), arithmetic(u, &only, |x, y| x + y)),
+            4 => ("- value", p.checked_sub_value(small), arithmetic(u, &only, |x, y| x - y)),
+            _ => ("* value", p.checked_mul_value(small), arithmetic(u, &only, |x, y| x * y)),
         };
-        assert_same(&sets[i], &models[i], step, what);
+        assert_eq!(set.is_some(), model.is_some(), "{what}");
+        (what, set.zip(model))
+    }
+}
+
+/// Sets whose runs stand in pages; here in one page.
+mod pages {
+    type Set = PagedSet<i8>;
+
+    const STEPS: u32 = 20_000;
+
+    include!("beside/calls.rs");
+
+    /// Nothing is computed of the members of such sets.
+    fn computed(_: &mut Random, [p, _]: [&Set; 2], [u, _]: [&Model; 2]) -> (&'static str, Option<(Set, Model)>) {
+        ("a copy", Some((p.clone(), u.clone())))
     }
 }

@@ -1,7 +1,7 @@
 //! What a broken condition gets: at the root, in every build, a panic that names the call, the condition and the values, or
 //! `None`; in the proved face, in debug builds, a panic that names both.
 use intervallum::proved::Global;
-use intervallum::proved::{self, Interval, ops::*, width::Width};
+use intervallum::proved::{self, Interval, ops::*, width::SizeNumber, width::Width};
 use intervallum::{IntervalSet, PagedSet};
 use std::panic::{UnwindSafe, catch_unwind};
 
@@ -40,6 +40,11 @@ fn the_root_panics_with_the_values() {
         set().insert_interval(255) => "IntervalSet::insert_interval(255): the numbers must be from 0 to 254";
         set().first_fit(0) => "IntervalSet::first_fit(0): the count must be above 0";
         set().first_fit_from(12, 0) => "IntervalSet::first_fit_from(12, 0): the count must be above 0";
+        set().best_fit(0) => "IntervalSet::best_fit(0): the count must be above 0";
+        set().take_first_fit(0) => "IntervalSet::take_first_fit(0): the count must be above 0";
+        Set::from(255..) => "IntervalSet::from(255): the numbers must be from 0 to 254";
+        Small::from(..=-128) => "IntervalSet::from(-128): the numbers must be from -127 to 127";
+        Set::from(vec![3..=4, 9..=255]) => "IntervalSet::from(9..=255): the numbers must be from 0 to 254";
         set().extend([1, 255]) => "IntervalSet::extend(255): the numbers must be from 0 to 254";
         [3..=4, 0..=255].into_iter().collect::<Set>() => "IntervalSet::from_iter(0..=255): the numbers must be from 0 to 254";
         Set::from([(1, 255)]) => "IntervalSet::from(1..=255): the numbers must be from 0 to 254";
@@ -88,7 +93,7 @@ fn each_panic_has_a_checked_form() {
     assert!(Set::checked_singleton(255).is_none() && Set::checked_singleton(254).is_some());
     assert!(Set::empty().checked_lower().is_none() && Set::empty().checked_upper().is_none());
     assert_eq!((set.checked_insert(255), set.checked_insert(20)), (None, Some(false)));
-    assert_eq!((set.checked_insert_interval(250..=255), set.checked_insert_interval(9..=9)), (None, Some(())));
+    assert_eq!((set.checked_insert_interval(250..=255), set.checked_insert_interval(9..=9)), (None, Some(true)));
     assert_eq!((set.checked_first_fit(0), set.checked_first_fit(12)), (None, Some(Some(9..=20))));
     assert_eq!((set.checked_first_fit_from(12, 0), set.checked_first_fit_from(12, 10)), (None, Some(None)));
     assert_eq!((set.checked_extend([1, 255]), set.checked_extend([8])), (None, Some(())));
@@ -148,6 +153,8 @@ fn debug_builds_test_the_conditions_of_the_proved_face() {
         set().symmetric_difference(&255) => "the condition of `insert` is broken: Interval::in_range(value, value)";
         set().first_fit(0) => "the condition of `first_fit` is broken: count.number() > 0";
         set().first_fit_from(3, 0) => "the condition of `first_fit_from` is broken: count.number() > 0";
+        set().best_fit(0) => "the condition of `best_fit` is broken: count.number() > 0";
+        set().take_first_fit(0) => "the condition of `take_first_fit` is broken: count.number() > 0";
         set() + 235 => "the condition of `add` is broken: self.fits_add(&rhs)";
         &set() - &set() => "the condition of `sub` is broken: self.fits_sub(rhs)";
         set() * set() => "the condition of `mul` is broken: self.fits_mul(&rhs)";
@@ -158,4 +165,99 @@ fn debug_builds_test_the_conditions_of_the_proved_face() {
         Network::<u8>::new(Global).require(Constraint { x: 0, y: 0, z: 0 }) => "the condition of `require` is broken: constraint.distinct()";
         Store::<u8>::new(Global, vec![set()].into()).post_all(&[Post::Require(Constraint { x: 0, y: 0, z: 0 })]) => "the condition of `post_all` is broken: posts.iter().all(|post| match post { Post::Require(c) => c.distinct(), Post::Restrict(..) => true })";
     }
+}
+
+/// A bound and a size whose arithmetic is that of the traits.
+#[derive(Clone, Copy, PartialEq, Eq, PartialOrd, Ord)]
+struct Digit(u8);
+
+impl Width for Digit {
+    type Output = Digit;
+
+    fn min_value() -> Digit {
+        Digit(0)
+    }
+
+    fn max_value() -> Digit {
+        Digit(8)
+    }
+
+    fn number(self) -> i128 {
+        self.0.into()
+    }
+
+    fn from_number(number: i128) -> Option<Digit> {
+        u8::try_from(number).ok().filter(|digit| *digit < 9).map(Digit)
+    }
+}
+
+impl SizeNumber for Digit {
+    fn number(self) -> u128 {
+        self.0.into()
+    }
+
+    fn from_number(number: u128) -> Option<Digit> {
+        u8::try_from(number).ok().filter(|digit| *digit < 10).map(Digit)
+    }
+}
+
+#[test]
+#[cfg(debug_assertions)]
+fn debug_builds_test_the_arithmetic_of_bounds_and_sizes() {
+    panics! {
+        u8::width(&3, &255) => "the condition of `width` is broken: <Self as Width>::min_value() <= *lower && lower <= upper && *upper <= <Self as Width>::max_value()";
+        i8::width(&-128, &0) => "the condition of `width` is broken: <Self as Width>::min_value() <= *lower && lower <= upper && *upper <= <Self as Width>::max_value()";
+        Digit::width(&Digit(3), &Digit(2)) => "the condition of `width` is broken: Self::min_value() <= *lower && lower <= upper && *upper <= Self::max_value()";
+        Width::add_in_range(127i8, 1) => "the condition of `add_in_range` is broken: Width::checked_add(self, other).is_some()";
+        Width::sub_in_range(0u8, 1) => "the condition of `sub_in_range` is broken: Width::checked_sub(self, other).is_some()";
+        Width::mul_in_range(127u8, 3) => "the condition of `mul_in_range` is broken: Width::checked_mul(self, other).is_some()";
+        Width::add_in_range(Digit(8), Digit(1)) => "the condition of `add_in_range` is broken: self.checked_add(other).is_some()";
+        Width::sub_in_range(Digit(0), Digit(1)) => "the condition of `sub_in_range` is broken: self.checked_sub(other).is_some()";
+        Width::mul_in_range(Digit(3), Digit(3)) => "the condition of `mul_in_range` is broken: self.checked_mul(other).is_some()";
+        SizeNumber::add_in_range(255u8, 1) => "the condition of `add_in_range` is broken: SizeNumber::checked_add(self, other).is_some()";
+        SizeNumber::add_in_range(Digit(9), Digit(1)) => "the condition of `add_in_range` is broken: self.checked_add(other).is_some()";
+    }
+}
+
+#[test]
+#[cfg(debug_assertions)]
+fn debug_builds_test_the_conditions_of_pages_and_searches() {
+    use intervallum::proved::ivl_paged::PagedSet;
+    use intervallum::proved::ivl_search::search::{Limits, count, greatest, least, solutions};
+    use intervallum::proved::ivl_store::store::Constraint;
+
+    let paged = || PagedSet::of_set(&proved::IntervalSet::new(Global, 10u8, 20).unwrap()).unwrap();
+    let domains = || [proved::IntervalSet::new(Global, 0, 9).unwrap()];
+    let twice = [Constraint { x: 0, y: 0, z: 0 }];
+    let limits = || Limits { solutions: 1, nodes: 9 };
+    panics! {
+        paged().first_fit(0) => "the condition of `first_fit` is broken: crate::proved::ivl_interval::width::SizeNumber::number(count) > 0";
+        paged().first_fit_from(3, 0) => "the condition of `first_fit_from` is broken: crate::proved::ivl_interval::width::SizeNumber::number(count) > 0";
+        paged().take_first_fit(0) => "the condition of `take_first_fit` is broken: crate::proved::ivl_interval::width::SizeNumber::number(count) > 0";
+        solutions(Global, &domains(), &twice, limits()) => "the condition of `solutions` is broken: all_distinct(constraints)";
+        count(Global, &domains(), &twice, limits()) => "the condition of `count` is broken: all_distinct(constraints)";
+        least(Global, &domains(), &twice, 0, limits()) => "the condition of `least` is broken: all_distinct(constraints)";
+        greatest(Global, &domains(), &twice, 0, limits()) => "the condition of `greatest` is broken: all_distinct(constraints)";
+    }
+}
+
+#[test]
+#[cfg(all(debug_assertions, target_pointer_width = "64"))]
+fn debug_builds_test_lists_of_runs() {
+    use intervallum::proved::ivl_buffers::run::RunI64;
+    use intervallum::proved::ivl_buffers::{merging, reading, run_lists};
+
+    let pair = |lower, upper| RunI64 { lower, upper };
+    let (sorted, unsorted, touching) = ([pair(1, 2), pair(5, 6)], [pair(5, 6), pair(1, 3)], [pair(1, 2), pair(3, 4)]);
+    let out = || [pair(0, 0); 8];
+    panics! {
+        merging::intersection(&sorted, &unsorted, &mut out()) => "the condition of `intersection` is broken: crate::proved::ivl_buffers::run_lists::is_run_list(a) && crate::proved::ivl_buffers::run_lists::is_run_list(b)";
+        merging::difference(&unsorted, &sorted, &mut out()) => "the condition of `difference` is broken: crate::proved::ivl_buffers::run_lists::is_run_list(a) && crate::proved::ivl_buffers::run_lists::is_run_list(b)";
+        merging::complement(&touching, &mut out()) => "the condition of `complement` is broken: crate::proved::ivl_buffers::run_lists::is_run_list(runs)";
+        merging::union(&unsorted, &sorted, &mut out()) => "the condition of `union` is broken: crate::proved::ivl_buffers::run_lists::is_run_list(a) && crate::proved::ivl_buffers::run_lists::is_run_list(b)";
+        merging::symmetric_difference(&sorted, &touching, &mut out()) => "the condition of `symmetric_difference` is broken: crate::proved::ivl_buffers::run_lists::is_run_list(a) && crate::proved::ivl_buffers::run_lists::is_run_list(b)";
+        run_lists::leaves_free(pair(i64::MIN, 0), pair(5, 6)) => "the condition of `leaves_free` is broken: is_run_list(&[last]) && is_run_list(&[run])";
+        reading::set_of(Global, &[pair(i64::MIN, 0)]) => "the condition of `set_of` is broken: are_inside(runs)";
+    }
+    assert_eq!(merging::union(&sorted, &sorted, &mut out()), 2);
 }

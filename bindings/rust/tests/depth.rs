@@ -1,17 +1,23 @@
-//! Expressions and searches as deep as a stack of 8 MB bears with room to spare, and what is said of them.
+//! Expressions as deep as a stack of 8 MB bears with room to spare, and searches far deeper on a small one.
 use intervallum::proved::examples::*;
 use intervallum::proved::intervallum::interval_set::IntervalSet;
 use intervallum::proved::ivl_expr::{EvalFault, Expr, eval};
-use intervallum::proved::ivl_search::search::{End, Limits, solutions};
+use intervallum::proved::ivl_search::search::{End, Limits, count, greatest, least, solutions};
 
 const LEVELS: usize = 4_000;
-// a search cuts so often on one branch, and no more
-const CUTS: usize = 4_000;
+// a free variable of i64 is cut into halves 58 times, and its least member is cut off the last 63 or 64
+const CUTS_OF_ONE: usize = 59;
+const FREE: usize = 1_700;
+const CUTS: usize = CUTS_OF_ONE * FREE;
 
 /// `x0 + 1 + 1 ..`, or `1 + (1 + (.. x0))`.
 fn nested(is_left: bool) -> Expr<i64> {
+    nested_by(is_left, LEVELS)
+}
+
+fn nested_by(is_left: bool, levels: usize) -> Expr<i64> {
     let mut expr = Expr::Var(0);
-    for _ in 0..LEVELS {
+    for _ in 0..levels {
         let one = Box::new(Global, Expr::Const(1)).unwrap();
         let other = Box::new(Global, expr).unwrap();
         expr = if is_left { Expr::Add(other, one) } else { Expr::Add(one, other) };
@@ -19,8 +25,12 @@ fn nested(is_left: bool) -> Expr<i64> {
     expr
 }
 
+fn on_a_stack_of(bytes: usize, run: impl FnOnce() + Send + 'static) {
+    std::thread::Builder::new().stack_size(bytes).spawn(run).unwrap().join().unwrap();
+}
+
 fn on_a_stack_of_8_mb(run: impl FnOnce() + Send + 'static) {
-    std::thread::Builder::new().stack_size(8 << 20).spawn(run).unwrap().join().unwrap();
+    on_a_stack_of(8 << 20, run);
 }
 
 #[test]
@@ -36,6 +46,20 @@ fn deep_expressions_are_evaluated_and_dropped() {
     }
 }
 
+/// What the docs of the type say that the 2 MB of a thread bear, in a build without optimization.
+#[test]
+fn a_thousand_levels_take_the_stack_of_a_thread() {
+    on_a_stack_of(2 << 20, || {
+        let sets = [IntervalSet::new(Global, 5, 9).unwrap()];
+        for is_left in [true, false] {
+            assert!(
+                eval(Global, &nested_by(is_left, 1_000), &sets).unwrap()
+                    == IntervalSet::new(Global, 1_005, 1_009).unwrap()
+            );
+        }
+    });
+}
+
 #[test]
 fn a_missing_variable_is_found_at_the_bottom() {
     for is_left in [true, false] {
@@ -45,14 +69,32 @@ fn a_missing_variable_is_found_at_the_bottom() {
     }
 }
 
+/// One branch of so many cuts: no constraint narrows any of these, and a cut narrows one alone.
+fn free_variables(count: usize) -> Vec<IntervalSet<i64>> {
+    (0..count).map(|_| IntervalSet::new(Global, i64::MIN + 1, i64::MAX).unwrap()).collect()
+}
+
 #[test]
-fn a_branch_of_too_many_cuts_ends_a_search() {
-    on_a_stack_of_8_mb(|| {
-        let domains: Vec<_> = (0..=CUTS).map(|_| IntervalSet::new(Global, 0_i64, 1).unwrap()).collect();
-        let limits = Limits { solutions: 1, nodes: 1_000_000 };
-        let found = solutions(Global, &domains[..CUTS], &[], limits).unwrap();
-        assert!(matches!(found.end, End::Solutions) && found.points.len() == 1);
-        let found = solutions(Global, &domains, &[], limits).unwrap();
-        assert!(matches!(found.end, End::Nodes) && found.points.is_empty());
+fn a_branch_of_100_000_cuts_takes_a_small_stack() {
+    on_a_stack_of(512 << 10, || {
+        let limits = Limits { solutions: 1, nodes: CUTS as u64 + 1 };
+        let found = solutions(Global, &free_variables(FREE), &[], limits).unwrap();
+        assert!(matches!(found.end, End::Nodes) && found.points.len() == 1);
+        assert!(found.points[0].as_slice() == [i64::MIN + 1; FREE]);
+        // a tenth of that for `count`, which is the same search
+        let limits = Limits { solutions: 3, nodes: CUTS as u64 / 10 + 5 };
+        assert!(matches!(count(Global, &free_variables(FREE / 10), &[], limits).unwrap(), (3, End::Nodes)));
+    });
+}
+
+#[test]
+fn the_best_solution_at_the_end_of_a_branch_of_100_000_cuts_takes_a_small_stack() {
+    on_a_stack_of(512 << 10, || {
+        let limits = Limits { solutions: 1_000, nodes: 2 * CUTS as u64 };
+        let best = greatest(Global, &free_variables(FREE), &[], 7, limits).unwrap();
+        assert!(matches!(best.end, End::All) && best.point.unwrap().as_slice() == [i64::MAX; FREE]);
+        // a tenth of that for `least`
+        let best = least(Global, &free_variables(FREE / 10), &[], 7, limits).unwrap();
+        assert!(matches!(best.end, End::All) && best.point.unwrap().as_slice() == [i64::MIN + 1; FREE / 10]);
     });
 }

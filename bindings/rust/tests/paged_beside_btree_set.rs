@@ -79,8 +79,8 @@ fn edit(random: &mut Random, set: &mut Set, model: &mut Model) -> &'static str {
         }
         4 => {
             set.extend([range.clone()]);
-            assert_eq!(set.checked_insert_interval(value), Some(()));
-            model.extend(range.chain([value]));
+            model.extend(range);
+            assert_eq!(set.checked_insert_interval(value), Some(model.insert(value)));
             "extend"
         }
         step if step < 15 => {
@@ -109,6 +109,36 @@ fn ask(set: &Set, model: &Model, value: i16) {
     assert_eq!(set.first_fit_from(value, 4), fit(model, value, 4));
 }
 
+/// Compares what goes by more than one page with the answers of a list of the same runs.
+fn ask_of_parts(random: &mut Random, set: &Set, list: &IntervalSet<i16>) {
+    for _ in 0..20 {
+        let (a, b) = (random.value(), random.value());
+        let part = a.min(b)..=a.max(b).saturating_add(random.below(3) as i16);
+        let part = if random.below(4) == 0 { a..=a.saturating_add(3) } else { part };
+        assert_eq!((set.includes(&part), set.overlaps(&part)), (list.includes(&part), list.overlaps(&part)));
+        assert_eq!(set.size_within(&part), list.size_within(&part));
+        assert!(set.runs_within(&part).eq(list.runs_within(&part)));
+        assert!(set.runs_within(&part).rev().eq(list.runs_within(&part).rev()));
+        assert!(set.range(&part).eq(list.range(&part)) && set.range(&part).rev().eq(list.range(&part).rev()));
+        assert_eq!(set.range(&part).count(), list.range(&part).count());
+        assert_eq!(set.within(&part), Set::from(list.within(&part)));
+        assert_eq!(set.gaps_within(&part), Set::from(list.gaps_within(&part)));
+        let count = random.below(12) as u16 + 1;
+        assert_eq!(set.best_fit(count), list.best_fit(count));
+        let (mut left, mut list_left) = (set.clone(), list.clone());
+        assert_eq!((left.split_off(a).to_set(), left.to_set()), (list_left.split_off(a), list_left));
+        let (few, many) = (list.within(&part), list.within(b..));
+        assert_eq!((set | &few, set & &many), (Set::from(list | &few), Set::from(list & &many)));
+        assert_eq!(
+            (set ^ Set::from(&many), set.difference(&few)),
+            (Set::from(list ^ &many), Set::from(list.difference(&few)))
+        );
+        assert!(set.is_superset(&few) && many.is_subset(set) && Set::from(&many).is_subset(list));
+        assert_eq!(set.is_disjoint(&Set::from(&many)), list.is_disjoint(&many));
+        assert_eq!(few.overlap(&set.gaps_within(..)), list.overlap(&!list));
+    }
+}
+
 /// Compares the whole of both.
 fn assert_same(set: &Set, model: &Model) {
     let list: IntervalSet<i16> = model.iter().collect();
@@ -129,7 +159,7 @@ fn assert_same(set: &Set, model: &Model) {
 
 #[test]
 fn random_calls_agree_with_a_tree() {
-    let (mut random, mut set, mut model) = (Random(11), Set::new(), Model::new());
+    let (mut random, mut set, mut model) = (Random(11), Set::empty(), Model::new());
     let mut most = 0;
     for step in 0..STEPS {
         let call = edit(&mut random, &mut set, &mut model);
@@ -138,6 +168,7 @@ fn random_calls_agree_with_a_tree() {
         most = most.max(set.interval_count());
         if step % 2_500 == 0 {
             assert_same(&set, &model);
+            ask_of_parts(&mut random, &set, &set.to_set());
         }
     }
     assert_same(&set, &model);

@@ -2,11 +2,13 @@
 use intervallum::proved::Global;
 use intervallum::proved::interval_set::{IntervalSet, ToIntervalSet};
 use intervallum::proved::ivl_search::search::{
-    End, Limits, SearchFault, all_distinct, count, greatest, least, solutions, try_solutions,
+    Best, End, Limits, SearchFault, all_distinct, count, greatest, least, solutions, try_solutions,
 };
 use intervallum::proved::ivl_store::store::Constraint;
 use intervallum::proved::ops::Contains;
 use std::collections::BTreeSet;
+
+type Search = fn(Global, &[IntervalSet<i64>], &[Constraint], usize, Limits) -> Result<Best<i64>, SearchFault>;
 
 struct Instance {
     domains: Vec<IntervalSet<i64>>,
@@ -103,26 +105,48 @@ fn best_of_small_instances() {
 
 #[test]
 fn best_within_limits() {
-    let Instance { domains, constraints } = instance("domain 0 9\ndomain 0 9\ndomain 0 9\nsum 0 1 2");
-    let best = |solutions, nodes| {
-        let limits = Limits { solutions, nodes };
-        let best = greatest(Global, &domains, &constraints, 2, limits).unwrap();
-        (best.point.map(|point| point[2]), best.end)
+    // z = 9 - y, and y is cut first: each half of the numbers of z has a solution, and a better one
+    let Instance { domains, constraints } = instance("domain 0 9\ndomain 9 9\ndomain 0 9\nsum 2 0 1");
+    for (search, optimum) in [(least as Search, 0), (greatest, 9)] {
+        let best = |solutions, nodes| {
+            let limits = Limits { solutions, nodes };
+            let best = search(Global, &domains, &constraints, 2, limits).unwrap();
+            (best.point.map(|point| point[2]), best.end)
+        };
+        assert_eq!(best(0, 1_000), (None, End::Solutions));
+        assert_eq!(best(100, 0), (None, End::Nodes));
+        assert_eq!(best(100, 1_000), (Some(optimum), End::All));
+        // each solution that is found on the way is better than the one before it
+        let distances: Vec<i64> = (1..100)
+            .map(|solutions| best(solutions, 1_000))
+            .take_while(|best| best.1 == End::Solutions)
+            .map(|best| (best.0.unwrap() - optimum).abs())
+            .collect();
+        assert!(distances.len() > 1 && distances.is_sorted_by(|one, next| one > next));
+        // the nodes of all searches are counted together
+        let last = (1..1_000).find(|nodes| best(100, *nodes).1 == End::All).unwrap();
+        assert_eq!(last, 9);
+        // and the best solution that was found is kept where they are used up
+        let found: Vec<_> = (0..last).map(|nodes| best(100, nodes)).collect();
+        assert!(found.iter().all(|best| best.1 == End::Nodes));
+        let distances_then: Vec<i64> =
+            found.iter().map(|best| best.0.map_or(10, |number| (number - optimum).abs())).collect();
+        assert!(distances_then.is_sorted_by(|one, next| one >= next));
+        assert!(distances.iter().all(|distance| distances_then.contains(distance)));
+    }
+}
+
+/// Variables without a constraint, whose domains are the whole range.
+#[test]
+fn the_greatest_number_takes_as_many_nodes_as_the_least() {
+    let whole = format!("domain {} {}\n", -i64::MAX, i64::MAX);
+    let Instance { domains, constraints } = instance(&whole.repeat(20));
+    let nodes = |search: Search| {
+        let ends = |nodes| search(Global, &domains, &constraints, 3, Limits { solutions: 2, nodes }).unwrap().end;
+        (1..2_000).find(|nodes| ends(*nodes) == End::All)
     };
-    assert_eq!(best(0, 1_000), (None, End::Solutions));
-    assert_eq!(best(100, 0), (None, End::Nodes));
-    assert_eq!(best(100, 1_000), (Some(9), End::All));
-    // each solution that is found on the way is better than the one before it
-    let numbers: Vec<Option<i64>> = (1..100)
-        .map(|solutions| best(solutions, 1_000))
-        .take_while(|best| best.1 == End::Solutions)
-        .map(|best| best.0)
-        .collect();
-    assert!(numbers.len() > 1 && numbers.is_sorted_by(|one, next| one < next));
-    // the nodes of all searches are counted together
-    let last = (1..1_000).find(|nodes| best(100, *nodes).1 == End::All).unwrap();
-    assert!((1..last).all(|nodes| best(100, nodes).1 == End::Nodes));
-    assert!((1..last).any(|nodes| best(100, nodes).0.is_some_and(|number| number < 9)));
+    assert!(nodes(least).is_some());
+    assert_eq!(nodes(least), nodes(greatest));
 }
 
 #[test]

@@ -30,7 +30,7 @@ HasNoMemory old text new = RefusesLine (codes "error: out of memory") old text n
 
 -- `none` if no so many blocks in a row are free
 abbrev pub TakesBlocks : Option ℕ → List (ℤ × ℤ) → List ℕ → List (ℤ × ℤ) → Type 0
-TakesBlocks None old text new = RefusesLine (codes "error: write take COUNT, with a count from 1 to 1099511627775") old text new
+TakesBlocks None old text new = RefusesLine (codes "error: write take COUNT, with a count from 1 to 1099511627776") old text new
 TakesBlocks (Some n) old text new =
     (((v : ℤ) → ¬ (FitsAt n (Covers old) v)) × RefusesLine (codes "none") old text new)
     ⊎ ((run : ℤ × ℤ) × IsFirstFit n (Covers old) run × (text ≡ with_newline (run_text run)) × IsRunsOf new (Without (Covers old) (IsBetween run)))

@@ -13,7 +13,10 @@ use ivl_paged::PagedSet;
 use std::alloc::{AllocError, Global};
 use std::marker::Model;
 
-/// The greatest number of a block: there are 2^40.
+/// How many blocks there are: 2^40.
+pub const COUNT: u64 = LAST + 1;
+
+/// The greatest number of a block.
 pub const LAST: u64 = 1_099_511_627_775;
 
 /// The free blocks. A contract sees the list of their runs.

@@ -1,14 +1,14 @@
-//! What answers the lines of a session, and how the session ends.
+//! What answers the lines of a session.
 ghost use Rattle.std.specs.Prelude.{◌≡◌, ℕ, ℤ, pos, [], ◌∷◌, ◌++◌, List, IfSome, IsErrOf, OnOk};
 ghost use Rattle.std.specs.Io.KnownBytes.{Appends, Consumes, IsAtEnd};
 ghost use Rattle.ivl_laws.specs.Runs.{Covers};
 ghost use Rattle.ivl_laws.specs.Sets.{IsSubset};
-ghost use Rattle.ivl_lines.specs.Answered.{IsAnswered};
+ghost use Rattle.ivl_lines.specs.Answered.{AnswersOrLoses, IsAnswered};
+ghost use Rattle.ivl_lines.specs.Commands.{no_memory};
 ghost use Rattle.ivl_lines.specs.Lines.{ended_lines_of, lines_of};
 ghost use Rattle.ivl_lines.specs.Words.{words_between};
 ghost use Rattle.ivl_blocks.specs.Answering.{AnswersLine, GivesBlocks, IsBlockSet, ShowsFree, ShowsLongest, TakesBlocks};
 ghost use Rattle.ivl_blocks.specs.Lines.{asked_blocks, given_blocks};
-ghost use Rattle.ivl_blocks.specs.Outcome.{outcome_of};
 
 use crate::blocks::Blocks;
 use crate::replies::{write_free, write_run};
@@ -49,8 +49,8 @@ impl AnswersCommands for Blocks {
 /// # Errors
 ///
 /// `Read` if a read failed, or the reader still returned bytes after 2^64 - 1 reads; an interrupted read is repeated.
-/// `Write` if a write or a flush failed. `Memory` if an allocation for the first blocks or the bytes of a line failed. A
-/// line that runs out of memory when it is carried out is answered with that, and the session continues.
+/// `Write` if a write or a flush failed. `Memory` if there is no memory to begin: nothing is then read or written. A line
+/// that runs out of memory when it is read or carried out is answered with that, and the session continues.
 pub fn session<R: Read, W: Write>(
     alloc: Global,
     reader: &mut R,
@@ -59,13 +59,15 @@ pub fn session<R: Read, W: Write>(
     // All bytes were read, and what is written answers their lines.
     ensures end { OnOk result (IsAtEnd (R.remaining reader.new)) }
     ensures ok { OnOk result (IfSome (R.remaining reader.old) (λ bytes. (text : List ℕ) × (end : List (ℤ × ℤ))
-        × IsAnswered AnswersLine ((pos 0, pos 1099511627775) ∷ []) (lines_of bytes) text end
+        × IsAnswered (AnswersOrLoses no_memory AnswersLine) ((pos 0, pos 1099511627775) ∷ []) (lines_of bytes) text end
         × Appends (W.contents writer.old) (W.contents writer.new) text)) }
     // What is written answers the ended lines of the bytes that the reader gave.
     ensures read { IsErrOf result SessionFault.Read → (front : List ℕ) × (text : List ℕ) × (end : List (ℤ × ℤ))
         × Consumes (R.remaining reader.old) (R.remaining reader.new) front
-        × IsAnswered AnswersLine ((pos 0, pos 1099511627775) ∷ []) (ended_lines_of front) text end
+        × IsAnswered (AnswersOrLoses no_memory AnswersLine) ((pos 0, pos 1099511627775) ∷ []) (ended_lines_of front) text end
         × Appends (W.contents writer.old) (W.contents writer.new) text }
+    // There was no memory to begin.
+    ensures memory { IsErrOf result SessionFault.Memory → (reader.new ≡ reader.old) × (writer.new ≡ writer.old) }
 {
     let mut blocks = Blocks::new(alloc)?;
     serve(alloc, &mut blocks, reader, writer)
@@ -78,7 +80,7 @@ fn take<W: Write>(blocks: &mut Blocks, words: &str, writer: &mut W) -> io::Resul
     ensures left { IsSubset (Covers blocks.new) (Covers blocks.old) }
 {
     let Some(count) = count_from(words) else {
-        return writer.write_all(b"error: write take COUNT, with a count from 1 to 1099511627775\n");
+        return writer.write_all(b"error: write take COUNT, with a count from 1 to 1099511627776\n");
     };
     match blocks.take(count) {
         Some(taken) => write_run(writer, &taken),
@@ -128,17 +130,5 @@ fn show_longest<W: Write>(blocks: &Blocks, words: &str, writer: &mut W) -> io::R
     match blocks.longest() {
         Some(run) => write_run(writer, &run),
         None => writer.write_all(b"none\n"),
-    }
-}
-
-/// Returns the exit status of the program, and what it writes to standard error.
-pub fn outcome(ended: &Result<(), SessionFault>) -> (u8, &'static str)
-    ensures { (result.0, result.1.now) ≡ outcome_of ended.now }
-{
-    match ended {
-        Ok(()) => (0, ""),
-        Err(SessionFault::Read) => (1, "ivl_blocks: read failed"),
-        Err(SessionFault::Write) => (1, "ivl_blocks: write failed"),
-        Err(SessionFault::Memory) => (1, "ivl_blocks: out of memory"),
     }
 }

@@ -15,11 +15,9 @@ mod engine;
 mod replies;
 mod requests;
 
-use engine::{outcome, session};
-use ivl_lines::{SessionFault, Start, VERSION, start_of};
-use std::io::BufWriter;
+use ivl_lines::{Program, SessionFault, run};
+use std::io::{Read, Write};
 use std::process::ExitCode;
-use std::{env, io};
 
 const HELP: &str = "\
 Keeps the free blocks of a disk, from 0 to 1099511627775: reads one line at a time from standard input, and answers each.
@@ -32,34 +30,20 @@ Keeps the free blocks of a disk, from 0 to 1099511627775: reads one line at a ti
 --version prints the version.
 ";
 
-fn main(rt: HostRuntime) -> io::Result<ExitCode> {
-    let mut words = env::args(&rt)?;
-    let (_, first) = (words.next(), words.next());
-    match start_of(first.as_deref(), words.next().is_some()) {
-        Start::Lines => answer_lines(&rt),
-        Start::Help => {
-            print!(rt; "{HELP}")?;
-            Ok(ExitCode::SUCCESS)
-        }
-        Start::Version => {
-            println!(rt; "ivl_blocks {VERSION}")?;
-            Ok(ExitCode::SUCCESS)
-        }
-        Start::Other => {
-            eprint!(rt; "{HELP}")?;
-            Ok(ExitCode::from(2))
-        }
+struct Lines;
+
+impl Program for Lines {
+    const NAME: &'static str = "ivl_blocks";
+
+    fn session<R: Read, W: Write>(
+        rt: &HostRuntime,
+        reader: &mut R,
+        writer: &mut W,
+    ) -> Result<(), SessionFault> {
+        engine::session(rt.alloc(), reader, writer)
     }
 }
 
-fn answer_lines(rt: &HostRuntime) -> io::Result<ExitCode> {
-    let ended = match BufWriter::new(rt.alloc(), rt.stdout()) {
-        Ok(mut writer) => session(rt.alloc(), &mut rt.stdin(), &mut writer),
-        Err(_) => Err(SessionFault::Memory),
-    };
-    let (status, line) = outcome(&ended);
-    if !line.is_empty() {
-        eprintln!(rt; "{line}")?;
-    }
-    Ok(ExitCode::from(status))
+fn main(rt: HostRuntime) -> ExitCode {
+    run::<Lines>(&rt, HELP)
 }

@@ -3,5 +3,4 @@ pub mod Reading
 pub mod Printed
 pub mod Session
 pub mod View
-pub mod Outcome
 pub mod Unkept

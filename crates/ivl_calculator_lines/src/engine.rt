@@ -1,9 +1,8 @@
-//! What answers the lines of a session of the calculator, and how the session ends.
+//! What answers the lines of a session of the calculator.
 ghost use Rattle.std.specs.Prelude.{◌≡◌, ℕ, List, ◌++◌, OnOk, IfSome, IsErrOf, length};
 ghost use Rattle.std.specs.Io.KnownBytes.{Appends, Consumes, IsAtEnd};
 ghost use Rattle.ivl_lines.specs.Lines.{lines_of, ended_lines_of};
 ghost use Rattle.ivl_calculator_lines.specs.Session.{AnswersReading, IsSessionText};
-ghost use Rattle.ivl_calculator_lines.specs.Outcome.{outcome_of};
 ghost use Rattle.ivl_lines.specs.Lines.{with_newline};
 ghost use Rattle.ivl_calculator.specs.Actions.{refused};
 ghost use Rattle.ivl_calculator_lines.specs.Printed.{printed};
@@ -14,7 +13,7 @@ ghost use Rattle.ivl_calculator_lines.specs.View.{view_of};
 use crate::lines::{Line, Unkept, read_line};
 use crate::replies::write_reply;
 use ivl_calculator::{Calc, Refusal, Reply};
-use ivl_lines::{Answers, LineFault, SessionFault, first_word, serve};
+use ivl_lines::{Answers, SessionFault, first_word, serve};
 use std::alloc::Global;
 use std::io;
 use std::io::{Read, Write};
@@ -39,9 +38,11 @@ impl Model for Registers {
 
 impl Answers for Registers {
     ghost use Rattle.ivl_calculator_lines.specs.Reading.{reading_of};
-    ghost use Rattle.ivl_calculator_lines.specs.Session.{AnswersReading};
+    ghost use Rattle.ivl_calculator_lines.specs.Session.{AnswersReading, lost_text};
 
     ghost allowed = { λ old line text new. AnswersReading old (reading_of line) text new };
+
+    ghost lost = { lost_text };
 
     fn may_take_long(&self, line: &[u8]) -> bool {
         match first_word(line) {
@@ -50,11 +51,12 @@ impl Answers for Registers {
         }
     }
 
-    fn answer<W: Write>(&mut self, line: &[u8], writer: &mut W) -> Result<(), LineFault> {
-        if answer_line(self.alloc, &mut self.calc, line, writer).is_err() {
-            return Err(LineFault::Write);
-        }
-        Ok(())
+    fn answer<W: Write>(&mut self, line: &[u8], writer: &mut W) -> io::Result<()> {
+        answer_line(self.alloc, &mut self.calc, line, writer)
+    }
+
+    fn answer_to_lost(&self) -> &'static [u8] {
+        b"refused 4 memory\n"
     }
 }
 
@@ -65,8 +67,8 @@ impl Answers for Registers {
 /// # Errors
 ///
 /// `Read` if a read failed, or the reader still returned bytes after 2^64 - 1 reads; an interrupted
-/// read is repeated. `Write` if a write or a flush failed. `Memory` if an allocation for the
-/// registers or the bytes of a line failed. A command for which an allocation fails is refused, and
+/// read is repeated. `Write` if a write or a flush failed. `Memory` if there is no memory to begin:
+/// nothing is then read or written. A line or a command for which an allocation fails is refused, and
 /// the session continues.
 ///
 /// ```
@@ -90,6 +92,8 @@ pub fn session<R: Read, W: Write>(
         × Consumes (R.remaining reader.old) (R.remaining reader.new) front
         × IsSessionText (ended_lines_of front) text
         × Appends (W.contents writer.old) (W.contents writer.new) text }
+    // There was no memory to begin.
+    ensures memory { IsErrOf result SessionFault.Memory → (reader.new ≡ reader.old) × (writer.new ≡ writer.old) }
 {
     let calc = Calc::new(alloc, REGISTERS)?;
     serve(alloc, &mut Registers { alloc, calc }, reader, writer)
@@ -139,22 +143,5 @@ fn write_answer<W: Write>(calc: &mut Calc<i64>, line: &Line, writer: &mut W) -> 
             let reply = calc.apply(command);
             write_reply(writer, &reply)
         }
-    }
-}
-
-/// Returns the exit status of the program, and what it writes to standard error.
-///
-/// ```
-/// assert_eq!(rt; outcome(&Ok(())), (0, ""));
-/// assert_eq!(rt; outcome(&Err(SessionFault::Read)), (1, "ivl_run: read failed"));
-/// ```
-pub fn outcome(ended: &Result<(), SessionFault>) -> (u8, &'static str)
-    ensures { (result.0, result.1.now) ≡ outcome_of ended.now }
-{
-    match ended {
-        Ok(()) => (0, ""),
-        Err(SessionFault::Read) => (1, "ivl_run: read failed"),
-        Err(SessionFault::Write) => (1, "ivl_run: write failed"),
-        Err(SessionFault::Memory) => (1, "ivl_run: out of memory"),
     }
 }

@@ -8,5 +8,5 @@ pub mod laws;
 mod lines;
 mod replies;
 
-pub use engine::{outcome, session};
+pub use engine::session;
 pub use ivl_lines::SessionFault;

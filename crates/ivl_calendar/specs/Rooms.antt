@@ -4,12 +4,13 @@
 --     IsAdded name old new      one more room, which is free on all days
 --     IsBooked name busy days old new      the room with these busy days is busy on some more days
 --     Books done name busy days old new      whether the room with these busy days was free on the days, and so is booked
+--     IsRunFrom day days run      these days begin with the run, as far as they are not before that day
 --     IsFreeInAll rooms window z      day z lies in the window, and no room is busy on it
-use Rattle.std.specs.Prelude.{◌≡◌, ℕ, ℤ, Bool, true, false, List, [], ◌∷◌, ◌++◌, All, Option, bytes_eq, map, string_bytes, String}
+use Rattle.std.specs.Prelude.{◌≡◌, ◌≤ℤ◌, ℕ, ℤ, Bool, true, false, List, [], ◌∷◌, ◌++◌, All, Option, bytes_eq, map, string_bytes, String}
 use Rattle.std.specs.BTreeMap.{BTreeMap}
 use Rattle.std.specs.Global.{Global}
 use Rattle.std.specs.Map.{lookup, set_value}
-use Rattle.ivl_laws.specs.Sets.{HasNone, Intersection, IsBetween, Union}
+use Rattle.ivl_laws.specs.Sets.{AtLeast, HasNone, Intersection, IsBetween, IsSubset, Union}
 use Rattle.ivl_laws.specs.Runs.{Covers, IsRunsOf}
 
 abbrev pub Rooms : Type 0
@@ -38,3 +39,8 @@ Books false name busy days old new =
 
 abbrev pub IsFreeInAll : Rooms → ℤ × ℤ → ℤ → Type 0
 IsFreeInAll rooms window z = IsBetween window z × All (λ room. ¬ (Covers room.1 z)) rooms
+
+-- it ends on that day or after it, has such days alone, and all of these up to its end that are not before that day
+abbrev pub IsRunFrom : ℤ → (ℤ → Type 0) → ℤ × ℤ → Type 0
+IsRunFrom day days run =
+    (day ≤ℤ run.1) × IsSubset (IsBetween run) days × ((z : ℤ) → AtLeast day days z → z ≤ℤ run.1 → IsBetween run z)

@@ -1,11 +1,11 @@
-//! What answers the lines of a session, and how the session ends.
+//! What answers the lines of a session.
 ghost use Rattle.std.specs.Prelude.{◌≡◌, ℕ, ℤ, List, [], IfSome, IsErrOf, OnOk};
 ghost use Rattle.std.specs.Io.KnownBytes.{Appends, Consumes, IsAtEnd};
-ghost use Rattle.ivl_lines.specs.Answered.{IsAnswered};
+ghost use Rattle.ivl_lines.specs.Answered.{AnswersOrLoses, IsAnswered};
+ghost use Rattle.ivl_lines.specs.Commands.{no_memory};
 ghost use Rattle.ivl_lines.specs.Lines.{ended_lines_of, lines_of};
 ghost use Rattle.ivl_lines.specs.Words.{words_between};
 ghost use Rattle.ivl_calendar.specs.Answering.{AnswersBook, AnswersFree, AnswersGap, AnswersLine, AnswersRoom};
-ghost use Rattle.ivl_calendar.specs.Outcome.{outcome_of};
 ghost use Rattle.ivl_calendar.specs.Rooms.{Rooms};
 
 use crate::calendar::Calendar;
@@ -61,9 +61,9 @@ impl AnswersCommands for Calendar {
 /// # Errors
 ///
 /// `Read` if a read failed, or the reader still returned bytes after 2^64 - 1 reads; an interrupted
-/// read is repeated. `Write` if a write or a flush failed. `Memory` if an allocation for the bytes
-/// of a line failed. A line that runs out of memory when it is carried out is answered with that,
-/// and the session continues.
+/// read is repeated. `Write` if a write or a flush failed. `Memory` if there is no memory to begin:
+/// nothing is then read or written. A line that runs out of memory when it is read or carried out is
+/// answered with that, and the session continues.
 ///
 /// ```
 /// let mut input: &[u8] = b"room blue\nbook blue 2026-03-01 2026-03-04\nfree 2026-03-01 2026-03-07";
@@ -79,13 +79,15 @@ pub fn session<R: Read, W: Write>(
     // All bytes were read, and what is written answers their lines.
     ensures end { OnOk result (IsAtEnd (R.remaining reader.new)) }
     ensures ok { OnOk result (IfSome (R.remaining reader.old) (λ bytes. (text : List ℕ) × (end : Rooms)
-        × IsAnswered AnswersLine [] (lines_of bytes) text end
+        × IsAnswered (AnswersOrLoses no_memory AnswersLine) [] (lines_of bytes) text end
         × Appends (W.contents writer.old) (W.contents writer.new) text)) }
     // What is written answers the ended lines of the bytes that the reader gave.
     ensures read { IsErrOf result SessionFault.Read → (front : List ℕ) × (text : List ℕ) × (end : Rooms)
         × Consumes (R.remaining reader.old) (R.remaining reader.new) front
-        × IsAnswered AnswersLine [] (ended_lines_of front) text end
+        × IsAnswered (AnswersOrLoses no_memory AnswersLine) [] (ended_lines_of front) text end
         × Appends (W.contents writer.old) (W.contents writer.new) text }
+    // There was no memory to begin.
+    ensures memory { IsErrOf result SessionFault.Memory → (reader.new ≡ reader.old) × (writer.new ≡ writer.old) }
 {
     serve(alloc, &mut Calendar::new(alloc), reader, writer)
 }
@@ -152,22 +154,5 @@ fn answer_free<W: Write>(calendar: &mut Calendar, words: &str, writer: &mut W) -
     match calendar.free_within(window) {
         Ok(free) => write_spans(writer, free.runs()),
         Err(_) => write_line(writer, MEMORY),
-    }
-}
-
-/// Returns the exit status of the program, and what it writes to standard error.
-///
-/// ```
-/// assert_eq!(rt; outcome(&Ok(())), (0, ""));
-/// assert_eq!(rt; outcome(&Err(SessionFault::Read)), (1, "ivl_calendar: read failed"));
-/// ```
-pub fn outcome(ended: &Result<(), SessionFault>) -> (u8, &'static str)
-    ensures { (result.0, result.1.now) ≡ outcome_of ended.now }
-{
-    match ended {
-        Ok(()) => (0, ""),
-        Err(SessionFault::Read) => (1, "ivl_calendar: read failed"),
-        Err(SessionFault::Write) => (1, "ivl_calendar: write failed"),
-        Err(SessionFault::Memory) => (1, "ivl_calendar: out of memory"),
     }
 }

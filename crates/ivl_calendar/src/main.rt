@@ -10,11 +10,9 @@ mod replies;
 mod requests;
 mod rooms;
 
-use engine::{outcome, session};
-use ivl_lines::{SessionFault, Start, VERSION, start_of};
-use std::io::BufWriter;
+use ivl_lines::{Program, SessionFault, run};
+use std::io::{Read, Write};
 use std::process::ExitCode;
-use std::{env, io};
 
 const HELP: &str = "\
 Books rooms by the day: reads one line at a time from standard input, and answers each.
@@ -27,34 +25,20 @@ Books rooms by the day: reads one line at a time from standard input, and answer
 Dates are written as 2026-03-01. --version prints the version.
 ";
 
-fn main(rt: HostRuntime) -> io::Result<ExitCode> {
-    let mut words = env::args(&rt)?;
-    let (_, first) = (words.next(), words.next());
-    match start_of(first.as_deref(), words.next().is_some()) {
-        Start::Lines => answer_lines(&rt),
-        Start::Help => {
-            print!(rt; "{HELP}")?;
-            Ok(ExitCode::SUCCESS)
-        }
-        Start::Version => {
-            println!(rt; "ivl_calendar {VERSION}")?;
-            Ok(ExitCode::SUCCESS)
-        }
-        Start::Other => {
-            eprint!(rt; "{HELP}")?;
-            Ok(ExitCode::from(2))
-        }
+struct Lines;
+
+impl Program for Lines {
+    const NAME: &'static str = "ivl_calendar";
+
+    fn session<R: Read, W: Write>(
+        rt: &HostRuntime,
+        reader: &mut R,
+        writer: &mut W,
+    ) -> Result<(), SessionFault> {
+        engine::session(rt.alloc(), reader, writer)
     }
 }
 
-fn answer_lines(rt: &HostRuntime) -> io::Result<ExitCode> {
-    let ended = match BufWriter::new(rt.alloc(), rt.stdout()) {
-        Ok(mut writer) => session(rt.alloc(), &mut rt.stdin(), &mut writer),
-        Err(_) => Err(SessionFault::Memory),
-    };
-    let (status, line) = outcome(&ended);
-    if !line.is_empty() {
-        eprintln!(rt; "{line}")?;
-    }
-    Ok(ExitCode::from(status))
+fn main(rt: HostRuntime) -> ExitCode {
+    run::<Lines>(&rt, HELP)
 }

@@ -1,5 +1,5 @@
 -- Bytes that are cut into lines.
-use Rattle.std.proofs.Common.{◌≡◌, ℕ, false, List, [], ◌∷◌, ◌++◌, refl, sym, ap, ◌∙◌, subst, append_assoc, eqb, Option, length, take, ◌<◌}
+use Rattle.std.proofs.Common.{◌≡◌, ℕ, false, List, [], ◌∷◌, ◌++◌, refl, sym, ap, ◌∙◌, subst, append_assoc, eqb, Option, Some, length, take, ◌<◌}
 use Rattle.std.specs.Prelude.{flat_map, IfSome}
 use Rattle.std.specs.List.{AllByRecursion}
 use Rattle.std.specs.Io.KnownBytes.{Appends, Consumes, Keeps, IsAtEnd}
@@ -10,7 +10,7 @@ use Rattle.std.proofs.lemmas.List.Elements.{All-nil, All-append}
 use Rattle.std.proofs.lemmas.List.Splits.{slice_split_none, slice_split_at}
 use Rattle.ivl_lines.specs.Lines.{lines_of, all_but_last, ended_lines_of, with_newline}
 use Rattle.ivl_lines.specs.Answered.{IsAnswered}
-use Rattle.ivl_lines.specs.Cut.{HasNoNewline, IsSplitAtNewline, Cut, Progress}
+use Rattle.ivl_lines.specs.Cut.{Cut, HasNoNewline, IsBegun, IsSplitAtNewline, Progress}
 use Rattle.ivl_lines.proofs.Answered.{one_line, IsAnswered-append}
 
 each-append : (ls ms : List (List ℕ)) → AllByRecursion HasNoNewline ls → AllByRecursion HasNoNewline ms → AllByRecursion HasNoNewline (ls ++ ms)
@@ -96,26 +96,28 @@ Progress-newline allowed front rest bytes text a b c x y z h none answered writt
     Progress-append allowed front (bytes ++ 10 ∷ []) rest [] a b c x y z h
     (record { lines = (rest ++ bytes) ∷ []; text = text; cut = cut; answers = one_line allowed b c (rest ++ bytes) text answered; written = written })
 
--- the next line of a piece is answered
-pub Progress-split : {S : Type 0} (allowed : Allowed S) (line piece front rest bytes after kept last : List ℕ) (a b c : S) (x y z : Option (List ℕ)) → piece ≡ front ++ rest → Progress allowed (line ++ front) kept a b (Appends x y) → IsSplitAtNewline rest bytes after → ((text : List ℕ) × allowed b (kept ++ bytes) text c × Appends y z text) → last ≡ [] → (read : List ℕ) × (piece ≡ read ++ after) × Progress allowed (line ++ read) last a c (Appends x z)
-Progress-split allowed line piece front rest bytes after kept last a b c x y z whole h split answered emptied =
-    let more : Progress allowed ((line ++ front) ++ (bytes ++ 10 ∷ [])) [] a c (Appends x z) =
-    Progress-newline allowed (line ++ front) kept bytes answered.0 a b c x y z h split.first answered.1 answered.2 in (
-      front ++ (bytes ++ 10 ∷ []),
-      whole ∙ ap (λ (xs : List ℕ). front ++ xs) (split.whole ∙ sym (append_assoc bytes (10 ∷ []) after)) ∙ sym (append_assoc front (bytes ++ 10 ∷ []) after),
-      rw (emptied, ← append_assoc line front (bytes ++ 10 ∷ [])) more,
-    )
+-- a piece, once its next line is answered
+pub split_whole : (piece front rest bytes after : List ℕ) → piece ≡ front ++ rest → IsSplitAtNewline rest bytes after → piece ≡ (front ++ (bytes ++ 10 ∷ [])) ++ after
+split_whole piece front rest bytes after whole split =
+    whole ∙ ap (λ (xs : List ℕ). front ++ xs) (split.whole ∙ sym (append_assoc bytes (10 ∷ []) after)) ∙ sym (append_assoc front (bytes ++ 10 ∷ []) after)
 
--- the rest of a piece is kept
-pub Progress-last : {S : Type 0} (allowed : Allowed S) (line piece front rest kept last : List ℕ) (a b : S) (x y : Option (List ℕ)) → piece ≡ front ++ rest → Progress allowed (line ++ front) kept a b (Appends x y) → HasNoNewline rest → last ≡ kept ++ rest → Progress allowed (line ++ piece) last a b (Appends x y)
-Progress-last allowed line piece front rest kept last a b x y whole h none e =
-    rw (whole, e, ← append_assoc line front rest) (Progress-kept allowed (line ++ front) kept rest a b x y h none)
+-- the next line of a piece is answered, and nothing has begun of the one after it
+pub Progress-split : {S : Type 0} (allowed : Allowed S) (line front rest bytes after kept : List ℕ) (begun : Option (List ℕ)) (a b c : S) (x y z : Option (List ℕ)) → Progress allowed (line ++ front) kept a b (Appends x y) → IsSplitAtNewline rest bytes after → ((text : List ℕ) × allowed b (kept ++ bytes) text c × Appends y z text) → begun ≡ Some [] → (last : List ℕ) × IsBegun last begun × Progress allowed (line ++ (front ++ (bytes ++ 10 ∷ []))) last a c (Appends x z)
+Progress-split allowed line front rest bytes after kept begun a b c x y z h split answered emptied =
+    let more : Progress allowed ((line ++ front) ++ (bytes ++ 10 ∷ [])) [] a c (Appends x z) =
+    Progress-newline allowed (line ++ front) kept bytes answered.0 a b c x y z h split.first answered.1 answered.2 in
+    ([], rw emptied refl, subst (λ (xs : List ℕ). Progress allowed xs [] a c (Appends x z)) (append_assoc line front (bytes ++ 10 ∷ [])) more)
+
+-- what is left of a piece begins a line
+pub Progress-last : {S : Type 0} (allowed : Allowed S) (line piece front rest kept : List ℕ) (begun : Option (List ℕ)) (a b : S) (x y : Option (List ℕ)) → piece ≡ front ++ rest → Progress allowed (line ++ front) kept a b (Appends x y) → HasNoNewline rest → IsBegun (kept ++ rest) begun → (last : List ℕ) × IsBegun last begun × Progress allowed (line ++ piece) last a b (Appends x y)
+Progress-last allowed line piece front rest kept begun a b x y whole h none begins =
+    (kept ++ rest, begins, rw (whole, ← append_assoc line front rest) (Progress-kept allowed (line ++ front) kept rest a b x y h none))
 
 -- the whole text, once the rest is answered as the last line
-whole_text : {S : Type 0} (allowed : Allowed S) (front rest last more : List ℕ) (a b c : S) (x y z : Option (List ℕ)) → Progress allowed front rest a b (Appends x y) → last ≡ rest → allowed b last more c → Appends y z more → (text : List ℕ) × IsAnswered allowed a (lines_of front) text c × Appends x z text
-whole_text {S} allowed front rest last more a b c x y z h same answered written =
+whole_text : {S : Type 0} (allowed : Allowed S) (front rest more : List ℕ) (a b c : S) (x y z : Option (List ℕ)) → Progress allowed front rest a b (Appends x y) → allowed b rest more c → Appends y z more → (text : List ℕ) × IsAnswered allowed a (lines_of front) text c × Appends x z text
+whole_text {S} allowed front rest more a b c x y z h answered written =
     let whole : IsAnswered allowed a (h.lines ++ rest ∷ []) (h.text ++ more) c =
-    IsAnswered-append allowed a b c h.lines (rest ∷ []) h.text more h.answers (one_line allowed b c rest more (rw (← same) answered)) in
+    IsAnswered-append allowed a b c h.lines (rest ∷ []) h.text more h.answers (one_line allowed b c rest more answered) in
     let P : List (List ℕ) → Type 0 = λ lines. IsAnswered allowed a lines (h.text ++ more) c in (
       h.text ++ more,
       subst P (sym (lines_of-Cut front rest h.lines h.cut)) whole,
@@ -123,14 +125,14 @@ whole_text {S} allowed front rest last more a b c x y z h same answered written 
     )
 
 -- the same, where a last read gave no byte
-pub finished : {S : Type 0} (allowed : Allowed S) (r s t : Option (List ℕ)) (front buf rest last more : List ℕ) (n : ℕ) (a b c : S) (x y z : Option (List ℕ)) → n ≡ 0 → 0 < length buf → Consumes r s front → Consumes s t (take n buf) × (n ≡ 0 → 0 < length buf → IsAtEnd t) → Progress allowed front rest a b (Appends x y) → last ≡ rest → (answered : allowed b last more c × Appends y z more) → IfSome r (λ bytes. (text : List ℕ) × IsAnswered allowed a (lines_of bytes) text c × Appends x z text)
-finished allowed r s t front buf rest last more n a b c x y z none room before read h same answered =
+pub finished : {S : Type 0} (allowed : Allowed S) (r s t : Option (List ℕ)) (front buf rest more : List ℕ) (n : ℕ) (a b c : S) (x y z : Option (List ℕ)) → n ≡ 0 → 0 < length buf → Consumes r s front → Consumes s t (take n buf) × (n ≡ 0 → 0 < length buf → IsAtEnd t) → Progress allowed front rest a b (Appends x y) → (answered : allowed b rest more c × Appends y z more) → IfSome r (λ bytes. (text : List ℕ) × IsAnswered allowed a (lines_of bytes) text c × Appends x z text)
+finished allowed r s t front buf rest more n a b c x y z none room before read h answered =
     let nothing : take n buf ≡ [] = rw none refl in
     let Q : List ℕ → Type 0 = λ bs. Consumes s t bs in
     let R : List ℕ → Type 0 = λ bs. Consumes r t bs in
     let all : Consumes r t front = subst R (append-nil front) (Consumes-trans r s t front [] before (subst Q nothing read.0)) in
     let P : List ℕ → Type 0 = λ bytes. (text : List ℕ) × IsAnswered allowed a (lines_of bytes) text c × Appends x z text in
-    Consumes-whole r t front P all (read.1 none room) (whole_text allowed front rest last more a b c x y z h same answered.0 answered.1)
+    Consumes-whole r t front P all (read.1 none room) (whole_text allowed front rest more a b c x y z h answered.0 answered.1)
 
 -- the text so far is that of the ended lines
 pub ended_text : {S : Type 0} (allowed : Allowed S) (front rest : List ℕ) (a b : S) (grows : List ℕ → Type 0) → (h : Progress allowed front rest a b grows) → IsAnswered allowed a (ended_lines_of front) h.text b

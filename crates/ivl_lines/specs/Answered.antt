@@ -1,6 +1,16 @@
 -- What is written for lines one after another.
---     IsAnswered allowed old lines text new      from old, this text may answer these lines, and the state go on to new
-use Rattle.std.specs.Prelude.{◌≡◌, ℕ, List, [], ◌∷◌, ◌++◌}
+--     MayBeLost line      there may be no memory for the bytes of this line
+--     AnswersOrLoses lost allowed old line text new      from old, this text may answer the line, and the state go on to new
+--     IsAnswered allowed old lines text new      the same for these lines
+use Rattle.std.specs.Prelude.{◌≡◌, ◌⊎◌, ◌<◌, ℕ, List, [], ◌∷◌, ◌++◌, length}
+
+-- for the first 65,536 there always is
+abbrev pub MayBeLost : List ℕ → Type 0
+MayBeLost line = 65536 < length line
+
+-- as it is allowed; or the line is lost, which is all that is said, and changes nothing
+abbrev pub AnswersOrLoses : {S : Type 0} → List ℕ → (S → List ℕ → List ℕ → S → Type 0) → S → List ℕ → List ℕ → S → Type 0
+AnswersOrLoses lost allowed old line text new = allowed old line text new ⊎ (MayBeLost line × (text ≡ lost) × (new ≡ old))
 
 abbrev pub IsAnswered : {S : Type 0} → (S → List ℕ → List ℕ → S → Type 0) → S → List (List ℕ) → List ℕ → S → Type 0
 IsAnswered allowed old [] text new = (text ≡ []) × (new ≡ old)

@@ -1,8 +1,12 @@
 -- The answer to a line, by its first word and the words after it.
+--     no_memory      the answer where there is no memory
 --     AnswersByCommand allowed old line text new      nothing for a line without words, `error: not UTF-8` for one that is not UTF-8, and what is allowed for any other
 use Rattle.std.specs.Prelude.{◌≡◌, ℕ, Bool, true, false, List, [], ◌∷◌, codes}
 use Rattle.std.specs.Str.{is_utf8}
 use Rattle.ivl_lines.specs.Lines.{with_newline, words_of}
+
+abbrev pub no_memory : List ℕ
+no_memory = with_newline (codes "error: out of memory")
 
 -- by the words
 abbrev pub AnswersSplit : {S : Type 0} → (S → List ℕ → List (List ℕ) → List ℕ → S → Type 0) → S → List (List ℕ) → List ℕ → S → Type 0

@@ -1,8 +1,8 @@
 -- Bytes as the lines that a newline ended, and the rest.
-use Rattle.std.specs.Prelude.{◌≡◌, ℕ, false, List, ◌∷◌, ◌++◌, All, ◌==◌, flat_map}
+use Rattle.std.specs.Prelude.{◌≡◌, ℕ, false, List, ◌∷◌, ◌++◌, All, ◌==◌, flat_map, Option, None, Some}
 use Rattle.std.specs.List.{AllByRecursion}
 use Rattle.ivl_lines.specs.Lines.{with_newline}
-use Rattle.ivl_lines.specs.Answered.{IsAnswered}
+use Rattle.ivl_lines.specs.Answered.{IsAnswered, MayBeLost}
 
 abbrev pub HasNoNewline : List ℕ → Type 0
 HasNoNewline bytes = All (λ b. (b == 10) ≡ false) bytes
@@ -25,3 +25,8 @@ pub record Progress {S : Type 0} (allowed : S → List ℕ → List ℕ → S �
   pub cut : Cut bytes lines rest
   pub answers : IsAnswered allowed old lines text new
   pub written : grows text
+
+-- Of this line so much is kept: its bytes, or none where it is lost.
+abbrev pub IsBegun : List ℕ → Option (List ℕ) → Type 0
+IsBegun line None = MayBeLost line
+IsBegun line (Some bytes) = bytes ≡ line

@@ -6,5 +6,5 @@ pub mod Commands
 pub mod Arguments
 pub mod Cut
 pub mod Escapes
-pub mod Faults
+pub mod Outcome
 pub mod Sets

@@ -5,14 +5,15 @@ ghost use Rattle.std.specs.Str.{is_utf8};
 ghost use Rattle.ivl_lines.specs.Commands.{AnswersDecoded, AnswersSplit};
 ghost use Rattle.ivl_lines.specs.Words.{words_between};
 
-use crate::session::{Answers, LineFault};
+use crate::session::Answers;
 use crate::text::{first_word, line_text};
 use crate::words::next_word;
 use std::io;
 use std::io::Write;
 
 /// What answers commands, and keeps the state between them. It answers the lines of a session too: a
-/// line without words has no answer, and one that is not UTF-8 is answered `error: not UTF-8`.
+/// line without words has no answer, one that is not UTF-8 is answered `error: not UTF-8`, and one
+/// that is lost `error: out of memory`.
 pub trait AnswersCommands {
     /// From this state, this command with these words after it may be answered with this text, and
     /// leave that state.
@@ -39,19 +40,22 @@ pub trait AnswersCommands {
 }
 
 impl<A: AnswersCommands> Answers for A {
-    ghost use Rattle.ivl_lines.specs.Commands.{AnswersByCommand};
+    ghost use Rattle.ivl_lines.specs.Commands.{AnswersByCommand, no_memory};
 
     ghost allowed = { AnswersByCommand A.command_allowed };
+
+    ghost lost = { no_memory };
 
     fn may_take_long(&self, line: &[u8]) -> bool {
         self.command_may_take_long(first_word(line))
     }
 
-    fn answer<W: Write>(&mut self, line: &[u8], writer: &mut W) -> Result<(), LineFault> {
-        if answer_line(self, line, writer).is_err() {
-            return Err(LineFault::Write);
-        }
-        Ok(())
+    fn answer<W: Write>(&mut self, line: &[u8], writer: &mut W) -> io::Result<()> {
+        answer_line(self, line, writer)
+    }
+
+    fn answer_to_lost(&self) -> &'static [u8] {
+        b"error: out of memory\n"
     }
 }
 

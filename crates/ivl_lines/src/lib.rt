@@ -3,9 +3,11 @@
 #![tactic(auto)]
 
 mod arguments;
+mod begun_line;
 mod commands;
 mod escapes;
 mod numbers;
+mod program;
 mod session;
 mod text;
 mod words;
@@ -14,9 +16,10 @@ pub use arguments::{Start, start_of};
 pub use commands::AnswersCommands;
 pub use escapes::Escaped;
 pub use numbers::{number_from, pairs_from};
-pub use session::{Answers, LineFault, SessionFault, serve};
+pub use program::{Program, outcome, run};
+pub use session::{Answers, SessionFault, serve};
 pub use text::{first_word, line_text};
 pub use words::{next_word, one_word, three_words, two_words};
 
 /// The version of these crates, which the programs print.
-pub const VERSION: &str = "1.0.0";
+pub const VERSION: &str = "2.0.0";

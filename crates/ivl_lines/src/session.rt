@@ -1,34 +1,15 @@
 //! A session: reads lines, has each answered, and writes the answers.
-ghost use Rattle.std.specs.Prelude.{◌≡◌, ◌≢◌, ℕ, List, [], ◌++◌, OnOk, IfSome, IfNone, IfErr, IsErrOf};
+ghost use Rattle.std.specs.Prelude.{◌≡◌, ℕ, List, [], ◌++◌, OnOk, Some, IfSome, IfNone, IfErr, IsErrOf};
 ghost use Rattle.std.specs.Io.KnownBytes.{Appends, Consumes, Keeps, IsAtEnd};
 ghost use Rattle.ivl_lines.specs.Lines.{lines_of, ended_lines_of};
-ghost use Rattle.ivl_lines.specs.Answered.{IsAnswered};
-ghost use Rattle.ivl_lines.specs.Cut.{Progress, HasNoNewline, IsSplitAtNewline};
+ghost use Rattle.ivl_lines.specs.Answered.{AnswersOrLoses, IsAnswered};
+ghost use Rattle.ivl_lines.specs.Cut.{HasNoNewline, IsBegun, IsSplitAtNewline, Progress};
 
+use crate::begun_line::BegunLine;
 use std::alloc::{AllocError, Global};
+use std::io;
 use std::io::{ErrorKind, Read, Write};
 use thiserror::Error;
-
-/// Why a line could not be answered, which ends the session.
-#[derive(Clone, Copy, Debug, PartialEq, Eq, Error)]
-pub enum LineFault {
-    /// A write failed.
-    #[error("write failed")]
-    Write,
-    /// An allocation failed.
-    #[error("out of memory")]
-    Memory,
-}
-
-impl From<AllocError> for LineFault {
-    ghost use Rattle.ivl_lines.specs.declared.session.LineFault.TheVariants.{Memory};
-
-    ghost from_gives = { λ _ fault. fault ≡ Memory };
-
-    fn from(_: AllocError) -> LineFault {
-        LineFault::Memory
-    }
-}
 
 /// Why a session ended before its input did.
 #[derive(Clone, Copy, Debug, PartialEq, Eq, Error)]
@@ -54,23 +35,13 @@ impl From<AllocError> for SessionFault {
     }
 }
 
-impl From<LineFault> for SessionFault {
-    ghost use Rattle.ivl_lines.specs.Faults.{session_fault_of};
-
-    ghost from_gives = { λ fault told. told ≡ session_fault_of fault };
-
-    fn from(fault: LineFault) -> SessionFault {
-        match fault {
-            LineFault::Write => SessionFault::Write,
-            LineFault::Memory => SessionFault::Memory,
-        }
-    }
-}
-
 /// What answers the lines of a session, and keeps the state between them.
 pub trait Answers {
     /// From this state, this line may be answered with this text, and leave that state.
     ghost allowed: { Self → List ℕ → List ℕ → Self → Type 0 };
+
+    /// The answer to a line that is lost.
+    ghost lost: { List ℕ };
 
     /// Returns whether the answer to a line may take long, so that what was answered before it is
     /// flushed first.
@@ -80,12 +51,16 @@ pub trait Answers {
     ///
     /// # Errors
     ///
-    /// `Write` if a write failed, `Memory` if an allocation failed that the line cannot be answered
-    /// without. Either ends the session.
-    fn answer<W: Write>(&mut self, line: &[u8], writer: &mut W) -> Result<(), LineFault>
+    /// Fails only if a write failed, which ends the session.
+    fn answer<W: Write>(&mut self, line: &[u8], writer: &mut W) -> io::Result<()>
         ensures { OnOk result ((text : List ℕ)
             × allowed self.old line.now text self.new
             × Appends (W.contents writer.old) (W.contents writer.new) text) };
+
+    /// Returns the answer to a line that is lost: there was no memory for its bytes. Does not
+    /// allocate.
+    fn answer_to_lost(&self) -> &'static [u8]
+        ensures { result.now ≡ lost };
 }
 
 // The most bytes that one read may return.
@@ -95,13 +70,15 @@ const PIECE: usize = 65536;
 /// line that may take long, and at the end.
 ///
 /// A line is what stands between newlines; what follows the last newline is a line too. It is kept
-/// only if it does not end in the piece that it begins in.
+/// only if it does not end in the piece that it begins in. A line for whose bytes there is no memory
+/// is lost: it has more than 65,536 bytes, is answered with `answer_to_lost` at its end, and changes
+/// nothing.
 ///
 /// # Errors
 ///
 /// `Read` if a read failed, or the reader still returned bytes after 2^64 - 1 reads; an interrupted
-/// read is repeated. `Write` if a write or a flush failed. `Memory` if an allocation for the bytes
-/// of a line failed, or that of an answer.
+/// read is repeated. `Write` if a write or a flush failed. `Memory` if there is no memory for the
+/// first 65,536 bytes of a line, before anything is read or written.
 pub fn serve<A: Answers, R: Read, W: Write>(
     alloc: Global,
     answers: &mut A,
@@ -111,15 +88,16 @@ pub fn serve<A: Answers, R: Read, W: Write>(
     // All bytes were read, and what is written answers their lines.
     ensures end { OnOk result (IsAtEnd (R.remaining reader.new)) }
     ensures ok { OnOk result (IfSome (R.remaining reader.old) (λ bytes. (text : List ℕ)
-        × IsAnswered A.allowed answers.old (lines_of bytes) text answers.new
+        × IsAnswered (AnswersOrLoses A.lost A.allowed) answers.old (lines_of bytes) text answers.new
         × Appends (W.contents writer.old) (W.contents writer.new) text)) }
     // What is written answers the ended lines of the bytes that the reader gave.
     ensures read { IsErrOf result SessionFault.Read → (front : List ℕ) × (text : List ℕ)
         × Consumes (R.remaining reader.old) (R.remaining reader.new) front
-        × IsAnswered A.allowed answers.old (ended_lines_of front) text answers.new
+        × IsAnswered (AnswersOrLoses A.lost A.allowed) answers.old (ended_lines_of front) text answers.new
         × Appends (W.contents writer.old) (W.contents writer.new) text }
+    ensures memory { IsErrOf result SessionFault.Memory → (reader.new ≡ reader.old) × (writer.new ≡ writer.old) }
 {
-    let mut line = Vec::new(alloc);
+    let mut line = BegunLine::new(alloc)?;
     let mut piece = [0u8; PIECE];
     'reads: for _ in 0..u64::MAX {
         flush(writer)?;
@@ -138,7 +116,7 @@ pub fn serve<A: Answers, R: Read, W: Write>(
 
 fn flush<W: Write>(writer: &mut W) -> Result<(), SessionFault>
     ensures kept { Keeps (W.contents writer.old) (W.contents writer.new) }
-    ensures never_read { IfErr result (λ fault. fault ≢ SessionFault.Read) }
+    ensures only_write { IfErr result (λ fault. fault ≡ SessionFault.Write) }
 {
     if writer.flush().is_err() {
         return Err(SessionFault::Write);
@@ -149,36 +127,35 @@ fn flush<W: Write>(writer: &mut W) -> Result<(), SessionFault>
 // Answers the last line, which no newline ended.
 fn finish<A: Answers, W: Write>(
     answers: &mut A,
-    last: &[u8],
+    last: &BegunLine,
     writer: &mut W,
 ) -> Result<(), SessionFault>
-    ensures ok { OnOk result ((text : List ℕ)
-        × A.allowed answers.old last.now text answers.new
+    ensures ok { OnOk result ((line : List ℕ) → IsBegun line last.now → (text : List ℕ)
+        × AnswersOrLoses A.lost A.allowed answers.old line text answers.new
         × Appends (W.contents writer.old) (W.contents writer.new) text) }
-    ensures never_read { IfErr result (λ fault. fault ≢ SessionFault.Read) }
+    ensures only_write { IfErr result (λ fault. fault ≡ SessionFault.Write) }
 {
-    answer_seen(answers, last, writer)?;
+    answer_begun(answers, last, writer)?;
     flush(writer)
 }
 
 // Answers the lines that a newline of the piece ends, and keeps what comes after the last newline.
 fn answer_piece<A: Answers, W: Write>(
     answers: &mut A,
-    line: &mut Vec<u8>,
+    begun: &mut BegunLine,
     piece: &[u8],
     writer: &mut W,
 ) -> Result<(), SessionFault>
-    requires { HasNoNewline line.old.items }
-    ensures ok { OnOk result (Progress A.allowed (line.old.items ++ piece.now) line.new.items
-        answers.old answers.new (Appends (W.contents writer.old) (W.contents writer.new))) }
-    ensures never_read { IfErr result (λ fault. fault ≢ SessionFault.Read) }
+    ensures ok { OnOk result ((line : List ℕ) → IsBegun line begun.old → HasNoNewline line → (rest : List ℕ) × IsBegun rest begun.new
+        × Progress (AnswersOrLoses A.lost A.allowed) (line ++ piece.now) rest answers.old answers.new (Appends (W.contents writer.old) (W.contents writer.new))) }
+    ensures only_write { IfErr result (λ fault. fault ≡ SessionFault.Write) }
 {
     let mut rest = piece;
     while let Some((bytes, after)) = split_line(rest) {
-        answer_ended(answers, line, bytes, writer)?;
+        answer_ended(answers, begun, bytes, writer)?;
         rest = after;
     }
-    line.extend_from_slice(rest)?;
+    begun.extend(rest);
     Ok(())
 }
 
@@ -191,26 +168,46 @@ fn split_line(bytes: &[u8]) -> Option<(&[u8], &[u8])>
     Some((&bytes[..at], &bytes[at + 1..]))
 }
 
-// Answers the line that begins with what was kept of earlier pieces and ends with these bytes.
+// Answers the line that has begun in earlier pieces and ends with these bytes, and begins the next.
 fn answer_ended<A: Answers, W: Write>(
     answers: &mut A,
-    line: &mut Vec<u8>,
+    begun: &mut BegunLine,
     bytes: &[u8],
     writer: &mut W,
 ) -> Result<(), SessionFault>
-    ensures ok { OnOk result ((text : List ℕ)
-        × A.allowed answers.old (line.old.items ++ bytes.now) text answers.new
+    ensures ok { OnOk result ((line : List ℕ) → IsBegun line begun.old → (text : List ℕ)
+        × AnswersOrLoses A.lost A.allowed answers.old (line ++ bytes.now) text answers.new
         × Appends (W.contents writer.old) (W.contents writer.new) text) }
-    ensures emptied { OnOk result (line.new.items ≡ []) }
-    ensures never_read { IfErr result (λ fault. fault ≢ SessionFault.Read) }
+    ensures emptied { OnOk result (begun.new ≡ Some []) }
+    ensures only_write { IfErr result (λ fault. fault ≡ SessionFault.Write) }
 {
-    if line.is_empty() {
+    if begun.is_empty() {
         return answer_seen(answers, bytes, writer);
     }
-    line.extend_from_slice(bytes)?;
-    answer_seen(answers, line, writer)?;
-    line.clear();
+    begun.extend(bytes);
+    answer_begun(answers, begun, writer)?;
+    begun.clear();
     Ok(())
+}
+
+// Answers a line, or says that it is lost.
+fn answer_begun<A: Answers, W: Write>(
+    answers: &mut A,
+    begun: &BegunLine,
+    writer: &mut W,
+) -> Result<(), SessionFault>
+    ensures ok { OnOk result ((line : List ℕ) → IsBegun line begun.now → (text : List ℕ)
+        × AnswersOrLoses A.lost A.allowed answers.old line text answers.new
+        × Appends (W.contents writer.old) (W.contents writer.new) text) }
+    ensures only_write { IfErr result (λ fault. fault ≡ SessionFault.Write) }
+{
+    match begun.bytes() {
+        Some(line) => answer_seen(answers, line, writer),
+        None => match writer.write_all(answers.answer_to_lost()) {
+            Ok(()) => Ok(()),
+            Err(_) => Err(SessionFault::Write),
+        },
+    }
 }
 
 // Answers a line. What was answered before is seen while a line that may take long is answered.
@@ -222,11 +219,13 @@ fn answer_seen<A: Answers, W: Write>(
     ensures ok { OnOk result ((text : List ℕ)
         × A.allowed answers.old line.now text answers.new
         × Appends (W.contents writer.old) (W.contents writer.new) text) }
-    ensures never_read { IfErr result (λ fault. fault ≢ SessionFault.Read) }
+    ensures only_write { IfErr result (λ fault. fault ≡ SessionFault.Write) }
 {
     if answers.may_take_long(line) {
         flush(writer)?;
     }
-    answers.answer(line, writer)?;
-    Ok(())
+    match answers.answer(line, writer) {
+        Ok(()) => Ok(()),
+        Err(_) => Err(SessionFault::Write),
+    }
 }

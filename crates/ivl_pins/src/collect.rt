@@ -139,6 +139,34 @@ pub fn set_of_ranges<B: Width>(
     }
 }
 
+/// Returns the set of the numbers of every range of a vector, if `in_range` allows them.
+pub fn set_of_range_vector<B: Width>(
+    alloc: Global,
+    ranges: Vec<RangeInclusive<B>>,
+) -> Result<Option<IntervalSet<B>>, AllocError>
+    ensures { IfOk result (λ o. MatchOption o (¬ (All (λ r. IsInRange B.whole (B.value (range_inclusive_start r), B.value (range_inclusive_end r))) ranges.items)) (λ L. IsRunsOf L (Covers (map (λ r. (B.value (range_inclusive_start r), B.value (range_inclusive_end r))) ranges.items)))) }
+{
+    if ranges.in_range() {
+        Ok(Some(ranges.to_interval_set(alloc)?))
+    } else {
+        Ok(None)
+    }
+}
+
+/// Returns the set of the numbers of every range of an array, if `in_range` allows them.
+pub fn set_of_range_array<B: Width, const N: usize>(
+    alloc: Global,
+    ranges: [RangeInclusive<B>; N],
+) -> Result<Option<IntervalSet<B>>, AllocError>
+    ensures { IfOk result (λ o. MatchOption o (¬ (All (λ r. IsInRange B.whole (B.value (range_inclusive_start r), B.value (range_inclusive_end r))) ranges)) (λ L. IsRunsOf L (Covers (map (λ r. (B.value (range_inclusive_start r), B.value (range_inclusive_end r))) ranges)))) }
+{
+    if ranges.in_range() {
+        Ok(Some(ranges.to_interval_set(alloc)?))
+    } else {
+        Ok(None)
+    }
+}
+
 /// Returns the set of the members of every interval of a list, by its iterator.
 pub fn set_by_iterator<B: Width>(
     alloc: Global,

@@ -2,4 +2,3 @@ pub mod Indexes
 pub mod Ranges
 pub mod Answering
 pub mod Printed
-pub mod Outcome

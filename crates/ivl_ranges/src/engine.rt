@@ -1,10 +1,10 @@
-//! What answers the lines of a session, and how the session ends.
+//! What answers the lines of a session.
 ghost use Rattle.std.specs.Prelude.{◌≡◌, ℕ, List, [], IfSome, IsErrOf, OnOk};
 ghost use Rattle.std.specs.Io.KnownBytes.{Appends, Consumes, IsAtEnd};
-ghost use Rattle.ivl_lines.specs.Answered.{IsAnswered};
+ghost use Rattle.ivl_lines.specs.Answered.{AnswersOrLoses, IsAnswered};
+ghost use Rattle.ivl_lines.specs.Commands.{no_memory};
 ghost use Rattle.ivl_lines.specs.Lines.{ended_lines_of, lines_of};
 ghost use Rattle.ivl_ranges.specs.Answering.{AnswersLine, State};
-ghost use Rattle.ivl_ranges.specs.Outcome.{outcome_of};
 
 use crate::reply::write_told;
 use crate::state::Access;
@@ -42,9 +42,9 @@ impl AnswersCommands for Access {
 /// # Errors
 ///
 /// `Read` if a read failed, or the reader still returned bytes after 2^64 - 1 reads; an interrupted
-/// read is repeated. `Write` if a write or a flush failed. `Memory` if an allocation for the bytes
-/// of a line failed. A line that runs out of memory when it is carried out is answered with that,
-/// and the session continues.
+/// read is repeated. `Write` if a write or a flush failed. `Memory` if there is no memory to begin:
+/// nothing is then read or written. A line that runs out of memory when it is read or carried out is
+/// answered with that, and the session continues.
 pub fn session<R: Read, W: Write>(
     alloc: Global,
     reader: &mut R,
@@ -53,25 +53,15 @@ pub fn session<R: Read, W: Write>(
     // All bytes were read, and what is written answers their lines.
     ensures end { OnOk result (IsAtEnd (R.remaining reader.new)) }
     ensures ok { OnOk result (IfSome (R.remaining reader.old) (λ bytes. (text : List ℕ) × (end : State)
-        × IsAnswered AnswersLine (record { index = []; offset = []; length = 0 }) (lines_of bytes) text end
+        × IsAnswered (AnswersOrLoses no_memory AnswersLine) (record { index = []; offset = []; length = 0 }) (lines_of bytes) text end
         × Appends (W.contents writer.old) (W.contents writer.new) text)) }
     // What is written answers the ended lines of the bytes that the reader gave.
     ensures read { IsErrOf result SessionFault.Read → (front : List ℕ) × (text : List ℕ) × (end : State)
         × Consumes (R.remaining reader.old) (R.remaining reader.new) front
-        × IsAnswered AnswersLine (record { index = []; offset = []; length = 0 }) (ended_lines_of front) text end
+        × IsAnswered (AnswersOrLoses no_memory AnswersLine) (record { index = []; offset = []; length = 0 }) (ended_lines_of front) text end
         × Appends (W.contents writer.old) (W.contents writer.new) text }
+    // There was no memory to begin.
+    ensures memory { IsErrOf result SessionFault.Memory → (reader.new ≡ reader.old) × (writer.new ≡ writer.old) }
 {
     serve(alloc, &mut Access::new(alloc), reader, writer)
-}
-
-/// Returns the exit status of the program, and what it writes to standard error.
-pub fn outcome(ended: &Result<(), SessionFault>) -> (u8, &'static str)
-    ensures { (result.0, result.1.now) ≡ outcome_of ended.now }
-{
-    match ended {
-        Ok(()) => (0, ""),
-        Err(SessionFault::Read) => (1, "ivl_ranges: read failed"),
-        Err(SessionFault::Write) => (1, "ivl_ranges: write failed"),
-        Err(SessionFault::Memory) => (1, "ivl_ranges: out of memory"),
-    }
 }

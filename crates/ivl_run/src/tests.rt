@@ -7,7 +7,8 @@ mod memory;
 mod tables;
 mod words;
 
-use ivl_calculator_lines::{SessionFault, outcome, session};
+use ivl_calculator_lines::session;
+use ivl_lines::{SessionFault, outcome};
 use std::alloc::{AllocError, Global};
 use std::process::Abort;
 use std::test::Fail;
@@ -155,9 +156,9 @@ fn a_long_list_of_pairs(rt: HostRuntime) -> Result<(), Fail> {
 fn outcomes(rt: HostRuntime) {
     for (ended, status) in [
         (Ok(()), (0, "")),
-        (Err(SessionFault::Read), (1, "ivl_run: read failed")),
-        (Err(SessionFault::Write), (1, "ivl_run: write failed")),
-        (Err(SessionFault::Memory), (1, "ivl_run: out of memory")),
+        (Err(SessionFault::Read), (1, "read failed")),
+        (Err(SessionFault::Write), (1, "write failed")),
+        (Err(SessionFault::Memory), (1, "out of memory")),
     ] {
         assert_eq!(rt; outcome(&ended), status);
     }

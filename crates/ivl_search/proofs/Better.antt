@@ -5,8 +5,8 @@ use Rattle.std.proofs.lemmas.Int.{ints}
 use Rattle.std.proofs.lemmas.List.{get_or-map}
 use Rattle.ivl_search.specs.Best.{IsAsGood, IsBestAt, IsBetter}
 use Rattle.ivl_search.specs.Points.{coordinate}
-use Rattle.ivl_search.specs.declared.search.optimum.Wanted.{Wanted}
-use Rattle.ivl_search.specs.declared.search.optimum.Wanted.TheVariants.{Least, Greatest}
+use Rattle.ivl_search.specs.declared.search.choice.Wanted.{Wanted}
+use Rattle.ivl_search.specs.declared.search.choice.Wanted.TheVariants.{Least, Greatest}
 use Rattle.ivl_search.proofs.Cuts.{le_or_lt}
 
 -- the numbers of a point are better at a variable than those of the best so far, if there is one

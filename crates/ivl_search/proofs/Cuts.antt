@@ -98,24 +98,6 @@ cut_solves constraints old new variable S same known cut point = (
 pub le_or_lt : (x v : ℤ) → (x ≤ℤ v) ⊎ (v <ℤ x)
 le_or_lt x v = by_lt_z v x (λ lt. inr lt) (λ le. inl le)
 
-not_both : (x v : ℤ) → x ≤ℤ v → v <ℤ x → ⊥
-not_both x v a b = omega (arith, ints)
-
--- where the solutions up to a value are found, those above it are left
-pub above_left : (all : List ℤ → Type 0) (found more : List (List ℤ)) (constraints : List Constraint) (sets low high : List (List (ℤ × ℤ))) (variable : ℕ) (value : ℤ)
-    → IsLeft all found (Solves constraints sets) → Finds (Solves constraints low) more AllFound → variable < length sets
-    → length low ≡ length sets → IsCutAt variable (λ v. v ≤ℤ value) (set_at sets) (set_at low)
-    → length high ≡ length sets → IsCutAt variable (λ v. value <ℤ v) (set_at sets) (set_at high)
-    → IsLeft all (found ++ more) (Solves constraints high)
-above_left all found more constraints sets low high variable value l f known same_low cut_low same_high cut_high =
-    let lows = cut_solves constraints sets low variable (λ v. v ≤ℤ value) same_low known cut_low in
-    let highs = cut_solves constraints sets high variable (λ v. value <ℤ v) same_high known cut_high in
-    left_part all (Solves constraints sets) (Solves constraints low) (Solves constraints high) found more l f
-    (λ point h. ((lows point).0 h).0)
-    (λ point h. ((highs point).0 h).0)
-    (λ point h k. not_both (coordinate point variable) value ((lows point).0 h).1 ((highs point).0 k).1)
-    (λ point h. elim (le_or_lt (coordinate point variable) value) [ inl le ↦ inl ((lows point).1 (h, le)) | inr lt ↦ inr ((highs point).1 (h, lt)) ])
-
 -- no point gives an empty set a member
 pub none_solves : (constraints : List Constraint) (sets : List (List (ℤ × ℤ))) → HasEmpty (length sets) (set_at sets) → (point : List ℤ) → Solves constraints sets point → ⊥
 none_solves constraints sets h point s = h.empty (coordinate point h.variable) (s.members h.variable h.known)

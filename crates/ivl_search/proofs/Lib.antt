@@ -1,5 +1,11 @@
 pub mod Better
+pub mod Budget
 pub mod Cuts
+pub mod Halves
+pub mod Opening
+pub mod Paths
 pub mod Popping
 pub mod Progress
 pub mod Requiring
+pub mod Rooms
+pub mod Spending

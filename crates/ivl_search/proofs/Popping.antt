@@ -1,9 +1,10 @@
 -- The last of the points that are kept, and what a half without one leaves.
-use Rattle.std.proofs.Common.{◌≡◌, ◌<◌, ℕ, Bool, true, false, [], ◌∷◌, List, get_or, length, map, refl, subst, sym, ◌∙◌, arith}
-use Rattle.std.specs.Prelude.{ℤ, Option, Some, None, IfNone, IfSome, IsSome, MatchOption, if◌then◌else◌, nat_le}
-use Rattle.std.specs.Option.{option_or}
+use Rattle.std.proofs.Common.{◌≡◌, ◌<◌, ℕ, Bool, true, false, [], ◌∷◌, ◌++◌, List, ap, get_or, length, map, refl, subst, sym, ◌∙◌, arith}
+use Rattle.std.specs.Prelude.{ℤ, All, Contains, Option, Some, None, IfNone, IfSome, IsSome, MatchOption, if◌then◌else◌, nat_le}
+use Rattle.std.specs.Option.{option_or, option_to_list}
 use Rattle.std.proofs.lemmas.Bool.{false≢true, leb-false}
-use Rattle.std.proofs.lemmas.List.{get_or_default}
+use Rattle.std.proofs.lemmas.List.{get_or_default, map_push}
+use Rattle.std.proofs.lemmas.List.Elements.{All-contains, Contains-push}
 use Rattle.ivl_laws.specs.Runs.{Covers}
 use Rattle.ivl_laws.specs.Sets.{HasNone}
 use Rattle.ivl_store.specs.declared.store.constraint.Constraint.{Constraint}
@@ -43,3 +44,15 @@ none_of_two (Some i) b v e = cc
 -- a variable that is not told as unknown is known
 pub known_variable : (variable count : ℕ) (constraints : List Constraint) → first_unknown_or variable count constraints ≡ None → variable < count
 known_variable variable count constraints e = leb-false count variable (none_of_two (first_unknown_of count constraints) (nat_le count variable) variable e)
+
+-- what holds of all points holds of the last
+pub all_of_last : {A : Type 0} (read : A → List ℤ) (last : Option A) (before items : List A) (points : List (List ℤ)) (P : List ℤ → Type 0)
+    → items ≡ before ++ option_to_list last → map read items ≡ points → All P points → IfSome last (λ x. P (read x))
+all_of_last read None before items points P is mapped all = tt
+all_of_last read (Some x) before items points P is mapped all =
+    let e : points ≡ map read before ++ read x ∷ [] = sym mapped ∙ ap (map read) is ∙ map_push read before x in
+    All-contains P points (read x) all (subst (λ ps. Contains ps (read x)) (sym e) (Contains-push (map read before) (read x)))
+
+pub if_some_always : {A : Type 0} (o : Option A) (P : Type 0) → P → IfSome o (λ x. P)
+if_some_always None P h = tt
+if_some_always (Some x) P h = h

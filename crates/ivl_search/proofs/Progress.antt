@@ -76,37 +76,26 @@ left_part solves rest low high found more l f in_low in_high apart cases = let b
   ];
 }
 
--- where the search of a part stops early, it stops
-pub stopped_in_part : (solves rest part : List ℤ → Type 0) (found more : List (List ℤ)) (end : End) → IsLeft solves found rest → Finds part more end
-    → end ≢ AllFound → ((point : List ℤ) → part point → rest point) → Finds solves (found ++ more) end
-stopped_in_part solves rest part found more end l f ne within = let both = found_more solves rest part found more l f.sound f.once within in record {
-  sound = both.0;
-  once = both.1;
-  complete = λ e. absurd (ne e);
-}
-
 -- it may stop at any time
 pub stopped : (solves rest : List ℤ → Type 0) (found : List (List ℤ)) (end : End) → IsLeft solves found rest → end ≢ AllFound → Finds solves found end
 stopped solves rest found end l ne = record { sound = l.sound; once = l.once; complete = λ e. absurd (ne e) }
 
--- all is found where none is left
-pub none_left : (solves rest : List ℤ → Type 0) (found : List (List ℤ)) (end : End) → IsLeft solves found rest → ((point : List ℤ) → rest point → ⊥) → Finds solves found end
-none_left solves rest found end l none = record {
-  sound = l.sound;
-  once = l.once;
-  complete = λ e point h. elim (l.cases point h) [ inl c ↦ c | inr r ↦ absurd (none point r) ];
+-- all is found where all of the rest is
+pub all_found : (solves rest : List ℤ → Type 0) (found more : List (List ℤ)) → IsLeft solves found rest → Finds rest more AllFound → Finds solves (found ++ more) AllFound
+all_found solves rest found more l f = let both = found_more solves rest rest found more l f.sound f.once (λ point r. r) in record {
+  sound = both.0;
+  once = both.1;
+  complete = λ e point s. elim (l.cases point s) [ inl c ↦ Contains-append_left found more point c | inr r ↦ Contains-append_right found more point (f.complete refl point r) ];
 }
 
--- or one alone, which is found now
-pub one_left : (solves rest : List ℤ → Type 0) (found : List (List ℤ)) (one : List ℤ) (end : End) → IsLeft solves found rest → rest one
-    → ((point : List ℤ) → rest point → point ≡ one) → Finds solves (found ++ one ∷ []) end
-one_left solves rest found one end l h only =
-    let both = found_more solves rest rest found (one ∷ []) l (All-cons rest one [] h (All-nil rest)) ((λ c. Contains-none one c), tt) (λ point r. r) in
-    record {
-      sound = both.0;
-      once = both.1;
-      complete = λ e point s. elim (l.cases point s) [
-        | inl c ↦ Contains-append_left found (one ∷ []) point c
-        | inr r ↦ Contains-append_right found (one ∷ []) point (subst (Contains (one ∷ [])) (sym (only point r)) (Contains-head one []))
-      ];
-    }
+-- where there is none, none is found
+pub finds_none : (solves : List ℤ → Type 0) → ((point : List ℤ) → solves point → ⊥) → Finds solves [] AllFound
+finds_none solves none = record { sound = All-nil solves; once = tt; complete = λ e point s. absurd (none point s) }
+
+-- where there is one, it is found
+pub finds_one : (solves : List ℤ → Type 0) (one : List ℤ) → solves one → ((point : List ℤ) → solves point → point ≡ one) → Finds solves (one ∷ []) AllFound
+finds_one solves one s only = record {
+  sound = All-cons solves one [] s (All-nil solves);
+  once = ((λ c. Contains-none one c), tt);
+  complete = λ e point h. subst (Contains (one ∷ [])) (sym (only point h)) (Contains-head one []);
+}

@@ -1,7 +1,7 @@
 -- Constraints that are required one by one.
-use Rattle.std.proofs.Common.{◌≡◌, ◌<◌, ℕ, ◌⊎◌, ◌+◌, inl, inr, sym, subst, arith, List, [], ◌∷◌, ◌++◌, length, get_or, take}
+use Rattle.std.proofs.Common.{◌≡◌, ◌<◌, ◌≤◌, ◌∙◌, ℕ, ◌⊎◌, ◌+◌, ap, inl, inr, sym, subst, arith, List, [], ◌∷◌, ◌++◌, length, get_or, take}
 use Rattle.std.specs.Prelude.{ℤ, ◌↔◌, Contains}
-use Rattle.std.proofs.lemmas.List.{take_more}
+use Rattle.std.proofs.lemmas.List.{length_push, take_more}
 use Rattle.std.proofs.lemmas.List.Elements.{All-contains, Contains-get_or, Contains-append_left, Contains-push, Contains-push_cases}
 use Rattle.ivl_store.specs.declared.store.constraint.Constraint.{Constraint}
 use Rattle.ivl_store.specs.Network.{IsRequired}
@@ -65,3 +65,8 @@ required_solves constraints required sets same point = (
     in_list : {d : Constraint} → Contains [] d ⊎ Contains constraints d → Contains constraints d
     in_list {d} (inl n) = absurd (none_in d n)
     in_list (inr h) = h
+
+-- one more constraint at most
+pub required_count : (c : Constraint) (old new : List Constraint) → IsRequired c old new → length new ≤ length old + 1
+required_count c old new (inl same) = let e = ap length same.1 in omega (arith, e)
+required_count c old new (inr more) = let e = ap length more.1 ∙ length_push old c in omega (arith, e)

@@ -3,8 +3,8 @@
 --     IsAsGood wanted old new      it is at most the old one, or at least, as is wanted
 --     IsBestAt wanted variable solves point      no solution gives the variable a better number
 use Rattle.std.specs.Prelude.{ℕ, ℤ, ◌≤ℤ◌, ◌<ℤ◌, List}
-use Rattle.ivl_search.specs.declared.search.optimum.Wanted.{Wanted}
-use Rattle.ivl_search.specs.declared.search.optimum.Wanted.TheVariants.{Least, Greatest}
+use Rattle.ivl_search.specs.declared.search.choice.Wanted.{Wanted}
+use Rattle.ivl_search.specs.declared.search.choice.Wanted.TheVariants.{Least, Greatest}
 use Rattle.ivl_search.specs.Points.{IsGreatestAt, IsLeastAt}
 
 abbrev pub IsBetter : Wanted → ℤ → ℤ → Type 0

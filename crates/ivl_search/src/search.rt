@@ -7,11 +7,14 @@
 //!
 //! The search narrows the domains by the constraints, takes the smallest domain that has two members
 //! or more, the first of these if there are several, and cuts it in two: the least member and the
-//! others, or halves if it has more than 64. It searches the lower part first. The order in which
-//! solutions are found is no part of the contract.
-ghost use Rattle.std.specs.Prelude.{◌≡◌, ◌≤◌, ◌↔◌, ℕ, ℤ, List, All, Contains, Err, IfNone, IfOk, IfSome, IsNone, IsTrue, Some, length, map};
+//! others, or halves if it has more than 64. It searches the lower part first; [`greatest`] cuts off
+//! the greatest member, and searches the upper part first. The cuts on the way from the root are a
+//! list in memory, so the stack does not grow with them. The order in which solutions are found is no
+//! part of the contract.
+ghost use Rattle.std.specs.Prelude.{◌≡◌, ◌<◌, ◌≤◌, ◌↔◌, ℕ, ℤ, List, All, Contains, Err, IfNone, IfOk, IfSome, IsNone, IsTrue, Some, length, map};
 ghost use Rattle.ivl_store.specs.Narrowing.{first_unknown_of};
 ghost use Rattle.ivl_store.specs.Solutions.{AreDistinct};
+ghost use Rattle.ivl_search.specs.Budget.{nodes_enough, nodes_for_best};
 ghost use Rattle.ivl_search.specs.Points.{EachOnce, Finds, IsGreatestAt, IsLeastAt, Solves, first_unknown_or};
 
 use intervallum::interval_set::IntervalSet;
@@ -26,8 +29,9 @@ mod optimum;
 mod setup;
 mod steps;
 
+use choice::Wanted;
 use descent::{Kept, search};
-use optimum::{Wanted, best_at};
+use optimum::best_at;
 use setup::{first_unknown, network_of};
 
 /// How many narrowings one node takes at most. A caller with a budget of narrowings divides it by
@@ -52,8 +56,7 @@ pub enum End {
     All,
     /// So many solutions are found as the limit allows. There may be others.
     Solutions,
-    /// So many nodes are visited as the limit allows, or a branch is 4,000 cuts deep. There may be
-    /// other solutions.
+    /// So many nodes are visited as the limit allows. There may be other solutions.
     Nodes,
 }
 
@@ -106,8 +109,11 @@ impl From<AllocError> for SearchFault {
 /// The caller must ensure that each constraint has three different variables. Check with
 /// [`Constraint::distinct`], or [`all_distinct`] for a list.
 ///
+/// Returns [`End::Nodes`] only if `limits.nodes` is less than `(2 p - 1) * (c / 500 + 1)` for `c`
+/// constraints, where `p` is the product of the sizes of the domains, or 1 if that is 0.
+///
 /// Copies the domains once. Each node costs its narrowings and a pass over the domains; memory is
-/// that of the solutions and of the domains that one branch replaces.
+/// that of the solutions, of the domains that one branch replaces, and of the cuts of the branch.
 ///
 /// # Errors
 ///
@@ -137,6 +143,7 @@ pub fn solutions<B: Width>(
     ensures complete { IfOk result (λ found. found.end ≡ End.All → (point : List ℤ) → Solves constraints.now domains.now point → Contains (map (λ point. map B.value point.items) found.points.items) point) }
     ensures bounded { IfOk result (λ found. length found.points.items ≤ limits.solutions) }
     ensures full { IfOk result (λ found. found.end ≡ End.Solutions → length found.points.items ≡ limits.solutions) }
+    ensures enough { IfOk result (λ found. found.end ≡ End.Nodes → limits.nodes < nodes_enough B.whole constraints.now domains.now) }
 {
     if let Some(i) = first_unknown(constraints, domains.len()) {
         return Err(SearchFault::Variable(i));
@@ -148,7 +155,7 @@ pub fn solutions<B: Width>(
         is_kept: true,
         points,
     };
-    let end = search(alloc, &mut network, DEPTH, &mut left, &mut found)?;
+    let end = search(alloc, &mut network, Wanted::Least, &mut left, &mut found)?;
     Ok(Found {
         points: found.points,
         end,
@@ -174,6 +181,7 @@ pub fn try_solutions<B: Width>(
     ensures complete { IfOk result (λ o. IfSome o (λ found. found.end ≡ End.All → (point : List ℤ) → Solves constraints.now domains.now point → Contains (map (λ point. map B.value point.items) found.points.items) point)) }
     ensures bounded { IfOk result (λ o. IfSome o (λ found. length found.points.items ≤ limits.solutions)) }
     ensures full { IfOk result (λ o. IfSome o (λ found. found.end ≡ End.Solutions → length found.points.items ≡ limits.solutions)) }
+    ensures enough { IfOk result (λ o. IfSome o (λ found. found.end ≡ End.Nodes → limits.nodes < nodes_enough B.whole constraints.now domains.now)) }
 {
     if all_distinct(constraints) {
         match solutions(alloc, domains, constraints, limits) {
@@ -228,6 +236,7 @@ pub fn count<B: Width>(
     ensures counted { IfOk result (λ r. (points : List (List ℤ)) × (length points ≡ r.0) × Finds (Solves constraints.now domains.now) points r.1) }
     ensures bounded { IfOk result (λ r. r.0 ≤ limits.solutions) }
     ensures full { IfOk result (λ r. r.1 ≡ End.Solutions → r.0 ≡ limits.solutions) }
+    ensures enough { IfOk result (λ r. r.1 ≡ End.Nodes → limits.nodes < nodes_enough B.whole constraints.now domains.now) }
 {
     if let Some(i) = first_unknown(constraints, domains.len()) {
         return Err(SearchFault::Variable(i));
@@ -238,7 +247,7 @@ pub fn count<B: Width>(
         is_kept: false,
         points: Vec::new(alloc),
     };
-    let end = search(alloc, &mut network, DEPTH, &mut left, &mut found)?;
+    let end = search(alloc, &mut network, Wanted::Least, &mut left, &mut found)?;
     Ok((limits.solutions - left.solutions, end))
 }
 
@@ -256,7 +265,10 @@ pub fn count<B: Width>(
 /// Copies the domains once. Each search looks for one solution among the lower half of the numbers
 /// that the variable can still have; then these are cut to what is below it, or to the upper half if
 /// there is none. So there are at most 64 searches, which share the nodes. Memory is that of two
-/// solutions and of the domains that one branch replaces.
+/// solutions, of the domains that one branch replaces, and of the cuts of the branch.
+///
+/// Returns [`End::Nodes`] only if `limits.nodes` is at most `2 p * (c / 500 + 1)`, with `p` and `c`
+/// as for [`solutions`].
 ///
 /// # Errors
 ///
@@ -286,12 +298,14 @@ pub fn least<B: Width>(
     ensures best { IfOk result (λ best. best.end ≡ End.All → IfSome best.point (λ point. IsLeastAt variable (Solves constraints.now domains.now) (map B.value point.items))) }
     ensures none { IfOk result (λ best. best.end ≡ End.All → IfNone best.point ((point : List ℤ) → ¬ (Solves constraints.now domains.now point))) }
     ensures full { IfOk result (λ best. best.end ≡ End.Solutions → IfNone best.point (limits.solutions ≡ 0)) }
+    ensures enough { IfOk result (λ best. best.end ≡ End.Nodes → limits.nodes < nodes_for_best B.whole constraints.now domains.now) }
 {
     best_at(alloc, domains, constraints, variable, limits, Wanted::Least)
 }
 
 /// Returns a solution in which a variable has its greatest number, as [`least`] does one with its
-/// least: no solution gives it a greater one.
+/// least: no solution gives it a greater one. Searches greater numbers first, of every variable, and
+/// so visits as many nodes as [`least`] does where all numbers have the other sign.
 ///
 /// The caller must ensure that each constraint has three different variables. Check with
 /// [`Constraint::distinct`], or [`all_distinct`] for a list.
@@ -323,6 +337,7 @@ pub fn greatest<B: Width>(
     ensures best { IfOk result (λ best. best.end ≡ End.All → IfSome best.point (λ point. IsGreatestAt variable (Solves constraints.now domains.now) (map B.value point.items))) }
     ensures none { IfOk result (λ best. best.end ≡ End.All → IfNone best.point ((point : List ℤ) → ¬ (Solves constraints.now domains.now point))) }
     ensures full { IfOk result (λ best. best.end ≡ End.Solutions → IfNone best.point (limits.solutions ≡ 0)) }
+    ensures enough { IfOk result (λ best. best.end ≡ End.Nodes → limits.nodes < nodes_for_best B.whole constraints.now domains.now) }
 {
     best_at(
         alloc,
@@ -333,6 +348,3 @@ pub fn greatest<B: Width>(
         Wanted::Greatest,
     )
 }
-
-// A branch is cut at most so often, so that no call overflows the stack.
-const DEPTH: u32 = 4_000;

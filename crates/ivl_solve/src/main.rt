@@ -5,11 +5,10 @@
 #[cfg(test)]
 mod tests;
 
-use ivl_lines::{Start, VERSION, start_of};
-use ivl_store_lines::{SessionFault, outcome, session};
-use std::io::BufWriter;
+use ivl_lines::{Program, SessionFault, run};
+use std::collections::hash_map::RandomState;
+use std::io::{Read, Write};
 use std::process::ExitCode;
-use std::{env, io};
 
 const HELP: &str = "\
 Narrows the domains of variables by sums: reads one line at a time from standard input, and answers each.
@@ -17,7 +16,7 @@ Narrows the domains of variables by sums: reads one line at a time from standard
   var x l u l u ..     a new variable, whose domain is the union of the pairs
   cut x l u l u ..     x keeps the members of its domain that are in the union of the pairs, one or more
   sum x y z            x + y = z, from now on
-  limit n              each later line narrows domains at most n times; 1000000 at the start
+  limit n              what the narrowings of each later line may count for; 1000000 at the start
   go on                narrows further
   show                 the domain of each variable
   show x               the domain of this one
@@ -30,34 +29,23 @@ what it found before that; `solve n` ends with `more possible` where there may b
 --version prints the version.
 ";
 
-fn main(rt: HostRuntime) -> io::Result<ExitCode> {
-    let mut words = env::args(&rt)?;
-    let (_, first) = (words.next(), words.next());
-    match start_of(first.as_deref(), words.next().is_some()) {
-        Start::Lines => answer_lines(&rt),
-        Start::Help => {
-            print!(rt; "{HELP}")?;
-            Ok(ExitCode::SUCCESS)
-        }
-        Start::Version => {
-            println!(rt; "ivl_solve {VERSION}")?;
-            Ok(ExitCode::SUCCESS)
-        }
-        Start::Other => {
-            eprint!(rt; "{HELP}")?;
-            Ok(ExitCode::from(2))
-        }
+struct Lines;
+
+impl Program for Lines {
+    const NAME: &'static str = "ivl_solve";
+
+    fn session<R: Read, W: Write>(
+        rt: &HostRuntime,
+        reader: &mut R,
+        writer: &mut W,
+    ) -> Result<(), SessionFault> {
+        let Ok(keys) = RandomState::new(rt) else {
+            return Err(SessionFault::Read);
+        };
+        ivl_store_lines::session(rt.alloc(), keys, reader, writer)
     }
 }
 
-fn answer_lines(rt: &HostRuntime) -> io::Result<ExitCode> {
-    let ended = match BufWriter::new(rt.alloc(), rt.stdout()) {
-        Ok(mut writer) => session(rt.alloc(), &mut rt.stdin(), &mut writer),
-        Err(_) => Err(SessionFault::Memory),
-    };
-    let (status, line) = outcome(&ended);
-    if !line.is_empty() {
-        eprintln!(rt; "{line}")?;
-    }
-    Ok(ExitCode::from(status))
+fn main(rt: HostRuntime) -> ExitCode {
+    run::<Lines>(&rt, HELP)
 }

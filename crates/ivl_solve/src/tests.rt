@@ -3,16 +3,24 @@
 //! The proof of a test pays for each assertion and for each `?`, so that the tests share a few functions that have them.
 mod ends;
 
-use ivl_store_lines::{SessionFault, outcome, session};
+use ivl_lines::{SessionFault, outcome};
+use ivl_store_lines::session;
 use std::alloc::Global;
+use std::collections::hash_map::RandomState;
 use std::process::Abort;
+use std::random::RandomSource;
 use std::test::Fail;
 
+// Keys for the names of a session.
+fn keys(rt: &(impl RandomSource + Abort)) -> RandomState {
+    RandomState::new(rt).expect(rt, "random numbers")
+}
+
 // A session over these bytes ends with its input, and writes these answers.
-fn check_bytes(rt: &(impl Alloc<A = Global> + Abort), lines: &[u8], answers: &str) {
+fn check_bytes(rt: &(impl Alloc<A = Global> + RandomSource + Abort), lines: &[u8], answers: &str) {
     let mut input = lines;
     let mut written = Vec::new(rt.alloc());
-    let ended = session(rt.alloc(), &mut input, &mut written);
+    let ended = session(rt.alloc(), keys(rt), &mut input, &mut written);
     let text = str::from_utf8(&written);
     assert_eq!(rt;
         (ended, text),
@@ -23,7 +31,7 @@ fn check_bytes(rt: &(impl Alloc<A = Global> + Abort), lines: &[u8], answers: &st
 }
 
 // A session over these lines ends with its input, and writes these answers.
-fn check_session(rt: &(impl Alloc<A = Global> + Abort), lines: &str, answers: &str) {
+fn check_session(rt: &(impl Alloc<A = Global> + RandomSource + Abort), lines: &str, answers: &str) {
     check_bytes(rt, lines.as_bytes(), answers);
 }
 
@@ -67,6 +75,27 @@ fn a_line_goes_on(rt: HostRuntime) {
         limit 1000\ngo on\nsum a one b\n";
     let answers = "ok\nok\nok\nok\nok\nunfinished\nunfinished\nunfinished\nunfinished\n\
         no solution\nno solution\n";
+    check_session(&rt, lines, answers);
+}
+
+// Ten runs each make three times a hundred pairs, so that the narrowing counts for two.
+#[test]
+fn a_limit_bounds_one_narrowing(rt: HostRuntime) {
+    let pairs = "0 0 2 2 4 4 6 6 8 8 10 10 12 12 14 14 16 16 18 18";
+    let lines = format!(in rt.alloc();
+        "var x {pairs}\nvar y {pairs}\nvar z {pairs}\nlimit 1\nsum x y z\ngo on\ncut x 2 9\nlimit 2\ngo on\nshow x\n"
+    );
+    let answers = "ok\nok\nok\nok\nunfinished\nunfinished\nunfinished\nunfinished\nok\n\
+        x {[2..2][4..4][6..6][8..8]}\nok\n";
+    check_session(&rt, lines.expect(&rt, "memory").as_str(), answers);
+}
+
+// Once a domain is empty there is no solution, whatever is asked and whatever the limit.
+#[test]
+fn no_solution_is_known(rt: HostRuntime) {
+    let lines = "var x 1 9\nvar y\nsolve 0\nlimit 0\nsolve 0\nsolve\ncount\nmin x\nmax y\n";
+    let answers = "ok\nno solution\nno solution\nno solution\nno solution\nno solution\n\
+        count 0\nno solution\nno solution\nno solution\n";
     check_session(&rt, lines, answers);
 }
 
@@ -239,9 +268,9 @@ fn ends_of_lines(rt: HostRuntime) {
 fn outcomes(rt: HostRuntime) {
     for (ended, status) in [
         (Ok(()), (0, "")),
-        (Err(SessionFault::Read), (1, "ivl_solve: read failed")),
-        (Err(SessionFault::Write), (1, "ivl_solve: write failed")),
-        (Err(SessionFault::Memory), (1, "ivl_solve: out of memory")),
+        (Err(SessionFault::Read), (1, "read failed")),
+        (Err(SessionFault::Write), (1, "write failed")),
+        (Err(SessionFault::Memory), (1, "out of memory")),
     ] {
         assert_eq!(rt; outcome(&ended), status);
     }

@@ -1,7 +1,6 @@
 -- Examples of the laws of supported families: what each says of given posts, families and points.
-use Rattle.std.proofs.Common.{◌≡◌, ℕ, zero, suc, ◌+◌, ◌<◌, inl, inr, refl, arith, List, [], ◌∷◌, take}
+use Rattle.std.proofs.Common.{ℕ, zero, suc, inl, inr, refl, arith, List, [], ◌∷◌}
 use Rattle.std.specs.Prelude.{ℤ, pos, ◌↔◌, ◌⊎◌}
-use Rattle.std.specs.List.Sorted.{IsPermutation}
 use Rattle.std.proofs.lemmas.Int.{ints}
 use Rattle.std.proofs.lemmas.List.Elements.{All-nil, All-cons}
 use Rattle.std.proofs.lemmas.List.Sorted.{All-permutation, IsPermutation-refl, IsPermutation-reverse, IsPermutation-sym}
@@ -9,7 +8,7 @@ use Rattle.ivl_laws.specs.Runs.{Covers}
 use Rattle.ivl_laws.specs.Families.{set_at}
 use Rattle.ivl_store.specs.declared.store.constraint.Constraint.{Constraint}
 use Rattle.ivl_store.specs.declared.store.post.Post.{Post}
-use Rattle.ivl_store.specs.declared.store.post.Post.TheVariants.{Restrict, Require}
+use Rattle.ivl_store.specs.declared.store.post.Post.TheVariants.{Restrict}
 use Rattle.ivl_store.specs.Solutions.{IsSolution, IsCommonSolution, Supports, SupportedBy, LiesWithin}
 use Rattle.ivl_store.specs.Posts.{CutBy, IsLeftBy}
 use Rattle.ivl_store.specs.FamilyLaws.{UnionIsSupported, LaterLiesWithin, LeftIsOne, OrderPlaysNoPart, IsFamilyOf, SolutionIsFamily, SolutionsStay}

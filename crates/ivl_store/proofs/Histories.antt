@@ -1,5 +1,5 @@
 -- What the calls of a network keep.
-use Rattle.std.proofs.Common.{◌≡◌, ◌∙◌, ℕ, ◌<◌, ◌≤◌, ◌⊎◌, inl, inr, refl, sym, subst, arith, List, [], ◌∷◌, ◌++◌, length, get_or, take}
+use Rattle.std.proofs.Common.{◌≡◌, ◌∙◌, ℕ, ◌<◌, ◌≤◌, inl, inr, refl, sym, subst, arith, List, [], ◌∷◌, ◌++◌, length, get_or, take}
 use Rattle.std.specs.Prelude.{ℤ, All}
 use Rattle.std.proofs.Math.ListN.{get_or-append, get_or-eq_default}
 use Rattle.std.proofs.Math.Nat.{min-le_left}
@@ -10,7 +10,7 @@ use Rattle.ivl_laws.specs.Runs.{Covers}
 use Rattle.ivl_store.specs.declared.store.constraint.Constraint.{Constraint}
 use Rattle.ivl_store.specs.Narrowing.{AllPresent, Keeps}
 use Rattle.ivl_store.specs.Network.{IsCutAt, IsRequired}
-use Rattle.ivl_store.specs.Solutions.{HasSolutionAt, IsGreatestFamily, LiesWithin, Names, Supports, SupportedBy}
+use Rattle.ivl_store.specs.Solutions.{HasSolutionAt, IsGreatestFamily, LiesWithin, Supports, SupportedBy}
 use Rattle.ivl_store.proofs.Lists.{All-first}
 
 -- a cut of the posted sets and of the domains

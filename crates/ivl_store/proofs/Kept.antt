@@ -1,5 +1,5 @@
 -- Domains that are on the trail since the last mark, so that they are not written down again.
-use Rattle.std.proofs.Common.{◌≡◌, ◌≢◌, ◌∙◌, ◌+◌, ◌-◌, ◌<◌, ◌≤◌, ◌⊎◌, inl, inr, ℕ, zero, suc, ap, arith, drop, get_or, length, length-drop, List, [], ◌∷◌, Bool, false, refl, set, subst, sym, take, get_or-drop}
+use Rattle.std.proofs.Common.{◌≡◌, ◌∙◌, ◌-◌, ◌<◌, ◌≤◌, ◌⊎◌, inl, inr, ℕ, zero, suc, ap, arith, drop, get_or, length, length-drop, List, [], ◌∷◌, Bool, false, refl, set, subst, sym, take, get_or-drop}
 use Rattle.std.specs.Prelude.{ℤ, All, HoldsAt, IsSome, Option, Some, None}
 use Rattle.std.proofs.lemmas.Bool.{cases_eq, false≢true}
 use Rattle.std.proofs.lemmas.List.{length-set, length-take, set-set, set_comm}

@@ -3,8 +3,11 @@ mod ExamplesLaws
 mod ExamplesPosts
 mod ExamplesRounds
 mod ExamplesStore
+pub mod Budgets
+pub mod Costs
 pub mod Counting
 pub mod Counts
+pub mod Empties
 pub mod Families
 pub mod Histories
 pub mod Indexes

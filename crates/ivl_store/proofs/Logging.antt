@@ -1,5 +1,5 @@
 -- What the calls of a network leave of its trail and its marks.
-use Rattle.std.proofs.Common.{◌≡◌, ◌∙◌, ◌<◌, ◌≤◌, ◌⊎◌, inl, inr, ℕ, ap, arith, get_or, length, List, [], ◌∷◌, ◌++◌, Bool, true, false, refl, subst, sym, take}
+use Rattle.std.proofs.Common.{◌≡◌, ◌∙◌, ◌<◌, ◌⊎◌, inl, inr, ℕ, ap, arith, get_or, length, List, [], ◌∷◌, ◌++◌, Bool, true, false, refl, subst, sym, take}
 use Rattle.std.specs.Prelude.{ℤ, ◌&&◌, map}
 use Rattle.std.proofs.lemmas.List.{take-map}
 use Rattle.ivl_store.specs.declared.store.change.Change.{Change}

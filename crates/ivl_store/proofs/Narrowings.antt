@@ -1,5 +1,5 @@
 -- What the narrowings of a network leave, one after the other.
-use Rattle.std.proofs.Common.{◌≡◌, ◌↔◌, ◌∙◌, ℕ, zero, suc, ◌+◌, ◌<◌, refl, sym, ap, subst, arith, List, [], ◌∷◌, ◌++◌, length, length-append, get_or, Bool, true, false}
+use Rattle.std.proofs.Common.{◌≡◌, ◌↔◌, ℕ, ◌+◌, ◌<◌, refl, sym, subst, arith, List, [], ◌∷◌, ◌++◌, length, length-append, get_or, Bool, true, false}
 use Rattle.std.specs.Prelude.{ℤ, All, Contains, Result, Ok, Err, OnOk, OnErr}
 use Rattle.std.proofs.Math.ListN.{get_or-append}
 use Rattle.std.proofs.lemmas.List.{get_or_default, length_push}

@@ -1,21 +1,19 @@
 -- What taking a change back leaves of a network.
-use Rattle.std.proofs.Common.{◌≡◌, ◌↔◌, ◌∙◌, ◌+◌, ◌-◌, ◌<◌, ◌≤◌, ◌⊎◌, inl, inr, ℕ, ap, append_assoc, arith, drop, get_or, length, List, [], ◌∷◌, ◌++◌, Bool, true, false, refl, min, set, subst, sym, take}
-use Rattle.std.specs.Prelude.{ℤ, All, Option, Some, None}
+use Rattle.std.proofs.Common.{◌≡◌, ◌↔◌, ◌∙◌, ◌-◌, ◌<◌, ◌≤◌, inl, inr, ℕ, ap, append_assoc, arith, drop, get_or, length, List, [], ◌∷◌, ◌++◌, Bool, true, false, refl, min, set, subst, sym, take}
+use Rattle.std.specs.Prelude.{ℤ, All}
 use Rattle.std.proofs.Math.Seq.{drop-append_seam, take-append_seam}
-use Rattle.std.proofs.lemmas.List.{append-nil, get_or-set_other, length-set, length-take, length_push, set-get_or}
-use Rattle.std.proofs.lemmas.Bool.{cases_eq}
+use Rattle.std.proofs.lemmas.List.{append-nil, get_or-set_other, length-set, length-take, length_push}
 use Rattle.ivl_laws.specs.Families.{set_at}
 use Rattle.ivl_laws.specs.Runs.{Covers}
 use Rattle.ivl_laws.proofs.SetLaws.{sums_are_monotone, differences_are_monotone}
 use Rattle.ivl_store.specs.declared.store.change.Change.{Change}
-use Rattle.ivl_store.specs.declared.store.change.Change.TheVariants.{Domain, Domains, Variable, Require}
+use Rattle.ivl_store.specs.declared.store.change.Change.TheVariants.{Variable, Require}
 use Rattle.ivl_store.specs.declared.store.constraint.Constraint.{Constraint}
-use Rattle.ivl_store.specs.NarrowedSets.{narrowed_at}
-use Rattle.ivl_store.specs.Narrowing.{AllPresent, IsFixed, Narrowed}
+use Rattle.ivl_store.specs.Narrowing.{AllPresent, IsFixed}
 use Rattle.ivl_store.specs.Network.{IsSoundNetwork}
-use Rattle.ivl_store.specs.Settled.{AreCleared, AreSettled}
+use Rattle.ivl_store.specs.Settled.{AreCleared}
 use Rattle.ivl_store.specs.Solutions.{AreDistinct, Names}
-use Rattle.ivl_store.specs.Trail.{Past, revert, reverted, past_at, IsPresent}
+use Rattle.ivl_store.specs.Trail.{Past, revert, reverted, past_at}
 use Rattle.ivl_store.proofs.Trails.{take_lt}
 
 -- what is left to be taken back of all changes, and what those that were taken back were made to

@@ -1,10 +1,10 @@
 -- What a network was at its marks, where a change is written down or taken back.
-use Rattle.std.proofs.Common.{◌≡◌, ◌∙◌, ◌+◌, ◌-◌, ◌<◌, ◌≤◌, ◌⊎◌, inl, inr, ℕ, zero, suc, ap, arith, drop, get_or, length, List, [], ◌∷◌, ◌++◌, Bool, true, false, refl, set, subst, sym, take}
-use Rattle.std.specs.Prelude.{ℤ, map}
+use Rattle.std.proofs.Common.{◌≡◌, ◌∙◌, ◌<◌, ◌≤◌, ◌⊎◌, inl, inr, ℕ, zero, suc, ap, arith, drop, get_or, length, List, [], ◌∷◌, ◌++◌, Bool, true, false, refl, subst, sym, take}
+use Rattle.std.specs.Prelude.{map}
 use Rattle.std.proofs.Math.ListN.{get_or-append}
-use Rattle.std.proofs.Math.Seq.{drop-length, take-append_seam}
+use Rattle.std.proofs.Math.Seq.{drop-length}
 use Rattle.std.proofs.lemmas.Bool.{cases_eq}
-use Rattle.std.proofs.lemmas.List.{drop-append-le, get_or_push, get_or-map, length_push, length-take-le, map-append, take-append-drop, take-map}
+use Rattle.std.proofs.lemmas.List.{drop-append-le, get_or_push, length_push, length-take-le, map-append, take-append-drop, take-map}
 use Rattle.ivl_store.specs.declared.store.change.Change.{Change}
 use Rattle.ivl_store.specs.Trail.{Past, revert, reverted, past_at, with_change, IsPresent, IsSoundTrail}
 

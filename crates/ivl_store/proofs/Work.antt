@@ -1,10 +1,8 @@
 -- How many narrowings are left, before and after one.
-use Rattle.std.proofs.Common.{◌≡◌, ◌∙◌, ℕ, ◌+◌, ◌*◌, ◌<◌, ◌≤◌, ap, arith, cond, get_or, length, List, Bool, true, false, refl, set, subst, sym}
+use Rattle.std.proofs.Common.{◌≡◌, ℕ, ◌+◌, ◌*◌, ◌<◌, ◌≤◌, arith, cond, get_or, length, List, Bool, true, false, refl, set, subst}
 use Rattle.std.specs.Prelude.{ℤ, not}
-use Rattle.std.specs.List.{count_by, sum_by}
 use Rattle.std.proofs.Math.Nat.{mul-le-mul_right}
 use Rattle.std.proofs.lemmas.List.Sums.{count_by-le-length, sum_by-set}
-use Rattle.ivl_store.specs.declared.store.constraint.Constraint.{Constraint}
 use Rattle.ivl_store.specs.Measure.{total}
 use Rattle.ivl_store.specs.Network.{unmarked_count}
 

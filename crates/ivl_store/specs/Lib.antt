@@ -1,3 +1,4 @@
+pub mod Costs
 pub mod FamilyLaws
 pub mod NarrowedSets
 pub mod Measure

@@ -5,12 +5,14 @@
 --     CutBy posts sets      the family cut by the sets of all posts
 --     IsLeftBy posts given family      the greatest family that all the posts leave
 --     HasEmpty count sets      one of the first `count` sets is empty
+--     empty_count sets      how many sets are empty
 --     AnswersPosts posts old replies      one reply a post, which says whether what the posts up to it leave has an empty set
 --     IsKnown count post      the post names only variables below the count
 --     unknown_in count post, first_unknown_post count posts      the first index that is not below it, in list order; `None` if there is none
 --     CutKeeps cs posts old new      the new sets only lack members, and none of a supported family within the cut
 --     IsPartlyPosted posts old new      some first posts leave these sets; or they leave others, which the next post cut, and its rounds partly settled
-use Rattle.std.specs.Prelude.{◌≡◌, ◌<◌, ◌≤◌, ◌+◌, ◌↔◌, ◌⊎◌, ℕ, ℤ, Bool, false, IsTrue, List, [], ◌∷◌, length, take, slice_index_or, Option, Some, None, nat_le, if◌then◌else◌}
+use Rattle.std.specs.Prelude.{◌≡◌, ◌<◌, ◌≤◌, ◌+◌, ◌↔◌, ◌⊎◌, ℕ, ℤ, Bool, true, false, IsTrue, List, [], ◌∷◌, length, take, slice_index_or, Option, Some, None, nat_le, if◌then◌else◌}
+use Rattle.std.specs.List.{count_by}
 use Rattle.std.specs.Option.{option_or}
 use Rattle.ivl_laws.specs.Runs.{Covers}
 use Rattle.ivl_laws.specs.Families.{set_at}
@@ -45,6 +47,13 @@ pub record HasEmpty (count : ℕ) (sets : ℕ → ℤ → Type 0) : Type 0 where
   pub variable : ℕ
   pub known : variable < count
   pub empty : (v : ℤ) → ¬ (sets variable v)
+
+abbrev pub has_no_run : List (ℤ × ℤ) → Bool
+has_no_run [] = true
+has_no_run (run ∷ runs) = false
+
+abbrev pub empty_count : List (List (ℤ × ℤ)) → ℕ
+empty_count sets = count_by has_no_run sets
 
 pub record AnswersPost {B O : Type 0} (posts : List (Post B O)) (old : List (List (ℤ × ℤ))) (reply : Bool) : Type 0 where
   pub family : List (List (ℤ × ℤ))

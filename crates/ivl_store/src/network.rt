@@ -20,9 +20,11 @@ ghost use Rattle.std.specs.Prelude.{Contains, HoldsAt, take, ◌≡◌, ◌↔�
 ghost use Rattle.ivl_laws.specs.Families.{set_at};
 ghost use Rattle.ivl_laws.specs.Runs.{Covers, IsRunListIn};
 ghost use Rattle.ivl_store.specs.Narrowing.{AllPresent, IsFixed, Keeps, first_unknown};
+ghost use Rattle.ivl_store.specs.Costs.{AreCounted, cost_of};
 ghost use Rattle.ivl_store.specs.Network.{AreNarrowings, IsCutAt, IsRequired, work};
 ghost use Rattle.ivl_store.specs.Posts.{HasEmpty};
 ghost use Rattle.ivl_store.specs.Solutions.{AreDistinct, IsCommonSolution, IsGreatestFamily};
+ghost use Rattle.ivl_store.specs.declared.store.constraint.Constraint.{Constraint};
 
 use crate::store::change::Change;
 use crate::store::{Constraint, Store, StoreFault};
@@ -49,6 +51,16 @@ pub enum Settled {
     All,
     /// The budget is used up, and some constraint may narrow a domain further.
     Unfinished,
+}
+
+/// What one step of narrowing did.
+enum Step {
+    /// Nothing: no constraint has to be looked at.
+    Settled,
+    /// Nothing: the next narrowing counts for more than is left.
+    Costly,
+    /// A narrowing, which counts for so much.
+    Made(u64),
 }
 
 /// Variables with a domain each, and the constraints between them so far. A contract sees the two
@@ -125,8 +137,8 @@ impl<B: Width> Network<B> {
         self.constraints.as_slice()
     }
 
-    /// Returns true exactly when some domain is empty: then no point solves the constraints. `O(1)`
-    /// per domain, does not allocate.
+    /// Returns true exactly when some domain is empty: then no point solves the constraints. `O(1)`,
+    /// does not allocate.
     pub fn has_empty(&self) -> bool
         ensures empty { IsTrue result ↔ Any (λ L. L ≡ []) self.now.domains }
         ensures variable { IsTrue result ↔ HasEmpty (length self.now.domains) (set_at self.now.domains) }
@@ -303,6 +315,10 @@ impl<B: Width> Network<B> {
 
         // No narrowing is made in vain: so many fewer are left.
         ensures fewer { IfOk result (λ s. s ≡ Settled.Unfinished → budget + work B.whole self.new ≤ work B.whole self.old) }
+
+        // All exactly where no constraint is left to look at, and so wherever the budget covers the work.
+        ensures exactly { IfOk result (λ s. s ≡ Settled.All ↔ self.new.unsettled ≡ 0) }
+        ensures enough { IfOk result (λ s. work B.whole self.old ≤ budget → s ≡ Settled.All) }
     {
         for _ in 0..budget {
             if !self.narrow_next()? {
@@ -310,6 +326,58 @@ impl<B: Width> Network<B> {
             }
         }
         Ok(self.reached())
+    }
+
+    /// Narrows the domains as [`Network::settle`] does, by narrowings that count for what they look
+    /// at: a narrowing counts for one, and for one more for each 256 pairs of runs of two of its three
+    /// domains. One that counts for more than is left of the budget is not begun. Returns
+    /// [`Settled::All`] exactly if no constraint is left that has to be looked at.
+    ///
+    /// After [`Settled::Unfinished`] another call goes on, if its budget covers the next narrowing.
+    ///
+    /// # Errors
+    ///
+    /// Those of [`Network::settle`].
+    ///
+    /// ```
+    /// // x + y = z over ten runs each: three times a hundred pairs, so the narrowing counts for two
+    /// let evens: IntervalSet<i32> = [(0, 0), (2, 2), (4, 4), (6, 6), (8, 8), (10, 10), (12, 12), (14, 14), (16, 16), (18, 18)]
+    ///     .to_interval_set(alloc)?;
+    /// let mut network: Network<i32> = Network::new(alloc);
+    /// network.add_variable(evens.try_clone()?)?;
+    /// network.add_variable(evens.try_clone()?)?;
+    /// network.add_variable(evens)?;
+    /// network.require(Constraint { x: 0, y: 1, z: 2 })?;
+    /// assert_eq!(rt; network.settle_within(1)?, Settled::Unfinished);
+    /// assert_eq!(rt; network.settle_within(2)?, Settled::All);
+    /// ```
+    pub fn settle_within(&mut self, budget: u64) -> Result<Settled, StoreFault>
+        ensures memory { IfErr result (λ fault. fault ≡ StoreFault.Memory) }
+        ensures constraints { self.new.constraints ≡ self.old.constraints }
+        ensures marked { self.new.marked ≡ self.old.marked }
+        ensures kept_count { length self.new.domains ≡ length self.old.domains }
+
+        // Domains only lose members, and no supported family and no common solution loses one.
+        ensures keeps { Keeps self.old.constraints self.old.domains self.new.domains }
+        ensures solutions { (point : ℕ → ℤ) → IsCommonSolution self.old.constraints (set_at self.old.domains) point → IsCommonSolution self.old.constraints (set_at self.new.domains) point }
+
+        // All: the domains are the greatest supported family, and no constraint is left to look at.
+        ensures greatest { IfOk result (λ s. s ≡ Settled.All → IsGreatestFamily self.old.constraints (set_at self.old.domains) (set_at self.new.domains)) }
+        ensures exactly { IfOk result (λ s. s ≡ Settled.All ↔ self.new.unsettled ≡ 0) }
+
+        // What was made counts for no more than the budget, and the next narrowing for more than is left if some constraint is left.
+        ensures made { IfOk result (λ s. (by : List Constraint) × (cost : ℕ) × AreCounted self.old.constraints by cost self.old.domains self.new.domains × (cost ≤ budget)
+            × (s ≡ Settled.Unfinished → (next : Constraint) × Contains self.old.constraints next × (budget < cost + cost_of next self.new.domains))
+            × (length by + work B.whole self.new ≤ work B.whole self.old)) }
+    {
+        let mut left = budget;
+        loop {
+            match self.narrow_within(left)? {
+                Step::Settled => return Ok(Settled::All),
+                Step::Costly => return Ok(Settled::Unfinished),
+                Step::Made(cost) => left -= cost,
+            }
+        }
     }
 
     /// Narrows by one constraint without a mark. Returns false, and changes nothing, if all are
@@ -320,26 +388,53 @@ impl<B: Width> Network<B> {
         ensures kept_count { length self.new.domains ≡ length self.old.domains }
         ensures refused { OnErr result (self.new ≡ self.old) }
         ensures none { IfOk result (λ b. b ≡ false → (self.new ≡ self.old) × All AreDistinct self.old.constraints × All (IsFixed (set_at self.old.domains)) self.old.constraints) }
+        ensures done { IfOk result (λ b. b ≡ false → self.new.unsettled ≡ 0) }
         ensures narrowed { IfOk result (λ b. b ≡ true → AreNarrowings self.old.constraints 1 (set_at self.old.domains) (set_at self.new.domains)) }
         ensures fewer { IfOk result (λ b. b ≡ true → 1 + work B.whole self.new ≤ work B.whole self.old) }
     {
+        match self.narrow_within(u64::MAX)? {
+            Step::Settled | Step::Costly => Ok(false),
+            Step::Made(_) => Ok(true),
+        }
+    }
+
+    /// Narrows by one constraint without a mark, if that counts for no more than is left. Changes
+    /// nothing if it counts for more, or if all are marked.
+    fn narrow_within(&mut self, left: u64) -> Result<Step, AllocError>
+        ensures constraints { self.new.constraints ≡ self.old.constraints }
+        ensures marked { self.new.marked ≡ self.old.marked }
+        ensures kept_count { length self.new.domains ≡ length self.old.domains }
+        ensures refused { OnErr result (self.new ≡ self.old) }
+        ensures none { IfOk result (λ s. s ≡ Step.Settled → (self.new ≡ self.old) × All AreDistinct self.old.constraints × All (IsFixed (set_at self.old.domains)) self.old.constraints) }
+        ensures done { IfOk result (λ s. s ≡ Step.Settled ↔ self.old.unsettled ≡ 0) }
+        ensures costly { IfOk result (λ s. s ≡ Step.Costly → (self.new ≡ self.old) × (next : Constraint) × Contains self.old.constraints next × (left < cost_of next self.old.domains)) }
+        ensures below { IfOk result (λ s. s ≡ Step.Costly → left < u64.MAX) }
+        ensures counted { IfOk result (λ s. (cost : ℕ) → s ≡ Step.Made cost → (0 < cost) × (cost ≤ left) × (c : Constraint) × AreCounted self.old.constraints (c ∷ []) cost self.old.domains self.new.domains) }
+        ensures narrowed { IfOk result (λ s. (cost : ℕ) → s ≡ Step.Made cost → AreNarrowings self.old.constraints 1 (set_at self.old.domains) (set_at self.new.domains)) }
+        ensures fewer { IfOk result (λ s. (cost : ℕ) → s ≡ Step.Made cost → 1 + work B.whole self.new ≤ work B.whole self.old) }
+    {
         let Some(i) = self.queue.first() else {
-            return Ok(false);
+            return Ok(Step::Settled);
         };
+        let constraint = self.constraints[i];
+        let cost = self.store.cost_of(&constraint);
+        if cost > left {
+            return Ok(Step::Costly);
+        }
         let is_kept = is_logging(&self.marks);
         reserve_change(&mut self.trail, is_kept)?;
-        let constraint = self.constraints[i];
         let (lost, change) = self.store.narrow_swapped(&constraint)?;
         self.queue.settle(i, lost, &self.constraints, &self.index);
         let lost = lost.any();
         let is_new = is_unkept(lost, &self.trail, &self.marks, &self.places, &change);
         log_cut(&mut self.trail, &mut self.places, is_kept, is_new, change);
-        Ok(true)
+        Ok(Step::Made(cost))
     }
 
     /// Whether all constraints are marked.
     fn reached(&self) -> Settled
-        ensures { result ≡ Settled.All → All AreDistinct self.now.constraints × All (IsFixed (set_at self.now.domains)) self.now.constraints }
+        ensures all { result ≡ Settled.All → All AreDistinct self.now.constraints × All (IsFixed (set_at self.now.domains)) self.now.constraints }
+        ensures exactly { result ≡ Settled.All ↔ self.now.unsettled ≡ 0 }
     {
         if self.queue.is_empty() {
             Settled::All

@@ -15,7 +15,7 @@
 //! assert!(rt; store.narrow(&sum)?);
 //! assert!(rt; store.domains()[0] == IntervalSet::new(alloc, 1, 3)?);
 //! ```
-ghost use Rattle.std.specs.Prelude.{◌≡◌, ◌↔◌, ◌++◌, ◌∷◌, [], ℤ, List, All, Any, IfOk, IsTrue, OnErr, OnOk, length};
+ghost use Rattle.std.specs.Prelude.{◌≡◌, ◌↔◌, ◌++◌, ◌∷◌, [], All, Any, IfOk, IsTrue, OnErr, OnOk, if◌then◌else◌, length};
 ghost use Rattle.ivl_laws.specs.Families.{set_at};
 ghost use Rattle.ivl_laws.specs.Runs.{IsRunListIn};
 ghost use Rattle.ivl_store.specs.Posts.{HasEmpty};
@@ -23,6 +23,7 @@ ghost use Rattle.ivl_store.specs.Posts.{HasEmpty};
 pub mod callers;
 pub(crate) mod change;
 mod constraint;
+mod costs;
 pub mod laws;
 pub(crate) mod marks;
 mod narrowed_sets;
@@ -48,14 +49,20 @@ use std::marker::Model;
 pub struct Store<B: Width> {
     alloc: Global,
     domains: Vec<IntervalSet<B>>,
+    // How many domains are empty.
+    empties: usize,
 }
 
 impl<B: Width> Model for Store<B> {
+    ghost use Rattle.std.specs.Prelude.{◌≡◌, ℤ, List, All};
+    ghost use Rattle.ivl_laws.specs.Runs.{IsRunListIn};
+    ghost use Rattle.ivl_store.specs.Posts.{empty_count};
+
     ghost Value = { List (List (ℤ × ℤ)) };
 
     ghost view = { λ s. s.domains.items };
 
-    ghost invariant = { λ s. All (IsRunListIn B.whole) s.domains.items };
+    ghost invariant = { λ s. All (IsRunListIn B.whole) s.domains.items × (s.empties ≡ empty_count s.domains.items) };
 }
 
 impl<B: Width> Store<B> {
@@ -69,10 +76,17 @@ impl<B: Width> Store<B> {
     pub fn new(alloc: Global, domains: Vec<IntervalSet<B>>) -> Store<B>
         ensures { result ≡ domains.items }
     {
+        let mut empties = 0;
         for domain in &domains {
             domain.in_whole();
+            let is = one_if(domain.is_empty());
+            empties += is;
         }
-        Store { alloc, domains }
+        Store {
+            alloc,
+            domains,
+            empties,
+        }
     }
 
     /// Returns the domains, in the order of the variables. `O(1)`, does not allocate.
@@ -101,12 +115,14 @@ impl<B: Width> Store<B> {
     {
         let index = self.domains.len();
         domain.in_whole();
+        let is = one_if(domain.is_empty());
         self.domains.push(domain)?;
+        self.empties += is;
         Ok(index)
     }
 
-    /// Returns true exactly when some domain is empty: then no point solves any constraints. `O(1)`
-    /// per domain, does not allocate.
+    /// Returns true exactly when some domain is empty: then no point solves any constraints. `O(1)`,
+    /// does not allocate.
     ///
     /// ```
     /// let mut store: Store<i32> = Store::new(alloc, vec![in alloc; IntervalSet::new(alloc, 0, 9)?]?);
@@ -118,11 +134,13 @@ impl<B: Width> Store<B> {
         ensures empty { IsTrue result ↔ Any (λ L. L ≡ []) self.now }
         ensures variable { IsTrue result ↔ HasEmpty (length self.now) (set_at self.now) }
     {
-        for domain in &self.domains {
-            if domain.is_empty() {
-                return true;
-            }
-        }
-        false
+        self.empties > 0
     }
+}
+
+/// One if so, and else 0.
+fn one_if(is_so: bool) -> usize
+    ensures { result ≡ (if is_so then 1 else 0) }
+{
+    if is_so { 1 } else { 0 }
 }

@@ -1,25 +1,21 @@
 -- One variable more.
-use Rattle.std.proofs.Common.{◌≡◌, ◌∙◌, ℕ, ℤ, ◌+◌, Bool, ◌||◌, List, [], ◌∷◌, ◌++◌, length, refl, ap, sym, subst}
-use Rattle.std.specs.Prelude.{Any, IsTrue, ◌↔◌, String}
+use Rattle.std.proofs.Common.{◌≡◌, ◌∙◌, ℕ, ℤ, ◌+◌, List, [], ◌∷◌, ◌++◌, length, refl, ap, sym, subst}
+use Rattle.std.specs.Prelude.{String}
 use Rattle.std.specs.Global.{Global}
 use Rattle.std.proofs.lemmas.List.{length_push}
 use Rattle.ivl_store.specs.Network.{NetworkState}
 use Rattle.ivl_store_lines.specs.declared.progress.Progress.{Progress}
-use Rattle.ivl_store_lines.specs.Solving.{IsSound, State}
-use Rattle.ivl_store_lines.proofs.Printing.{empty_added}
+use Rattle.ivl_store_lines.specs.Solving.{State}
 
 module _ (names pushed : List (String Global)) (key : String Global) (before after : NetworkState) (domain : List (ℤ × ℤ))
     (named : pushed ≡ names ++ key ∷ []) (added : after ≡ record { domains = before.domains ++ domain ∷ []; constraints = before.constraints; unsettled = before.unsettled; marked = before.marked }) where
   domains_after : after.domains ≡ before.domains ++ domain ∷ []
   domains_after = ap (λ (n : NetworkState). n.domains) added
 
-  pub sound_added : (some_empty is_empty : Bool) → IsSound (length names) before.domains some_empty → (IsTrue is_empty ↔ domain ≡ []) → IsSound (length pushed) after.domains (some_empty || is_empty)
-  sound_added some_empty is_empty old empty =
-      record {
-        one_each = ap (λ (keys : List (String Global)). length keys) named ∙ length_push names key ∙ ap (λ (n : ℕ). n + 1) old.one_each
-            ∙ sym (ap (λ (Ls : List (List (ℤ × ℤ))). length Ls) domains_after ∙ length_push before.domains domain);
-        emptiness = subst (λ (Ls : List (List (ℤ × ℤ))). IsTrue (some_empty || is_empty) ↔ Any (λ L. L ≡ []) Ls) (sym domains_after) (empty_added some_empty is_empty before.domains domain old.emptiness empty);
-      }
+  pub one_each_added : length names ≡ length before.domains → length pushed ≡ length after.domains
+  one_each_added one_each =
+      ap (λ (keys : List (String Global)). length keys) named ∙ length_push names key ∙ ap (λ (n : ℕ). n + 1) one_each
+      ∙ sym (ap (λ (Ls : List (List (ℤ × ℤ))). length Ls) domains_after ∙ length_push before.domains domain)
 
 abbrev state : List (List ℕ) → NetworkState → ℕ → Progress → State
 state names network limit progress = record { names = names; domains = network.domains; constraints = network.constraints; limit = limit; progress = progress }

@@ -1,17 +1,18 @@
 -- The answer to a line, by what was carried out or told.
-use Rattle.std.proofs.Common.{◌≡◌, ◌∙◌, ◌≤◌, ◌^◌, ◌-◌, ℕ, ℤ, List, [], ◌++◌, length, map, get_or, Option, None, Some, inl, inr, refl, sym, ap}
+use Rattle.std.proofs.Common.{◌≡◌, ◌≢◌, ◌∙◌, ◌≤◌, ◌^◌, ◌-◌, ℕ, ℤ, List, [], ◌++◌, length, map, get_or, Option, None, Some, inl, inr, refl, sym, ap}
 use Rattle.std.specs.Prelude.{IsSome, IsTrue, codes, decimal}
 use Rattle.std.proofs.lemmas.List.{length-map}
 use Rattle.ivl_lines.specs.Lines.{with_newline}
 use Rattle.ivl_search.specs.declared.search.End.{End}
-use Rattle.ivl_search.specs.declared.search.End.TheVariants.{Solutions}
+use Rattle.ivl_search.specs.declared.search.End.TheVariants.{All as AllFound, Nodes, Solutions}
+use Rattle.ivl_search.specs.Budget.{nodes_enough}
 use Rattle.ivl_search.specs.Points.{Finds, IsGreatestAt, IsLeastAt, Solves}
 use Rattle.ivl_store_lines.specs.Answering.{AnswersAsked, AnswersRead}
 use Rattle.ivl_store_lines.specs.Faults.{Told}
 use Rattle.ivl_store_lines.specs.Printed.{domain_line, domain_lines, state_line, told_line}
 use Rattle.ivl_store_lines.specs.Requests.{Asked, show, solve, count, least, greatest, needs_list, why_no_request}
-use Rattle.ivl_store_lines.specs.Solved.{IsBest, best_text, end_line, point_lines}
-use Rattle.ivl_store_lines.specs.Solving.{State, fault_of, variable_named}
+use Rattle.ivl_store_lines.specs.Solved.{HasNodes, IsBest, best_text, end_line, point_lines}
+use Rattle.ivl_store_lines.specs.Solving.{HasEmptyDomain, State, fault_of, domain_range, variable_named}
 
 pub shown_reply : (asked : Asked) (old : State) → asked ≡ show None → AnswersAsked old asked (domain_lines old.names old.domains ++ state_line old.domains old.progress) old
 shown_reply asked old e = rw e (inl (refl, refl, refl))
@@ -32,8 +33,9 @@ no_request None name words (Some asked) old none fault memory = inr (inr (refl, 
 
 pub solved : {V : Type 0} → (numbers : V → List ℤ) (most : ℕ) (old : State) (names : List (List ℕ)) (points : List V) (end : End)
     → names ≡ old.names → Finds (Solves old.constraints old.domains) (map numbers points) end → length points ≤ most
-    → (end ≡ Solutions → length points ≡ most) → AnswersAsked old (solve most) (point_lines names (map numbers points) ++ end_line (length points) end) old
-solved numbers most old names points end named finds few full =
+    → (end ≡ Solutions → length points ≡ most) → (HasEmptyDomain old → end ≡ AllFound) → (HasNodes (nodes_enough domain_range old.constraints old.domains) old → end ≢ Nodes)
+    → AnswersAsked old (solve most) (point_lines names (map numbers points) ++ end_line (length points) end) old
+solved numbers most old names points end named finds few full known enough =
     inl (
       refl,
       refl,
@@ -43,14 +45,17 @@ solved numbers most old names points end named finds few full =
         finds = finds;
         at_most = rw (length-map points numbers) few;
         full = (λ stopped. length-map points numbers ∙ full stopped);
+        known = known;
+        enough = enough;
         shown = rw (named, length-map points numbers) refl;
       },
     )
 
 pub counted : (old : State) (points : List (List ℤ)) (found : ℕ) (end : End)
     → length points ≡ found → Finds (Solves old.constraints old.domains) points end → (end ≡ Solutions → found ≡ 2 ^ 64 - 1)
+    → (HasEmptyDomain old → end ≡ AllFound) → (HasNodes (nodes_enough domain_range old.constraints old.domains) old → end ≢ Nodes)
     → AnswersAsked old count (codes "count " ++ with_newline (decimal found) ++ end_line found end) old
-counted old points found end as_many finds full =
+counted old points found end as_many finds full known enough =
     inl (
       refl,
       refl,
@@ -59,6 +64,8 @@ counted old points found end as_many finds full =
         end = end;
         finds = finds;
         full = (λ stopped. as_many ∙ full stopped);
+        known = known;
+        enough = enough;
         shown = ap (λ n. codes "count " ++ with_newline (decimal n) ++ end_line n end) (sym as_many);
       },
     )

@@ -3,6 +3,7 @@ pub mod Requiring
 pub mod Printing
 pub mod Answering
 pub mod Names
+pub mod Nothing
 pub mod Adding
 pub mod Settling
 pub mod Points

@@ -7,7 +7,8 @@ use Rattle.ivl_search.specs.declared.search.End.TheVariants.{All as AllFound, So
 use Rattle.ivl_search.specs.Points.{EachOnce, Finds, Solves}
 use Rattle.ivl_store.specs.declared.store.constraint.Constraint.{Constraint}
 use Rattle.ivl_store_lines.specs.Solved.{IsBest, point_line, point_lines}
-use Rattle.ivl_store_lines.specs.Solving.{State, variable_named}
+use Rattle.ivl_store_lines.specs.Solving.{HasEmptyDomain, State, variable_named}
+use Rattle.ivl_store_lines.proofs.Nothing.{none_solves}
 
 one_more : (names : List (List ℕ)) (points : List (List ℤ)) (point : List ℤ) → point_lines names (points ++ point ∷ []) ≡ point_lines names points ++ point_line names point
 one_more names [] point = append-nil (point_line names point)
@@ -51,8 +52,8 @@ pub best_told : {V : Type 0} → (best : ℕ → (List ℤ → Type 0) → List 
     → IfSome found (λ point. Solves constraints domains (map (λ (x : ℤ). x) (numbers point)))
     → (end ≡ AllFound → IfSome found (λ point. best variable (Solves constraints domains) (map (λ (x : ℤ). x) (numbers point))))
     → (end ≡ AllFound → IfNone found ((point : List ℤ) → ¬ (Solves constraints domains point)))
-    → told ≡ found → (said ≡ AllFound → end ≡ AllFound) → said ≢ Solutions → IsBest best name old (option_map numbers told) said
-best_told best numbers name old variable constraints domains found told end said named same_constraints same_domains sound is_best none same all searched =
+    → told ≡ found → (said ≡ AllFound → end ≡ AllFound) → said ≢ Solutions → ¬ (HasEmptyDomain old) → IsBest best name old (option_map numbers told) said
+best_told best numbers name old variable constraints domains found told end said named same_constraints same_domains sound is_best none same all searched filled =
     rw same (record {
       variable = variable;
       named = named;
@@ -60,4 +61,18 @@ best_told best numbers name old variable constraints domains found told end said
       is_best = (λ every. rw (← same_constraints, ← same_domains) (some_plain numbers (best variable (Solves constraints domains)) found (is_best (all every))));
       none = (λ every. rw (← same_constraints, ← same_domains) (none_plain numbers ((point : List ℤ) → ¬ (Solves constraints domains point)) found (none (all every))));
       searched = searched;
+      known = (λ e. absurd (filled e));
     })
+
+-- no point, where a domain is empty
+pub best_none : {V : Type 0} → (best : ℕ → (List ℤ → Type 0) → List ℤ → Type 0) (numbers : V → List ℤ) (name : List ℕ) (old : State) (variable : ℕ) (found : Option V) (end : End)
+    → variable_named old.names name ≡ Some variable → HasEmptyDomain old → found ≡ None → end ≡ AllFound → IsBest best name old (option_map numbers found) end
+best_none best numbers name old variable found end named empty is all = rw (is, all) (record {
+  variable = variable;
+  named = named;
+  sound = tt;
+  is_best = (λ _. tt);
+  none = (λ _ point s. none_solves old.constraints old.domains empty point s);
+  searched = (λ e. absurd (cc));
+  known = (λ _. refl);
+})

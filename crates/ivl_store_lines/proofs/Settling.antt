@@ -1,32 +1,43 @@
 -- What a line that narrows leaves, by what the network reached, and where it runs out of memory.
-use Rattle.std.proofs.Common.{◌≡◌, ◌∙◌, ◌<◌, ◌≤◌, ℕ, ℤ, List, [], ◌∷◌, ◌++◌, ap, arith, get_or, length, sym}
-use Rattle.std.specs.Prelude.{HoldsAt}
+use Rattle.std.proofs.Common.{◌≡◌, ◌∙◌, ◌+◌, ◌*◌, ◌<◌, ◌≤◌, ℕ, ℤ, List, [], ◌∷◌, ◌++◌, ap, arith, get_or, length, subst, sym}
+use Rattle.std.specs.Prelude.{Contains, HoldsAt}
 use Rattle.std.proofs.lemmas.List.{get_or_push, length_push}
 use Rattle.ivl_laws.specs.Families.{set_at}
 use Rattle.ivl_store.specs.declared.network.Settled.{Settled}
 use Rattle.ivl_store.specs.declared.network.Settled.TheVariants.{All, Unfinished}
 use Rattle.ivl_store.specs.declared.store.constraint.Constraint.{Constraint}
+use Rattle.ivl_store.specs.Costs.{AreCounted, cost_of}
+use Rattle.ivl_store.specs.Measure.{total}
 use Rattle.ivl_store.specs.Narrowing.{Keeps}
-use Rattle.ivl_store.specs.Network.{AreNarrowings}
+use Rattle.ivl_store.specs.Network.{NetworkState, work}
 use Rattle.ivl_store.specs.Solutions.{IsGreatestFamily}
 use Rattle.ivl_store.specs.Trail.{Past}
 use Rattle.ivl_store_lines.specs.declared.progress.Progress.{Progress}
 use Rattle.ivl_store_lines.specs.declared.progress.Progress.TheVariants.{Complete, Budget}
-use Rattle.ivl_store_lines.specs.Solving.{Settles}
+use Rattle.ivl_store_lines.specs.Solving.{Settles, domain_range}
 
-pub settles : (limit : ℕ) (constraints : List Constraint) (before after : List (List (ℤ × ℤ))) (progress : Progress) (s : Settled)
-    → (progress ≡ Complete → s ≡ All) → (progress ≡ Budget → s ≡ Unfinished) → Keeps constraints before after
-    → (s ≡ All → IsGreatestFamily constraints (set_at before) (set_at after))
-    → ((count : ℕ) × (count ≤ limit) × (s ≡ Unfinished → count ≡ limit) × AreNarrowings constraints count (set_at before) (set_at after))
-    → Settles limit constraints before after progress
-settles limit constraints before after progress s complete used_up keeps greatest made = record {
-  count = made.0;
-  within_limit = made.1;
-  narrowed = made.3;
+pub settles : (limit : ℕ) (old new : NetworkState) (progress : Progress) (s : Settled)
+    → (progress ≡ Complete → s ≡ All) → (progress ≡ Budget → s ≡ Unfinished) → new.constraints ≡ old.constraints → old.unsettled ≤ length old.constraints → Keeps old.constraints old.domains new.domains
+    → (s ≡ All → IsGreatestFamily old.constraints (set_at old.domains) (set_at new.domains))
+    → ((by : List Constraint) × (cost : ℕ) × AreCounted old.constraints by cost old.domains new.domains × (cost ≤ limit)
+    × (s ≡ Unfinished → (next : Constraint) × Contains old.constraints next × (limit < cost + cost_of next new.domains))
+    × (length by + work domain_range new ≤ work domain_range old))
+    → Settles limit old.constraints old.domains new.domains progress
+settles limit old new progress s complete used_up same waiting keeps greatest made = record {
+  by = made.0;
+  cost = made.1;
+  counted = made.2;
+  within_limit = made.3;
   keeps = keeps;
   complete = (λ e. greatest (complete e));
-  used_up = (λ e. made.2 (used_up e));
+  used_up = (λ e. made.4 (used_up e));
+  fewer = without_the_waiting (length made.0) (total domain_range new.domains * (length old.constraints + 1)) (total domain_range old.domains * (length old.constraints + 1))
+      new.unsettled old.unsettled (length old.constraints) waiting
+      (subst (λ cs. length made.0 + (total domain_range new.domains * (length cs + 1) + new.unsettled) ≤ work domain_range old) same made.5);
 }
+  where
+    without_the_waiting : (made after before left left' count : ℕ) → left' ≤ count → made + (after + left) ≤ before + left' → made + after ≤ before + count
+    without_the_waiting made after before left left' count h k = omega arith
 
 -- a mark that was made last
 pub below_marked : (marked before : List Past) (now : Past) (mark : ℕ) → marked ≡ before ++ now ∷ [] → mark ≡ length before → mark < length marked

@@ -1,5 +1,4 @@
 pub mod Faults
-pub mod Outcome
 pub mod Requests
 pub mod Solving
 pub mod Solved

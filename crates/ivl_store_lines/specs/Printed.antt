@@ -5,12 +5,13 @@
 --     domain_lines names domains      the lines of all variables
 --     state_line domains progress      whether a domain is empty, and if none is, how far the domains are narrowed
 --     IsReply asked new text      the text is an answer to a request that is carried out
-use Rattle.std.specs.Prelude.{◌≡◌, ℕ, ℤ, Bool, true, false, List, [], ◌∷◌, ◌++◌, codes, get_or, if◌then◌else◌, Option, None, Some}
+use Rattle.std.specs.Prelude.{◌≡◌, ℕ, ℤ, List, [], ◌∷◌, ◌++◌, codes, get_or, if◌then◌else◌, Option, None, Some}
 use Rattle.std.specs.List.{list_any}
 use Rattle.ivl_lines.specs.Escapes.{escaped}
 use Rattle.ivl_search.specs.Points.{IsGreatestAt, IsLeastAt}
 use Rattle.ivl_lines.specs.Lines.{with_newline}
 use Rattle.ivl_lines.specs.Sets.{pairs_text}
+use Rattle.ivl_store.specs.Posts.{has_no_run}
 use Rattle.ivl_store_lines.specs.declared.progress.Progress.{Progress}
 use Rattle.ivl_store_lines.specs.declared.progress.Progress.TheVariants.{Complete, Budget}
 use Rattle.ivl_store_lines.specs.Faults.{Told, no_text, no_command, no_form, no_number, out_of_range, unknown, defined, repeated}
@@ -40,10 +41,6 @@ domain_lines (name ∷ names) (domain ∷ domains) = domain_line name domain ++ 
 abbrev pub variable_line : List ℕ → Option ℕ → List (List (ℤ × ℤ)) → List ℕ
 variable_line name None domains = []
 variable_line name (Some i) domains = domain_line name (get_or domains i [])
-
-abbrev pub has_no_run : List (ℤ × ℤ) → Bool
-has_no_run [] = true
-has_no_run (run ∷ runs) = false
 
 -- how far the domains are narrowed
 abbrev pub progress_text : Progress → List ℕ

@@ -2,19 +2,21 @@
 --     point_line names point      a solution: the name and the number of each variable, with spaces between
 --     point_lines names points      a line for each solution
 --     end_line count end      whether the solutions found are all, by how many they are
+--     HasNodes needed state      one node for each 500 of the limit are as many
 --     IsSolved most state text      the text shows solutions, none of them twice, and says how their search ended
 --     IsCounted state text      the text says how many solutions there are, and how their search ended
 --     IsBest best name state found end      the point found is the best solution for the variable with this name, if the search ended with all, and a
 --                       solution in any case
 --     ShowsBest best name state text      the text shows such a point, and says how the search ended
-use Rattle.std.specs.Prelude.{◌≡◌, ◌≢◌, ◌≤◌, ◌==◌, ◌^◌, ◌-◌, IfNone, IfSome, Option, None, Some, ℕ, ℤ, List, [], ◌∷◌, ◌++◌, codes, decimal, if◌then◌else◌, length}
+use Rattle.std.specs.Prelude.{◌≡◌, ◌≢◌, ◌≤◌, ◌==◌, ◌^◌, ◌-◌, ◌/◌, IfNone, IfSome, Option, None, Some, ℕ, ℤ, List, [], ◌∷◌, ◌++◌, codes, decimal, if◌then◌else◌, length}
 use Rattle.std.specs.Fmt.{signed_decimal}
 use Rattle.ivl_lines.specs.Escapes.{escaped}
 use Rattle.ivl_lines.specs.Lines.{with_newline}
 use Rattle.ivl_search.specs.declared.search.End.{End}
 use Rattle.ivl_search.specs.declared.search.End.TheVariants.{All, Solutions, Nodes}
+use Rattle.ivl_search.specs.Budget.{nodes_enough}
 use Rattle.ivl_search.specs.Points.{Finds, Solves}
-use Rattle.ivl_store_lines.specs.Solving.{State, variable_named}
+use Rattle.ivl_store_lines.specs.Solving.{HasEmptyDomain, State, domain_range, variable_named}
 
 -- each variable with its number, after a separator, which is a space from the second on
 abbrev pub entries : List ℕ → List (List ℕ) → List ℤ → List ℕ
@@ -37,12 +39,17 @@ end_text count Nodes = codes "unfinished"
 abbrev pub end_line : ℕ → End → List ℕ
 end_line count end = with_newline (end_text count end)
 
+abbrev pub HasNodes : ℕ → State → Type 0
+HasNodes needed state = needed ≤ state.limit / 500
+
 pub record IsSolved (most : ℕ) (state : State) (text : List ℕ) : Type 0 where
   pub points : List (List ℤ)
   pub end : End
   pub finds : Finds (Solves state.constraints state.domains) points end
   pub at_most : length points ≤ most
   pub full : end ≡ Solutions → length points ≡ most
+  pub known : HasEmptyDomain state → end ≡ All
+  pub enough : HasNodes (nodes_enough domain_range state.constraints state.domains) state → end ≢ Nodes
   pub shown : text ≡ point_lines state.names points ++ end_line (length points) end
 
 pub record IsCounted (state : State) (text : List ℕ) : Type 0 where
@@ -50,6 +57,8 @@ pub record IsCounted (state : State) (text : List ℕ) : Type 0 where
   pub end : End
   pub finds : Finds (Solves state.constraints state.domains) points end
   pub full : end ≡ Solutions → length points ≡ 2 ^ 64 - 1
+  pub known : HasEmptyDomain state → end ≡ All
+  pub enough : HasNodes (nodes_enough domain_range state.constraints state.domains) state → end ≢ Nodes
   pub shown : text ≡ codes "count " ++ with_newline (decimal (length points)) ++ end_line (length points) end
 
 abbrev pub best_text : List (List ℕ) → Option (List ℤ) → End → List ℕ
@@ -64,6 +73,7 @@ pub record IsBest (best : ℕ → (List ℤ → Type 0) → List ℤ → Type 0)
   pub is_best : end ≡ All → IfSome found (best variable (Solves state.constraints state.domains))
   pub none : end ≡ All → IfNone found ((point : List ℤ) → ¬ (Solves state.constraints state.domains point))
   pub searched : end ≢ Solutions
+  pub known : HasEmptyDomain state → end ≡ All
 
 abbrev pub ShowsBest : (ℕ → (List ℤ → Type 0) → List ℤ → Type 0) → List ℕ → State → List ℕ → Type 0
 ShowsBest best name state text = (found : Option (List ℤ)) × (end : End) × IsBest best name state found end × (text ≡ best_text state.names found end)

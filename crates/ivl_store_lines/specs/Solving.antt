@@ -1,19 +1,22 @@
 -- What carrying out a request does to the variables, their domains, and the constraints between them.
---     State      the names, the domains, the constraints, how many narrowings a line may make, and how far the domains are narrowed
+--     State      the names, the domains, the constraints, what the narrowings of a line may count for, and how far the domains are narrowed
 --     variable_named names name      the index of the variable with this name
---     IsSound names domains some_empty      as many names as domains, and whether a domain is empty
---     Settles limit cs before after progress      at most so many narrowings by the constraints lead from the one domains to the others
+--     HasEmptyDomain state      some domain is empty, so that there is no solution
+--     domain_range      the least and the greatest number that a domain may hold
+--     Settles limit cs before after progress      narrowings by the constraints that count for no more than the limit lead from the one domains to the others
 --     Carries asked old new      the request takes the solver from old to new
 --     range_fault pairs      the fault of pairs that are not all in range; `None` if they are
 --     fault_of asked old      the fault of a request; `None` if it has none
-use Rattle.std.specs.Prelude.{◌≡◌, ◌≤◌, ◌||◌, ◌==◌, ◌↔◌, ℕ, ℤ, Bool, List, Any, [], ◌∷◌, ◌++◌, bytes_eq, if◌then◌else◌, length, position, Option, Some, None, IsTrue}
+use Rattle.std.specs.Prelude.{◌≡◌, ◌<◌, ◌≤◌, ◌+◌, ◌-◌, ◌*◌, ◌^◌, ◌||◌, ◌==◌, ℕ, ℤ, pos, negsuc, List, Any, Contains, [], ◌∷◌, ◌++◌, bytes_eq, if◌then◌else◌, length, position, Option, Some, None}
 use Rattle.std.specs.List.{list_all}
 use Rattle.ivl_lines.specs.Numbers.{is_in_range}
 use Rattle.ivl_laws.specs.Runs.{Covers, IsRunsOf}
 use Rattle.ivl_laws.specs.Families.{set_at}
 use Rattle.ivl_store.specs.declared.store.constraint.Constraint.{Constraint}
+use Rattle.ivl_store.specs.Costs.{AreCounted, cost_of}
+use Rattle.ivl_store.specs.Measure.{total}
 use Rattle.ivl_store.specs.Narrowing.{Keeps}
-use Rattle.ivl_store.specs.Network.{AreNarrowings, IsCutAt, IsRequired}
+use Rattle.ivl_store.specs.Network.{IsCutAt, IsRequired}
 use Rattle.ivl_store.specs.Solutions.{IsGreatestFamily}
 use Rattle.ivl_store_lines.specs.declared.progress.Progress.{Progress}
 use Rattle.ivl_store_lines.specs.declared.progress.Progress.TheVariants.{Complete, Budget}
@@ -31,19 +34,23 @@ pub record State : Type 0 where
 abbrev pub variable_named : List (List ℕ) → List ℕ → Option ℕ
 variable_named names name = position (λ known. bytes_eq known name) names
 
--- what holds of a solver's lists, by the number of names, and of what it keeps on empty domains
-pub record IsSound (names : ℕ) (domains : List (List (ℤ × ℤ))) (some_empty : Bool) : Type 0 where
-  pub one_each : names ≡ length domains
-  pub emptiness : IsTrue some_empty ↔ Any (λ L. L ≡ []) domains
+abbrev pub HasEmptyDomain : State → Type 0
+HasEmptyDomain state = Any (λ L. L ≡ []) state.domains
 
--- at most so many narrowings: all of them if the limit stopped it; no supported family loses a member
+abbrev pub domain_range : ℤ × ℤ
+domain_range = (negsuc (2 ^ 63 - 2), pos (2 ^ 63 - 1))
+
+-- no supported family loses a member; if the limit stopped it, one more narrowing would count for more than is left; each narrowing removes a
+-- member, but for one by each constraint
 pub record Settles (limit : ℕ) (constraints : List Constraint) (before after : List (List (ℤ × ℤ))) (progress : Progress) : Type 0 where
-  pub count : ℕ
-  pub within_limit : count ≤ limit
-  pub narrowed : AreNarrowings constraints count (set_at before) (set_at after)
+  pub by : List Constraint
+  pub cost : ℕ
+  pub counted : AreCounted constraints by cost before after
+  pub within_limit : cost ≤ limit
   pub keeps : Keeps constraints before after
   pub complete : progress ≡ Complete → IsGreatestFamily constraints (set_at before) (set_at after)
-  pub used_up : progress ≡ Budget → count ≡ limit
+  pub used_up : progress ≡ Budget → (next : Constraint) × Contains constraints next × (limit < cost + cost_of next after)
+  pub fewer : length by + total domain_range after * (length constraints + 1) ≤ total domain_range before * (length constraints + 1) + length constraints
 
 -- one more variable, whose domain is the union of the pairs
 pub record Defines (name : List ℕ) (pairs : List (ℤ × ℤ)) (old new : State) : Type 0 where

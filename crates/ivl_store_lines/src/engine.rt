@@ -1,11 +1,11 @@
-//! What answers the lines of a session of the store, and how the session ends.
+//! What answers the lines of a session of the store.
 ghost use Rattle.std.specs.Prelude.{◌≡◌, ℕ, List, ◌++◌, [], IfSome, IsErrOf, OnOk};
 ghost use Rattle.std.specs.Io.KnownBytes.{Appends, Consumes, IsAtEnd};
-ghost use Rattle.ivl_lines.specs.Answered.{IsAnswered};
+ghost use Rattle.ivl_lines.specs.Answered.{AnswersOrLoses, IsAnswered};
+ghost use Rattle.ivl_lines.specs.Commands.{no_memory};
 ghost use Rattle.ivl_lines.specs.Lines.{ended_lines_of, lines_of};
 ghost use Rattle.ivl_lines.specs.Words.{words_between};
 ghost use Rattle.ivl_store_lines.specs.Answering.{AnswersAsked, AnswersLine, AnswersWords};
-ghost use Rattle.ivl_store_lines.specs.Outcome.{outcome_of};
 ghost use Rattle.ivl_store_lines.specs.Printed.{IsReply, state_line};
 ghost use Rattle.ivl_store_lines.specs.Requests.{asked_of, count, greatest, least, solve};
 ghost use Rattle.ivl_store_lines.specs.Solving.{State};
@@ -17,15 +17,19 @@ use crate::replies::{
 };
 use crate::request::{Request, request_from};
 use crate::solver::Solver;
-use ivl_lines::{Answers, LineFault, SessionFault, first_word, line_text, next_word, serve};
+use ivl_lines::{Answers, SessionFault, first_word, line_text, next_word, serve};
 use std::alloc::Global;
+use std::collections::hash_map::RandomState;
 use std::io;
 use std::io::{Read, Write};
 
 impl Answers for Solver {
+    ghost use Rattle.ivl_lines.specs.Commands.{no_memory};
     ghost use Rattle.ivl_store_lines.specs.Answering.{AnswersLine};
 
     ghost allowed = { AnswersLine };
+
+    ghost lost = { no_memory };
 
     fn may_take_long(&self, line: &[u8]) -> bool {
         match first_word(line) {
@@ -34,47 +38,52 @@ impl Answers for Solver {
         }
     }
 
-    fn answer<W: Write>(&mut self, line: &[u8], writer: &mut W) -> Result<(), LineFault> {
-        if answer_line(self, line, writer).is_err() {
-            return Err(LineFault::Write);
-        }
-        Ok(())
+    fn answer<W: Write>(&mut self, line: &[u8], writer: &mut W) -> io::Result<()> {
+        answer_line(self, line, writer)
+    }
+
+    fn answer_to_lost(&self) -> &'static [u8] {
+        b"error: out of memory\n"
     }
 }
 
-/// Answers each line of the input, over a solver that has no variables at first. What is written is
-/// flushed before each read, before each line that narrows domains, and at the end.
+/// Answers each line of the input, over a solver that has no variables at first and looks names up
+/// by hashes with these keys. What is written is flushed before each read, before each line that
+/// narrows domains or searches, and at the end.
 ///
 /// # Errors
 ///
 /// `Read` if a read failed, or the reader still returned bytes after 2^64 - 1 reads; an interrupted
-/// read is repeated. `Write` if a write or a flush failed. `Memory` if an allocation for the bytes
-/// of a line failed. A line that runs out of memory when it is carried out is answered with that,
-/// and the session continues.
+/// read is repeated. `Write` if a write or a flush failed. `Memory` if there is no memory to begin:
+/// nothing is then read or written. A line that runs out of memory when it is read or carried out is
+/// answered with that, and the session continues.
 ///
 /// ```
 /// let mut input: &[u8] = b"var x 1 9\ncut x 2 5\nshow";
 /// let mut written = Vec::new(alloc);
-/// assert_eq!(rt; session(alloc, &mut input, &mut written), Ok(()));
+/// assert_eq!(rt; session(alloc, RandomState::new(&rt)?, &mut input, &mut written), Ok(()));
 /// assert_eq!(rt; written.as_slice(), b"ok\nok\nx [2..5]\nok\n".as_slice());
 /// ```
 pub fn session<R: Read, W: Write>(
     alloc: Global,
+    keys: RandomState,
     reader: &mut R,
     writer: &mut W,
 ) -> Result<(), SessionFault>
     // All bytes were read, and what is written answers their lines.
     ensures end { OnOk result (IsAtEnd (R.remaining reader.new)) }
     ensures ok { OnOk result (IfSome (R.remaining reader.old) (λ bytes. (text : List ℕ) × (end : State)
-        × IsAnswered AnswersLine (record { names = []; domains = []; constraints = []; limit = 1000000; progress = Progress.Complete }) (lines_of bytes) text end
+        × IsAnswered (AnswersOrLoses no_memory AnswersLine) (record { names = []; domains = []; constraints = []; limit = 1000000; progress = Progress.Complete }) (lines_of bytes) text end
         × Appends (W.contents writer.old) (W.contents writer.new) text)) }
     // What is written answers the ended lines of the bytes that the reader gave.
     ensures read { IsErrOf result SessionFault.Read → (front : List ℕ) × (text : List ℕ) × (end : State)
         × Consumes (R.remaining reader.old) (R.remaining reader.new) front
-        × IsAnswered AnswersLine (record { names = []; domains = []; constraints = []; limit = 1000000; progress = Progress.Complete }) (ended_lines_of front) text end
+        × IsAnswered (AnswersOrLoses no_memory AnswersLine) (record { names = []; domains = []; constraints = []; limit = 1000000; progress = Progress.Complete }) (ended_lines_of front) text end
         × Appends (W.contents writer.old) (W.contents writer.new) text }
+    // There was no memory to begin.
+    ensures memory { IsErrOf result SessionFault.Memory → (reader.new ≡ reader.old) × (writer.new ≡ writer.old) }
 {
-    serve(alloc, &mut Solver::new(alloc), reader, writer)
+    serve(alloc, &mut Solver::new(alloc, keys), reader, writer)
 }
 
 // Answers one line. A line without words has no answer.
@@ -182,22 +191,5 @@ fn answer_greatest<W: Write>(solver: &Solver, name: &str, writer: &mut W) -> io:
     match solver.greatest(name) {
         Ok(best) => write_best(writer, solver.names(), &best),
         Err(fault) => write_fault(writer, &fault),
-    }
-}
-
-/// Returns the exit status of the program, and what it writes to standard error.
-///
-/// ```
-/// assert_eq!(rt; outcome(&Ok(())), (0, ""));
-/// assert_eq!(rt; outcome(&Err(SessionFault::Read)), (1, "ivl_solve: read failed"));
-/// ```
-pub fn outcome(ended: &Result<(), SessionFault>) -> (u8, &'static str)
-    ensures { (result.0, result.1.now) ≡ outcome_of ended.now }
-{
-    match ended {
-        Ok(()) => (0, ""),
-        Err(SessionFault::Read) => (1, "ivl_solve: read failed"),
-        Err(SessionFault::Write) => (1, "ivl_solve: write failed"),
-        Err(SessionFault::Memory) => (1, "ivl_solve: out of memory"),
     }
 }

@@ -10,5 +10,5 @@ mod solve;
 mod solver;
 mod whole;
 
-pub use engine::{outcome, session};
+pub use engine::session;
 pub use ivl_lines::SessionFault;

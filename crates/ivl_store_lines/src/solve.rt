@@ -1,10 +1,11 @@
 //! The solutions of the constraints over the domains, as a search finds them within the limit of a line.
-ghost use Rattle.std.specs.Prelude.{◌≡◌, ◌≢◌, ◌≤◌, ◌^◌, ◌-◌, ℤ, List, IfErr, IfOk, length, map, option_map};
+ghost use Rattle.std.specs.Prelude.{◌≡◌, ◌≢◌, ◌≤◌, ◌^◌, ◌-◌, ℕ, ℤ, List, IfErr, IfOk, None, length, map, option_map};
+ghost use Rattle.ivl_search.specs.Budget.{nodes_enough};
 ghost use Rattle.ivl_search.specs.Points.{Finds, IsGreatestAt, IsLeastAt, Solves};
 ghost use Rattle.ivl_store_lines.specs.Faults.{told_of};
 ghost use Rattle.ivl_store_lines.specs.Requests.{greatest as greatest_of, least as least_of};
-ghost use Rattle.ivl_store_lines.specs.Solved.{IsBest};
-ghost use Rattle.ivl_store_lines.specs.Solving.{fault_of};
+ghost use Rattle.ivl_store_lines.specs.Solved.{HasNodes, IsBest};
+ghost use Rattle.ivl_store_lines.specs.Solving.{HasEmptyDomain, fault_of, domain_range};
 
 use crate::fault::Fault;
 use crate::solver::Solver;
@@ -18,7 +19,15 @@ impl Solver {
         ensures finds { IfOk result (λ found. Finds (Solves self.now.constraints self.now.domains) (map (λ point. point.items) found.points.items) found.end) }
         ensures at_most { IfOk result (λ found. length found.points.items ≤ most) }
         ensures full { IfOk result (λ found. found.end ≡ End.Solutions → length found.points.items ≡ most) }
+        ensures known { IfOk result (λ found. HasEmptyDomain self.now → found.end ≡ End.All) }
+        ensures enough { IfOk result (λ found. HasNodes (nodes_enough domain_range self.now.constraints self.now.domains) self.now → found.end ≢ End.Nodes) }
     {
+        if self.has_empty() {
+            return Ok(Found {
+                points: Vec::new(self.allocator()),
+                end: End::All,
+            });
+        }
         let limits = self.limits(most as usize);
         match search::solutions(self.allocator(), self.domains(), self.constraints(), limits) {
             Ok(found) => Ok(found),
@@ -30,7 +39,12 @@ impl Solver {
     pub fn count(&self) -> Result<(usize, End), AllocError>
         ensures found { IfOk result (λ counted. (points : List (List ℤ)) × (length points ≡ counted.0) × Finds (Solves self.now.constraints self.now.domains) points counted.1) }
         ensures full { IfOk result (λ counted. counted.1 ≡ End.Solutions → counted.0 ≡ 2 ^ 64 - 1) }
+        ensures known { IfOk result (λ counted. HasEmptyDomain self.now → counted.1 ≡ End.All) }
+        ensures enough { IfOk result (λ counted. HasNodes (nodes_enough domain_range self.now.constraints self.now.domains) self.now → counted.1 ≢ End.Nodes) }
     {
+        if self.has_empty() {
+            return Ok((0, End::All));
+        }
         let limits = self.limits(usize::MAX);
         match search::count(self.allocator(), self.domains(), self.constraints(), limits) {
             Ok(counted) => Ok(counted),
@@ -48,6 +62,9 @@ impl Solver {
         ensures fault { IfErr result (λ fault. told_of fault ≡ fault_of (least_of name.now) self.now) }
     {
         let variable = self.known(name)?;
+        if self.has_empty() {
+            return Ok(none());
+        }
         let limits = self.limits(usize::MAX);
         match search::least(
             self.allocator(),
@@ -72,6 +89,9 @@ impl Solver {
         ensures fault { IfErr result (λ fault. told_of fault ≡ fault_of (greatest_of name.now) self.now) }
     {
         let variable = self.known(name)?;
+        if self.has_empty() {
+            return Ok(none());
+        }
         let limits = self.limits(usize::MAX);
         match search::greatest(
             self.allocator(),
@@ -87,10 +107,22 @@ impl Solver {
 
     /// How long a search may go on.
     fn limits(&self, solutions: usize) -> Limits
-        ensures { result.solutions ≡ solutions }
+        ensures solutions { result.solutions ≡ solutions }
+        ensures nodes { (needed : ℕ) → HasNodes needed self.now → needed ≤ result.nodes }
     {
-        let nodes = (self.limit() / NARROWINGS_PER_NODE).max(1);
+        let nodes = self.limit() / NARROWINGS_PER_NODE;
         Limits { solutions, nodes }
+    }
+}
+
+/// That there is no solution.
+fn none() -> Best<i64>
+    ensures none { result.point ≡ None }
+    ensures all { result.end ≡ End.All }
+{
+    Best {
+        point: None,
+        end: End::All,
     }
 }
 

@@ -15,10 +15,10 @@ use crate::whole::{require_whole, restrict_whole, settle_whole};
 use indexmap::IndexSet;
 use intervallum::interval::Interval;
 use intervallum::interval_set::{IntervalSet, ToIntervalSet};
-use intervallum::ops::IsEmpty;
 use ivl_store::network::Network;
 use ivl_store::store::Constraint;
 use std::alloc::{AllocError, Global};
+use std::collections::hash_map::RandomState;
 use std::marker::Model;
 
 /// The variables by name, their domains, and the sums that hold between them. A contract sees the
@@ -26,36 +26,34 @@ use std::marker::Model;
 #[derive(Drop)]
 pub struct Solver {
     alloc: Global,
-    names: IndexSet<String>,
+    // With random keys, so that nobody can choose names that collide.
+    names: IndexSet<String, RandomState>,
     network: Network<i64>,
-    // Whether a domain is empty: kept, so that a new variable looks at its own domain alone.
-    some_empty: bool,
     limit: u64,
     progress: Progress,
 }
 
 impl Model for Solver {
-    ghost use Rattle.std.specs.Prelude.{length, map, string_bytes};
-    ghost use Rattle.ivl_store_lines.specs.Solving.{IsSound, State};
+    ghost use Rattle.std.specs.Prelude.{◌≡◌, length, map, string_bytes};
+    ghost use Rattle.ivl_store_lines.specs.Solving.{State};
 
     ghost Value = { State };
 
     ghost view = { λ s. record { names = map string_bytes s.names.keys; domains = s.network.domains; constraints = s.network.constraints; limit = s.limit; progress = s.progress } };
 
-    ghost invariant = { λ s. IsSound (length s.names.keys) s.network.domains s.some_empty };
+    ghost invariant = { λ s. length s.names.keys ≡ length s.network.domains };
 }
 
 impl Solver {
-    /// Creates a solver without variables, whose lines may make a million narrowings each. Does not
-    /// allocate.
-    pub fn new(alloc: Global) -> Solver
+    /// Creates a solver without variables, with a limit of a million. Looks names up by hashes with
+    /// these keys. Does not allocate.
+    pub fn new(alloc: Global, keys: RandomState) -> Solver
         ensures { result ≡ record { names = []; domains = []; constraints = []; limit = 1000000; progress = Progress.Complete } }
     {
         Solver {
             alloc,
-            names: IndexSet::new(alloc),
+            names: IndexSet::with_hasher(alloc, keys),
             network: Network::new(alloc),
-            some_empty: false,
             limit: 1_000_000,
             progress: Progress::Complete,
         }
@@ -133,10 +131,10 @@ impl Solver {
     pub fn has_empty(&self) -> bool
         ensures { IsTrue result ↔ Any (λ L. L ≡ []) self.now.domains }
     {
-        self.some_empty
+        self.network.has_empty()
     }
 
-    /// Returns how many narrowings a line may make. `O(1)`.
+    /// Returns what the narrowings of a line may count for. `O(1)`.
     pub fn limit(&self) -> u64
         ensures { result ≡ self.now.limit }
     {
@@ -171,14 +169,10 @@ impl Solver {
         ensures ok { OnOk result (self.new ≡ record { names = self.old.names ++ name.now ∷ []; domains = self.old.domains ++ domain ∷ []; constraints = self.old.constraints; limit = self.old.limit; progress = self.old.progress }) }
         ensures err { OnErr result (self.new ≡ self.old) }
     {
-        let is_empty = domain.is_empty();
         let count = self.names.len();
         self.names.insert(String::from_str(self.alloc, name)?)?;
         match self.network.add_variable(domain) {
-            Ok(_) => {
-                self.some_empty |= is_empty;
-                Ok(())
-            }
+            Ok(_) => Ok(()),
             Err(error) => {
                 self.names.truncate(count);
                 Err(error)
@@ -249,7 +243,6 @@ impl Solver {
     {
         let progress = restrict_whole(&mut self.network, variable, allowed, self.limit)?;
         self.progress = progress;
-        self.some_empty = self.network.has_empty();
         Ok(())
     }
 
@@ -263,7 +256,6 @@ impl Solver {
     {
         let progress = require_whole(&mut self.network, sum, self.limit)?;
         self.progress = progress;
-        self.some_empty = self.network.has_empty();
         Ok(())
     }
 
@@ -276,7 +268,6 @@ impl Solver {
     {
         let progress = settle_whole(&mut self.network, self.limit)?;
         self.progress = progress;
-        self.some_empty = self.network.has_empty();
         Ok(())
     }
 }

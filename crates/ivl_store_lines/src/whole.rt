@@ -85,7 +85,9 @@ fn settle_to(network: &mut Network<i64>, mark: usize, limit: u64) -> Result<Prog
     ensures kept_count { OnOk result (length network.new.domains ≡ length network.old.domains) }
     ensures undone { OnErr result (HoldsAt (λ past. (network.new.domains ≡ past.domains) × (network.new.constraints ≡ past.constraints)) network.old.marked mark) }
 {
-    match network.settle(limit) {
+    // No more constraints have to be looked at than there are.
+    network.constraints();
+    match network.settle_within(limit) {
         Ok(reached) => {
             network.drop_marks(mark);
             Ok(progress_of(reached))

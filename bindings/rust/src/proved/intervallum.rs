@@ -1,3 +1,4 @@
+// Written by bindings/rust/extract from crates/intervallum/src/lib.rt.
 //! Sets of integers, stored as sorted runs that neither overlap nor touch, generic over the type of
 //! their bounds. A run is a closed interval.
 //!
@@ -5,16 +6,17 @@
 //! `==` compares members and `size` is their number.
 //!
 //! ```
-//! # use intervallum::proved::examples::*;
-//! # fn main() -> Result<(), std::boxed::Box<dyn std::error::Error>> {
-//! # let alloc = Global;
-//! let a = IntervalSet::new(alloc, 1, 2)?;
-//! let b = IntervalSet::new(alloc, 3, 5)?;
-//! let both = a.union(&b)?;                  // [1..5], one run
-//! assert_eq!(both.interval_count(), 1);
-//! assert_eq!(both.size(), 5u32);
-//! # Ok(())
-//! # }
+//! use intervallum::proved::examples::*;
+//!
+//! fn main() -> Result<(), std::boxed::Box<dyn std::error::Error>> {
+//!     let alloc = Global;
+//!     let a = IntervalSet::new(alloc, 1, 2)?;
+//!     let b = IntervalSet::new(alloc, 3, 5)?;
+//!     let both = a.union(&b)?;                  // [1..5], one run
+//!     assert_eq!(both.interval_count(), 1);
+//!     assert_eq!(both.size(), 5u32);
+//!     Ok(())
+//! }
 //! ```
 
 #[allow(unused_imports)]

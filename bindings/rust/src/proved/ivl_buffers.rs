@@ -1,3 +1,4 @@
+// Written by bindings/rust/extract from crates/ivl_buffers/src/lib.rt.
 //! Sets as plain lists of pairs, in the caller's memory: what the library for C computes, generic over
 //! the type of a pair.
 //!

@@ -1,3 +1,4 @@
+// Written by bindings/rust/extract from crates/ivl_expr/src/lib.rt.
 //! Expressions over interval sets, for range analysis.
 //!
 //! An [`Expr`] is built from variables, constants, sums, differences and products. [`eval`] takes a

@@ -1,3 +1,4 @@
+// Written by bindings/rust/extract from crates/ivl_interval/src/lib.rt.
 //! Closed, bounded intervals of integers, generic over the type of their bounds.
 //!
 //! An [`interval::Interval`] is the set of the integers from a lower to an upper bound. The traits
@@ -5,13 +6,14 @@
 //! allocates.
 //!
 //! ```
-//! # use intervallum::proved::examples::*;
-//! # fn main() -> Result<(), std::boxed::Box<dyn std::error::Error>> {
-//! # let alloc = Global;
-//! let a = Interval::new(3i32, 8);
-//! assert!(a.contains(&8) && !a.contains(&9));
-//! # Ok(())
-//! # }
+//! use intervallum::proved::examples::*;
+//!
+//! fn main() -> Result<(), std::boxed::Box<dyn std::error::Error>> {
+//!     let alloc = Global;
+//!     let a = Interval::new(3i32, 8);
+//!     assert!(a.contains(&8) && !a.contains(&9));
+//!     Ok(())
+//! }
 //! ```
 
 #[allow(unused_imports)]

@@ -1,3 +1,4 @@
+// Written by bindings/rust/extract from crates/ivl_paged/src/lib.rt.
 //! Sets of integers for many runs that change: [`PagedSet`], whose runs stand in short pages.
 //!
 //! An `IntervalSet` keeps its runs in one vector. This is the fastest to read and to merge, but an
@@ -9,14 +10,15 @@
 //! joined with a neighbour when both have few runs, and removed when they are empty.
 //!
 //! ```
-//! # use intervallum::proved::examples::*;
-//! # fn main() -> Result<(), std::boxed::Box<dyn std::error::Error>> {
-//! # let alloc = Global;
-//! let mut free = PagedSet::new(alloc);
-//! free.insert_interval(Interval::new(0i64, 999))?;
-//! assert!(free.remove(500)? && !free.contains(&500) && free.contains(&501));
-//! # Ok(())
-//! # }
+//! use intervallum::proved::examples::*;
+//!
+//! fn main() -> Result<(), std::boxed::Box<dyn std::error::Error>> {
+//!     let alloc = Global;
+//!     let mut free = PagedSet::new(alloc);
+//!     free.insert_interval(Interval::new(0i64, 999))?;
+//!     assert!(free.remove(500)? && !free.contains(&500) && free.contains(&501));
+//!     Ok(())
+//! }
 //! ```
 
 #[allow(unused_imports)]

@@ -1,4 +1,4 @@
-//! Panics, and failed allocations.
+//! Panics, failed allocations, and what the docs of both kinds of sets say otherwise of each.
 use crate::proved::width::Width;
 use crate::proved::{AllocError, Interval};
 use alloc::alloc::{Layout, handle_alloc_error};
@@ -16,21 +16,30 @@ pub fn broken(set: &str, call: fmt::Arguments<'_>, condition: impl Display) -> !
     panic!("{set}::{call}: {condition}")
 }
 
+/// A text that a function writes.
+pub struct Told<F>(pub F);
+
+impl<F: Fn(&mut fmt::Formatter<'_>) -> fmt::Result> Display for Told<F> {
+    fn fmt(&self, f: &mut fmt::Formatter<'_>) -> fmt::Result {
+        (self.0)(f)
+    }
+}
+
 /// Returns the condition that some numbers are in the range.
 pub fn within_range<T: Width>(numbers: &str) -> impl Display {
     let (least, greatest) = (T::min_value().number(), T::max_value().number());
-    fmt::from_fn(move |f| write!(f, "{numbers} must be from {least} to {greatest}"))
+    Told(move |f: &mut fmt::Formatter<'_>| write!(f, "{numbers} must be from {least} to {greatest}"))
 }
 
 /// Returns the text `1..=5`, or `1` for one number.
 pub fn numbers_between(lower: i128, upper: i128) -> impl Display {
-    fmt::from_fn(move |f| match lower == upper {
+    Told(move |f: &mut fmt::Formatter<'_>| match lower == upper {
         true => write!(f, "{lower}"),
         false => write!(f, "{lower}..={upper}"),
     })
 }
 
-/// The value of a checked form, or a panic with the condition and the call: of an `IntervalSet`, or of the set that is named.
+/// The value of a checked form, or a panic with the condition and the call of a set.
 macro_rules! unless_broken {
     ($set:ident: $checked:expr, $condition:expr, $($call:tt)*) => {
         match $checked {
@@ -38,7 +47,48 @@ macro_rules! unless_broken {
             None => broken(stringify!($set), format_args!($($call)*), $condition),
         }
     };
-    ($($rest:tt)*) => { unless_broken!(IntervalSet: $($rest)*) };
 }
 
-pub(super) use unless_broken;
+/// What a call of a kind costs.
+macro_rules! cost {
+    (IntervalSet edit) => { "`O(log n)`, or `O(n)` if the number of runs changes." };
+    (PagedSet edit) => { "`O(log n)`. Moves the runs of one page; some edits move the list of pages." };
+    (IntervalSet edit_range) => { "`O(log n + k)` for the `k` runs that it overlaps or touches, or `O(n)` if the number of runs changes." };
+    (PagedSet edit_range) => { "`O(log n + k)` for the `k` runs that it overlaps or touches. Moves the runs of one page; some edits move the list of pages." };
+    (IntervalSet pop) => { "`O(1)`, or `O(n)` for `pop_first` of a member that is a run by itself." };
+    (PagedSet pop) => { "`O(log n)`. Moves the runs of one page at most." };
+    (IntervalSet size) => { "`O(1)`." };
+    (PagedSet size) => { "Adds up the members of the pages." };
+    (IntervalSet rank) => { "`O(n)`." };
+    (PagedSet rank) => { "Adds up the members of the pages before it." };
+    (IntervalSet fit) => { "`O(n)`." };
+    (PagedSet fit) => { "Reads the runs of one page, and one number of each page before it." };
+    (IntervalSet next_run) => { "`O(log n)`; each step is `O(1)`." };
+    (PagedSet next_run) => { "Each run is `O(log n)`." };
+    (IntervalSet part) => { "`O(log n + k)` for the `k` runs in it." };
+    (PagedSet part) => { "`O(k log n)` for the `k` runs in it." };
+    (IntervalSet size_within) => { "`O(log n + k)` for the `k` runs that overlap it." };
+    (PagedSet size_within) => { "Adds up the members of the pages up to its end." };
+    (IntervalSet fit_from) => { "`O(log n + k)` for the `k` runs from `value` up to the first that is long enough." };
+    (PagedSet fit_from) => { "Reads the runs of two pages, and one number of each page between." };
+    (IntervalSet merge) => { "`O(n + m)`." };
+    (PagedSet merge) => { "`O(n + m)`, with a copy of the runs." };
+}
+
+/// The link to the contract of a call, or what stands in its place for a paged set.
+macro_rules! contract {
+    (IntervalSet $call:literal) => {
+        concat!("\n\nContract: [`proved::IntervalSet::", $call, "`](crate::proved::IntervalSet::", $call, ").")
+    };
+    (PagedSet $call:literal) => {
+        concat!("\n\nContract: [`proved::PagedSet::", $call, "`](crate::proved::ivl_paged::PagedSet::", $call, ").")
+    };
+    // of a call that the proved paged set lacks
+    (lists IntervalSet $call:literal) => { contract!(IntervalSet $call) };
+    (lists PagedSet $call:literal) => {
+        concat!("\n\nTested and not proved: made of other calls of the proved set, or of [`proved::IntervalSet::", $call,
+            "`](crate::proved::IntervalSet::", $call, ") over a copy.")
+    };
+}
+
+pub(super) use {contract, cost, unless_broken};

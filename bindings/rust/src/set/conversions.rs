@@ -1,96 +1,150 @@
-//! Traits of std that make, copy, hash and print sets.
+//! Traits of std that make, copy, compare and hash sets.
 use super::conditions::memory;
-use super::iterators::interval_of;
-use super::{IntervalSet, PagedSet, Piece};
-use crate::proved::ops::Bounded as _;
+use super::making::interval_of;
+use super::{IntervalSet, PagedSet, Pieces};
 use crate::proved::width::Width;
-use crate::proved::{self, Global, Interval};
-use core::fmt::{self, Debug, Display};
+use crate::proved::{Interval, ivl_paged};
+use alloc::vec::Vec;
+use core::cmp::Ordering;
 use core::hash::{Hash, Hasher};
-use core::ops::{Range, RangeFrom, RangeFull, RangeInclusive, RangeTo, RangeToInclusive};
+use core::ops::{Bound, Range, RangeFrom, RangeFull, RangeInclusive, RangeTo, RangeToInclusive};
 
 macro_rules! from_pieces {
-    ($($piece:ty),*) => {$(
-        /// Makes the set of the numbers of a range. All must be in the range of `T`.
-        impl<T: Width> From<$piece> for IntervalSet<T> {
+    ($Set:ident: $($piece:ty),*) => {$(
+        /// Makes the set of the numbers of a range. All must be within the limits.
+        impl<T: Width> From<$piece> for $Set<T> {
             #[track_caller]
             fn from(piece: $piece) -> Self {
-                Self(memory(proved::IntervalSet::of(Global, interval_of("IntervalSet", "from", &piece))))
-            }
-        }
-
-        /// Makes the set of the numbers of a range. All must be in the range of `T`.
-        impl<T: Width> From<$piece> for PagedSet<T> {
-            #[track_caller]
-            fn from(piece: $piece) -> Self {
-                Self::of_interval(interval_of("PagedSet", "from", &piece))
+                Self::of_interval(interval_of(stringify!($Set), "from", &piece))
             }
         }
     )*};
 }
 
-from_pieces!(Range<T>, RangeInclusive<T>, RangeFrom<T>, RangeTo<T>, RangeToInclusive<T>, RangeFull, Interval<T>);
+macro_rules! conversions {
+    ($Set:ident) => {
+        from_pieces!($Set: Range<T>, RangeInclusive<T>, RangeFrom<T>, RangeTo<T>, RangeToInclusive<T>, RangeFull, (T, T),
+            (Bound<T>, Bound<T>), &Range<T>, &RangeInclusive<T>, Interval<T>);
 
-/// Makes the set of every piece: values, ranges or pairs. All numbers must be in the range.
-impl<T: Width, P: Piece<T>, const N: usize> From<[P; N]> for IntervalSet<T> {
-    #[track_caller]
-    fn from(pieces: [P; N]) -> Self {
-        Self::gathered("IntervalSet", "from", pieces)
-    }
+        /// Makes the set of every piece: values, ranges, pairs or sets. All numbers must be within the limits.
+        impl<T: Width, P: Pieces<T>, const N: usize> From<[P; N]> for $Set<T> {
+            #[track_caller]
+            fn from(pieces: [P; N]) -> Self {
+                Self::gathered("from", pieces)
+            }
+        }
+
+        /// Makes the set of every piece: values, ranges, pairs or sets. All numbers must be within the limits.
+        impl<T: Width, P: Pieces<T>> From<Vec<P>> for $Set<T> {
+            #[track_caller]
+            fn from(pieces: Vec<P>) -> Self {
+                Self::gathered("from", pieces)
+            }
+        }
+
+        /// Makes the set of every piece: values, ranges, pairs or sets. All numbers must be within the limits.
+        impl<'a, T: Width, P> From<&'a [P]> for $Set<T>
+        where
+            &'a P: Pieces<T>,
+        {
+            #[track_caller]
+            fn from(pieces: &'a [P]) -> Self {
+                Self::gathered("from", pieces)
+            }
+        }
+
+        /// Makes the empty set.
+        impl<T: Width> Default for $Set<T> {
+            fn default() -> Self {
+                Self::empty()
+            }
+        }
+
+        impl<T: Width> Clone for $Set<T> {
+            fn clone(&self) -> Self {
+                Self(self.0.as_ref().map(|set| memory(set.try_clone())))
+            }
+        }
+
+        impl<T: Width> PartialEq for $Set<T> {
+            fn eq(&self, other: &Self) -> bool {
+                match (&self.0, &other.0) {
+                    (Some(a), Some(b)) => a == b,
+                    _ => self.is_empty() && other.is_empty(),
+                }
+            }
+        }
+
+        impl<T: Width> Eq for $Set<T> {}
+
+        impl<T: Width> PartialOrd for $Set<T> {
+            fn partial_cmp(&self, other: &Self) -> Option<Ordering> {
+                Some(self.cmp(other))
+            }
+        }
+
+        /// Orders sets by their members, one after another, as a `BTreeSet` does. Goes by runs.
+        impl<T: Width> Ord for $Set<T> {
+            fn cmp(&self, other: &Self) -> Ordering {
+                order(self.runs(), other.runs())
+            }
+        }
+
+        impl<T: Width + Hash> Hash for $Set<T> {
+            fn hash<H: Hasher>(&self, state: &mut H) {
+                state.write_usize(self.interval_count());
+                self.runs().for_each(|run| run.into_inner().hash(state));
+            }
+        }
+    };
 }
 
-/// Makes the set of every piece: values, ranges or pairs. All numbers must be in the range.
-impl<T: Width, P: Piece<T>, const N: usize> From<[P; N]> for PagedSet<T> {
-    #[track_caller]
-    fn from(pieces: [P; N]) -> Self {
-        Self::from(&IntervalSet::gathered("PagedSet", "from", pieces))
-    }
-}
+conversions!(IntervalSet);
+conversions!(PagedSet);
 
-impl<T: Width> From<proved::IntervalSet<T>> for IntervalSet<T> {
-    fn from(set: proved::IntervalSet<T>) -> Self {
-        Self(set)
-    }
-}
-
-impl<T: Width> From<IntervalSet<T>> for proved::IntervalSet<T> {
-    fn from(set: IntervalSet<T>) -> Self {
-        set.0
-    }
-}
-
-/// Makes the empty set.
-impl<T: Width> Default for IntervalSet<T> {
-    fn default() -> Self {
-        Self::empty()
-    }
-}
-
-impl<T: Width> Clone for IntervalSet<T> {
-    fn clone(&self) -> Self {
-        Self(memory(self.0.try_clone()))
-    }
-}
-
-impl<T: Width + Hash> Hash for IntervalSet<T> {
-    fn hash<H: Hasher>(&self, state: &mut H) {
-        state.write_usize(self.interval_count());
-        for run in self.0.runs() {
-            (run.lower(), run.upper()).hash(state);
+/// Compares the numbers of runs as lists.
+fn order<T: Width, R: Iterator<Item = RangeInclusive<T>>>(mut a: R, mut b: R) -> Ordering {
+    loop {
+        let (p, q) = match (a.next(), b.next()) {
+            (None, None) => return Ordering::Equal,
+            (None, Some(_)) => return Ordering::Less,
+            (Some(_), None) => return Ordering::Greater,
+            (Some(p), Some(q)) => (p.into_inner(), q.into_inner()),
+        };
+        if p != q {
+            // where the one run ends, the other list has the next number, and the one a greater number or none
+            return p.0.cmp(&q.0).then_with(|| match p.1 < q.1 {
+                true => a.next().map_or(Ordering::Less, |_| Ordering::Greater),
+                false => b.next().map_or(Ordering::Greater, |_| Ordering::Less),
+            });
         }
     }
 }
 
-/// Writes the runs, as in `{1..=2, 5..=6}`.
-impl<T: Width + Debug> Debug for IntervalSet<T> {
-    fn fmt(&self, f: &mut fmt::Formatter<'_>) -> fmt::Result {
-        f.debug_set().entries(self.runs()).finish()
+/// Copies the runs into pages. `O(n)`.
+impl<T: Width> From<&IntervalSet<T>> for PagedSet<T> {
+    fn from(set: &IntervalSet<T>) -> Self {
+        Self(Some(memory(ivl_paged::PagedSet::of_set(&set.as_proved()))))
     }
 }
 
-/// Writes `{}` for the empty set, `[1..5]` for one run, and `{[1..2][5..5]}` for more.
-impl<T: Width + Display> Display for IntervalSet<T> {
-    fn fmt(&self, f: &mut fmt::Formatter<'_>) -> fmt::Result {
-        Display::fmt(&self.0, f)
+/// Copies the runs into pages. `O(n)`.
+impl<T: Width> From<IntervalSet<T>> for PagedSet<T> {
+    fn from(set: IntervalSet<T>) -> Self {
+        Self::from(&set)
+    }
+}
+
+/// As [`to_set`](PagedSet::to_set).
+impl<T: Width> From<&PagedSet<T>> for IntervalSet<T> {
+    fn from(set: &PagedSet<T>) -> Self {
+        set.to_set()
+    }
+}
+
+/// As [`to_set`](PagedSet::to_set).
+impl<T: Width> From<PagedSet<T>> for IntervalSet<T> {
+    fn from(set: PagedSet<T>) -> Self {
+        set.to_set()
     }
 }

@@ -1,28 +1,37 @@
 //! Values, ranges, pairs and intervals as parts of sets.
+use super::{IntervalSet, PagedSet};
 use crate::proved::interval::Interval;
 use crate::proved::ops::{Bounded as _, Empty as _, IsEmpty as _, Range as _};
 use crate::proved::width::Width;
-use core::ops::{Range, RangeFrom, RangeFull, RangeInclusive, RangeTo, RangeToInclusive};
+use alloc::vec::Vec;
+use core::ops::{Bound, Range, RangeFrom, RangeFull, RangeInclusive, RangeTo, RangeToInclusive};
 
 /// A part of a set: a value or a reference to one, a range of std, a pair of inclusive bounds, or a proved [`Interval`].
 ///
-/// A range without a bound ends with the range of `T`. An empty range, and a pair that crosses, have no numbers. Calls that add
-/// numbers require them to be in the range of `T`; for calls that ask, other numbers are no members.
+/// A range without a bound ends with the limits of `T`, unless its other bound lies outside them: `255..` of `u8` has the
+/// number 255, which is in no set of `u8`. An empty range, and a pair that crosses, have no numbers. Calls that add
+/// numbers require them to be within the limits; for calls that ask, other numbers are no members.
 ///
 /// ```
 /// use intervallum::IntervalSet;
+/// use std::ops::Bound::{Excluded, Unbounded};
 ///
 /// let mut a: IntervalSet<u8> = [1, 2, 9].into_iter().collect();
 /// a.extend([(4, 5)]);
 /// a.extend([250..]);
 /// assert_eq!(a, IntervalSet::from([1..=2, 4..=5, 9..=9, 250..=254]));
-/// assert!(a.includes(4..6) && a.includes(&9) && !a.includes(..));
+/// assert!(a.includes(4..6) && a.includes(9) && !a.includes(..) && !a.includes(255..));
+/// assert!(a.includes((Excluded(249), Unbounded)) && a.includes(&(1..3)));
 /// ```
+#[diagnostic::on_unimplemented(
+    message = "`{Self}` is no value, range or pair of bounds of type `{T}`",
+    note = "a piece is a `T`, a range of `T` as `1..=5`, `..5` or `..`, a pair `(T, T)` of inclusive bounds or of `Bound<T>`"
+)]
 pub trait Piece<T: Width> {
     /// Returns the least and the greatest number. If there is none, the first is above the second.
     fn numbers(&self) -> (i128, i128);
 
-    /// Returns the interval of the numbers, or `None` if some are outside the range.
+    /// Returns the interval of the numbers, or `None` if some are outside the limits.
     fn interval(&self) -> Option<Interval<T>> {
         match self.numbers() {
             (lower, upper) if lower > upper => Some(Interval::empty()),
@@ -30,7 +39,7 @@ pub trait Piece<T: Width> {
         }
     }
 
-    /// Returns the interval of the numbers that are in the range.
+    /// Returns the interval of the numbers that are within the limits.
     fn clamped(&self) -> Interval<T> {
         let (lower, upper) = self.numbers();
         let bounds = (lower.max(T::min_value().number()), upper.min(T::max_value().number()));
@@ -38,12 +47,53 @@ pub trait Piece<T: Width> {
     }
 }
 
-/// The numbers from the first to the second, which may be outside the range of a type.
+/// What sets are made of: a [`Piece`], or a set of either kind, by value or by reference.
+///
+/// ```
+/// use intervallum::{IntervalSet, PagedSet};
+///
+/// let busy = [IntervalSet::from([9..=10]), IntervalSet::from([10..=11, 15..=15])];
+/// assert_eq!(busy.iter().collect::<IntervalSet<_>>(), IntervalSet::from([9..=11, 15..=15]));
+/// assert_eq!(PagedSet::from(busy).len(), 4);
+/// ```
+#[diagnostic::on_unimplemented(
+    message = "no set of `{T}` is made of `{Self}`",
+    note = "sets are made of `T`, ranges of `T` as `1..=5`, `..5` or `..`, pairs `(T, T)` of inclusive bounds, and sets of `T`"
+)]
+pub trait Pieces<T: Width> {
+    /// Adds the intervals to a vector, or returns the least and the greatest number of one that is outside the limits.
+    fn add_to(&self, intervals: &mut Vec<Interval<T>>) -> Result<(), (i128, i128)>;
+}
+
+/// The numbers from the first to the second, which may be outside the limits of a type.
 struct Numbers((i128, i128));
 
 impl<T: Width> Piece<T> for Numbers {
     fn numbers(&self) -> (i128, i128) {
         self.0
+    }
+}
+
+const NONE: (i128, i128) = (1, 0);
+
+/// The numbers between two bounds, if they are told.
+fn between<T: Width>(lower: Bound<T>, upper: Bound<T>) -> (i128, i128) {
+    let (least, greatest) = (T::min_value().number(), T::max_value().number());
+    let first = match lower {
+        Bound::Included(x) => x.number(),
+        Bound::Excluded(x) => x.number().saturating_add(1),
+        Bound::Unbounded => least,
+    };
+    let last = match upper {
+        Bound::Included(x) => x.number(),
+        Bound::Excluded(x) => x.number().saturating_sub(1),
+        Bound::Unbounded => greatest,
+    };
+    match (lower, upper) {
+        // the one bound is a number of the range, also where it is outside the limits
+        (Bound::Included(_), Bound::Unbounded) => (first, last.max(first)),
+        (Bound::Unbounded, Bound::Included(_)) => (first.min(last), last),
+        _ => (first, last),
     }
 }
 
@@ -55,6 +105,13 @@ macro_rules! pieces {
                 $numbers
             }
         }
+
+        impl<T: Width> Pieces<T> for $piece {
+            fn add_to(&self, intervals: &mut Vec<Interval<T>>) -> Result<(), (i128, i128)> {
+                intervals.push(Piece::<T>::interval(self).ok_or_else(|| Piece::<T>::numbers(self))?);
+                Ok(())
+            }
+        }
     )*};
 }
 
@@ -62,11 +119,34 @@ pieces! {
     T, x => (x.number(), x.number());
     &T, x => (x.number(), x.number());
     (T, T), x => (x.0.number(), x.1.number());
+    &(T, T), x => (x.0.number(), x.1.number());
     Range<T>, x => (x.start.number(), x.end.number().saturating_sub(1));
-    RangeInclusive<T>, x => if x.is_empty() { (1, 0) } else { (x.start().number(), x.end().number()) };
-    RangeFrom<T>, x => (x.start.number(), T::max_value().number());
-    RangeTo<T>, x => (T::min_value().number(), x.end.number().saturating_sub(1));
-    RangeToInclusive<T>, x => (T::min_value().number(), x.end.number());
-    RangeFull, _x => (T::min_value().number(), T::max_value().number());
-    Interval<T>, x => if x.is_empty() { (1, 0) } else { (x.lower().number(), x.upper().number()) };
+    &Range<T>, x => (x.start.number(), x.end.number().saturating_sub(1));
+    RangeInclusive<T>, x => if x.is_empty() { NONE } else { (x.start().number(), x.end().number()) };
+    &RangeInclusive<T>, x => if x.is_empty() { NONE } else { (x.start().number(), x.end().number()) };
+    RangeFrom<T>, x => between(Bound::Included(x.start), Bound::Unbounded);
+    RangeTo<T>, x => between(Bound::Unbounded, Bound::Excluded(x.end));
+    RangeToInclusive<T>, x => between(Bound::Unbounded, Bound::Included(x.end));
+    RangeFull, _x => between::<T>(Bound::Unbounded, Bound::Unbounded);
+    (Bound<T>, Bound<T>), x => between(x.0, x.1);
+    Interval<T>, x => if x.is_empty() { NONE } else { (x.lower().number(), x.upper().number()) };
 }
+
+macro_rules! sets_as_pieces {
+    ($($Set:ident $runs:ident),*) => {$(
+        impl<T: Width> Pieces<T> for $Set<T> {
+            fn add_to(&self, intervals: &mut Vec<Interval<T>>) -> Result<(), (i128, i128)> {
+                intervals.extend(self.as_proved().$runs());
+                Ok(())
+            }
+        }
+
+        impl<T: Width> Pieces<T> for &$Set<T> {
+            fn add_to(&self, intervals: &mut Vec<Interval<T>>) -> Result<(), (i128, i128)> {
+                (*self).add_to(intervals)
+            }
+        }
+    )*};
+}
+
+sets_as_pieces!(IntervalSet runs, PagedSet iter);

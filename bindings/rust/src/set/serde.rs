@@ -1,49 +1,90 @@
-//! The JSON form of a set of either kind, by serde: `null` for the empty set, else the array of the runs, as in `[[1,2],[5,5]]`.
+//! Sets of either kind by serde: the sequence of the runs, each a pair of inclusive bounds, which are written as their own type
+//! is, so `[[1,2],[5,5]]` in JSON. Formats for people have `null` for the empty set.
 //!
-//! What is read may have its runs in any order; they may overlap, touch, cross or be `null`.
-use super::conditions::within_range;
+//! What is read may have its runs in any order; they may overlap, touch or cross, and formats for people may have `null` for
+//! one. Room is reserved as runs come, and not for the number of runs that the input claims.
+use super::conditions::{memory, within_range};
 use super::{IntervalSet, PagedSet};
-use crate::proved::interval::Interval;
 use crate::proved::ops::Range;
-use crate::proved::width::Width;
+use crate::proved::{Global, Interval, sweep::coalesce, width::Width};
 use alloc::vec::Vec;
 use core::{fmt, marker::PhantomData};
-use serde::de::{Deserialize, Deserializer, Error, Visitor};
-use serde::ser::{Serialize, Serializer};
+use serde::de::{Deserialize, Deserializer, Error, SeqAccess, Visitor};
+use serde::ser::{Serialize, SerializeSeq, Serializer};
 
-/// A bound, as a number of 64 bits: signed if the range of the type has negative numbers.
-struct Number<T>(T);
-
-/// The runs of a set that is not empty.
-struct Runs<'a, S>(&'a S);
-
-impl<T: Width> Serialize for Number<T> {
-    fn serialize<S: Serializer>(&self, serializer: S) -> Result<S::Ok, S::Error> {
-        match T::min_value().number() < 0 {
-            true => serializer.serialize_i64(self.0.number() as i64),
-            false => serializer.serialize_u64(self.0.number() as u64),
-        }
+/// The runs of a set, with their number.
+fn write<T: Serialize, S: Serializer>(
+    count: usize,
+    runs: impl Iterator<Item = core::ops::RangeInclusive<T>>,
+    serializer: S,
+) -> Result<S::Ok, S::Error> {
+    if count == 0 && serializer.is_human_readable() {
+        return serializer.serialize_none();
     }
+    let mut seq = serializer.serialize_seq(Some(count))?;
+    for run in runs {
+        seq.serialize_element(&run.into_inner())?;
+    }
+    seq.end()
+}
+
+/// Reads the set whose runs a deserializer has.
+fn read<'de, T: Width + Deserialize<'de>, D: Deserializer<'de>>(deserializer: D) -> Result<IntervalSet<T>, D::Error> {
+    // a field that is missing is read as an option: what asks for one would take it for the empty set
+    if deserializer.is_human_readable() {
+        deserializer.deserialize_any(Form::<T, Option<(T, T)>>(PhantomData))
+    } else {
+        deserializer.deserialize_seq(Form::<T, (T, T)>(PhantomData))
+    }
+}
+
+/// Reads runs that are of a type `R` each.
+struct Form<T, R>(PhantomData<(T, R)>);
+
+impl<'de, T: Width, R: Into<Option<(T, T)>> + Deserialize<'de>> Visitor<'de> for Form<T, R> {
+    type Value = IntervalSet<T>;
+
+    fn expecting(&self, f: &mut fmt::Formatter<'_>) -> fmt::Result {
+        f.write_str("null or a sequence of runs")
+    }
+
+    fn visit_unit<E: Error>(self) -> Result<IntervalSet<T>, E> {
+        Ok(IntervalSet::empty())
+    }
+
+    fn visit_none<E: Error>(self) -> Result<IntervalSet<T>, E> {
+        Ok(IntervalSet::empty())
+    }
+
+    fn visit_some<D: Deserializer<'de>>(self, deserializer: D) -> Result<IntervalSet<T>, D::Error> {
+        deserializer.deserialize_any(self)
+    }
+
+    fn visit_seq<A: SeqAccess<'de>>(self, mut seq: A) -> Result<IntervalSet<T>, A::Error> {
+        let mut intervals = Vec::new();
+        while let Some(run) = seq.next_element::<R>()? {
+            if let Some((lower, upper)) = run.into() {
+                intervals.push(Interval::new(bound(lower)?, bound(upper)?));
+            }
+        }
+        Ok(memory(coalesce(Global, intervals.into())).into())
+    }
+}
+
+/// Returns a bound, which has to be in the range.
+fn bound<T: Width, E: Error>(value: T) -> Result<T, E> {
+    let is_in_range = Interval::in_range(value, value);
+    is_in_range
+        .then_some(value)
+        .ok_or_else(|| E::custom(format_args!("{}: {}", value.number(), within_range::<T>("a bound"))))
 }
 
 macro_rules! form {
     ($set:ident) => {
-        impl<T: Width> Serialize for Runs<'_, $set<T>> {
+        /// Writes the sequence of the runs, or `null` for the empty set in a format for people.
+        impl<T: Width + Serialize> Serialize for $set<T> {
             fn serialize<S: Serializer>(&self, serializer: S) -> Result<S::Ok, S::Error> {
-                serializer.collect_seq(self.0.runs().map(|run| (Number(*run.start()), Number(*run.end()))))
-            }
-        }
-
-        impl<T: Width> Serialize for $set<T> {
-            fn serialize<S: Serializer>(&self, serializer: S) -> Result<S::Ok, S::Error> {
-                (!self.is_empty()).then(|| Runs(self)).serialize(serializer)
-            }
-        }
-
-        impl<'de, T: Width> Deserialize<'de> for $set<T> {
-            fn deserialize<D: Deserializer<'de>>(deserializer: D) -> Result<Self, D::Error> {
-                let pairs = Option::<Vec<Option<(Number<T>, Number<T>)>>>::deserialize(deserializer)?;
-                Ok(pairs.into_iter().flatten().flatten().map(|pair| Interval::new(pair.0.0, pair.1.0)).collect())
+                write(self.interval_count(), self.runs(), serializer)
             }
         }
     };
@@ -52,37 +93,16 @@ macro_rules! form {
 form!(IntervalSet);
 form!(PagedSet);
 
-impl<'de, T: Width> Deserialize<'de> for Number<T> {
+/// Reads what is written, with the runs in any order. Bounds have to be in the range of `T`.
+impl<'de, T: Width + Deserialize<'de>> Deserialize<'de> for IntervalSet<T> {
     fn deserialize<D: Deserializer<'de>>(deserializer: D) -> Result<Self, D::Error> {
-        match T::min_value().number() < 0 {
-            true => deserializer.deserialize_i64(Bound(PhantomData)),
-            false => deserializer.deserialize_u64(Bound(PhantomData)),
-        }
+        read(deserializer)
     }
 }
 
-/// Reads a number that is in the range of a type.
-struct Bound<T>(PhantomData<T>);
-
-impl<T: Width> Bound<T> {
-    fn number<E: Error>(self, number: i128) -> Result<Number<T>, E> {
-        let told = || E::custom(format_args!("{number}: {}", within_range::<T>("a bound")));
-        T::from_number(number).map(Number).ok_or_else(told)
-    }
-}
-
-impl<T: Width> Visitor<'_> for Bound<T> {
-    type Value = Number<T>;
-
-    fn expecting(&self, f: &mut fmt::Formatter<'_>) -> fmt::Result {
-        f.write_str("a whole number of 64 bits")
-    }
-
-    fn visit_i64<E: Error>(self, number: i64) -> Result<Number<T>, E> {
-        self.number(number.into())
-    }
-
-    fn visit_u64<E: Error>(self, number: u64) -> Result<Number<T>, E> {
-        self.number(number.into())
+/// Reads what is written, with the runs in any order. Bounds have to be in the range of `T`.
+impl<'de, T: Width + Deserialize<'de>> Deserialize<'de> for PagedSet<T> {
+    fn deserialize<D: Deserializer<'de>>(deserializer: D) -> Result<Self, D::Error> {
+        Ok(Self::from(&read(deserializer)?))
     }
 }

@@ -1,6 +1,6 @@
 //! Operations on a set and a value, and sets from lists by value.
 ghost use Rattle.std.specs.Prelude.{◌≡◌, ◌↔◌, [], ◌∷◌, ◌++◌, ◌≤ℤ◌, All, IfOk, IsTrue, MatchOption, Some, codes, map, option_map, string_bytes};
-ghost use Rattle.ivl_laws.specs.Sets.{HasSome, Held, Intersection, IsBetween, IsInRange, Only, Union, Without};
+ghost use Rattle.ivl_laws.specs.Sets.{HasNone, HasSome, Held, Intersection, IsBetween, IsInRange, Only, Union, Without};
 ghost use Rattle.ivl_laws.specs.Runs.{Covers, IsRunListIn, IsRunsOf};
 
 use intervallum::interval::Interval;
@@ -23,6 +23,13 @@ pub fn set_overlaps_optional<B: Width>(a: &IntervalSet<B>, o: &Optional<B>) -> b
     ensures { IsTrue result ↔ HasSome (Intersection (Covers a.now) (Held (option_map B.value o.now))) }
 {
     callers::pairs::overlap_by_bound(a, o)
+}
+
+/// Returns true exactly when there is no value, or it is not a member.
+pub fn set_is_disjoint_from_optional<B: Width>(a: &IntervalSet<B>, o: &Optional<B>) -> bool
+    ensures { IsTrue result ↔ HasNone (Intersection (Covers a.now) (Held (option_map B.value o.now))) }
+{
+    callers::pairs::is_disjoint_by_bound(a, o)
 }
 
 /// Returns the value alone if it is a member, else the empty set.

@@ -1,7 +1,8 @@
 //! Sessions over readers and writers that fail, wait or take little.
 ghost use Rattle.std.specs.Prelude.{Some};
 
-use ivl_calculator_lines::{SessionFault, outcome, session};
+use ivl_calculator_lines::session;
+use ivl_lines::{SessionFault, outcome};
 use std::alloc::Global;
 use std::cell::Cell;
 use std::io;
@@ -88,7 +89,7 @@ fn a_failed_read(rt: HostRuntime) {
         ..Slow::new(b"set a 1 2\nshow a", 1)
     };
     let ended = Err(SessionFault::Read);
-    check_reads(&rt, reader, ended, (1, "ivl_run: read failed"), b"ok\n");
+    check_reads(&rt, reader, ended, (1, "read failed"), b"ok\n");
 }
 
 #[test]
@@ -133,7 +134,7 @@ fn a_failed_write(rt: HostRuntime) {
         room: 5,
     };
     let ended = session(rt.alloc(), &mut input, &mut writer);
-    let status = (1, "ivl_run: write failed");
+    let status = (1, "write failed");
     assert_eq!(rt;
         (ended, outcome(&ended)),
         (Err(SessionFault::Write), status)

@@ -1,13 +1,25 @@
 //! What a search does with narrowed domains, and where it cuts one.
-ghost use Rattle.std.specs.Prelude.{◌≡◌, ◌<◌, IfOk, IfSome, MatchOption, None, length, ℤ};
+ghost use Rattle.std.specs.Prelude.{◌≡◌, ◌≢◌, ◌<◌, IfOk, IfSome, MatchOption, None, length, ℤ};
+ghost use Rattle.ivl_laws.specs.Families.{set_at};
 ghost use Rattle.ivl_laws.specs.Runs.{Covers};
-ghost use Rattle.ivl_laws.specs.Sets.{Above, AtLeast, AtMost, Below, HasNone, IsBetween, Only, SameMembers};
+ghost use Rattle.ivl_laws.specs.Sets.{Above, AtLeast, AtMost, Below, HasNone, HasSome, Intersection, IsBetween, Only, SameMembers};
+ghost use Rattle.ivl_search.specs.Best.{IsAsGood, IsBetter};
+ghost use Rattle.ivl_search.specs.Halves.{HasTwo, IsMiddle};
 ghost use Rattle.ivl_search.specs.Nodes.{IsNodeOf};
 
 use intervallum::interval_set::IntervalSet;
 use intervallum::ops::{Cardinality, IsEmpty, IsSingleton};
 use intervallum::width::{SizeNumber, Width};
 use std::alloc::{AllocError, Global};
+
+/// Which numbers of a variable are better. A search looks for them first.
+#[derive(Clone, Copy, Debug)]
+pub(super) enum Wanted {
+    /// Smaller ones.
+    Least,
+    /// Greater ones.
+    Greatest,
+}
 
 /// What a search finds at domains.
 #[derive(Clone, Copy, Debug)]
@@ -23,19 +35,20 @@ pub(super) enum Node<B> {
 }
 
 /// Which domain has the fewest members but two at least, and where it is cut.
-pub(super) fn node_of<B: Width>(domains: &[IntervalSet<B>]) -> Node<B>
-    ensures { IsNodeOf B.value B.whole domains.now result }
+pub(super) fn node_of<B: Width>(domains: &[IntervalSet<B>], wanted: Wanted) -> Node<B>
+    ensures node { IsNodeOf B.value wanted B.whole domains.now result }
+    ensures settled { result ≢ Node.Unsettled }
 {
     let mut best: Option<usize> = None;
     for (i, domain) in domains.iter().enumerate() {
         if domain.is_empty() {
             return Node::Dead;
         }
-        best = better(best, i, domain, domains);
+        best = better(best, i, domains);
     }
     match best {
         None => Node::Leaf,
-        Some(i) => match cut_value(&domains[i]) {
+        Some(i) => match cut_value(&domains[i], wanted) {
             Some(value) => Node::Open(i, value),
             None => Node::Dead,
         },
@@ -44,17 +57,15 @@ pub(super) fn node_of<B: Width>(domains: &[IntervalSet<B>]) -> Node<B>
 
 /// The domain to be cut, so far: this one if it has two members or more, and fewer than the best
 /// before it.
-fn better<B: Width>(
-    best: Option<usize>,
-    i: usize,
-    domain: &IntervalSet<B>,
-    domains: &[IntervalSet<B>],
-) -> Option<usize>
-    requires before { IfSome best (λ j. j < length domains.now) }
+fn better<B: Width>(best: Option<usize>, i: usize, domains: &[IntervalSet<B>]) -> Option<usize>
+    requires before { IfSome best (λ j. (j < length domains.now) × HasTwo (set_at domains.now j)) }
     requires here { i < length domains.now }
-    ensures known { IfSome result (λ j. j < length domains.now) }
-    ensures none { result ≡ None → (best ≡ None) × ((x : ℤ) × SameMembers (Covers domain.now) (Only x)) }
+    requires filled { HasSome (set_at domains.now i) }
+    ensures known { IfSome result (λ j. (j < length domains.now) × HasTwo (set_at domains.now j)) }
+    ensures none { result ≡ None → (best ≡ None) × ((x : ℤ) × SameMembers (set_at domains.now i) (Only x)) }
 {
+    let domain = &domains[i];
+    domain.in_whole();
     if domain.is_singleton() {
         return best;
     }
@@ -68,41 +79,98 @@ fn better<B: Width>(
     }
 }
 
-/// The value up to which a domain is searched first, or `None` if the domain is empty: its least
-/// member, or one in its middle if it has more than 64.
-fn cut_value<B: Width>(domain: &IntervalSet<B>) -> Option<B>
-    ensures { MatchOption result (HasNone (Covers domain.now)) (λ x. IsBetween B.whole (B.value x)) }
-{
-    if domain.size().number() > 64 {
-        middle(domain)
-    } else {
-        domain.first()
-    }
-}
-
-/// A member in the middle of a domain, or `None` if the domain is empty.
-pub(super) fn middle<B: Width>(domain: &IntervalSet<B>) -> Option<B>
-    ensures { MatchOption result (HasNone (Covers domain.now)) (λ x. IsBetween B.whole (B.value x)) }
-{
-    match member_at(domain, domain.size().number() / 2) {
-        Some(value) => Some(value),
-        None => domain.first(),
-    }
-}
-
-/// The member with so many members below it.
-fn member_at<B: Width>(domain: &IntervalSet<B>, index: u128) -> Option<B>
-    ensures { IfSome result (λ x. IsBetween B.whole (B.value x)) }
+/// The member that is searched first together with the better ones, if there are others: the best
+/// member, or one in the middle of more than 64.
+fn cut_value<B: Width>(domain: &IntervalSet<B>, wanted: Wanted) -> Option<B>
+    requires { HasTwo (Covers domain.now) }
+    ensures member { MatchOption result (HasNone (Covers domain.now)) (λ x. Covers domain.now (B.value x)) }
+    ensures worse { IfSome result (λ x. HasSome (λ v. Covers domain.now v × IsBetter wanted v (B.value x))) }
+    ensures in_range { IfSome result (λ x. IsBetween B.whole (B.value x)) }
 {
     domain.in_whole();
-    match <B::Output as SizeNumber>::from_number(index) {
-        Some(i) => domain.nth(i),
+    let size = domain.size().number();
+    if size > 64 {
+        middle(domain, wanted)
+    } else {
+        best_member(domain, wanted)
+    }
+}
+
+/// The best member, or `None` if the domain is empty.
+fn best_member<B: Width>(domain: &IntervalSet<B>, wanted: Wanted) -> Option<B>
+    requires { HasTwo (Covers domain.now) }
+    ensures member { MatchOption result (HasNone (Covers domain.now)) (λ x. Covers domain.now (B.value x)) }
+    ensures worse { IfSome result (λ x. HasSome (λ v. Covers domain.now v × IsBetter wanted v (B.value x))) }
+    ensures in_range { IfSome result (λ x. IsBetween B.whole (B.value x)) }
+{
+    match wanted {
+        Wanted::Least => domain.first(),
+        Wanted::Greatest => domain.last(),
+    }
+}
+
+/// The member up to which the better half goes, or `None` if the domain is empty.
+pub(super) fn middle<B: Width>(domain: &IntervalSet<B>, wanted: Wanted) -> Option<B>
+    ensures { MatchOption result (HasNone (Covers domain.now)) (λ x. IsMiddle wanted (Covers domain.now) (B.value x)) }
+{
+    let size = domain.size().number();
+    let below = match wanted {
+        Wanted::Least => size.saturating_sub(1) / 2,
+        Wanted::Greatest => size / 2,
+    };
+    match <B::Output as SizeNumber>::from_number(below) {
+        Some(index) => domain.nth(index),
         None => None,
     }
 }
 
+/// The numbers that are better than a value.
+pub(super) fn better_than<B: Width>(
+    alloc: Global,
+    value: B,
+    wanted: Wanted,
+) -> Result<IntervalSet<B>, AllocError>
+    requires { IsBetween B.whole (B.value value) }
+    ensures { IfOk result (λ L. SameMembers (Covers L) (Intersection (IsBetween B.whole) (IsBetter wanted (B.value value)))) }
+{
+    match wanted {
+        Wanted::Least => below(alloc, value),
+        Wanted::Greatest => above(alloc, value),
+    }
+}
+
+/// The value, and the numbers that are better.
+pub(super) fn as_good_as<B: Width>(
+    alloc: Global,
+    value: B,
+    wanted: Wanted,
+) -> Result<IntervalSet<B>, AllocError>
+    requires { IsBetween B.whole (B.value value) }
+    ensures { IfOk result (λ L. SameMembers (Covers L) (Intersection (IsBetween B.whole) (IsAsGood wanted (B.value value)))) }
+{
+    match wanted {
+        Wanted::Least => up_to(alloc, value),
+        Wanted::Greatest => from(alloc, value),
+    }
+}
+
+/// The numbers than which a value is better.
+pub(super) fn worse_than<B: Width>(
+    alloc: Global,
+    value: B,
+    wanted: Wanted,
+) -> Result<IntervalSet<B>, AllocError>
+    requires { IsBetween B.whole (B.value value) }
+    ensures { IfOk result (λ L. SameMembers (Covers L) (Intersection (IsBetween B.whole) (λ number. IsBetter wanted number (B.value value)))) }
+{
+    match wanted {
+        Wanted::Least => above(alloc, value),
+        Wanted::Greatest => below(alloc, value),
+    }
+}
+
 /// The numbers up to a value.
-pub(super) fn up_to<B: Width>(alloc: Global, value: B) -> Result<IntervalSet<B>, AllocError>
+fn up_to<B: Width>(alloc: Global, value: B) -> Result<IntervalSet<B>, AllocError>
     requires { IsBetween B.whole (B.value value) }
     ensures { IfOk result (λ L. SameMembers (Covers L) (AtMost (B.value value) (IsBetween B.whole))) }
 {
@@ -110,7 +178,7 @@ pub(super) fn up_to<B: Width>(alloc: Global, value: B) -> Result<IntervalSet<B>,
 }
 
 /// The numbers from a value on.
-pub(super) fn from<B: Width>(alloc: Global, value: B) -> Result<IntervalSet<B>, AllocError>
+fn from<B: Width>(alloc: Global, value: B) -> Result<IntervalSet<B>, AllocError>
     requires { IsBetween B.whole (B.value value) }
     ensures { IfOk result (λ L. SameMembers (Covers L) (AtLeast (B.value value) (IsBetween B.whole))) }
 {
@@ -118,7 +186,7 @@ pub(super) fn from<B: Width>(alloc: Global, value: B) -> Result<IntervalSet<B>, 
 }
 
 /// The numbers above a value.
-pub(super) fn above<B: Width>(alloc: Global, value: B) -> Result<IntervalSet<B>, AllocError>
+fn above<B: Width>(alloc: Global, value: B) -> Result<IntervalSet<B>, AllocError>
     requires { IsBetween B.whole (B.value value) }
     ensures { IfOk result (λ L. SameMembers (Covers L) (Above (B.value value) (IsBetween B.whole))) }
 {
@@ -129,7 +197,7 @@ pub(super) fn above<B: Width>(alloc: Global, value: B) -> Result<IntervalSet<B>,
 }
 
 /// The numbers below a value.
-pub(super) fn below<B: Width>(alloc: Global, value: B) -> Result<IntervalSet<B>, AllocError>
+fn below<B: Width>(alloc: Global, value: B) -> Result<IntervalSet<B>, AllocError>
     requires { IsBetween B.whole (B.value value) }
     ensures { IfOk result (λ L. SameMembers (Covers L) (Below (B.value value) (IsBetween B.whole))) }
 {

@@ -1,34 +1,28 @@
 //! The best solution: a solution is looked for among the better half of a variable's numbers, and the
 //! domain is cut to what is better than it, or to the other half if there is none.
-ghost use Rattle.std.specs.Prelude.{◌≡◌, ◌↔◌, ◌<◌, ◌≤◌, ℕ, ℤ, List, All, Err, IfNone, IfOk, IfSome, OnOk, Some, length, map};
+ghost use Rattle.std.specs.Prelude.{◌≡◌, ◌↔◌, ◌<◌, ◌≤◌, ◌+◌, ℕ, ℤ, List, All, Err, IfNone, IfOk, IfSome, OnOk, Some, length, map};
 ghost use Rattle.ivl_laws.specs.Families.{set_at};
-ghost use Rattle.ivl_laws.specs.Runs.{Covers};
+ghost use Rattle.ivl_laws.specs.Runs.{Covers, IsRunListIn};
 ghost use Rattle.ivl_laws.specs.Sets.{Intersection, IsBetween, SameMembers};
 ghost use Rattle.ivl_store.specs.Narrowing.{AllPresent};
 ghost use Rattle.ivl_store.specs.Network.{IsCutAt};
-ghost use Rattle.ivl_store.specs.Solutions.{AreDistinct};
+ghost use Rattle.ivl_store.specs.Solutions.{AreDistinct, LiesWithin};
 ghost use Rattle.ivl_search.specs.Best.{IsAsGood, IsBestAt, IsBetter};
+ghost use Rattle.ivl_search.specs.Budget.{nodes_enough, nodes_for_best};
+ghost use Rattle.ivl_search.specs.Halves.{IsMiddle};
+ghost use Rattle.ivl_search.specs.Nodes.{AreFilled};
 ghost use Rattle.ivl_search.specs.Points.{Solves, coordinate, first_unknown_or};
 
-use super::choice::{Node, above, below, from, middle, up_to};
+use super::choice::{Node, Wanted, as_good_as, better_than, middle, worse_than};
 use super::descent::{Kept, search};
 use super::setup::{first_unknown_or, network_of};
 use super::steps::{advance, restrict};
-use super::{Best, DEPTH, End, Limits, SearchFault};
+use super::{Best, End, Limits, SearchFault};
 use intervallum::interval_set::IntervalSet;
 use intervallum::width::Width;
 use ivl_store::network::Network;
 use ivl_store::store::Constraint;
 use std::alloc::{AllocError, Global};
-
-/// Which numbers of a variable are better.
-#[derive(Clone, Copy, Debug)]
-pub(super) enum Wanted {
-    /// Smaller ones.
-    Least,
-    /// Greater ones.
-    Greatest,
-}
 
 /// Returns the best solution over the domains.
 pub(super) fn best_at<B: Width>(
@@ -45,6 +39,7 @@ pub(super) fn best_at<B: Width>(
     ensures best { IfOk result (λ best. best.end ≡ End.All → IfSome best.point (λ point. IsBestAt wanted variable (Solves constraints.now domains.now) (map B.value point.items))) }
     ensures none { IfOk result (λ best. best.end ≡ End.All → IfNone best.point ((point : List ℤ) → ¬ (Solves constraints.now domains.now point))) }
     ensures full { IfOk result (λ best. best.end ≡ End.Solutions → IfNone best.point (limits.solutions ≡ 0)) }
+    ensures enough { IfOk result (λ best. best.end ≡ End.Nodes → limits.nodes < nodes_for_best B.whole constraints.now domains.now) }
 {
     if let Some(i) = first_unknown_or(variable, domains.len(), constraints) {
         return Err(SearchFault::Variable(i));
@@ -68,6 +63,7 @@ fn best_of<B: Width>(
     ensures best { IfOk result (λ best. best.end ≡ End.All → IfSome best.point (λ point. IsBestAt wanted variable (Solves network.old.constraints network.old.domains) (map B.value point.items))) }
     ensures none { IfOk result (λ best. best.end ≡ End.All → IfNone best.point ((point : List ℤ) → ¬ (Solves network.old.constraints network.old.domains point))) }
     ensures full { IfOk result (λ best. best.end ≡ End.Solutions → IfNone best.point (limits.solutions ≡ 0)) }
+    ensures enough { IfOk result (λ best. best.end ≡ End.Nodes → limits.nodes < nodes_for_best B.whole network.old.constraints network.old.domains) }
 {
     let mut left = limits;
     let mut best = None;
@@ -79,7 +75,7 @@ fn best_of<B: Width>(
             });
         }
         left.nodes -= 1;
-        let Some(half) = narrowed_middle(network, variable)? else {
+        let Some(half) = narrowed_middle(network, variable, wanted)? else {
             return Ok(Best {
                 point: best,
                 end: End::All,
@@ -109,18 +105,23 @@ fn best_of<B: Width>(
 fn narrowed_middle<B: Width>(
     network: &mut Network<B>,
     variable: usize,
+    wanted: Wanted,
 ) -> Result<Option<B>, AllocError>
     requires known { variable < length network.old.domains }
     requires present { All (AllPresent (length network.old.domains)) network.old.constraints }
     ensures constraints { network.new.constraints ≡ network.old.constraints }
     ensures kept_count { length network.new.domains ≡ length network.old.domains }
+    ensures within { LiesWithin (set_at network.new.domains) (set_at network.old.domains) }
     ensures same { (point : List ℤ) → Solves network.old.constraints network.old.domains point ↔ Solves network.old.constraints network.new.domains point }
     ensures none { IfOk result (λ half. IfNone half ((point : List ℤ) → ¬ (Solves network.old.constraints network.new.domains point))) }
     ensures in_range { IfOk result (λ half. IfSome half (λ value. IsBetween B.whole (B.value value))) }
+    ensures filled { IfOk result (λ half. IfSome half (λ value. AreFilled network.new.domains)) }
+    ensures middle { IfOk result (λ half. IfSome half (λ value. IsMiddle wanted (set_at network.new.domains variable) (B.value value))) }
+    ensures runs { All (IsRunListIn B.whole) network.new.domains }
 {
-    match advance(network)? {
+    match advance(network, wanted)? {
         Node::Dead => Ok(None),
-        _ => Ok(middle(&network.domains()[variable])),
+        _ => Ok(middle(&network.domains()[variable], wanted)),
     }
 }
 
@@ -143,6 +144,11 @@ fn one_solution<B: Width>(
     ensures sound { IfOk result (λ one. IfSome one.point (λ point. Solves network.old.constraints network.old.domains (map B.value point.items))) }
     ensures none { IfOk result (λ one. one.end ≡ End.All → IfNone one.point ((point : List ℤ) → Solves network.old.constraints network.old.domains point → IsBetter wanted (coordinate point variable) (B.value value))) }
     ensures full { IfOk result (λ one. one.end ≡ End.Solutions → IfNone one.point ⊥) }
+    ensures as_good { IfOk result (λ one. IfSome one.point (λ point. IsAsGood wanted (B.value value) (coordinate (map B.value point.items) variable))) }
+    ensures half { IfOk result (λ one. (good : List (List (ℤ × ℤ))) × (length good ≡ length network.old.domains) × All (IsRunListIn B.whole) good
+        × IsCutAt variable (IsAsGood wanted (B.value value)) (set_at network.old.domains) (set_at good)
+        × (nodes.old ≤ nodes.new + nodes_enough B.whole network.old.constraints good)
+        × (one.end ≡ End.Nodes → (nodes.new ≡ 0) × (nodes.old < nodes_enough B.whole network.old.constraints good))) }
 {
     let mark = network.mark()?;
     keep_as_good(alloc, network, variable, value, wanted)?;
@@ -154,7 +160,7 @@ fn one_solution<B: Width>(
         is_kept: true,
         points: Vec::new(alloc),
     };
-    let end = search(alloc, network, DEPTH, &mut left, &mut found)?;
+    let end = search(alloc, network, wanted, &mut left, &mut found)?;
     network.undo_to(mark);
     *nodes = left.nodes;
     let point = found.points.pop();
@@ -193,6 +199,7 @@ fn keep_as_good<B: Width>(
     ensures marked { OnOk result (network.new.marked ≡ network.old.marked) }
     ensures kept_count { OnOk result (length network.new.domains ≡ length network.old.domains) }
     ensures cut { OnOk result (IsCutAt variable (IsAsGood wanted (B.value value)) (set_at network.old.domains) (set_at network.new.domains)) }
+    ensures runs { OnOk result (All (IsRunListIn B.whole) network.new.domains) }
 {
     let allowed = as_good_as(alloc, value, wanted)?;
     network.domains();
@@ -217,49 +224,4 @@ fn keep_worse<B: Width>(
     network.domains();
     restrict(network, variable, &allowed)?;
     Ok(())
-}
-
-/// The numbers that are better than a value.
-fn better_than<B: Width>(
-    alloc: Global,
-    value: B,
-    wanted: Wanted,
-) -> Result<IntervalSet<B>, AllocError>
-    requires { IsBetween B.whole (B.value value) }
-    ensures { IfOk result (λ L. SameMembers (Covers L) (Intersection (IsBetween B.whole) (IsBetter wanted (B.value value)))) }
-{
-    match wanted {
-        Wanted::Least => below(alloc, value),
-        Wanted::Greatest => above(alloc, value),
-    }
-}
-
-/// The value, and the numbers that are better.
-fn as_good_as<B: Width>(
-    alloc: Global,
-    value: B,
-    wanted: Wanted,
-) -> Result<IntervalSet<B>, AllocError>
-    requires { IsBetween B.whole (B.value value) }
-    ensures { IfOk result (λ L. SameMembers (Covers L) (Intersection (IsBetween B.whole) (IsAsGood wanted (B.value value)))) }
-{
-    match wanted {
-        Wanted::Least => up_to(alloc, value),
-        Wanted::Greatest => from(alloc, value),
-    }
-}
-
-/// The numbers than which a value is better.
-fn worse_than<B: Width>(
-    alloc: Global,
-    value: B,
-    wanted: Wanted,
-) -> Result<IntervalSet<B>, AllocError>
-    requires { IsBetween B.whole (B.value value) }
-    ensures { IfOk result (λ L. SameMembers (Covers L) (Intersection (IsBetween B.whole) (λ number. IsBetter wanted number (B.value value)))) }
-{
-    match wanted {
-        Wanted::Least => above(alloc, value),
-        Wanted::Greatest => below(alloc, value),
-    }
 }

@@ -1,5 +1,5 @@
 //! The network of the domains and the constraints.
-ghost use Rattle.std.specs.Prelude.{◌≡◌, ◌↔◌, ◌⊎◌, ◌++◌, [], ℤ, List, All, Contains, IfOk, None, OnOk, length};
+ghost use Rattle.std.specs.Prelude.{◌≡◌, ◌↔◌, ◌⊎◌, ◌≤◌, ◌+◌, ◌++◌, [], ℤ, List, All, Contains, IfOk, None, OnOk, length};
 ghost use Rattle.ivl_store.specs.Narrowing.{AllPresent, first_unknown as first_unknown_in, first_unknown_of};
 ghost use Rattle.ivl_store.specs.Solutions.{AreDistinct};
 ghost use Rattle.ivl_search.specs.Points.{Solves, first_unknown_or};
@@ -60,6 +60,7 @@ pub(super) fn network_of<B: Width>(
     ensures marked { IfOk result (λ network. network.marked ≡ []) }
     ensures domains { IfOk result (λ network. network.domains ≡ domains.now) }
     ensures present { IfOk result (λ network. All (AllPresent (length network.domains)) network.constraints) }
+    ensures no_more { IfOk result (λ network. length network.constraints ≤ length constraints.now) }
     ensures solutions { IfOk result (λ network. (point : List ℤ) → Solves constraints.now domains.now point ↔ Solves network.constraints domains.now point) }
 {
     let mut network = Network::new(alloc);
@@ -92,6 +93,7 @@ fn require_all<B: Width>(
     requires { All AreDistinct constraints.now }
     ensures domains { network.new.domains ≡ network.old.domains }
     ensures marked { network.new.marked ≡ network.old.marked }
+    ensures no_more { OnOk result (length network.new.constraints ≤ length network.old.constraints + length constraints.now) }
     ensures required { OnOk result ((c : Constraint) → Contains network.new.constraints c ↔ (Contains network.old.constraints c ⊎ Contains constraints.now c)) }
 {
     for constraint in constraints {

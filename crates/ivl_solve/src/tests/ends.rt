@@ -1,9 +1,11 @@
 //! Sessions over readers and writers that fail or give little, and sessions that run out of memory.
+use super::keys;
 use ivl_store_lines::{SessionFault, session};
 use std::alloc::Global;
 use std::io;
 use std::io::{ErrorKind, Read, Write};
 use std::process::Abort;
+use std::random::RandomSource;
 use std::test::Fail;
 
 // Gives its text one byte a read. With a `failure`, the read after the text fails with it.
@@ -27,13 +29,13 @@ impl<'a> Read for Slow<'a> {
 
 // A session over this reader ends so, and has then written these answers.
 fn check_reads(
-    rt: &(impl Alloc<A = Global> + Abort),
+    rt: &(impl Alloc<A = Global> + RandomSource + Abort),
     mut reader: Slow<'_>,
     ended: Result<(), SessionFault>,
     answers: &[u8],
 ) {
     let mut written = Vec::new(rt.alloc());
-    let end = session(rt.alloc(), &mut reader, &mut written);
+    let end = session(rt.alloc(), keys(rt), &mut reader, &mut written);
     assert_eq!(rt; (end, written.as_slice()), (ended, answers));
 }
 
@@ -83,7 +85,7 @@ impl Write for Full {
 fn a_failed_write(rt: HostRuntime) {
     for room in 0..8 {
         let mut input: &[u8] = b"var x 1 9\nshow\nfrob\n";
-        let ended = session(rt.alloc(), &mut input, &mut Full { room });
+        let ended = session(rt.alloc(), keys(&rt), &mut input, &mut Full { room });
         assert_eq!(rt; ended, Err(SessionFault::Write));
     }
 }
@@ -111,21 +113,37 @@ impl Write for Noted {
     }
 }
 
-// What is answered is flushed before a line that narrows domains, though all lines come by one read; then before the
-// next read, and at the end.
+// The lines that narrow domains or search.
+const LONG_LINES: [&str; 7] = [
+    "cut x 2 5",
+    "sum x y z",
+    "go on",
+    "solve",
+    "count",
+    "min x",
+    "max x",
+];
+
+// What is answered is flushed before a line that may take long, though all lines come by one read; then before the next
+// read, and at the end. Other lines wait for none.
 #[test]
-fn flushed_before_a_line_that_may_take_long(rt: HostRuntime) {
-    let mut input: &[u8] = b"var x 1 9\nvar y 1 9\ncut x 2 5\nshow\n";
-    let mut writer = Noted {
-        written: 0,
-        flushes: [0; 6],
-        count: 0,
-    };
-    let ended = session(rt.alloc(), &mut input, &mut writer);
-    assert_eq!(rt;
-        (ended, writer.count, writer.flushes),
-        (Ok(()), 4, [0, 6, 30, 30, 0, 0])
-    );
+fn flushed_before_a_line_that_may_take_long(rt: HostRuntime) -> Result<(), Fail> {
+    for line in &LONG_LINES {
+        let lines = format!(in rt.alloc(); "var x 1 9\nvar y 1 9\nvar z 1 9\n{line}\nlimit 9\n")?;
+        let mut input = lines.as_str().as_bytes();
+        let mut writer = Noted {
+            written: 0,
+            flushes: [0; 6],
+            count: 0,
+        };
+        let ended = session(rt.alloc(), keys(&rt), &mut input, &mut writer);
+        assert_eq!(rt;
+            (ended, writer.count, writer.flushes[0], writer.flushes[1]),
+            (Ok(()), 4, 0, 9),
+            "at {line}"
+        );
+    }
+    Ok(())
 }
 
 // If one allocation fails, as under `rt try --test --fail-alloc N`, either the session ends with `Memory`,
@@ -135,7 +153,7 @@ fn one_refused_request(rt: HostRuntime) -> Result<(), Fail> {
     let mut input: &[u8] =
         b"var x 1 9\nvar y 1 9\nvar z 11 11\nsum x y z\ncut x 2 5\nshow\ncut x 2 3\nsolve\ncount\n";
     let mut written = Vec::with_capacity(rt.alloc(), 1024)?;
-    if let Err(fault) = session(rt.alloc(), &mut input, &mut written) {
+    if let Err(fault) = session(rt.alloc(), keys(&rt), &mut input, &mut written) {
         assert_eq!(rt; fault, SessionFault::Memory);
         return Ok(());
     }

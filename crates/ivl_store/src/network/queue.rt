@@ -1,8 +1,9 @@
 //! The constraints that have to be looked at again.
-ghost use Rattle.std.specs.Prelude.{◌≡◌, ◌+◌, ◌-◌, ◌<◌, ◌≤◌, ◌∷◌, ◌++◌, [], ℕ, ℤ, All, HoldsAt, ◌↔◌, List, MatchOption, OnErr, OnOk, false, true, length, slice_index_or, slice_set, take};
+ghost use Rattle.std.specs.Prelude.{◌≡◌, ◌+◌, ◌-◌, ◌<◌, ◌≤◌, ◌∷◌, ◌++◌, [], ℕ, ℤ, All, HoldsAt, IsNone, IsTrue, ◌↔◌, List, MatchOption, OnErr, OnOk, false, true, length, slice_index_or, slice_set, take};
 ghost use Rattle.std.specs.Vec.{vec_capacity};
 ghost use Rattle.ivl_laws.specs.Families.{set_at};
 ghost use Rattle.ivl_store.specs.Narrowing.{Narrowed};
+ghost use Rattle.ivl_store.specs.Network.{unmarked_count};
 ghost use Rattle.ivl_store.specs.Settled.{AreCleared, AreLost, AreSettled, any_lost};
 ghost use Rattle.ivl_store.specs.Solutions.{AreDistinct};
 ghost use Rattle.ivl_store.specs.Queue.{IsIndex, IsQueue, Removes};
@@ -69,6 +70,7 @@ impl Queue {
         requires { IsQueue self.old }
         ensures queue { IsQueue self.new }
         ensures settled { self.new.settled.items ≡ self.old.settled.items }
+        ensures none { IsNone result ↔ unmarked_count self.old.settled.items ≡ 0 }
         ensures first { MatchOption result ((k : ℕ) → k < length self.old.settled.items → slice_index_or self.old.settled.items k false ≡ true)
             (λ k. (k < length self.old.settled.items) × (slice_index_or self.old.settled.items k false ≡ false) × (front : List ℕ) × (self.new.round.items ≡ front ++ k ∷ [])) }
     {
@@ -95,7 +97,8 @@ impl Queue {
     /// Whether each constraint has a mark.
     pub(super) fn is_empty(&self) -> bool
         requires { IsQueue self.now }
-        ensures { result ≡ true → (k : ℕ) → k < length self.now.settled.items → slice_index_or self.now.settled.items k false ≡ true }
+        ensures all { result ≡ true → (k : ℕ) → k < length self.now.settled.items → slice_index_or self.now.settled.items k false ≡ true }
+        ensures exactly { IsTrue result ↔ unmarked_count self.now.settled.items ≡ 0 }
     {
         self.round.is_empty() && self.later.is_empty()
     }

@@ -3,8 +3,9 @@ ghost use Rattle.std.specs.Prelude.{◌≡◌, ◌<◌, ◌-◌, ℤ, List, Opti
 ghost use Rattle.ivl_laws.specs.Runs.{IsRunListIn};
 ghost use Rattle.ivl_store.specs.NarrowedSets.{narrowed_at};
 
-use super::Store;
+use super::{Store, one_if};
 use intervallum::interval_set::IntervalSet;
+use intervallum::ops::IsEmpty;
 use intervallum::width::Width;
 use std::mem;
 
@@ -18,7 +19,7 @@ impl<B: Width> Store<B> {
         ensures back { narrowed_at self.new i result ≡ self.old }
     {
         match left {
-            Some(set) => Some(mem::replace(&mut self.domains[i], set)),
+            Some(set) => Some(self.put(i, set)),
             None => None,
         }
     }
@@ -29,15 +30,30 @@ impl<B: Width> Store<B> {
     {
         set.in_whole();
         if i < self.domains.len() {
-            self.domains[i] = set;
+            self.put(i, set);
         }
+    }
+
+    /// Puts a set in place of a domain, and returns that.
+    fn put(&mut self, i: usize, set: IntervalSet<B>) -> IntervalSet<B>
+        requires known { i < length self.old }
+        requires range { IsRunListIn B.whole set }
+        ensures put { self.new ≡ slice_set self.old i set }
+        ensures back { slice_set self.new i result ≡ self.old }
+    {
+        let was = one_if(self.domains[i].is_empty());
+        let is = one_if(set.is_empty());
+        self.empties = self.empties - was + is;
+        mem::replace(&mut self.domains[i], set)
     }
 
     /// Drops the last variable, if there is one.
     pub(crate) fn drop_variable(&mut self)
         ensures { self.new ≡ take (length self.old - 1) self.old }
     {
-        let count = self.domains.len().saturating_sub(1);
-        self.domains.truncate(count);
+        if let Some(domain) = self.domains.pop() {
+            let was = one_if(domain.is_empty());
+            self.empties -= was;
+        }
     }
 }

@@ -1,3 +1,4 @@
+// Written by bindings/rust/extract from crates/intervallum/src/interval_set.rt.
 //! A set of integers as a list of runs.
 
 #[allow(unused_imports)]
@@ -56,13 +57,14 @@ use crate::rattle::std::alloc::{AllocError, Global};
 /// shrinking fails, the result keeps its capacity.
 ///
 /// ```
-/// # use intervallum::proved::examples::*;
-/// # fn main() -> Result<(), std::boxed::Box<dyn std::error::Error>> {
-/// # let alloc = Global;
-/// let hours: IntervalSet<u8> = [(12, 13), (8, 11)].to_interval_set(alloc)?;
-/// assert!(hours == IntervalSet::new(alloc, 8, 13)?);
-/// # Ok(())
-/// # }
+/// use intervallum::proved::examples::*;
+///
+/// fn main() -> Result<(), std::boxed::Box<dyn std::error::Error>> {
+///     let alloc = Global;
+///     let hours: IntervalSet<u8> = [(12, 13), (8, 11)].to_interval_set(alloc)?;
+///     assert!(hours == IntervalSet::new(alloc, 8, 13)?);
+///     Ok(())
+/// }
 /// ```
 ///
 /// The original derives `Clone`; this set has `try_clone`. The `iter_mut` of the original, which
@@ -77,12 +79,13 @@ impl<B: Width> IntervalSet<B> {
     /// Returns the empty set. `O(1)`. Does not allocate.
     ///
     /// ```
-    /// # use intervallum::proved::examples::*;
-    /// # fn main() -> Result<(), std::boxed::Box<dyn std::error::Error>> {
-    /// # let alloc = Global;
-    /// assert!(IntervalSet::<i32>::empty(alloc).is_empty());
-    /// # Ok(())
-    /// # }
+    /// use intervallum::proved::examples::*;
+    ///
+    /// fn main() -> Result<(), std::boxed::Box<dyn std::error::Error>> {
+    ///     let alloc = Global;
+    ///     assert!(IntervalSet::<i32>::empty(alloc).is_empty());
+    ///     Ok(())
+    /// }
     /// ```
     ///
     /// # Proved
@@ -102,13 +105,14 @@ impl<B: Width> IntervalSet<B> {
     /// allocation fails.
     ///
     /// ```
-    /// # use intervallum::proved::examples::*;
-    /// # fn main() -> Result<(), std::boxed::Box<dyn std::error::Error>> {
-    /// # let alloc = Global;
-    /// let a = IntervalSet::new(alloc, 1, 2)?;
-    /// assert!(a.contains(&1) && a.contains(&2) && !a.contains(&3));
-    /// # Ok(())
-    /// # }
+    /// use intervallum::proved::examples::*;
+    ///
+    /// fn main() -> Result<(), std::boxed::Box<dyn std::error::Error>> {
+    ///     let alloc = Global;
+    ///     let a = IntervalSet::new(alloc, 1, 2)?;
+    ///     assert!(a.contains(&1) && a.contains(&2) && !a.contains(&3));
+    ///     Ok(())
+    /// }
     /// ```
     ///
     /// # Proved
@@ -134,16 +138,19 @@ impl<B: Width> IntervalSet<B> {
     /// Returns the number of runs. `O(1)`. Does not allocate.
     ///
     /// ```
-    /// # use intervallum::proved::examples::*;
-    /// # fn main() -> Result<(), std::boxed::Box<dyn std::error::Error>> {
-    /// # let alloc = Global;
-    /// let a: IntervalSet<i32> = [(1, 2), (5, 6)].to_interval_set(alloc)?;
-    /// assert_eq!(a.interval_count(), 2);
-    /// # Ok(())
-    /// # }
+    /// use intervallum::proved::examples::*;
+    ///
+    /// fn main() -> Result<(), std::boxed::Box<dyn std::error::Error>> {
+    ///     let alloc = Global;
+    ///     let a: IntervalSet<i32> = [(1, 2), (5, 6)].to_interval_set(alloc)?;
+    ///     assert_eq!(a.interval_count(), 2);
+    ///     Ok(())
+    /// }
     /// ```
     ///
     /// # Proved
+    ///
+    /// The answer is the number of runs, which are ascending, lie in the range, and neither overlap nor touch.
     ///
     /// ```text
     /// ensures count { result ≡ length self.now }
@@ -159,18 +166,21 @@ impl<B: Width> IntervalSet<B> {
     /// allocate.
     ///
     /// ```
-    /// # use intervallum::proved::examples::*;
-    /// # fn main() -> Result<(), std::boxed::Box<dyn std::error::Error>> {
-    /// # let alloc = Global;
-    /// let a: IntervalSet<i32> = [(1, 2), (5, 6)].to_interval_set(alloc)?;
-    /// let mut runs = a.iter();
-    /// assert!(runs.next() == Some(&Interval::new(1, 2)));
-    /// assert!(runs.next_back() == Some(&Interval::new(5, 6)));
-    /// # Ok(())
-    /// # }
+    /// use intervallum::proved::examples::*;
+    ///
+    /// fn main() -> Result<(), std::boxed::Box<dyn std::error::Error>> {
+    ///     let alloc = Global;
+    ///     let a: IntervalSet<i32> = [(1, 2), (5, 6)].to_interval_set(alloc)?;
+    ///     let mut runs = a.iter();
+    ///     assert!(runs.next() == Some(&Interval::new(1, 2)));
+    ///     assert!(runs.next_back() == Some(&Interval::new(5, 6)));
+    ///     Ok(())
+    /// }
     /// ```
     ///
     /// # Proved
+    ///
+    /// The iterator yields the list of the runs, each of which has a number.
     ///
     /// ```text
     /// ensures rest { result.rest.now ≡ self.now }
@@ -213,13 +223,14 @@ impl<B: Width> Cardinality for IntervalSet<B> {
     /// allocate.
     ///
     /// ```
-    /// # use intervallum::proved::examples::*;
-    /// # fn main() -> Result<(), std::boxed::Box<dyn std::error::Error>> {
-    /// # let alloc = Global;
-    /// let a: IntervalSet<i32> = [(1, 2), (5, 6)].to_interval_set(alloc)?;
-    /// assert_eq!(a.size(), 4u32);
-    /// # Ok(())
-    /// # }
+    /// use intervallum::proved::examples::*;
+    ///
+    /// fn main() -> Result<(), std::boxed::Box<dyn std::error::Error>> {
+    ///     let alloc = Global;
+    ///     let a: IntervalSet<i32> = [(1, 2), (5, 6)].to_interval_set(alloc)?;
+    ///     assert_eq!(a.size(), 4u32);
+    ///     Ok(())
+    /// }
     /// ```
     ///
     /// # Proved
@@ -241,13 +252,14 @@ impl<B: Width> IsEmpty for IntervalSet<B> {
     /// Returns true exactly when the set has no members. `O(1)`. Does not allocate.
     ///
     /// ```
-    /// # use intervallum::proved::examples::*;
-    /// # fn main() -> Result<(), std::boxed::Box<dyn std::error::Error>> {
-    /// # let alloc = Global;
-    /// let a = IntervalSet::new(alloc, 1, 2)?;
-    /// assert!(!a.is_empty() && IntervalSet::<i32>::empty(alloc).is_empty());
-    /// # Ok(())
-    /// # }
+    /// use intervallum::proved::examples::*;
+    ///
+    /// fn main() -> Result<(), std::boxed::Box<dyn std::error::Error>> {
+    ///     let alloc = Global;
+    ///     let a = IntervalSet::new(alloc, 1, 2)?;
+    ///     assert!(!a.is_empty() && IntervalSet::<i32>::empty(alloc).is_empty());
+    ///     Ok(())
+    /// }
     /// ```
     ///
     /// # Proved
@@ -276,16 +288,19 @@ impl<B: Width> PartialEq for IntervalSet<B> {
     /// differ. Does not allocate.
     ///
     /// ```
-    /// # use intervallum::proved::examples::*;
-    /// # fn main() -> Result<(), std::boxed::Box<dyn std::error::Error>> {
-    /// # let alloc = Global;
-    /// let a: IntervalSet<i32> = [(3, 4), (1, 2)].to_interval_set(alloc)?;
-    /// assert!(a == IntervalSet::new(alloc, 1, 4)?);
-    /// # Ok(())
-    /// # }
+    /// use intervallum::proved::examples::*;
+    ///
+    /// fn main() -> Result<(), std::boxed::Box<dyn std::error::Error>> {
+    ///     let alloc = Global;
+    ///     let a: IntervalSet<i32> = [(3, 4), (1, 2)].to_interval_set(alloc)?;
+    ///     assert!(a == IntervalSet::new(alloc, 1, 4)?);
+    ///     Ok(())
+    /// }
     /// ```
     ///
     /// # Proved
+    ///
+    /// It is true exactly when both sets have the same members.
     ///
     /// ```text
     /// ensures value { result ≡ same_runs self.now other.now }

@@ -1,3 +1,4 @@
+// Written by bindings/rust/extract from crates/intervallum/src/prelude.rt.
 //! The types and every trait of their operations, for glob imports.
 
 #[allow(unused_imports)]

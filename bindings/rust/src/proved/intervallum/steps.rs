@@ -1,3 +1,4 @@
+// Written by bindings/rust/extract from crates/intervallum/src/steps.rt.
 //! Walks over the runs of sets from the left, and binary search among them. A contract sees how
 //! often a walk has advanced and how often a search has looked at a run.
 

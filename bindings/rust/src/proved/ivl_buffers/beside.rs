@@ -1,3 +1,4 @@
+// Written by bindings/rust/extract from crates/ivl_buffers/src/beside.rt.
 //! The greatest member up to a number, and the run that holds a number, by binary search in sorted
 //! lists.
 

@@ -1,3 +1,4 @@
+// Written by bindings/rust/extract from crates/ivl_buffers/src/comparisons.rt.
 //! Queries on lists, which make the sets of their members.
 
 #[allow(unused_imports)]

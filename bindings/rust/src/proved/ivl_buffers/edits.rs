@@ -1,3 +1,4 @@
+// Written by bindings/rust/extract from crates/ivl_buffers/src/edits.rt.
 //! A run added to a list in its own buffer, or removed from it.
 
 #[allow(unused_imports)]

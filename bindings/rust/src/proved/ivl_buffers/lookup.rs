@@ -1,3 +1,4 @@
+// Written by bindings/rust/extract from crates/ivl_buffers/src/lookup.rt.
 //! The least member from a number on, and the lowest consecutive members.
 
 #[allow(unused_imports)]

@@ -1,3 +1,4 @@
+// Written by bindings/rust/extract from crates/ivl_buffers/src/merging.rt.
 //! What is made of two run lists by one walk over both, in the caller's buffer.
 //!
 //! A walk writes the runs of its answer to the first places of the buffer, as many as there are
@@ -33,6 +34,7 @@ use crate::rattle::std::hint::select_unpredictable;
 ///
 /// Words: [`IsRunListIn`](crate::definitions#IsRunListIn), [`IsLaid`](crate::definitions#IsLaid), [`Intersection`](crate::definitions#Intersection), [`Covers`](crate::definitions#Covers).
 pub fn intersection<R: Run>(a: &[R], b: &[R], out: &mut [R]) -> usize {
+    debug_assert!({ #[allow(unused_imports)] use crate::proved::ivl_interval::ops::*; crate::proved::ivl_buffers::run_lists::is_run_list(a) && crate::proved::ivl_buffers::run_lists::is_run_list(b) }, "{}", "the condition of `intersection` is broken: crate::proved::ivl_buffers::run_lists::is_run_list(a) && crate::proved::ivl_buffers::run_lists::is_run_list(b)");
     let mut count = 0;
     let mut i = 0;
     let mut j = 0;
@@ -67,6 +69,7 @@ pub fn intersection<R: Run>(a: &[R], b: &[R], out: &mut [R]) -> usize {
 ///
 /// Words: [`IsRunListIn`](crate::definitions#IsRunListIn), [`IsLaid`](crate::definitions#IsLaid), [`Without`](crate::definitions#Without), [`Covers`](crate::definitions#Covers).
 pub fn difference<R: Run>(a: &[R], b: &[R], out: &mut [R]) -> usize {
+    debug_assert!({ #[allow(unused_imports)] use crate::proved::ivl_interval::ops::*; crate::proved::ivl_buffers::run_lists::is_run_list(a) && crate::proved::ivl_buffers::run_lists::is_run_list(b) }, "{}", "the condition of `difference` is broken: crate::proved::ivl_buffers::run_lists::is_run_list(a) && crate::proved::ivl_buffers::run_lists::is_run_list(b)");
     let mut count = 0;
     let mut i = 0;
     let mut j = 0;
@@ -105,6 +108,7 @@ pub fn difference<R: Run>(a: &[R], b: &[R], out: &mut [R]) -> usize {
 ///
 /// Words: [`IsRunListIn`](crate::definitions#IsRunListIn), [`IsLaid`](crate::definitions#IsLaid), [`Complement`](crate::definitions#Complement), [`Covers`](crate::definitions#Covers).
 pub fn complement<R: Run>(runs: &[R], out: &mut [R]) -> usize {
+    debug_assert!({ #[allow(unused_imports)] use crate::proved::ivl_interval::ops::*; crate::proved::ivl_buffers::run_lists::is_run_list(runs) }, "{}", "the condition of `complement` is broken: crate::proved::ivl_buffers::run_lists::is_run_list(runs)");
     let whole = Interval::<R::Bound>::whole();
     let mut left = R::of(whole.lower_bound(), whole.upper_bound());
     let mut count = 0;
@@ -134,6 +138,7 @@ pub fn complement<R: Run>(runs: &[R], out: &mut [R]) -> usize {
 ///
 /// Words: [`IsRunListIn`](crate::definitions#IsRunListIn), [`IsLaid`](crate::definitions#IsLaid), [`Union`](crate::definitions#Union), [`Covers`](crate::definitions#Covers).
 pub fn union<R: Run>(a: &[R], b: &[R], out: &mut [R]) -> usize {
+    debug_assert!({ #[allow(unused_imports)] use crate::proved::ivl_interval::ops::*; crate::proved::ivl_buffers::run_lists::is_run_list(a) && crate::proved::ivl_buffers::run_lists::is_run_list(b) }, "{}", "the condition of `union` is broken: crate::proved::ivl_buffers::run_lists::is_run_list(a) && crate::proved::ivl_buffers::run_lists::is_run_list(b)");
     let mut count = 0;
     let mut i = 0;
     let mut j = 0;
@@ -168,6 +173,7 @@ pub fn union<R: Run>(a: &[R], b: &[R], out: &mut [R]) -> usize {
 ///
 /// Words: [`IsRunListIn`](crate::definitions#IsRunListIn), [`IsLaid`](crate::definitions#IsLaid), [`SymmetricDifference`](crate::definitions#SymmetricDifference), [`Covers`](crate::definitions#Covers).
 pub fn symmetric_difference<R: Run>(a: &[R], b: &[R], out: &mut [R]) -> usize {
+    debug_assert!({ #[allow(unused_imports)] use crate::proved::ivl_interval::ops::*; crate::proved::ivl_buffers::run_lists::is_run_list(a) && crate::proved::ivl_buffers::run_lists::is_run_list(b) }, "{}", "the condition of `symmetric_difference` is broken: crate::proved::ivl_buffers::run_lists::is_run_list(a) && crate::proved::ivl_buffers::run_lists::is_run_list(b)");
     let (mut i, mut j, mut count) = (0, 0, 0);
     // all below it is done
     let mut from = R::Bound::min_value();

@@ -1,3 +1,4 @@
+// Written by bindings/rust/extract from crates/ivl_buffers/src/products.rt.
 //! Products of the members of two lists.
 
 #[allow(unused_imports)]

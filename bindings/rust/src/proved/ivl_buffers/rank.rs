@@ -1,3 +1,4 @@
+// Written by bindings/rust/extract from crates/ivl_buffers/src/rank.rt.
 //! Members by the number of members below them.
 
 #[allow(unused_imports)]

@@ -1,3 +1,4 @@
+// Written by bindings/rust/extract from crates/ivl_buffers/src/reading.rt.
 //! The set of the members of a list of pairs.
 
 #[allow(unused_imports)]
@@ -49,6 +50,7 @@ fn is_crossed<R: Run>(run: R) -> bool {
 ///
 /// Words: [`IsSubset`](crate::definitions#IsSubset), [`Covers`](crate::definitions#Covers), [`IsBetween`](crate::definitions#IsBetween), [`IsRunsOf`](crate::definitions#IsRunsOf).
 pub fn set_of<R: Run>(alloc: Global, runs: &[R]) -> Result<IntervalSet<R::Bound>, AllocError> {
+    debug_assert!({ #[allow(unused_imports)] use crate::proved::ivl_interval::ops::*; are_inside(runs) }, "{}", "the condition of `set_of` is broken: are_inside(runs)");
     let mut list = Vec::with_capacity(alloc, runs.len())?;
     for run in runs {
         list.push(interval_of(*run))?;

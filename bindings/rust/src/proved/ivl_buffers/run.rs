@@ -1,3 +1,4 @@
+// Written by bindings/rust/extract from crates/ivl_buffers/src/run.rt.
 //! A pair of bounds as C has it.
 
 #[allow(unused_imports)]

@@ -1,3 +1,4 @@
+// Written by bindings/rust/extract from crates/ivl_buffers/src/run_lists.rt.
 //! Lists that are already the runs of a set.
 
 #[allow(unused_imports)]
@@ -160,6 +161,7 @@ fn is_below<R: Run>(run: R, next: R) -> bool {
 ///
 /// Words: [`IsRunIn`](crate::definitions#IsRunIn).
 pub fn leaves_free<R: Run>(last: R, run: R) -> bool {
+    debug_assert!({ #[allow(unused_imports)] use crate::proved::ivl_interval::ops::*; is_run_list(&[last]) && is_run_list(&[run]) }, "{}", "the condition of `leaves_free` is broken: is_run_list(&[last]) && is_run_list(&[run])");
     let (end, start) = (last.upper(), run.lower());
     end.add_in_range(one_if(end < start)) < start
 }

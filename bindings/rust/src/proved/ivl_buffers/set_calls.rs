@@ -1,3 +1,4 @@
+// Written by bindings/rust/extract from crates/ivl_buffers/src/set_calls.rt.
 //! Sets made of lists.
 
 #[allow(unused_imports)]

@@ -1,3 +1,4 @@
+// Written by bindings/rust/extract from crates/ivl_buffers/src/sorted_lookup.rt.
 //! Binary search in sorted lists.
 
 #[allow(unused_imports)]

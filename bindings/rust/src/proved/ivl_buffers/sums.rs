@@ -1,3 +1,4 @@
+// Written by bindings/rust/extract from crates/ivl_buffers/src/sums.rt.
 //! Sums and differences of the members of two lists, cut to the range.
 
 #[allow(unused_imports)]

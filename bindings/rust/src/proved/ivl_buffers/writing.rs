@@ -1,3 +1,4 @@
+// Written by bindings/rust/extract from crates/ivl_buffers/src/writing.rt.
 //! The error codes, and how an answer is written to the caller's buffer.
 
 #[allow(unused_imports)]

@@ -1,3 +1,4 @@
+// Written by bindings/rust/extract from crates/ivl_expr/src/fault.rt.
 //! The errors of evaluation.
 
 #[allow(unused_imports)]

@@ -1,3 +1,4 @@
+// Written by bindings/rust/extract from crates/ivl_expr/src/nodes.rt.
 //! Evaluation, node by node.
 
 #[allow(unused_imports)]
@@ -37,15 +38,16 @@ use crate::rattle::std::alloc::{AllocError, Global};
 /// first is returned.
 ///
 /// ```
-/// # use intervallum::proved::examples::*;
-/// # fn main() -> Result<(), std::boxed::Box<dyn std::error::Error>> {
-/// # let alloc = Global;
-/// let sum = Expr::Add(Box::new(alloc, Expr::Var(0))?, Box::new(alloc, Expr::Var(1))?);
-/// let sets: [IntervalSet<i32>; 2] = [IntervalSet::new(alloc, 1, 2)?, IntervalSet::new(alloc, 10, 20)?];
-/// assert!(eval(alloc, &sum, &sets)? == IntervalSet::new(alloc, 11, 22)?);
-/// assert!(eval(alloc, &sum, &sets[..1]).is_err_and(|f| f == EvalFault::Missing(1)));
-/// # Ok(())
-/// # }
+/// use intervallum::proved::examples::*;
+///
+/// fn main() -> Result<(), std::boxed::Box<dyn std::error::Error>> {
+///     let alloc = Global;
+///     let sum = Expr::Add(Box::new(alloc, Expr::Var(0))?, Box::new(alloc, Expr::Var(1))?);
+///     let sets: [IntervalSet<i32>; 2] = [IntervalSet::new(alloc, 1, 2)?, IntervalSet::new(alloc, 10, 20)?];
+///     assert!(eval(alloc, &sum, &sets)? == IntervalSet::new(alloc, 11, 22)?);
+///     assert!(eval(alloc, &sum, &sets[..1]).is_err_and(|f| f == EvalFault::Missing(1)));
+///     Ok(())
+/// }
 /// ```
 ///
 /// # Proved

@@ -1,3 +1,4 @@
+// Written by bindings/rust/extract from crates/ivl_interval/src/interval.rt.
 //! A closed interval between two bounds.
 
 #[allow(unused_imports)]
@@ -22,13 +23,14 @@ mod values;
 /// the pair of the numbers of the bounds.
 ///
 /// ```
-/// # use intervallum::proved::examples::*;
-/// # fn main() -> Result<(), std::boxed::Box<dyn std::error::Error>> {
-/// # let alloc = Global;
-/// let (a, b) = (Interval::new(1i32, 5), Interval::new(4, 9));
-/// assert_eq!(a.intersection(&b), Interval::new(4, 5));
-/// # Ok(())
-/// # }
+/// use intervallum::proved::examples::*;
+///
+/// fn main() -> Result<(), std::boxed::Box<dyn std::error::Error>> {
+///     let alloc = Global;
+///     let (a, b) = (Interval::new(1i32, 5), Interval::new(4, 9));
+///     assert_eq!(a.intersection(&b), Interval::new(4, 5));
+///     Ok(())
+/// }
 /// ```
 #[derive(Clone, Copy, Debug)]
 pub struct Interval<B: Width> {
@@ -41,12 +43,13 @@ impl<B: Width> Interval<B> {
     /// is not above it. The two may cross, so `in_range(8, 3)` is true, and `new(8, 3)` is empty.
     ///
     /// ```
-    /// # use intervallum::proved::examples::*;
-    /// # fn main() -> Result<(), std::boxed::Box<dyn std::error::Error>> {
-    /// # let alloc = Global;
-    /// assert!(Interval::in_range(8u8, 3) && !Interval::in_range(0u8, 255));
-    /// # Ok(())
-    /// # }
+    /// use intervallum::proved::examples::*;
+    ///
+    /// fn main() -> Result<(), std::boxed::Box<dyn std::error::Error>> {
+    ///     let alloc = Global;
+    ///     assert!(Interval::in_range(8u8, 3) && !Interval::in_range(0u8, 255));
+    ///     Ok(())
+    /// }
     /// ```
     ///
     /// # Proved
@@ -64,12 +67,13 @@ impl<B: Width> Interval<B> {
     /// it without a test for empty ones. For the least member, use `lower`.
     ///
     /// ```
-    /// # use intervallum::proved::examples::*;
-    /// # fn main() -> Result<(), std::boxed::Box<dyn std::error::Error>> {
-    /// # let alloc = Global;
-    /// assert_eq!(Interval::new(8i32, 3).lower_bound(), 8);
-    /// # Ok(())
-    /// # }
+    /// use intervallum::proved::examples::*;
+    ///
+    /// fn main() -> Result<(), std::boxed::Box<dyn std::error::Error>> {
+    ///     let alloc = Global;
+    ///     assert_eq!(Interval::new(8i32, 3).lower_bound(), 8);
+    ///     Ok(())
+    /// }
     /// ```
     ///
     /// # Proved
@@ -85,12 +89,13 @@ impl<B: Width> Interval<B> {
     /// `upper`.
     ///
     /// ```
-    /// # use intervallum::proved::examples::*;
-    /// # fn main() -> Result<(), std::boxed::Box<dyn std::error::Error>> {
-    /// # let alloc = Global;
-    /// assert_eq!(Interval::new(8i32, 3).upper_bound(), 3);
-    /// # Ok(())
-    /// # }
+    /// use intervallum::proved::examples::*;
+    ///
+    /// fn main() -> Result<(), std::boxed::Box<dyn std::error::Error>> {
+    ///     let alloc = Global;
+    ///     assert_eq!(Interval::new(8i32, 3).upper_bound(), 3);
+    ///     Ok(())
+    /// }
     /// ```
     ///
     /// # Proved
@@ -105,13 +110,14 @@ impl<B: Width> Interval<B> {
     /// Does nothing: its contract states that each member is in the range.
     ///
     /// ```
-    /// # use intervallum::proved::examples::*;
-    /// # fn main() -> Result<(), std::boxed::Box<dyn std::error::Error>> {
-    /// # let alloc = Global;
-    /// let a = Interval::new(3i32, 8);
-    /// a.in_whole(); // a proof knows from here on that the members of `a` are in the range
-    /// # Ok(())
-    /// # }
+    /// use intervallum::proved::examples::*;
+    ///
+    /// fn main() -> Result<(), std::boxed::Box<dyn std::error::Error>> {
+    ///     let alloc = Global;
+    ///     let a = Interval::new(3i32, 8);
+    ///     a.in_whole(); // a proof knows from here on that the members of `a` are in the range
+    ///     Ok(())
+    /// }
     /// ```
     ///
     /// # Proved
@@ -148,12 +154,13 @@ impl<B: Width> PartialEq for Interval<B> {
     /// Returns true exactly when the two have the same members.
     ///
     /// ```
-    /// # use intervallum::proved::examples::*;
-    /// # fn main() -> Result<(), std::boxed::Box<dyn std::error::Error>> {
-    /// # let alloc = Global;
-    /// assert_eq!(Interval::new(8i32, 3), Interval::empty());
-    /// # Ok(())
-    /// # }
+    /// use intervallum::proved::examples::*;
+    ///
+    /// fn main() -> Result<(), std::boxed::Box<dyn std::error::Error>> {
+    ///     let alloc = Global;
+    ///     assert_eq!(Interval::new(8i32, 3), Interval::empty());
+    ///     Ok(())
+    /// }
     /// ```
     ///
     /// # Proved

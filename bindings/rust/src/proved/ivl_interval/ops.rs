@@ -1,3 +1,4 @@
+// Written by bindings/rust/extract from crates/ivl_interval/src/ops.rt.
 //! The operations on sets of integers, as traits.
 //!
 //! Each trait specifies its call by the members of the operands, through ghost members: `members`
@@ -34,12 +35,13 @@ pub trait IntervalKind {}
 /// The empty set.
 ///
 /// ```
-/// # use intervallum::proved::examples::*;
-/// # fn main() -> Result<(), std::boxed::Box<dyn std::error::Error>> {
-/// # let alloc = Global;
-/// assert!(Interval::<i32>::empty().is_empty());
-/// # Ok(())
-/// # }
+/// use intervallum::proved::examples::*;
+///
+/// fn main() -> Result<(), std::boxed::Box<dyn std::error::Error>> {
+///     let alloc = Global;
+///     assert!(Interval::<i32>::empty().is_empty());
+///     Ok(())
+/// }
 /// ```
 ///
 /// Words and laws of the contracts:
@@ -64,12 +66,13 @@ pub trait Empty {
 /// members, the more information.
 ///
 /// ```
-/// # use intervallum::proved::examples::*;
-/// # fn main() -> Result<(), std::boxed::Box<dyn std::error::Error>> {
-/// # let alloc = Global;
-/// assert_eq!(Interval::<i32>::top(), Interval::empty());
-/// # Ok(())
-/// # }
+/// use intervallum::proved::examples::*;
+///
+/// fn main() -> Result<(), std::boxed::Box<dyn std::error::Error>> {
+///     let alloc = Global;
+///     assert_eq!(Interval::<i32>::top(), Interval::empty());
+///     Ok(())
+/// }
 /// ```
 ///
 /// Words and laws of the contracts:
@@ -93,12 +96,13 @@ pub trait Top {
 /// The bottom of the lattice of information: the whole range.
 ///
 /// ```
-/// # use intervallum::proved::examples::*;
-/// # fn main() -> Result<(), std::boxed::Box<dyn std::error::Error>> {
-/// # let alloc = Global;
-/// assert_eq!(Interval::<i32>::bot(), Interval::whole());
-/// # Ok(())
-/// # }
+/// use intervallum::proved::examples::*;
+///
+/// fn main() -> Result<(), std::boxed::Box<dyn std::error::Error>> {
+///     let alloc = Global;
+///     assert_eq!(Interval::<i32>::bot(), Interval::whole());
+///     Ok(())
+/// }
 /// ```
 ///
 /// Words and laws of the contracts:
@@ -123,12 +127,13 @@ pub trait Bot {
 /// The whole range of the type of the bounds.
 ///
 /// ```
-/// # use intervallum::proved::examples::*;
-/// # fn main() -> Result<(), std::boxed::Box<dyn std::error::Error>> {
-/// # let alloc = Global;
-/// assert_eq!(Interval::<u8>::whole(), Interval::new(0, 254));
-/// # Ok(())
-/// # }
+/// use intervallum::proved::examples::*;
+///
+/// fn main() -> Result<(), std::boxed::Box<dyn std::error::Error>> {
+///     let alloc = Global;
+///     assert_eq!(Interval::<u8>::whole(), Interval::new(0, 254));
+///     Ok(())
+/// }
 /// ```
 ///
 /// Words and laws of the contracts:
@@ -153,12 +158,13 @@ pub trait Whole {
 /// A set of one item.
 ///
 /// ```
-/// # use intervallum::proved::examples::*;
-/// # fn main() -> Result<(), std::boxed::Box<dyn std::error::Error>> {
-/// # let alloc = Global;
-/// assert_eq!(Interval::singleton(5i32), Interval::new(5, 5));
-/// # Ok(())
-/// # }
+/// use intervallum::proved::examples::*;
+///
+/// fn main() -> Result<(), std::boxed::Box<dyn std::error::Error>> {
+///     let alloc = Global;
+///     assert_eq!(Interval::singleton(5i32), Interval::new(5, 5));
+///     Ok(())
+/// }
 /// ```
 ///
 /// Words and laws of the contracts:
@@ -184,12 +190,13 @@ pub trait Singleton: Collection {
 /// The set of the items from one to another.
 ///
 /// ```
-/// # use intervallum::proved::examples::*;
-/// # fn main() -> Result<(), std::boxed::Box<dyn std::error::Error>> {
-/// # let alloc = Global;
-/// assert_eq!(Interval::new(1i32, 5).size(), 5);
-/// # Ok(())
-/// # }
+/// use intervallum::proved::examples::*;
+///
+/// fn main() -> Result<(), std::boxed::Box<dyn std::error::Error>> {
+///     let alloc = Global;
+///     assert_eq!(Interval::new(1i32, 5).size(), 5);
+///     Ok(())
+/// }
 /// ```
 ///
 /// Words and laws of the contracts:
@@ -216,13 +223,14 @@ pub trait Range: Collection {
 /// The least and the greatest member.
 ///
 /// ```
-/// # use intervallum::proved::examples::*;
-/// # fn main() -> Result<(), std::boxed::Box<dyn std::error::Error>> {
-/// # let alloc = Global;
-/// let a = Interval::new(3i32, 8);
-/// assert_eq!((a.lower(), a.upper()), (3, 8));
-/// # Ok(())
-/// # }
+/// use intervallum::proved::examples::*;
+///
+/// fn main() -> Result<(), std::boxed::Box<dyn std::error::Error>> {
+///     let alloc = Global;
+///     let a = Interval::new(3i32, 8);
+///     assert_eq!((a.lower(), a.upper()), (3, 8));
+///     Ok(())
+/// }
 /// ```
 pub trait Bounded: Collection {
     /// Returns the least member. The caller must ensure that the set is not empty. Check with
@@ -257,12 +265,13 @@ pub trait Bounded: Collection {
 /// The number of members of a set.
 ///
 /// ```
-/// # use intervallum::proved::examples::*;
-/// # fn main() -> Result<(), std::boxed::Box<dyn std::error::Error>> {
-/// # let alloc = Global;
-/// assert_eq!(Interval::new(-3i32, 3).size(), 7);
-/// # Ok(())
-/// # }
+/// use intervallum::proved::examples::*;
+///
+/// fn main() -> Result<(), std::boxed::Box<dyn std::error::Error>> {
+///     let alloc = Global;
+///     assert_eq!(Interval::new(-3i32, 3).size(), 7);
+///     Ok(())
+/// }
 /// ```
 ///
 /// Words and laws of the contracts:
@@ -279,6 +288,8 @@ pub trait Cardinality {
     ///
     /// # Proved
     ///
+    /// The answer is the number of members.
+    ///
     /// ```text
     /// ensures { IsCountOf (size_number result) (members self.now) }
     /// ```
@@ -290,12 +301,13 @@ pub trait Cardinality {
 /// Whether a set is empty.
 ///
 /// ```
-/// # use intervallum::proved::examples::*;
-/// # fn main() -> Result<(), std::boxed::Box<dyn std::error::Error>> {
-/// # let alloc = Global;
-/// assert!(Interval::new(8i32, 3).is_empty());
-/// # Ok(())
-/// # }
+/// use intervallum::proved::examples::*;
+///
+/// fn main() -> Result<(), std::boxed::Box<dyn std::error::Error>> {
+///     let alloc = Global;
+///     assert!(Interval::new(8i32, 3).is_empty());
+///     Ok(())
+/// }
 /// ```
 ///
 /// Words and laws of the contracts:
@@ -320,12 +332,13 @@ pub trait IsEmpty {
 /// Whether a set has exactly one member.
 ///
 /// ```
-/// # use intervallum::proved::examples::*;
-/// # fn main() -> Result<(), std::boxed::Box<dyn std::error::Error>> {
-/// # let alloc = Global;
-/// assert!(Interval::new(5i32, 5).is_singleton());
-/// # Ok(())
-/// # }
+/// use intervallum::proved::examples::*;
+///
+/// fn main() -> Result<(), std::boxed::Box<dyn std::error::Error>> {
+///     let alloc = Global;
+///     assert!(Interval::new(5i32, 5).is_singleton());
+///     Ok(())
+/// }
 /// ```
 ///
 /// Words and laws of the contracts:
@@ -349,18 +362,21 @@ pub trait IsSingleton {
 /// Whether an item is a member.
 ///
 /// ```
-/// # use intervallum::proved::examples::*;
-/// # fn main() -> Result<(), std::boxed::Box<dyn std::error::Error>> {
-/// # let alloc = Global;
-/// let a = Interval::new(3i32, 8);
-/// assert!(a.contains(&8) && !a.contains(&9));
-/// # Ok(())
-/// # }
+/// use intervallum::proved::examples::*;
+///
+/// fn main() -> Result<(), std::boxed::Box<dyn std::error::Error>> {
+///     let alloc = Global;
+///     let a = Interval::new(3i32, 8);
+///     assert!(a.contains(&8) && !a.contains(&9));
+///     Ok(())
+/// }
 /// ```
 pub trait Contains: Collection {
     /// Returns true exactly when `item`, which may be any value of its type, is a member.
     ///
     /// # Proved
+    ///
+    /// It is true exactly when the item is a member.
     ///
     /// ```text
     /// ensures { IsTrue result ↔ Self.members self.now (Self.number item.now) }
@@ -371,12 +387,13 @@ pub trait Contains: Collection {
 /// Whether two sets have no common member.
 ///
 /// ```
-/// # use intervallum::proved::examples::*;
-/// # fn main() -> Result<(), std::boxed::Box<dyn std::error::Error>> {
-/// # let alloc = Global;
-/// assert!(Interval::new(1i32, 2).is_disjoint(&Interval::new(3, 4)));
-/// # Ok(())
-/// # }
+/// use intervallum::proved::examples::*;
+///
+/// fn main() -> Result<(), std::boxed::Box<dyn std::error::Error>> {
+///     let alloc = Global;
+///     assert!(Interval::new(1i32, 2).is_disjoint(&Interval::new(3, 4)));
+///     Ok(())
+/// }
 /// ```
 ///
 /// Words and laws of the contracts:
@@ -401,12 +418,13 @@ pub trait Disjoint<R> {
 /// Whether two sets have a common member.
 ///
 /// ```
-/// # use intervallum::proved::examples::*;
-/// # fn main() -> Result<(), std::boxed::Box<dyn std::error::Error>> {
-/// # let alloc = Global;
-/// assert!(Interval::new(1i32, 5).overlap(&Interval::new(5, 9)));
-/// # Ok(())
-/// # }
+/// use intervallum::proved::examples::*;
+///
+/// fn main() -> Result<(), std::boxed::Box<dyn std::error::Error>> {
+///     let alloc = Global;
+///     assert!(Interval::new(1i32, 5).overlap(&Interval::new(5, 9)));
+///     Ok(())
+/// }
 /// ```
 ///
 /// Words and laws of the contracts:
@@ -431,13 +449,14 @@ pub trait Overlap<R> {
 /// Inclusion.
 ///
 /// ```
-/// # use intervallum::proved::examples::*;
-/// # fn main() -> Result<(), std::boxed::Box<dyn std::error::Error>> {
-/// # let alloc = Global;
-/// let (a, b) = (Interval::new(1i32, 2), Interval::new(0, 10));
-/// assert!(a.is_subset(&b) && a.is_subset(&a));
-/// # Ok(())
-/// # }
+/// use intervallum::proved::examples::*;
+///
+/// fn main() -> Result<(), std::boxed::Box<dyn std::error::Error>> {
+///     let alloc = Global;
+///     let (a, b) = (Interval::new(1i32, 2), Interval::new(0, 10));
+///     assert!(a.is_subset(&b) && a.is_subset(&a));
+///     Ok(())
+/// }
 /// ```
 ///
 /// Words and laws of the contracts:
@@ -450,6 +469,8 @@ pub trait Subset {
     ///
     /// # Proved
     ///
+    /// It is true exactly when each member is a member of the other.
+    ///
     /// ```text
     /// ensures { IsTrue result ↔ IsSubset (members self.now) (members other.now) }
     /// ```
@@ -461,13 +482,14 @@ pub trait Subset {
 /// Inclusion of sets that differ.
 ///
 /// ```
-/// # use intervallum::proved::examples::*;
-/// # fn main() -> Result<(), std::boxed::Box<dyn std::error::Error>> {
-/// # let alloc = Global;
-/// let (a, b) = (Interval::new(1i32, 2), Interval::new(0, 10));
-/// assert!(a.is_proper_subset(&b) && !a.is_proper_subset(&a));
-/// # Ok(())
-/// # }
+/// use intervallum::proved::examples::*;
+///
+/// fn main() -> Result<(), std::boxed::Box<dyn std::error::Error>> {
+///     let alloc = Global;
+///     let (a, b) = (Interval::new(1i32, 2), Interval::new(0, 10));
+///     assert!(a.is_proper_subset(&b) && !a.is_proper_subset(&a));
+///     Ok(())
+/// }
 /// ```
 ///
 /// Words and laws of the contracts:
@@ -491,14 +513,15 @@ pub trait ProperSubset {
 /// The union of two sets.
 ///
 /// ```
-/// # use intervallum::proved::examples::*;
-/// # fn main() -> Result<(), std::boxed::Box<dyn std::error::Error>> {
-/// # let alloc = Global;
-/// let a = IntervalSet::new(alloc, 1i32, 2)?;
-/// let b = IntervalSet::new(alloc, 2, 5)?;
-/// assert_eq!(a.union(&b)?.size(), 5u32);
-/// # Ok(())
-/// # }
+/// use intervallum::proved::examples::*;
+///
+/// fn main() -> Result<(), std::boxed::Box<dyn std::error::Error>> {
+///     let alloc = Global;
+///     let a = IntervalSet::new(alloc, 1i32, 2)?;
+///     let b = IntervalSet::new(alloc, 2, 5)?;
+///     assert_eq!(a.union(&b)?.size(), 5u32);
+///     Ok(())
+/// }
 /// ```
 ///
 /// Words and laws of the contracts:
@@ -518,6 +541,8 @@ pub trait Union<R> {
     ///
     /// # Proved
     ///
+    /// The members of the answer are exactly those of either operand.
+    ///
     /// ```text
     /// requires { can_unite self.now other.now }
     /// ensures { answers result (Union (members self.now) (other_members other.now)) }
@@ -530,13 +555,14 @@ pub trait Union<R> {
 /// The members that two sets have in common.
 ///
 /// ```
-/// # use intervallum::proved::examples::*;
-/// # fn main() -> Result<(), std::boxed::Box<dyn std::error::Error>> {
-/// # let alloc = Global;
-/// let (a, b) = (Interval::new(1i32, 5), Interval::new(4, 9));
-/// assert_eq!(a.intersection(&b), Interval::new(4, 5));
-/// # Ok(())
-/// # }
+/// use intervallum::proved::examples::*;
+///
+/// fn main() -> Result<(), std::boxed::Box<dyn std::error::Error>> {
+///     let alloc = Global;
+///     let (a, b) = (Interval::new(1i32, 5), Interval::new(4, 9));
+///     assert_eq!(a.intersection(&b), Interval::new(4, 5));
+///     Ok(())
+/// }
 /// ```
 ///
 /// Words and laws of the contracts:
@@ -553,6 +579,8 @@ pub trait Intersection<R> {
     ///
     /// # Proved
     ///
+    /// The members of the answer are exactly those of both operands.
+    ///
     /// ```text
     /// ensures { answers result (Intersection (members self.now) (other_members other.now)) }
     /// ```
@@ -564,13 +592,14 @@ pub trait Intersection<R> {
 /// The members of one set that are not in another.
 ///
 /// ```
-/// # use intervallum::proved::examples::*;
-/// # fn main() -> Result<(), std::boxed::Box<dyn std::error::Error>> {
-/// # let alloc = Global;
-/// let (a, b) = (Interval::new(1i32, 5), Interval::new(4, 9));
-/// assert_eq!(a.difference(&b), Interval::new(1, 3));
-/// # Ok(())
-/// # }
+/// use intervallum::proved::examples::*;
+///
+/// fn main() -> Result<(), std::boxed::Box<dyn std::error::Error>> {
+///     let alloc = Global;
+///     let (a, b) = (Interval::new(1i32, 5), Interval::new(4, 9));
+///     assert_eq!(a.difference(&b), Interval::new(1, 3));
+///     Ok(())
+/// }
 /// ```
 ///
 /// Words and laws of the contracts:
@@ -588,6 +617,8 @@ pub trait Difference<R> {
     ///
     /// # Proved
     ///
+    /// The members of the answer are exactly the left operand's that are not the right one's.
+    ///
     /// ```text
     /// ensures { answers result (Without (members self.now) (other_members other.now)) }
     /// ```
@@ -599,14 +630,15 @@ pub trait Difference<R> {
 /// The members of exactly one of two sets.
 ///
 /// ```
-/// # use intervallum::proved::examples::*;
-/// # fn main() -> Result<(), std::boxed::Box<dyn std::error::Error>> {
-/// # let alloc = Global;
-/// let a = IntervalSet::new(alloc, 1i32, 2)?;
-/// let b = IntervalSet::new(alloc, 2, 5)?;
-/// assert_eq!(a.symmetric_difference(&b)?.size(), 4u32);
-/// # Ok(())
-/// # }
+/// use intervallum::proved::examples::*;
+///
+/// fn main() -> Result<(), std::boxed::Box<dyn std::error::Error>> {
+///     let alloc = Global;
+///     let a = IntervalSet::new(alloc, 1i32, 2)?;
+///     let b = IntervalSet::new(alloc, 2, 5)?;
+///     assert_eq!(a.symmetric_difference(&b)?.size(), 4u32);
+///     Ok(())
+/// }
 /// ```
 ///
 /// Words and laws of the contracts:
@@ -626,6 +658,8 @@ pub trait SymmetricDifference<R> {
     ///
     /// # Proved
     ///
+    /// The members of the answer are exactly those of one operand and not of the other.
+    ///
     /// ```text
     /// requires { can_unite self.now other.now }
     /// ensures { answers result (SymmetricDifference (members self.now) (other_members other.now)) }
@@ -638,13 +672,14 @@ pub trait SymmetricDifference<R> {
 /// The least interval that holds two sets.
 ///
 /// ```
-/// # use intervallum::proved::examples::*;
-/// # fn main() -> Result<(), std::boxed::Box<dyn std::error::Error>> {
-/// # let alloc = Global;
-/// let (a, b) = (Interval::new(1i32, 5), Interval::new(4, 9));
-/// assert_eq!(a.hull(&b), Interval::new(1, 9));
-/// # Ok(())
-/// # }
+/// use intervallum::proved::examples::*;
+///
+/// fn main() -> Result<(), std::boxed::Box<dyn std::error::Error>> {
+///     let alloc = Global;
+///     let (a, b) = (Interval::new(1i32, 5), Interval::new(4, 9));
+///     assert_eq!(a.hull(&b), Interval::new(1, 9));
+///     Ok(())
+/// }
 /// ```
 ///
 /// Words and laws of the contracts:
@@ -676,14 +711,15 @@ pub trait Hull<R> {
 /// The complement of a set within the range of its type.
 ///
 /// ```
-/// # use intervallum::proved::examples::*;
-/// # fn main() -> Result<(), std::boxed::Box<dyn std::error::Error>> {
-/// # let alloc = Global;
-/// let a = IntervalSet::new(alloc, 1u8, 254)?;
-/// let rest = a.complement()?;
-/// assert!(rest.contains(&0) && rest.is_singleton());
-/// # Ok(())
-/// # }
+/// use intervallum::proved::examples::*;
+///
+/// fn main() -> Result<(), std::boxed::Box<dyn std::error::Error>> {
+///     let alloc = Global;
+///     let a = IntervalSet::new(alloc, 1u8, 254)?;
+///     let rest = a.complement()?;
+///     assert!(rest.contains(&0) && rest.is_singleton());
+///     Ok(())
+/// }
 /// ```
 ///
 /// Words and laws of the contracts:
@@ -700,6 +736,8 @@ pub trait Complement {
     ///
     /// # Proved
     ///
+    /// The members of the answer are exactly the numbers of the range that are no members.
+    ///
     /// ```text
     /// ensures { answers result (Complement whole (members self.now)) }
     /// ```
@@ -711,13 +749,14 @@ pub trait Complement {
 /// A set cut from the left.
 ///
 /// ```
-/// # use intervallum::proved::examples::*;
-/// # fn main() -> Result<(), std::boxed::Box<dyn std::error::Error>> {
-/// # let alloc = Global;
-/// let a = Interval::new(1i32, 9);
-/// assert_eq!(a.shrink_left(4), Interval::new(4, 9));
-/// # Ok(())
-/// # }
+/// use intervallum::proved::examples::*;
+///
+/// fn main() -> Result<(), std::boxed::Box<dyn std::error::Error>> {
+///     let alloc = Global;
+///     let a = Interval::new(1i32, 9);
+///     assert_eq!(a.shrink_left(4), Interval::new(4, 9));
+///     Ok(())
+/// }
 /// ```
 ///
 /// Words and laws of the contracts:
@@ -743,13 +782,14 @@ pub trait ShrinkLeft: Collection {
 /// A set cut from the right.
 ///
 /// ```
-/// # use intervallum::proved::examples::*;
-/// # fn main() -> Result<(), std::boxed::Box<dyn std::error::Error>> {
-/// # let alloc = Global;
-/// let a = Interval::new(1i32, 9);
-/// assert_eq!(a.shrink_right(4), Interval::new(1, 4));
-/// # Ok(())
-/// # }
+/// use intervallum::proved::examples::*;
+///
+/// fn main() -> Result<(), std::boxed::Box<dyn std::error::Error>> {
+///     let alloc = Global;
+///     let a = Interval::new(1i32, 9);
+///     assert_eq!(a.shrink_right(4), Interval::new(1, 4));
+///     Ok(())
+/// }
 /// ```
 ///
 /// Words and laws of the contracts:
@@ -775,13 +815,14 @@ pub trait ShrinkRight: Collection {
 /// A set cut from the left, excluding the item.
 ///
 /// ```
-/// # use intervallum::proved::examples::*;
-/// # fn main() -> Result<(), std::boxed::Box<dyn std::error::Error>> {
-/// # let alloc = Global;
-/// let a = Interval::new(1i32, 9);
-/// assert_eq!(a.strict_shrink_left(4), Interval::new(5, 9));
-/// # Ok(())
-/// # }
+/// use intervallum::proved::examples::*;
+///
+/// fn main() -> Result<(), std::boxed::Box<dyn std::error::Error>> {
+///     let alloc = Global;
+///     let a = Interval::new(1i32, 9);
+///     assert_eq!(a.strict_shrink_left(4), Interval::new(5, 9));
+///     Ok(())
+/// }
 /// ```
 ///
 /// Words and laws of the contracts:
@@ -807,13 +848,14 @@ pub trait StrictShrinkLeft: Collection {
 /// A set cut from the right, excluding the item.
 ///
 /// ```
-/// # use intervallum::proved::examples::*;
-/// # fn main() -> Result<(), std::boxed::Box<dyn std::error::Error>> {
-/// # let alloc = Global;
-/// let a = Interval::new(1i32, 9);
-/// assert_eq!(a.strict_shrink_right(4), Interval::new(1, 3));
-/// # Ok(())
-/// # }
+/// use intervallum::proved::examples::*;
+///
+/// fn main() -> Result<(), std::boxed::Box<dyn std::error::Error>> {
+///     let alloc = Global;
+///     let a = Interval::new(1i32, 9);
+///     assert_eq!(a.strict_shrink_right(4), Interval::new(1, 3));
+///     Ok(())
+/// }
 /// ```
 ///
 /// Words and laws of the contracts:
@@ -840,13 +882,14 @@ pub trait StrictShrinkRight: Collection {
 /// intersection, although the word often stands for the union.
 ///
 /// ```
-/// # use intervallum::proved::examples::*;
-/// # fn main() -> Result<(), std::boxed::Box<dyn std::error::Error>> {
-/// # let alloc = Global;
-/// let (a, b) = (Interval::new(1i32, 5), Interval::new(4, 9));
-/// assert_eq!(a.join(b), Interval::new(4, 5));
-/// # Ok(())
-/// # }
+/// use intervallum::proved::examples::*;
+///
+/// fn main() -> Result<(), std::boxed::Box<dyn std::error::Error>> {
+///     let alloc = Global;
+///     let (a, b) = (Interval::new(1i32, 5), Interval::new(4, 9));
+///     assert_eq!(a.join(b), Interval::new(4, 5));
+///     Ok(())
+/// }
 /// ```
 ///
 /// Words and laws of the contracts:
@@ -874,13 +917,14 @@ pub trait Join: Sized {
 /// meet is the union, although the word often stands for the intersection.
 ///
 /// ```
-/// # use intervallum::proved::examples::*;
-/// # fn main() -> Result<(), std::boxed::Box<dyn std::error::Error>> {
-/// # let alloc = Global;
-/// let (a, b) = (Interval::new(1i32, 5), Interval::new(4, 9));
-/// assert_eq!(a.meet(b), Interval::new(1, 9));
-/// # Ok(())
-/// # }
+/// use intervallum::proved::examples::*;
+///
+/// fn main() -> Result<(), std::boxed::Box<dyn std::error::Error>> {
+///     let alloc = Global;
+///     let (a, b) = (Interval::new(1i32, 5), Interval::new(4, 9));
+///     assert_eq!(a.meet(b), Interval::new(1, 9));
+///     Ok(())
+/// }
 /// ```
 ///
 /// Words and laws of the contracts:
@@ -908,13 +952,14 @@ pub trait Meet: Sized {
 /// Whether one set has at least the information of another.
 ///
 /// ```
-/// # use intervallum::proved::examples::*;
-/// # fn main() -> Result<(), std::boxed::Box<dyn std::error::Error>> {
-/// # let alloc = Global;
-/// let (a, b) = (Interval::new(1i32, 5), Interval::new(4, 9));
-/// assert_eq!(a.entail(&b), SKleene::Unknown);
-/// # Ok(())
-/// # }
+/// use intervallum::proved::examples::*;
+///
+/// fn main() -> Result<(), std::boxed::Box<dyn std::error::Error>> {
+///     let alloc = Global;
+///     let (a, b) = (Interval::new(1i32, 5), Interval::new(4, 9));
+///     assert_eq!(a.entail(&b), SKleene::Unknown);
+///     Ok(())
+/// }
 /// ```
 ///
 /// Words and laws of the contracts:
@@ -939,13 +984,14 @@ pub trait Entailment {
 /// A value that can be converted to an interval.
 ///
 /// ```
-/// # use intervallum::proved::examples::*;
-/// # fn main() -> Result<(), std::boxed::Box<dyn std::error::Error>> {
-/// # let alloc = Global;
-/// let a: Interval<i32> = (1..=5).to_interval();
-/// assert_eq!(a, Interval::new(1, 5));
-/// # Ok(())
-/// # }
+/// use intervallum::proved::examples::*;
+///
+/// fn main() -> Result<(), std::boxed::Box<dyn std::error::Error>> {
+///     let alloc = Global;
+///     let a: Interval<i32> = (1..=5).to_interval();
+///     assert_eq!(a, Interval::new(1, 5));
+///     Ok(())
+/// }
 /// ```
 ///
 /// Words and laws of the contracts:
@@ -973,13 +1019,14 @@ pub trait ToInterval<B: Width> {
 /// Whether the results of arithmetic are in the range.
 ///
 /// ```
-/// # use intervallum::proved::examples::*;
-/// # fn main() -> Result<(), std::boxed::Box<dyn std::error::Error>> {
-/// # let alloc = Global;
-/// let (a, b) = (Interval::new(1i32, 2), Interval::new(10, 20));
-/// assert!(a.fits_add(&b) && a.fits_sub(&b) && a.fits_mul(&b));
-/// # Ok(())
-/// # }
+/// use intervallum::proved::examples::*;
+///
+/// fn main() -> Result<(), std::boxed::Box<dyn std::error::Error>> {
+///     let alloc = Global;
+///     let (a, b) = (Interval::new(1i32, 2), Interval::new(10, 20));
+///     assert!(a.fits_add(&b) && a.fits_sub(&b) && a.fits_mul(&b));
+///     Ok(())
+/// }
 /// ```
 ///
 /// Words and laws of the contracts:

@@ -1,3 +1,4 @@
+// Written by bindings/rust/extract from crates/ivl_interval/src/optional.rt.
 //! A value, or none, as a set of at most one member.
 
 #[allow(unused_imports)]
@@ -8,13 +9,14 @@ use crate::rattle::prelude::*;
 /// It stands for a set of at most one member, and is `Copy` if its value is. No call allocates.
 ///
 /// ```
-/// # use intervallum::proved::examples::*;
-/// # fn main() -> Result<(), std::boxed::Box<dyn std::error::Error>> {
-/// # let alloc = Global;
-/// let (none, some) = (Optional::empty(), Optional::singleton(5i32));
-/// assert!(none != some);
-/// # Ok(())
-/// # }
+/// use intervallum::proved::examples::*;
+///
+/// fn main() -> Result<(), std::boxed::Box<dyn std::error::Error>> {
+///     let alloc = Global;
+///     let (none, some) = (Optional::empty(), Optional::singleton(5i32));
+///     assert!(none != some);
+///     Ok(())
+/// }
 /// ```
 #[derive(Clone, Copy, PartialEq, Eq, Debug)]
 pub struct Optional<T> {
@@ -25,12 +27,13 @@ impl<T> Optional<T> {
     /// Returns an option with no value.
     ///
     /// ```
-    /// # use intervallum::proved::examples::*;
-    /// # fn main() -> Result<(), std::boxed::Box<dyn std::error::Error>> {
-    /// # let alloc = Global;
-    /// assert!(Optional::<i32>::empty().is_empty());
-    /// # Ok(())
-    /// # }
+    /// use intervallum::proved::examples::*;
+    ///
+    /// fn main() -> Result<(), std::boxed::Box<dyn std::error::Error>> {
+    ///     let alloc = Global;
+    ///     assert!(Optional::<i32>::empty().is_empty());
+    ///     Ok(())
+    /// }
     /// ```
     ///
     /// # Proved
@@ -45,12 +48,13 @@ impl<T> Optional<T> {
     /// Returns an option with the value `x`.
     ///
     /// ```
-    /// # use intervallum::proved::examples::*;
-    /// # fn main() -> Result<(), std::boxed::Box<dyn std::error::Error>> {
-    /// # let alloc = Global;
-    /// assert_eq!(Optional::singleton(5i32).as_ref(), Some(&5));
-    /// # Ok(())
-    /// # }
+    /// use intervallum::proved::examples::*;
+    ///
+    /// fn main() -> Result<(), std::boxed::Box<dyn std::error::Error>> {
+    ///     let alloc = Global;
+    ///     assert_eq!(Optional::singleton(5i32).as_ref(), Some(&5));
+    ///     Ok(())
+    /// }
     /// ```
     ///
     /// # Proved
@@ -65,12 +69,13 @@ impl<T> Optional<T> {
     /// Returns true exactly when there is no value.
     ///
     /// ```
-    /// # use intervallum::proved::examples::*;
-    /// # fn main() -> Result<(), std::boxed::Box<dyn std::error::Error>> {
-    /// # let alloc = Global;
-    /// assert!(!Optional::singleton(5i32).is_empty());
-    /// # Ok(())
-    /// # }
+    /// use intervallum::proved::examples::*;
+    ///
+    /// fn main() -> Result<(), std::boxed::Box<dyn std::error::Error>> {
+    ///     let alloc = Global;
+    ///     assert!(!Optional::singleton(5i32).is_empty());
+    ///     Ok(())
+    /// }
     /// ```
     ///
     /// # Proved
@@ -85,12 +90,13 @@ impl<T> Optional<T> {
     /// Returns true exactly when there is a value.
     ///
     /// ```
-    /// # use intervallum::proved::examples::*;
-    /// # fn main() -> Result<(), std::boxed::Box<dyn std::error::Error>> {
-    /// # let alloc = Global;
-    /// assert!(Optional::singleton(5i32).is_some());
-    /// # Ok(())
-    /// # }
+    /// use intervallum::proved::examples::*;
+    ///
+    /// fn main() -> Result<(), std::boxed::Box<dyn std::error::Error>> {
+    ///     let alloc = Global;
+    ///     assert!(Optional::singleton(5i32).is_some());
+    ///     Ok(())
+    /// }
     /// ```
     ///
     /// # Proved
@@ -105,12 +111,13 @@ impl<T> Optional<T> {
     /// Returns a reference to the value, or `None` if there is none.
     ///
     /// ```
-    /// # use intervallum::proved::examples::*;
-    /// # fn main() -> Result<(), std::boxed::Box<dyn std::error::Error>> {
-    /// # let alloc = Global;
-    /// assert_eq!(Optional::<i32>::empty().as_ref(), None);
-    /// # Ok(())
-    /// # }
+    /// use intervallum::proved::examples::*;
+    ///
+    /// fn main() -> Result<(), std::boxed::Box<dyn std::error::Error>> {
+    ///     let alloc = Global;
+    ///     assert_eq!(Optional::<i32>::empty().as_ref(), None);
+    ///     Ok(())
+    /// }
     /// ```
     ///
     /// # Proved

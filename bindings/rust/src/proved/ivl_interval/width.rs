@@ -1,3 +1,4 @@
+// Written by bindings/rust/extract from crates/ivl_interval/src/width.rt.
 //! The types of bounds and of sizes, and the numbers of their values.
 
 #[allow(unused_imports)]
@@ -15,13 +16,14 @@ mod unsigned;
 /// No call allocates.
 ///
 /// ```
-/// # use intervallum::proved::examples::*;
-/// # fn main() -> Result<(), std::boxed::Box<dyn std::error::Error>> {
-/// # let alloc = Global;
-/// assert_eq!(<u8 as SizeNumber>::from_number(255), Some(255));
-/// assert_eq!(<u8 as SizeNumber>::from_number(256), None);
-/// # Ok(())
-/// # }
+/// use intervallum::proved::examples::*;
+///
+/// fn main() -> Result<(), std::boxed::Box<dyn std::error::Error>> {
+///     let alloc = Global;
+///     assert_eq!(<u8 as SizeNumber>::from_number(255), Some(255));
+///     assert_eq!(<u8 as SizeNumber>::from_number(256), None);
+///     Ok(())
+/// }
 /// ```
 ///
 /// Words and laws of the contracts:
@@ -38,12 +40,13 @@ pub trait SizeNumber: Ord + Copy {
     /// Returns the number of a value.
     ///
     /// ```
-    /// # use intervallum::proved::examples::*;
-    /// # fn main() -> Result<(), std::boxed::Box<dyn std::error::Error>> {
-    /// # let alloc = Global;
-    /// assert_eq!(<u8 as SizeNumber>::number(255), 255);
-    /// # Ok(())
-    /// # }
+    /// use intervallum::proved::examples::*;
+    ///
+    /// fn main() -> Result<(), std::boxed::Box<dyn std::error::Error>> {
+    ///     let alloc = Global;
+    ///     assert_eq!(<u8 as SizeNumber>::number(255), 255);
+    ///     Ok(())
+    /// }
     /// ```
     ///
     /// # Proved
@@ -57,12 +60,13 @@ pub trait SizeNumber: Ord + Copy {
     /// Returns the value of a number, or `None` if the number is above the greatest one.
     ///
     /// ```
-    /// # use intervallum::proved::examples::*;
-    /// # fn main() -> Result<(), std::boxed::Box<dyn std::error::Error>> {
-    /// # let alloc = Global;
-    /// assert_eq!(<u8 as SizeNumber>::from_number(256), None);
-    /// # Ok(())
-    /// # }
+    /// use intervallum::proved::examples::*;
+    ///
+    /// fn main() -> Result<(), std::boxed::Box<dyn std::error::Error>> {
+    ///     let alloc = Global;
+    ///     assert_eq!(<u8 as SizeNumber>::from_number(256), None);
+    ///     Ok(())
+    /// }
     /// ```
     ///
     /// # Proved
@@ -76,12 +80,13 @@ pub trait SizeNumber: Ord + Copy {
     /// Returns the value of 0.
     ///
     /// ```
-    /// # use intervallum::proved::examples::*;
-    /// # fn main() -> Result<(), std::boxed::Box<dyn std::error::Error>> {
-    /// # let alloc = Global;
-    /// assert_eq!(<u8 as SizeNumber>::zero(), 0);
-    /// # Ok(())
-    /// # }
+    /// use intervallum::proved::examples::*;
+    ///
+    /// fn main() -> Result<(), std::boxed::Box<dyn std::error::Error>> {
+    ///     let alloc = Global;
+    ///     assert_eq!(<u8 as SizeNumber>::zero(), 0);
+    ///     Ok(())
+    /// }
     /// ```
     ///
     /// # Proved
@@ -96,13 +101,14 @@ pub trait SizeNumber: Ord + Copy {
     /// Returns the sum, or `None` if it is not a number of the type.
     ///
     /// ```
-    /// # use intervallum::proved::examples::*;
-    /// # fn main() -> Result<(), std::boxed::Box<dyn std::error::Error>> {
-    /// # let alloc = Global;
-    /// assert_eq!(<u8 as SizeNumber>::checked_add(200, 55), Some(255));
-    /// assert_eq!(<u8 as SizeNumber>::checked_add(200, 56), None);
-    /// # Ok(())
-    /// # }
+    /// use intervallum::proved::examples::*;
+    ///
+    /// fn main() -> Result<(), std::boxed::Box<dyn std::error::Error>> {
+    ///     let alloc = Global;
+    ///     assert_eq!(<u8 as SizeNumber>::checked_add(200, 55), Some(255));
+    ///     assert_eq!(<u8 as SizeNumber>::checked_add(200, 56), None);
+    ///     Ok(())
+    /// }
     /// ```
     ///
     /// # Proved
@@ -118,12 +124,13 @@ pub trait SizeNumber: Ord + Copy {
     /// Returns the difference, or `None` if it is negative.
     ///
     /// ```
-    /// # use intervallum::proved::examples::*;
-    /// # fn main() -> Result<(), std::boxed::Box<dyn std::error::Error>> {
-    /// # let alloc = Global;
-    /// assert_eq!(<u8 as SizeNumber>::checked_sub(3, 4), None);
-    /// # Ok(())
-    /// # }
+    /// use intervallum::proved::examples::*;
+    ///
+    /// fn main() -> Result<(), std::boxed::Box<dyn std::error::Error>> {
+    ///     let alloc = Global;
+    ///     assert_eq!(<u8 as SizeNumber>::checked_sub(3, 4), None);
+    ///     Ok(())
+    /// }
     /// ```
     ///
     /// # Proved
@@ -140,13 +147,14 @@ pub trait SizeNumber: Ord + Copy {
     /// `checked_add(other).is_some()`.
     ///
     /// ```
-    /// # use intervallum::proved::examples::*;
-    /// # fn main() -> Result<(), std::boxed::Box<dyn std::error::Error>> {
-    /// # let alloc = Global;
-    /// assert!(<u8 as SizeNumber>::checked_add(200, 55).is_some());
-    /// assert_eq!(<u8 as SizeNumber>::add_in_range(200, 55), 255);
-    /// # Ok(())
-    /// # }
+    /// use intervallum::proved::examples::*;
+    ///
+    /// fn main() -> Result<(), std::boxed::Box<dyn std::error::Error>> {
+    ///     let alloc = Global;
+    ///     assert!(<u8 as SizeNumber>::checked_add(200, 55).is_some());
+    ///     assert_eq!(<u8 as SizeNumber>::add_in_range(200, 55), 255);
+    ///     Ok(())
+    /// }
     /// ```
     ///
     /// # Proved
@@ -174,13 +182,14 @@ pub trait SizeNumber: Ord + Copy {
 /// | `i8`, `i16`, `i32`, `i64`, `isize` | the least value plus 1 | the greatest value | the unsigned type of its width |
 ///
 /// ```
-/// # use intervallum::proved::examples::*;
-/// # fn main() -> Result<(), std::boxed::Box<dyn std::error::Error>> {
-/// # let alloc = Global;
-/// assert_eq!(<u8 as Width>::max_value(), 254);
-/// assert_eq!(<i8 as Width>::min_value(), -127);
-/// # Ok(())
-/// # }
+/// use intervallum::proved::examples::*;
+///
+/// fn main() -> Result<(), std::boxed::Box<dyn std::error::Error>> {
+///     let alloc = Global;
+///     assert_eq!(<u8 as Width>::max_value(), 254);
+///     assert_eq!(<i8 as Width>::min_value(), -127);
+///     Ok(())
+/// }
 /// ```
 ///
 /// Words and laws of the contracts:
@@ -203,12 +212,13 @@ pub trait Width: Ord + Copy {
     /// Returns the least value of the range.
     ///
     /// ```
-    /// # use intervallum::proved::examples::*;
-    /// # fn main() -> Result<(), std::boxed::Box<dyn std::error::Error>> {
-    /// # let alloc = Global;
-    /// assert_eq!(<i8 as Width>::min_value(), -127);
-    /// # Ok(())
-    /// # }
+    /// use intervallum::proved::examples::*;
+    ///
+    /// fn main() -> Result<(), std::boxed::Box<dyn std::error::Error>> {
+    ///     let alloc = Global;
+    ///     assert_eq!(<i8 as Width>::min_value(), -127);
+    ///     Ok(())
+    /// }
     /// ```
     ///
     /// # Proved
@@ -221,12 +231,13 @@ pub trait Width: Ord + Copy {
     /// Returns the greatest value of the range.
     ///
     /// ```
-    /// # use intervallum::proved::examples::*;
-    /// # fn main() -> Result<(), std::boxed::Box<dyn std::error::Error>> {
-    /// # let alloc = Global;
-    /// assert_eq!(<u8 as Width>::max_value(), 254);
-    /// # Ok(())
-    /// # }
+    /// use intervallum::proved::examples::*;
+    ///
+    /// fn main() -> Result<(), std::boxed::Box<dyn std::error::Error>> {
+    ///     let alloc = Global;
+    ///     assert_eq!(<u8 as Width>::max_value(), 254);
+    ///     Ok(())
+    /// }
     /// ```
     ///
     /// # Proved
@@ -239,12 +250,13 @@ pub trait Width: Ord + Copy {
     /// Returns the number of a value.
     ///
     /// ```
-    /// # use intervallum::proved::examples::*;
-    /// # fn main() -> Result<(), std::boxed::Box<dyn std::error::Error>> {
-    /// # let alloc = Global;
-    /// assert_eq!(<i8 as Width>::number(-128), -128);
-    /// # Ok(())
-    /// # }
+    /// use intervallum::proved::examples::*;
+    ///
+    /// fn main() -> Result<(), std::boxed::Box<dyn std::error::Error>> {
+    ///     let alloc = Global;
+    ///     assert_eq!(<i8 as Width>::number(-128), -128);
+    ///     Ok(())
+    /// }
     /// ```
     ///
     /// # Proved
@@ -257,13 +269,14 @@ pub trait Width: Ord + Copy {
     /// Returns the value of a number, or `None` if the number is not in the range.
     ///
     /// ```
-    /// # use intervallum::proved::examples::*;
-    /// # fn main() -> Result<(), std::boxed::Box<dyn std::error::Error>> {
-    /// # let alloc = Global;
-    /// assert_eq!(<u8 as Width>::from_number(254), Some(254));
-    /// assert_eq!(<u8 as Width>::from_number(255), None);
-    /// # Ok(())
-    /// # }
+    /// use intervallum::proved::examples::*;
+    ///
+    /// fn main() -> Result<(), std::boxed::Box<dyn std::error::Error>> {
+    ///     let alloc = Global;
+    ///     assert_eq!(<u8 as Width>::from_number(254), Some(254));
+    ///     assert_eq!(<u8 as Width>::from_number(255), None);
+    ///     Ok(())
+    /// }
     /// ```
     ///
     /// # Proved
@@ -281,12 +294,13 @@ pub trait Width: Ord + Copy {
     /// `Interval::in_range(*lower, *upper)` and `lower <= upper`.
     ///
     /// ```
-    /// # use intervallum::proved::examples::*;
-    /// # fn main() -> Result<(), std::boxed::Box<dyn std::error::Error>> {
-    /// # let alloc = Global;
-    /// assert_eq!(<i8 as Width>::width(&-127, &127), 255u8);
-    /// # Ok(())
-    /// # }
+    /// use intervallum::proved::examples::*;
+    ///
+    /// fn main() -> Result<(), std::boxed::Box<dyn std::error::Error>> {
+    ///     let alloc = Global;
+    ///     assert_eq!(<i8 as Width>::width(&-127, &127), 255u8);
+    ///     Ok(())
+    /// }
     /// ```
     ///
     /// # Proved
@@ -307,12 +321,13 @@ pub trait Width: Ord + Copy {
     /// Returns the value of 0.
     ///
     /// ```
-    /// # use intervallum::proved::examples::*;
-    /// # fn main() -> Result<(), std::boxed::Box<dyn std::error::Error>> {
-    /// # let alloc = Global;
-    /// assert_eq!(<i8 as Width>::zero(), 0);
-    /// # Ok(())
-    /// # }
+    /// use intervallum::proved::examples::*;
+    ///
+    /// fn main() -> Result<(), std::boxed::Box<dyn std::error::Error>> {
+    ///     let alloc = Global;
+    ///     assert_eq!(<i8 as Width>::zero(), 0);
+    ///     Ok(())
+    /// }
     /// ```
     ///
     /// # Proved
@@ -327,12 +342,13 @@ pub trait Width: Ord + Copy {
     /// Returns the value of 1.
     ///
     /// ```
-    /// # use intervallum::proved::examples::*;
-    /// # fn main() -> Result<(), std::boxed::Box<dyn std::error::Error>> {
-    /// # let alloc = Global;
-    /// assert_eq!(<i8 as Width>::one(), 1);
-    /// # Ok(())
-    /// # }
+    /// use intervallum::proved::examples::*;
+    ///
+    /// fn main() -> Result<(), std::boxed::Box<dyn std::error::Error>> {
+    ///     let alloc = Global;
+    ///     assert_eq!(<i8 as Width>::one(), 1);
+    ///     Ok(())
+    /// }
     /// ```
     ///
     /// # Proved
@@ -347,13 +363,14 @@ pub trait Width: Ord + Copy {
     /// Returns the sum, or `None` if it is not in the range.
     ///
     /// ```
-    /// # use intervallum::proved::examples::*;
-    /// # fn main() -> Result<(), std::boxed::Box<dyn std::error::Error>> {
-    /// # let alloc = Global;
-    /// assert_eq!(<u8 as Width>::checked_add(200, 54), Some(254));
-    /// assert_eq!(<u8 as Width>::checked_add(200, 55), None);
-    /// # Ok(())
-    /// # }
+    /// use intervallum::proved::examples::*;
+    ///
+    /// fn main() -> Result<(), std::boxed::Box<dyn std::error::Error>> {
+    ///     let alloc = Global;
+    ///     assert_eq!(<u8 as Width>::checked_add(200, 54), Some(254));
+    ///     assert_eq!(<u8 as Width>::checked_add(200, 55), None);
+    ///     Ok(())
+    /// }
     /// ```
     ///
     /// # Proved
@@ -371,12 +388,13 @@ pub trait Width: Ord + Copy {
     /// Returns the difference, or `None` if it is not in the range.
     ///
     /// ```
-    /// # use intervallum::proved::examples::*;
-    /// # fn main() -> Result<(), std::boxed::Box<dyn std::error::Error>> {
-    /// # let alloc = Global;
-    /// assert_eq!(<u8 as Width>::checked_sub(3, 4), None);
-    /// # Ok(())
-    /// # }
+    /// use intervallum::proved::examples::*;
+    ///
+    /// fn main() -> Result<(), std::boxed::Box<dyn std::error::Error>> {
+    ///     let alloc = Global;
+    ///     assert_eq!(<u8 as Width>::checked_sub(3, 4), None);
+    ///     Ok(())
+    /// }
     /// ```
     ///
     /// # Proved
@@ -395,12 +413,13 @@ pub trait Width: Ord + Copy {
     /// product beyond 128 bits, which is outside every range.
     ///
     /// ```
-    /// # use intervallum::proved::examples::*;
-    /// # fn main() -> Result<(), std::boxed::Box<dyn std::error::Error>> {
-    /// # let alloc = Global;
-    /// assert_eq!(<i8 as Width>::checked_mul(-64, 2), None);
-    /// # Ok(())
-    /// # }
+    /// use intervallum::proved::examples::*;
+    ///
+    /// fn main() -> Result<(), std::boxed::Box<dyn std::error::Error>> {
+    ///     let alloc = Global;
+    ///     assert_eq!(<i8 as Width>::checked_mul(-64, 2), None);
+    ///     Ok(())
+    /// }
     /// ```
     ///
     /// # Proved
@@ -419,13 +438,14 @@ pub trait Width: Ord + Copy {
     /// `checked_add(other).is_some()`.
     ///
     /// ```
-    /// # use intervallum::proved::examples::*;
-    /// # fn main() -> Result<(), std::boxed::Box<dyn std::error::Error>> {
-    /// # let alloc = Global;
-    /// assert!(<u8 as Width>::checked_add(200, 54).is_some());
-    /// assert_eq!(<u8 as Width>::add_in_range(200, 54), 254);
-    /// # Ok(())
-    /// # }
+    /// use intervallum::proved::examples::*;
+    ///
+    /// fn main() -> Result<(), std::boxed::Box<dyn std::error::Error>> {
+    ///     let alloc = Global;
+    ///     assert!(<u8 as Width>::checked_add(200, 54).is_some());
+    ///     assert_eq!(<u8 as Width>::add_in_range(200, 54), 254);
+    ///     Ok(())
+    /// }
     /// ```
     ///
     /// # Proved
@@ -445,13 +465,14 @@ pub trait Width: Ord + Copy {
     /// `checked_sub(other).is_some()`.
     ///
     /// ```
-    /// # use intervallum::proved::examples::*;
-    /// # fn main() -> Result<(), std::boxed::Box<dyn std::error::Error>> {
-    /// # let alloc = Global;
-    /// assert!(<i8 as Width>::checked_sub(3, 4).is_some());
-    /// assert_eq!(<i8 as Width>::sub_in_range(3, 4), -1);
-    /// # Ok(())
-    /// # }
+    /// use intervallum::proved::examples::*;
+    ///
+    /// fn main() -> Result<(), std::boxed::Box<dyn std::error::Error>> {
+    ///     let alloc = Global;
+    ///     assert!(<i8 as Width>::checked_sub(3, 4).is_some());
+    ///     assert_eq!(<i8 as Width>::sub_in_range(3, 4), -1);
+    ///     Ok(())
+    /// }
     /// ```
     ///
     /// # Proved
@@ -471,13 +492,14 @@ pub trait Width: Ord + Copy {
     /// `checked_mul(other).is_some()`.
     ///
     /// ```
-    /// # use intervallum::proved::examples::*;
-    /// # fn main() -> Result<(), std::boxed::Box<dyn std::error::Error>> {
-    /// # let alloc = Global;
-    /// assert!(<i8 as Width>::checked_mul(-64, 1).is_some());
-    /// assert_eq!(<i8 as Width>::mul_in_range(-64, 1), -64);
-    /// # Ok(())
-    /// # }
+    /// use intervallum::proved::examples::*;
+    ///
+    /// fn main() -> Result<(), std::boxed::Box<dyn std::error::Error>> {
+    ///     let alloc = Global;
+    ///     assert!(<i8 as Width>::checked_mul(-64, 1).is_some());
+    ///     assert_eq!(<i8 as Width>::mul_in_range(-64, 1), -64);
+    ///     Ok(())
+    /// }
     /// ```
     ///
     /// # Proved

@@ -1,3 +1,4 @@
+// Written by bindings/rust/extract from crates/ivl_json/src/faults.rt.
 //! The errors of reading a JSON value.
 
 #[allow(unused_imports)]
@@ -7,12 +8,13 @@ use crate::rattle::std::alloc::AllocError;
 /// Why a JSON value is not an interval.
 ///
 /// ```
-/// # use intervallum::proved::examples::*;
-/// # fn main() -> Result<(), std::boxed::Box<dyn std::error::Error>> {
-/// # let alloc = Global;
-/// assert_eq!(format!("{}", ItemFault::Length(3)).as_str(), "length 3");
-/// # Ok(())
-/// # }
+/// use intervallum::proved::examples::*;
+///
+/// fn main() -> Result<(), std::boxed::Box<dyn std::error::Error>> {
+///     let alloc = Global;
+///     assert_eq!(format!("{}", ItemFault::Length(3)).as_str(), "length 3");
+///     Ok(())
+/// }
 /// ```
 #[derive(Clone, Copy, Debug, PartialEq, Eq)]
 pub enum ItemFault {
@@ -46,13 +48,14 @@ impl core::error::Error for ItemFault {}
 /// Why `from_value` failed.
 ///
 /// ```
-/// # use intervallum::proved::examples::*;
-/// # fn main() -> Result<(), std::boxed::Box<dyn std::error::Error>> {
-/// # let alloc = Global;
-/// let fault = JsonFault::At(2, ItemFault::Range);
-/// assert_eq!(format!("{fault}").as_str(), "item 2: range");
-/// # Ok(())
-/// # }
+/// use intervallum::proved::examples::*;
+///
+/// fn main() -> Result<(), std::boxed::Box<dyn std::error::Error>> {
+///     let alloc = Global;
+///     let fault = JsonFault::At(2, ItemFault::Range);
+///     assert_eq!(format!("{fault}").as_str(), "item 2: range");
+///     Ok(())
+/// }
 /// ```
 #[derive(Clone, Copy, Debug, PartialEq, Eq)]
 pub enum JsonFault {
@@ -102,12 +105,13 @@ impl From<ItemFault> for JsonFault {
     /// Returns the same fault, for an interval that is not an item of a set.
     ///
     /// ```
-    /// # use intervallum::proved::examples::*;
-    /// # fn main() -> Result<(), std::boxed::Box<dyn std::error::Error>> {
-    /// # let alloc = Global;
-    /// assert_eq!(JsonFault::from(ItemFault::Length(3)), JsonFault::Length(3));
-    /// # Ok(())
-    /// # }
+    /// use intervallum::proved::examples::*;
+    ///
+    /// fn main() -> Result<(), std::boxed::Box<dyn std::error::Error>> {
+    ///     let alloc = Global;
+    ///     assert_eq!(JsonFault::from(ItemFault::Length(3)), JsonFault::Length(3));
+    ///     Ok(())
+    /// }
     /// ```
     fn from(fault: ItemFault) -> JsonFault {
         match fault {
@@ -128,12 +132,13 @@ impl From<AllocError> for JsonFault {
     /// Returns [`JsonFault::Memory`].
     ///
     /// ```
-    /// # use intervallum::proved::examples::*;
-    /// # fn main() -> Result<(), std::boxed::Box<dyn std::error::Error>> {
-    /// # let alloc = Global;
-    /// assert_eq!(JsonFault::from(AllocError), JsonFault::Memory);
-    /// # Ok(())
-    /// # }
+    /// use intervallum::proved::examples::*;
+    ///
+    /// fn main() -> Result<(), std::boxed::Box<dyn std::error::Error>> {
+    ///     let alloc = Global;
+    ///     assert_eq!(JsonFault::from(AllocError), JsonFault::Memory);
+    ///     Ok(())
+    /// }
     /// ```
     fn from(_error: AllocError) -> JsonFault {
         JsonFault::Memory

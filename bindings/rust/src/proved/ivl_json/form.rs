@@ -1,3 +1,4 @@
+// Written by bindings/rust/extract from crates/ivl_json/src/form.rt.
 //! The trait of types that have a JSON form.
 
 #[allow(unused_imports)]
@@ -12,15 +13,16 @@ use crate::rattle::std::alloc::{AllocError, Global};
 /// A JSON value is a `serde_json::Value`. Its `from_str` and `to_string` convert from and to text:
 ///
 /// ```
-/// # use intervallum::proved::examples::*;
-/// # fn main() -> Result<(), std::boxed::Box<dyn std::error::Error>> {
-/// # let alloc = Global;
-/// let value = Value::from_str("[[1, 3], [2, 8], null, [9, 4]]")?;
-/// let set = IntervalSet::<i32>::from_value(alloc, &value)?;
-/// assert!(set == IntervalSet::new(alloc, 1, 8)?);
-/// assert_eq!(set.to_value(alloc)?.to_string().as_str(), "[[1,8]]");
-/// # Ok(())
-/// # }
+/// use intervallum::proved::examples::*;
+///
+/// fn main() -> Result<(), std::boxed::Box<dyn std::error::Error>> {
+///     let alloc = Global;
+///     let value = Value::from_str("[[1, 3], [2, 8], null, [9, 4]]")?;
+///     let set = IntervalSet::<i32>::from_value(alloc, &value)?;
+///     assert!(set == IntervalSet::new(alloc, 1, 8)?);
+///     assert_eq!(set.to_value(alloc)?.to_string().as_str(), "[[1,8]]");
+///     Ok(())
+/// }
 /// ```
 ///
 /// # What is written
@@ -84,13 +86,14 @@ pub trait JsonForm: Sized {
     /// Fails only if allocation fails.
     ///
     /// ```
-    /// # use intervallum::proved::examples::*;
-    /// # fn main() -> Result<(), std::boxed::Box<dyn std::error::Error>> {
-    /// # let alloc = Global;
-    /// let value = Interval::new(3, 8).to_value(alloc)?;
-    /// assert_eq!(value.to_string().as_str(), "[3,8]");
-    /// # Ok(())
-    /// # }
+    /// use intervallum::proved::examples::*;
+    ///
+    /// fn main() -> Result<(), std::boxed::Box<dyn std::error::Error>> {
+    ///     let alloc = Global;
+    ///     let value = Interval::new(3, 8).to_value(alloc)?;
+    ///     assert_eq!(value.to_string().as_str(), "[3,8]");
+    ///     Ok(())
+    /// }
     /// ```
     ///
     /// # Proved
@@ -109,14 +112,15 @@ pub trait JsonForm: Sized {
     /// [`JsonFault::Memory`] if an allocation failed before a fault was met.
     ///
     /// ```
-    /// # use intervallum::proved::examples::*;
-    /// # fn main() -> Result<(), std::boxed::Box<dyn std::error::Error>> {
-    /// # let alloc = Global;
-    /// let value = Value::from_str("[255, 0]")?;
-    /// let read = Interval::<u8>::from_value(alloc, &value);
-    /// assert_eq!(read, Err(JsonFault::Range));
-    /// # Ok(())
-    /// # }
+    /// use intervallum::proved::examples::*;
+    ///
+    /// fn main() -> Result<(), std::boxed::Box<dyn std::error::Error>> {
+    ///     let alloc = Global;
+    ///     let value = Value::from_str("[255, 0]")?;
+    ///     let read = Interval::<u8>::from_value(alloc, &value);
+    ///     assert_eq!(read, Err(JsonFault::Range));
+    ///     Ok(())
+    /// }
     /// ```
     ///
     /// # Proved

@@ -1,3 +1,4 @@
+// Written by bindings/rust/extract from crates/ivl_json/src/intervals.rt.
 //! The JSON form of an interval.
 
 #[allow(unused_imports)]
@@ -26,13 +27,14 @@ impl<B: Width> JsonForm for Interval<B> {
     /// at most one allocation. Fails only if allocation fails.
     ///
     /// ```
-    /// # use intervallum::proved::examples::*;
-    /// # fn main() -> Result<(), std::boxed::Box<dyn std::error::Error>> {
-    /// # let alloc = Global;
-    /// let none = Interval::<i32>::empty().to_value(alloc)?;
-    /// assert_eq!(none.to_string().as_str(), "null");
-    /// # Ok(())
-    /// # }
+    /// use intervallum::proved::examples::*;
+    ///
+    /// fn main() -> Result<(), std::boxed::Box<dyn std::error::Error>> {
+    ///     let alloc = Global;
+    ///     let none = Interval::<i32>::empty().to_value(alloc)?;
+    ///     assert_eq!(none.to_string().as_str(), "null");
+    ///     Ok(())
+    /// }
     /// ```
     ///
     /// # Proved
@@ -47,14 +49,15 @@ impl<B: Width> JsonForm for Interval<B> {
     /// [`JsonFault::Memory`].
     ///
     /// ```
-    /// # use intervallum::proved::examples::*;
-    /// # fn main() -> Result<(), std::boxed::Box<dyn std::error::Error>> {
-    /// # let alloc = Global;
-    /// let value = Value::from_str("[10, 20, 30]")?;
-    /// let read = Interval::<i32>::from_value(alloc, &value);
-    /// assert_eq!(read, Err(JsonFault::Length(3)));
-    /// # Ok(())
-    /// # }
+    /// use intervallum::proved::examples::*;
+    ///
+    /// fn main() -> Result<(), std::boxed::Box<dyn std::error::Error>> {
+    ///     let alloc = Global;
+    ///     let value = Value::from_str("[10, 20, 30]")?;
+    ///     let read = Interval::<i32>::from_value(alloc, &value);
+    ///     assert_eq!(read, Err(JsonFault::Length(3)));
+    ///     Ok(())
+    /// }
     /// ```
     ///
     /// # Proved

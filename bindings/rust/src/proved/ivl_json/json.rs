@@ -1,3 +1,4 @@
+// Written by bindings/rust/extract from crates/ivl_json/src/json.rt.
 //! The trait of types that have a JSON form, and its errors.
 
 #[allow(unused_imports)]

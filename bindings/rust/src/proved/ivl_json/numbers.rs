@@ -1,3 +1,4 @@
+// Written by bindings/rust/extract from crates/ivl_json/src/numbers.rt.
 //! Bounds as JSON numbers.
 
 #[allow(unused_imports)]

@@ -1,3 +1,4 @@
+// Written by bindings/rust/extract from crates/ivl_json/src/sets.rt.
 //! The JSON form of a set.
 
 #[allow(unused_imports)]
@@ -26,14 +27,15 @@ impl<B: Width> JsonForm for IntervalSet<B> {
     /// one allocation for the array and one for each run. Fails only if allocation fails.
     ///
     /// ```
-    /// # use intervallum::proved::examples::*;
-    /// # fn main() -> Result<(), std::boxed::Box<dyn std::error::Error>> {
-    /// # let alloc = Global;
-    /// let set: IntervalSet<i32> = [(8, 9), (4, 4)].to_interval_set(alloc)?;
-    /// let text = set.to_value(alloc)?.to_string();
-    /// assert_eq!(text.as_str(), "[[4,4],[8,9]]");
-    /// # Ok(())
-    /// # }
+    /// use intervallum::proved::examples::*;
+    ///
+    /// fn main() -> Result<(), std::boxed::Box<dyn std::error::Error>> {
+    ///     let alloc = Global;
+    ///     let set: IntervalSet<i32> = [(8, 9), (4, 4)].to_interval_set(alloc)?;
+    ///     let text = set.to_value(alloc)?.to_string();
+    ///     assert_eq!(text.as_str(), "[[4,4],[8,9]]");
+    ///     Ok(())
+    /// }
     /// ```
     ///
     /// # Proved
@@ -47,14 +49,15 @@ impl<B: Width> JsonForm for IntervalSet<B> {
     /// intervals for the list, and as many for the set unless the sorted list is its runs.
     ///
     /// ```
-    /// # use intervallum::proved::examples::*;
-    /// # fn main() -> Result<(), std::boxed::Box<dyn std::error::Error>> {
-    /// # let alloc = Global;
-    /// let value = Value::from_str("[[1, 2], [3]]")?;
-    /// let read = IntervalSet::<i32>::from_value(alloc, &value);
-    /// assert_eq!(read.err(), Some(JsonFault::At(1, ItemFault::Length(1))));
-    /// # Ok(())
-    /// # }
+    /// use intervallum::proved::examples::*;
+    ///
+    /// fn main() -> Result<(), std::boxed::Box<dyn std::error::Error>> {
+    ///     let alloc = Global;
+    ///     let value = Value::from_str("[[1, 2], [3]]")?;
+    ///     let read = IntervalSet::<i32>::from_value(alloc, &value);
+    ///     assert_eq!(read.err(), Some(JsonFault::At(1, ItemFault::Length(1))));
+    ///     Ok(())
+    /// }
     /// ```
     ///
     /// # Proved

@@ -1,3 +1,4 @@
+// Written by bindings/rust/extract from crates/ivl_paged/src/page.rt.
 //! One page: a few of the runs of a set.
 
 #[allow(unused_imports)]

@@ -1,3 +1,4 @@
+// Written by bindings/rust/extract from crates/ivl_paged/src/page_list.rt.
 //! The pages of a set, in order, beside a list of their least members.
 
 #[allow(unused_imports)]

@@ -1,3 +1,4 @@
+// Written by bindings/rust/extract from crates/ivl_paged/src/page_search.rt.
 //! The search among the runs of a page.
 //!
 //! A binary search waits for each run that it looks at before it knows the next one. Here the runs that

@@ -1,3 +1,4 @@
+// Written by bindings/rust/extract from crates/ivl_paged/src/paged_set.rt.
 //! A set of integers whose runs stand in pages.
 
 #[allow(unused_imports)]
@@ -35,15 +36,16 @@ use crate::rattle::std::alloc::{AllocError, Global};
 /// If an allocation fails, the set is unchanged.
 ///
 /// ```
-/// # use intervallum::proved::examples::*;
-/// # fn main() -> Result<(), std::boxed::Box<dyn std::error::Error>> {
-/// # let alloc = Global;
-/// let mut a = PagedSet::new(alloc);
-/// a.insert_interval(Interval::new(1, 5))?;
-/// assert!(a.remove(3)? && a.insert(9)?);
-/// assert!(a.to_set()? == [(1, 2), (4, 5), (9, 9)].to_interval_set(alloc)?);
-/// # Ok(())
-/// # }
+/// use intervallum::proved::examples::*;
+///
+/// fn main() -> Result<(), std::boxed::Box<dyn std::error::Error>> {
+///     let alloc = Global;
+///     let mut a = PagedSet::new(alloc);
+///     a.insert_interval(Interval::new(1, 5))?;
+///     assert!(a.remove(3)? && a.insert(9)?);
+///     assert!(a.to_set()? == [(1, 2), (4, 5), (9, 9)].to_interval_set(alloc)?);
+///     Ok(())
+/// }
 /// ```
 pub struct PagedSet<B: Width> {
     alloc: Global,
@@ -56,12 +58,13 @@ impl<B: Width> PagedSet<B> {
     /// Returns the empty set. `O(1)`. Does not allocate.
     ///
     /// ```
-    /// # use intervallum::proved::examples::*;
-    /// # fn main() -> Result<(), std::boxed::Box<dyn std::error::Error>> {
-    /// # let alloc = Global;
-    /// assert!(PagedSet::<i64>::new(alloc).is_empty());
-    /// # Ok(())
-    /// # }
+    /// use intervallum::proved::examples::*;
+    ///
+    /// fn main() -> Result<(), std::boxed::Box<dyn std::error::Error>> {
+    ///     let alloc = Global;
+    ///     assert!(PagedSet::<i64>::new(alloc).is_empty());
+    ///     Ok(())
+    /// }
     /// ```
     ///
     /// # Proved
@@ -81,13 +84,14 @@ impl<B: Width> PagedSet<B> {
     /// have room for 128. `O(n)`. Fails only if allocation fails.
     ///
     /// ```
-    /// # use intervallum::proved::examples::*;
-    /// # fn main() -> Result<(), std::boxed::Box<dyn std::error::Error>> {
-    /// # let alloc = Global;
-    /// let list: IntervalSet<i32> = [(1, 2), (5, 6)].to_interval_set(alloc)?;
-    /// assert!(PagedSet::of_set(&list)?.to_set()? == list);
-    /// # Ok(())
-    /// # }
+    /// use intervallum::proved::examples::*;
+    ///
+    /// fn main() -> Result<(), std::boxed::Box<dyn std::error::Error>> {
+    ///     let alloc = Global;
+    ///     let list: IntervalSet<i32> = [(1, 2), (5, 6)].to_interval_set(alloc)?;
+    ///     assert!(PagedSet::of_set(&list)?.to_set()? == list);
+    ///     Ok(())
+    /// }
     /// ```
     ///
     /// # Proved
@@ -110,15 +114,16 @@ impl<B: Width> PagedSet<B> {
     /// Returns true exactly when the set has no members. `O(1)`. Does not allocate.
     ///
     /// ```
-    /// # use intervallum::proved::examples::*;
-    /// # fn main() -> Result<(), std::boxed::Box<dyn std::error::Error>> {
-    /// # let alloc = Global;
-    /// let mut a = PagedSet::new(alloc);
-    /// assert!(a.is_empty());
-    /// a.insert(5)?;
-    /// assert!(!a.is_empty());
-    /// # Ok(())
-    /// # }
+    /// use intervallum::proved::examples::*;
+    ///
+    /// fn main() -> Result<(), std::boxed::Box<dyn std::error::Error>> {
+    ///     let alloc = Global;
+    ///     let mut a = PagedSet::new(alloc);
+    ///     assert!(a.is_empty());
+    ///     a.insert(5)?;
+    ///     assert!(!a.is_empty());
+    ///     Ok(())
+    /// }
     /// ```
     ///
     /// # Proved
@@ -142,14 +147,15 @@ impl<B: Width> PagedSet<B> {
     /// Does not allocate.
     ///
     /// ```
-    /// # use intervallum::proved::examples::*;
-    /// # fn main() -> Result<(), std::boxed::Box<dyn std::error::Error>> {
-    /// # let alloc = Global;
-    /// let mut a = PagedSet::new(alloc);
-    /// a.insert(5)?;
-    /// assert!(a.contains(&5) && !a.contains(&3));
-    /// # Ok(())
-    /// # }
+    /// use intervallum::proved::examples::*;
+    ///
+    /// fn main() -> Result<(), std::boxed::Box<dyn std::error::Error>> {
+    ///     let alloc = Global;
+    ///     let mut a = PagedSet::new(alloc);
+    ///     a.insert(5)?;
+    ///     assert!(a.contains(&5) && !a.contains(&3));
+    ///     Ok(())
+    /// }
     /// ```
     ///
     /// # Proved
@@ -180,14 +186,15 @@ impl<B: Width> PagedSet<B> {
     /// Fails only if allocation fails. The set is then unchanged.
     ///
     /// ```
-    /// # use intervallum::proved::examples::*;
-    /// # fn main() -> Result<(), std::boxed::Box<dyn std::error::Error>> {
-    /// # let alloc = Global;
-    /// let mut a = PagedSet::new(alloc);
-    /// assert!(Interval::in_range(3, 3), "it is in the range");
-    /// assert!(a.insert(3)? && !a.insert(3)?);
-    /// # Ok(())
-    /// # }
+    /// use intervallum::proved::examples::*;
+    ///
+    /// fn main() -> Result<(), std::boxed::Box<dyn std::error::Error>> {
+    ///     let alloc = Global;
+    ///     let mut a = PagedSet::new(alloc);
+    ///     assert!(Interval::in_range(3, 3), "it is in the range");
+    ///     assert!(a.insert(3)? && !a.insert(3)?);
+    ///     Ok(())
+    /// }
     /// ```
     ///
     /// # Proved
@@ -216,14 +223,15 @@ impl<B: Width> PagedSet<B> {
     /// Fails only if allocation fails. The set is then unchanged.
     ///
     /// ```
-    /// # use intervallum::proved::examples::*;
-    /// # fn main() -> Result<(), std::boxed::Box<dyn std::error::Error>> {
-    /// # let alloc = Global;
-    /// let mut a = PagedSet::new(alloc);
-    /// a.insert(3)?;
-    /// assert!(a.remove(3)? && !a.remove(3)?);
-    /// # Ok(())
-    /// # }
+    /// use intervallum::proved::examples::*;
+    ///
+    /// fn main() -> Result<(), std::boxed::Box<dyn std::error::Error>> {
+    ///     let alloc = Global;
+    ///     let mut a = PagedSet::new(alloc);
+    ///     a.insert(3)?;
+    ///     assert!(a.remove(3)? && !a.remove(3)?);
+    ///     Ok(())
+    /// }
     /// ```
     ///
     /// # Proved
@@ -254,14 +262,15 @@ impl<B: Width> PagedSet<B> {
     /// Fails only if allocation fails. The set is then unchanged.
     ///
     /// ```
-    /// # use intervallum::proved::examples::*;
-    /// # fn main() -> Result<(), std::boxed::Box<dyn std::error::Error>> {
-    /// # let alloc = Global;
-    /// let mut a = PagedSet::new(alloc);
-    /// a.insert_interval(Interval::new(3, 8))?;
-    /// assert!(a.contains(&3) && a.contains(&8) && !a.contains(&9));
-    /// # Ok(())
-    /// # }
+    /// use intervallum::proved::examples::*;
+    ///
+    /// fn main() -> Result<(), std::boxed::Box<dyn std::error::Error>> {
+    ///     let alloc = Global;
+    ///     let mut a = PagedSet::new(alloc);
+    ///     a.insert_interval(Interval::new(3, 8))?;
+    ///     assert!(a.contains(&3) && a.contains(&8) && !a.contains(&9));
+    ///     Ok(())
+    /// }
     /// ```
     ///
     /// # Proved
@@ -305,15 +314,16 @@ impl<B: Width> PagedSet<B> {
     /// Fails only if allocation fails. The set is then unchanged.
     ///
     /// ```
-    /// # use intervallum::proved::examples::*;
-    /// # fn main() -> Result<(), std::boxed::Box<dyn std::error::Error>> {
-    /// # let alloc = Global;
-    /// let mut a = PagedSet::new(alloc);
-    /// a.insert_interval(Interval::new(1, 9))?;
-    /// a.remove_interval(Interval::new(3, 8))?;
-    /// assert!(a.contains(&2) && !a.contains(&3) && a.contains(&9));
-    /// # Ok(())
-    /// # }
+    /// use intervallum::proved::examples::*;
+    ///
+    /// fn main() -> Result<(), std::boxed::Box<dyn std::error::Error>> {
+    ///     let alloc = Global;
+    ///     let mut a = PagedSet::new(alloc);
+    ///     a.insert_interval(Interval::new(1, 9))?;
+    ///     a.remove_interval(Interval::new(3, 8))?;
+    ///     assert!(a.contains(&2) && !a.contains(&3) && a.contains(&9));
+    ///     Ok(())
+    /// }
     /// ```
     ///
     /// # Proved
@@ -350,15 +360,16 @@ impl<B: Width> PagedSet<B> {
     /// runs. Never fails.
     ///
     /// ```
-    /// # use intervallum::proved::examples::*;
-    /// # fn main() -> Result<(), std::boxed::Box<dyn std::error::Error>> {
-    /// # let alloc = Global;
-    /// let mut a = PagedSet::new(alloc);
-    /// a.insert_interval(Interval::new(1, 5))?;
-    /// assert_eq!(a.pop_first(), Some(1));
-    /// assert!(!a.contains(&1) && a.contains(&2));
-    /// # Ok(())
-    /// # }
+    /// use intervallum::proved::examples::*;
+    ///
+    /// fn main() -> Result<(), std::boxed::Box<dyn std::error::Error>> {
+    ///     let alloc = Global;
+    ///     let mut a = PagedSet::new(alloc);
+    ///     a.insert_interval(Interval::new(1, 5))?;
+    ///     assert_eq!(a.pop_first(), Some(1));
+    ///     assert!(!a.contains(&1) && a.contains(&2));
+    ///     Ok(())
+    /// }
     /// ```
     ///
     /// # Proved
@@ -386,15 +397,16 @@ impl<B: Width> PagedSet<B> {
     /// Never fails.
     ///
     /// ```
-    /// # use intervallum::proved::examples::*;
-    /// # fn main() -> Result<(), std::boxed::Box<dyn std::error::Error>> {
-    /// # let alloc = Global;
-    /// let mut a = PagedSet::new(alloc);
-    /// a.insert_interval(Interval::new(1, 5))?;
-    /// assert_eq!(a.pop_last(), Some(5));
-    /// assert!(!a.contains(&5) && a.contains(&4));
-    /// # Ok(())
-    /// # }
+    /// use intervallum::proved::examples::*;
+    ///
+    /// fn main() -> Result<(), std::boxed::Box<dyn std::error::Error>> {
+    ///     let alloc = Global;
+    ///     let mut a = PagedSet::new(alloc);
+    ///     a.insert_interval(Interval::new(1, 5))?;
+    ///     assert_eq!(a.pop_last(), Some(5));
+    ///     assert!(!a.contains(&5) && a.contains(&4));
+    ///     Ok(())
+    /// }
     /// ```
     ///
     /// # Proved
@@ -423,15 +435,16 @@ impl<B: Width> PagedSet<B> {
     /// Does not allocate.
     ///
     /// ```
-    /// # use intervallum::proved::examples::*;
-    /// # fn main() -> Result<(), std::boxed::Box<dyn std::error::Error>> {
-    /// # let alloc = Global;
-    /// let mut a = PagedSet::new(alloc);
-    /// a.insert_interval(Interval::new(1, 9))?;
-    /// a.clear();
-    /// assert!(a.is_empty());
-    /// # Ok(())
-    /// # }
+    /// use intervallum::proved::examples::*;
+    ///
+    /// fn main() -> Result<(), std::boxed::Box<dyn std::error::Error>> {
+    ///     let alloc = Global;
+    ///     let mut a = PagedSet::new(alloc);
+    ///     a.insert_interval(Interval::new(1, 9))?;
+    ///     a.clear();
+    ///     assert!(a.is_empty());
+    ///     Ok(())
+    /// }
     /// ```
     ///
     /// # Proved
@@ -447,14 +460,15 @@ impl<B: Width> PagedSet<B> {
     /// Does nothing: its contract states that the runs are maximal and in the range.
     ///
     /// ```
-    /// # use intervallum::proved::examples::*;
-    /// # fn main() -> Result<(), std::boxed::Box<dyn std::error::Error>> {
-    /// # let alloc = Global;
-    /// let a = PagedSet::<i32>::new(alloc);
-    /// a.in_whole(); // a proof knows from here on that the members of `a` are in the range
-    /// assert!(!a.contains(&i32::MIN));
-    /// # Ok(())
-    /// # }
+    /// use intervallum::proved::examples::*;
+    ///
+    /// fn main() -> Result<(), std::boxed::Box<dyn std::error::Error>> {
+    ///     let alloc = Global;
+    ///     let a = PagedSet::<i32>::new(alloc);
+    ///     a.in_whole(); // a proof knows from here on that the members of `a` are in the range
+    ///     assert!(!a.contains(&i32::MIN));
+    ///     Ok(())
+    /// }
     /// ```
     ///
     /// # Proved
@@ -472,14 +486,15 @@ impl<B: Width> PagedSet<B> {
     /// if allocation fails.
     ///
     /// ```
-    /// # use intervallum::proved::examples::*;
-    /// # fn main() -> Result<(), std::boxed::Box<dyn std::error::Error>> {
-    /// # let alloc = Global;
-    /// let mut a = PagedSet::new(alloc);
-    /// a.insert_interval(Interval::new(1, 9))?;
-    /// assert!(a.to_set()? == IntervalSet::new(alloc, 1, 9)?);
-    /// # Ok(())
-    /// # }
+    /// use intervallum::proved::examples::*;
+    ///
+    /// fn main() -> Result<(), std::boxed::Box<dyn std::error::Error>> {
+    ///     let alloc = Global;
+    ///     let mut a = PagedSet::new(alloc);
+    ///     a.insert_interval(Interval::new(1, 9))?;
+    ///     assert!(a.to_set()? == IntervalSet::new(alloc, 1, 9)?);
+    ///     Ok(())
+    /// }
     /// ```
     ///
     /// # Proved

@@ -1,3 +1,4 @@
+// Written by bindings/rust/extract from crates/ivl_paged/src/pages.rt.
 //! Searches and edits in a list of pages, which together hold one list of runs.
 
 #[allow(unused_imports)]

@@ -1,3 +1,4 @@
+// Written by bindings/rust/extract from crates/ivl_search/src/search.rt.
 //! Searches for the points that solve constraints `x + y = z` over finite domains.
 //!
 //! A point gives each variable, named by its index from 0, a number of its domain; it is a solution
@@ -7,8 +8,10 @@
 //!
 //! The search narrows the domains by the constraints, takes the smallest domain that has two members
 //! or more, the first of these if there are several, and cuts it in two: the least member and the
-//! others, or halves if it has more than 64. It searches the lower part first. The order in which
-//! solutions are found is no part of the contract.
+//! others, or halves if it has more than 64. It searches the lower part first; [`greatest`] cuts off
+//! the greatest member, and searches the upper part first. The cuts on the way from the root are a
+//! list in memory, so the stack does not grow with them. The order in which solutions are found is no
+//! part of the contract.
 
 #[allow(unused_imports)]
 use crate::rattle::prelude::*;
@@ -23,8 +26,9 @@ mod optimum;
 mod setup;
 mod steps;
 
+use choice::Wanted;
 use descent::{Kept, search};
-use optimum::{Wanted, best_at};
+use optimum::best_at;
 use setup::{first_unknown, network_of};
 
 /// How many narrowings one node takes at most. A caller with a budget of narrowings divides it by
@@ -49,8 +53,7 @@ pub enum End {
     All,
     /// So many solutions are found as the limit allows. There may be others.
     Solutions,
-    /// So many nodes are visited as the limit allows, or a branch is 4,000 cuts deep. There may be
-    /// other solutions.
+    /// So many nodes are visited as the limit allows. There may be other solutions.
     Nodes,
 }
 
@@ -114,8 +117,11 @@ impl From<AllocError> for SearchFault {
 /// The caller must ensure that each constraint has three different variables. Check with
 /// [`Constraint::distinct`], or [`all_distinct`] for a list.
 ///
+/// Returns [`End::Nodes`] only if `limits.nodes` is less than `(2 p - 1) * (c / 500 + 1)` for `c`
+/// constraints, where `p` is the product of the sizes of the domains, or 1 if that is 0.
+///
 /// Copies the domains once. Each node costs its narrowings and a pass over the domains; memory is
-/// that of the solutions and of the domains that one branch replaces.
+/// that of the solutions, of the domains that one branch replaces, and of the cuts of the branch.
 ///
 /// # Errors
 ///
@@ -123,19 +129,20 @@ impl From<AllocError> for SearchFault {
 /// [`SearchFault::Memory`] if allocation fails.
 ///
 /// ```
-/// # use intervallum::proved::examples::*;
-/// # fn main() -> Result<(), std::boxed::Box<dyn std::error::Error>> {
-/// # let alloc = Global;
-/// // x + y = z, for x and y from 0 to 2 and z 3 or 4: three points
-/// let low = IntervalSet::new(alloc, 0, 2)?;
-/// let domains = Vec::from_array(alloc, [ low.try_clone()?, low, IntervalSet::new(alloc, 3, 4)?])?;
-/// let constraints = [Constraint { x: 0, y: 1, z: 2 }];
-/// let limits = Limits { solutions: 100, nodes: 100_000 };
-/// let found = solutions(alloc, &domains, &constraints, limits)?;
-/// assert_eq!(found.end, End::All);
-/// assert_eq!(found.points.len(), 3);
-/// # Ok(())
-/// # }
+/// use intervallum::proved::examples::*;
+///
+/// fn main() -> Result<(), std::boxed::Box<dyn std::error::Error>> {
+///     let alloc = Global;
+///     // x + y = z, for x and y from 0 to 2 and z 3 or 4: three points
+///     let low = IntervalSet::new(alloc, 0, 2)?;
+///     let domains = Vec::from_array(alloc, [ low.try_clone()?, low, IntervalSet::new(alloc, 3, 4)?])?;
+///     let constraints = [Constraint { x: 0, y: 1, z: 2 }];
+///     let limits = Limits { solutions: 100, nodes: 100_000 };
+///     let found = solutions(alloc, &domains, &constraints, limits)?;
+///     assert_eq!(found.end, End::All);
+///     assert_eq!(found.points.len(), 3);
+///     Ok(())
+/// }
 /// ```
 ///
 /// # Proved
@@ -148,9 +155,10 @@ impl From<AllocError> for SearchFault {
 /// ensures complete { IfOk result (λ found. found.end ≡ End.All → (point : List ℤ) → Solves constraints.now domains.now point → Contains (map (λ point. map B.value point.items) found.points.items) point) }
 /// ensures bounded { IfOk result (λ found. length found.points.items ≤ limits.solutions) }
 /// ensures full { IfOk result (λ found. found.end ≡ End.Solutions → length found.points.items ≡ limits.solutions) }
+/// ensures enough { IfOk result (λ found. found.end ≡ End.Nodes → limits.nodes < nodes_enough B.whole constraints.now domains.now) }
 /// ```
 ///
-/// Words: [`AreDistinct`](crate::definitions#AreDistinct), [`first_unknown_of`](crate::definitions#first_unknown_of), [`Solves`](crate::definitions#Solves), [`EachOnce`](crate::definitions#EachOnce).
+/// Words: [`AreDistinct`](crate::definitions#AreDistinct), [`first_unknown_of`](crate::definitions#first_unknown_of), [`Solves`](crate::definitions#Solves), [`EachOnce`](crate::definitions#EachOnce), [`nodes_enough`](crate::definitions#nodes_enough).
 pub fn solutions<B: Width>(
     alloc: Global,
     domains: &[IntervalSet<B>],
@@ -168,7 +176,7 @@ pub fn solutions<B: Width>(
         is_kept: true,
         points,
     };
-    let end = search(alloc, &mut network, DEPTH, &mut left, &mut found)?;
+    let end = search(alloc, &mut network, Wanted::Least, &mut left, &mut found)?;
     Ok(Found {
         points: found.points,
         end,
@@ -192,9 +200,10 @@ pub fn solutions<B: Width>(
 /// ensures complete { IfOk result (λ o. IfSome o (λ found. found.end ≡ End.All → (point : List ℤ) → Solves constraints.now domains.now point → Contains (map (λ point. map B.value point.items) found.points.items) point)) }
 /// ensures bounded { IfOk result (λ o. IfSome o (λ found. length found.points.items ≤ limits.solutions)) }
 /// ensures full { IfOk result (λ o. IfSome o (λ found. found.end ≡ End.Solutions → length found.points.items ≡ limits.solutions)) }
+/// ensures enough { IfOk result (λ o. IfSome o (λ found. found.end ≡ End.Nodes → limits.nodes < nodes_enough B.whole constraints.now domains.now)) }
 /// ```
 ///
-/// Words: [`AreDistinct`](crate::definitions#AreDistinct), [`first_unknown_of`](crate::definitions#first_unknown_of), [`Solves`](crate::definitions#Solves), [`EachOnce`](crate::definitions#EachOnce).
+/// Words: [`AreDistinct`](crate::definitions#AreDistinct), [`first_unknown_of`](crate::definitions#first_unknown_of), [`Solves`](crate::definitions#Solves), [`EachOnce`](crate::definitions#EachOnce), [`nodes_enough`](crate::definitions#nodes_enough).
 pub fn try_solutions<B: Width>(
     alloc: Global,
     domains: &[IntervalSet<B>],
@@ -215,13 +224,14 @@ pub fn try_solutions<B: Width>(
 /// to [`solutions`] and [`count`]. Linear, does not allocate.
 ///
 /// ```
-/// # use intervallum::proved::examples::*;
-/// # fn main() -> Result<(), std::boxed::Box<dyn std::error::Error>> {
-/// # let alloc = Global;
-/// assert!(all_distinct(&[Constraint { x: 0, y: 1, z: 2 }]));
-/// assert!(!all_distinct(&[Constraint { x: 0, y: 1, z: 2 }, Constraint { x: 0, y: 0, z: 2 }]));
-/// # Ok(())
-/// # }
+/// use intervallum::proved::examples::*;
+///
+/// fn main() -> Result<(), std::boxed::Box<dyn std::error::Error>> {
+///     let alloc = Global;
+///     assert!(all_distinct(&[Constraint { x: 0, y: 1, z: 2 }]));
+///     assert!(!all_distinct(&[Constraint { x: 0, y: 1, z: 2 }, Constraint { x: 0, y: 0, z: 2 }]));
+///     Ok(())
+/// }
 /// ```
 ///
 /// # Proved
@@ -247,17 +257,18 @@ pub fn all_distinct(constraints: &[Constraint]) -> bool {
 /// Those of [`solutions`].
 ///
 /// ```
-/// # use intervallum::proved::examples::*;
-/// # fn main() -> Result<(), std::boxed::Box<dyn std::error::Error>> {
-/// # let alloc = Global;
-/// // x + y = z, for x and y from 0 to 2 and z 3 or 4: three points
-/// let low = IntervalSet::new(alloc, 0, 2)?;
-/// let domains = Vec::from_array(alloc, [ low.try_clone()?, low, IntervalSet::new(alloc, 3, 4)?])?;
-/// let constraints = [Constraint { x: 0, y: 1, z: 2 }];
-/// let limits = Limits { solutions: 100, nodes: 100_000 };
-/// assert_eq!(count(alloc, &domains, &constraints, limits)?, (3, End::All));
-/// # Ok(())
-/// # }
+/// use intervallum::proved::examples::*;
+///
+/// fn main() -> Result<(), std::boxed::Box<dyn std::error::Error>> {
+///     let alloc = Global;
+///     // x + y = z, for x and y from 0 to 2 and z 3 or 4: three points
+///     let low = IntervalSet::new(alloc, 0, 2)?;
+///     let domains = Vec::from_array(alloc, [ low.try_clone()?, low, IntervalSet::new(alloc, 3, 4)?])?;
+///     let constraints = [Constraint { x: 0, y: 1, z: 2 }];
+///     let limits = Limits { solutions: 100, nodes: 100_000 };
+///     assert_eq!(count(alloc, &domains, &constraints, limits)?, (3, End::All));
+///     Ok(())
+/// }
 /// ```
 ///
 /// # Proved
@@ -268,9 +279,10 @@ pub fn all_distinct(constraints: &[Constraint]) -> bool {
 /// ensures counted { IfOk result (λ r. (points : List (List ℤ)) × (length points ≡ r.0) × Finds (Solves constraints.now domains.now) points r.1) }
 /// ensures bounded { IfOk result (λ r. r.0 ≤ limits.solutions) }
 /// ensures full { IfOk result (λ r. r.1 ≡ End.Solutions → r.0 ≡ limits.solutions) }
+/// ensures enough { IfOk result (λ r. r.1 ≡ End.Nodes → limits.nodes < nodes_enough B.whole constraints.now domains.now) }
 /// ```
 ///
-/// Words: [`AreDistinct`](crate::definitions#AreDistinct), [`first_unknown_of`](crate::definitions#first_unknown_of), [`Finds`](crate::definitions#Finds), [`Solves`](crate::definitions#Solves).
+/// Words: [`AreDistinct`](crate::definitions#AreDistinct), [`first_unknown_of`](crate::definitions#first_unknown_of), [`Finds`](crate::definitions#Finds), [`Solves`](crate::definitions#Solves), [`nodes_enough`](crate::definitions#nodes_enough).
 pub fn count<B: Width>(
     alloc: Global,
     domains: &[IntervalSet<B>],
@@ -287,7 +299,7 @@ pub fn count<B: Width>(
         is_kept: false,
         points: Vec::new(alloc),
     };
-    let end = search(alloc, &mut network, DEPTH, &mut left, &mut found)?;
+    let end = search(alloc, &mut network, Wanted::Least, &mut left, &mut found)?;
     Ok((limits.solutions - left.solutions, end))
 }
 
@@ -305,7 +317,10 @@ pub fn count<B: Width>(
 /// Copies the domains once. Each search looks for one solution among the lower half of the numbers
 /// that the variable can still have; then these are cut to what is below it, or to the upper half if
 /// there is none. So there are at most 64 searches, which share the nodes. Memory is that of two
-/// solutions and of the domains that one branch replaces.
+/// solutions, of the domains that one branch replaces, and of the cuts of the branch.
+///
+/// Returns [`End::Nodes`] only if `limits.nodes` is at most `2 p * (c / 500 + 1)`, with `p` and `c`
+/// as for [`solutions`].
 ///
 /// # Errors
 ///
@@ -313,19 +328,20 @@ pub fn count<B: Width>(
 /// constraints, or else `variable`. [`SearchFault::Memory`] if allocation fails.
 ///
 /// ```
-/// # use intervallum::proved::examples::*;
-/// # fn main() -> Result<(), std::boxed::Box<dyn std::error::Error>> {
-/// # let alloc = Global;
-/// // x + y = z, for x and y from 0 to 2 and z 3 or 4: the least y is 1, in 2 + 1 = 3
-/// let low = IntervalSet::new(alloc, 0, 2)?;
-/// let domains = Vec::from_array(alloc, [ low.try_clone()?, low, IntervalSet::new(alloc, 3, 4)?])?;
-/// let constraints = [Constraint { x: 0, y: 1, z: 2 }];
-/// let limits = Limits { solutions: 100, nodes: 100_000 };
-/// let best = least(alloc, &domains, &constraints, 1, limits)?;
-/// assert_eq!(best.end, End::All);
-/// assert!(best.point.is_some_and(|point| point.as_slice() == [2, 1, 3].as_slice()));
-/// # Ok(())
-/// # }
+/// use intervallum::proved::examples::*;
+///
+/// fn main() -> Result<(), std::boxed::Box<dyn std::error::Error>> {
+///     let alloc = Global;
+///     // x + y = z, for x and y from 0 to 2 and z 3 or 4: the least y is 1, in 2 + 1 = 3
+///     let low = IntervalSet::new(alloc, 0, 2)?;
+///     let domains = Vec::from_array(alloc, [ low.try_clone()?, low, IntervalSet::new(alloc, 3, 4)?])?;
+///     let constraints = [Constraint { x: 0, y: 1, z: 2 }];
+///     let limits = Limits { solutions: 100, nodes: 100_000 };
+///     let best = least(alloc, &domains, &constraints, 1, limits)?;
+///     assert_eq!(best.end, End::All);
+///     assert!(best.point.is_some_and(|point| point.as_slice() == [2, 1, 3].as_slice()));
+///     Ok(())
+/// }
 /// ```
 ///
 /// # Proved
@@ -337,9 +353,10 @@ pub fn count<B: Width>(
 /// ensures best { IfOk result (λ best. best.end ≡ End.All → IfSome best.point (λ point. IsLeastAt variable (Solves constraints.now domains.now) (map B.value point.items))) }
 /// ensures none { IfOk result (λ best. best.end ≡ End.All → IfNone best.point ((point : List ℤ) → ¬ (Solves constraints.now domains.now point))) }
 /// ensures full { IfOk result (λ best. best.end ≡ End.Solutions → IfNone best.point (limits.solutions ≡ 0)) }
+/// ensures enough { IfOk result (λ best. best.end ≡ End.Nodes → limits.nodes < nodes_for_best B.whole constraints.now domains.now) }
 /// ```
 ///
-/// Words: [`AreDistinct`](crate::definitions#AreDistinct), [`first_unknown_or`](crate::definitions#first_unknown_or), [`Solves`](crate::definitions#Solves), [`IsLeastAt`](crate::definitions#IsLeastAt).
+/// Words: [`AreDistinct`](crate::definitions#AreDistinct), [`first_unknown_or`](crate::definitions#first_unknown_or), [`Solves`](crate::definitions#Solves), [`IsLeastAt`](crate::definitions#IsLeastAt), [`nodes_for_best`](crate::definitions#nodes_for_best).
 pub fn least<B: Width>(
     alloc: Global,
     domains: &[IntervalSet<B>],
@@ -352,7 +369,8 @@ pub fn least<B: Width>(
 }
 
 /// Returns a solution in which a variable has its greatest number, as [`least`] does one with its
-/// least: no solution gives it a greater one.
+/// least: no solution gives it a greater one. Searches greater numbers first, of every variable, and
+/// so visits as many nodes as [`least`] does where all numbers have the other sign.
 ///
 /// The caller must ensure that each constraint has three different variables. Check with
 /// [`Constraint::distinct`], or [`all_distinct`] for a list.
@@ -362,19 +380,20 @@ pub fn least<B: Width>(
 /// Those of [`least`].
 ///
 /// ```
-/// # use intervallum::proved::examples::*;
-/// # fn main() -> Result<(), std::boxed::Box<dyn std::error::Error>> {
-/// # let alloc = Global;
-/// // x + y = z, for x and y from 0 to 2 and z 3 or 4: the greatest z is 4, in 2 + 2 = 4
-/// let low = IntervalSet::new(alloc, 0, 2)?;
-/// let domains = Vec::from_array(alloc, [ low.try_clone()?, low, IntervalSet::new(alloc, 3, 4)?])?;
-/// let constraints = [Constraint { x: 0, y: 1, z: 2 }];
-/// let limits = Limits { solutions: 100, nodes: 100_000 };
-/// let best = greatest(alloc, &domains, &constraints, 2, limits)?;
-/// assert_eq!(best.end, End::All);
-/// assert!(best.point.is_some_and(|point| point.as_slice() == [2, 2, 4].as_slice()));
-/// # Ok(())
-/// # }
+/// use intervallum::proved::examples::*;
+///
+/// fn main() -> Result<(), std::boxed::Box<dyn std::error::Error>> {
+///     let alloc = Global;
+///     // x + y = z, for x and y from 0 to 2 and z 3 or 4: the greatest z is 4, in 2 + 2 = 4
+///     let low = IntervalSet::new(alloc, 0, 2)?;
+///     let domains = Vec::from_array(alloc, [ low.try_clone()?, low, IntervalSet::new(alloc, 3, 4)?])?;
+///     let constraints = [Constraint { x: 0, y: 1, z: 2 }];
+///     let limits = Limits { solutions: 100, nodes: 100_000 };
+///     let best = greatest(alloc, &domains, &constraints, 2, limits)?;
+///     assert_eq!(best.end, End::All);
+///     assert!(best.point.is_some_and(|point| point.as_slice() == [2, 2, 4].as_slice()));
+///     Ok(())
+/// }
 /// ```
 ///
 /// # Proved
@@ -386,9 +405,10 @@ pub fn least<B: Width>(
 /// ensures best { IfOk result (λ best. best.end ≡ End.All → IfSome best.point (λ point. IsGreatestAt variable (Solves constraints.now domains.now) (map B.value point.items))) }
 /// ensures none { IfOk result (λ best. best.end ≡ End.All → IfNone best.point ((point : List ℤ) → ¬ (Solves constraints.now domains.now point))) }
 /// ensures full { IfOk result (λ best. best.end ≡ End.Solutions → IfNone best.point (limits.solutions ≡ 0)) }
+/// ensures enough { IfOk result (λ best. best.end ≡ End.Nodes → limits.nodes < nodes_for_best B.whole constraints.now domains.now) }
 /// ```
 ///
-/// Words: [`AreDistinct`](crate::definitions#AreDistinct), [`first_unknown_or`](crate::definitions#first_unknown_or), [`Solves`](crate::definitions#Solves), [`IsGreatestAt`](crate::definitions#IsGreatestAt).
+/// Words: [`AreDistinct`](crate::definitions#AreDistinct), [`first_unknown_or`](crate::definitions#first_unknown_or), [`Solves`](crate::definitions#Solves), [`IsGreatestAt`](crate::definitions#IsGreatestAt), [`nodes_for_best`](crate::definitions#nodes_for_best).
 pub fn greatest<B: Width>(
     alloc: Global,
     domains: &[IntervalSet<B>],
@@ -406,6 +426,3 @@ pub fn greatest<B: Width>(
         Wanted::Greatest,
     )
 }
-
-// A branch is cut at most so often, so that no call overflows the stack.
-const DEPTH: u32 = 4_000;

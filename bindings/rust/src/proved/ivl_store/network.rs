@@ -1,3 +1,4 @@
+// Written by bindings/rust/extract from crates/ivl_store/src/network.rt.
 //! Domains and constraints that are added one by one, and narrowing that stops when told.
 //!
 //! A [`Network`] keeps the constraints `x + y = z` that were required so far, and which of them have
@@ -5,21 +6,22 @@
 //! a budget is used up; another call goes on.
 //!
 //! ```
-//! # use intervallum::proved::examples::*;
-//! # fn main() -> Result<(), std::boxed::Box<dyn std::error::Error>> {
-//! # let alloc = Global;
-//! // x + one = y and y + one = x, for x and y from 0 to 9: no solution
-//! let mut network: Network<i32> = Network::new(alloc);
-//! let x = network.add_variable(IntervalSet::new(alloc, 0, 9)?)?;
-//! let y = network.add_variable(IntervalSet::new(alloc, 0, 9)?)?;
-//! let one = network.add_variable(IntervalSet::new(alloc, 1, 1)?)?;
-//! network.require(Constraint { x, y: one, z: y })?;
-//! network.require(Constraint { x: y, y: one, z: x })?;
-//! assert_eq!(network.settle(3)?, Settled::Unfinished);
-//! assert_eq!(network.settle(100)?, Settled::All);
-//! assert!(network.has_empty());
-//! # Ok(())
-//! # }
+//! use intervallum::proved::examples::*;
+//!
+//! fn main() -> Result<(), std::boxed::Box<dyn std::error::Error>> {
+//!     let alloc = Global;
+//!     // x + one = y and y + one = x, for x and y from 0 to 9: no solution
+//!     let mut network: Network<i32> = Network::new(alloc);
+//!     let x = network.add_variable(IntervalSet::new(alloc, 0, 9)?)?;
+//!     let y = network.add_variable(IntervalSet::new(alloc, 0, 9)?)?;
+//!     let one = network.add_variable(IntervalSet::new(alloc, 1, 1)?)?;
+//!     network.require(Constraint { x, y: one, z: y })?;
+//!     network.require(Constraint { x: y, y: one, z: x })?;
+//!     assert_eq!(network.settle(3)?, Settled::Unfinished);
+//!     assert_eq!(network.settle(100)?, Settled::All);
+//!     assert!(network.has_empty());
+//!     Ok(())
+//! }
 //! ```
 
 #[allow(unused_imports)]
@@ -50,6 +52,16 @@ pub enum Settled {
     Unfinished,
 }
 
+/// What one step of narrowing did.
+enum Step {
+    /// Nothing: no constraint has to be looked at.
+    Settled,
+    /// Nothing: the next narrowing counts for more than is left.
+    Costly,
+    /// A narrowing, which counts for so much.
+    Made(u64),
+}
+
 /// Variables with a domain each, and the constraints between them so far. A contract sees the two
 /// lists, and how many constraints have to be looked at again.
 ///
@@ -74,13 +86,14 @@ impl<B: Width> Network<B> {
     /// Creates a network without variables. Does not allocate.
     ///
     /// ```
-    /// # use intervallum::proved::examples::*;
-    /// # fn main() -> Result<(), std::boxed::Box<dyn std::error::Error>> {
-    /// # let alloc = Global;
-    /// let network: Network<i32> = Network::new(alloc);
-    /// assert!(network.domains().is_empty() && network.constraints().is_empty());
-    /// # Ok(())
-    /// # }
+    /// use intervallum::proved::examples::*;
+    ///
+    /// fn main() -> Result<(), std::boxed::Box<dyn std::error::Error>> {
+    ///     let alloc = Global;
+    ///     let network: Network<i32> = Network::new(alloc);
+    ///     assert!(network.domains().is_empty() && network.constraints().is_empty());
+    ///     Ok(())
+    /// }
     /// ```
     ///
     /// # Proved
@@ -131,8 +144,8 @@ impl<B: Width> Network<B> {
         self.constraints.as_slice()
     }
 
-    /// Returns true exactly when some domain is empty: then no point solves the constraints. `O(1)`
-    /// per domain, does not allocate.
+    /// Returns true exactly when some domain is empty: then no point solves the constraints. `O(1)`,
+    /// does not allocate.
     ///
     /// # Proved
     ///
@@ -153,14 +166,15 @@ impl<B: Width> Network<B> {
     /// Fails only if allocation fails. The network is unchanged after an error.
     ///
     /// ```
-    /// # use intervallum::proved::examples::*;
-    /// # fn main() -> Result<(), std::boxed::Box<dyn std::error::Error>> {
-    /// # let alloc = Global;
-    /// let mut network: Network<i32> = Network::new(alloc);
-    /// assert_eq!(network.add_variable(IntervalSet::new(alloc, 3, 4)?)?, 0);
-    /// assert!(network.domains()[0] == IntervalSet::new(alloc, 3, 4)?);
-    /// # Ok(())
-    /// # }
+    /// use intervallum::proved::examples::*;
+    ///
+    /// fn main() -> Result<(), std::boxed::Box<dyn std::error::Error>> {
+    ///     let alloc = Global;
+    ///     let mut network: Network<i32> = Network::new(alloc);
+    ///     assert_eq!(network.add_variable(IntervalSet::new(alloc, 3, 4)?)?, 0);
+    ///     assert!(network.domains()[0] == IntervalSet::new(alloc, 3, 4)?);
+    ///     Ok(())
+    /// }
     /// ```
     ///
     /// # Proved
@@ -196,18 +210,19 @@ impl<B: Width> Network<B> {
     /// fails. The network is then unchanged.
     ///
     /// ```
-    /// # use intervallum::proved::examples::*;
-    /// # fn main() -> Result<(), std::boxed::Box<dyn std::error::Error>> {
-    /// # let alloc = Global;
-    /// let mut network: Network<i32> = Network::new(alloc);
-    /// network.add_variable(IntervalSet::new(alloc, 0, 9)?)?;
-    /// network.add_variable(IntervalSet::new(alloc, 0, 9)?)?;
-    /// network.add_variable(IntervalSet::new(alloc, 0, 9)?)?;
-    /// network.require(Constraint { x: 0, y: 1, z: 2 })?;
-    /// network.require(Constraint { x: 0, y: 1, z: 2 })?;
-    /// assert_eq!(network.constraints().len(), 1);
-    /// # Ok(())
-    /// # }
+    /// use intervallum::proved::examples::*;
+    ///
+    /// fn main() -> Result<(), std::boxed::Box<dyn std::error::Error>> {
+    ///     let alloc = Global;
+    ///     let mut network: Network<i32> = Network::new(alloc);
+    ///     network.add_variable(IntervalSet::new(alloc, 0, 9)?)?;
+    ///     network.add_variable(IntervalSet::new(alloc, 0, 9)?)?;
+    ///     network.add_variable(IntervalSet::new(alloc, 0, 9)?)?;
+    ///     network.require(Constraint { x: 0, y: 1, z: 2 })?;
+    ///     network.require(Constraint { x: 0, y: 1, z: 2 })?;
+    ///     assert_eq!(network.constraints().len(), 1);
+    ///     Ok(())
+    /// }
     /// ```
     ///
     /// # Proved
@@ -256,15 +271,16 @@ impl<B: Width> Network<B> {
     /// fails. The network is then unchanged.
     ///
     /// ```
-    /// # use intervallum::proved::examples::*;
-    /// # fn main() -> Result<(), std::boxed::Box<dyn std::error::Error>> {
-    /// # let alloc = Global;
-    /// let mut network: Network<i32> = Network::new(alloc);
-    /// network.add_variable(IntervalSet::new(alloc, 0, 9)?)?;
-    /// network.restrict(0, &IntervalSet::new(alloc, 5, 20)?)?;
-    /// assert!(network.domains()[0] == IntervalSet::new(alloc, 5, 9)?);
-    /// # Ok(())
-    /// # }
+    /// use intervallum::proved::examples::*;
+    ///
+    /// fn main() -> Result<(), std::boxed::Box<dyn std::error::Error>> {
+    ///     let alloc = Global;
+    ///     let mut network: Network<i32> = Network::new(alloc);
+    ///     network.add_variable(IntervalSet::new(alloc, 0, 9)?)?;
+    ///     network.restrict(0, &IntervalSet::new(alloc, 5, 20)?)?;
+    ///     assert!(network.domains()[0] == IntervalSet::new(alloc, 5, 9)?);
+    ///     Ok(())
+    /// }
     /// ```
     ///
     /// # Proved
@@ -312,20 +328,21 @@ impl<B: Width> Network<B> {
     /// completed narrowing left it, and another call goes on.
     ///
     /// ```
-    /// # use intervallum::proved::examples::*;
-    /// # fn main() -> Result<(), std::boxed::Box<dyn std::error::Error>> {
-    /// # let alloc = Global;
-    /// // x + y = z, and z is 0 or 1
-    /// let mut network: Network<i32> = Network::new(alloc);
-    /// network.add_variable(IntervalSet::new(alloc, 0, 9)?)?;
-    /// network.add_variable(IntervalSet::new(alloc, 0, 9)?)?;
-    /// network.add_variable(IntervalSet::new(alloc, 0, 1)?)?;
-    /// network.require(Constraint { x: 0, y: 1, z: 2 })?;
-    /// assert_eq!(network.settle(0)?, Settled::Unfinished);
-    /// assert_eq!(network.settle(10)?, Settled::All);
-    /// assert!(network.domains()[0] == IntervalSet::new(alloc, 0, 1)?);
-    /// # Ok(())
-    /// # }
+    /// use intervallum::proved::examples::*;
+    ///
+    /// fn main() -> Result<(), std::boxed::Box<dyn std::error::Error>> {
+    ///     let alloc = Global;
+    ///     // x + y = z, and z is 0 or 1
+    ///     let mut network: Network<i32> = Network::new(alloc);
+    ///     network.add_variable(IntervalSet::new(alloc, 0, 9)?)?;
+    ///     network.add_variable(IntervalSet::new(alloc, 0, 9)?)?;
+    ///     network.add_variable(IntervalSet::new(alloc, 0, 1)?)?;
+    ///     network.require(Constraint { x: 0, y: 1, z: 2 })?;
+    ///     assert_eq!(network.settle(0)?, Settled::Unfinished);
+    ///     assert_eq!(network.settle(10)?, Settled::All);
+    ///     assert!(network.domains()[0] == IntervalSet::new(alloc, 0, 1)?);
+    ///     Ok(())
+    /// }
     /// ```
     ///
     /// # Proved
@@ -342,6 +359,8 @@ impl<B: Width> Network<B> {
     ///     × AreNarrowings self.old.constraints count (set_at self.old.domains) (set_at self.new.domains)) }
     /// ensures made_before { OnErr result ((count : ℕ) × (count < budget) × AreNarrowings self.old.constraints count (set_at self.old.domains) (set_at self.new.domains)) }
     /// ensures fewer { IfOk result (λ s. s ≡ Settled.Unfinished → budget + work B.whole self.new ≤ work B.whole self.old) }
+    /// ensures exactly { IfOk result (λ s. s ≡ Settled.All ↔ self.new.unsettled ≡ 0) }
+    /// ensures enough { IfOk result (λ s. work B.whole self.old ≤ budget → s ≡ Settled.All) }
     /// ```
     ///
     /// Words: [`Keeps`](crate::definitions#Keeps), [`IsCommonSolution`](crate::definitions#IsCommonSolution), [`IsGreatestFamily`](crate::definitions#IsGreatestFamily), [`AreNarrowings`](crate::definitions#AreNarrowings), [`work`](crate::definitions#work).
@@ -354,21 +373,92 @@ impl<B: Width> Network<B> {
         Ok(self.reached())
     }
 
+    /// Narrows the domains as [`Network::settle`] does, by narrowings that count for what they look
+    /// at: a narrowing counts for one, and for one more for each 256 pairs of runs of two of its three
+    /// domains. One that counts for more than is left of the budget is not begun. Returns
+    /// [`Settled::All`] exactly if no constraint is left that has to be looked at.
+    ///
+    /// After [`Settled::Unfinished`] another call goes on, if its budget covers the next narrowing.
+    ///
+    /// # Errors
+    ///
+    /// Those of [`Network::settle`].
+    ///
+    /// ```
+    /// use intervallum::proved::examples::*;
+    ///
+    /// fn main() -> Result<(), std::boxed::Box<dyn std::error::Error>> {
+    ///     let alloc = Global;
+    ///     // x + y = z over ten runs each: three times a hundred pairs, so the narrowing counts for two
+    ///     let evens: IntervalSet<i32> = [(0, 0), (2, 2), (4, 4), (6, 6), (8, 8), (10, 10), (12, 12), (14, 14), (16, 16), (18, 18)]
+    ///         .to_interval_set(alloc)?;
+    ///     let mut network: Network<i32> = Network::new(alloc);
+    ///     network.add_variable(evens.try_clone()?)?;
+    ///     network.add_variable(evens.try_clone()?)?;
+    ///     network.add_variable(evens)?;
+    ///     network.require(Constraint { x: 0, y: 1, z: 2 })?;
+    ///     assert_eq!(network.settle_within(1)?, Settled::Unfinished);
+    ///     assert_eq!(network.settle_within(2)?, Settled::All);
+    ///     Ok(())
+    /// }
+    /// ```
+    ///
+    /// # Proved
+    ///
+    /// ```text
+    /// ensures memory { IfErr result (λ fault. fault ≡ StoreFault.Memory) }
+    /// ensures constraints { self.new.constraints ≡ self.old.constraints }
+    /// ensures marked { self.new.marked ≡ self.old.marked }
+    /// ensures kept_count { length self.new.domains ≡ length self.old.domains }
+    /// ensures keeps { Keeps self.old.constraints self.old.domains self.new.domains }
+    /// ensures solutions { (point : ℕ → ℤ) → IsCommonSolution self.old.constraints (set_at self.old.domains) point → IsCommonSolution self.old.constraints (set_at self.new.domains) point }
+    /// ensures greatest { IfOk result (λ s. s ≡ Settled.All → IsGreatestFamily self.old.constraints (set_at self.old.domains) (set_at self.new.domains)) }
+    /// ensures exactly { IfOk result (λ s. s ≡ Settled.All ↔ self.new.unsettled ≡ 0) }
+    /// ensures made { IfOk result (λ s. (by : List Constraint) × (cost : ℕ) × AreCounted self.old.constraints by cost self.old.domains self.new.domains × (cost ≤ budget)
+    ///     × (s ≡ Settled.Unfinished → (next : Constraint) × Contains self.old.constraints next × (budget < cost + cost_of next self.new.domains))
+    ///     × (length by + work B.whole self.new ≤ work B.whole self.old)) }
+    /// ```
+    ///
+    /// Words: [`Keeps`](crate::definitions#Keeps), [`IsCommonSolution`](crate::definitions#IsCommonSolution), [`IsGreatestFamily`](crate::definitions#IsGreatestFamily), [`AreCounted`](crate::definitions#AreCounted), [`cost_of`](crate::definitions#cost_of), [`work`](crate::definitions#work).
+    pub fn settle_within(&mut self, budget: u64) -> Result<Settled, StoreFault> {
+        let mut left = budget;
+        loop {
+            match self.narrow_within(left)? {
+                Step::Settled => return Ok(Settled::All),
+                Step::Costly => return Ok(Settled::Unfinished),
+                Step::Made(cost) => left -= cost,
+            }
+        }
+    }
+
     /// Narrows by one constraint without a mark. Returns false, and changes nothing, if all are
     /// marked.
     fn narrow_next(&mut self) -> Result<bool, AllocError> {
+        match self.narrow_within(u64::MAX)? {
+            Step::Settled | Step::Costly => Ok(false),
+            Step::Made(_) => Ok(true),
+        }
+    }
+
+    /// Narrows by one constraint without a mark, if that counts for no more than is left. Changes
+    /// nothing if it counts for more, or if all are marked.
+    fn narrow_within(&mut self, left: u64) -> Result<Step, AllocError> {
         let Some(i) = self.queue.first() else {
-            return Ok(false);
+            return Ok(Step::Settled);
         };
+        let constraint = self.constraints[i];
+        let cost = self.store.cost_of(&constraint);
+        if cost > left {
+            return Ok(Step::Costly);
+        }
         let is_kept = is_logging(&self.marks);
         reserve_change(&mut self.trail, is_kept)?;
-        let constraint = self.constraints[i];
         let (lost, change) = self.store.narrow_swapped(&constraint)?;
         self.queue.settle(i, lost, &self.constraints, &self.index);
         let lost = lost.any();
         let is_new = is_unkept(lost, &self.trail, &self.marks, &self.places, &change);
         log_cut(&mut self.trail, &mut self.places, is_kept, is_new, change);
-        Ok(true)
+        Ok(Step::Made(cost))
     }
 
     /// Whether all constraints are marked.
@@ -390,19 +480,20 @@ impl<B: Width> Network<B> {
     /// Fails only if allocation fails. The network is unchanged after an error.
     ///
     /// ```
-    /// # use intervallum::proved::examples::*;
-    /// # fn main() -> Result<(), std::boxed::Box<dyn std::error::Error>> {
-    /// # let alloc = Global;
-    /// let mut network: Network<i32> = Network::new(alloc);
-    /// let x = network.add_variable(IntervalSet::new(alloc, 0, 9)?)?;
-    /// let mark = network.mark()?;
-    /// network.restrict(x, &IntervalSet::new(alloc, 5, 20)?)?;
-    /// network.add_variable(IntervalSet::new(alloc, 1, 1)?)?;
-    /// assert!(network.undo_to(mark));
-    /// assert!(network.domains().len() == 1 && network.domains()[0] == IntervalSet::new(alloc, 0, 9)?);
-    /// assert!(!network.undo_to(mark));
-    /// # Ok(())
-    /// # }
+    /// use intervallum::proved::examples::*;
+    ///
+    /// fn main() -> Result<(), std::boxed::Box<dyn std::error::Error>> {
+    ///     let alloc = Global;
+    ///     let mut network: Network<i32> = Network::new(alloc);
+    ///     let x = network.add_variable(IntervalSet::new(alloc, 0, 9)?)?;
+    ///     let mark = network.mark()?;
+    ///     network.restrict(x, &IntervalSet::new(alloc, 5, 20)?)?;
+    ///     network.add_variable(IntervalSet::new(alloc, 1, 1)?)?;
+    ///     assert!(network.undo_to(mark));
+    ///     assert!(network.domains().len() == 1 && network.domains()[0] == IntervalSet::new(alloc, 0, 9)?);
+    ///     assert!(!network.undo_to(mark));
+    ///     Ok(())
+    /// }
     /// ```
     ///
     /// # Proved
@@ -456,16 +547,17 @@ impl<B: Width> Network<B> {
     /// keeps no domain that is replaced. Does not allocate.
     ///
     /// ```
-    /// # use intervallum::proved::examples::*;
-    /// # fn main() -> Result<(), std::boxed::Box<dyn std::error::Error>> {
-    /// # let alloc = Global;
-    /// let mut network: Network<i32> = Network::new(alloc);
-    /// let mark = network.mark()?;
-    /// network.add_variable(IntervalSet::new(alloc, 0, 9)?)?;
-    /// network.drop_marks(mark);
-    /// assert!(!network.undo_to(mark) && network.domains().len() == 1);
-    /// # Ok(())
-    /// # }
+    /// use intervallum::proved::examples::*;
+    ///
+    /// fn main() -> Result<(), std::boxed::Box<dyn std::error::Error>> {
+    ///     let alloc = Global;
+    ///     let mut network: Network<i32> = Network::new(alloc);
+    ///     let mark = network.mark()?;
+    ///     network.add_variable(IntervalSet::new(alloc, 0, 9)?)?;
+    ///     network.drop_marks(mark);
+    ///     assert!(!network.undo_to(mark) && network.domains().len() == 1);
+    ///     Ok(())
+    /// }
     /// ```
     ///
     /// # Proved

@@ -1,3 +1,4 @@
+// Written by bindings/rust/extract from crates/ivl_store/src/store.rt.
 //! Finite domains, narrowed by constraints `x + y = z`.
 //!
 //! A [`Store`] has a set of numbers for each variable, its domain. Variables are named by their
@@ -7,18 +8,19 @@
 //! and constraints one by one and replies after each whether a domain is empty.
 //!
 //! ```
-//! # use intervallum::proved::examples::*;
-//! # fn main() -> Result<(), std::boxed::Box<dyn std::error::Error>> {
-//! # let alloc = Global;
-//! // x + y = z
-//! let sum = Constraint { x: 0, y: 1, z: 2 };
-//! let domains = Vec::from_array(alloc, [
-//!     IntervalSet::new(alloc, 0, 10)?, IntervalSet::new(alloc, 3, 4)?, IntervalSet::new(alloc, 5, 6)?])?;
-//! let mut store: Store<i32> = Store::new(alloc, domains);
-//! assert!(store.narrow(&sum)?);
-//! assert!(store.domains()[0] == IntervalSet::new(alloc, 1, 3)?);
-//! # Ok(())
-//! # }
+//! use intervallum::proved::examples::*;
+//!
+//! fn main() -> Result<(), std::boxed::Box<dyn std::error::Error>> {
+//!     let alloc = Global;
+//!     // x + y = z
+//!     let sum = Constraint { x: 0, y: 1, z: 2 };
+//!     let domains = Vec::from_array(alloc, [
+//!         IntervalSet::new(alloc, 0, 10)?, IntervalSet::new(alloc, 3, 4)?, IntervalSet::new(alloc, 5, 6)?])?;
+//!     let mut store: Store<i32> = Store::new(alloc, domains);
+//!     assert!(store.narrow(&sum)?);
+//!     assert!(store.domains()[0] == IntervalSet::new(alloc, 1, 3)?);
+//!     Ok(())
+//! }
 //! ```
 
 #[allow(unused_imports)]
@@ -27,6 +29,7 @@ use crate::rattle::prelude::*;
 pub mod callers;
 pub(crate) mod change;
 mod constraint;
+mod costs;
 
 pub(crate) mod marks;
 mod narrowed_sets;
@@ -50,6 +53,8 @@ use crate::rattle::std::alloc::{AllocError, Global};
 pub struct Store<B: Width> {
     alloc: Global,
     domains: Vec<IntervalSet<B>>,
+    // How many domains are empty.
+    empties: usize,
 }
 
 impl<B: Width> Store<B> {
@@ -57,13 +62,14 @@ impl<B: Width> Store<B> {
     /// bookkeeping. `O(1)` per domain, does not allocate.
     ///
     /// ```
-    /// # use intervallum::proved::examples::*;
-    /// # fn main() -> Result<(), std::boxed::Box<dyn std::error::Error>> {
-    /// # let alloc = Global;
-    /// let store: Store<i32> = Store::new(alloc, Vec::from_array(alloc, [ IntervalSet::new(alloc, 0, 9)?])?);
-    /// assert_eq!(store.domains().len(), 1);
-    /// # Ok(())
-    /// # }
+    /// use intervallum::proved::examples::*;
+    ///
+    /// fn main() -> Result<(), std::boxed::Box<dyn std::error::Error>> {
+    ///     let alloc = Global;
+    ///     let store: Store<i32> = Store::new(alloc, Vec::from_array(alloc, [ IntervalSet::new(alloc, 0, 9)?])?);
+    ///     assert_eq!(store.domains().len(), 1);
+    ///     Ok(())
+    /// }
     /// ```
     ///
     /// # Proved
@@ -72,10 +78,17 @@ impl<B: Width> Store<B> {
     /// ensures { result ≡ domains.items }
     /// ```
     pub fn new(alloc: Global, domains: Vec<IntervalSet<B>>) -> Store<B> {
+        let mut empties = 0;
         for domain in &domains {
             domain.in_whole();
+            let is = one_if(domain.is_empty());
+            empties += is;
         }
-        Store { alloc, domains }
+        Store {
+            alloc,
+            domains,
+            empties,
+        }
     }
 
     /// Returns the domains, in the order of the variables. `O(1)`, does not allocate.
@@ -99,14 +112,15 @@ impl<B: Width> Store<B> {
     /// Fails only if allocation fails. The store is unchanged after an error.
     ///
     /// ```
-    /// # use intervallum::proved::examples::*;
-    /// # fn main() -> Result<(), std::boxed::Box<dyn std::error::Error>> {
-    /// # let alloc = Global;
-    /// let mut store: Store<i32> = Store::new(alloc, Vec::from_array(alloc, [ IntervalSet::new(alloc, 0, 9)?])?);
-    /// assert_eq!(store.add_variable(IntervalSet::new(alloc, 3, 4)?)?, 1);
-    /// assert!(store.domains()[1] == IntervalSet::new(alloc, 3, 4)?);
-    /// # Ok(())
-    /// # }
+    /// use intervallum::proved::examples::*;
+    ///
+    /// fn main() -> Result<(), std::boxed::Box<dyn std::error::Error>> {
+    ///     let alloc = Global;
+    ///     let mut store: Store<i32> = Store::new(alloc, Vec::from_array(alloc, [ IntervalSet::new(alloc, 0, 9)?])?);
+    ///     assert_eq!(store.add_variable(IntervalSet::new(alloc, 3, 4)?)?, 1);
+    ///     assert!(store.domains()[1] == IntervalSet::new(alloc, 3, 4)?);
+    ///     Ok(())
+    /// }
     /// ```
     ///
     /// # Proved
@@ -119,23 +133,26 @@ impl<B: Width> Store<B> {
     pub fn add_variable(&mut self, domain: IntervalSet<B>) -> Result<usize, AllocError> {
         let index = self.domains.len();
         domain.in_whole();
+        let is = one_if(domain.is_empty());
         self.domains.push(domain)?;
+        self.empties += is;
         Ok(index)
     }
 
-    /// Returns true exactly when some domain is empty: then no point solves any constraints. `O(1)`
-    /// per domain, does not allocate.
+    /// Returns true exactly when some domain is empty: then no point solves any constraints. `O(1)`,
+    /// does not allocate.
     ///
     /// ```
-    /// # use intervallum::proved::examples::*;
-    /// # fn main() -> Result<(), std::boxed::Box<dyn std::error::Error>> {
-    /// # let alloc = Global;
-    /// let mut store: Store<i32> = Store::new(alloc, Vec::from_array(alloc, [ IntervalSet::new(alloc, 0, 9)?])?);
-    /// assert!(!store.has_empty());
-    /// store.add_variable(IntervalSet::empty(alloc))?;
-    /// assert!(store.has_empty());
-    /// # Ok(())
-    /// # }
+    /// use intervallum::proved::examples::*;
+    ///
+    /// fn main() -> Result<(), std::boxed::Box<dyn std::error::Error>> {
+    ///     let alloc = Global;
+    ///     let mut store: Store<i32> = Store::new(alloc, Vec::from_array(alloc, [ IntervalSet::new(alloc, 0, 9)?])?);
+    ///     assert!(!store.has_empty());
+    ///     store.add_variable(IntervalSet::empty(alloc))?;
+    ///     assert!(store.has_empty());
+    ///     Ok(())
+    /// }
     /// ```
     ///
     /// # Proved
@@ -147,11 +164,11 @@ impl<B: Width> Store<B> {
     ///
     /// Words: [`HasEmpty`](crate::definitions#HasEmpty).
     pub fn has_empty(&self) -> bool {
-        for domain in &self.domains {
-            if domain.is_empty() {
-                return true;
-            }
-        }
-        false
+        self.empties > 0
     }
+}
+
+/// One if so, and else 0.
+fn one_if(is_so: bool) -> usize {
+    if is_so { 1 } else { 0 }
 }

@@ -1,3 +1,4 @@
+// Written by bindings/rust/extract from crates/ivl_within/src/within.rt.
 //! Sums and differences of sets, cut to a window: the range of the bounds, or an interval.
 
 #[allow(unused_imports)]
@@ -36,14 +37,15 @@ pub enum Combined {
 /// Fails only if allocation fails, or if `n * m` is above `usize::MAX`.
 ///
 /// ```
-/// # use intervallum::proved::examples::*;
-/// # fn main() -> Result<(), std::boxed::Box<dyn std::error::Error>> {
-/// # let alloc = Global;
-/// let whole: IntervalSet<i8> = IntervalSet::whole(alloc)?;
-/// let (sums, is_cut) = add_within(&whole, &whole)?;
-/// assert!(sums == whole && is_cut);
-/// # Ok(())
-/// # }
+/// use intervallum::proved::examples::*;
+///
+/// fn main() -> Result<(), std::boxed::Box<dyn std::error::Error>> {
+///     let alloc = Global;
+///     let whole: IntervalSet<i8> = IntervalSet::whole(alloc)?;
+///     let (sums, is_cut) = add_within(&whole, &whole)?;
+///     assert!(sums == whole && is_cut);
+///     Ok(())
+/// }
 /// ```
 ///
 /// # Proved
@@ -73,15 +75,16 @@ pub fn add_within<B: Width>(
 /// Fails only if allocation fails, or if `n * m` is above `usize::MAX`.
 ///
 /// ```
-/// # use intervallum::proved::examples::*;
-/// # fn main() -> Result<(), std::boxed::Box<dyn std::error::Error>> {
-/// # let alloc = Global;
-/// let whole: IntervalSet<i8> = IntervalSet::whole(alloc)?;
-/// let none = IntervalSet::empty(alloc);
-/// let (differences, is_cut) = sub_within(&whole, &none)?;
-/// assert!(differences == none && !is_cut);
-/// # Ok(())
-/// # }
+/// use intervallum::proved::examples::*;
+///
+/// fn main() -> Result<(), std::boxed::Box<dyn std::error::Error>> {
+///     let alloc = Global;
+///     let whole: IntervalSet<i8> = IntervalSet::whole(alloc)?;
+///     let none = IntervalSet::empty(alloc);
+///     let (differences, is_cut) = sub_within(&whole, &none)?;
+///     assert!(differences == none && !is_cut);
+///     Ok(())
+/// }
 /// ```
 ///
 /// # Proved
@@ -112,15 +115,16 @@ pub fn sub_within<B: Width>(
 /// Fails only if allocation fails.
 ///
 /// ```
-/// # use intervallum::proved::examples::*;
-/// # fn main() -> Result<(), std::boxed::Box<dyn std::error::Error>> {
-/// # let alloc = Global;
-/// let a: IntervalSet<i64> = [(0, 0), (10, 12), (90, 95)].to_interval_set(alloc)?;
-/// let b: IntervalSet<i64> = [(1, 2), (50, 60)].to_interval_set(alloc)?;
-/// let sums = sums_in_window(&a, &b, &Interval::new(12, 62))?;
-/// assert!(sums == [(12, 14), (50, 62)].to_interval_set(alloc)?);
-/// # Ok(())
-/// # }
+/// use intervallum::proved::examples::*;
+///
+/// fn main() -> Result<(), std::boxed::Box<dyn std::error::Error>> {
+///     let alloc = Global;
+///     let a: IntervalSet<i64> = [(0, 0), (10, 12), (90, 95)].to_interval_set(alloc)?;
+///     let b: IntervalSet<i64> = [(1, 2), (50, 60)].to_interval_set(alloc)?;
+///     let sums = sums_in_window(&a, &b, &Interval::new(12, 62))?;
+///     assert!(sums == [(12, 14), (50, 62)].to_interval_set(alloc)?);
+///     Ok(())
+/// }
 /// ```
 ///
 /// # Proved
@@ -150,15 +154,16 @@ pub fn sums_in_window<B: Width>(
 /// Fails only if allocation fails.
 ///
 /// ```
-/// # use intervallum::proved::examples::*;
-/// # fn main() -> Result<(), std::boxed::Box<dyn std::error::Error>> {
-/// # let alloc = Global;
-/// let a: IntervalSet<i64> = [(0, 0), (10, 12), (90, 95)].to_interval_set(alloc)?;
-/// let b: IntervalSet<i64> = [(1, 2), (50, 60)].to_interval_set(alloc)?;
-/// let differences = differences_in_window(&a, &b, &Interval::new(0, 39))?;
-/// assert!(differences == [(8, 11), (30, 39)].to_interval_set(alloc)?);
-/// # Ok(())
-/// # }
+/// use intervallum::proved::examples::*;
+///
+/// fn main() -> Result<(), std::boxed::Box<dyn std::error::Error>> {
+///     let alloc = Global;
+///     let a: IntervalSet<i64> = [(0, 0), (10, 12), (90, 95)].to_interval_set(alloc)?;
+///     let b: IntervalSet<i64> = [(1, 2), (50, 60)].to_interval_set(alloc)?;
+///     let differences = differences_in_window(&a, &b, &Interval::new(0, 39))?;
+///     assert!(differences == [(8, 11), (30, 39)].to_interval_set(alloc)?);
+///     Ok(())
+/// }
 /// ```
 ///
 /// # Proved

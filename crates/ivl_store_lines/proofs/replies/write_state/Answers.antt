@@ -4,7 +4,8 @@ use Rattle.std.specs.Prelude.{OnOk}
 use Rattle.std.specs.Io.KnownBytes.{Appends}
 use Rattle.ivl_lines.specs.Lines.{with_newline}
 use Rattle.ivl_store_lines.specs.declared.progress.Progress.{Progress}
-use Rattle.ivl_store_lines.specs.Printed.{has_no_run, progress_text}
+use Rattle.ivl_store.specs.Posts.{has_no_run}
+use Rattle.ivl_store_lines.specs.Printed.{progress_text}
 use Rattle.ivl_store_lines.proofs.Printing.{some_empty}
 use Rattle.ivl_store_lines.proofs.replies.write_state.Goals as goal
 

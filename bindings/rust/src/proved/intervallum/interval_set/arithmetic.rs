@@ -1,3 +1,4 @@
+// Written by bindings/rust/extract from crates/intervallum/src/interval_set/arithmetic.rt.
 //! Sums, differences and products of sets, and of a set with a value.
 //!
 //! Each operand is owned or borrowed. The caller must ensure that the results of each call are in
@@ -39,14 +40,15 @@ impl<B: Width> Add<IntervalSet<B>> for IntervalSet<B> {
     /// at a time. Fails only if allocation fails.
     ///
     /// ```
-    /// # use intervallum::proved::examples::*;
-    /// # fn main() -> Result<(), std::boxed::Box<dyn std::error::Error>> {
-    /// # let alloc = Global;
-    /// let (a, b) = (IntervalSet::new(alloc, 1, 2)?, IntervalSet::new(alloc, 10, 20)?);
-    /// assert!(a.fits_add(&b), "the sums fit");
-    /// assert!((a + b)? == IntervalSet::new(alloc, 11, 22)?);
-    /// # Ok(())
-    /// # }
+    /// use intervallum::proved::examples::*;
+    ///
+    /// fn main() -> Result<(), std::boxed::Box<dyn std::error::Error>> {
+    ///     let alloc = Global;
+    ///     let (a, b) = (IntervalSet::new(alloc, 1, 2)?, IntervalSet::new(alloc, 10, 20)?);
+    ///     assert!(a.fits_add(&b), "the sums fit");
+    ///     assert!((a + b)? == IntervalSet::new(alloc, 11, 22)?);
+    ///     Ok(())
+    /// }
     /// ```
     fn add(self, rhs: IntervalSet<B>) -> Result<IntervalSet<B>, AllocError> {
         debug_assert!({ #[allow(unused_imports)] use crate::proved::ivl_interval::ops::*; self.fits_add(&rhs) }, "{}", "the condition of `add` is broken: self.fits_add(&rhs)");
@@ -137,17 +139,20 @@ impl<B: Width> Add<B> for IntervalSet<B> {
     /// `O(n)` for `n` runs. Reserves at most `n` runs once. Fails only if allocation fails.
     ///
     /// ```
-    /// # use intervallum::proved::examples::*;
-    /// # fn main() -> Result<(), std::boxed::Box<dyn std::error::Error>> {
-    /// # let alloc = Global;
-    /// let a = IntervalSet::new(alloc, 1, 2)?;
-    /// assert!(a.fits_add(&10), "the sums fit");
-    /// assert!((a + 10)? == IntervalSet::new(alloc, 11, 12)?);
-    /// # Ok(())
-    /// # }
+    /// use intervallum::proved::examples::*;
+    ///
+    /// fn main() -> Result<(), std::boxed::Box<dyn std::error::Error>> {
+    ///     let alloc = Global;
+    ///     let a = IntervalSet::new(alloc, 1, 2)?;
+    ///     assert!(a.fits_add(&10), "the sums fit");
+    ///     assert!((a + 10)? == IntervalSet::new(alloc, 11, 12)?);
+    ///     Ok(())
+    /// }
     /// ```
     ///
     /// # Proved
+    ///
+    /// If it is `Ok`, the members of the answer are exactly the sums of a member of each operand.
     ///
     /// ```text
     /// requires { IsSubset (Sums (Covers self) (Only (B.value rhs))) (IsBetween B.whole) }
@@ -180,6 +185,8 @@ impl<B: Width> Add<&B> for IntervalSet<B> {
     ///
     /// # Proved
     ///
+    /// If it is `Ok`, the members of the answer are exactly the sums of a member of each operand.
+    ///
     /// ```text
     /// requires { IsSubset (Sums (Covers self) (Only (B.value rhs.now))) (IsBetween B.whole) }
     /// ensures members { IfOk result (λ L. IsRunsOf L (Sums (Covers self) (Only (B.value rhs.now)))) }
@@ -210,6 +217,8 @@ impl<B: Width> Add<B> for &IntervalSet<B> {
     /// `O(n)` for `n` runs. Reserves at most `n` runs once. Fails only if allocation fails.
     ///
     /// # Proved
+    ///
+    /// If it is `Ok`, the members of the answer are exactly the sums of a member of each operand.
     ///
     /// ```text
     /// requires { IsSubset (Sums (Covers self.now) (Only (B.value rhs))) (IsBetween B.whole) }
@@ -242,6 +251,8 @@ impl<B: Width> Add<&B> for &IntervalSet<B> {
     ///
     /// # Proved
     ///
+    /// If it is `Ok`, the members of the answer are exactly the sums of a member of each operand.
+    ///
     /// ```text
     /// requires { IsSubset (Sums (Covers self.now) (Only (B.value rhs.now))) (IsBetween B.whole) }
     /// ensures members { IfOk result (λ L. IsRunsOf L (Sums (Covers self.now) (Only (B.value rhs.now)))) }
@@ -273,14 +284,15 @@ impl<B: Width> Sub<IntervalSet<B>> for IntervalSet<B> {
     /// at a time. Fails only if allocation fails.
     ///
     /// ```
-    /// # use intervallum::proved::examples::*;
-    /// # fn main() -> Result<(), std::boxed::Box<dyn std::error::Error>> {
-    /// # let alloc = Global;
-    /// let (a, b) = (IntervalSet::new(alloc, 1, 2)?, IntervalSet::new(alloc, 10, 20)?);
-    /// assert!(a.fits_sub(&b), "the differences fit");
-    /// assert!((a - b)? == IntervalSet::new(alloc, -19, -8)?);
-    /// # Ok(())
-    /// # }
+    /// use intervallum::proved::examples::*;
+    ///
+    /// fn main() -> Result<(), std::boxed::Box<dyn std::error::Error>> {
+    ///     let alloc = Global;
+    ///     let (a, b) = (IntervalSet::new(alloc, 1, 2)?, IntervalSet::new(alloc, 10, 20)?);
+    ///     assert!(a.fits_sub(&b), "the differences fit");
+    ///     assert!((a - b)? == IntervalSet::new(alloc, -19, -8)?);
+    ///     Ok(())
+    /// }
     /// ```
     fn sub(self, rhs: IntervalSet<B>) -> Result<IntervalSet<B>, AllocError> {
         debug_assert!({ #[allow(unused_imports)] use crate::proved::ivl_interval::ops::*; self.fits_sub(&rhs) }, "{}", "the condition of `sub` is broken: self.fits_sub(&rhs)");
@@ -372,17 +384,20 @@ impl<B: Width> Sub<B> for IntervalSet<B> {
     /// `O(n)` for `n` runs. Reserves at most `n` runs once. Fails only if allocation fails.
     ///
     /// ```
-    /// # use intervallum::proved::examples::*;
-    /// # fn main() -> Result<(), std::boxed::Box<dyn std::error::Error>> {
-    /// # let alloc = Global;
-    /// let a = IntervalSet::new(alloc, 1, 2)?;
-    /// assert!(a.fits_sub(&10), "the differences fit");
-    /// assert!((a - 10)? == IntervalSet::new(alloc, -9, -8)?);
-    /// # Ok(())
-    /// # }
+    /// use intervallum::proved::examples::*;
+    ///
+    /// fn main() -> Result<(), std::boxed::Box<dyn std::error::Error>> {
+    ///     let alloc = Global;
+    ///     let a = IntervalSet::new(alloc, 1, 2)?;
+    ///     assert!(a.fits_sub(&10), "the differences fit");
+    ///     assert!((a - 10)? == IntervalSet::new(alloc, -9, -8)?);
+    ///     Ok(())
+    /// }
     /// ```
     ///
     /// # Proved
+    ///
+    /// If it is `Ok`, the members of the answer are exactly the differences of a member of each operand.
     ///
     /// ```text
     /// requires { IsSubset (Differences (Covers self) (Only (B.value rhs))) (IsBetween B.whole) }
@@ -416,6 +431,8 @@ impl<B: Width> Sub<&B> for IntervalSet<B> {
     ///
     /// # Proved
     ///
+    /// If it is `Ok`, the members of the answer are exactly the differences of a member of each operand.
+    ///
     /// ```text
     /// requires { IsSubset (Differences (Covers self) (Only (B.value rhs.now))) (IsBetween B.whole) }
     /// ensures members { IfOk result (λ L. IsRunsOf L (Differences (Covers self) (Only (B.value rhs.now)))) }
@@ -447,6 +464,8 @@ impl<B: Width> Sub<B> for &IntervalSet<B> {
     /// `O(n)` for `n` runs. Reserves at most `n` runs once. Fails only if allocation fails.
     ///
     /// # Proved
+    ///
+    /// If it is `Ok`, the members of the answer are exactly the differences of a member of each operand.
     ///
     /// ```text
     /// requires { IsSubset (Differences (Covers self.now) (Only (B.value rhs))) (IsBetween B.whole) }
@@ -480,6 +499,8 @@ impl<B: Width> Sub<&B> for &IntervalSet<B> {
     ///
     /// # Proved
     ///
+    /// If it is `Ok`, the members of the answer are exactly the differences of a member of each operand.
+    ///
     /// ```text
     /// requires { IsSubset (Differences (Covers self.now) (Only (B.value rhs.now))) (IsBetween B.whole) }
     /// ensures members { IfOk result (λ L. IsRunsOf L (Differences (Covers self.now) (Only (B.value rhs.now)))) }
@@ -511,14 +532,15 @@ impl<B: Width> Mul<IntervalSet<B>> for IntervalSet<B> {
     /// at a time. Fails only if allocation fails.
     ///
     /// ```
-    /// # use intervallum::proved::examples::*;
-    /// # fn main() -> Result<(), std::boxed::Box<dyn std::error::Error>> {
-    /// # let alloc = Global;
-    /// let (a, b) = (IntervalSet::new(alloc, 1, 2)?, IntervalSet::new(alloc, 10, 10)?);
-    /// assert!(a.fits_mul(&b), "the products fit");
-    /// assert!((a * b)? == IntervalSet::new(alloc, 10, 20)?);
-    /// # Ok(())
-    /// # }
+    /// use intervallum::proved::examples::*;
+    ///
+    /// fn main() -> Result<(), std::boxed::Box<dyn std::error::Error>> {
+    ///     let alloc = Global;
+    ///     let (a, b) = (IntervalSet::new(alloc, 1, 2)?, IntervalSet::new(alloc, 10, 10)?);
+    ///     assert!(a.fits_mul(&b), "the products fit");
+    ///     assert!((a * b)? == IntervalSet::new(alloc, 10, 20)?);
+    ///     Ok(())
+    /// }
     /// ```
     fn mul(self, rhs: IntervalSet<B>) -> Result<IntervalSet<B>, AllocError> {
         debug_assert!({ #[allow(unused_imports)] use crate::proved::ivl_interval::ops::*; self.fits_mul(&rhs) }, "{}", "the condition of `mul` is broken: self.fits_mul(&rhs)");
@@ -610,14 +632,15 @@ impl<B: Width> Mul<B> for IntervalSet<B> {
     /// `O(n)` for `n` runs. Reserves at most `n` runs once. Fails only if allocation fails.
     ///
     /// ```
-    /// # use intervallum::proved::examples::*;
-    /// # fn main() -> Result<(), std::boxed::Box<dyn std::error::Error>> {
-    /// # let alloc = Global;
-    /// let a = IntervalSet::new(alloc, 1, 2)?;
-    /// assert!(a.fits_mul(&-3), "the products fit");
-    /// assert!((a * -3)? == IntervalSet::new(alloc, -6, -3)?);
-    /// # Ok(())
-    /// # }
+    /// use intervallum::proved::examples::*;
+    ///
+    /// fn main() -> Result<(), std::boxed::Box<dyn std::error::Error>> {
+    ///     let alloc = Global;
+    ///     let a = IntervalSet::new(alloc, 1, 2)?;
+    ///     assert!(a.fits_mul(&-3), "the products fit");
+    ///     assert!((a * -3)? == IntervalSet::new(alloc, -6, -3)?);
+    ///     Ok(())
+    /// }
     /// ```
     ///
     /// In the original, an interval times a negative value has crossed bounds; here the runs stay

@@ -1,3 +1,4 @@
+// Written by bindings/rust/extract from crates/intervallum/src/interval_set/best_fit.rt.
 //! The calls of an allocator: room that is found and removed in one call, and the shortest run that has it.
 
 #[allow(unused_imports)]
@@ -18,18 +19,21 @@ impl<B: Width> IntervalSet<B> {
     /// above it then move. Does not allocate.
     ///
     /// ```
-    /// # use intervallum::proved::examples::*;
-    /// # fn main() -> Result<(), std::boxed::Box<dyn std::error::Error>> {
-    /// # let alloc = Global;
-    /// let mut free: IntervalSet<i32> = [(1, 2), (5, 9)].to_interval_set(alloc)?;
-    /// assert!(free.take_first_fit(3) == Some(Interval::new(5, 7)));
-    /// assert!(free == [(1, 2), (8, 9)].to_interval_set(alloc)?);
-    /// assert!(free.take_first_fit(3).is_none());
-    /// # Ok(())
-    /// # }
+    /// use intervallum::proved::examples::*;
+    ///
+    /// fn main() -> Result<(), std::boxed::Box<dyn std::error::Error>> {
+    ///     let alloc = Global;
+    ///     let mut free: IntervalSet<i32> = [(1, 2), (5, 9)].to_interval_set(alloc)?;
+    ///     assert!(free.take_first_fit(3) == Some(Interval::new(5, 7)));
+    ///     assert!(free == [(1, 2), (8, 9)].to_interval_set(alloc)?);
+    ///     assert!(free.take_first_fit(3).is_none());
+    ///     Ok(())
+    /// }
     /// ```
     ///
     /// # Proved
+    ///
+    /// The answer is the lowest `count` consecutive members, and the set keeps the others; or `None`, if there are none, and the set is unchanged.
     ///
     /// ```text
     /// requires { 0 < B.Output.size count }
@@ -56,15 +60,16 @@ impl<B: Width> IntervalSet<B> {
     /// Scans all runs: `O(n)`. Does not allocate.
     ///
     /// ```
-    /// # use intervallum::proved::examples::*;
-    /// # fn main() -> Result<(), std::boxed::Box<dyn std::error::Error>> {
-    /// # let alloc = Global;
-    /// let free: IntervalSet<i32> = [(1, 9), (12, 14), (20, 22)].to_interval_set(alloc)?;
-    /// assert!(free.best_fit(2) == Some(Interval::new(12, 13)));
-    /// assert!(free.best_fit(4) == Some(Interval::new(1, 4)));
-    /// assert!(free.best_fit(10).is_none());
-    /// # Ok(())
-    /// # }
+    /// use intervallum::proved::examples::*;
+    ///
+    /// fn main() -> Result<(), std::boxed::Box<dyn std::error::Error>> {
+    ///     let alloc = Global;
+    ///     let free: IntervalSet<i32> = [(1, 9), (12, 14), (20, 22)].to_interval_set(alloc)?;
+    ///     assert!(free.best_fit(2) == Some(Interval::new(12, 13)));
+    ///     assert!(free.best_fit(4) == Some(Interval::new(1, 4)));
+    ///     assert!(free.best_fit(10).is_none());
+    ///     Ok(())
+    /// }
     /// ```
     ///
     /// # Proved

@@ -1,3 +1,4 @@
+// Written by bindings/rust/extract from crates/intervallum/src/interval_set/bounds.rt.
 //! Sets of one run, the least and the greatest member, and the interval between them.
 
 #[allow(unused_imports)]
@@ -13,13 +14,14 @@ impl<B: Width> IntervalSet<B> {
     /// `Interval::whole().contains(&x)`. `O(1)`. Allocates one run. Fails only if allocation fails.
     ///
     /// ```
-    /// # use intervallum::proved::examples::*;
-    /// # fn main() -> Result<(), std::boxed::Box<dyn std::error::Error>> {
-    /// # let alloc = Global;
-    /// let five = IntervalSet::singleton(alloc, 5)?;
-    /// assert!(five == IntervalSet::new(alloc, 5, 5)?);
-    /// # Ok(())
-    /// # }
+    /// use intervallum::proved::examples::*;
+    ///
+    /// fn main() -> Result<(), std::boxed::Box<dyn std::error::Error>> {
+    ///     let alloc = Global;
+    ///     let five = IntervalSet::singleton(alloc, 5)?;
+    ///     assert!(five == IntervalSet::new(alloc, 5, 5)?);
+    ///     Ok(())
+    /// }
     /// ```
     ///
     /// # Proved
@@ -38,13 +40,14 @@ impl<B: Width> IntervalSet<B> {
     /// fails.
     ///
     /// ```
-    /// # use intervallum::proved::examples::*;
-    /// # fn main() -> Result<(), std::boxed::Box<dyn std::error::Error>> {
-    /// # let alloc = Global;
-    /// let bytes = IntervalSet::<u8>::whole(alloc)?;
-    /// assert!(bytes.contains(&0) && bytes.contains(&254) && !bytes.contains(&255));
-    /// # Ok(())
-    /// # }
+    /// use intervallum::proved::examples::*;
+    ///
+    /// fn main() -> Result<(), std::boxed::Box<dyn std::error::Error>> {
+    ///     let alloc = Global;
+    ///     let bytes = IntervalSet::<u8>::whole(alloc)?;
+    ///     assert!(bytes.contains(&0) && bytes.contains(&254) && !bytes.contains(&255));
+    ///     Ok(())
+    /// }
     /// ```
     ///
     /// # Proved
@@ -60,12 +63,13 @@ impl<B: Width> IntervalSet<B> {
     /// allocation fails.
     ///
     /// ```
-    /// # use intervallum::proved::examples::*;
-    /// # fn main() -> Result<(), std::boxed::Box<dyn std::error::Error>> {
-    /// # let alloc = Global;
-    /// assert!(IntervalSet::<u8>::bot(alloc)? == IntervalSet::whole(alloc)?);
-    /// # Ok(())
-    /// # }
+    /// use intervallum::proved::examples::*;
+    ///
+    /// fn main() -> Result<(), std::boxed::Box<dyn std::error::Error>> {
+    ///     let alloc = Global;
+    ///     assert!(IntervalSet::<u8>::bot(alloc)? == IntervalSet::whole(alloc)?);
+    ///     Ok(())
+    /// }
     /// ```
     ///
     /// # Proved
@@ -80,12 +84,13 @@ impl<B: Width> IntervalSet<B> {
     /// Returns the empty set, which entails every other. `O(1)`. Does not allocate.
     ///
     /// ```
-    /// # use intervallum::proved::examples::*;
-    /// # fn main() -> Result<(), std::boxed::Box<dyn std::error::Error>> {
-    /// # let alloc = Global;
-    /// assert!(IntervalSet::<u8>::top(alloc).is_empty());
-    /// # Ok(())
-    /// # }
+    /// use intervallum::proved::examples::*;
+    ///
+    /// fn main() -> Result<(), std::boxed::Box<dyn std::error::Error>> {
+    ///     let alloc = Global;
+    ///     assert!(IntervalSet::<u8>::top(alloc).is_empty());
+    ///     Ok(())
+    /// }
     /// ```
     ///
     /// # Proved
@@ -100,14 +105,15 @@ impl<B: Width> IntervalSet<B> {
     /// Returns the least member, or `None` if there is none. `O(1)`. Does not allocate.
     ///
     /// ```
-    /// # use intervallum::proved::examples::*;
-    /// # fn main() -> Result<(), std::boxed::Box<dyn std::error::Error>> {
-    /// # let alloc = Global;
-    /// let a: IntervalSet<i32> = [(1, 2), (5, 6)].to_interval_set(alloc)?;
-    /// assert_eq!(a.first(), Some(1));
-    /// assert_eq!(IntervalSet::<i32>::empty(alloc).first(), None);
-    /// # Ok(())
-    /// # }
+    /// use intervallum::proved::examples::*;
+    ///
+    /// fn main() -> Result<(), std::boxed::Box<dyn std::error::Error>> {
+    ///     let alloc = Global;
+    ///     let a: IntervalSet<i32> = [(1, 2), (5, 6)].to_interval_set(alloc)?;
+    ///     assert_eq!(a.first(), Some(1));
+    ///     assert_eq!(IntervalSet::<i32>::empty(alloc).first(), None);
+    ///     Ok(())
+    /// }
     /// ```
     ///
     /// # Proved
@@ -129,14 +135,15 @@ impl<B: Width> IntervalSet<B> {
     /// Returns the greatest member, or `None` if there is none. `O(1)`. Does not allocate.
     ///
     /// ```
-    /// # use intervallum::proved::examples::*;
-    /// # fn main() -> Result<(), std::boxed::Box<dyn std::error::Error>> {
-    /// # let alloc = Global;
-    /// let a: IntervalSet<i32> = [(1, 2), (5, 6)].to_interval_set(alloc)?;
-    /// assert_eq!(a.last(), Some(6));
-    /// assert_eq!(IntervalSet::<i32>::empty(alloc).last(), None);
-    /// # Ok(())
-    /// # }
+    /// use intervallum::proved::examples::*;
+    ///
+    /// fn main() -> Result<(), std::boxed::Box<dyn std::error::Error>> {
+    ///     let alloc = Global;
+    ///     let a: IntervalSet<i32> = [(1, 2), (5, 6)].to_interval_set(alloc)?;
+    ///     assert_eq!(a.last(), Some(6));
+    ///     assert_eq!(IntervalSet::<i32>::empty(alloc).last(), None);
+    ///     Ok(())
+    /// }
     /// ```
     ///
     /// # Proved
@@ -159,14 +166,15 @@ impl<B: Width> IntervalSet<B> {
     /// if there is none. `O(1)`. Does not allocate.
     ///
     /// ```
-    /// # use intervallum::proved::examples::*;
-    /// # fn main() -> Result<(), std::boxed::Box<dyn std::error::Error>> {
-    /// # let alloc = Global;
-    /// let a: IntervalSet<i32> = [(1, 2), (5, 6)].to_interval_set(alloc)?;
-    /// assert!(a.hull() == Interval::new(1, 6));
-    /// assert!(IntervalSet::<i32>::empty(alloc).hull().is_empty());
-    /// # Ok(())
-    /// # }
+    /// use intervallum::proved::examples::*;
+    ///
+    /// fn main() -> Result<(), std::boxed::Box<dyn std::error::Error>> {
+    ///     let alloc = Global;
+    ///     let a: IntervalSet<i32> = [(1, 2), (5, 6)].to_interval_set(alloc)?;
+    ///     assert!(a.hull() == Interval::new(1, 6));
+    ///     assert!(IntervalSet::<i32>::empty(alloc).hull().is_empty());
+    ///     Ok(())
+    /// }
     /// ```
     ///
     /// # Proved
@@ -191,13 +199,14 @@ impl<B: Width> Bounded for IntervalSet<B> {
     /// not empty. Check with `is_empty`. `O(1)`. Does not allocate.
     ///
     /// ```
-    /// # use intervallum::proved::examples::*;
-    /// # fn main() -> Result<(), std::boxed::Box<dyn std::error::Error>> {
-    /// # let alloc = Global;
-    /// let a: IntervalSet<i32> = [(1, 2), (5, 6)].to_interval_set(alloc)?;
-    /// assert!(!a.is_empty() && a.lower() == 1);
-    /// # Ok(())
-    /// # }
+    /// use intervallum::proved::examples::*;
+    ///
+    /// fn main() -> Result<(), std::boxed::Box<dyn std::error::Error>> {
+    ///     let alloc = Global;
+    ///     let a: IntervalSet<i32> = [(1, 2), (5, 6)].to_interval_set(alloc)?;
+    ///     assert!(!a.is_empty() && a.lower() == 1);
+    ///     Ok(())
+    /// }
     /// ```
     ///
     /// # Proved
@@ -220,13 +229,14 @@ impl<B: Width> Bounded for IntervalSet<B> {
     /// not empty. Check with `is_empty`. `O(1)`. Does not allocate.
     ///
     /// ```
-    /// # use intervallum::proved::examples::*;
-    /// # fn main() -> Result<(), std::boxed::Box<dyn std::error::Error>> {
-    /// # let alloc = Global;
-    /// let a: IntervalSet<i32> = [(1, 2), (5, 6)].to_interval_set(alloc)?;
-    /// assert!(!a.is_empty() && a.upper() == 6);
-    /// # Ok(())
-    /// # }
+    /// use intervallum::proved::examples::*;
+    ///
+    /// fn main() -> Result<(), std::boxed::Box<dyn std::error::Error>> {
+    ///     let alloc = Global;
+    ///     let a: IntervalSet<i32> = [(1, 2), (5, 6)].to_interval_set(alloc)?;
+    ///     assert!(!a.is_empty() && a.upper() == 6);
+    ///     Ok(())
+    /// }
     /// ```
     ///
     /// # Proved
@@ -257,13 +267,14 @@ impl<B: Width> IsSingleton for IntervalSet<B> {
     /// Returns true exactly when the set has one member and no other. `O(1)`. Does not allocate.
     ///
     /// ```
-    /// # use intervallum::proved::examples::*;
-    /// # fn main() -> Result<(), std::boxed::Box<dyn std::error::Error>> {
-    /// # let alloc = Global;
-    /// let a = IntervalSet::new(alloc, 1, 2)?;
-    /// assert!(!a.is_singleton() && IntervalSet::new(alloc, 5, 5)?.is_singleton());
-    /// # Ok(())
-    /// # }
+    /// use intervallum::proved::examples::*;
+    ///
+    /// fn main() -> Result<(), std::boxed::Box<dyn std::error::Error>> {
+    ///     let alloc = Global;
+    ///     let a = IntervalSet::new(alloc, 1, 2)?;
+    ///     assert!(!a.is_singleton() && IntervalSet::new(alloc, 5, 5)?.is_singleton());
+    ///     Ok(())
+    /// }
     /// ```
     ///
     /// # Proved

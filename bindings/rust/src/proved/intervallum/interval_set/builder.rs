@@ -1,3 +1,4 @@
+// Written by bindings/rust/extract from crates/intervallum/src/interval_set/builder.rt.
 //! How a set is built: from a list of runs and its size, or by pushing runs at its end.
 
 #[allow(unused_imports)]
@@ -24,14 +25,15 @@ impl<B: Width> IntervalSet<B> {
     /// Returns the allocator that the set uses. `O(1)`. Does not allocate.
     ///
     /// ```
-    /// # use intervallum::proved::examples::*;
-    /// # fn main() -> Result<(), std::boxed::Box<dyn std::error::Error>> {
-    /// # let alloc = Global;
-    /// let a = IntervalSet::new(alloc, 1, 2)?;
-    /// let b = IntervalSet::singleton(a.allocator(), 3)?;
-    /// assert!(!a.overlap(&b));
-    /// # Ok(())
-    /// # }
+    /// use intervallum::proved::examples::*;
+    ///
+    /// fn main() -> Result<(), std::boxed::Box<dyn std::error::Error>> {
+    ///     let alloc = Global;
+    ///     let a = IntervalSet::new(alloc, 1, 2)?;
+    ///     let b = IntervalSet::singleton(a.allocator(), 3)?;
+    ///     assert!(!a.overlap(&b));
+    ///     Ok(())
+    /// }
     /// ```
     pub fn allocator(&self) -> Global {
         *self.intervals.allocator()

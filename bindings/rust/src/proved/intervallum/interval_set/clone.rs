@@ -1,3 +1,4 @@
+// Written by bindings/rust/extract from crates/intervallum/src/interval_set/clone.rt.
 //! Copies of a set.
 
 #[allow(unused_imports)]
@@ -10,13 +11,14 @@ impl<B: Width> IntervalSet<B> {
     /// Returns a copy of the set. `O(n)`. Reserves `n` runs. Fails only if allocation fails.
     ///
     /// ```
-    /// # use intervallum::proved::examples::*;
-    /// # fn main() -> Result<(), std::boxed::Box<dyn std::error::Error>> {
-    /// # let alloc = Global;
-    /// let a = IntervalSet::new(alloc, 1, 2)?;
-    /// assert!(a.try_clone()? == a);
-    /// # Ok(())
-    /// # }
+    /// use intervallum::proved::examples::*;
+    ///
+    /// fn main() -> Result<(), std::boxed::Box<dyn std::error::Error>> {
+    ///     let alloc = Global;
+    ///     let a = IntervalSet::new(alloc, 1, 2)?;
+    ///     assert!(a.try_clone()? == a);
+    ///     Ok(())
+    /// }
     /// ```
     ///
     /// # Proved

@@ -1,3 +1,4 @@
+// Written by bindings/rust/extract from crates/intervallum/src/interval_set/collect.rt.
 //! Sets from intervals in any order, from an iterator over them, and from members in any order.
 
 #[allow(unused_imports)]
@@ -31,13 +32,14 @@ impl<B: Width> ToIntervalSet<B> for Interval<B> {
     /// fails.
     ///
     /// ```
-    /// # use intervallum::proved::examples::*;
-    /// # fn main() -> Result<(), std::boxed::Box<dyn std::error::Error>> {
-    /// # let alloc = Global;
-    /// let a = Interval::new(1, 2).to_interval_set(alloc)?;
-    /// assert!(a == IntervalSet::new(alloc, 1, 2)?);
-    /// # Ok(())
-    /// # }
+    /// use intervallum::proved::examples::*;
+    ///
+    /// fn main() -> Result<(), std::boxed::Box<dyn std::error::Error>> {
+    ///     let alloc = Global;
+    ///     let a = Interval::new(1, 2).to_interval_set(alloc)?;
+    ///     assert!(a == IntervalSet::new(alloc, 1, 2)?);
+    ///     Ok(())
+    /// }
     /// ```
     ///
     /// # Proved
@@ -68,13 +70,14 @@ impl<B: Width> ToIntervalSet<B> for &[Interval<B>] {
     /// `O(n log n)` for `n` intervals. Reserves at most `2 n` runs. Fails only if allocation fails.
     ///
     /// ```
-    /// # use intervallum::proved::examples::*;
-    /// # fn main() -> Result<(), std::boxed::Box<dyn std::error::Error>> {
-    /// # let alloc = Global;
-    /// let all = [Interval::new(3, 8), Interval::new(2, 5)];
-    /// assert!(all.as_slice().to_interval_set(alloc)? == IntervalSet::new(alloc, 2, 8)?);
-    /// # Ok(())
-    /// # }
+    /// use intervallum::proved::examples::*;
+    ///
+    /// fn main() -> Result<(), std::boxed::Box<dyn std::error::Error>> {
+    ///     let alloc = Global;
+    ///     let all = [Interval::new(3, 8), Interval::new(2, 5)];
+    ///     assert!(all.as_slice().to_interval_set(alloc)? == IntervalSet::new(alloc, 2, 8)?);
+    ///     Ok(())
+    /// }
     /// ```
     ///
     /// # Proved
@@ -133,13 +136,14 @@ impl<B: Width, const N: usize> ToIntervalSet<B> for [Interval<B>; N] {
     /// intervals. Reserves at most `2 n` runs. Fails only if allocation fails.
     ///
     /// ```
-    /// # use intervallum::proved::examples::*;
-    /// # fn main() -> Result<(), std::boxed::Box<dyn std::error::Error>> {
-    /// # let alloc = Global;
-    /// let a = [Interval::new(3, 8), Interval::new(2, 5)].to_interval_set(alloc)?;
-    /// assert!(a == IntervalSet::new(alloc, 2, 8)?);
-    /// # Ok(())
-    /// # }
+    /// use intervallum::proved::examples::*;
+    ///
+    /// fn main() -> Result<(), std::boxed::Box<dyn std::error::Error>> {
+    ///     let alloc = Global;
+    ///     let a = [Interval::new(3, 8), Interval::new(2, 5)].to_interval_set(alloc)?;
+    ///     assert!(a == IntervalSet::new(alloc, 2, 8)?);
+    ///     Ok(())
+    /// }
     /// ```
     ///
     /// # Proved
@@ -166,14 +170,15 @@ impl<B: Width> IntervalSet<B> {
     /// of the vector that collects the intervals. Fails only if allocation fails.
     ///
     /// ```
-    /// # use intervallum::proved::examples::*;
-    /// # fn main() -> Result<(), std::boxed::Box<dyn std::error::Error>> {
-    /// # let alloc = Global;
-    /// let all = [Interval::new(7, 9), Interval::new(3, 4)];
-    /// let a = IntervalSet::collect(alloc, all.iter().copied())?;
-    /// assert!(a == [(3, 4), (7, 9)].to_interval_set(alloc)?);
-    /// # Ok(())
-    /// # }
+    /// use intervallum::proved::examples::*;
+    ///
+    /// fn main() -> Result<(), std::boxed::Box<dyn std::error::Error>> {
+    ///     let alloc = Global;
+    ///     let all = [Interval::new(7, 9), Interval::new(3, 4)];
+    ///     let a = IntervalSet::collect(alloc, all.iter().copied())?;
+    ///     assert!(a == [(3, 4), (7, 9)].to_interval_set(alloc)?);
+    ///     Ok(())
+    /// }
     /// ```
     ///
     /// # Proved
@@ -201,13 +206,14 @@ impl<B: Width> IntervalSet<B> {
     /// `O(k log k)` for `k` values. Reserves at most `2 k` runs. Fails only if allocation fails.
     ///
     /// ```
-    /// # use intervallum::proved::examples::*;
-    /// # fn main() -> Result<(), std::boxed::Box<dyn std::error::Error>> {
-    /// # let alloc = Global;
-    /// let a = IntervalSet::of_members(alloc, &[5, 2, 1, 2])?;
-    /// assert!(a == [(1, 2), (5, 5)].to_interval_set(alloc)?);
-    /// # Ok(())
-    /// # }
+    /// use intervallum::proved::examples::*;
+    ///
+    /// fn main() -> Result<(), std::boxed::Box<dyn std::error::Error>> {
+    ///     let alloc = Global;
+    ///     let a = IntervalSet::of_members(alloc, &[5, 2, 1, 2])?;
+    ///     assert!(a == [(1, 2), (5, 5)].to_interval_set(alloc)?);
+    ///     Ok(())
+    /// }
     /// ```
     ///
     /// # Proved
@@ -236,14 +242,15 @@ impl<B: Width> IntervalSet<B> {
     /// Fails only if allocation fails. The set is then unchanged.
     ///
     /// ```
-    /// # use intervallum::proved::examples::*;
-    /// # fn main() -> Result<(), std::boxed::Box<dyn std::error::Error>> {
-    /// # let alloc = Global;
-    /// let mut a = IntervalSet::new(alloc, 1, 2)?;
-    /// a.extend_members(&[9, 3, 9])?;
-    /// assert!(a == [(1, 3), (9, 9)].to_interval_set(alloc)?);
-    /// # Ok(())
-    /// # }
+    /// use intervallum::proved::examples::*;
+    ///
+    /// fn main() -> Result<(), std::boxed::Box<dyn std::error::Error>> {
+    ///     let alloc = Global;
+    ///     let mut a = IntervalSet::new(alloc, 1, 2)?;
+    ///     a.extend_members(&[9, 3, 9])?;
+    ///     assert!(a == [(1, 3), (9, 9)].to_interval_set(alloc)?);
+    ///     Ok(())
+    /// }
     /// ```
     ///
     /// # Proved

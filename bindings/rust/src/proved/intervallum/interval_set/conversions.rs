@@ -1,3 +1,4 @@
+// Written by bindings/rust/extract from crates/intervallum/src/interval_set/conversions.rt.
 //! Sets into runs, sets extended by intervals, and sets from pairs.
 
 #[allow(unused_imports)]
@@ -15,13 +16,14 @@ use crate::rattle::std::vec;
 /// it. A contract sees the runs that are left.
 ///
 /// ```
-/// # use intervallum::proved::examples::*;
-/// # fn main() -> Result<(), std::boxed::Box<dyn std::error::Error>> {
-/// # let alloc = Global;
-/// let mut runs = IntervalSet::new(alloc, 1, 2)?.into_iter();
-/// assert!(runs.next() == Some(Interval::new(1, 2)) && runs.next().is_none());
-/// # Ok(())
-/// # }
+/// use intervallum::proved::examples::*;
+///
+/// fn main() -> Result<(), std::boxed::Box<dyn std::error::Error>> {
+///     let alloc = Global;
+///     let mut runs = IntervalSet::new(alloc, 1, 2)?.into_iter();
+///     assert!(runs.next() == Some(Interval::new(1, 2)) && runs.next().is_none());
+///     Ok(())
+/// }
 /// ```
 pub struct IntoRuns<B: Width> {
     runs: vec::IntoIter<Interval<B>>,
@@ -47,14 +49,15 @@ impl<B: Width> Iterator for IntoRuns<B> {
     /// Returns the first run that is left, or `None` if there is none. `O(1)`. Does not allocate.
     ///
     /// ```
-    /// # use intervallum::proved::examples::*;
-    /// # fn main() -> Result<(), std::boxed::Box<dyn std::error::Error>> {
-    /// # let alloc = Global;
-    /// let a: IntervalSet<i32> = [(1, 2), (5, 6)].to_interval_set(alloc)?;
-    /// let mut runs = a.into_iter();
-    /// assert!(runs.next() == Some(Interval::new(1, 2)));
-    /// # Ok(())
-    /// # }
+    /// use intervallum::proved::examples::*;
+    ///
+    /// fn main() -> Result<(), std::boxed::Box<dyn std::error::Error>> {
+    ///     let alloc = Global;
+    ///     let a: IntervalSet<i32> = [(1, 2), (5, 6)].to_interval_set(alloc)?;
+    ///     let mut runs = a.into_iter();
+    ///     assert!(runs.next() == Some(Interval::new(1, 2)));
+    ///     Ok(())
+    /// }
     /// ```
     fn next(&mut self) -> Option<Interval<B>> {
         self.runs.next()
@@ -70,14 +73,15 @@ impl<B: Width> DoubleEndedIterator for IntoRuns<B> {
     /// Returns the last run that is left, or `None` if there is none. `O(1)`. Does not allocate.
     ///
     /// ```
-    /// # use intervallum::proved::examples::*;
-    /// # fn main() -> Result<(), std::boxed::Box<dyn std::error::Error>> {
-    /// # let alloc = Global;
-    /// let a: IntervalSet<i32> = [(1, 2), (5, 6)].to_interval_set(alloc)?;
-    /// let mut runs = a.into_iter();
-    /// assert!(runs.next_back() == Some(Interval::new(5, 6)));
-    /// # Ok(())
-    /// # }
+    /// use intervallum::proved::examples::*;
+    ///
+    /// fn main() -> Result<(), std::boxed::Box<dyn std::error::Error>> {
+    ///     let alloc = Global;
+    ///     let a: IntervalSet<i32> = [(1, 2), (5, 6)].to_interval_set(alloc)?;
+    ///     let mut runs = a.into_iter();
+    ///     assert!(runs.next_back() == Some(Interval::new(5, 6)));
+    ///     Ok(())
+    /// }
     /// ```
     fn next_back(&mut self) -> Option<Interval<B>> {
         self.runs.next_back()
@@ -98,14 +102,15 @@ impl<B: Width> IntoIterator for IntervalSet<B> {
     /// `O(1)`. Does not allocate.
     ///
     /// ```
-    /// # use intervallum::proved::examples::*;
-    /// # fn main() -> Result<(), std::boxed::Box<dyn std::error::Error>> {
-    /// # let alloc = Global;
-    /// for run in IntervalSet::new(alloc, 1, 2)? {
-    ///     assert_eq!(run.size(), 2u32);
+    /// use intervallum::proved::examples::*;
+    ///
+    /// fn main() -> Result<(), std::boxed::Box<dyn std::error::Error>> {
+    ///     let alloc = Global;
+    ///     for run in IntervalSet::new(alloc, 1, 2)? {
+    ///         assert_eq!(run.size(), 2u32);
+    ///     }
+    ///     Ok(())
     /// }
-    /// # Ok(())
-    /// # }
     /// ```
     fn into_iter(self) -> IntoRuns<B> {
         IntoRuns::new(self.into_runs())
@@ -126,15 +131,16 @@ impl<'a, B: Width> IntoIterator for &'a IntervalSet<B> {
     /// Does not allocate.
     ///
     /// ```
-    /// # use intervallum::proved::examples::*;
-    /// # fn main() -> Result<(), std::boxed::Box<dyn std::error::Error>> {
-    /// # let alloc = Global;
-    /// let a: IntervalSet<i32> = [(1, 2), (5, 6)].to_interval_set(alloc)?;
-    /// for run in &a {
-    ///     assert_eq!(run.size(), 2u32);
+    /// use intervallum::proved::examples::*;
+    ///
+    /// fn main() -> Result<(), std::boxed::Box<dyn std::error::Error>> {
+    ///     let alloc = Global;
+    ///     let a: IntervalSet<i32> = [(1, 2), (5, 6)].to_interval_set(alloc)?;
+    ///     for run in &a {
+    ///         assert_eq!(run.size(), 2u32);
+    ///     }
+    ///     Ok(())
     /// }
-    /// # Ok(())
-    /// # }
     /// ```
     ///
     /// # Proved
@@ -162,14 +168,15 @@ impl<B: Width> IntervalSet<B> {
     /// plus the spare capacity of the vector that collects the intervals.
     ///
     /// ```
-    /// # use intervallum::proved::examples::*;
-    /// # fn main() -> Result<(), std::boxed::Box<dyn std::error::Error>> {
-    /// # let alloc = Global;
-    /// let mut a = IntervalSet::new(alloc, 1, 2)?;
-    /// a.extend([Interval::new(7, 9), Interval::new(3, 4)].iter().copied())?;
-    /// assert!(a == [(1, 4), (7, 9)].to_interval_set(alloc)?);
-    /// # Ok(())
-    /// # }
+    /// use intervallum::proved::examples::*;
+    ///
+    /// fn main() -> Result<(), std::boxed::Box<dyn std::error::Error>> {
+    ///     let alloc = Global;
+    ///     let mut a = IntervalSet::new(alloc, 1, 2)?;
+    ///     a.extend([Interval::new(7, 9), Interval::new(3, 4)].iter().copied())?;
+    ///     assert!(a == [(1, 4), (7, 9)].to_interval_set(alloc)?);
+    ///     Ok(())
+    /// }
     /// ```
     ///
     /// # Proved
@@ -219,13 +226,14 @@ fn gathered<B: Width, I: Iterator<Item = Interval<B>> + Drop>(
 /// pairs.
 ///
 /// ```
-/// # use intervallum::proved::examples::*;
-/// # fn main() -> Result<(), std::boxed::Box<dyn std::error::Error>> {
-/// # let alloc = Global;
-/// let a: IntervalSet<i32> = (2, 8).to_interval_set(alloc)?;
-/// assert!(a == IntervalSet::new(alloc, 2, 8)?);
-/// # Ok(())
-/// # }
+/// use intervallum::proved::examples::*;
+///
+/// fn main() -> Result<(), std::boxed::Box<dyn std::error::Error>> {
+///     let alloc = Global;
+///     let a: IntervalSet<i32> = (2, 8).to_interval_set(alloc)?;
+///     assert!(a == IntervalSet::new(alloc, 2, 8)?);
+///     Ok(())
+/// }
 /// ```
 ///
 /// Words and laws of the contracts:
@@ -240,12 +248,13 @@ pub trait ToIntervalSet<B: Width> {
     /// allocate.
     ///
     /// ```
-    /// # use intervallum::proved::examples::*;
-    /// # fn main() -> Result<(), std::boxed::Box<dyn std::error::Error>> {
-    /// # let alloc = Global;
-    /// assert!([(1u8, 9), (5, 2)].in_range() && ![(1u8, 9), (0, 255)].in_range());
-    /// # Ok(())
-    /// # }
+    /// use intervallum::proved::examples::*;
+    ///
+    /// fn main() -> Result<(), std::boxed::Box<dyn std::error::Error>> {
+    ///     let alloc = Global;
+    ///     assert!([(1u8, 9), (5, 2)].in_range() && ![(1u8, 9), (0, 255)].in_range());
+    ///     Ok(())
+    /// }
     /// ```
     ///
     /// # Proved
@@ -262,16 +271,19 @@ pub trait ToIntervalSet<B: Width> {
     /// `O(n log n)` for `n` pairs. Reserves at most `2 n` runs. Fails only if allocation fails.
     ///
     /// ```
-    /// # use intervallum::proved::examples::*;
-    /// # fn main() -> Result<(), std::boxed::Box<dyn std::error::Error>> {
-    /// # let alloc = Global;
-    /// let a: IntervalSet<i32> = [(3, 8), (2, 5), (9, 4)].to_interval_set(alloc)?;
-    /// assert!(a == IntervalSet::new(alloc, 2, 8)?);
-    /// # Ok(())
-    /// # }
+    /// use intervallum::proved::examples::*;
+    ///
+    /// fn main() -> Result<(), std::boxed::Box<dyn std::error::Error>> {
+    ///     let alloc = Global;
+    ///     let a: IntervalSet<i32> = [(3, 8), (2, 5), (9, 4)].to_interval_set(alloc)?;
+    ///     assert!(a == IntervalSet::new(alloc, 2, 8)?);
+    ///     Ok(())
+    /// }
     /// ```
     ///
     /// # Proved
+    ///
+    /// If it is `Ok`, the set has exactly the numbers of the given pairs, as the list of their longest runs.
     ///
     /// ```text
     /// requires { can_convert self }

@@ -1,3 +1,4 @@
+// Written by bindings/rust/extract from crates/intervallum/src/interval_set/disjoint.rt.
 //! Whether a value is not a member.
 
 #[allow(unused_imports)]
@@ -20,13 +21,14 @@ impl<B: Width> Disjoint<B> for IntervalSet<B> {
     /// `O(log n)`. Does not allocate.
     ///
     /// ```
-    /// # use intervallum::proved::examples::*;
-    /// # fn main() -> Result<(), std::boxed::Box<dyn std::error::Error>> {
-    /// # let alloc = Global;
-    /// let a: IntervalSet<i32> = [(1, 2), (5, 6)].to_interval_set(alloc)?;
-    /// assert!(a.is_disjoint(&3) && !a.is_disjoint(&5));
-    /// # Ok(())
-    /// # }
+    /// use intervallum::proved::examples::*;
+    ///
+    /// fn main() -> Result<(), std::boxed::Box<dyn std::error::Error>> {
+    ///     let alloc = Global;
+    ///     let a: IntervalSet<i32> = [(1, 2), (5, 6)].to_interval_set(alloc)?;
+    ///     assert!(a.is_disjoint(&3) && !a.is_disjoint(&5));
+    ///     Ok(())
+    /// }
     /// ```
     ///
     /// # Proved
@@ -50,13 +52,14 @@ impl<B: Width> Disjoint<Optional<B>> for IntervalSet<B> {
     /// allocate.
     ///
     /// ```
-    /// # use intervallum::proved::examples::*;
-    /// # fn main() -> Result<(), std::boxed::Box<dyn std::error::Error>> {
-    /// # let alloc = Global;
-    /// let a: IntervalSet<i32> = [(1, 2), (5, 6)].to_interval_set(alloc)?;
-    /// assert!(a.is_disjoint(&Optional::empty()) && !a.is_disjoint(&Optional::singleton(5)));
-    /// # Ok(())
-    /// # }
+    /// use intervallum::proved::examples::*;
+    ///
+    /// fn main() -> Result<(), std::boxed::Box<dyn std::error::Error>> {
+    ///     let alloc = Global;
+    ///     let a: IntervalSet<i32> = [(1, 2), (5, 6)].to_interval_set(alloc)?;
+    ///     assert!(a.is_disjoint(&Optional::empty()) && !a.is_disjoint(&Optional::singleton(5)));
+    ///     Ok(())
+    /// }
     /// ```
     ///
     /// # Proved

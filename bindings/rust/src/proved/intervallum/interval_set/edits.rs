@@ -1,3 +1,4 @@
+// Written by bindings/rust/extract from crates/intervallum/src/interval_set/edits.rt.
 //! Edits in place: members are added to a set and removed from it.
 
 #[allow(unused_imports)]
@@ -29,18 +30,21 @@ impl<B: Width> IntervalSet<B> {
     /// Fails only if allocation fails. The set is then unchanged.
     ///
     /// ```
-    /// # use intervallum::proved::examples::*;
-    /// # fn main() -> Result<(), std::boxed::Box<dyn std::error::Error>> {
-    /// # let alloc = Global;
-    /// let mut a: IntervalSet<i32> = [(1, 2), (4, 5)].to_interval_set(alloc)?;
-    /// assert!(Interval::in_range(3, 3), "it is in the range");
-    /// assert!(a.insert(3)? && !a.insert(3)?);
-    /// assert!(a == IntervalSet::new(alloc, 1, 5)?);
-    /// # Ok(())
-    /// # }
+    /// use intervallum::proved::examples::*;
+    ///
+    /// fn main() -> Result<(), std::boxed::Box<dyn std::error::Error>> {
+    ///     let alloc = Global;
+    ///     let mut a: IntervalSet<i32> = [(1, 2), (4, 5)].to_interval_set(alloc)?;
+    ///     assert!(Interval::in_range(3, 3), "it is in the range");
+    ///     assert!(a.insert(3)? && !a.insert(3)?);
+    ///     assert!(a == IntervalSet::new(alloc, 1, 5)?);
+    ///     Ok(())
+    /// }
     /// ```
     ///
     /// # Proved
+    ///
+    /// If it is `Ok`, the new members are the old ones and the value, and it is true exactly when the value was none before; an error changes nothing, and cannot be where the value touches a member.
     ///
     /// ```text
     /// requires { IsBetween B.whole (B.value value) }
@@ -72,17 +76,20 @@ impl<B: Width> IntervalSet<B> {
     /// Fails only if allocation fails. The set is then unchanged.
     ///
     /// ```
-    /// # use intervallum::proved::examples::*;
-    /// # fn main() -> Result<(), std::boxed::Box<dyn std::error::Error>> {
-    /// # let alloc = Global;
-    /// let mut a = IntervalSet::new(alloc, 1, 5)?;
-    /// assert!(a.remove(3)? && !a.remove(3)?);
-    /// assert!(a == [(1, 2), (4, 5)].to_interval_set(alloc)?);
-    /// # Ok(())
-    /// # }
+    /// use intervallum::proved::examples::*;
+    ///
+    /// fn main() -> Result<(), std::boxed::Box<dyn std::error::Error>> {
+    ///     let alloc = Global;
+    ///     let mut a = IntervalSet::new(alloc, 1, 5)?;
+    ///     assert!(a.remove(3)? && !a.remove(3)?);
+    ///     assert!(a == [(1, 2), (4, 5)].to_interval_set(alloc)?);
+    ///     Ok(())
+    /// }
     /// ```
     ///
     /// # Proved
+    ///
+    /// If it is `Ok`, the new members are the old ones without the value, and it is true exactly when the value was one; an error changes nothing, and can only be where the value stands inside a run.
     ///
     /// ```text
     /// ensures members { OnOk result (IsRunsOf self.new (Without (Covers self.old) (Only (B.value value)))) }
@@ -113,17 +120,20 @@ impl<B: Width> IntervalSet<B> {
     /// Fails only if allocation fails. The set is then unchanged.
     ///
     /// ```
-    /// # use intervallum::proved::examples::*;
-    /// # fn main() -> Result<(), std::boxed::Box<dyn std::error::Error>> {
-    /// # let alloc = Global;
-    /// let mut a: IntervalSet<i32> = [(1, 2), (5, 6), (10, 12)].to_interval_set(alloc)?;
-    /// a.insert_interval(Interval::new(3, 8))?;
-    /// assert!(a == [(1, 8), (10, 12)].to_interval_set(alloc)?);
-    /// # Ok(())
-    /// # }
+    /// use intervallum::proved::examples::*;
+    ///
+    /// fn main() -> Result<(), std::boxed::Box<dyn std::error::Error>> {
+    ///     let alloc = Global;
+    ///     let mut a: IntervalSet<i32> = [(1, 2), (5, 6), (10, 12)].to_interval_set(alloc)?;
+    ///     a.insert_interval(Interval::new(3, 8))?;
+    ///     assert!(a == [(1, 8), (10, 12)].to_interval_set(alloc)?);
+    ///     Ok(())
+    /// }
     /// ```
     ///
     /// # Proved
+    ///
+    /// If it is `Ok`, the new members are the old ones and the numbers of the interval; an error changes nothing, and cannot be where the interval is empty, or touches a member.
     ///
     /// ```text
     /// ensures ok { OnOk result (IsRunsOf self.new (Union (Covers self.old) (IsBetween interval))) }
@@ -151,14 +161,15 @@ impl<B: Width> IntervalSet<B> {
     /// Fails only if allocation fails. The set is then unchanged.
     ///
     /// ```
-    /// # use intervallum::proved::examples::*;
-    /// # fn main() -> Result<(), std::boxed::Box<dyn std::error::Error>> {
-    /// # let alloc = Global;
-    /// let mut a: IntervalSet<i32> = [(1, 2), (5, 6), (10, 12)].to_interval_set(alloc)?;
-    /// a.insert_interval_near(Interval::new(8, 9), 1)?;
-    /// assert!(a == [(1, 2), (5, 6), (8, 12)].to_interval_set(alloc)?);
-    /// # Ok(())
-    /// # }
+    /// use intervallum::proved::examples::*;
+    ///
+    /// fn main() -> Result<(), std::boxed::Box<dyn std::error::Error>> {
+    ///     let alloc = Global;
+    ///     let mut a: IntervalSet<i32> = [(1, 2), (5, 6), (10, 12)].to_interval_set(alloc)?;
+    ///     a.insert_interval_near(Interval::new(8, 9), 1)?;
+    ///     assert!(a == [(1, 2), (5, 6), (8, 12)].to_interval_set(alloc)?);
+    ///     Ok(())
+    /// }
     /// ```
     ///
     /// # Proved
@@ -202,17 +213,20 @@ impl<B: Width> IntervalSet<B> {
     /// Fails only if allocation fails. The set is then unchanged.
     ///
     /// ```
-    /// # use intervallum::proved::examples::*;
-    /// # fn main() -> Result<(), std::boxed::Box<dyn std::error::Error>> {
-    /// # let alloc = Global;
-    /// let mut a: IntervalSet<i32> = [(1, 4), (6, 6), (10, 12)].to_interval_set(alloc)?;
-    /// a.remove_interval(Interval::new(3, 10))?;
-    /// assert!(a == [(1, 2), (11, 12)].to_interval_set(alloc)?);
-    /// # Ok(())
-    /// # }
+    /// use intervallum::proved::examples::*;
+    ///
+    /// fn main() -> Result<(), std::boxed::Box<dyn std::error::Error>> {
+    ///     let alloc = Global;
+    ///     let mut a: IntervalSet<i32> = [(1, 4), (6, 6), (10, 12)].to_interval_set(alloc)?;
+    ///     a.remove_interval(Interval::new(3, 10))?;
+    ///     assert!(a == [(1, 2), (11, 12)].to_interval_set(alloc)?);
+    ///     Ok(())
+    /// }
     /// ```
     ///
     /// # Proved
+    ///
+    /// If it is `Ok`, the new members are the old ones that are not in the interval; an error changes nothing, and can only be where the interval stands inside a run.
     ///
     /// ```text
     /// ensures ok { OnOk result (IsRunsOf self.new (Without (Covers self.old) (IsBetween interval))) }
@@ -240,14 +254,15 @@ impl<B: Width> IntervalSet<B> {
     /// Fails only if allocation fails. The set is then unchanged.
     ///
     /// ```
-    /// # use intervallum::proved::examples::*;
-    /// # fn main() -> Result<(), std::boxed::Box<dyn std::error::Error>> {
-    /// # let alloc = Global;
-    /// let mut a: IntervalSet<i32> = [(1, 4), (6, 6), (10, 12)].to_interval_set(alloc)?;
-    /// a.remove_interval_near(Interval::new(11, 20), 2)?;
-    /// assert!(a == [(1, 4), (6, 6), (10, 10)].to_interval_set(alloc)?);
-    /// # Ok(())
-    /// # }
+    /// use intervallum::proved::examples::*;
+    ///
+    /// fn main() -> Result<(), std::boxed::Box<dyn std::error::Error>> {
+    ///     let alloc = Global;
+    ///     let mut a: IntervalSet<i32> = [(1, 4), (6, 6), (10, 12)].to_interval_set(alloc)?;
+    ///     a.remove_interval_near(Interval::new(11, 20), 2)?;
+    ///     assert!(a == [(1, 4), (6, 6), (10, 10)].to_interval_set(alloc)?);
+    ///     Ok(())
+    /// }
     /// ```
     ///
     /// # Proved
@@ -285,14 +300,15 @@ impl<B: Width> IntervalSet<B> {
     /// Removes all members and keeps the capacity. Does not allocate.
     ///
     /// ```
-    /// # use intervallum::proved::examples::*;
-    /// # fn main() -> Result<(), std::boxed::Box<dyn std::error::Error>> {
-    /// # let alloc = Global;
-    /// let mut a = IntervalSet::new(alloc, 1, 5)?;
-    /// a.clear();
-    /// assert!(a.is_empty());
-    /// # Ok(())
-    /// # }
+    /// use intervallum::proved::examples::*;
+    ///
+    /// fn main() -> Result<(), std::boxed::Box<dyn std::error::Error>> {
+    ///     let alloc = Global;
+    ///     let mut a = IntervalSet::new(alloc, 1, 5)?;
+    ///     a.clear();
+    ///     assert!(a.is_empty());
+    ///     Ok(())
+    /// }
     /// ```
     ///
     /// # Proved
@@ -309,14 +325,15 @@ impl<B: Width> IntervalSet<B> {
     /// `O(n)` if the member is a run by itself, as the other runs then move. Does not allocate.
     ///
     /// ```
-    /// # use intervallum::proved::examples::*;
-    /// # fn main() -> Result<(), std::boxed::Box<dyn std::error::Error>> {
-    /// # let alloc = Global;
-    /// let mut a: IntervalSet<i32> = [(1, 2), (5, 6)].to_interval_set(alloc)?;
-    /// assert_eq!(a.pop_first(), Some(1));
-    /// assert!(a == [(2, 2), (5, 6)].to_interval_set(alloc)?);
-    /// # Ok(())
-    /// # }
+    /// use intervallum::proved::examples::*;
+    ///
+    /// fn main() -> Result<(), std::boxed::Box<dyn std::error::Error>> {
+    ///     let alloc = Global;
+    ///     let mut a: IntervalSet<i32> = [(1, 2), (5, 6)].to_interval_set(alloc)?;
+    ///     assert_eq!(a.pop_first(), Some(1));
+    ///     assert!(a == [(2, 2), (5, 6)].to_interval_set(alloc)?);
+    ///     Ok(())
+    /// }
     /// ```
     ///
     /// # Proved
@@ -345,14 +362,15 @@ impl<B: Width> IntervalSet<B> {
     /// not allocate.
     ///
     /// ```
-    /// # use intervallum::proved::examples::*;
-    /// # fn main() -> Result<(), std::boxed::Box<dyn std::error::Error>> {
-    /// # let alloc = Global;
-    /// let mut a: IntervalSet<i32> = [(1, 2), (5, 6)].to_interval_set(alloc)?;
-    /// assert_eq!(a.pop_last(), Some(6));
-    /// assert!(a == [(1, 2), (5, 5)].to_interval_set(alloc)?);
-    /// # Ok(())
-    /// # }
+    /// use intervallum::proved::examples::*;
+    ///
+    /// fn main() -> Result<(), std::boxed::Box<dyn std::error::Error>> {
+    ///     let alloc = Global;
+    ///     let mut a: IntervalSet<i32> = [(1, 2), (5, 6)].to_interval_set(alloc)?;
+    ///     assert_eq!(a.pop_last(), Some(6));
+    ///     assert!(a == [(1, 2), (5, 5)].to_interval_set(alloc)?);
+    ///     Ok(())
+    /// }
     /// ```
     ///
     /// # Proved

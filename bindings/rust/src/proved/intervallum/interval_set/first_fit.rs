@@ -1,3 +1,4 @@
+// Written by bindings/rust/extract from crates/intervallum/src/interval_set/first_fit.rt.
 //! Consecutive members, and the numbers of an interval that are not members.
 
 #[allow(unused_imports)]
@@ -17,17 +18,20 @@ impl<B: Width> IntervalSet<B> {
     /// Scans the runs up to the first that is long enough: `O(n)`. Does not allocate.
     ///
     /// ```
-    /// # use intervallum::proved::examples::*;
-    /// # fn main() -> Result<(), std::boxed::Box<dyn std::error::Error>> {
-    /// # let alloc = Global;
-    /// let a: IntervalSet<i32> = [(1, 2), (5, 9)].to_interval_set(alloc)?;
-    /// assert!(a.first_fit(3) == Some(Interval::new(5, 7)));
-    /// assert!(a.first_fit(6).is_none());
-    /// # Ok(())
-    /// # }
+    /// use intervallum::proved::examples::*;
+    ///
+    /// fn main() -> Result<(), std::boxed::Box<dyn std::error::Error>> {
+    ///     let alloc = Global;
+    ///     let a: IntervalSet<i32> = [(1, 2), (5, 9)].to_interval_set(alloc)?;
+    ///     assert!(a.first_fit(3) == Some(Interval::new(5, 7)));
+    ///     assert!(a.first_fit(6).is_none());
+    ///     Ok(())
+    /// }
     /// ```
     ///
     /// # Proved
+    ///
+    /// The answer is the lowest `count` consecutive members, or `None` if there are none.
     ///
     /// ```text
     /// requires { 0 < B.Output.size count }
@@ -50,14 +54,15 @@ impl<B: Width> IntervalSet<B> {
     /// enough: `O(log n + k)`. Does not allocate.
     ///
     /// ```
-    /// # use intervallum::proved::examples::*;
-    /// # fn main() -> Result<(), std::boxed::Box<dyn std::error::Error>> {
-    /// # let alloc = Global;
-    /// let a: IntervalSet<i32> = [(1, 2), (5, 9)].to_interval_set(alloc)?;
-    /// assert!(a.first_fit_from(6, 3) == Some(Interval::new(6, 8)));
-    /// assert!(a.first_fit_from(8, 3).is_none());
-    /// # Ok(())
-    /// # }
+    /// use intervallum::proved::examples::*;
+    ///
+    /// fn main() -> Result<(), std::boxed::Box<dyn std::error::Error>> {
+    ///     let alloc = Global;
+    ///     let a: IntervalSet<i32> = [(1, 2), (5, 9)].to_interval_set(alloc)?;
+    ///     assert!(a.first_fit_from(6, 3) == Some(Interval::new(6, 8)));
+    ///     assert!(a.first_fit_from(8, 3).is_none());
+    ///     Ok(())
+    /// }
     /// ```
     ///
     /// # Proved
@@ -86,14 +91,15 @@ impl<B: Width> IntervalSet<B> {
     /// and at most about twice as many more until it returns.
     ///
     /// ```
-    /// # use intervallum::proved::examples::*;
-    /// # fn main() -> Result<(), std::boxed::Box<dyn std::error::Error>> {
-    /// # let alloc = Global;
-    /// let a: IntervalSet<i32> = [(1, 2), (5, 6)].to_interval_set(alloc)?;
-    /// let free = a.gaps_within(&Interval::new(2, 7))?;
-    /// assert!(free == [(3, 4), (7, 7)].to_interval_set(alloc)?);
-    /// # Ok(())
-    /// # }
+    /// use intervallum::proved::examples::*;
+    ///
+    /// fn main() -> Result<(), std::boxed::Box<dyn std::error::Error>> {
+    ///     let alloc = Global;
+    ///     let a: IntervalSet<i32> = [(1, 2), (5, 6)].to_interval_set(alloc)?;
+    ///     let free = a.gaps_within(&Interval::new(2, 7))?;
+    ///     assert!(free == [(3, 4), (7, 7)].to_interval_set(alloc)?);
+    ///     Ok(())
+    /// }
     /// ```
     ///
     /// # Proved

@@ -1,3 +1,4 @@
+// Written by bindings/rust/extract from crates/intervallum/src/interval_set/fits.rt.
 //! Whether the results of arithmetic of sets are in the range.
 //!
 //! Each call reads only the ends of the sets, since the least and the greatest result are results
@@ -23,14 +24,15 @@ impl<B: Width> Fits<IntervalSet<B>> for IntervalSet<B> {
     /// Does not allocate.
     ///
     /// ```
-    /// # use intervallum::proved::examples::*;
-    /// # fn main() -> Result<(), std::boxed::Box<dyn std::error::Error>> {
-    /// # let alloc = Global;
-    /// let a = IntervalSet::new(alloc, 100i8, 100)?;
-    /// assert!(a.fits_add(&IntervalSet::new(alloc, 27, 27)?));
-    /// assert!(!a.fits_add(&IntervalSet::new(alloc, 28, 28)?));
-    /// # Ok(())
-    /// # }
+    /// use intervallum::proved::examples::*;
+    ///
+    /// fn main() -> Result<(), std::boxed::Box<dyn std::error::Error>> {
+    ///     let alloc = Global;
+    ///     let a = IntervalSet::new(alloc, 100i8, 100)?;
+    ///     assert!(a.fits_add(&IntervalSet::new(alloc, 27, 27)?));
+    ///     assert!(!a.fits_add(&IntervalSet::new(alloc, 28, 28)?));
+    ///     Ok(())
+    /// }
     /// ```
     ///
     /// # Proved
@@ -44,14 +46,15 @@ impl<B: Width> Fits<IntervalSet<B>> for IntervalSet<B> {
     /// Does not allocate.
     ///
     /// ```
-    /// # use intervallum::proved::examples::*;
-    /// # fn main() -> Result<(), std::boxed::Box<dyn std::error::Error>> {
-    /// # let alloc = Global;
-    /// let a = IntervalSet::new(alloc, 3u8, 5)?;
-    /// assert!(a.fits_sub(&IntervalSet::new(alloc, 0, 3)?));
-    /// assert!(!a.fits_sub(&IntervalSet::new(alloc, 4, 4)?));
-    /// # Ok(())
-    /// # }
+    /// use intervallum::proved::examples::*;
+    ///
+    /// fn main() -> Result<(), std::boxed::Box<dyn std::error::Error>> {
+    ///     let alloc = Global;
+    ///     let a = IntervalSet::new(alloc, 3u8, 5)?;
+    ///     assert!(a.fits_sub(&IntervalSet::new(alloc, 0, 3)?));
+    ///     assert!(!a.fits_sub(&IntervalSet::new(alloc, 4, 4)?));
+    ///     Ok(())
+    /// }
     /// ```
     ///
     /// # Proved
@@ -65,14 +68,15 @@ impl<B: Width> Fits<IntervalSet<B>> for IntervalSet<B> {
     /// Does not allocate.
     ///
     /// ```
-    /// # use intervallum::proved::examples::*;
-    /// # fn main() -> Result<(), std::boxed::Box<dyn std::error::Error>> {
-    /// # let alloc = Global;
-    /// let a = IntervalSet::new(alloc, 100i8, 100)?;
-    /// assert!(a.fits_mul(&IntervalSet::new(alloc, -1, 1)?));
-    /// assert!(!a.fits_mul(&IntervalSet::new(alloc, 2, 2)?));
-    /// # Ok(())
-    /// # }
+    /// use intervallum::proved::examples::*;
+    ///
+    /// fn main() -> Result<(), std::boxed::Box<dyn std::error::Error>> {
+    ///     let alloc = Global;
+    ///     let a = IntervalSet::new(alloc, 100i8, 100)?;
+    ///     assert!(a.fits_mul(&IntervalSet::new(alloc, -1, 1)?));
+    ///     assert!(!a.fits_mul(&IntervalSet::new(alloc, 2, 2)?));
+    ///     Ok(())
+    /// }
     /// ```
     ///
     /// # Proved
@@ -97,13 +101,14 @@ impl<B: Width> Fits<B> for IntervalSet<B> {
     /// `O(1)`. Does not allocate.
     ///
     /// ```
-    /// # use intervallum::proved::examples::*;
-    /// # fn main() -> Result<(), std::boxed::Box<dyn std::error::Error>> {
-    /// # let alloc = Global;
-    /// let a = IntervalSet::new(alloc, 100i8, 100)?;
-    /// assert!(a.fits_add(&27) && !a.fits_add(&28));
-    /// # Ok(())
-    /// # }
+    /// use intervallum::proved::examples::*;
+    ///
+    /// fn main() -> Result<(), std::boxed::Box<dyn std::error::Error>> {
+    ///     let alloc = Global;
+    ///     let a = IntervalSet::new(alloc, 100i8, 100)?;
+    ///     assert!(a.fits_add(&27) && !a.fits_add(&28));
+    ///     Ok(())
+    /// }
     /// ```
     ///
     /// # Proved
@@ -117,13 +122,14 @@ impl<B: Width> Fits<B> for IntervalSet<B> {
     /// `O(1)`. Does not allocate.
     ///
     /// ```
-    /// # use intervallum::proved::examples::*;
-    /// # fn main() -> Result<(), std::boxed::Box<dyn std::error::Error>> {
-    /// # let alloc = Global;
-    /// let a = IntervalSet::new(alloc, 3u8, 5)?;
-    /// assert!(a.fits_sub(&3) && !a.fits_sub(&4));
-    /// # Ok(())
-    /// # }
+    /// use intervallum::proved::examples::*;
+    ///
+    /// fn main() -> Result<(), std::boxed::Box<dyn std::error::Error>> {
+    ///     let alloc = Global;
+    ///     let a = IntervalSet::new(alloc, 3u8, 5)?;
+    ///     assert!(a.fits_sub(&3) && !a.fits_sub(&4));
+    ///     Ok(())
+    /// }
     /// ```
     ///
     /// # Proved
@@ -137,13 +143,14 @@ impl<B: Width> Fits<B> for IntervalSet<B> {
     /// `O(1)`. Does not allocate.
     ///
     /// ```
-    /// # use intervallum::proved::examples::*;
-    /// # fn main() -> Result<(), std::boxed::Box<dyn std::error::Error>> {
-    /// # let alloc = Global;
-    /// let a = IntervalSet::new(alloc, 100i8, 100)?;
-    /// assert!(a.fits_mul(&1) && !a.fits_mul(&2));
-    /// # Ok(())
-    /// # }
+    /// use intervallum::proved::examples::*;
+    ///
+    /// fn main() -> Result<(), std::boxed::Box<dyn std::error::Error>> {
+    ///     let alloc = Global;
+    ///     let a = IntervalSet::new(alloc, 100i8, 100)?;
+    ///     assert!(a.fits_mul(&1) && !a.fits_mul(&2));
+    ///     Ok(())
+    /// }
     /// ```
     ///
     /// # Proved

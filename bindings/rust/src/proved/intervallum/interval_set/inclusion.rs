@@ -1,3 +1,4 @@
+// Written by bindings/rust/extract from crates/intervallum/src/interval_set/inclusion.rt.
 //! Which of two sets includes the other.
 
 #[allow(unused_imports)]
@@ -26,13 +27,14 @@ impl<B: Width> Subset for IntervalSet<B> {
     /// set has more members than `other`.
     ///
     /// ```
-    /// # use intervallum::proved::examples::*;
-    /// # fn main() -> Result<(), std::boxed::Box<dyn std::error::Error>> {
-    /// # let alloc = Global;
-    /// let (a, b) = (IntervalSet::new(alloc, 1, 2)?, IntervalSet::new(alloc, 0, 10)?);
-    /// assert!(a.is_subset(&b) && !b.is_subset(&a));
-    /// # Ok(())
-    /// # }
+    /// use intervallum::proved::examples::*;
+    ///
+    /// fn main() -> Result<(), std::boxed::Box<dyn std::error::Error>> {
+    ///     let alloc = Global;
+    ///     let (a, b) = (IntervalSet::new(alloc, 1, 2)?, IntervalSet::new(alloc, 0, 10)?);
+    ///     assert!(a.is_subset(&b) && !b.is_subset(&a));
+    ///     Ok(())
+    /// }
     /// ```
     ///
     /// # Proved
@@ -91,13 +93,14 @@ impl<B: Width> ProperSubset for IntervalSet<B> {
     /// `O(n log (m / n + 2))`, or `O(1)` if the sizes are equal. Does not allocate.
     ///
     /// ```
-    /// # use intervallum::proved::examples::*;
-    /// # fn main() -> Result<(), std::boxed::Box<dyn std::error::Error>> {
-    /// # let alloc = Global;
-    /// let (a, b) = (IntervalSet::new(alloc, 1, 2)?, IntervalSet::new(alloc, 0, 10)?);
-    /// assert!(a.is_proper_subset(&b) && !a.is_proper_subset(&a));
-    /// # Ok(())
-    /// # }
+    /// use intervallum::proved::examples::*;
+    ///
+    /// fn main() -> Result<(), std::boxed::Box<dyn std::error::Error>> {
+    ///     let alloc = Global;
+    ///     let (a, b) = (IntervalSet::new(alloc, 1, 2)?, IntervalSet::new(alloc, 0, 10)?);
+    ///     assert!(a.is_proper_subset(&b) && !a.is_proper_subset(&a));
+    ///     Ok(())
+    /// }
     /// ```
     ///
     /// # Proved
@@ -113,13 +116,14 @@ impl<B: Width> IntervalSet<B> {
     /// `O(m log (n / m + 2))`, or `O(1)` if `other` has more members. Does not allocate.
     ///
     /// ```
-    /// # use intervallum::proved::examples::*;
-    /// # fn main() -> Result<(), std::boxed::Box<dyn std::error::Error>> {
-    /// # let alloc = Global;
-    /// let (a, b) = (IntervalSet::new(alloc, 0, 10)?, IntervalSet::new(alloc, 1, 2)?);
-    /// assert!(a.is_superset(&b) && !b.is_superset(&a));
-    /// # Ok(())
-    /// # }
+    /// use intervallum::proved::examples::*;
+    ///
+    /// fn main() -> Result<(), std::boxed::Box<dyn std::error::Error>> {
+    ///     let alloc = Global;
+    ///     let (a, b) = (IntervalSet::new(alloc, 0, 10)?, IntervalSet::new(alloc, 1, 2)?);
+    ///     assert!(a.is_superset(&b) && !b.is_superset(&a));
+    ///     Ok(())
+    /// }
     /// ```
     ///
     /// # Proved
@@ -137,13 +141,14 @@ impl<B: Width> IntervalSet<B> {
     /// `O(m log (n / m + 2))`, or `O(1)` if the sizes are equal. Does not allocate.
     ///
     /// ```
-    /// # use intervallum::proved::examples::*;
-    /// # fn main() -> Result<(), std::boxed::Box<dyn std::error::Error>> {
-    /// # let alloc = Global;
-    /// let (a, b) = (IntervalSet::new(alloc, 0, 10)?, IntervalSet::new(alloc, 1, 2)?);
-    /// assert!(a.is_proper_superset(&b) && !a.is_proper_superset(&a));
-    /// # Ok(())
-    /// # }
+    /// use intervallum::proved::examples::*;
+    ///
+    /// fn main() -> Result<(), std::boxed::Box<dyn std::error::Error>> {
+    ///     let alloc = Global;
+    ///     let (a, b) = (IntervalSet::new(alloc, 0, 10)?, IntervalSet::new(alloc, 1, 2)?);
+    ///     assert!(a.is_proper_superset(&b) && !a.is_proper_superset(&a));
+    ///     Ok(())
+    /// }
     /// ```
     ///
     /// # Proved
@@ -170,14 +175,15 @@ impl<B: Width> Entailment for IntervalSet<B> {
     /// `Unknown`. `O(n log (m / n + 2) + m log (n / m + 2))`. Does not allocate.
     ///
     /// ```
-    /// # use intervallum::proved::examples::*;
-    /// # fn main() -> Result<(), std::boxed::Box<dyn std::error::Error>> {
-    /// # let alloc = Global;
-    /// let (a, b) = (IntervalSet::new(alloc, 1, 2)?, IntervalSet::new(alloc, 0, 10)?);
-    /// assert_eq!(a.entail(&b), SKleene::True);
-    /// assert_eq!(b.entail(&a), SKleene::False);
-    /// # Ok(())
-    /// # }
+    /// use intervallum::proved::examples::*;
+    ///
+    /// fn main() -> Result<(), std::boxed::Box<dyn std::error::Error>> {
+    ///     let alloc = Global;
+    ///     let (a, b) = (IntervalSet::new(alloc, 1, 2)?, IntervalSet::new(alloc, 0, 10)?);
+    ///     assert_eq!(a.entail(&b), SKleene::True);
+    ///     assert_eq!(b.entail(&a), SKleene::False);
+    ///     Ok(())
+    /// }
     /// ```
     ///
     /// # Proved

@@ -1,3 +1,4 @@
+// Written by bindings/rust/extract from crates/intervallum/src/interval_set/interval_operands.rt.
 //! Operations on a set and a single interval.
 
 #[allow(unused_imports)]
@@ -16,14 +17,15 @@ impl<B: Width> IntervalSet<B> {
     /// run, or nothing for an empty interval. Fails only if allocation fails.
     ///
     /// ```
-    /// # use intervallum::proved::examples::*;
-    /// # fn main() -> Result<(), std::boxed::Box<dyn std::error::Error>> {
-    /// # let alloc = Global;
-    /// let a = IntervalSet::of(alloc, Interval::new(1, 2))?;
-    /// assert!(a == IntervalSet::new(alloc, 1, 2)?);
-    /// assert!(IntervalSet::of(alloc, Interval::<i32>::empty())?.is_empty());
-    /// # Ok(())
-    /// # }
+    /// use intervallum::proved::examples::*;
+    ///
+    /// fn main() -> Result<(), std::boxed::Box<dyn std::error::Error>> {
+    ///     let alloc = Global;
+    ///     let a = IntervalSet::of(alloc, Interval::new(1, 2))?;
+    ///     assert!(a == IntervalSet::new(alloc, 1, 2)?);
+    ///     assert!(IntervalSet::of(alloc, Interval::<i32>::empty())?.is_empty());
+    ///     Ok(())
+    /// }
     /// ```
     ///
     /// # Proved
@@ -45,13 +47,14 @@ impl<B: Width> IntervalSet<B> {
     /// an empty interval. Binary search: `O(log n)`. Does not allocate.
     ///
     /// ```
-    /// # use intervallum::proved::examples::*;
-    /// # fn main() -> Result<(), std::boxed::Box<dyn std::error::Error>> {
-    /// # let alloc = Global;
-    /// let a: IntervalSet<i32> = [(1, 5), (8, 9)].to_interval_set(alloc)?;
-    /// assert!(a.includes(&Interval::new(2, 5)) && !a.includes(&Interval::new(5, 8)));
-    /// # Ok(())
-    /// # }
+    /// use intervallum::proved::examples::*;
+    ///
+    /// fn main() -> Result<(), std::boxed::Box<dyn std::error::Error>> {
+    ///     let alloc = Global;
+    ///     let a: IntervalSet<i32> = [(1, 5), (8, 9)].to_interval_set(alloc)?;
+    ///     assert!(a.includes(&Interval::new(2, 5)) && !a.includes(&Interval::new(5, 8)));
+    ///     Ok(())
+    /// }
     /// ```
     ///
     /// # Proved
@@ -85,13 +88,14 @@ impl<B: Width> Overlap<Interval<B>> for IntervalSet<B> {
     /// `O(log n)`. Does not allocate.
     ///
     /// ```
-    /// # use intervallum::proved::examples::*;
-    /// # fn main() -> Result<(), std::boxed::Box<dyn std::error::Error>> {
-    /// # let alloc = Global;
-    /// let a: IntervalSet<i32> = [(1, 2), (5, 6)].to_interval_set(alloc)?;
-    /// assert!(a.overlap(&Interval::new(3, 5)) && !a.overlap(&Interval::new(3, 4)));
-    /// # Ok(())
-    /// # }
+    /// use intervallum::proved::examples::*;
+    ///
+    /// fn main() -> Result<(), std::boxed::Box<dyn std::error::Error>> {
+    ///     let alloc = Global;
+    ///     let a: IntervalSet<i32> = [(1, 2), (5, 6)].to_interval_set(alloc)?;
+    ///     assert!(a.overlap(&Interval::new(3, 5)) && !a.overlap(&Interval::new(3, 4)));
+    ///     Ok(())
+    /// }
     /// ```
     ///
     /// # Proved
@@ -121,13 +125,14 @@ impl<B: Width> Disjoint<Interval<B>> for IntervalSet<B> {
     /// empty interval. Binary search: `O(log n)`. Does not allocate.
     ///
     /// ```
-    /// # use intervallum::proved::examples::*;
-    /// # fn main() -> Result<(), std::boxed::Box<dyn std::error::Error>> {
-    /// # let alloc = Global;
-    /// let a: IntervalSet<i32> = [(1, 2), (5, 6)].to_interval_set(alloc)?;
-    /// assert!(a.is_disjoint(&Interval::new(3, 4)) && !a.is_disjoint(&Interval::new(3, 5)));
-    /// # Ok(())
-    /// # }
+    /// use intervallum::proved::examples::*;
+    ///
+    /// fn main() -> Result<(), std::boxed::Box<dyn std::error::Error>> {
+    ///     let alloc = Global;
+    ///     let a: IntervalSet<i32> = [(1, 2), (5, 6)].to_interval_set(alloc)?;
+    ///     assert!(a.is_disjoint(&Interval::new(3, 4)) && !a.is_disjoint(&Interval::new(3, 5)));
+    ///     Ok(())
+    /// }
     /// ```
     ///
     /// # Proved
@@ -155,13 +160,14 @@ impl<B: Width> Union<Interval<B>> for IntervalSet<B> {
     /// a binary search. Reserves `n + 1` runs once. Fails only if allocation fails.
     ///
     /// ```
-    /// # use intervallum::proved::examples::*;
-    /// # fn main() -> Result<(), std::boxed::Box<dyn std::error::Error>> {
-    /// # let alloc = Global;
-    /// let a = IntervalSet::new(alloc, 1, 5)?;
-    /// assert!(a.union(&Interval::new(6, 9))? == IntervalSet::new(alloc, 1, 9)?);
-    /// # Ok(())
-    /// # }
+    /// use intervallum::proved::examples::*;
+    ///
+    /// fn main() -> Result<(), std::boxed::Box<dyn std::error::Error>> {
+    ///     let alloc = Global;
+    ///     let a = IntervalSet::new(alloc, 1, 5)?;
+    ///     assert!(a.union(&Interval::new(6, 9))? == IntervalSet::new(alloc, 1, 9)?);
+    ///     Ok(())
+    /// }
     /// ```
     ///
     /// # Proved
@@ -195,13 +201,14 @@ impl<B: Width> Intersection<Interval<B>> for IntervalSet<B> {
     /// overlap the interval. Reserves `k` runs once. Fails only if allocation fails.
     ///
     /// ```
-    /// # use intervallum::proved::examples::*;
-    /// # fn main() -> Result<(), std::boxed::Box<dyn std::error::Error>> {
-    /// # let alloc = Global;
-    /// let a: IntervalSet<i32> = [(1, 5), (8, 9)].to_interval_set(alloc)?;
-    /// assert!(a.intersection(&Interval::new(4, 7))? == IntervalSet::new(alloc, 4, 5)?);
-    /// # Ok(())
-    /// # }
+    /// use intervallum::proved::examples::*;
+    ///
+    /// fn main() -> Result<(), std::boxed::Box<dyn std::error::Error>> {
+    ///     let alloc = Global;
+    ///     let a: IntervalSet<i32> = [(1, 5), (8, 9)].to_interval_set(alloc)?;
+    ///     assert!(a.intersection(&Interval::new(4, 7))? == IntervalSet::new(alloc, 4, 5)?);
+    ///     Ok(())
+    /// }
     /// ```
     ///
     /// # Proved
@@ -233,14 +240,15 @@ impl<B: Width> Difference<Interval<B>> for IntervalSet<B> {
     /// Reserves `n + 1` runs once. Fails only if allocation fails.
     ///
     /// ```
-    /// # use intervallum::proved::examples::*;
-    /// # fn main() -> Result<(), std::boxed::Box<dyn std::error::Error>> {
-    /// # let alloc = Global;
-    /// let a = IntervalSet::new(alloc, 1, 9)?;
-    /// let rest = a.difference(&Interval::new(4, 7))?;
-    /// assert!(rest == [(1, 3), (8, 9)].to_interval_set(alloc)?);
-    /// # Ok(())
-    /// # }
+    /// use intervallum::proved::examples::*;
+    ///
+    /// fn main() -> Result<(), std::boxed::Box<dyn std::error::Error>> {
+    ///     let alloc = Global;
+    ///     let a = IntervalSet::new(alloc, 1, 9)?;
+    ///     let rest = a.difference(&Interval::new(4, 7))?;
+    ///     assert!(rest == [(1, 3), (8, 9)].to_interval_set(alloc)?);
+    ///     Ok(())
+    /// }
     /// ```
     ///
     /// # Proved
@@ -276,14 +284,15 @@ impl<B: Width> SymmetricDifference<Interval<B>> for IntervalSet<B> {
     /// fails.
     ///
     /// ```
-    /// # use intervallum::proved::examples::*;
-    /// # fn main() -> Result<(), std::boxed::Box<dyn std::error::Error>> {
-    /// # let alloc = Global;
-    /// let a = IntervalSet::new(alloc, 1, 5)?;
-    /// let other = a.symmetric_difference(&Interval::new(4, 9))?;
-    /// assert!(other == [(1, 3), (6, 9)].to_interval_set(alloc)?);
-    /// # Ok(())
-    /// # }
+    /// use intervallum::proved::examples::*;
+    ///
+    /// fn main() -> Result<(), std::boxed::Box<dyn std::error::Error>> {
+    ///     let alloc = Global;
+    ///     let a = IntervalSet::new(alloc, 1, 5)?;
+    ///     let other = a.symmetric_difference(&Interval::new(4, 9))?;
+    ///     assert!(other == [(1, 3), (6, 9)].to_interval_set(alloc)?);
+    ///     Ok(())
+    /// }
     /// ```
     ///
     /// # Proved

@@ -1,3 +1,4 @@
+// Written by bindings/rust/extract from crates/intervallum/src/interval_set/iter.rt.
 //! The runs of a set as a slice, and the facts about them.
 
 #[allow(unused_imports)]
@@ -11,13 +12,14 @@ impl<B: Width> IntervalSet<B> {
     /// order, with a number missing between neighbours. `O(1)`. Does not allocate.
     ///
     /// ```
-    /// # use intervallum::proved::examples::*;
-    /// # fn main() -> Result<(), std::boxed::Box<dyn std::error::Error>> {
-    /// # let alloc = Global;
-    /// let a: IntervalSet<i32> = [(5, 6), (1, 2)].to_interval_set(alloc)?;
-    /// assert!(a.runs().len() == 2 && a.runs()[1] == Interval::new(5, 6));
-    /// # Ok(())
-    /// # }
+    /// use intervallum::proved::examples::*;
+    ///
+    /// fn main() -> Result<(), std::boxed::Box<dyn std::error::Error>> {
+    ///     let alloc = Global;
+    ///     let a: IntervalSet<i32> = [(5, 6), (1, 2)].to_interval_set(alloc)?;
+    ///     assert!(a.runs().len() == 2 && a.runs()[1] == Interval::new(5, 6));
+    ///     Ok(())
+    /// }
     /// ```
     ///
     /// # Proved
@@ -36,14 +38,15 @@ impl<B: Width> IntervalSet<B> {
     /// Does nothing: its contract states that the runs are maximal and lie in the range.
     ///
     /// ```
-    /// # use intervallum::proved::examples::*;
-    /// # fn main() -> Result<(), std::boxed::Box<dyn std::error::Error>> {
-    /// # let alloc = Global;
-    /// let a: IntervalSet<i32> = IntervalSet::new(alloc, 1, 5)?;
-    /// a.in_whole(); // a proof knows from here on that the members of `a` are in the range
-    /// assert!(!a.contains(&i32::MIN));
-    /// # Ok(())
-    /// # }
+    /// use intervallum::proved::examples::*;
+    ///
+    /// fn main() -> Result<(), std::boxed::Box<dyn std::error::Error>> {
+    ///     let alloc = Global;
+    ///     let a: IntervalSet<i32> = IntervalSet::new(alloc, 1, 5)?;
+    ///     a.in_whole(); // a proof knows from here on that the members of `a` are in the range
+    ///     assert!(!a.contains(&i32::MIN));
+    ///     Ok(())
+    /// }
     /// ```
     ///
     /// # Proved

@@ -1,3 +1,4 @@
+// Written by bindings/rust/extract from crates/intervallum/src/interval_set/lopsided.rt.
 //! Operations on a set of few runs and one of many: searches for each of the few among the many,
 //! from where the last search ended.
 

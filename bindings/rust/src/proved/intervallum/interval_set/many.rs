@@ -1,3 +1,4 @@
+// Written by bindings/rust/extract from crates/intervallum/src/interval_set/many.rt.
 //! The union and the intersection of many sets.
 
 #[allow(unused_imports)]
@@ -14,18 +15,19 @@ impl<B: Width> IntervalSet<B> {
     /// in all. Needs memory for at most `2 n` runs at a time. Fails only if allocation fails.
     ///
     /// ```
-    /// # use intervallum::proved::examples::*;
-    /// # fn main() -> Result<(), std::boxed::Box<dyn std::error::Error>> {
-    /// # let alloc = Global;
-    /// let (a, b, c) = (
-    ///     IntervalSet::new(alloc, 1, 2)?,
-    ///     IntervalSet::new(alloc, 8, 9)?,
-    ///     IntervalSet::new(alloc, 3, 5)?,
-    /// );
-    /// let all = IntervalSet::union_of(alloc, &[&a, &b, &c])?;
-    /// assert!(all == [(1, 5), (8, 9)].to_interval_set(alloc)?);
-    /// # Ok(())
-    /// # }
+    /// use intervallum::proved::examples::*;
+    ///
+    /// fn main() -> Result<(), std::boxed::Box<dyn std::error::Error>> {
+    ///     let alloc = Global;
+    ///     let (a, b, c) = (
+    ///         IntervalSet::new(alloc, 1, 2)?,
+    ///         IntervalSet::new(alloc, 8, 9)?,
+    ///         IntervalSet::new(alloc, 3, 5)?,
+    ///     );
+    ///     let all = IntervalSet::union_of(alloc, &[&a, &b, &c])?;
+    ///     assert!(all == [(1, 5), (8, 9)].to_interval_set(alloc)?);
+    ///     Ok(())
+    /// }
     /// ```
     ///
     /// # Proved
@@ -57,18 +59,19 @@ impl<B: Width> IntervalSet<B> {
     /// fails.
     ///
     /// ```
-    /// # use intervallum::proved::examples::*;
-    /// # fn main() -> Result<(), std::boxed::Box<dyn std::error::Error>> {
-    /// # let alloc = Global;
-    /// let (a, b, c) = (
-    ///     IntervalSet::new(alloc, 1, 9)?,
-    ///     IntervalSet::new(alloc, 3, 20)?,
-    ///     IntervalSet::new(alloc, 0, 5)?,
-    /// );
-    /// let common = IntervalSet::intersection_of(alloc, &[&a, &b, &c])?;
-    /// assert!(common == IntervalSet::new(alloc, 3, 5)?);
-    /// # Ok(())
-    /// # }
+    /// use intervallum::proved::examples::*;
+    ///
+    /// fn main() -> Result<(), std::boxed::Box<dyn std::error::Error>> {
+    ///     let alloc = Global;
+    ///     let (a, b, c) = (
+    ///         IntervalSet::new(alloc, 1, 9)?,
+    ///         IntervalSet::new(alloc, 3, 20)?,
+    ///         IntervalSet::new(alloc, 0, 5)?,
+    ///     );
+    ///     let common = IntervalSet::intersection_of(alloc, &[&a, &b, &c])?;
+    ///     assert!(common == IntervalSet::new(alloc, 3, 5)?);
+    ///     Ok(())
+    /// }
     /// ```
     ///
     /// # Proved

@@ -1,3 +1,4 @@
+// Written by bindings/rust/extract from crates/intervallum/src/interval_set/members.rt.
 //! Iteration over the members of a set, from both ends.
 
 #[allow(unused_imports)]
@@ -17,16 +18,17 @@ use crate::rattle::std::mem;
 /// No call allocates.
 ///
 /// ```
-/// # use intervallum::proved::examples::*;
-/// # fn main() -> Result<(), std::boxed::Box<dyn std::error::Error>> {
-/// # let alloc = Global;
-/// let a: IntervalSet<i32> = [(1, 2), (5, 6)].to_interval_set(alloc)?;
-/// let mut left = a.members();
-/// assert_eq!(left.next(), Some(1));
-/// assert_eq!(left.next_back(), Some(6));
-/// assert_eq!(left.next(), Some(2));
-/// # Ok(())
-/// # }
+/// use intervallum::proved::examples::*;
+///
+/// fn main() -> Result<(), std::boxed::Box<dyn std::error::Error>> {
+///     let alloc = Global;
+///     let a: IntervalSet<i32> = [(1, 2), (5, 6)].to_interval_set(alloc)?;
+///     let mut left = a.members();
+///     assert_eq!(left.next(), Some(1));
+///     assert_eq!(left.next_back(), Some(6));
+///     assert_eq!(left.next(), Some(2));
+///     Ok(())
+/// }
 /// ```
 pub struct Members<'a, B: Width> {
     pub(super) first: Interval<B>,
@@ -44,16 +46,17 @@ impl<'a, B: Width> Clone for Members<'a, B> {
     /// Returns an iterator over the members that are left. `O(1)`. Never fails.
     ///
     /// ```
-    /// # use intervallum::proved::examples::*;
-    /// # fn main() -> Result<(), std::boxed::Box<dyn std::error::Error>> {
-    /// # let alloc = Global;
-    /// let a = IntervalSet::new(alloc, 1, 3)?;
-    /// let mut left = a.members();
-    /// assert_eq!(left.next(), Some(1));
-    /// assert_eq!(left.clone()?.next(), Some(2));
-    /// assert_eq!(left.next(), Some(2));
-    /// # Ok(())
-    /// # }
+    /// use intervallum::proved::examples::*;
+    ///
+    /// fn main() -> Result<(), std::boxed::Box<dyn std::error::Error>> {
+    ///     let alloc = Global;
+    ///     let a = IntervalSet::new(alloc, 1, 3)?;
+    ///     let mut left = a.members();
+    ///     assert_eq!(left.next(), Some(1));
+    ///     assert_eq!(left.clone()?.next(), Some(2));
+    ///     assert_eq!(left.next(), Some(2));
+    ///     Ok(())
+    /// }
     /// ```
     fn clone(&self) -> Result<Self, AllocError> {
         Ok(Members {
@@ -76,15 +79,16 @@ impl<'a, B: Width> Iterator for Members<'a, B> {
     /// Returns the least member that is left, or `None` if there is none. `O(1)`.
     ///
     /// ```
-    /// # use intervallum::proved::examples::*;
-    /// # fn main() -> Result<(), std::boxed::Box<dyn std::error::Error>> {
-    /// # let alloc = Global;
-    /// let a: IntervalSet<i32> = [(1, 1), (5, 6)].to_interval_set(alloc)?;
-    /// let mut left = a.members();
-    /// assert_eq!(left.next(), Some(1));
-    /// assert_eq!(left.next(), Some(5));
-    /// # Ok(())
-    /// # }
+    /// use intervallum::proved::examples::*;
+    ///
+    /// fn main() -> Result<(), std::boxed::Box<dyn std::error::Error>> {
+    ///     let alloc = Global;
+    ///     let a: IntervalSet<i32> = [(1, 1), (5, 6)].to_interval_set(alloc)?;
+    ///     let mut left = a.members();
+    ///     assert_eq!(left.next(), Some(1));
+    ///     assert_eq!(left.next(), Some(5));
+    ///     Ok(())
+    /// }
     /// ```
     fn next(&mut self) -> Option<B> {
         if self.first.is_empty() {
@@ -103,13 +107,14 @@ impl<'a, B: Width> Iterator for Members<'a, B> {
     /// they are its greatest value and `None`. Adds up the runs that are left: `O(n)`.
     ///
     /// ```
-    /// # use intervallum::proved::examples::*;
-    /// # fn main() -> Result<(), std::boxed::Box<dyn std::error::Error>> {
-    /// # let alloc = Global;
-    /// let a: IntervalSet<i32> = [(1, 3), (5, 6)].to_interval_set(alloc)?;
-    /// assert!(a.members().size_hint() == (5, Some(5)));
-    /// # Ok(())
-    /// # }
+    /// use intervallum::proved::examples::*;
+    ///
+    /// fn main() -> Result<(), std::boxed::Box<dyn std::error::Error>> {
+    ///     let alloc = Global;
+    ///     let a: IntervalSet<i32> = [(1, 3), (5, 6)].to_interval_set(alloc)?;
+    ///     assert!(a.members().size_hint() == (5, Some(5)));
+    ///     Ok(())
+    /// }
     /// ```
     ///
     /// # Proved
@@ -136,15 +141,16 @@ impl<'a, B: Width> DoubleEndedIterator for Members<'a, B> {
     /// Returns the greatest member that is left, or `None` if there is none. `O(1)`.
     ///
     /// ```
-    /// # use intervallum::proved::examples::*;
-    /// # fn main() -> Result<(), std::boxed::Box<dyn std::error::Error>> {
-    /// # let alloc = Global;
-    /// let a: IntervalSet<i32> = [(1, 2), (5, 5)].to_interval_set(alloc)?;
-    /// let mut left = a.members();
-    /// assert_eq!(left.next_back(), Some(5));
-    /// assert_eq!(left.next_back(), Some(2));
-    /// # Ok(())
-    /// # }
+    /// use intervallum::proved::examples::*;
+    ///
+    /// fn main() -> Result<(), std::boxed::Box<dyn std::error::Error>> {
+    ///     let alloc = Global;
+    ///     let a: IntervalSet<i32> = [(1, 2), (5, 5)].to_interval_set(alloc)?;
+    ///     let mut left = a.members();
+    ///     assert_eq!(left.next_back(), Some(5));
+    ///     assert_eq!(left.next_back(), Some(2));
+    ///     Ok(())
+    /// }
     /// ```
     fn next_back(&mut self) -> Option<B> {
         if self.last.is_empty() {
@@ -173,13 +179,14 @@ impl<'a> ExactSizeIterator for Members<'a, usize> {
     /// Returns how many members are left. Adds up the runs that are left: `O(n)`.
     ///
     /// ```
-    /// # use intervallum::proved::examples::*;
-    /// # fn main() -> Result<(), std::boxed::Box<dyn std::error::Error>> {
-    /// # let alloc = Global;
-    /// let a: IntervalSet<usize> = [(1, 3), (5, 6)].to_interval_set(alloc)?;
-    /// assert_eq!(a.members().len(), 5);
-    /// # Ok(())
-    /// # }
+    /// use intervallum::proved::examples::*;
+    ///
+    /// fn main() -> Result<(), std::boxed::Box<dyn std::error::Error>> {
+    ///     let alloc = Global;
+    ///     let a: IntervalSet<usize> = [(1, 3), (5, 6)].to_interval_set(alloc)?;
+    ///     assert_eq!(a.members().len(), 5);
+    ///     Ok(())
+    /// }
     /// ```
     fn len(&self) -> usize {
         self.in_counts();
@@ -191,13 +198,14 @@ impl<'a> ExactSizeIterator for Members<'a, isize> {
     /// Returns how many members are left. Adds up the runs that are left: `O(n)`.
     ///
     /// ```
-    /// # use intervallum::proved::examples::*;
-    /// # fn main() -> Result<(), std::boxed::Box<dyn std::error::Error>> {
-    /// # let alloc = Global;
-    /// let a: IntervalSet<isize> = [(-3, -1), (5, 6)].to_interval_set(alloc)?;
-    /// assert_eq!(a.members().len(), 5);
-    /// # Ok(())
-    /// # }
+    /// use intervallum::proved::examples::*;
+    ///
+    /// fn main() -> Result<(), std::boxed::Box<dyn std::error::Error>> {
+    ///     let alloc = Global;
+    ///     let a: IntervalSet<isize> = [(-3, -1), (5, 6)].to_interval_set(alloc)?;
+    ///     assert_eq!(a.members().len(), 5);
+    ///     Ok(())
+    /// }
     /// ```
     fn len(&self) -> usize {
         self.in_counts();
@@ -240,17 +248,20 @@ impl<B: Width> IntervalSet<B> {
     /// Does not allocate.
     ///
     /// ```
-    /// # use intervallum::proved::examples::*;
-    /// # fn main() -> Result<(), std::boxed::Box<dyn std::error::Error>> {
-    /// # let alloc = Global;
-    /// let a: IntervalSet<i32> = [(5, 6), (1, 2)].to_interval_set(alloc)?;
-    /// let all: Vec<i32> = a.members().collect();
-    /// assert!(all.as_slice() == [1, 2, 5, 6].as_slice());
-    /// # Ok(())
-    /// # }
+    /// use intervallum::proved::examples::*;
+    ///
+    /// fn main() -> Result<(), std::boxed::Box<dyn std::error::Error>> {
+    ///     let alloc = Global;
+    ///     let a: IntervalSet<i32> = [(5, 6), (1, 2)].to_interval_set(alloc)?;
+    ///     let all: Vec<i32> = a.members().collect();
+    ///     assert!(all.as_slice() == [1, 2, 5, 6].as_slice());
+    ///     Ok(())
+    /// }
     /// ```
     ///
     /// # Proved
+    ///
+    /// The iterator yields exactly the members, each greater than the one before.
     ///
     /// ```text
     /// ensures left { result ≡ members_of self.now }

@@ -1,3 +1,4 @@
+// Written by bindings/rust/extract from crates/intervallum/src/interval_set/members_within.rt.
 //! Iteration over the members that lie in a window.
 
 #[allow(unused_imports)]
@@ -15,14 +16,15 @@ impl<B: Width> IntervalSet<B> {
     /// Two binary searches: `O(log n)`, and `O(1)` for each member. Does not allocate.
     ///
     /// ```
-    /// # use intervallum::proved::examples::*;
-    /// # fn main() -> Result<(), std::boxed::Box<dyn std::error::Error>> {
-    /// # let alloc = Global;
-    /// let a: IntervalSet<i32> = [(1, 2), (5, 6), (9, 9)].to_interval_set(alloc)?;
-    /// let some: Vec<i32> = a.members_within(&Interval::new(2, 5)).collect();
-    /// assert!(some.as_slice() == [2, 5].as_slice());
-    /// # Ok(())
-    /// # }
+    /// use intervallum::proved::examples::*;
+    ///
+    /// fn main() -> Result<(), std::boxed::Box<dyn std::error::Error>> {
+    ///     let alloc = Global;
+    ///     let a: IntervalSet<i32> = [(1, 2), (5, 6), (9, 9)].to_interval_set(alloc)?;
+    ///     let some: Vec<i32> = a.members_within(&Interval::new(2, 5)).collect();
+    ///     assert!(some.as_slice() == [2, 5].as_slice());
+    ///     Ok(())
+    /// }
     /// ```
     ///
     /// # Proved

@@ -1,3 +1,4 @@
+// Written by bindings/rust/extract from crates/intervallum/src/interval_set/neighbours.rt.
 //! Neighbours of a value: the next and the previous member, and the run that holds it.
 
 #[allow(unused_imports)]
@@ -13,18 +14,21 @@ impl<B: Width> IntervalSet<B> {
     /// value of its type. Binary search: `O(log n)`. Does not allocate.
     ///
     /// ```
-    /// # use intervallum::proved::examples::*;
-    /// # fn main() -> Result<(), std::boxed::Box<dyn std::error::Error>> {
-    /// # let alloc = Global;
-    /// let a: IntervalSet<i32> = [(1, 2), (5, 6)].to_interval_set(alloc)?;
-    /// assert_eq!(a.next_from(2), Some(2));
-    /// assert_eq!(a.next_from(3), Some(5));
-    /// assert_eq!(a.next_from(7), None);
-    /// # Ok(())
-    /// # }
+    /// use intervallum::proved::examples::*;
+    ///
+    /// fn main() -> Result<(), std::boxed::Box<dyn std::error::Error>> {
+    ///     let alloc = Global;
+    ///     let a: IntervalSet<i32> = [(1, 2), (5, 6)].to_interval_set(alloc)?;
+    ///     assert_eq!(a.next_from(2), Some(2));
+    ///     assert_eq!(a.next_from(3), Some(5));
+    ///     assert_eq!(a.next_from(7), None);
+    ///     Ok(())
+    /// }
     /// ```
     ///
     /// # Proved
+    ///
+    /// The answer is the least member that is at least the value, or `None` if there is none.
     ///
     /// ```text
     /// ensures { MatchOption result
@@ -51,15 +55,16 @@ impl<B: Width> IntervalSet<B> {
     /// value of its type. Binary search: `O(log n)`. Does not allocate.
     ///
     /// ```
-    /// # use intervallum::proved::examples::*;
-    /// # fn main() -> Result<(), std::boxed::Box<dyn std::error::Error>> {
-    /// # let alloc = Global;
-    /// let a: IntervalSet<i32> = [(1, 2), (5, 6)].to_interval_set(alloc)?;
-    /// assert_eq!(a.previous_to(5), Some(5));
-    /// assert_eq!(a.previous_to(4), Some(2));
-    /// assert_eq!(a.previous_to(0), None);
-    /// # Ok(())
-    /// # }
+    /// use intervallum::proved::examples::*;
+    ///
+    /// fn main() -> Result<(), std::boxed::Box<dyn std::error::Error>> {
+    ///     let alloc = Global;
+    ///     let a: IntervalSet<i32> = [(1, 2), (5, 6)].to_interval_set(alloc)?;
+    ///     assert_eq!(a.previous_to(5), Some(5));
+    ///     assert_eq!(a.previous_to(4), Some(2));
+    ///     assert_eq!(a.previous_to(0), None);
+    ///     Ok(())
+    /// }
     /// ```
     ///
     /// # Proved
@@ -90,14 +95,15 @@ impl<B: Width> IntervalSet<B> {
     /// allocate.
     ///
     /// ```
-    /// # use intervallum::proved::examples::*;
-    /// # fn main() -> Result<(), std::boxed::Box<dyn std::error::Error>> {
-    /// # let alloc = Global;
-    /// let a: IntervalSet<i32> = [(1, 2), (5, 6)].to_interval_set(alloc)?;
-    /// assert!(a.run_at(6) == Some(Interval::new(5, 6)));
-    /// assert!(a.run_at(3).is_none());
-    /// # Ok(())
-    /// # }
+    /// use intervallum::proved::examples::*;
+    ///
+    /// fn main() -> Result<(), std::boxed::Box<dyn std::error::Error>> {
+    ///     let alloc = Global;
+    ///     let a: IntervalSet<i32> = [(1, 2), (5, 6)].to_interval_set(alloc)?;
+    ///     assert!(a.run_at(6) == Some(Interval::new(5, 6)));
+    ///     assert!(a.run_at(3).is_none());
+    ///     Ok(())
+    /// }
     /// ```
     ///
     /// # Proved

@@ -1,3 +1,4 @@
+// Written by bindings/rust/extract from crates/intervallum/src/interval_set/operators.rt.
 //! The operators `|`, `&`, `^` and `!` of sets: the set operations under the names of the language.
 //!
 //! Each operand is owned or borrowed. Each call returns a new set; borrowed operands are unchanged,
@@ -25,13 +26,14 @@ impl<B: Width> BitOr<IntervalSet<B>> for IntervalSet<B> {
     /// Returns the members of either set, as `union` does, at the same cost.
     ///
     /// ```
-    /// # use intervallum::proved::examples::*;
-    /// # fn main() -> Result<(), std::boxed::Box<dyn std::error::Error>> {
-    /// # let alloc = Global;
-    /// let (a, b) = (IntervalSet::new(alloc, 1, 5)?, IntervalSet::new(alloc, 4, 9)?);
-    /// assert!((a | b)? == IntervalSet::new(alloc, 1, 9)?);
-    /// # Ok(())
-    /// # }
+    /// use intervallum::proved::examples::*;
+    ///
+    /// fn main() -> Result<(), std::boxed::Box<dyn std::error::Error>> {
+    ///     let alloc = Global;
+    ///     let (a, b) = (IntervalSet::new(alloc, 1, 5)?, IntervalSet::new(alloc, 4, 9)?);
+    ///     assert!((a | b)? == IntervalSet::new(alloc, 1, 9)?);
+    ///     Ok(())
+    /// }
     /// ```
     fn bitor(self, rhs: IntervalSet<B>) -> Result<IntervalSet<B>, AllocError> {
         &self | &rhs
@@ -99,13 +101,14 @@ impl<B: Width> BitAnd<IntervalSet<B>> for IntervalSet<B> {
     /// Returns the members of both sets, as `intersection` does, at the same cost.
     ///
     /// ```
-    /// # use intervallum::proved::examples::*;
-    /// # fn main() -> Result<(), std::boxed::Box<dyn std::error::Error>> {
-    /// # let alloc = Global;
-    /// let (a, b) = (IntervalSet::new(alloc, 1, 5)?, IntervalSet::new(alloc, 4, 9)?);
-    /// assert!((a & b)? == IntervalSet::new(alloc, 4, 5)?);
-    /// # Ok(())
-    /// # }
+    /// use intervallum::proved::examples::*;
+    ///
+    /// fn main() -> Result<(), std::boxed::Box<dyn std::error::Error>> {
+    ///     let alloc = Global;
+    ///     let (a, b) = (IntervalSet::new(alloc, 1, 5)?, IntervalSet::new(alloc, 4, 9)?);
+    ///     assert!((a & b)? == IntervalSet::new(alloc, 4, 5)?);
+    ///     Ok(())
+    /// }
     /// ```
     fn bitand(self, rhs: IntervalSet<B>) -> Result<IntervalSet<B>, AllocError> {
         &self & &rhs
@@ -174,13 +177,14 @@ impl<B: Width> BitXor<IntervalSet<B>> for IntervalSet<B> {
     /// cost.
     ///
     /// ```
-    /// # use intervallum::proved::examples::*;
-    /// # fn main() -> Result<(), std::boxed::Box<dyn std::error::Error>> {
-    /// # let alloc = Global;
-    /// let (a, b) = (IntervalSet::new(alloc, 1, 5)?, IntervalSet::new(alloc, 4, 9)?);
-    /// assert!((a ^ b)? == [(1, 3), (6, 9)].to_interval_set(alloc)?);
-    /// # Ok(())
-    /// # }
+    /// use intervallum::proved::examples::*;
+    ///
+    /// fn main() -> Result<(), std::boxed::Box<dyn std::error::Error>> {
+    ///     let alloc = Global;
+    ///     let (a, b) = (IntervalSet::new(alloc, 1, 5)?, IntervalSet::new(alloc, 4, 9)?);
+    ///     assert!((a ^ b)? == [(1, 3), (6, 9)].to_interval_set(alloc)?);
+    ///     Ok(())
+    /// }
     /// ```
     fn bitxor(self, rhs: IntervalSet<B>) -> Result<IntervalSet<B>, AllocError> {
         &self ^ &rhs
@@ -251,13 +255,14 @@ impl<B: Width> Not for IntervalSet<B> {
     /// Returns the complement within the range of the type, as `complement` does, at the same cost.
     ///
     /// ```
-    /// # use intervallum::proved::examples::*;
-    /// # fn main() -> Result<(), std::boxed::Box<dyn std::error::Error>> {
-    /// # let alloc = Global;
-    /// let a = IntervalSet::new(alloc, 10u8, 254)?;
-    /// assert!((!a)? == IntervalSet::new(alloc, 0, 9)?);
-    /// # Ok(())
-    /// # }
+    /// use intervallum::proved::examples::*;
+    ///
+    /// fn main() -> Result<(), std::boxed::Box<dyn std::error::Error>> {
+    ///     let alloc = Global;
+    ///     let a = IntervalSet::new(alloc, 10u8, 254)?;
+    ///     assert!((!a)? == IntervalSet::new(alloc, 0, 9)?);
+    ///     Ok(())
+    /// }
     /// ```
     fn not(self) -> Result<IntervalSet<B>, AllocError> {
         !&self

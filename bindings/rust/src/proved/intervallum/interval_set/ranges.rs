@@ -1,3 +1,4 @@
+// Written by bindings/rust/extract from crates/intervallum/src/interval_set/ranges.rt.
 //! Sets from the ranges of std that have bounds of their own: `a..=b`, `a..` and `..=b`.
 
 #[allow(unused_imports)]
@@ -34,14 +35,15 @@ impl<B: Width> ToIntervalSet<B> for RangeInclusive<B> {
     /// or nothing for an empty range. Fails only if allocation fails.
     ///
     /// ```
-    /// # use intervallum::proved::examples::*;
-    /// # fn main() -> Result<(), std::boxed::Box<dyn std::error::Error>> {
-    /// # let alloc = Global;
-    /// assert!((1..=5).to_interval_set(alloc)? == IntervalSet::new(alloc, 1, 5)?);
-    /// let none: IntervalSet<i32> = (5..=3).to_interval_set(alloc)?;
-    /// assert!(none.is_empty());
-    /// # Ok(())
-    /// # }
+    /// use intervallum::proved::examples::*;
+    ///
+    /// fn main() -> Result<(), std::boxed::Box<dyn std::error::Error>> {
+    ///     let alloc = Global;
+    ///     assert!((1..=5).to_interval_set(alloc)? == IntervalSet::new(alloc, 1, 5)?);
+    ///     let none: IntervalSet<i32> = (5..=3).to_interval_set(alloc)?;
+    ///     assert!(none.is_empty());
+    ///     Ok(())
+    /// }
     /// ```
     ///
     /// # Proved
@@ -75,12 +77,13 @@ impl<B: Width> ToIntervalSet<B> for RangeFrom<B> {
     /// `O(1)`. Allocates one run. Fails only if allocation fails.
     ///
     /// ```
-    /// # use intervallum::proved::examples::*;
-    /// # fn main() -> Result<(), std::boxed::Box<dyn std::error::Error>> {
-    /// # let alloc = Global;
-    /// assert!((250u8..).to_interval_set(alloc)? == IntervalSet::new(alloc, 250, 254)?);
-    /// # Ok(())
-    /// # }
+    /// use intervallum::proved::examples::*;
+    ///
+    /// fn main() -> Result<(), std::boxed::Box<dyn std::error::Error>> {
+    ///     let alloc = Global;
+    ///     assert!((250u8..).to_interval_set(alloc)? == IntervalSet::new(alloc, 250, 254)?);
+    ///     Ok(())
+    /// }
     /// ```
     ///
     /// # Proved
@@ -114,12 +117,13 @@ impl<B: Width> ToIntervalSet<B> for RangeToInclusive<B> {
     /// `O(1)`. Allocates one run. Fails only if allocation fails.
     ///
     /// ```
-    /// # use intervallum::proved::examples::*;
-    /// # fn main() -> Result<(), std::boxed::Box<dyn std::error::Error>> {
-    /// # let alloc = Global;
-    /// assert!((..=5u8).to_interval_set(alloc)? == IntervalSet::new(alloc, 0, 5)?);
-    /// # Ok(())
-    /// # }
+    /// use intervallum::proved::examples::*;
+    ///
+    /// fn main() -> Result<(), std::boxed::Box<dyn std::error::Error>> {
+    ///     let alloc = Global;
+    ///     assert!((..=5u8).to_interval_set(alloc)? == IntervalSet::new(alloc, 0, 5)?);
+    ///     Ok(())
+    /// }
     /// ```
     ///
     /// # Proved
@@ -214,13 +218,14 @@ impl<B: Width, const N: usize> ToIntervalSet<B> for [RangeInclusive<B>; N] {
     /// allocation fails.
     ///
     /// ```
-    /// # use intervallum::proved::examples::*;
-    /// # fn main() -> Result<(), std::boxed::Box<dyn std::error::Error>> {
-    /// # let alloc = Global;
-    /// let hours = [12..=13u8, 8..=11].to_interval_set(alloc)?;
-    /// assert!(hours == IntervalSet::new(alloc, 8, 13)?);
-    /// # Ok(())
-    /// # }
+    /// use intervallum::proved::examples::*;
+    ///
+    /// fn main() -> Result<(), std::boxed::Box<dyn std::error::Error>> {
+    ///     let alloc = Global;
+    ///     let hours = [12..=13u8, 8..=11].to_interval_set(alloc)?;
+    ///     assert!(hours == IntervalSet::new(alloc, 8, 13)?);
+    ///     Ok(())
+    /// }
     /// ```
     ///
     /// # Proved

@@ -1,3 +1,4 @@
+// Written by bindings/rust/extract from crates/intervallum/src/interval_set/rank.rt.
 //! Members by the number of members below them.
 
 #[allow(unused_imports)]
@@ -12,16 +13,19 @@ impl<B: Width> IntervalSet<B> {
     /// that start below `v`: `O(n)`. Does not allocate.
     ///
     /// ```
-    /// # use intervallum::proved::examples::*;
-    /// # fn main() -> Result<(), std::boxed::Box<dyn std::error::Error>> {
-    /// # let alloc = Global;
-    /// let a: IntervalSet<i32> = [(1, 2), (5, 6)].to_interval_set(alloc)?;
-    /// assert!(a.rank(1) == 0 && a.rank(4) == 2 && a.rank(6) == 3);
-    /// # Ok(())
-    /// # }
+    /// use intervallum::proved::examples::*;
+    ///
+    /// fn main() -> Result<(), std::boxed::Box<dyn std::error::Error>> {
+    ///     let alloc = Global;
+    ///     let a: IntervalSet<i32> = [(1, 2), (5, 6)].to_interval_set(alloc)?;
+    ///     assert!(a.rank(1) == 0 && a.rank(4) == 2 && a.rank(6) == 3);
+    ///     Ok(())
+    /// }
     /// ```
     ///
     /// # Proved
+    ///
+    /// The answer is the number of members below the value.
     ///
     /// ```text
     /// ensures { IsCountOf (B.Output.size result) (Below (B.value v) (Covers self.now)) }
@@ -46,16 +50,19 @@ impl<B: Width> IntervalSet<B> {
     /// `i` members. Scans the runs up to that member: `O(n)`. Does not allocate.
     ///
     /// ```
-    /// # use intervallum::proved::examples::*;
-    /// # fn main() -> Result<(), std::boxed::Box<dyn std::error::Error>> {
-    /// # let alloc = Global;
-    /// let a: IntervalSet<i32> = [(1, 2), (5, 6)].to_interval_set(alloc)?;
-    /// assert!(a.nth(0) == Some(1) && a.nth(3) == Some(6) && a.nth(4).is_none());
-    /// # Ok(())
-    /// # }
+    /// use intervallum::proved::examples::*;
+    ///
+    /// fn main() -> Result<(), std::boxed::Box<dyn std::error::Error>> {
+    ///     let alloc = Global;
+    ///     let a: IntervalSet<i32> = [(1, 2), (5, 6)].to_interval_set(alloc)?;
+    ///     assert!(a.nth(0) == Some(1) && a.nth(3) == Some(6) && a.nth(4).is_none());
+    ///     Ok(())
+    /// }
     /// ```
     ///
     /// # Proved
+    ///
+    /// The answer is the member with exactly so many members below it, or `None` if there are no more members than that.
     ///
     /// ```text
     /// ensures { MatchOption result

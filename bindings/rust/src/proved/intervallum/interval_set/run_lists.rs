@@ -1,3 +1,4 @@
+// Written by bindings/rust/extract from crates/intervallum/src/interval_set/run_lists.rt.
 //! What is asked of lists of intervals: whether they are run lists, whether two are the same, how many numbers they cover.
 
 #[allow(unused_imports)]

@@ -1,3 +1,4 @@
+// Written by bindings/rust/extract from crates/intervallum/src/interval_set/runs_within.rt.
 //! What a set has within a window: the whole runs that meet it, and how many members lie in it.
 
 #[allow(unused_imports)]
@@ -16,15 +17,16 @@ impl<B: Width> IntervalSet<B> {
     /// Two binary searches, the second from where the first ended: `O(log n)`. Does not allocate.
     ///
     /// ```
-    /// # use intervallum::proved::examples::*;
-    /// # fn main() -> Result<(), std::boxed::Box<dyn std::error::Error>> {
-    /// # let alloc = Global;
-    /// let a: IntervalSet<i32> = [(1, 2), (5, 6), (9, 9)].to_interval_set(alloc)?;
-    /// let met = a.runs_within(&Interval::new(2, 5));
-    /// assert!(met.len() == 2 && met[0] == Interval::new(1, 2) && met[1] == Interval::new(5, 6));
-    /// assert!(a.runs_within(&Interval::new(3, 4)).is_empty());
-    /// # Ok(())
-    /// # }
+    /// use intervallum::proved::examples::*;
+    ///
+    /// fn main() -> Result<(), std::boxed::Box<dyn std::error::Error>> {
+    ///     let alloc = Global;
+    ///     let a: IntervalSet<i32> = [(1, 2), (5, 6), (9, 9)].to_interval_set(alloc)?;
+    ///     let met = a.runs_within(&Interval::new(2, 5));
+    ///     assert!(met.len() == 2 && met[0] == Interval::new(1, 2) && met[1] == Interval::new(5, 6));
+    ///     assert!(a.runs_within(&Interval::new(3, 4)).is_empty());
+    ///     Ok(())
+    /// }
     /// ```
     ///
     /// # Proved
@@ -53,14 +55,15 @@ impl<B: Width> IntervalSet<B> {
     /// not allocate.
     ///
     /// ```
-    /// # use intervallum::proved::examples::*;
-    /// # fn main() -> Result<(), std::boxed::Box<dyn std::error::Error>> {
-    /// # let alloc = Global;
-    /// let a: IntervalSet<i32> = [(1, 2), (5, 6), (9, 9)].to_interval_set(alloc)?;
-    /// assert_eq!(a.size_within(&Interval::new(2, 5)), 2u32);
-    /// assert_eq!(a.size_within(&Interval::empty()), 0u32);
-    /// # Ok(())
-    /// # }
+    /// use intervallum::proved::examples::*;
+    ///
+    /// fn main() -> Result<(), std::boxed::Box<dyn std::error::Error>> {
+    ///     let alloc = Global;
+    ///     let a: IntervalSet<i32> = [(1, 2), (5, 6), (9, 9)].to_interval_set(alloc)?;
+    ///     assert_eq!(a.size_within(&Interval::new(2, 5)), 2u32);
+    ///     assert_eq!(a.size_within(&Interval::empty()), 0u32);
+    ///     Ok(())
+    /// }
     /// ```
     ///
     /// # Proved

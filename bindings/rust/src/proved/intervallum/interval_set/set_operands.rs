@@ -1,3 +1,4 @@
+// Written by bindings/rust/extract from crates/intervallum/src/interval_set/set_operands.rt.
 //! Set operations.
 
 #[allow(unused_imports)]
@@ -28,13 +29,14 @@ impl<B: Width> Union<IntervalSet<B>> for IntervalSet<B> {
     /// result if less than half is used. Fails only if allocation fails.
     ///
     /// ```
-    /// # use intervallum::proved::examples::*;
-    /// # fn main() -> Result<(), std::boxed::Box<dyn std::error::Error>> {
-    /// # let alloc = Global;
-    /// let (a, b) = (IntervalSet::new(alloc, 1, 5)?, IntervalSet::new(alloc, 4, 9)?);
-    /// assert!(a.union(&b)? == IntervalSet::new(alloc, 1, 9)?);
-    /// # Ok(())
-    /// # }
+    /// use intervallum::proved::examples::*;
+    ///
+    /// fn main() -> Result<(), std::boxed::Box<dyn std::error::Error>> {
+    ///     let alloc = Global;
+    ///     let (a, b) = (IntervalSet::new(alloc, 1, 5)?, IntervalSet::new(alloc, 4, 9)?);
+    ///     assert!(a.union(&b)? == IntervalSet::new(alloc, 1, 9)?);
+    ///     Ok(())
+    /// }
     /// ```
     ///
     /// # Proved
@@ -70,13 +72,14 @@ impl<B: Width> Intersection<IntervalSet<B>> for IntervalSet<B> {
     /// then reserves `k` runs, and more as the result grows.
     ///
     /// ```
-    /// # use intervallum::proved::examples::*;
-    /// # fn main() -> Result<(), std::boxed::Box<dyn std::error::Error>> {
-    /// # let alloc = Global;
-    /// let (a, b) = (IntervalSet::new(alloc, 1, 5)?, IntervalSet::new(alloc, 4, 9)?);
-    /// assert!(a.intersection(&b)? == IntervalSet::new(alloc, 4, 5)?);
-    /// # Ok(())
-    /// # }
+    /// use intervallum::proved::examples::*;
+    ///
+    /// fn main() -> Result<(), std::boxed::Box<dyn std::error::Error>> {
+    ///     let alloc = Global;
+    ///     let (a, b) = (IntervalSet::new(alloc, 1, 5)?, IntervalSet::new(alloc, 4, 9)?);
+    ///     assert!(a.intersection(&b)? == IntervalSet::new(alloc, 4, 5)?);
+    ///     Ok(())
+    /// }
     /// ```
     ///
     /// # Proved
@@ -119,13 +122,14 @@ impl<B: Width> Difference<IntervalSet<B>> for IntervalSet<B> {
     /// the complement of `other`, or the intersection of the two, which it drops at the end.
     ///
     /// ```
-    /// # use intervallum::proved::examples::*;
-    /// # fn main() -> Result<(), std::boxed::Box<dyn std::error::Error>> {
-    /// # let alloc = Global;
-    /// let (a, b) = (IntervalSet::new(alloc, 1, 5)?, IntervalSet::new(alloc, 4, 9)?);
-    /// assert!(a.difference(&b)? == IntervalSet::new(alloc, 1, 3)?);
-    /// # Ok(())
-    /// # }
+    /// use intervallum::proved::examples::*;
+    ///
+    /// fn main() -> Result<(), std::boxed::Box<dyn std::error::Error>> {
+    ///     let alloc = Global;
+    ///     let (a, b) = (IntervalSet::new(alloc, 1, 5)?, IntervalSet::new(alloc, 4, 9)?);
+    ///     assert!(a.difference(&b)? == IntervalSet::new(alloc, 1, 3)?);
+    ///     Ok(())
+    /// }
     /// ```
     ///
     /// # Proved
@@ -164,13 +168,14 @@ impl<B: Width> SymmetricDifference<IntervalSet<B>> for IntervalSet<B> {
     /// shrinks the result if less than half is used. Fails only if allocation fails.
     ///
     /// ```
-    /// # use intervallum::proved::examples::*;
-    /// # fn main() -> Result<(), std::boxed::Box<dyn std::error::Error>> {
-    /// # let alloc = Global;
-    /// let (a, b) = (IntervalSet::new(alloc, 1, 5)?, IntervalSet::new(alloc, 4, 9)?);
-    /// assert!(a.symmetric_difference(&b)? == [(1, 3), (6, 9)].to_interval_set(alloc)?);
-    /// # Ok(())
-    /// # }
+    /// use intervallum::proved::examples::*;
+    ///
+    /// fn main() -> Result<(), std::boxed::Box<dyn std::error::Error>> {
+    ///     let alloc = Global;
+    ///     let (a, b) = (IntervalSet::new(alloc, 1, 5)?, IntervalSet::new(alloc, 4, 9)?);
+    ///     assert!(a.symmetric_difference(&b)? == [(1, 3), (6, 9)].to_interval_set(alloc)?);
+    ///     Ok(())
+    /// }
     /// ```
     ///
     /// Builds no intermediate set.
@@ -204,13 +209,14 @@ impl<B: Width> Complement for IntervalSet<B> {
     /// shrinks the result if less than half is used. Fails only if allocation fails.
     ///
     /// ```
-    /// # use intervallum::proved::examples::*;
-    /// # fn main() -> Result<(), std::boxed::Box<dyn std::error::Error>> {
-    /// # let alloc = Global;
-    /// let a = IntervalSet::new(alloc, 10u8, 254)?;
-    /// assert!(a.complement()? == IntervalSet::new(alloc, 0, 9)?);
-    /// # Ok(())
-    /// # }
+    /// use intervallum::proved::examples::*;
+    ///
+    /// fn main() -> Result<(), std::boxed::Box<dyn std::error::Error>> {
+    ///     let alloc = Global;
+    ///     let a = IntervalSet::new(alloc, 10u8, 254)?;
+    ///     assert!(a.complement()? == IntervalSet::new(alloc, 0, 9)?);
+    ///     Ok(())
+    /// }
     /// ```
     ///
     /// # Proved
@@ -239,13 +245,14 @@ impl<B: Width> Disjoint<IntervalSet<B>> for IntervalSet<B> {
     /// common member. Does not allocate.
     ///
     /// ```
-    /// # use intervallum::proved::examples::*;
-    /// # fn main() -> Result<(), std::boxed::Box<dyn std::error::Error>> {
-    /// # let alloc = Global;
-    /// let (a, b) = (IntervalSet::new(alloc, 1, 2)?, IntervalSet::new(alloc, 3, 5)?);
-    /// assert!(a.is_disjoint(&b) && !a.is_disjoint(&a));
-    /// # Ok(())
-    /// # }
+    /// use intervallum::proved::examples::*;
+    ///
+    /// fn main() -> Result<(), std::boxed::Box<dyn std::error::Error>> {
+    ///     let alloc = Global;
+    ///     let (a, b) = (IntervalSet::new(alloc, 1, 2)?, IntervalSet::new(alloc, 3, 5)?);
+    ///     assert!(a.is_disjoint(&b) && !a.is_disjoint(&a));
+    ///     Ok(())
+    /// }
     /// ```
     ///
     /// # Proved
@@ -273,13 +280,14 @@ impl<B: Width> Overlap<IntervalSet<B>> for IntervalSet<B> {
     /// first common member. Does not allocate.
     ///
     /// ```
-    /// # use intervallum::proved::examples::*;
-    /// # fn main() -> Result<(), std::boxed::Box<dyn std::error::Error>> {
-    /// # let alloc = Global;
-    /// let (a, b) = (IntervalSet::new(alloc, 1, 2)?, IntervalSet::new(alloc, 3, 5)?);
-    /// assert!(a.overlap(&a) && !a.overlap(&b));
-    /// # Ok(())
-    /// # }
+    /// use intervallum::proved::examples::*;
+    ///
+    /// fn main() -> Result<(), std::boxed::Box<dyn std::error::Error>> {
+    ///     let alloc = Global;
+    ///     let (a, b) = (IntervalSet::new(alloc, 1, 2)?, IntervalSet::new(alloc, 3, 5)?);
+    ///     assert!(a.overlap(&a) && !a.overlap(&b));
+    ///     Ok(())
+    /// }
     /// ```
     ///
     /// # Proved

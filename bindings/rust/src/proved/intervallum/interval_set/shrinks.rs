@@ -1,3 +1,4 @@
+// Written by bindings/rust/extract from crates/intervallum/src/interval_set/shrinks.rt.
 //! Sets cut at a value, from either side, with or without the value.
 
 #[allow(unused_imports)]
@@ -28,13 +29,14 @@ impl<B: Width> ShrinkLeft for IntervalSet<B> {
     /// allocation fails.
     ///
     /// ```
-    /// # use intervallum::proved::examples::*;
-    /// # fn main() -> Result<(), std::boxed::Box<dyn std::error::Error>> {
-    /// # let alloc = Global;
-    /// let a = IntervalSet::new(alloc, 1, 5)?;
-    /// assert!(a.shrink_left(3)? == IntervalSet::new(alloc, 3, 5)?);
-    /// # Ok(())
-    /// # }
+    /// use intervallum::proved::examples::*;
+    ///
+    /// fn main() -> Result<(), std::boxed::Box<dyn std::error::Error>> {
+    ///     let alloc = Global;
+    ///     let a = IntervalSet::new(alloc, 1, 5)?;
+    ///     assert!(a.shrink_left(3)? == IntervalSet::new(alloc, 3, 5)?);
+    ///     Ok(())
+    /// }
     /// ```
     ///
     /// # Proved
@@ -65,13 +67,14 @@ impl<B: Width> ShrinkRight for IntervalSet<B> {
     /// allocation fails.
     ///
     /// ```
-    /// # use intervallum::proved::examples::*;
-    /// # fn main() -> Result<(), std::boxed::Box<dyn std::error::Error>> {
-    /// # let alloc = Global;
-    /// let a = IntervalSet::new(alloc, 1, 5)?;
-    /// assert!(a.shrink_right(3)? == IntervalSet::new(alloc, 1, 3)?);
-    /// # Ok(())
-    /// # }
+    /// use intervallum::proved::examples::*;
+    ///
+    /// fn main() -> Result<(), std::boxed::Box<dyn std::error::Error>> {
+    ///     let alloc = Global;
+    ///     let a = IntervalSet::new(alloc, 1, 5)?;
+    ///     assert!(a.shrink_right(3)? == IntervalSet::new(alloc, 1, 3)?);
+    ///     Ok(())
+    /// }
     /// ```
     ///
     /// # Proved
@@ -102,13 +105,14 @@ impl<B: Width> StrictShrinkLeft for IntervalSet<B> {
     /// fails.
     ///
     /// ```
-    /// # use intervallum::proved::examples::*;
-    /// # fn main() -> Result<(), std::boxed::Box<dyn std::error::Error>> {
-    /// # let alloc = Global;
-    /// let a = IntervalSet::new(alloc, 1, 5)?;
-    /// assert!(a.strict_shrink_left(3)? == IntervalSet::new(alloc, 4, 5)?);
-    /// # Ok(())
-    /// # }
+    /// use intervallum::proved::examples::*;
+    ///
+    /// fn main() -> Result<(), std::boxed::Box<dyn std::error::Error>> {
+    ///     let alloc = Global;
+    ///     let a = IntervalSet::new(alloc, 1, 5)?;
+    ///     assert!(a.strict_shrink_left(3)? == IntervalSet::new(alloc, 4, 5)?);
+    ///     Ok(())
+    /// }
     /// ```
     ///
     /// # Proved
@@ -139,13 +143,14 @@ impl<B: Width> StrictShrinkRight for IntervalSet<B> {
     /// fails.
     ///
     /// ```
-    /// # use intervallum::proved::examples::*;
-    /// # fn main() -> Result<(), std::boxed::Box<dyn std::error::Error>> {
-    /// # let alloc = Global;
-    /// let a = IntervalSet::new(alloc, 1, 5)?;
-    /// assert!(a.strict_shrink_right(3)? == IntervalSet::new(alloc, 1, 2)?);
-    /// # Ok(())
-    /// # }
+    /// use intervallum::proved::examples::*;
+    ///
+    /// fn main() -> Result<(), std::boxed::Box<dyn std::error::Error>> {
+    ///     let alloc = Global;
+    ///     let a = IntervalSet::new(alloc, 1, 5)?;
+    ///     assert!(a.strict_shrink_right(3)? == IntervalSet::new(alloc, 1, 2)?);
+    ///     Ok(())
+    /// }
     /// ```
     ///
     /// # Proved

@@ -1,3 +1,4 @@
+// Written by bindings/rust/extract from crates/intervallum/src/interval_set/sizes.rt.
 //! How many members two sets have together, in common, and apart, without making a set.
 
 #[allow(unused_imports)]
@@ -12,13 +13,14 @@ impl<B: Width> IntervalSet<B> {
     /// Returns the number of members of both sets. `O(n + m)`. Never overflows. Does not allocate.
     ///
     /// ```
-    /// # use intervallum::proved::examples::*;
-    /// # fn main() -> Result<(), std::boxed::Box<dyn std::error::Error>> {
-    /// # let alloc = Global;
-    /// let (a, b) = (IntervalSet::new(alloc, 1, 5)?, IntervalSet::new(alloc, 4, 9)?);
-    /// assert_eq!(a.intersection_size(&b), 2u32);
-    /// # Ok(())
-    /// # }
+    /// use intervallum::proved::examples::*;
+    ///
+    /// fn main() -> Result<(), std::boxed::Box<dyn std::error::Error>> {
+    ///     let alloc = Global;
+    ///     let (a, b) = (IntervalSet::new(alloc, 1, 5)?, IntervalSet::new(alloc, 4, 9)?);
+    ///     assert_eq!(a.intersection_size(&b), 2u32);
+    ///     Ok(())
+    /// }
     /// ```
     ///
     /// # Proved
@@ -36,13 +38,14 @@ impl<B: Width> IntervalSet<B> {
     /// allocate.
     ///
     /// ```
-    /// # use intervallum::proved::examples::*;
-    /// # fn main() -> Result<(), std::boxed::Box<dyn std::error::Error>> {
-    /// # let alloc = Global;
-    /// let (a, b) = (IntervalSet::new(alloc, 1, 5)?, IntervalSet::new(alloc, 4, 9)?);
-    /// assert_eq!(a.difference_size(&b), 3u32);
-    /// # Ok(())
-    /// # }
+    /// use intervallum::proved::examples::*;
+    ///
+    /// fn main() -> Result<(), std::boxed::Box<dyn std::error::Error>> {
+    ///     let alloc = Global;
+    ///     let (a, b) = (IntervalSet::new(alloc, 1, 5)?, IntervalSet::new(alloc, 4, 9)?);
+    ///     assert_eq!(a.difference_size(&b), 3u32);
+    ///     Ok(())
+    /// }
     /// ```
     ///
     /// # Proved
@@ -60,13 +63,14 @@ impl<B: Width> IntervalSet<B> {
     /// Returns the number of members of either set. `O(n + m)`. Never overflows. Does not allocate.
     ///
     /// ```
-    /// # use intervallum::proved::examples::*;
-    /// # fn main() -> Result<(), std::boxed::Box<dyn std::error::Error>> {
-    /// # let alloc = Global;
-    /// let (a, b) = (IntervalSet::new(alloc, 1, 5)?, IntervalSet::new(alloc, 4, 9)?);
-    /// assert_eq!(a.union_size(&b), 9u32);
-    /// # Ok(())
-    /// # }
+    /// use intervallum::proved::examples::*;
+    ///
+    /// fn main() -> Result<(), std::boxed::Box<dyn std::error::Error>> {
+    ///     let alloc = Global;
+    ///     let (a, b) = (IntervalSet::new(alloc, 1, 5)?, IntervalSet::new(alloc, 4, 9)?);
+    ///     assert_eq!(a.union_size(&b), 9u32);
+    ///     Ok(())
+    /// }
     /// ```
     ///
     /// # Proved

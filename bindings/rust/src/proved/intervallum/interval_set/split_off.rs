@@ -1,3 +1,4 @@
+// Written by bindings/rust/extract from crates/intervallum/src/interval_set/split_off.rt.
 //! A set divided in two at a value.
 
 #[allow(unused_imports)]
@@ -20,15 +21,16 @@ impl<B: Width> IntervalSet<B> {
     /// Fails only if allocation fails. The set is then unchanged.
     ///
     /// ```
-    /// # use intervallum::proved::examples::*;
-    /// # fn main() -> Result<(), std::boxed::Box<dyn std::error::Error>> {
-    /// # let alloc = Global;
-    /// let mut a: IntervalSet<i32> = [(1, 5), (8, 9)].to_interval_set(alloc)?;
-    /// let above = a.split_off(3)?;
-    /// assert!(a == IntervalSet::new(alloc, 1, 2)?);
-    /// assert!(above == [(3, 5), (8, 9)].to_interval_set(alloc)?);
-    /// # Ok(())
-    /// # }
+    /// use intervallum::proved::examples::*;
+    ///
+    /// fn main() -> Result<(), std::boxed::Box<dyn std::error::Error>> {
+    ///     let alloc = Global;
+    ///     let mut a: IntervalSet<i32> = [(1, 5), (8, 9)].to_interval_set(alloc)?;
+    ///     let above = a.split_off(3)?;
+    ///     assert!(a == IntervalSet::new(alloc, 1, 2)?);
+    ///     assert!(above == [(3, 5), (8, 9)].to_interval_set(alloc)?);
+    ///     Ok(())
+    /// }
     /// ```
     ///
     /// # Proved

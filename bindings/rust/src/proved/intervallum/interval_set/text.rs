@@ -1,3 +1,4 @@
+// Written by bindings/rust/extract from crates/intervallum/src/interval_set/text.rt.
 //! The text of a set.
 
 #[allow(unused_imports)]
@@ -20,13 +21,14 @@ impl<B: Width + fmt::Display> fmt::Display for IntervalSet<B> {
     /// are those of the formatter and of the texts of the bounds.
     ///
     /// ```
-    /// # use intervallum::proved::examples::*;
-    /// # fn main() -> Result<(), std::boxed::Box<dyn std::error::Error>> {
-    /// # let alloc = Global;
-    /// let a: IntervalSet<i32> = [(1, 2), (5, 5)].to_interval_set(alloc)?;
-    /// assert_eq!(format!("{a}").as_str(), "{[1..2][5..5]}");
-    /// # Ok(())
-    /// # }
+    /// use intervallum::proved::examples::*;
+    ///
+    /// fn main() -> Result<(), std::boxed::Box<dyn std::error::Error>> {
+    ///     let alloc = Global;
+    ///     let a: IntervalSet<i32> = [(1, 2), (5, 5)].to_interval_set(alloc)?;
+    ///     assert_eq!(format!("{a}").as_str(), "{[1..2][5..5]}");
+    ///     Ok(())
+    /// }
     /// ```
     fn fmt(&self, f: &mut fmt::Formatter) -> fmt::Result {
         let runs = self.as_runs();

@@ -1,3 +1,4 @@
+// Written by bindings/rust/extract from crates/intervallum/src/interval_set/value_operands.rt.
 //! Operations on a set and a single value.
 
 #[allow(unused_imports)]
@@ -27,13 +28,14 @@ impl<B: Width> Union<B> for IntervalSet<B> {
     /// `Interval::in_range(value, value)`.
     ///
     /// ```
-    /// # use intervallum::proved::examples::*;
-    /// # fn main() -> Result<(), std::boxed::Box<dyn std::error::Error>> {
-    /// # let alloc = Global;
-    /// let a = IntervalSet::new(alloc, 1, 5)?;
-    /// assert!(a.union(&6)? == IntervalSet::new(alloc, 1, 6)?);
-    /// # Ok(())
-    /// # }
+    /// use intervallum::proved::examples::*;
+    ///
+    /// fn main() -> Result<(), std::boxed::Box<dyn std::error::Error>> {
+    ///     let alloc = Global;
+    ///     let a = IntervalSet::new(alloc, 1, 5)?;
+    ///     assert!(a.union(&6)? == IntervalSet::new(alloc, 1, 6)?);
+    ///     Ok(())
+    /// }
     /// ```
     ///
     /// # Proved
@@ -73,13 +75,14 @@ impl<B: Width> SymmetricDifference<B> for IntervalSet<B> {
     /// `Interval::in_range(value, value)`.
     ///
     /// ```
-    /// # use intervallum::proved::examples::*;
-    /// # fn main() -> Result<(), std::boxed::Box<dyn std::error::Error>> {
-    /// # let alloc = Global;
-    /// let a = IntervalSet::new(alloc, 1, 5)?;
-    /// assert!(a.symmetric_difference(&5)? == IntervalSet::new(alloc, 1, 4)?);
-    /// # Ok(())
-    /// # }
+    /// use intervallum::proved::examples::*;
+    ///
+    /// fn main() -> Result<(), std::boxed::Box<dyn std::error::Error>> {
+    ///     let alloc = Global;
+    ///     let a = IntervalSet::new(alloc, 1, 5)?;
+    ///     assert!(a.symmetric_difference(&5)? == IntervalSet::new(alloc, 1, 4)?);
+    ///     Ok(())
+    /// }
     /// ```
     ///
     /// # Proved
@@ -116,13 +119,14 @@ impl<B: Width> Intersection<B> for IntervalSet<B> {
     /// type. `O(log n)`. Allocates one run if it is a member. Fails only if allocation fails.
     ///
     /// ```
-    /// # use intervallum::proved::examples::*;
-    /// # fn main() -> Result<(), std::boxed::Box<dyn std::error::Error>> {
-    /// # let alloc = Global;
-    /// let a = IntervalSet::new(alloc, 1, 5)?;
-    /// assert!(a.intersection(&5)? == IntervalSet::singleton(alloc, 5)?);
-    /// # Ok(())
-    /// # }
+    /// use intervallum::proved::examples::*;
+    ///
+    /// fn main() -> Result<(), std::boxed::Box<dyn std::error::Error>> {
+    ///     let alloc = Global;
+    ///     let a = IntervalSet::new(alloc, 1, 5)?;
+    ///     assert!(a.intersection(&5)? == IntervalSet::singleton(alloc, 5)?);
+    ///     Ok(())
+    /// }
     /// ```
     ///
     /// # Proved
@@ -161,13 +165,14 @@ impl<B: Width> Difference<B> for IntervalSet<B> {
     /// Fails only if allocation fails.
     ///
     /// ```
-    /// # use intervallum::proved::examples::*;
-    /// # fn main() -> Result<(), std::boxed::Box<dyn std::error::Error>> {
-    /// # let alloc = Global;
-    /// let a = IntervalSet::new(alloc, 1, 5)?;
-    /// assert!(a.difference(&5)? == IntervalSet::new(alloc, 1, 4)?);
-    /// # Ok(())
-    /// # }
+    /// use intervallum::proved::examples::*;
+    ///
+    /// fn main() -> Result<(), std::boxed::Box<dyn std::error::Error>> {
+    ///     let alloc = Global;
+    ///     let a = IntervalSet::new(alloc, 1, 5)?;
+    ///     assert!(a.difference(&5)? == IntervalSet::new(alloc, 1, 4)?);
+    ///     Ok(())
+    /// }
     /// ```
     ///
     /// # Proved

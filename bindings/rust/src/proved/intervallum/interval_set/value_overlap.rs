@@ -1,3 +1,4 @@
+// Written by bindings/rust/extract from crates/intervallum/src/interval_set/value_overlap.rt.
 //! Overlap of a value, on the left, with a set.
 
 #[allow(unused_imports)]
@@ -17,13 +18,14 @@ impl Overlap<IntervalSet<u8>> for u8 {
     /// Returns true exactly when the value is a member of `other`. `O(log n)`. Does not allocate.
     ///
     /// ```
-    /// # use intervallum::proved::examples::*;
-    /// # fn main() -> Result<(), std::boxed::Box<dyn std::error::Error>> {
-    /// # let alloc = Global;
-    /// let a = IntervalSet::new(alloc, 1u8, 2)?;
-    /// assert!(2.overlap(&a) && !3.overlap(&a));
-    /// # Ok(())
-    /// # }
+    /// use intervallum::proved::examples::*;
+    ///
+    /// fn main() -> Result<(), std::boxed::Box<dyn std::error::Error>> {
+    ///     let alloc = Global;
+    ///     let a = IntervalSet::new(alloc, 1u8, 2)?;
+    ///     assert!(2.overlap(&a) && !3.overlap(&a));
+    ///     Ok(())
+    /// }
     /// ```
     ///
     /// # Proved

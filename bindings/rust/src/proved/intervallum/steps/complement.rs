@@ -1,3 +1,4 @@
+// Written by bindings/rust/extract from crates/intervallum/src/steps/complement.rt.
 //! The numbers of the range that are no members of a set.
 
 #[allow(unused_imports)]

@@ -1,3 +1,4 @@
+// Written by bindings/rust/extract from crates/intervallum/src/steps/differences.rt.
 //! The members that one of two walks, or of two sets, has and the other does not.
 
 #[allow(unused_imports)]

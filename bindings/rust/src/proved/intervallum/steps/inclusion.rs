@@ -1,3 +1,4 @@
+// Written by bindings/rust/extract from crates/intervallum/src/steps/inclusion.rt.
 //! Whether what one walk has left lies within what another has.
 
 #[allow(unused_imports)]

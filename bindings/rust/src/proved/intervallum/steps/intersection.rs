@@ -1,3 +1,4 @@
+// Written by bindings/rust/extract from crates/intervallum/src/steps/intersection.rt.
 //! The common members of two walks.
 
 #[allow(unused_imports)]
@@ -15,14 +16,15 @@ use crate::rattle::std::alloc::AllocError;
 /// Fails only if allocation fails.
 ///
 /// ```
-/// # use intervallum::proved::examples::*;
-/// # fn main() -> Result<(), std::boxed::Box<dyn std::error::Error>> {
-/// # let alloc = Global;
-/// let (a, b) = (IntervalSet::new(alloc, 1, 5)?, IntervalSet::new(alloc, 4, 9)?);
-/// let both = common(Walk::new(&a), Walk::new(&b))?;
-/// assert!(both == IntervalSet::new(alloc, 4, 5)?);
-/// # Ok(())
-/// # }
+/// use intervallum::proved::examples::*;
+///
+/// fn main() -> Result<(), std::boxed::Box<dyn std::error::Error>> {
+///     let alloc = Global;
+///     let (a, b) = (IntervalSet::new(alloc, 1, 5)?, IntervalSet::new(alloc, 4, 9)?);
+///     let both = common(Walk::new(&a), Walk::new(&b))?;
+///     assert!(both == IntervalSet::new(alloc, 4, 5)?);
+///     Ok(())
+/// }
 /// ```
 ///
 /// # Proved

@@ -1,3 +1,4 @@
+// Written by bindings/rust/extract from crates/intervallum/src/steps/looks.rt.
 //! The number of looks that a search has taken, which only contracts see.
 
 #[allow(unused_imports)]

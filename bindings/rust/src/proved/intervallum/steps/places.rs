@@ -1,3 +1,4 @@
+// Written by bindings/rust/extract from crates/intervallum/src/steps/places.rt.
 //! The number of runs below a value, by a search among all or from a place on.
 
 #[allow(unused_imports)]

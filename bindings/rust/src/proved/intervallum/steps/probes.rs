@@ -1,3 +1,4 @@
+// Written by bindings/rust/extract from crates/intervallum/src/steps/probes.rt.
 //! The runs of a set, read one at a time by looks that contracts count.
 
 #[allow(unused_imports)]
@@ -11,14 +12,15 @@ use crate::proved::intervallum::width::Width;
 /// run time. No call allocates.
 ///
 /// ```
-/// # use intervallum::proved::examples::*;
-/// # fn main() -> Result<(), std::boxed::Box<dyn std::error::Error>> {
-/// # let alloc = Global;
-/// let a: IntervalSet<i32> = [(1, 2), (5, 6)].to_interval_set(alloc)?;
-/// let mut probes = Probes::new(&a);
-/// assert_eq!(find(&mut probes, 5), Place::In(1));
-/// # Ok(())
-/// # }
+/// use intervallum::proved::examples::*;
+///
+/// fn main() -> Result<(), std::boxed::Box<dyn std::error::Error>> {
+///     let alloc = Global;
+///     let a: IntervalSet<i32> = [(1, 2), (5, 6)].to_interval_set(alloc)?;
+///     let mut probes = Probes::new(&a);
+///     assert_eq!(find(&mut probes, 5), Place::In(1));
+///     Ok(())
+/// }
 /// ```
 pub struct Probes<'a, B: Width> {
     runs: &'a [Interval<B>],
@@ -29,13 +31,14 @@ impl<'a, B: Width> Probes<'a, B> {
     /// Returns the runs of the set, with no look taken. `O(1)`. Does not allocate.
     ///
     /// ```
-    /// # use intervallum::proved::examples::*;
-    /// # fn main() -> Result<(), std::boxed::Box<dyn std::error::Error>> {
-    /// # let alloc = Global;
-    /// let a: IntervalSet<i32> = [(1, 2), (5, 6)].to_interval_set(alloc)?;
-    /// assert_eq!(Probes::new(&a).len(), 2);
-    /// # Ok(())
-    /// # }
+    /// use intervallum::proved::examples::*;
+    ///
+    /// fn main() -> Result<(), std::boxed::Box<dyn std::error::Error>> {
+    ///     let alloc = Global;
+    ///     let a: IntervalSet<i32> = [(1, 2), (5, 6)].to_interval_set(alloc)?;
+    ///     assert_eq!(Probes::new(&a).len(), 2);
+    ///     Ok(())
+    /// }
     /// ```
     ///
     /// # Proved
@@ -54,14 +57,15 @@ impl<'a, B: Width> Probes<'a, B> {
     /// Returns the number of runs. This is not a look. `O(1)`. Does not allocate.
     ///
     /// ```
-    /// # use intervallum::proved::examples::*;
-    /// # fn main() -> Result<(), std::boxed::Box<dyn std::error::Error>> {
-    /// # let alloc = Global;
-    /// let a: IntervalSet<i32> = [(1, 2), (5, 6)].to_interval_set(alloc)?;
-    /// let probes = Probes::new(&a);
-    /// assert_eq!(probes.len(), 2);
-    /// # Ok(())
-    /// # }
+    /// use intervallum::proved::examples::*;
+    ///
+    /// fn main() -> Result<(), std::boxed::Box<dyn std::error::Error>> {
+    ///     let alloc = Global;
+    ///     let a: IntervalSet<i32> = [(1, 2), (5, 6)].to_interval_set(alloc)?;
+    ///     let probes = Probes::new(&a);
+    ///     assert_eq!(probes.len(), 2);
+    ///     Ok(())
+    /// }
     /// ```
     ///
     /// # Proved
@@ -80,14 +84,15 @@ impl<'a, B: Width> Probes<'a, B> {
     /// less than `len()`. `O(1)`. Does not allocate.
     ///
     /// ```
-    /// # use intervallum::proved::examples::*;
-    /// # fn main() -> Result<(), std::boxed::Box<dyn std::error::Error>> {
-    /// # let alloc = Global;
-    /// let a: IntervalSet<i32> = [(1, 2), (5, 6)].to_interval_set(alloc)?;
-    /// let mut probes = Probes::new(&a);
-    /// assert!(probes.len() > 1 && probes.look(1) == Interval::new(5, 6));
-    /// # Ok(())
-    /// # }
+    /// use intervallum::proved::examples::*;
+    ///
+    /// fn main() -> Result<(), std::boxed::Box<dyn std::error::Error>> {
+    ///     let alloc = Global;
+    ///     let a: IntervalSet<i32> = [(1, 2), (5, 6)].to_interval_set(alloc)?;
+    ///     let mut probes = Probes::new(&a);
+    ///     assert!(probes.len() > 1 && probes.look(1) == Interval::new(5, 6));
+    ///     Ok(())
+    /// }
     /// ```
     ///
     /// # Proved

@@ -1,3 +1,4 @@
+// Written by bindings/rust/extract from crates/intervallum/src/steps/search.rt.
 //! Binary search for a value among the runs of a set.
 
 #[allow(unused_imports)]
@@ -10,14 +11,15 @@ use crate::rattle::std::hint::select_unpredictable;
 /// The place of a value among runs numbered from 0, as `find` returns it.
 ///
 /// ```
-/// # use intervallum::proved::examples::*;
-/// # fn main() -> Result<(), std::boxed::Box<dyn std::error::Error>> {
-/// # let alloc = Global;
-/// let a: IntervalSet<i32> = [(1, 2), (5, 6)].to_interval_set(alloc)?;
-/// let mut probes = Probes::new(&a);
-/// assert_eq!(find(&mut probes, 3), Place::Gap(1));
-/// # Ok(())
-/// # }
+/// use intervallum::proved::examples::*;
+///
+/// fn main() -> Result<(), std::boxed::Box<dyn std::error::Error>> {
+///     let alloc = Global;
+///     let a: IntervalSet<i32> = [(1, 2), (5, 6)].to_interval_set(alloc)?;
+///     let mut probes = Probes::new(&a);
+///     assert_eq!(find(&mut probes, 3), Place::Gap(1));
+///     Ok(())
+/// }
 /// ```
 #[derive(Clone, Copy, PartialEq, Eq, Debug)]
 pub enum Place {
@@ -34,15 +36,16 @@ pub enum Place {
 /// holds `v`, or the next and the previous member.
 ///
 /// ```
-/// # use intervallum::proved::examples::*;
-/// # fn main() -> Result<(), std::boxed::Box<dyn std::error::Error>> {
-/// # let alloc = Global;
-/// let a: IntervalSet<i32> = [(1, 2), (5, 6)].to_interval_set(alloc)?;
-/// let mut probes = Probes::new(&a);
-/// assert_eq!(find(&mut probes, 5), Place::In(1));
-/// assert_eq!(find(&mut probes, 3), Place::Gap(1));
-/// # Ok(())
-/// # }
+/// use intervallum::proved::examples::*;
+///
+/// fn main() -> Result<(), std::boxed::Box<dyn std::error::Error>> {
+///     let alloc = Global;
+///     let a: IntervalSet<i32> = [(1, 2), (5, 6)].to_interval_set(alloc)?;
+///     let mut probes = Probes::new(&a);
+///     assert_eq!(find(&mut probes, 5), Place::In(1));
+///     assert_eq!(find(&mut probes, 3), Place::Gap(1));
+///     Ok(())
+/// }
 /// ```
 ///
 /// # Proved

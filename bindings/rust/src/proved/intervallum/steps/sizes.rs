@@ -1,3 +1,4 @@
+// Written by bindings/rust/extract from crates/intervallum/src/steps/sizes.rt.
 //! How many members two walks have in common.
 
 #[allow(unused_imports)]

@@ -1,3 +1,4 @@
+// Written by bindings/rust/extract from crates/intervallum/src/steps/union.rt.
 //! Merges the runs of two walks.
 
 #[allow(unused_imports)]
@@ -17,14 +18,15 @@ use crate::rattle::std::hint::select_unpredictable;
 /// allocation fails.
 ///
 /// ```
-/// # use intervallum::proved::examples::*;
-/// # fn main() -> Result<(), std::boxed::Box<dyn std::error::Error>> {
-/// # let alloc = Global;
-/// let (a, b) = (IntervalSet::new(alloc, 1, 5)?, IntervalSet::new(alloc, 4, 9)?);
-/// let either = unite(Walk::new(&a), Walk::new(&b))?;
-/// assert!(either == IntervalSet::new(alloc, 1, 9)?);
-/// # Ok(())
-/// # }
+/// use intervallum::proved::examples::*;
+///
+/// fn main() -> Result<(), std::boxed::Box<dyn std::error::Error>> {
+///     let alloc = Global;
+///     let (a, b) = (IntervalSet::new(alloc, 1, 5)?, IntervalSet::new(alloc, 4, 9)?);
+///     let either = unite(Walk::new(&a), Walk::new(&b))?;
+///     assert!(either == IntervalSet::new(alloc, 1, 9)?);
+///     Ok(())
+/// }
 /// ```
 ///
 /// # Proved

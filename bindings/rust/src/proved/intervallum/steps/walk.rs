@@ -1,3 +1,4 @@
+// Written by bindings/rust/extract from crates/intervallum/src/steps/walk.rt.
 //! A walk over the runs of a set, from the left.
 
 #[allow(unused_imports)]
@@ -11,16 +12,17 @@ use crate::rattle::std::alloc::Global;
 /// how many the set has. No call allocates.
 ///
 /// ```
-/// # use intervallum::proved::examples::*;
-/// # fn main() -> Result<(), std::boxed::Box<dyn std::error::Error>> {
-/// # let alloc = Global;
-/// let a: IntervalSet<i32> = [(1, 2), (5, 6)].to_interval_set(alloc)?;
-/// let mut walk = Walk::new(&a);
-/// assert!(walk.peek().is_some());
-/// walk.advance();
-/// assert!(walk.left() == 1 && walk.peek() == Some(Interval::new(5, 6)));
-/// # Ok(())
-/// # }
+/// use intervallum::proved::examples::*;
+///
+/// fn main() -> Result<(), std::boxed::Box<dyn std::error::Error>> {
+///     let alloc = Global;
+///     let a: IntervalSet<i32> = [(1, 2), (5, 6)].to_interval_set(alloc)?;
+///     let mut walk = Walk::new(&a);
+///     assert!(walk.peek().is_some());
+///     walk.advance();
+///     assert!(walk.left() == 1 && walk.peek() == Some(Interval::new(5, 6)));
+///     Ok(())
+/// }
 /// ```
 pub struct Walk<'a, B: Width> {
     runs: &'a [Interval<B>],
@@ -32,13 +34,14 @@ impl<'a, B: Width> Walk<'a, B> {
     /// Returns a walk over all runs of the set. `O(1)`. Does not allocate.
     ///
     /// ```
-    /// # use intervallum::proved::examples::*;
-    /// # fn main() -> Result<(), std::boxed::Box<dyn std::error::Error>> {
-    /// # let alloc = Global;
-    /// let a: IntervalSet<i32> = [(1, 2), (5, 6)].to_interval_set(alloc)?;
-    /// assert_eq!(Walk::new(&a).left(), 2);
-    /// # Ok(())
-    /// # }
+    /// use intervallum::proved::examples::*;
+    ///
+    /// fn main() -> Result<(), std::boxed::Box<dyn std::error::Error>> {
+    ///     let alloc = Global;
+    ///     let a: IntervalSet<i32> = [(1, 2), (5, 6)].to_interval_set(alloc)?;
+    ///     assert_eq!(Walk::new(&a).left(), 2);
+    ///     Ok(())
+    /// }
     /// ```
     ///
     /// # Proved
@@ -59,14 +62,15 @@ impl<'a, B: Width> Walk<'a, B> {
     /// Returns the first run that is left, or `None` if there is none. `O(1)`. Does not allocate.
     ///
     /// ```
-    /// # use intervallum::proved::examples::*;
-    /// # fn main() -> Result<(), std::boxed::Box<dyn std::error::Error>> {
-    /// # let alloc = Global;
-    /// let a: IntervalSet<i32> = [(1, 2), (5, 6)].to_interval_set(alloc)?;
-    /// let walk = Walk::new(&a);
-    /// assert!(walk.peek() == Some(Interval::new(1, 2)));
-    /// # Ok(())
-    /// # }
+    /// use intervallum::proved::examples::*;
+    ///
+    /// fn main() -> Result<(), std::boxed::Box<dyn std::error::Error>> {
+    ///     let alloc = Global;
+    ///     let a: IntervalSet<i32> = [(1, 2), (5, 6)].to_interval_set(alloc)?;
+    ///     let walk = Walk::new(&a);
+    ///     assert!(walk.peek() == Some(Interval::new(1, 2)));
+    ///     Ok(())
+    /// }
     /// ```
     ///
     /// # Proved
@@ -86,16 +90,17 @@ impl<'a, B: Width> Walk<'a, B> {
     /// `peek`. `O(1)`. Does not allocate.
     ///
     /// ```
-    /// # use intervallum::proved::examples::*;
-    /// # fn main() -> Result<(), std::boxed::Box<dyn std::error::Error>> {
-    /// # let alloc = Global;
-    /// let a: IntervalSet<i32> = [(1, 2), (5, 6)].to_interval_set(alloc)?;
-    /// let mut walk = Walk::new(&a);
-    /// assert!(walk.peek().is_some());
-    /// walk.advance();
-    /// assert_eq!(walk.left(), 1);
-    /// # Ok(())
-    /// # }
+    /// use intervallum::proved::examples::*;
+    ///
+    /// fn main() -> Result<(), std::boxed::Box<dyn std::error::Error>> {
+    ///     let alloc = Global;
+    ///     let a: IntervalSet<i32> = [(1, 2), (5, 6)].to_interval_set(alloc)?;
+    ///     let mut walk = Walk::new(&a);
+    ///     assert!(walk.peek().is_some());
+    ///     walk.advance();
+    ///     assert_eq!(walk.left(), 1);
+    ///     Ok(())
+    /// }
     /// ```
     ///
     /// # Proved
@@ -127,14 +132,15 @@ impl<'a, B: Width> Walk<'a, B> {
     /// `O(1)`. Does not allocate.
     ///
     /// ```
-    /// # use intervallum::proved::examples::*;
-    /// # fn main() -> Result<(), std::boxed::Box<dyn std::error::Error>> {
-    /// # let alloc = Global;
-    /// let a: IntervalSet<i32> = [(1, 2), (5, 6)].to_interval_set(alloc)?;
-    /// let walk = Walk::new(&a);
-    /// assert_eq!(walk.left(), 2);
-    /// # Ok(())
-    /// # }
+    /// use intervallum::proved::examples::*;
+    ///
+    /// fn main() -> Result<(), std::boxed::Box<dyn std::error::Error>> {
+    ///     let alloc = Global;
+    ///     let a: IntervalSet<i32> = [(1, 2), (5, 6)].to_interval_set(alloc)?;
+    ///     let walk = Walk::new(&a);
+    ///     assert_eq!(walk.left(), 2);
+    ///     Ok(())
+    /// }
     /// ```
     ///
     /// # Proved
@@ -158,15 +164,16 @@ impl<'a, B: Width> Walk<'a, B> {
     /// Returns the allocator of the set. `O(1)`. Does not allocate.
     ///
     /// ```
-    /// # use intervallum::proved::examples::*;
-    /// # fn main() -> Result<(), std::boxed::Box<dyn std::error::Error>> {
-    /// # let alloc = Global;
-    /// let a: IntervalSet<i32> = [(1, 2), (5, 6)].to_interval_set(alloc)?;
-    /// let walk = Walk::new(&a);
-    /// let none: IntervalSet<i32> = IntervalSet::empty(walk.alloc());
-    /// assert!(none.is_empty());
-    /// # Ok(())
-    /// # }
+    /// use intervallum::proved::examples::*;
+    ///
+    /// fn main() -> Result<(), std::boxed::Box<dyn std::error::Error>> {
+    ///     let alloc = Global;
+    ///     let a: IntervalSet<i32> = [(1, 2), (5, 6)].to_interval_set(alloc)?;
+    ///     let walk = Walk::new(&a);
+    ///     let none: IntervalSet<i32> = IntervalSet::empty(walk.alloc());
+    ///     assert!(none.is_empty());
+    ///     Ok(())
+    /// }
     /// ```
     pub fn alloc(&self) -> Global {
         self.alloc

@@ -1,3 +1,4 @@
+// Written by bindings/rust/extract from crates/ivl_interval/src/interval/arithmetic.rt.
 //! Sums, differences and products of intervals, and of an interval with a value.
 //!
 //! Each operand is owned or borrowed. The caller must ensure that the results of each call are in
@@ -96,14 +97,15 @@ impl<B: Width> Add<Interval<B>> for Interval<B> {
     /// that the sums are in the range. Check with `fits_add`.
     ///
     /// ```
-    /// # use intervallum::proved::examples::*;
-    /// # fn main() -> Result<(), std::boxed::Box<dyn std::error::Error>> {
-    /// # let alloc = Global;
-    /// let (a, b) = (Interval::new(1i32, 2), Interval::new(10, 20));
-    /// assert!(a.fits_add(&b));
-    /// assert_eq!(a + b, Interval::new(11, 22));
-    /// # Ok(())
-    /// # }
+    /// use intervallum::proved::examples::*;
+    ///
+    /// fn main() -> Result<(), std::boxed::Box<dyn std::error::Error>> {
+    ///     let alloc = Global;
+    ///     let (a, b) = (Interval::new(1i32, 2), Interval::new(10, 20));
+    ///     assert!(a.fits_add(&b));
+    ///     assert_eq!(a + b, Interval::new(11, 22));
+    ///     Ok(())
+    /// }
     /// ```
     fn add(self, rhs: Interval<B>) -> Interval<B> {
         debug_assert!({ #[allow(unused_imports)] use crate::proved::ivl_interval::ops::*; self.fits_add(&rhs) }, "{}", "the condition of `add` is broken: self.fits_add(&rhs)");
@@ -183,14 +185,15 @@ impl<B: Width> Add<B> for Interval<B> {
     /// in the range. Check with `fits_add`.
     ///
     /// ```
-    /// # use intervallum::proved::examples::*;
-    /// # fn main() -> Result<(), std::boxed::Box<dyn std::error::Error>> {
-    /// # let alloc = Global;
-    /// let a = Interval::new(1i32, 2);
-    /// assert!(a.fits_add(&3));
-    /// assert_eq!(a + 3, Interval::new(4, 5));
-    /// # Ok(())
-    /// # }
+    /// use intervallum::proved::examples::*;
+    ///
+    /// fn main() -> Result<(), std::boxed::Box<dyn std::error::Error>> {
+    ///     let alloc = Global;
+    ///     let a = Interval::new(1i32, 2);
+    ///     assert!(a.fits_add(&3));
+    ///     assert_eq!(a + 3, Interval::new(4, 5));
+    ///     Ok(())
+    /// }
     /// ```
     fn add(self, rhs: B) -> Interval<B> {
         debug_assert!({ #[allow(unused_imports)] use crate::proved::ivl_interval::ops::*; self.fits_add(&rhs) }, "{}", "the condition of `add` is broken: self.fits_add(&rhs)");
@@ -270,14 +273,15 @@ impl<B: Width> Sub<Interval<B>> for Interval<B> {
     /// ensure that the differences are in the range. Check with `fits_sub`.
     ///
     /// ```
-    /// # use intervallum::proved::examples::*;
-    /// # fn main() -> Result<(), std::boxed::Box<dyn std::error::Error>> {
-    /// # let alloc = Global;
-    /// let (a, b) = (Interval::new(1i32, 2), Interval::new(10, 20));
-    /// assert!(a.fits_sub(&b));
-    /// assert_eq!(a - b, Interval::new(-19, -8));
-    /// # Ok(())
-    /// # }
+    /// use intervallum::proved::examples::*;
+    ///
+    /// fn main() -> Result<(), std::boxed::Box<dyn std::error::Error>> {
+    ///     let alloc = Global;
+    ///     let (a, b) = (Interval::new(1i32, 2), Interval::new(10, 20));
+    ///     assert!(a.fits_sub(&b));
+    ///     assert_eq!(a - b, Interval::new(-19, -8));
+    ///     Ok(())
+    /// }
     /// ```
     fn sub(self, rhs: Interval<B>) -> Interval<B> {
         debug_assert!({ #[allow(unused_imports)] use crate::proved::ivl_interval::ops::*; self.fits_sub(&rhs) }, "{}", "the condition of `sub` is broken: self.fits_sub(&rhs)");
@@ -357,14 +361,15 @@ impl<B: Width> Sub<B> for Interval<B> {
     /// differences are in the range. Check with `fits_sub`.
     ///
     /// ```
-    /// # use intervallum::proved::examples::*;
-    /// # fn main() -> Result<(), std::boxed::Box<dyn std::error::Error>> {
-    /// # let alloc = Global;
-    /// let a = Interval::new(1i32, 2);
-    /// assert!(a.fits_sub(&3));
-    /// assert_eq!(a - 3, Interval::new(-2, -1));
-    /// # Ok(())
-    /// # }
+    /// use intervallum::proved::examples::*;
+    ///
+    /// fn main() -> Result<(), std::boxed::Box<dyn std::error::Error>> {
+    ///     let alloc = Global;
+    ///     let a = Interval::new(1i32, 2);
+    ///     assert!(a.fits_sub(&3));
+    ///     assert_eq!(a - 3, Interval::new(-2, -1));
+    ///     Ok(())
+    /// }
     /// ```
     fn sub(self, rhs: B) -> Interval<B> {
         debug_assert!({ #[allow(unused_imports)] use crate::proved::ivl_interval::ops::*; self.fits_sub(&rhs) }, "{}", "the condition of `sub` is broken: self.fits_sub(&rhs)");
@@ -444,14 +449,15 @@ impl<B: Width> Mul<Interval<B>> for Interval<B> {
     /// ensure that the products are in the range. Check with `fits_mul`.
     ///
     /// ```
-    /// # use intervallum::proved::examples::*;
-    /// # fn main() -> Result<(), std::boxed::Box<dyn std::error::Error>> {
-    /// # let alloc = Global;
-    /// let (a, b) = (Interval::new(1i32, 2), Interval::new(10, 20));
-    /// assert!(a.fits_mul(&b));
-    /// assert_eq!(a * b, Interval::new(10, 40));
-    /// # Ok(())
-    /// # }
+    /// use intervallum::proved::examples::*;
+    ///
+    /// fn main() -> Result<(), std::boxed::Box<dyn std::error::Error>> {
+    ///     let alloc = Global;
+    ///     let (a, b) = (Interval::new(1i32, 2), Interval::new(10, 20));
+    ///     assert!(a.fits_mul(&b));
+    ///     assert_eq!(a * b, Interval::new(10, 40));
+    ///     Ok(())
+    /// }
     /// ```
     fn mul(self, rhs: Interval<B>) -> Interval<B> {
         debug_assert!({ #[allow(unused_imports)] use crate::proved::ivl_interval::ops::*; self.fits_mul(&rhs) }, "{}", "the condition of `mul` is broken: self.fits_mul(&rhs)");
@@ -533,14 +539,15 @@ impl<B: Width> Mul<B> for Interval<B> {
     /// In the original, a negative value crosses the bounds of an interval of several members.
     ///
     /// ```
-    /// # use intervallum::proved::examples::*;
-    /// # fn main() -> Result<(), std::boxed::Box<dyn std::error::Error>> {
-    /// # let alloc = Global;
-    /// let a = Interval::new(1i32, 2);
-    /// assert!(a.fits_mul(&-3));
-    /// assert_eq!(a * -3, Interval::new(-6, -3));
-    /// # Ok(())
-    /// # }
+    /// use intervallum::proved::examples::*;
+    ///
+    /// fn main() -> Result<(), std::boxed::Box<dyn std::error::Error>> {
+    ///     let alloc = Global;
+    ///     let a = Interval::new(1i32, 2);
+    ///     assert!(a.fits_mul(&-3));
+    ///     assert_eq!(a * -3, Interval::new(-6, -3));
+    ///     Ok(())
+    /// }
     /// ```
     fn mul(self, rhs: B) -> Interval<B> {
         debug_assert!({ #[allow(unused_imports)] use crate::proved::ivl_interval::ops::*; self.fits_mul(&rhs) }, "{}", "the condition of `mul` is broken: self.fits_mul(&rhs)");

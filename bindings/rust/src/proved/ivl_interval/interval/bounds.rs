@@ -1,3 +1,4 @@
+// Written by bindings/rust/extract from crates/ivl_interval/src/interval/bounds.rt.
 //! Intervals from bounds, and queries of their bounds: the least and the greatest member, the size,
 //! and membership.
 
@@ -34,13 +35,14 @@ impl<B: Width> Range for Interval<B> {
     /// must ensure `in_range(lb, ub)`.
     ///
     /// ```
-    /// # use intervallum::proved::examples::*;
-    /// # fn main() -> Result<(), std::boxed::Box<dyn std::error::Error>> {
-    /// # let alloc = Global;
-    /// assert_eq!(Interval::new(1i32, 5).size(), 5);
-    /// assert!(Interval::new(8i32, 3).is_empty());
-    /// # Ok(())
-    /// # }
+    /// use intervallum::proved::examples::*;
+    ///
+    /// fn main() -> Result<(), std::boxed::Box<dyn std::error::Error>> {
+    ///     let alloc = Global;
+    ///     assert_eq!(Interval::new(1i32, 5).size(), 5);
+    ///     assert!(Interval::new(8i32, 3).is_empty());
+    ///     Ok(())
+    /// }
     /// ```
     ///
     /// # Proved
@@ -69,12 +71,13 @@ impl<B: Width> Empty for Interval<B> {
     /// Returns an empty interval.
     ///
     /// ```
-    /// # use intervallum::proved::examples::*;
-    /// # fn main() -> Result<(), std::boxed::Box<dyn std::error::Error>> {
-    /// # let alloc = Global;
-    /// assert!(!Interval::<i32>::empty().contains(&0));
-    /// # Ok(())
-    /// # }
+    /// use intervallum::proved::examples::*;
+    ///
+    /// fn main() -> Result<(), std::boxed::Box<dyn std::error::Error>> {
+    ///     let alloc = Global;
+    ///     assert!(!Interval::<i32>::empty().contains(&0));
+    ///     Ok(())
+    /// }
     /// ```
     ///
     /// # Proved
@@ -101,12 +104,13 @@ impl<B: Width> Top for Interval<B> {
     /// Returns an empty interval, which entails every other.
     ///
     /// ```
-    /// # use intervallum::proved::examples::*;
-    /// # fn main() -> Result<(), std::boxed::Box<dyn std::error::Error>> {
-    /// # let alloc = Global;
-    /// assert_eq!(Interval::top().entail(&Interval::new(1i32, 2)), SKleene::True);
-    /// # Ok(())
-    /// # }
+    /// use intervallum::proved::examples::*;
+    ///
+    /// fn main() -> Result<(), std::boxed::Box<dyn std::error::Error>> {
+    ///     let alloc = Global;
+    ///     assert_eq!(Interval::top().entail(&Interval::new(1i32, 2)), SKleene::True);
+    ///     Ok(())
+    /// }
     /// ```
     ///
     /// # Proved
@@ -135,13 +139,14 @@ impl<B: Width> Whole for Interval<B> {
     /// true.
     ///
     /// ```
-    /// # use intervallum::proved::examples::*;
-    /// # fn main() -> Result<(), std::boxed::Box<dyn std::error::Error>> {
-    /// # let alloc = Global;
-    /// let range = Interval::<i8>::whole();
-    /// assert!(range.contains(&-127) && !range.contains(&-128));
-    /// # Ok(())
-    /// # }
+    /// use intervallum::proved::examples::*;
+    ///
+    /// fn main() -> Result<(), std::boxed::Box<dyn std::error::Error>> {
+    ///     let alloc = Global;
+    ///     let range = Interval::<i8>::whole();
+    ///     assert!(range.contains(&-127) && !range.contains(&-128));
+    ///     Ok(())
+    /// }
     /// ```
     ///
     /// # Proved
@@ -169,12 +174,13 @@ impl<B: Width> Bot for Interval<B> {
     /// Returns the range of `B`, which every interval entails.
     ///
     /// ```
-    /// # use intervallum::proved::examples::*;
-    /// # fn main() -> Result<(), std::boxed::Box<dyn std::error::Error>> {
-    /// # let alloc = Global;
-    /// assert_eq!(Interval::new(1i32, 2).entail(&Interval::bot()), SKleene::True);
-    /// # Ok(())
-    /// # }
+    /// use intervallum::proved::examples::*;
+    ///
+    /// fn main() -> Result<(), std::boxed::Box<dyn std::error::Error>> {
+    ///     let alloc = Global;
+    ///     assert_eq!(Interval::new(1i32, 2).entail(&Interval::bot()), SKleene::True);
+    ///     Ok(())
+    /// }
     /// ```
     ///
     /// # Proved
@@ -200,12 +206,13 @@ impl<B: Width> Singleton for Interval<B> {
     /// Check with `whole().contains(&item)`.
     ///
     /// ```
-    /// # use intervallum::proved::examples::*;
-    /// # fn main() -> Result<(), std::boxed::Box<dyn std::error::Error>> {
-    /// # let alloc = Global;
-    /// assert_eq!(Interval::singleton(5i32).size(), 1);
-    /// # Ok(())
-    /// # }
+    /// use intervallum::proved::examples::*;
+    ///
+    /// fn main() -> Result<(), std::boxed::Box<dyn std::error::Error>> {
+    ///     let alloc = Global;
+    ///     assert_eq!(Interval::singleton(5i32).size(), 1);
+    ///     Ok(())
+    /// }
     /// ```
     ///
     /// # Proved
@@ -227,12 +234,13 @@ impl<B: Width> Bounded for Interval<B> {
     /// `is_empty`.
     ///
     /// ```
-    /// # use intervallum::proved::examples::*;
-    /// # fn main() -> Result<(), std::boxed::Box<dyn std::error::Error>> {
-    /// # let alloc = Global;
-    /// assert_eq!(Interval::new(3i32, 8).lower(), 3);
-    /// # Ok(())
-    /// # }
+    /// use intervallum::proved::examples::*;
+    ///
+    /// fn main() -> Result<(), std::boxed::Box<dyn std::error::Error>> {
+    ///     let alloc = Global;
+    ///     assert_eq!(Interval::new(3i32, 8).lower(), 3);
+    ///     Ok(())
+    /// }
     /// ```
     ///
     /// # Proved
@@ -255,12 +263,13 @@ impl<B: Width> Bounded for Interval<B> {
     /// with `is_empty`.
     ///
     /// ```
-    /// # use intervallum::proved::examples::*;
-    /// # fn main() -> Result<(), std::boxed::Box<dyn std::error::Error>> {
-    /// # let alloc = Global;
-    /// assert_eq!(Interval::new(3i32, 8).upper(), 8);
-    /// # Ok(())
-    /// # }
+    /// use intervallum::proved::examples::*;
+    ///
+    /// fn main() -> Result<(), std::boxed::Box<dyn std::error::Error>> {
+    ///     let alloc = Global;
+    ///     assert_eq!(Interval::new(3i32, 8).upper(), 8);
+    ///     Ok(())
+    /// }
     /// ```
     ///
     /// # Proved
@@ -294,12 +303,13 @@ impl<B: Width> Cardinality for Interval<B> {
     /// Returns the number of members.
     ///
     /// ```
-    /// # use intervallum::proved::examples::*;
-    /// # fn main() -> Result<(), std::boxed::Box<dyn std::error::Error>> {
-    /// # let alloc = Global;
-    /// assert_eq!(Interval::<u8>::whole().size(), 255);
-    /// # Ok(())
-    /// # }
+    /// use intervallum::proved::examples::*;
+    ///
+    /// fn main() -> Result<(), std::boxed::Box<dyn std::error::Error>> {
+    ///     let alloc = Global;
+    ///     assert_eq!(Interval::<u8>::whole().size(), 255);
+    ///     Ok(())
+    /// }
     /// ```
     ///
     /// # Proved
@@ -330,12 +340,13 @@ impl<B: Width> IsEmpty for Interval<B> {
     /// Returns true exactly when the interval has no members: the lower bound is above the upper.
     ///
     /// ```
-    /// # use intervallum::proved::examples::*;
-    /// # fn main() -> Result<(), std::boxed::Box<dyn std::error::Error>> {
-    /// # let alloc = Global;
-    /// assert!(Interval::new(8i32, 3).is_empty() && !Interval::new(3i32, 3).is_empty());
-    /// # Ok(())
-    /// # }
+    /// use intervallum::proved::examples::*;
+    ///
+    /// fn main() -> Result<(), std::boxed::Box<dyn std::error::Error>> {
+    ///     let alloc = Global;
+    ///     assert!(Interval::new(8i32, 3).is_empty() && !Interval::new(3i32, 3).is_empty());
+    ///     Ok(())
+    /// }
     /// ```
     ///
     /// # Proved
@@ -363,13 +374,14 @@ impl<B: Width> IsSingleton for Interval<B> {
     /// Returns true exactly when the interval has one member: the bounds are equal.
     ///
     /// ```
-    /// # use intervallum::proved::examples::*;
-    /// # fn main() -> Result<(), std::boxed::Box<dyn std::error::Error>> {
-    /// # let alloc = Global;
-    /// assert!(Interval::new(5i32, 5).is_singleton());
-    /// assert!(!Interval::new(5i32, 6).is_singleton());
-    /// # Ok(())
-    /// # }
+    /// use intervallum::proved::examples::*;
+    ///
+    /// fn main() -> Result<(), std::boxed::Box<dyn std::error::Error>> {
+    ///     let alloc = Global;
+    ///     assert!(Interval::new(5i32, 5).is_singleton());
+    ///     assert!(!Interval::new(5i32, 6).is_singleton());
+    ///     Ok(())
+    /// }
     /// ```
     ///
     /// # Proved
@@ -390,12 +402,13 @@ impl<B: Width> Contains for Interval<B> {
     /// outside the range.
     ///
     /// ```
-    /// # use intervallum::proved::examples::*;
-    /// # fn main() -> Result<(), std::boxed::Box<dyn std::error::Error>> {
-    /// # let alloc = Global;
-    /// assert!(!Interval::<u8>::whole().contains(&255));
-    /// # Ok(())
-    /// # }
+    /// use intervallum::proved::examples::*;
+    ///
+    /// fn main() -> Result<(), std::boxed::Box<dyn std::error::Error>> {
+    ///     let alloc = Global;
+    ///     assert!(!Interval::<u8>::whole().contains(&255));
+    ///     Ok(())
+    /// }
     /// ```
     ///
     /// # Proved

@@ -1,3 +1,4 @@
+// Written by bindings/rust/extract from crates/ivl_interval/src/interval/conversions.rt.
 //! Conversions to an interval.
 
 #[allow(unused_imports)]
@@ -17,14 +18,15 @@ impl<B: Width> ToInterval<B> for Interval<B> {
     /// Returns the interval itself.
     ///
     /// ```
-    /// # use intervallum::proved::examples::*;
-    /// # fn main() -> Result<(), std::boxed::Box<dyn std::error::Error>> {
-    /// # let alloc = Global;
-    /// let a = Interval::new(1i32, 5);
-    /// let same: Interval<i32> = a.to_interval();
-    /// assert_eq!(same, a);
-    /// # Ok(())
-    /// # }
+    /// use intervallum::proved::examples::*;
+    ///
+    /// fn main() -> Result<(), std::boxed::Box<dyn std::error::Error>> {
+    ///     let alloc = Global;
+    ///     let a = Interval::new(1i32, 5);
+    ///     let same: Interval<i32> = a.to_interval();
+    ///     assert_eq!(same, a);
+    ///     Ok(())
+    /// }
     /// ```
     ///
     /// # Proved
@@ -54,13 +56,14 @@ impl<B: Width> ToInterval<B> for (B, B) {
     /// caller must ensure `Interval::in_range(first, second)`.
     ///
     /// ```
-    /// # use intervallum::proved::examples::*;
-    /// # fn main() -> Result<(), std::boxed::Box<dyn std::error::Error>> {
-    /// # let alloc = Global;
-    /// let pair: Interval<i32> = (1, 5).to_interval();
-    /// assert_eq!(pair, Interval::new(1, 5));
-    /// # Ok(())
-    /// # }
+    /// use intervallum::proved::examples::*;
+    ///
+    /// fn main() -> Result<(), std::boxed::Box<dyn std::error::Error>> {
+    ///     let alloc = Global;
+    ///     let pair: Interval<i32> = (1, 5).to_interval();
+    ///     assert_eq!(pair, Interval::new(1, 5));
+    ///     Ok(())
+    /// }
     /// ```
     ///
     /// # Proved
@@ -88,13 +91,14 @@ impl<B: Width> ToInterval<B> for () {
     /// Returns an empty interval.
     ///
     /// ```
-    /// # use intervallum::proved::examples::*;
-    /// # fn main() -> Result<(), std::boxed::Box<dyn std::error::Error>> {
-    /// # let alloc = Global;
-    /// let none: Interval<i32> = ().to_interval();
-    /// assert!(none.is_empty());
-    /// # Ok(())
-    /// # }
+    /// use intervallum::proved::examples::*;
+    ///
+    /// fn main() -> Result<(), std::boxed::Box<dyn std::error::Error>> {
+    ///     let alloc = Global;
+    ///     let none: Interval<i32> = ().to_interval();
+    ///     assert!(none.is_empty());
+    ///     Ok(())
+    /// }
     /// ```
     ///
     /// # Proved
@@ -124,13 +128,14 @@ impl<B: Width> ToInterval<B> for B {
     /// Check with `Interval::whole().contains(&value)`.
     ///
     /// ```
-    /// # use intervallum::proved::examples::*;
-    /// # fn main() -> Result<(), std::boxed::Box<dyn std::error::Error>> {
-    /// # let alloc = Global;
-    /// let five: Interval<i32> = 5.to_interval();
-    /// assert_eq!(five, Interval::new(5, 5));
-    /// # Ok(())
-    /// # }
+    /// use intervallum::proved::examples::*;
+    ///
+    /// fn main() -> Result<(), std::boxed::Box<dyn std::error::Error>> {
+    ///     let alloc = Global;
+    ///     let five: Interval<i32> = 5.to_interval();
+    ///     assert_eq!(five, Interval::new(5, 5));
+    ///     Ok(())
+    /// }
     /// ```
     ///
     /// # Proved
@@ -161,13 +166,14 @@ impl<B: Width> ToInterval<B> for RangeInclusive<B> {
     /// caller must ensure `Interval::in_range(a, b)`.
     ///
     /// ```
-    /// # use intervallum::proved::examples::*;
-    /// # fn main() -> Result<(), std::boxed::Box<dyn std::error::Error>> {
-    /// # let alloc = Global;
-    /// let crossed: Interval<i32> = (8..=3).to_interval();
-    /// assert!(crossed.is_empty());
-    /// # Ok(())
-    /// # }
+    /// use intervallum::proved::examples::*;
+    ///
+    /// fn main() -> Result<(), std::boxed::Box<dyn std::error::Error>> {
+    ///     let alloc = Global;
+    ///     let crossed: Interval<i32> = (8..=3).to_interval();
+    ///     assert!(crossed.is_empty());
+    ///     Ok(())
+    /// }
     /// ```
     ///
     /// # Proved
@@ -199,13 +205,14 @@ impl<B: Width> ToInterval<B> for RangeFrom<B> {
     /// must ensure that the start is in the range. Check with `Interval::whole().contains(&start)`.
     ///
     /// ```
-    /// # use intervallum::proved::examples::*;
-    /// # fn main() -> Result<(), std::boxed::Box<dyn std::error::Error>> {
-    /// # let alloc = Global;
-    /// let high: Interval<u8> = (250..).to_interval();
-    /// assert_eq!(high, Interval::new(250, 254));
-    /// # Ok(())
-    /// # }
+    /// use intervallum::proved::examples::*;
+    ///
+    /// fn main() -> Result<(), std::boxed::Box<dyn std::error::Error>> {
+    ///     let alloc = Global;
+    ///     let high: Interval<u8> = (250..).to_interval();
+    ///     assert_eq!(high, Interval::new(250, 254));
+    ///     Ok(())
+    /// }
     /// ```
     ///
     /// # Proved
@@ -236,13 +243,14 @@ impl<B: Width> ToInterval<B> for RangeToInclusive<B> {
     /// ensure that the end is in the range. Check with `Interval::whole().contains(&end)`.
     ///
     /// ```
-    /// # use intervallum::proved::examples::*;
-    /// # fn main() -> Result<(), std::boxed::Box<dyn std::error::Error>> {
-    /// # let alloc = Global;
-    /// let low: Interval<u8> = (..=5).to_interval();
-    /// assert_eq!(low, Interval::new(0, 5));
-    /// # Ok(())
-    /// # }
+    /// use intervallum::proved::examples::*;
+    ///
+    /// fn main() -> Result<(), std::boxed::Box<dyn std::error::Error>> {
+    ///     let alloc = Global;
+    ///     let low: Interval<u8> = (..=5).to_interval();
+    ///     assert_eq!(low, Interval::new(0, 5));
+    ///     Ok(())
+    /// }
     /// ```
     ///
     /// # Proved

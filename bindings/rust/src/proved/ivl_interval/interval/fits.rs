@@ -1,3 +1,4 @@
+// Written by bindings/rust/extract from crates/ivl_interval/src/interval/fits.rt.
 //! Whether the results of arithmetic are in the range.
 //!
 //! Each call makes a few tests of the bounds, since the least and the greatest result are results
@@ -22,13 +23,14 @@ impl<B: Width> Fits<Interval<B>> for Interval<B> {
     /// Returns true exactly when `self + other` may be called.
     ///
     /// ```
-    /// # use intervallum::proved::examples::*;
-    /// # fn main() -> Result<(), std::boxed::Box<dyn std::error::Error>> {
-    /// # let alloc = Global;
-    /// let a = Interval::new(100i8, 100);
-    /// assert!(a.fits_add(&Interval::new(27, 27)) && !a.fits_add(&Interval::new(28, 28)));
-    /// # Ok(())
-    /// # }
+    /// use intervallum::proved::examples::*;
+    ///
+    /// fn main() -> Result<(), std::boxed::Box<dyn std::error::Error>> {
+    ///     let alloc = Global;
+    ///     let a = Interval::new(100i8, 100);
+    ///     assert!(a.fits_add(&Interval::new(27, 27)) && !a.fits_add(&Interval::new(28, 28)));
+    ///     Ok(())
+    /// }
     /// ```
     ///
     /// # Proved
@@ -44,13 +46,14 @@ impl<B: Width> Fits<Interval<B>> for Interval<B> {
     /// Returns true exactly when `self - other` may be called.
     ///
     /// ```
-    /// # use intervallum::proved::examples::*;
-    /// # fn main() -> Result<(), std::boxed::Box<dyn std::error::Error>> {
-    /// # let alloc = Global;
-    /// let a = Interval::new(3u8, 5);
-    /// assert!(a.fits_sub(&Interval::new(0, 3)) && !a.fits_sub(&Interval::new(0, 4)));
-    /// # Ok(())
-    /// # }
+    /// use intervallum::proved::examples::*;
+    ///
+    /// fn main() -> Result<(), std::boxed::Box<dyn std::error::Error>> {
+    ///     let alloc = Global;
+    ///     let a = Interval::new(3u8, 5);
+    ///     assert!(a.fits_sub(&Interval::new(0, 3)) && !a.fits_sub(&Interval::new(0, 4)));
+    ///     Ok(())
+    /// }
     /// ```
     ///
     /// # Proved
@@ -66,13 +69,14 @@ impl<B: Width> Fits<Interval<B>> for Interval<B> {
     /// Returns true exactly when `self * other` may be called.
     ///
     /// ```
-    /// # use intervallum::proved::examples::*;
-    /// # fn main() -> Result<(), std::boxed::Box<dyn std::error::Error>> {
-    /// # let alloc = Global;
-    /// let a = Interval::new(-2i8, 3);
-    /// assert!(a.fits_mul(&Interval::new(0, 42)) && !a.fits_mul(&Interval::new(0, 43)));
-    /// # Ok(())
-    /// # }
+    /// use intervallum::proved::examples::*;
+    ///
+    /// fn main() -> Result<(), std::boxed::Box<dyn std::error::Error>> {
+    ///     let alloc = Global;
+    ///     let a = Interval::new(-2i8, 3);
+    ///     assert!(a.fits_mul(&Interval::new(0, 42)) && !a.fits_mul(&Interval::new(0, 43)));
+    ///     Ok(())
+    /// }
     /// ```
     ///
     /// # Proved
@@ -99,13 +103,14 @@ impl<B: Width> Fits<B> for Interval<B> {
     /// Returns true exactly when `self + *other` may be called; `other` may be outside the range.
     ///
     /// ```
-    /// # use intervallum::proved::examples::*;
-    /// # fn main() -> Result<(), std::boxed::Box<dyn std::error::Error>> {
-    /// # let alloc = Global;
-    /// let a = Interval::new(1i8, 5);
-    /// assert!(a.fits_add(&-128) && !a.fits_add(&127));
-    /// # Ok(())
-    /// # }
+    /// use intervallum::proved::examples::*;
+    ///
+    /// fn main() -> Result<(), std::boxed::Box<dyn std::error::Error>> {
+    ///     let alloc = Global;
+    ///     let a = Interval::new(1i8, 5);
+    ///     assert!(a.fits_add(&-128) && !a.fits_add(&127));
+    ///     Ok(())
+    /// }
     /// ```
     ///
     /// # Proved
@@ -121,13 +126,14 @@ impl<B: Width> Fits<B> for Interval<B> {
     /// Returns true exactly when `self - *other` may be called; `other` may be outside the range.
     ///
     /// ```
-    /// # use intervallum::proved::examples::*;
-    /// # fn main() -> Result<(), std::boxed::Box<dyn std::error::Error>> {
-    /// # let alloc = Global;
-    /// let a = Interval::new(3u8, 5);
-    /// assert!(a.fits_sub(&3) && !a.fits_sub(&4));
-    /// # Ok(())
-    /// # }
+    /// use intervallum::proved::examples::*;
+    ///
+    /// fn main() -> Result<(), std::boxed::Box<dyn std::error::Error>> {
+    ///     let alloc = Global;
+    ///     let a = Interval::new(3u8, 5);
+    ///     assert!(a.fits_sub(&3) && !a.fits_sub(&4));
+    ///     Ok(())
+    /// }
     /// ```
     ///
     /// # Proved
@@ -143,13 +149,14 @@ impl<B: Width> Fits<B> for Interval<B> {
     /// Returns true exactly when `self * *other` may be called; `other` may be outside the range.
     ///
     /// ```
-    /// # use intervallum::proved::examples::*;
-    /// # fn main() -> Result<(), std::boxed::Box<dyn std::error::Error>> {
-    /// # let alloc = Global;
-    /// let a = Interval::new(1i8, 64);
-    /// assert!(a.fits_mul(&1) && !a.fits_mul(&2));
-    /// # Ok(())
-    /// # }
+    /// use intervallum::proved::examples::*;
+    ///
+    /// fn main() -> Result<(), std::boxed::Box<dyn std::error::Error>> {
+    ///     let alloc = Global;
+    ///     let a = Interval::new(1i8, 64);
+    ///     assert!(a.fits_mul(&1) && !a.fits_mul(&2));
+    ///     Ok(())
+    /// }
     /// ```
     ///
     /// # Proved

@@ -1,3 +1,4 @@
+// Written by bindings/rust/extract from crates/ivl_interval/src/interval/sets.rt.
 //! Intervals as sets: intersection, difference, hull and inclusion.
 
 #[allow(unused_imports)]
@@ -22,12 +23,13 @@ impl<B: Width> Disjoint<Interval<B>> for Interval<B> {
     /// Returns true exactly when no number is a member of both.
     ///
     /// ```
-    /// # use intervallum::proved::examples::*;
-    /// # fn main() -> Result<(), std::boxed::Box<dyn std::error::Error>> {
-    /// # let alloc = Global;
-    /// assert!(!Interval::new(1i32, 5).is_disjoint(&Interval::new(5, 9)));
-    /// # Ok(())
-    /// # }
+    /// use intervallum::proved::examples::*;
+    ///
+    /// fn main() -> Result<(), std::boxed::Box<dyn std::error::Error>> {
+    ///     let alloc = Global;
+    ///     assert!(!Interval::new(1i32, 5).is_disjoint(&Interval::new(5, 9)));
+    ///     Ok(())
+    /// }
     /// ```
     ///
     /// # Proved
@@ -50,12 +52,13 @@ impl<B: Width> Overlap<Interval<B>> for Interval<B> {
     /// Returns true exactly when some number is a member of both.
     ///
     /// ```
-    /// # use intervallum::proved::examples::*;
-    /// # fn main() -> Result<(), std::boxed::Box<dyn std::error::Error>> {
-    /// # let alloc = Global;
-    /// assert!(!Interval::new(1i32, 2).overlap(&Interval::new(3, 4)));
-    /// # Ok(())
-    /// # }
+    /// use intervallum::proved::examples::*;
+    ///
+    /// fn main() -> Result<(), std::boxed::Box<dyn std::error::Error>> {
+    ///     let alloc = Global;
+    ///     assert!(!Interval::new(1i32, 2).overlap(&Interval::new(3, 4)));
+    ///     Ok(())
+    /// }
     /// ```
     ///
     /// # Proved
@@ -81,13 +84,14 @@ impl<B: Width> Intersection<Interval<B>> for Interval<B> {
     /// Returns the numbers that are members of both.
     ///
     /// ```
-    /// # use intervallum::proved::examples::*;
-    /// # fn main() -> Result<(), std::boxed::Box<dyn std::error::Error>> {
-    /// # let alloc = Global;
-    /// let a = Interval::new(1i32, 3);
-    /// assert!(a.intersection(&Interval::new(4, 5)).is_empty());
-    /// # Ok(())
-    /// # }
+    /// use intervallum::proved::examples::*;
+    ///
+    /// fn main() -> Result<(), std::boxed::Box<dyn std::error::Error>> {
+    ///     let alloc = Global;
+    ///     let a = Interval::new(1i32, 3);
+    ///     assert!(a.intersection(&Interval::new(4, 5)).is_empty());
+    ///     Ok(())
+    /// }
     /// ```
     ///
     /// # Proved
@@ -117,14 +121,15 @@ impl<B: Width> Difference<Interval<B>> for Interval<B> {
     /// middle is not cut out: `[0..9]` without `[4..5]` is `[0..9]`.
     ///
     /// ```
-    /// # use intervallum::proved::examples::*;
-    /// # fn main() -> Result<(), std::boxed::Box<dyn std::error::Error>> {
-    /// # let alloc = Global;
-    /// let a = Interval::new(0u8, 9);
-    /// assert_eq!(a.difference(&Interval::new(0, 5)), Interval::new(6, 9));
-    /// assert_eq!(a.difference(&Interval::new(4, 5)), a);
-    /// # Ok(())
-    /// # }
+    /// use intervallum::proved::examples::*;
+    ///
+    /// fn main() -> Result<(), std::boxed::Box<dyn std::error::Error>> {
+    ///     let alloc = Global;
+    ///     let a = Interval::new(0u8, 9);
+    ///     assert_eq!(a.difference(&Interval::new(0, 5)), Interval::new(6, 9));
+    ///     assert_eq!(a.difference(&Interval::new(4, 5)), a);
+    ///     Ok(())
+    /// }
     /// ```
     ///
     /// # Proved
@@ -181,14 +186,15 @@ impl<B: Width> Hull<Interval<B>> for Interval<B> {
     /// Returns the least interval that holds the members of both.
     ///
     /// ```
-    /// # use intervallum::proved::examples::*;
-    /// # fn main() -> Result<(), std::boxed::Box<dyn std::error::Error>> {
-    /// # let alloc = Global;
-    /// let a = Interval::new(1i32, 2);
-    /// assert_eq!(a.hull(&Interval::new(8, 9)), Interval::new(1, 9));
-    /// assert_eq!(a.hull(&Interval::empty()), a);
-    /// # Ok(())
-    /// # }
+    /// use intervallum::proved::examples::*;
+    ///
+    /// fn main() -> Result<(), std::boxed::Box<dyn std::error::Error>> {
+    ///     let alloc = Global;
+    ///     let a = Interval::new(1i32, 2);
+    ///     assert_eq!(a.hull(&Interval::new(8, 9)), Interval::new(1, 9));
+    ///     assert_eq!(a.hull(&Interval::empty()), a);
+    ///     Ok(())
+    /// }
     /// ```
     ///
     /// # Proved
@@ -217,12 +223,13 @@ impl<B: Width> Subset for Interval<B> {
     /// interval.
     ///
     /// ```
-    /// # use intervallum::proved::examples::*;
-    /// # fn main() -> Result<(), std::boxed::Box<dyn std::error::Error>> {
-    /// # let alloc = Global;
-    /// assert!(Interval::empty().is_subset(&Interval::new(1i32, 2)));
-    /// # Ok(())
-    /// # }
+    /// use intervallum::proved::examples::*;
+    ///
+    /// fn main() -> Result<(), std::boxed::Box<dyn std::error::Error>> {
+    ///     let alloc = Global;
+    ///     assert!(Interval::empty().is_subset(&Interval::new(1i32, 2)));
+    ///     Ok(())
+    /// }
     /// ```
     ///
     /// # Proved
@@ -247,12 +254,13 @@ impl<B: Width> ProperSubset for Interval<B> {
     /// Returns true exactly when each member is a member of `other`, and `other` has more.
     ///
     /// ```
-    /// # use intervallum::proved::examples::*;
-    /// # fn main() -> Result<(), std::boxed::Box<dyn std::error::Error>> {
-    /// # let alloc = Global;
-    /// assert!(Interval::empty().is_proper_subset(&Interval::new(1i32, 2)));
-    /// # Ok(())
-    /// # }
+    /// use intervallum::proved::examples::*;
+    ///
+    /// fn main() -> Result<(), std::boxed::Box<dyn std::error::Error>> {
+    ///     let alloc = Global;
+    ///     assert!(Interval::empty().is_proper_subset(&Interval::new(1i32, 2)));
+    ///     Ok(())
+    /// }
     /// ```
     ///
     /// # Proved
@@ -277,12 +285,13 @@ impl<B: Width> Join for Interval<B> {
     /// Returns the intersection.
     ///
     /// ```
-    /// # use intervallum::proved::examples::*;
-    /// # fn main() -> Result<(), std::boxed::Box<dyn std::error::Error>> {
-    /// # let alloc = Global;
-    /// assert_eq!(Interval::new(1i32, 2).join(Interval::new(2, 3)), Interval::new(2, 2));
-    /// # Ok(())
-    /// # }
+    /// use intervallum::proved::examples::*;
+    ///
+    /// fn main() -> Result<(), std::boxed::Box<dyn std::error::Error>> {
+    ///     let alloc = Global;
+    ///     assert_eq!(Interval::new(1i32, 2).join(Interval::new(2, 3)), Interval::new(2, 2));
+    ///     Ok(())
+    /// }
     /// ```
     ///
     /// # Proved
@@ -307,12 +316,13 @@ impl<B: Width> Meet for Interval<B> {
     /// Returns the hull.
     ///
     /// ```
-    /// # use intervallum::proved::examples::*;
-    /// # fn main() -> Result<(), std::boxed::Box<dyn std::error::Error>> {
-    /// # let alloc = Global;
-    /// assert_eq!(Interval::new(1i32, 2).meet(Interval::new(5, 6)), Interval::new(1, 6));
-    /// # Ok(())
-    /// # }
+    /// use intervallum::proved::examples::*;
+    ///
+    /// fn main() -> Result<(), std::boxed::Box<dyn std::error::Error>> {
+    ///     let alloc = Global;
+    ///     assert_eq!(Interval::new(1i32, 2).meet(Interval::new(5, 6)), Interval::new(1, 6));
+    ///     Ok(())
+    /// }
     /// ```
     ///
     /// # Proved
@@ -335,14 +345,15 @@ impl<B: Width> Entailment for Interval<B> {
     /// else `Unknown`. So `[1..2]` entails `[0..10]`.
     ///
     /// ```
-    /// # use intervallum::proved::examples::*;
-    /// # fn main() -> Result<(), std::boxed::Box<dyn std::error::Error>> {
-    /// # let alloc = Global;
-    /// let (a, b) = (Interval::new(1i32, 2), Interval::new(0, 10));
-    /// assert_eq!(a.entail(&b), SKleene::True);
-    /// assert_eq!(b.entail(&a), SKleene::False);
-    /// # Ok(())
-    /// # }
+    /// use intervallum::proved::examples::*;
+    ///
+    /// fn main() -> Result<(), std::boxed::Box<dyn std::error::Error>> {
+    ///     let alloc = Global;
+    ///     let (a, b) = (Interval::new(1i32, 2), Interval::new(0, 10));
+    ///     assert_eq!(a.entail(&b), SKleene::True);
+    ///     assert_eq!(b.entail(&a), SKleene::False);
+    ///     Ok(())
+    /// }
     /// ```
     ///
     /// # Proved

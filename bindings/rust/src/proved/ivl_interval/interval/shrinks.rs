@@ -1,3 +1,4 @@
+// Written by bindings/rust/extract from crates/ivl_interval/src/interval/shrinks.rt.
 //! Intervals cut at a value, from either side, with or without the value itself.
 
 #[allow(unused_imports)]
@@ -20,14 +21,15 @@ impl<B: Width> ShrinkLeft for Interval<B> {
     /// Returns the members that are at least `lower`, which may be any value of its type.
     ///
     /// ```
-    /// # use intervallum::proved::examples::*;
-    /// # fn main() -> Result<(), std::boxed::Box<dyn std::error::Error>> {
-    /// # let alloc = Global;
-    /// let a = Interval::new(1u8, 9);
-    /// assert_eq!(a.shrink_left(0), a);
-    /// assert!(a.shrink_left(255).is_empty());
-    /// # Ok(())
-    /// # }
+    /// use intervallum::proved::examples::*;
+    ///
+    /// fn main() -> Result<(), std::boxed::Box<dyn std::error::Error>> {
+    ///     let alloc = Global;
+    ///     let a = Interval::new(1u8, 9);
+    ///     assert_eq!(a.shrink_left(0), a);
+    ///     assert!(a.shrink_left(255).is_empty());
+    ///     Ok(())
+    /// }
     /// ```
     ///
     /// # Proved
@@ -51,14 +53,15 @@ impl<B: Width> ShrinkRight for Interval<B> {
     /// Returns the members that are at most `upper`, which may be any value of its type.
     ///
     /// ```
-    /// # use intervallum::proved::examples::*;
-    /// # fn main() -> Result<(), std::boxed::Box<dyn std::error::Error>> {
-    /// # let alloc = Global;
-    /// let a = Interval::new(1u8, 9);
-    /// assert!(a.shrink_right(0).is_empty());
-    /// assert_eq!(a.shrink_right(255), a);
-    /// # Ok(())
-    /// # }
+    /// use intervallum::proved::examples::*;
+    ///
+    /// fn main() -> Result<(), std::boxed::Box<dyn std::error::Error>> {
+    ///     let alloc = Global;
+    ///     let a = Interval::new(1u8, 9);
+    ///     assert!(a.shrink_right(0).is_empty());
+    ///     assert_eq!(a.shrink_right(255), a);
+    ///     Ok(())
+    /// }
     /// ```
     ///
     /// # Proved
@@ -82,14 +85,15 @@ impl<B: Width> StrictShrinkLeft for Interval<B> {
     /// Returns the members above `lower`, which may be any value of its type.
     ///
     /// ```
-    /// # use intervallum::proved::examples::*;
-    /// # fn main() -> Result<(), std::boxed::Box<dyn std::error::Error>> {
-    /// # let alloc = Global;
-    /// let a = Interval::new(1u8, 9);
-    /// assert_eq!(a.strict_shrink_left(0), a);
-    /// assert!(a.strict_shrink_left(9).is_empty());
-    /// # Ok(())
-    /// # }
+    /// use intervallum::proved::examples::*;
+    ///
+    /// fn main() -> Result<(), std::boxed::Box<dyn std::error::Error>> {
+    ///     let alloc = Global;
+    ///     let a = Interval::new(1u8, 9);
+    ///     assert_eq!(a.strict_shrink_left(0), a);
+    ///     assert!(a.strict_shrink_left(9).is_empty());
+    ///     Ok(())
+    /// }
     /// ```
     ///
     /// # Proved
@@ -120,14 +124,15 @@ impl<B: Width> StrictShrinkRight for Interval<B> {
     /// Returns the members below `upper`, which may be any value of its type.
     ///
     /// ```
-    /// # use intervallum::proved::examples::*;
-    /// # fn main() -> Result<(), std::boxed::Box<dyn std::error::Error>> {
-    /// # let alloc = Global;
-    /// let a = Interval::new(1u8, 9);
-    /// assert!(a.strict_shrink_right(1).is_empty());
-    /// assert_eq!(a.strict_shrink_right(255), a);
-    /// # Ok(())
-    /// # }
+    /// use intervallum::proved::examples::*;
+    ///
+    /// fn main() -> Result<(), std::boxed::Box<dyn std::error::Error>> {
+    ///     let alloc = Global;
+    ///     let a = Interval::new(1u8, 9);
+    ///     assert!(a.strict_shrink_right(1).is_empty());
+    ///     assert_eq!(a.strict_shrink_right(255), a);
+    ///     Ok(())
+    /// }
     /// ```
     ///
     /// # Proved

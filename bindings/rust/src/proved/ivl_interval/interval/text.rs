@@ -1,3 +1,4 @@
+// Written by bindings/rust/extract from crates/ivl_interval/src/interval/text.rt.
 //! The text of an interval.
 
 #[allow(unused_imports)]
@@ -22,13 +23,14 @@ impl<B: Width + fmt::Display> fmt::Display for Interval<B> {
     /// The only errors are those of the formatter and of the texts of the bounds.
     ///
     /// ```
-    /// # use intervallum::proved::examples::*;
-    /// # fn main() -> Result<(), std::boxed::Box<dyn std::error::Error>> {
-    /// # let alloc = Global;
-    /// let a = Interval::new(1i32, 5);
-    /// assert_eq!(format!("{a}").as_str(), "[1..5]");
-    /// # Ok(())
-    /// # }
+    /// use intervallum::proved::examples::*;
+    ///
+    /// fn main() -> Result<(), std::boxed::Box<dyn std::error::Error>> {
+    ///     let alloc = Global;
+    ///     let a = Interval::new(1i32, 5);
+    ///     assert_eq!(format!("{a}").as_str(), "[1..5]");
+    ///     Ok(())
+    /// }
     /// ```
     fn fmt(&self, f: &mut fmt::Formatter) -> fmt::Result {
         if self.is_empty() {

@@ -1,3 +1,4 @@
+// Written by bindings/rust/extract from crates/ivl_interval/src/interval/values.rt.
 //! Operations on an interval and a value, which may be absent, in either order.
 
 #[allow(unused_imports)]
@@ -22,13 +23,14 @@ impl<B: Width> Disjoint<B> for Interval<B> {
     /// Returns true exactly when the value is not a member.
     ///
     /// ```
-    /// # use intervallum::proved::examples::*;
-    /// # fn main() -> Result<(), std::boxed::Box<dyn std::error::Error>> {
-    /// # let alloc = Global;
-    /// let a = Interval::new(3i32, 8);
-    /// assert!(a.is_disjoint(&9));
-    /// # Ok(())
-    /// # }
+    /// use intervallum::proved::examples::*;
+    ///
+    /// fn main() -> Result<(), std::boxed::Box<dyn std::error::Error>> {
+    ///     let alloc = Global;
+    ///     let a = Interval::new(3i32, 8);
+    ///     assert!(a.is_disjoint(&9));
+    ///     Ok(())
+    /// }
     /// ```
     ///
     /// # Proved
@@ -51,13 +53,14 @@ impl<B: Width> Overlap<B> for Interval<B> {
     /// Returns true exactly when the value is a member.
     ///
     /// ```
-    /// # use intervallum::proved::examples::*;
-    /// # fn main() -> Result<(), std::boxed::Box<dyn std::error::Error>> {
-    /// # let alloc = Global;
-    /// let a = Interval::new(3i32, 8);
-    /// assert!(a.overlap(&8));
-    /// # Ok(())
-    /// # }
+    /// use intervallum::proved::examples::*;
+    ///
+    /// fn main() -> Result<(), std::boxed::Box<dyn std::error::Error>> {
+    ///     let alloc = Global;
+    ///     let a = Interval::new(3i32, 8);
+    ///     assert!(a.overlap(&8));
+    ///     Ok(())
+    /// }
     /// ```
     ///
     /// # Proved
@@ -84,13 +87,14 @@ impl<B: Width> Intersection<B> for Interval<B> {
     /// its type.
     ///
     /// ```
-    /// # use intervallum::proved::examples::*;
-    /// # fn main() -> Result<(), std::boxed::Box<dyn std::error::Error>> {
-    /// # let alloc = Global;
-    /// let a = Interval::new(3i32, 8);
-    /// assert_eq!(a.intersection(&4), Interval::new(4, 4));
-    /// # Ok(())
-    /// # }
+    /// use intervallum::proved::examples::*;
+    ///
+    /// fn main() -> Result<(), std::boxed::Box<dyn std::error::Error>> {
+    ///     let alloc = Global;
+    ///     let a = Interval::new(3i32, 8);
+    ///     assert_eq!(a.intersection(&4), Interval::new(4, 4));
+    ///     Ok(())
+    /// }
     /// ```
     ///
     /// # Proved
@@ -121,14 +125,15 @@ impl<B: Width> Difference<B> for Interval<B> {
     /// `singleton(127).difference(&127)` of `i8`; here both are empty.
     ///
     /// ```
-    /// # use intervallum::proved::examples::*;
-    /// # fn main() -> Result<(), std::boxed::Box<dyn std::error::Error>> {
-    /// # let alloc = Global;
-    /// let a = Interval::new(3i32, 8);
-    /// assert_eq!(a.difference(&3), Interval::new(4, 8));
-    /// assert_eq!(a.difference(&4), a);
-    /// # Ok(())
-    /// # }
+    /// use intervallum::proved::examples::*;
+    ///
+    /// fn main() -> Result<(), std::boxed::Box<dyn std::error::Error>> {
+    ///     let alloc = Global;
+    ///     let a = Interval::new(3i32, 8);
+    ///     assert_eq!(a.difference(&3), Interval::new(4, 8));
+    ///     assert_eq!(a.difference(&4), a);
+    ///     Ok(())
+    /// }
     /// ```
     ///
     /// # Proved
@@ -162,13 +167,14 @@ impl<B: Width> Hull<B> for Interval<B> {
     /// the value is in the range. Check with `whole().contains(other)`.
     ///
     /// ```
-    /// # use intervallum::proved::examples::*;
-    /// # fn main() -> Result<(), std::boxed::Box<dyn std::error::Error>> {
-    /// # let alloc = Global;
-    /// let a = Interval::new(3i32, 8);
-    /// assert_eq!(a.hull(&12), Interval::new(3, 12));
-    /// # Ok(())
-    /// # }
+    /// use intervallum::proved::examples::*;
+    ///
+    /// fn main() -> Result<(), std::boxed::Box<dyn std::error::Error>> {
+    ///     let alloc = Global;
+    ///     let a = Interval::new(3i32, 8);
+    ///     assert_eq!(a.hull(&12), Interval::new(3, 12));
+    ///     Ok(())
+    /// }
     /// ```
     ///
     /// # Proved
@@ -191,13 +197,14 @@ impl<B: Width> Disjoint<Optional<B>> for Interval<B> {
     /// Returns true exactly when the value is absent or not a member.
     ///
     /// ```
-    /// # use intervallum::proved::examples::*;
-    /// # fn main() -> Result<(), std::boxed::Box<dyn std::error::Error>> {
-    /// # let alloc = Global;
-    /// let a = Interval::new(3i32, 8);
-    /// assert!(a.is_disjoint(&Optional::empty()));
-    /// # Ok(())
-    /// # }
+    /// use intervallum::proved::examples::*;
+    ///
+    /// fn main() -> Result<(), std::boxed::Box<dyn std::error::Error>> {
+    ///     let alloc = Global;
+    ///     let a = Interval::new(3i32, 8);
+    ///     assert!(a.is_disjoint(&Optional::empty()));
+    ///     Ok(())
+    /// }
     /// ```
     ///
     /// # Proved
@@ -220,13 +227,14 @@ impl<B: Width> Overlap<Optional<B>> for Interval<B> {
     /// Returns true exactly when there is a value and it is a member.
     ///
     /// ```
-    /// # use intervallum::proved::examples::*;
-    /// # fn main() -> Result<(), std::boxed::Box<dyn std::error::Error>> {
-    /// # let alloc = Global;
-    /// let a = Interval::new(3i32, 8);
-    /// assert!(a.overlap(&Optional::singleton(8)));
-    /// # Ok(())
-    /// # }
+    /// use intervallum::proved::examples::*;
+    ///
+    /// fn main() -> Result<(), std::boxed::Box<dyn std::error::Error>> {
+    ///     let alloc = Global;
+    ///     let a = Interval::new(3i32, 8);
+    ///     assert!(a.overlap(&Optional::singleton(8)));
+    ///     Ok(())
+    /// }
     /// ```
     ///
     /// # Proved
@@ -255,13 +263,14 @@ impl<B: Width> Intersection<Optional<B>> for Interval<B> {
     /// Returns the value alone if there is one and it is a member, else an empty interval.
     ///
     /// ```
-    /// # use intervallum::proved::examples::*;
-    /// # fn main() -> Result<(), std::boxed::Box<dyn std::error::Error>> {
-    /// # let alloc = Global;
-    /// let a = Interval::new(3i32, 8);
-    /// assert_eq!(a.intersection(&Optional::singleton(4)), Interval::new(4, 4));
-    /// # Ok(())
-    /// # }
+    /// use intervallum::proved::examples::*;
+    ///
+    /// fn main() -> Result<(), std::boxed::Box<dyn std::error::Error>> {
+    ///     let alloc = Global;
+    ///     let a = Interval::new(3i32, 8);
+    ///     assert_eq!(a.intersection(&Optional::singleton(4)), Interval::new(4, 4));
+    ///     Ok(())
+    /// }
     /// ```
     ///
     /// # Proved
@@ -291,13 +300,14 @@ impl<B: Width> Difference<Optional<B>> for Interval<B> {
     /// interval itself.
     ///
     /// ```
-    /// # use intervallum::proved::examples::*;
-    /// # fn main() -> Result<(), std::boxed::Box<dyn std::error::Error>> {
-    /// # let alloc = Global;
-    /// let a = Interval::new(3i32, 8);
-    /// assert_eq!(a.difference(&Optional::singleton(3)), Interval::new(4, 8));
-    /// # Ok(())
-    /// # }
+    /// use intervallum::proved::examples::*;
+    ///
+    /// fn main() -> Result<(), std::boxed::Box<dyn std::error::Error>> {
+    ///     let alloc = Global;
+    ///     let a = Interval::new(3i32, 8);
+    ///     assert_eq!(a.difference(&Optional::singleton(3)), Interval::new(4, 8));
+    ///     Ok(())
+    /// }
     /// ```
     ///
     /// # Proved
@@ -323,13 +333,14 @@ impl<B: Width> Disjoint<Interval<B>> for B {
     /// Returns true exactly when the value is not a member of `other`.
     ///
     /// ```
-    /// # use intervallum::proved::examples::*;
-    /// # fn main() -> Result<(), std::boxed::Box<dyn std::error::Error>> {
-    /// # let alloc = Global;
-    /// let a = Interval::new(3i32, 8);
-    /// assert!(9.is_disjoint(&a));
-    /// # Ok(())
-    /// # }
+    /// use intervallum::proved::examples::*;
+    ///
+    /// fn main() -> Result<(), std::boxed::Box<dyn std::error::Error>> {
+    ///     let alloc = Global;
+    ///     let a = Interval::new(3i32, 8);
+    ///     assert!(9.is_disjoint(&a));
+    ///     Ok(())
+    /// }
     /// ```
     ///
     /// # Proved
@@ -352,13 +363,14 @@ impl<B: Width> Overlap<Interval<B>> for B {
     /// Returns true exactly when the value is a member of `other`.
     ///
     /// ```
-    /// # use intervallum::proved::examples::*;
-    /// # fn main() -> Result<(), std::boxed::Box<dyn std::error::Error>> {
-    /// # let alloc = Global;
-    /// let a = Interval::new(3i32, 8);
-    /// assert!(8.overlap(&a));
-    /// # Ok(())
-    /// # }
+    /// use intervallum::proved::examples::*;
+    ///
+    /// fn main() -> Result<(), std::boxed::Box<dyn std::error::Error>> {
+    ///     let alloc = Global;
+    ///     let a = Interval::new(3i32, 8);
+    ///     assert!(8.overlap(&a));
+    ///     Ok(())
+    /// }
     /// ```
     ///
     /// # Proved
@@ -386,13 +398,14 @@ impl<B: Width> Hull<Interval<B>> for B {
     /// ensure that the value is in the range. Check with `whole().contains(self)`.
     ///
     /// ```
-    /// # use intervallum::proved::examples::*;
-    /// # fn main() -> Result<(), std::boxed::Box<dyn std::error::Error>> {
-    /// # let alloc = Global;
-    /// let a = Interval::new(3i32, 8);
-    /// assert_eq!(1.hull(&a), Interval::new(1, 8));
-    /// # Ok(())
-    /// # }
+    /// use intervallum::proved::examples::*;
+    ///
+    /// fn main() -> Result<(), std::boxed::Box<dyn std::error::Error>> {
+    ///     let alloc = Global;
+    ///     let a = Interval::new(3i32, 8);
+    ///     assert_eq!(1.hull(&a), Interval::new(1, 8));
+    ///     Ok(())
+    /// }
     /// ```
     ///
     /// # Proved
@@ -415,13 +428,14 @@ impl<B: Width> Disjoint<Interval<B>> for Optional<B> {
     /// Returns true exactly when the value is absent or not a member of `other`.
     ///
     /// ```
-    /// # use intervallum::proved::examples::*;
-    /// # fn main() -> Result<(), std::boxed::Box<dyn std::error::Error>> {
-    /// # let alloc = Global;
-    /// let a = Interval::new(3i32, 8);
-    /// assert!(Optional::singleton(9).is_disjoint(&a));
-    /// # Ok(())
-    /// # }
+    /// use intervallum::proved::examples::*;
+    ///
+    /// fn main() -> Result<(), std::boxed::Box<dyn std::error::Error>> {
+    ///     let alloc = Global;
+    ///     let a = Interval::new(3i32, 8);
+    ///     assert!(Optional::singleton(9).is_disjoint(&a));
+    ///     Ok(())
+    /// }
     /// ```
     ///
     /// # Proved
@@ -444,13 +458,14 @@ impl<B: Width> Overlap<Interval<B>> for Optional<B> {
     /// Returns true exactly when there is a value and it is a member of `other`.
     ///
     /// ```
-    /// # use intervallum::proved::examples::*;
-    /// # fn main() -> Result<(), std::boxed::Box<dyn std::error::Error>> {
-    /// # let alloc = Global;
-    /// let a = Interval::new(3i32, 8);
-    /// assert!(Optional::singleton(8).overlap(&a));
-    /// # Ok(())
-    /// # }
+    /// use intervallum::proved::examples::*;
+    ///
+    /// fn main() -> Result<(), std::boxed::Box<dyn std::error::Error>> {
+    ///     let alloc = Global;
+    ///     let a = Interval::new(3i32, 8);
+    ///     assert!(Optional::singleton(8).overlap(&a));
+    ///     Ok(())
+    /// }
     /// ```
     ///
     /// # Proved
@@ -476,13 +491,14 @@ impl<B: Width> Intersection<Interval<B>> for Optional<B> {
     /// Returns the value if it is a member of `other`, else no value.
     ///
     /// ```
-    /// # use intervallum::proved::examples::*;
-    /// # fn main() -> Result<(), std::boxed::Box<dyn std::error::Error>> {
-    /// # let alloc = Global;
-    /// let a = Interval::new(3i32, 8);
-    /// assert_eq!(Optional::singleton(4).intersection(&a), Optional::singleton(4));
-    /// # Ok(())
-    /// # }
+    /// use intervallum::proved::examples::*;
+    ///
+    /// fn main() -> Result<(), std::boxed::Box<dyn std::error::Error>> {
+    ///     let alloc = Global;
+    ///     let a = Interval::new(3i32, 8);
+    ///     assert_eq!(Optional::singleton(4).intersection(&a), Optional::singleton(4));
+    ///     Ok(())
+    /// }
     /// ```
     ///
     /// # Proved
@@ -517,13 +533,14 @@ impl<B: Width> Difference<Interval<B>> for Optional<B> {
     /// Returns the value if it is not a member of `other`, else no value.
     ///
     /// ```
-    /// # use intervallum::proved::examples::*;
-    /// # fn main() -> Result<(), std::boxed::Box<dyn std::error::Error>> {
-    /// # let alloc = Global;
-    /// let a = Interval::new(3i32, 8);
-    /// assert_eq!(Optional::singleton(9).difference(&a), Optional::singleton(9));
-    /// # Ok(())
-    /// # }
+    /// use intervallum::proved::examples::*;
+    ///
+    /// fn main() -> Result<(), std::boxed::Box<dyn std::error::Error>> {
+    ///     let alloc = Global;
+    ///     let a = Interval::new(3i32, 8);
+    ///     assert_eq!(Optional::singleton(9).difference(&a), Optional::singleton(9));
+    ///     Ok(())
+    /// }
     /// ```
     ///
     /// # Proved

@@ -1,3 +1,4 @@
+// Written by bindings/rust/extract from crates/ivl_interval/src/width/signed.rt.
 //! The signed integers as bounds: from the least value plus 1 to the greatest.
 
 #[allow(unused_imports)]
@@ -7,13 +8,14 @@ use crate::proved::ivl_interval::width::Width;
 /// From -127 to 127, with sizes of `u8`. The least value of the type, -128, is outside the range.
 ///
 /// ```
-/// # use intervallum::proved::examples::*;
-/// # fn main() -> Result<(), std::boxed::Box<dyn std::error::Error>> {
-/// # let alloc = Global;
-/// assert_eq!(<i8 as Width>::min_value(), -127);
-/// assert_eq!(<i8 as Width>::max_value(), 127);
-/// # Ok(())
-/// # }
+/// use intervallum::proved::examples::*;
+///
+/// fn main() -> Result<(), std::boxed::Box<dyn std::error::Error>> {
+///     let alloc = Global;
+///     assert_eq!(<i8 as Width>::min_value(), -127);
+///     assert_eq!(<i8 as Width>::max_value(), 127);
+///     Ok(())
+/// }
 /// ```
 ///
 /// Proved, with these words of the trait:

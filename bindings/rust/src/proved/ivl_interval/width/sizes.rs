@@ -1,3 +1,4 @@
+// Written by bindings/rust/extract from crates/ivl_interval/src/width/sizes.rt.
 //! The unsigned integers as sizes.
 
 #[allow(unused_imports)]
@@ -7,13 +8,14 @@ use crate::proved::ivl_interval::width::SizeNumber;
 /// The numbers from 0 to 255: each value of the type.
 ///
 /// ```
-/// # use intervallum::proved::examples::*;
-/// # fn main() -> Result<(), std::boxed::Box<dyn std::error::Error>> {
-/// # let alloc = Global;
-/// assert_eq!(<u8 as SizeNumber>::from_number(255), Some(255));
-/// assert_eq!(<u8 as SizeNumber>::from_number(256), None);
-/// # Ok(())
-/// # }
+/// use intervallum::proved::examples::*;
+///
+/// fn main() -> Result<(), std::boxed::Box<dyn std::error::Error>> {
+///     let alloc = Global;
+///     assert_eq!(<u8 as SizeNumber>::from_number(255), Some(255));
+///     assert_eq!(<u8 as SizeNumber>::from_number(256), None);
+///     Ok(())
+/// }
 /// ```
 ///
 /// Proved, with these words of the trait:

@@ -1,3 +1,4 @@
+// Written by bindings/rust/extract from crates/ivl_interval/src/width/unsigned.rt.
 //! The unsigned integers as bounds: from 0 to the greatest value less 1.
 
 #[allow(unused_imports)]
@@ -7,13 +8,14 @@ use crate::proved::ivl_interval::width::Width;
 /// From 0 to 254, with sizes of `u8`. The greatest value of the type, 255, is outside the range.
 ///
 /// ```
-/// # use intervallum::proved::examples::*;
-/// # fn main() -> Result<(), std::boxed::Box<dyn std::error::Error>> {
-/// # let alloc = Global;
-/// assert_eq!(<u8 as Width>::min_value(), 0);
-/// assert_eq!(<u8 as Width>::max_value(), 254);
-/// # Ok(())
-/// # }
+/// use intervallum::proved::examples::*;
+///
+/// fn main() -> Result<(), std::boxed::Box<dyn std::error::Error>> {
+///     let alloc = Global;
+///     assert_eq!(<u8 as Width>::min_value(), 0);
+///     assert_eq!(<u8 as Width>::max_value(), 254);
+///     Ok(())
+/// }
 /// ```
 ///
 /// Proved, with these words of the trait:

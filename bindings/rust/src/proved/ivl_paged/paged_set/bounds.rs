@@ -1,3 +1,4 @@
+// Written by bindings/rust/extract from crates/ivl_paged/src/paged_set/bounds.rt.
 //! The least and the greatest member, and the interval between them.
 
 #[allow(unused_imports)]
@@ -11,15 +12,16 @@ impl<B: Width> PagedSet<B> {
     /// Returns the least member, or `None` if there is none. `O(1)`. Does not allocate.
     ///
     /// ```
-    /// # use intervallum::proved::examples::*;
-    /// # fn main() -> Result<(), std::boxed::Box<dyn std::error::Error>> {
-    /// # let alloc = Global;
-    /// let mut a = PagedSet::new(alloc);
-    /// assert_eq!(a.first(), None);
-    /// a.insert_interval(Interval::new(1, 5))?;
-    /// assert_eq!(a.first(), Some(1));
-    /// # Ok(())
-    /// # }
+    /// use intervallum::proved::examples::*;
+    ///
+    /// fn main() -> Result<(), std::boxed::Box<dyn std::error::Error>> {
+    ///     let alloc = Global;
+    ///     let mut a = PagedSet::new(alloc);
+    ///     assert_eq!(a.first(), None);
+    ///     a.insert_interval(Interval::new(1, 5))?;
+    ///     assert_eq!(a.first(), Some(1));
+    ///     Ok(())
+    /// }
     /// ```
     ///
     /// # Proved
@@ -40,15 +42,16 @@ impl<B: Width> PagedSet<B> {
     /// Returns the greatest member, or `None` if there is none. `O(1)`. Does not allocate.
     ///
     /// ```
-    /// # use intervallum::proved::examples::*;
-    /// # fn main() -> Result<(), std::boxed::Box<dyn std::error::Error>> {
-    /// # let alloc = Global;
-    /// let mut a = PagedSet::new(alloc);
-    /// assert_eq!(a.last(), None);
-    /// a.insert_interval(Interval::new(1, 5))?;
-    /// assert_eq!(a.last(), Some(5));
-    /// # Ok(())
-    /// # }
+    /// use intervallum::proved::examples::*;
+    ///
+    /// fn main() -> Result<(), std::boxed::Box<dyn std::error::Error>> {
+    ///     let alloc = Global;
+    ///     let mut a = PagedSet::new(alloc);
+    ///     assert_eq!(a.last(), None);
+    ///     a.insert_interval(Interval::new(1, 5))?;
+    ///     assert_eq!(a.last(), Some(5));
+    ///     Ok(())
+    /// }
     /// ```
     ///
     /// # Proved
@@ -71,15 +74,16 @@ impl<B: Width> PagedSet<B> {
     /// if there is none. `O(1)`. Does not allocate.
     ///
     /// ```
-    /// # use intervallum::proved::examples::*;
-    /// # fn main() -> Result<(), std::boxed::Box<dyn std::error::Error>> {
-    /// # let alloc = Global;
-    /// let mut a = PagedSet::new(alloc);
-    /// assert!(a.hull().is_empty());
-    /// assert!(a.insert(1)? && a.insert(5)?);
-    /// assert!(a.hull() == Interval::new(1, 5));
-    /// # Ok(())
-    /// # }
+    /// use intervallum::proved::examples::*;
+    ///
+    /// fn main() -> Result<(), std::boxed::Box<dyn std::error::Error>> {
+    ///     let alloc = Global;
+    ///     let mut a = PagedSet::new(alloc);
+    ///     assert!(a.hull().is_empty());
+    ///     assert!(a.insert(1)? && a.insert(5)?);
+    ///     assert!(a.hull() == Interval::new(1, 5));
+    ///     Ok(())
+    /// }
     /// ```
     ///
     /// # Proved

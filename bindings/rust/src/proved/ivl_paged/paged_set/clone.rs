@@ -1,3 +1,4 @@
+// Written by bindings/rust/extract from crates/ivl_paged/src/paged_set/clone.rt.
 //! Copies of a set.
 
 #[allow(unused_imports)]
@@ -13,14 +14,15 @@ impl<B: Width> PagedSet<B> {
     /// allocation fails.
     ///
     /// ```
-    /// # use intervallum::proved::examples::*;
-    /// # fn main() -> Result<(), std::boxed::Box<dyn std::error::Error>> {
-    /// # let alloc = Global;
-    /// let mut a = PagedSet::new(alloc);
-    /// a.insert_interval(Interval::new(1, 5))?;
-    /// assert!(a.try_clone()? == a);
-    /// # Ok(())
-    /// # }
+    /// use intervallum::proved::examples::*;
+    ///
+    /// fn main() -> Result<(), std::boxed::Box<dyn std::error::Error>> {
+    ///     let alloc = Global;
+    ///     let mut a = PagedSet::new(alloc);
+    ///     a.insert_interval(Interval::new(1, 5))?;
+    ///     assert!(a.try_clone()? == a);
+    ///     Ok(())
+    /// }
     /// ```
     ///
     /// # Proved

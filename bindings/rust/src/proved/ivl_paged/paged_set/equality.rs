@@ -1,3 +1,4 @@
+// Written by bindings/rust/extract from crates/ivl_paged/src/paged_set/equality.rt.
 //! Equality of sets.
 
 #[allow(unused_imports)]
@@ -18,15 +19,16 @@ impl<B: Width> PartialEq for PagedSet<B> {
     /// Does not allocate.
     ///
     /// ```
-    /// # use intervallum::proved::examples::*;
-    /// # fn main() -> Result<(), std::boxed::Box<dyn std::error::Error>> {
-    /// # let alloc = Global;
-    /// let (mut a, mut b) = (PagedSet::new(alloc), PagedSet::new(alloc));
-    /// assert!(a.insert(3)? && a.insert(4)?);
-    /// b.insert_interval(Interval::new(3, 4))?;
-    /// assert!(a == b);
-    /// # Ok(())
-    /// # }
+    /// use intervallum::proved::examples::*;
+    ///
+    /// fn main() -> Result<(), std::boxed::Box<dyn std::error::Error>> {
+    ///     let alloc = Global;
+    ///     let (mut a, mut b) = (PagedSet::new(alloc), PagedSet::new(alloc));
+    ///     assert!(a.insert(3)? && a.insert(4)?);
+    ///     b.insert_interval(Interval::new(3, 4))?;
+    ///     assert!(a == b);
+    ///     Ok(())
+    /// }
     /// ```
     ///
     /// # Proved

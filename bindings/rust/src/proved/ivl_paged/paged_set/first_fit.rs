@@ -1,3 +1,4 @@
+// Written by bindings/rust/extract from crates/ivl_paged/src/paged_set/first_fit.rt.
 //! Consecutive members.
 
 #[allow(unused_imports)]
@@ -15,16 +16,17 @@ impl<B: Width> PagedSet<B> {
     /// scans that page: `O(n / page)`. Does not allocate.
     ///
     /// ```
-    /// # use intervallum::proved::examples::*;
-    /// # fn main() -> Result<(), std::boxed::Box<dyn std::error::Error>> {
-    /// # let alloc = Global;
-    /// let mut a: PagedSet<i32> = PagedSet::new(alloc);
-    /// a.insert_interval(Interval::new(1, 2))?;
-    /// a.insert_interval(Interval::new(5, 9))?;
-    /// assert!(a.first_fit(3) == Some(Interval::new(5, 7)));
-    /// assert!(a.first_fit(6).is_none());
-    /// # Ok(())
-    /// # }
+    /// use intervallum::proved::examples::*;
+    ///
+    /// fn main() -> Result<(), std::boxed::Box<dyn std::error::Error>> {
+    ///     let alloc = Global;
+    ///     let mut a: PagedSet<i32> = PagedSet::new(alloc);
+    ///     a.insert_interval(Interval::new(1, 2))?;
+    ///     a.insert_interval(Interval::new(5, 9))?;
+    ///     assert!(a.first_fit(3) == Some(Interval::new(5, 7)));
+    ///     assert!(a.first_fit(6).is_none());
+    ///     Ok(())
+    /// }
     /// ```
     ///
     /// # Proved
@@ -50,15 +52,16 @@ impl<B: Width> PagedSet<B> {
     /// `O(n / page)`. Does not allocate.
     ///
     /// ```
-    /// # use intervallum::proved::examples::*;
-    /// # fn main() -> Result<(), std::boxed::Box<dyn std::error::Error>> {
-    /// # let alloc = Global;
-    /// let mut a: PagedSet<i32> = PagedSet::new(alloc);
-    /// a.insert_interval(Interval::new(5, 9))?;
-    /// assert!(a.first_fit_from(6, 3) == Some(Interval::new(6, 8)));
-    /// assert!(a.first_fit_from(8, 3).is_none());
-    /// # Ok(())
-    /// # }
+    /// use intervallum::proved::examples::*;
+    ///
+    /// fn main() -> Result<(), std::boxed::Box<dyn std::error::Error>> {
+    ///     let alloc = Global;
+    ///     let mut a: PagedSet<i32> = PagedSet::new(alloc);
+    ///     a.insert_interval(Interval::new(5, 9))?;
+    ///     assert!(a.first_fit_from(6, 3) == Some(Interval::new(6, 8)));
+    ///     assert!(a.first_fit_from(8, 3).is_none());
+    ///     Ok(())
+    /// }
     /// ```
     ///
     /// # Proved
@@ -88,17 +91,18 @@ impl<B: Width> PagedSet<B> {
     /// as [`PagedSet::first_fit`]; if a page then has no runs, the list of pages moves.
     ///
     /// ```
-    /// # use intervallum::proved::examples::*;
-    /// # fn main() -> Result<(), std::boxed::Box<dyn std::error::Error>> {
-    /// # let alloc = Global;
-    /// let mut free: PagedSet<i32> = PagedSet::new(alloc);
-    /// free.insert_interval(Interval::new(1, 2))?;
-    /// free.insert_interval(Interval::new(5, 9))?;
-    /// assert!(free.take_first_fit(3) == Some(Interval::new(5, 7)));
-    /// assert!(free.first() == Some(1) && !free.contains(&7) && free.contains(&8));
-    /// assert!(free.take_first_fit(3).is_none());
-    /// # Ok(())
-    /// # }
+    /// use intervallum::proved::examples::*;
+    ///
+    /// fn main() -> Result<(), std::boxed::Box<dyn std::error::Error>> {
+    ///     let alloc = Global;
+    ///     let mut free: PagedSet<i32> = PagedSet::new(alloc);
+    ///     free.insert_interval(Interval::new(1, 2))?;
+    ///     free.insert_interval(Interval::new(5, 9))?;
+    ///     assert!(free.take_first_fit(3) == Some(Interval::new(5, 7)));
+    ///     assert!(free.first() == Some(1) && !free.contains(&7) && free.contains(&8));
+    ///     assert!(free.take_first_fit(3).is_none());
+    ///     Ok(())
+    /// }
     /// ```
     ///
     /// # Proved

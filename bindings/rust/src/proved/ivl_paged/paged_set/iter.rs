@@ -1,3 +1,4 @@
+// Written by bindings/rust/extract from crates/ivl_paged/src/paged_set/iter.rt.
 //! Iteration over the runs of a set, from both ends.
 
 #[allow(unused_imports)]
@@ -16,18 +17,20 @@ use crate::rattle::std::mem;
 /// No call allocates.
 ///
 /// ```
-/// # use intervallum::proved::examples::*;
-/// # fn main() -> Result<(), std::boxed::Box<dyn std::error::Error>> {
-/// # let alloc = Global;
-/// let list: IntervalSet<i32> = [(1, 2), (5, 6), (8, 9)].to_interval_set(alloc)?;
-/// let a = PagedSet::of_set(&list)?;
-/// let mut left = a.iter();
-/// assert!(left.next() == Some(Interval::new(1, 2)));
-/// assert!(left.next_back() == Some(Interval::new(8, 9)));
-/// assert!(left.next() == Some(Interval::new(5, 6)) && left.next().is_none());
-/// # Ok(())
-/// # }
+/// use intervallum::proved::examples::*;
+///
+/// fn main() -> Result<(), std::boxed::Box<dyn std::error::Error>> {
+///     let alloc = Global;
+///     let list: IntervalSet<i32> = [(1, 2), (5, 6), (8, 9)].to_interval_set(alloc)?;
+///     let a = PagedSet::of_set(&list)?;
+///     let mut left = a.iter();
+///     assert!(left.next() == Some(Interval::new(1, 2)));
+///     assert!(left.next_back() == Some(Interval::new(8, 9)));
+///     assert!(left.next() == Some(Interval::new(5, 6)) && left.next().is_none());
+///     Ok(())
+/// }
 /// ```
+#[derive(Clone)]
 pub struct Runs<'a, B: Width> {
     first: &'a [Interval<B>],
     between: &'a [Page<B>],
@@ -46,16 +49,17 @@ impl<'a, B: Width> Iterator for Runs<'a, B> {
     /// Returns the first run that is left, or `None` if there is none. `O(1)`.
     ///
     /// ```
-    /// # use intervallum::proved::examples::*;
-    /// # fn main() -> Result<(), std::boxed::Box<dyn std::error::Error>> {
-    /// # let alloc = Global;
-    /// let mut a = PagedSet::new(alloc);
-    /// assert!(a.insert(2)? && a.insert(5)?);
-    /// let mut left = a.iter();
-    /// assert!(left.next() == Some(Interval::new(2, 2)));
-    /// assert!(left.next() == Some(Interval::new(5, 5)));
-    /// # Ok(())
-    /// # }
+    /// use intervallum::proved::examples::*;
+    ///
+    /// fn main() -> Result<(), std::boxed::Box<dyn std::error::Error>> {
+    ///     let alloc = Global;
+    ///     let mut a = PagedSet::new(alloc);
+    ///     assert!(a.insert(2)? && a.insert(5)?);
+    ///     let mut left = a.iter();
+    ///     assert!(left.next() == Some(Interval::new(2, 2)));
+    ///     assert!(left.next() == Some(Interval::new(5, 5)));
+    ///     Ok(())
+    /// }
     /// ```
     fn next(&mut self) -> Option<Interval<B>> {
         if self.first.is_empty() {
@@ -80,16 +84,17 @@ impl<'a, B: Width> DoubleEndedIterator for Runs<'a, B> {
     /// Returns the last run that is left, or `None` if there is none. `O(1)`.
     ///
     /// ```
-    /// # use intervallum::proved::examples::*;
-    /// # fn main() -> Result<(), std::boxed::Box<dyn std::error::Error>> {
-    /// # let alloc = Global;
-    /// let mut a = PagedSet::new(alloc);
-    /// assert!(a.insert(2)? && a.insert(5)?);
-    /// let mut left = a.iter();
-    /// assert!(left.next_back() == Some(Interval::new(5, 5)));
-    /// assert!(left.next_back() == Some(Interval::new(2, 2)));
-    /// # Ok(())
-    /// # }
+    /// use intervallum::proved::examples::*;
+    ///
+    /// fn main() -> Result<(), std::boxed::Box<dyn std::error::Error>> {
+    ///     let alloc = Global;
+    ///     let mut a = PagedSet::new(alloc);
+    ///     assert!(a.insert(2)? && a.insert(5)?);
+    ///     let mut left = a.iter();
+    ///     assert!(left.next_back() == Some(Interval::new(5, 5)));
+    ///     assert!(left.next_back() == Some(Interval::new(2, 2)));
+    ///     Ok(())
+    /// }
     /// ```
     fn next_back(&mut self) -> Option<Interval<B>> {
         if self.last.is_empty() {
@@ -126,16 +131,17 @@ impl<B: Width> PagedSet<B> {
     /// allocate.
     ///
     /// ```
-    /// # use intervallum::proved::examples::*;
-    /// # fn main() -> Result<(), std::boxed::Box<dyn std::error::Error>> {
-    /// # let alloc = Global;
-    /// let mut a = PagedSet::new(alloc);
-    /// assert!(a.insert(2)? && a.insert(5)?);
-    /// let mut runs = a.iter();
-    /// assert!(runs.next() == Some(Interval::new(2, 2)));
-    /// assert!(runs.next_back() == Some(Interval::new(5, 5)));
-    /// # Ok(())
-    /// # }
+    /// use intervallum::proved::examples::*;
+    ///
+    /// fn main() -> Result<(), std::boxed::Box<dyn std::error::Error>> {
+    ///     let alloc = Global;
+    ///     let mut a = PagedSet::new(alloc);
+    ///     assert!(a.insert(2)? && a.insert(5)?);
+    ///     let mut runs = a.iter();
+    ///     assert!(runs.next() == Some(Interval::new(2, 2)));
+    ///     assert!(runs.next_back() == Some(Interval::new(5, 5)));
+    ///     Ok(())
+    /// }
     /// ```
     ///
     /// # Proved

@@ -1,3 +1,4 @@
+// Written by bindings/rust/extract from crates/ivl_paged/src/paged_set/neighbours.rt.
 //! Neighbours of a value: the next and the previous member, and the run that holds it.
 
 #[allow(unused_imports)]
@@ -12,16 +13,17 @@ impl<B: Width> PagedSet<B> {
     /// value of its type. Binary search: `O(log n)`. Does not allocate.
     ///
     /// ```
-    /// # use intervallum::proved::examples::*;
-    /// # fn main() -> Result<(), std::boxed::Box<dyn std::error::Error>> {
-    /// # let alloc = Global;
-    /// let mut a = PagedSet::new(alloc);
-    /// assert!(a.insert(2)? && a.insert(5)?);
-    /// assert_eq!(a.next_from(2), Some(2));
-    /// assert_eq!(a.next_from(3), Some(5));
-    /// assert_eq!(a.next_from(7), None);
-    /// # Ok(())
-    /// # }
+    /// use intervallum::proved::examples::*;
+    ///
+    /// fn main() -> Result<(), std::boxed::Box<dyn std::error::Error>> {
+    ///     let alloc = Global;
+    ///     let mut a = PagedSet::new(alloc);
+    ///     assert!(a.insert(2)? && a.insert(5)?);
+    ///     assert_eq!(a.next_from(2), Some(2));
+    ///     assert_eq!(a.next_from(3), Some(5));
+    ///     assert_eq!(a.next_from(7), None);
+    ///     Ok(())
+    /// }
     /// ```
     ///
     /// # Proved
@@ -51,16 +53,17 @@ impl<B: Width> PagedSet<B> {
     /// value of its type. Binary search: `O(log n)`. Does not allocate.
     ///
     /// ```
-    /// # use intervallum::proved::examples::*;
-    /// # fn main() -> Result<(), std::boxed::Box<dyn std::error::Error>> {
-    /// # let alloc = Global;
-    /// let mut a = PagedSet::new(alloc);
-    /// assert!(a.insert(2)? && a.insert(5)?);
-    /// assert_eq!(a.previous_to(5), Some(5));
-    /// assert_eq!(a.previous_to(4), Some(2));
-    /// assert_eq!(a.previous_to(0), None);
-    /// # Ok(())
-    /// # }
+    /// use intervallum::proved::examples::*;
+    ///
+    /// fn main() -> Result<(), std::boxed::Box<dyn std::error::Error>> {
+    ///     let alloc = Global;
+    ///     let mut a = PagedSet::new(alloc);
+    ///     assert!(a.insert(2)? && a.insert(5)?);
+    ///     assert_eq!(a.previous_to(5), Some(5));
+    ///     assert_eq!(a.previous_to(4), Some(2));
+    ///     assert_eq!(a.previous_to(0), None);
+    ///     Ok(())
+    /// }
     /// ```
     ///
     /// # Proved
@@ -84,15 +87,16 @@ impl<B: Width> PagedSet<B> {
     /// `v` is not a member. `v` may be any value of its type. `O(log n)`. Does not allocate.
     ///
     /// ```
-    /// # use intervallum::proved::examples::*;
-    /// # fn main() -> Result<(), std::boxed::Box<dyn std::error::Error>> {
-    /// # let alloc = Global;
-    /// let mut a = PagedSet::new(alloc);
-    /// a.insert_interval(Interval::new(5, 6))?;
-    /// assert!(a.run_at(6) == Some(Interval::new(5, 6)));
-    /// assert!(a.run_at(3).is_none());
-    /// # Ok(())
-    /// # }
+    /// use intervallum::proved::examples::*;
+    ///
+    /// fn main() -> Result<(), std::boxed::Box<dyn std::error::Error>> {
+    ///     let alloc = Global;
+    ///     let mut a = PagedSet::new(alloc);
+    ///     a.insert_interval(Interval::new(5, 6))?;
+    ///     assert!(a.run_at(6) == Some(Interval::new(5, 6)));
+    ///     assert!(a.run_at(3).is_none());
+    ///     Ok(())
+    /// }
     /// ```
     ///
     /// # Proved

@@ -1,3 +1,4 @@
+// Written by bindings/rust/extract from crates/ivl_paged/src/paged_set/rank.rt.
 //! The number of runs and of members, and members by the number of members below them.
 
 #[allow(unused_imports)]
@@ -11,14 +12,15 @@ impl<B: Width> PagedSet<B> {
     /// Returns the number of runs. `O(1)`. Does not allocate.
     ///
     /// ```
-    /// # use intervallum::proved::examples::*;
-    /// # fn main() -> Result<(), std::boxed::Box<dyn std::error::Error>> {
-    /// # let alloc = Global;
-    /// let mut a = PagedSet::new(alloc);
-    /// assert!(a.insert(2)? && a.insert(5)? && a.insert(6)?);
-    /// assert_eq!(a.interval_count(), 2);
-    /// # Ok(())
-    /// # }
+    /// use intervallum::proved::examples::*;
+    ///
+    /// fn main() -> Result<(), std::boxed::Box<dyn std::error::Error>> {
+    ///     let alloc = Global;
+    ///     let mut a = PagedSet::new(alloc);
+    ///     assert!(a.insert(2)? && a.insert(5)? && a.insert(6)?);
+    ///     assert_eq!(a.interval_count(), 2);
+    ///     Ok(())
+    /// }
     /// ```
     ///
     /// # Proved
@@ -34,14 +36,15 @@ impl<B: Width> PagedSet<B> {
     /// Does not allocate.
     ///
     /// ```
-    /// # use intervallum::proved::examples::*;
-    /// # fn main() -> Result<(), std::boxed::Box<dyn std::error::Error>> {
-    /// # let alloc = Global;
-    /// let mut a: PagedSet<i32> = PagedSet::new(alloc);
-    /// a.insert_interval(Interval::new(1, 5))?;
-    /// assert_eq!(a.size(), 5u32);
-    /// # Ok(())
-    /// # }
+    /// use intervallum::proved::examples::*;
+    ///
+    /// fn main() -> Result<(), std::boxed::Box<dyn std::error::Error>> {
+    ///     let alloc = Global;
+    ///     let mut a: PagedSet<i32> = PagedSet::new(alloc);
+    ///     a.insert_interval(Interval::new(1, 5))?;
+    ///     assert_eq!(a.size(), 5u32);
+    ///     Ok(())
+    /// }
     /// ```
     ///
     /// # Proved
@@ -59,14 +62,15 @@ impl<B: Width> PagedSet<B> {
     /// each page below has, and scans one page: `O(n / page)`. Does not allocate.
     ///
     /// ```
-    /// # use intervallum::proved::examples::*;
-    /// # fn main() -> Result<(), std::boxed::Box<dyn std::error::Error>> {
-    /// # let alloc = Global;
-    /// let mut a: PagedSet<i32> = PagedSet::new(alloc);
-    /// assert!(a.insert(2)? && a.insert(5)?);
-    /// assert!(a.rank(2) == 0 && a.rank(5) == 1 && a.rank(6) == 2);
-    /// # Ok(())
-    /// # }
+    /// use intervallum::proved::examples::*;
+    ///
+    /// fn main() -> Result<(), std::boxed::Box<dyn std::error::Error>> {
+    ///     let alloc = Global;
+    ///     let mut a: PagedSet<i32> = PagedSet::new(alloc);
+    ///     assert!(a.insert(2)? && a.insert(5)?);
+    ///     assert!(a.rank(2) == 0 && a.rank(5) == 1 && a.rank(6) == 2);
+    ///     Ok(())
+    /// }
     /// ```
     ///
     /// # Proved
@@ -91,14 +95,15 @@ impl<B: Width> PagedSet<B> {
     /// allocate.
     ///
     /// ```
-    /// # use intervallum::proved::examples::*;
-    /// # fn main() -> Result<(), std::boxed::Box<dyn std::error::Error>> {
-    /// # let alloc = Global;
-    /// let mut a: PagedSet<i32> = PagedSet::new(alloc);
-    /// assert!(a.insert(2)? && a.insert(5)?);
-    /// assert!(a.nth(0) == Some(2) && a.nth(1) == Some(5) && a.nth(2).is_none());
-    /// # Ok(())
-    /// # }
+    /// use intervallum::proved::examples::*;
+    ///
+    /// fn main() -> Result<(), std::boxed::Box<dyn std::error::Error>> {
+    ///     let alloc = Global;
+    ///     let mut a: PagedSet<i32> = PagedSet::new(alloc);
+    ///     assert!(a.insert(2)? && a.insert(5)?);
+    ///     assert!(a.nth(0) == Some(2) && a.nth(1) == Some(5) && a.nth(2).is_none());
+    ///     Ok(())
+    /// }
     /// ```
     ///
     /// # Proved

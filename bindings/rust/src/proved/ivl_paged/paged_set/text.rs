@@ -1,3 +1,4 @@
+// Written by bindings/rust/extract from crates/ivl_paged/src/paged_set/text.rt.
 //! The text of a set.
 
 #[allow(unused_imports)]
@@ -20,14 +21,15 @@ impl<B: Width + fmt::Display> fmt::Display for PagedSet<B> {
     /// are those of the formatter and of the texts of the bounds.
     ///
     /// ```
-    /// # use intervallum::proved::examples::*;
-    /// # fn main() -> Result<(), std::boxed::Box<dyn std::error::Error>> {
-    /// # let alloc = Global;
-    /// let mut a = PagedSet::new(alloc);
-    /// assert!(a.insert(2)? && a.insert(5)?);
-    /// assert_eq!(format!("{a}").as_str(), "{[2..2][5..5]}");
-    /// # Ok(())
-    /// # }
+    /// use intervallum::proved::examples::*;
+    ///
+    /// fn main() -> Result<(), std::boxed::Box<dyn std::error::Error>> {
+    ///     let alloc = Global;
+    ///     let mut a = PagedSet::new(alloc);
+    ///     assert!(a.insert(2)? && a.insert(5)?);
+    ///     assert_eq!(format!("{a}").as_str(), "{[2..2][5..5]}");
+    ///     Ok(())
+    /// }
     /// ```
     fn fmt(&self, f: &mut fmt::Formatter) -> fmt::Result {
         let mut ahead = self.iter();

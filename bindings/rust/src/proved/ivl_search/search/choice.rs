@@ -1,3 +1,4 @@
+// Written by bindings/rust/extract from crates/ivl_search/src/search/choice.rt.
 //! What a search does with narrowed domains, and where it cuts one.
 
 #[allow(unused_imports)]
@@ -6,6 +7,15 @@ use crate::proved::intervallum::interval_set::IntervalSet;
 use crate::proved::intervallum::ops::{Cardinality, IsEmpty, IsSingleton};
 use crate::proved::intervallum::width::{SizeNumber, Width};
 use crate::rattle::std::alloc::{AllocError, Global};
+
+/// Which numbers of a variable are better. A search looks for them first.
+#[derive(Clone, Copy, Debug)]
+pub(super) enum Wanted {
+    /// Smaller ones.
+    Least,
+    /// Greater ones.
+    Greatest,
+}
 
 /// What a search finds at domains.
 #[derive(Clone, Copy, Debug)]
@@ -21,17 +31,17 @@ pub(super) enum Node<B> {
 }
 
 /// Which domain has the fewest members but two at least, and where it is cut.
-pub(super) fn node_of<B: Width>(domains: &[IntervalSet<B>]) -> Node<B> {
+pub(super) fn node_of<B: Width>(domains: &[IntervalSet<B>], wanted: Wanted) -> Node<B> {
     let mut best: Option<usize> = None;
     for (i, domain) in domains.iter().enumerate() {
         if domain.is_empty() {
             return Node::Dead;
         }
-        best = better(best, i, domain, domains);
+        best = better(best, i, domains);
     }
     match best {
         None => Node::Leaf,
-        Some(i) => match cut_value(&domains[i]) {
+        Some(i) => match cut_value(&domains[i], wanted) {
             Some(value) => Node::Open(i, value),
             None => Node::Dead,
         },
@@ -40,12 +50,9 @@ pub(super) fn node_of<B: Width>(domains: &[IntervalSet<B>]) -> Node<B> {
 
 /// The domain to be cut, so far: this one if it has two members or more, and fewer than the best
 /// before it.
-fn better<B: Width>(
-    best: Option<usize>,
-    i: usize,
-    domain: &IntervalSet<B>,
-    domains: &[IntervalSet<B>],
-) -> Option<usize> {
+fn better<B: Width>(best: Option<usize>, i: usize, domains: &[IntervalSet<B>]) -> Option<usize> {
+    let domain = &domains[i];
+    domain.in_whole();
     if domain.is_singleton() {
         return best;
     }
@@ -59,45 +66,87 @@ fn better<B: Width>(
     }
 }
 
-/// The value up to which a domain is searched first, or `None` if the domain is empty: its least
-/// member, or one in its middle if it has more than 64.
-fn cut_value<B: Width>(domain: &IntervalSet<B>) -> Option<B> {
-    if domain.size().number() > 64 {
-        middle(domain)
-    } else {
-        domain.first()
-    }
-}
-
-/// A member in the middle of a domain, or `None` if the domain is empty.
-pub(super) fn middle<B: Width>(domain: &IntervalSet<B>) -> Option<B> {
-    match member_at(domain, domain.size().number() / 2) {
-        Some(value) => Some(value),
-        None => domain.first(),
-    }
-}
-
-/// The member with so many members below it.
-fn member_at<B: Width>(domain: &IntervalSet<B>, index: u128) -> Option<B> {
+/// The member that is searched first together with the better ones, if there are others: the best
+/// member, or one in the middle of more than 64.
+fn cut_value<B: Width>(domain: &IntervalSet<B>, wanted: Wanted) -> Option<B> {
     domain.in_whole();
-    match <B::Output as SizeNumber>::from_number(index) {
-        Some(i) => domain.nth(i),
+    let size = domain.size().number();
+    if size > 64 {
+        middle(domain, wanted)
+    } else {
+        best_member(domain, wanted)
+    }
+}
+
+/// The best member, or `None` if the domain is empty.
+fn best_member<B: Width>(domain: &IntervalSet<B>, wanted: Wanted) -> Option<B> {
+    match wanted {
+        Wanted::Least => domain.first(),
+        Wanted::Greatest => domain.last(),
+    }
+}
+
+/// The member up to which the better half goes, or `None` if the domain is empty.
+pub(super) fn middle<B: Width>(domain: &IntervalSet<B>, wanted: Wanted) -> Option<B> {
+    let size = domain.size().number();
+    let below = match wanted {
+        Wanted::Least => size.saturating_sub(1) / 2,
+        Wanted::Greatest => size / 2,
+    };
+    match <B::Output as SizeNumber>::from_number(below) {
+        Some(index) => domain.nth(index),
         None => None,
     }
 }
 
+/// The numbers that are better than a value.
+pub(super) fn better_than<B: Width>(
+    alloc: Global,
+    value: B,
+    wanted: Wanted,
+) -> Result<IntervalSet<B>, AllocError> {
+    match wanted {
+        Wanted::Least => below(alloc, value),
+        Wanted::Greatest => above(alloc, value),
+    }
+}
+
+/// The value, and the numbers that are better.
+pub(super) fn as_good_as<B: Width>(
+    alloc: Global,
+    value: B,
+    wanted: Wanted,
+) -> Result<IntervalSet<B>, AllocError> {
+    match wanted {
+        Wanted::Least => up_to(alloc, value),
+        Wanted::Greatest => from(alloc, value),
+    }
+}
+
+/// The numbers than which a value is better.
+pub(super) fn worse_than<B: Width>(
+    alloc: Global,
+    value: B,
+    wanted: Wanted,
+) -> Result<IntervalSet<B>, AllocError> {
+    match wanted {
+        Wanted::Least => above(alloc, value),
+        Wanted::Greatest => below(alloc, value),
+    }
+}
+
 /// The numbers up to a value.
-pub(super) fn up_to<B: Width>(alloc: Global, value: B) -> Result<IntervalSet<B>, AllocError> {
+fn up_to<B: Width>(alloc: Global, value: B) -> Result<IntervalSet<B>, AllocError> {
     IntervalSet::new(alloc, B::min_value(), value)
 }
 
 /// The numbers from a value on.
-pub(super) fn from<B: Width>(alloc: Global, value: B) -> Result<IntervalSet<B>, AllocError> {
+fn from<B: Width>(alloc: Global, value: B) -> Result<IntervalSet<B>, AllocError> {
     IntervalSet::new(alloc, value, B::max_value())
 }
 
 /// The numbers above a value.
-pub(super) fn above<B: Width>(alloc: Global, value: B) -> Result<IntervalSet<B>, AllocError> {
+fn above<B: Width>(alloc: Global, value: B) -> Result<IntervalSet<B>, AllocError> {
     match value.checked_add(B::one()) {
         Some(next) => IntervalSet::new(alloc, next, B::max_value()),
         None => Ok(IntervalSet::empty(alloc)),
@@ -105,7 +154,7 @@ pub(super) fn above<B: Width>(alloc: Global, value: B) -> Result<IntervalSet<B>,
 }
 
 /// The numbers below a value.
-pub(super) fn below<B: Width>(alloc: Global, value: B) -> Result<IntervalSet<B>, AllocError> {
+fn below<B: Width>(alloc: Global, value: B) -> Result<IntervalSet<B>, AllocError> {
     match value.checked_sub(B::one()) {
         Some(last) => IntervalSet::new(alloc, B::min_value(), last),
         None => Ok(IntervalSet::empty(alloc)),

@@ -1,9 +1,10 @@
+// Written by bindings/rust/extract from crates/ivl_search/src/search/descent.rt.
 //! The search itself: depth first, by marks of one network.
 
 #[allow(unused_imports)]
 use crate::rattle::prelude::*;
-use super::choice::Node;
-use super::steps::{advance, enter, leave, point_of};
+use super::choice::{Node, Wanted};
+use super::steps::{Cut, advance, enter, leave, point_of};
 use super::{End, Limits};
 use crate::proved::intervallum::interval_set::IntervalSet;
 use crate::proved::intervallum::width::Width;
@@ -21,39 +22,62 @@ pub(super) struct Kept<B> {
 pub(super) fn search<B: Width>(
     alloc: Global,
     network: &mut Network<B>,
-    depth: u32,
+    wanted: Wanted,
     left: &mut Limits,
     found: &mut Kept<B>,
 ) -> Result<End, AllocError> {
+    // No more constraints have to be looked at than there are.
+    network.constraints();
+    let mut path = Vec::new(alloc);
     while left.nodes > 0 {
         if left.solutions == 0 {
+            drop_path(network, &path);
             return Ok(End::Solutions);
         }
         left.nodes -= 1;
-        match advance(network)? {
+        match advance(network, wanted)? {
             Node::Unsettled => {}
-            Node::Dead => return Ok(End::All),
+            Node::Open(variable, value) => {
+                let cut = enter(alloc, network, variable, value, wanted)?;
+                path.push(cut)?;
+            }
+            Node::Dead => if !go_back(alloc, network, &mut path, wanted)? {
+                return Ok(End::All);
+            },
             Node::Leaf => {
                 keep(alloc, network.domains(), found)?;
                 left.solutions -= 1;
-                return Ok(End::All);
-            }
-            Node::Open(variable, value) => {
-                if depth == 0 {
-                    return Ok(End::Nodes);
-                }
-                let mark = enter(alloc, network, variable, value)?;
-                match search(alloc, network, depth - 1, left, found)? {
-                    End::All => leave(alloc, network, mark, variable, value)?,
-                    end => {
-                        network.drop_marks(mark);
-                        return Ok(end);
-                    }
+                if !go_back(alloc, network, &mut path, wanted)? {
+                    return Ok(End::All);
                 }
             }
         }
     }
+    drop_path(network, &path);
     Ok(End::Nodes)
+}
+
+/// Goes back to the last cut, and into its other part. Returns false if there is no cut.
+fn go_back<B: Width>(
+    alloc: Global,
+    network: &mut Network<B>,
+    path: &mut Vec<Cut<B>>,
+    wanted: Wanted,
+) -> Result<bool, AllocError> {
+    match path.pop() {
+        Some(cut) => {
+            leave(alloc, network, cut, wanted)?;
+            Ok(true)
+        }
+        None => Ok(false),
+    }
+}
+
+/// Drops the marks of a path.
+fn drop_path<B: Width>(network: &mut Network<B>, path: &[Cut<B>]) {
+    if let Some(cut) = path.first() {
+        network.drop_marks(cut.mark);
+    }
 }
 
 /// Adds the point of domains that have one member each, if points are kept.

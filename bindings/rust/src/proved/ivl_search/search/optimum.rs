@@ -1,27 +1,19 @@
+// Written by bindings/rust/extract from crates/ivl_search/src/search/optimum.rt.
 //! The best solution: a solution is looked for among the better half of a variable's numbers, and the
 //! domain is cut to what is better than it, or to the other half if there is none.
 
 #[allow(unused_imports)]
 use crate::rattle::prelude::*;
-use super::choice::{Node, above, below, from, middle, up_to};
+use super::choice::{Node, Wanted, as_good_as, better_than, middle, worse_than};
 use super::descent::{Kept, search};
 use super::setup::{first_unknown_or, network_of};
 use super::steps::{advance, restrict};
-use super::{Best, DEPTH, End, Limits, SearchFault};
+use super::{Best, End, Limits, SearchFault};
 use crate::proved::intervallum::interval_set::IntervalSet;
 use crate::proved::intervallum::width::Width;
 use crate::proved::ivl_store::network::Network;
 use crate::proved::ivl_store::store::Constraint;
 use crate::rattle::std::alloc::{AllocError, Global};
-
-/// Which numbers of a variable are better.
-#[derive(Clone, Copy, Debug)]
-pub(super) enum Wanted {
-    /// Smaller ones.
-    Least,
-    /// Greater ones.
-    Greatest,
-}
 
 /// Returns the best solution over the domains.
 pub(super) fn best_at<B: Width>(
@@ -58,7 +50,7 @@ fn best_of<B: Width>(
             });
         }
         left.nodes -= 1;
-        let Some(half) = narrowed_middle(network, variable)? else {
+        let Some(half) = narrowed_middle(network, variable, wanted)? else {
             return Ok(Best {
                 point: best,
                 end: End::All,
@@ -88,10 +80,11 @@ fn best_of<B: Width>(
 fn narrowed_middle<B: Width>(
     network: &mut Network<B>,
     variable: usize,
+    wanted: Wanted,
 ) -> Result<Option<B>, AllocError> {
-    match advance(network)? {
+    match advance(network, wanted)? {
         Node::Dead => Ok(None),
-        _ => Ok(middle(&network.domains()[variable])),
+        _ => Ok(middle(&network.domains()[variable], wanted)),
     }
 }
 
@@ -115,7 +108,7 @@ fn one_solution<B: Width>(
         is_kept: true,
         points: Vec::new(alloc),
     };
-    let end = search(alloc, network, DEPTH, &mut left, &mut found)?;
+    let end = search(alloc, network, wanted, &mut left, &mut found)?;
     network.undo_to(mark);
     *nodes = left.nodes;
     let point = found.points.pop();
@@ -162,40 +155,4 @@ fn keep_worse<B: Width>(
     network.domains();
     restrict(network, variable, &allowed)?;
     Ok(())
-}
-
-/// The numbers that are better than a value.
-fn better_than<B: Width>(
-    alloc: Global,
-    value: B,
-    wanted: Wanted,
-) -> Result<IntervalSet<B>, AllocError> {
-    match wanted {
-        Wanted::Least => below(alloc, value),
-        Wanted::Greatest => above(alloc, value),
-    }
-}
-
-/// The value, and the numbers that are better.
-fn as_good_as<B: Width>(
-    alloc: Global,
-    value: B,
-    wanted: Wanted,
-) -> Result<IntervalSet<B>, AllocError> {
-    match wanted {
-        Wanted::Least => up_to(alloc, value),
-        Wanted::Greatest => from(alloc, value),
-    }
-}
-
-/// The numbers than which a value is better.
-fn worse_than<B: Width>(
-    alloc: Global,
-    value: B,
-    wanted: Wanted,
-) -> Result<IntervalSet<B>, AllocError> {
-    match wanted {
-        Wanted::Least => above(alloc, value),
-        Wanted::Greatest => below(alloc, value),
-    }
 }

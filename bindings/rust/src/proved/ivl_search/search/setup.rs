@@ -1,3 +1,4 @@
+// Written by bindings/rust/extract from crates/ivl_search/src/search/setup.rt.
 //! The network of the domains and the constraints.
 
 #[allow(unused_imports)]

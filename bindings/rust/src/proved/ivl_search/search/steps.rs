@@ -1,10 +1,11 @@
+// Written by bindings/rust/extract from crates/ivl_search/src/search/steps.rt.
 //! The steps of a search: narrowing, going into a part of a domain and coming out of it, and the
 //! point of domains with one member each.
 
 #[allow(unused_imports)]
 use crate::rattle::prelude::*;
 use super::NARROWINGS_PER_NODE;
-use super::choice::{Node, above, node_of, up_to};
+use super::choice::{Node, Wanted, as_good_as, node_of, worse_than};
 use crate::proved::intervallum::interval_set::IntervalSet;
 use crate::proved::intervallum::ops::Bounded;
 use crate::proved::intervallum::width::Width;
@@ -12,40 +13,66 @@ use crate::proved::ivl_store::network::{Network, Settled};
 use crate::rattle::std::alloc::{AllocError, Global};
 
 /// Narrows the domains, and says what to do with them.
-pub(super) fn advance<B: Width>(network: &mut Network<B>) -> Result<Node<B>, AllocError> {
-    match network.settle(NARROWINGS_PER_NODE) {
-        Ok(Settled::All) => Ok(node_of(network.domains())),
-        Ok(Settled::Unfinished) => Ok(Node::Unsettled),
+pub(super) fn advance<B: Width>(
+    network: &mut Network<B>,
+    wanted: Wanted,
+) -> Result<Node<B>, AllocError> {
+    network.constraints();
+    let settled = network.settle(NARROWINGS_PER_NODE);
+    network.constraints();
+    let domains = network.domains();
+    match settled {
+        Ok(Settled::All) => Ok(node_of(domains, wanted)),
+        Ok(Settled::Unfinished) => if network.has_empty() {
+            Ok(Node::Dead)
+        } else {
+            Ok(Node::Unsettled)
+        },
         Err(_) => Err(AllocError),
     }
 }
 
-/// Marks the network, and cuts a domain to its members up to a value.
+/// A place where a search cut a domain, and searched the better part first.
+#[derive(Clone, Copy, Debug)]
+pub(super) struct Cut<B> {
+    /// The mark of the network before the cut.
+    pub mark: usize,
+    /// The variable of the domain.
+    pub variable: usize,
+    /// The worst number of the better part.
+    pub value: B,
+}
+
+/// Marks the network, and cuts a domain to its members that are as good as a value.
 pub(super) fn enter<B: Width>(
     alloc: Global,
     network: &mut Network<B>,
     variable: usize,
     value: B,
-) -> Result<usize, AllocError> {
-    let lower = up_to(alloc, value)?;
+    wanted: Wanted,
+) -> Result<Cut<B>, AllocError> {
+    let good = as_good_as(alloc, value, wanted)?;
     network.domains();
     let mark = network.mark()?;
-    restrict(network, variable, &lower)?;
-    Ok(mark)
+    restrict(network, variable, &good)?;
+    Ok(Cut {
+        mark,
+        variable,
+        value,
+    })
 }
 
-/// Takes back what came after a mark, and cuts a domain to its members above a value.
+/// Takes back what came after a cut, and cuts the domain to its other part.
 pub(super) fn leave<B: Width>(
     alloc: Global,
     network: &mut Network<B>,
-    mark: usize,
-    variable: usize,
-    value: B,
+    cut: Cut<B>,
+    wanted: Wanted,
 ) -> Result<(), AllocError> {
-    let upper = above(alloc, value)?;
-    network.undo_to(mark);
+    let worse = worse_than(alloc, cut.value, wanted)?;
+    network.undo_to(cut.mark);
     network.domains();
-    restrict(network, variable, &upper)?;
+    restrict(network, cut.variable, &worse)?;
     Ok(())
 }
 
@@ -55,7 +82,11 @@ pub(super) fn restrict<B: Width>(
     variable: usize,
     allowed: &IntervalSet<B>,
 ) -> Result<(), AllocError> {
-    match network.restrict(variable, allowed) {
+    let cut = network.restrict(variable, allowed);
+    // What holds of every network.
+    network.domains();
+    network.constraints();
+    match cut {
         Ok(()) => Ok(()),
         Err(_) => Err(AllocError),
     }

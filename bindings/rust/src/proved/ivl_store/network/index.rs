@@ -1,3 +1,4 @@
+// Written by bindings/rust/extract from crates/ivl_store/src/network/index.rt.
 //! Which constraints name each variable.
 
 #[allow(unused_imports)]

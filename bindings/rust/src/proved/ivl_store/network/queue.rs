@@ -1,3 +1,4 @@
+// Written by bindings/rust/extract from crates/ivl_store/src/network/queue.rt.
 //! The constraints that have to be looked at again.
 
 #[allow(unused_imports)]

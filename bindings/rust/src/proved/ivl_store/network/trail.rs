@@ -1,3 +1,4 @@
+// Written by bindings/rust/extract from crates/ivl_store/src/network/trail.rt.
 //! The changes that a network writes down from its first mark on, and how they are taken back.
 
 #[allow(unused_imports)]

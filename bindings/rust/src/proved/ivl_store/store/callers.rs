@@ -1,3 +1,4 @@
+// Written by bindings/rust/extract from crates/ivl_store/src/store/callers.rt.
 //! The condition of [`Store::post_all`], and the call that tests it.
 
 #[allow(unused_imports)]

@@ -1,3 +1,4 @@
+// Written by bindings/rust/extract from crates/ivl_store/src/store/change.rt.
 //! What takes back a change of a network.
 
 #[allow(unused_imports)]

@@ -1,3 +1,4 @@
+// Written by bindings/rust/extract from crates/ivl_store/src/store/constraint.rt.
 //! Constraints between three variables, and the errors of a store.
 
 #[allow(unused_imports)]
@@ -19,13 +20,14 @@ impl Constraint {
     /// Returns true exactly when `x`, `y` and `z` are three different variables.
     ///
     /// ```
-    /// # use intervallum::proved::examples::*;
-    /// # fn main() -> Result<(), std::boxed::Box<dyn std::error::Error>> {
-    /// # let alloc = Global;
-    /// assert!(Constraint { x: 0, y: 1, z: 2 }.distinct());
-    /// assert!(!Constraint { x: 0, y: 1, z: 0 }.distinct());
-    /// # Ok(())
-    /// # }
+    /// use intervallum::proved::examples::*;
+    ///
+    /// fn main() -> Result<(), std::boxed::Box<dyn std::error::Error>> {
+    ///     let alloc = Global;
+    ///     assert!(Constraint { x: 0, y: 1, z: 2 }.distinct());
+    ///     assert!(!Constraint { x: 0, y: 1, z: 0 }.distinct());
+    ///     Ok(())
+    /// }
     /// ```
     ///
     /// # Proved

@@ -1,3 +1,4 @@
+// Written by bindings/rust/extract from crates/ivl_store/src/store/marks.rt.
 //! Marks, one per constraint: by a marked constraint, narrowing would change nothing.
 
 #[allow(unused_imports)]

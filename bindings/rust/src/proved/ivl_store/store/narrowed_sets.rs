@@ -1,3 +1,4 @@
+// Written by bindings/rust/extract from crates/ivl_store/src/store/narrowed_sets.rt.
 //! What narrowing leaves of a domain; `None` stands for a domain that loses no member.
 
 #[allow(unused_imports)]

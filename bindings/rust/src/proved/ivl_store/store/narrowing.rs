@@ -1,3 +1,4 @@
+// Written by bindings/rust/extract from crates/ivl_store/src/store/narrowing.rt.
 //! Narrowing by one constraint, and by a list in rounds.
 
 #[allow(unused_imports)]
@@ -27,17 +28,18 @@ impl<B: Width> Store<B> {
     /// fails. The store is then unchanged.
     ///
     /// ```
-    /// # use intervallum::proved::examples::*;
-    /// # fn main() -> Result<(), std::boxed::Box<dyn std::error::Error>> {
-    /// # let alloc = Global;
-    /// // x + y = z, for x from 0 to 10, y from 3 to 4 and z from 5 to 6
-    /// let domains = Vec::from_array(alloc, [
-    ///     IntervalSet::new(alloc, 0, 10)?, IntervalSet::new(alloc, 3, 4)?, IntervalSet::new(alloc, 5, 6)?])?;
-    /// let mut store: Store<i32> = Store::new(alloc, domains);
-    /// assert!(store.narrow(&Constraint { x: 0, y: 1, z: 2 })?);
-    /// assert!(store.domains()[0] == IntervalSet::new(alloc, 1, 3)?);
-    /// # Ok(())
-    /// # }
+    /// use intervallum::proved::examples::*;
+    ///
+    /// fn main() -> Result<(), std::boxed::Box<dyn std::error::Error>> {
+    ///     let alloc = Global;
+    ///     // x + y = z, for x from 0 to 10, y from 3 to 4 and z from 5 to 6
+    ///     let domains = Vec::from_array(alloc, [
+    ///         IntervalSet::new(alloc, 0, 10)?, IntervalSet::new(alloc, 3, 4)?, IntervalSet::new(alloc, 5, 6)?])?;
+    ///     let mut store: Store<i32> = Store::new(alloc, domains);
+    ///     assert!(store.narrow(&Constraint { x: 0, y: 1, z: 2 })?);
+    ///     assert!(store.domains()[0] == IntervalSet::new(alloc, 1, 3)?);
+    ///     Ok(())
+    /// }
     /// ```
     ///
     /// # Proved
@@ -131,18 +133,19 @@ impl<B: Width> Store<B> {
     /// narrowing left it.
     ///
     /// ```
-    /// # use intervallum::proved::examples::*;
-    /// # fn main() -> Result<(), std::boxed::Box<dyn std::error::Error>> {
-    /// # let alloc = Global;
-    /// // a + one = b and b + one = a, for a and b from 0 to 9
-    /// let domains = Vec::from_array(alloc, [
-    ///     IntervalSet::new(alloc, 0, 9)?, IntervalSet::new(alloc, 0, 9)?, IntervalSet::new(alloc, 1, 1)?])?;
-    /// let mut store: Store<i32> = Store::new(alloc, domains);
-    /// let constraints = [Constraint { x: 0, y: 2, z: 1 }, Constraint { x: 1, y: 2, z: 0 }];
-    /// assert!(!store.propagate(&constraints, 3)?);
-    /// assert!(store.propagate(&constraints, 1)? && store.domains()[0].is_empty());
-    /// # Ok(())
-    /// # }
+    /// use intervallum::proved::examples::*;
+    ///
+    /// fn main() -> Result<(), std::boxed::Box<dyn std::error::Error>> {
+    ///     let alloc = Global;
+    ///     // a + one = b and b + one = a, for a and b from 0 to 9
+    ///     let domains = Vec::from_array(alloc, [
+    ///         IntervalSet::new(alloc, 0, 9)?, IntervalSet::new(alloc, 0, 9)?, IntervalSet::new(alloc, 1, 1)?])?;
+    ///     let mut store: Store<i32> = Store::new(alloc, domains);
+    ///     let constraints = [Constraint { x: 0, y: 2, z: 1 }, Constraint { x: 1, y: 2, z: 0 }];
+    ///     assert!(!store.propagate(&constraints, 3)?);
+    ///     assert!(store.propagate(&constraints, 1)? && store.domains()[0].is_empty());
+    ///     Ok(())
+    /// }
     /// ```
     ///
     /// # Proved

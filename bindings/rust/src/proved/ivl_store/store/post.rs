@@ -1,3 +1,4 @@
+// Written by bindings/rust/extract from crates/ivl_store/src/store/post.rt.
 //! What is posted to a store.
 
 #[allow(unused_imports)]

@@ -1,3 +1,4 @@
+// Written by bindings/rust/extract from crates/ivl_store/src/store/posting.rt.
 //! Posts, taken one by one, with a reply to each.
 
 #[allow(unused_imports)]
@@ -31,20 +32,21 @@ impl<B: Width> Store<B> {
     /// before the first cut.
     ///
     /// ```
-    /// # use intervallum::proved::examples::*;
-    /// # fn main() -> Result<(), std::boxed::Box<dyn std::error::Error>> {
-    /// # let alloc = Global;
-    /// // x + y = z, for x, y and z from 0 to 9; then z is 0 or 1
-    /// let domains = Vec::from_array(alloc, [
-    ///     IntervalSet::new(alloc, 0, 9)?, IntervalSet::new(alloc, 0, 9)?, IntervalSet::new(alloc, 0, 9)?])?;
-    /// let mut store: Store<i32> = Store::new(alloc, domains);
-    /// let sum = Constraint { x: 0, y: 1, z: 2 };
-    /// let cut = Post::Restrict(2, IntervalSet::new(alloc, 0, 1)?);
-    /// let replies = store.post_all(&Vec::from_array(alloc, [ Post::Require(sum), cut])?)?;
-    /// assert!(replies == Vec::from_array(alloc, [ false, false])?);
-    /// assert!(store.domains()[0] == IntervalSet::new(alloc, 0, 1)?);
-    /// # Ok(())
-    /// # }
+    /// use intervallum::proved::examples::*;
+    ///
+    /// fn main() -> Result<(), std::boxed::Box<dyn std::error::Error>> {
+    ///     let alloc = Global;
+    ///     // x + y = z, for x, y and z from 0 to 9; then z is 0 or 1
+    ///     let domains = Vec::from_array(alloc, [
+    ///         IntervalSet::new(alloc, 0, 9)?, IntervalSet::new(alloc, 0, 9)?, IntervalSet::new(alloc, 0, 9)?])?;
+    ///     let mut store: Store<i32> = Store::new(alloc, domains);
+    ///     let sum = Constraint { x: 0, y: 1, z: 2 };
+    ///     let cut = Post::Restrict(2, IntervalSet::new(alloc, 0, 1)?);
+    ///     let replies = store.post_all(&Vec::from_array(alloc, [ Post::Require(sum), cut])?)?;
+    ///     assert!(replies == Vec::from_array(alloc, [ false, false])?);
+    ///     assert!(store.domains()[0] == IntervalSet::new(alloc, 0, 1)?);
+    ///     Ok(())
+    /// }
     /// ```
     ///
     /// # Proved

@@ -1,9 +1,11 @@
+// Written by bindings/rust/extract from crates/ivl_store/src/store/swapping.rt.
 //! Domains that are replaced, so that what stood there can be put back.
 
 #[allow(unused_imports)]
 use crate::rattle::prelude::*;
-use super::Store;
+use super::{Store, one_if};
 use crate::proved::intervallum::interval_set::IntervalSet;
+use crate::proved::intervallum::ops::IsEmpty;
 use crate::proved::intervallum::width::Width;
 use crate::rattle::std::mem;
 
@@ -12,7 +14,7 @@ impl<B: Width> Store<B> {
     /// domain stays.
     pub(super) fn swap(&mut self, i: usize, left: Option<IntervalSet<B>>) -> Option<IntervalSet<B>> {
         match left {
-            Some(set) => Some(mem::replace(&mut self.domains[i], set)),
+            Some(set) => Some(self.put(i, set)),
             None => None,
         }
     }
@@ -21,13 +23,23 @@ impl<B: Width> Store<B> {
     pub(crate) fn replace(&mut self, i: usize, set: IntervalSet<B>) {
         set.in_whole();
         if i < self.domains.len() {
-            self.domains[i] = set;
+            self.put(i, set);
         }
+    }
+
+    /// Puts a set in place of a domain, and returns that.
+    fn put(&mut self, i: usize, set: IntervalSet<B>) -> IntervalSet<B> {
+        let was = one_if(self.domains[i].is_empty());
+        let is = one_if(set.is_empty());
+        self.empties = self.empties - was + is;
+        mem::replace(&mut self.domains[i], set)
     }
 
     /// Drops the last variable, if there is one.
     pub(crate) fn drop_variable(&mut self) {
-        let count = self.domains.len().saturating_sub(1);
-        self.domains.truncate(count);
+        if let Some(domain) = self.domains.pop() {
+            let was = one_if(domain.is_empty());
+            self.empties -= was;
+        }
     }
 }

@@ -1,3 +1,4 @@
+// Written by bindings/rust/extract from crates/ivl_within/src/within/by_runs.rt.
 //! The results in a set, made for each of its runs alone.
 
 #[allow(unused_imports)]

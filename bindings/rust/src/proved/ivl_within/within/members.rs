@@ -1,3 +1,4 @@
+// Written by bindings/rust/extract from crates/ivl_within/src/within/members.rt.
 //! The members of a set that are sums or differences.
 
 #[allow(unused_imports)]
@@ -26,16 +27,17 @@ use crate::rattle::std::alloc::AllocError;
 /// Fails only if allocation fails.
 ///
 /// ```
-/// # use intervallum::proved::examples::*;
-/// # fn main() -> Result<(), std::boxed::Box<dyn std::error::Error>> {
-/// # let alloc = Global;
-/// let a: IntervalSet<i16> = [(0, 0), (10, 12), (90, 95)].to_interval_set(alloc)?;
-/// let b: IntervalSet<i16> = [(1, 2), (50, 60)].to_interval_set(alloc)?;
-/// let x = IntervalSet::new(alloc, 60, 93)?;
-/// let sums = results_in_set(&x, &a, &b, Combined::Sum)?;
-/// assert!(sums == [(60, 72), (91, 93)].to_interval_set(alloc)?);
-/// # Ok(())
-/// # }
+/// use intervallum::proved::examples::*;
+///
+/// fn main() -> Result<(), std::boxed::Box<dyn std::error::Error>> {
+///     let alloc = Global;
+///     let a: IntervalSet<i16> = [(0, 0), (10, 12), (90, 95)].to_interval_set(alloc)?;
+///     let b: IntervalSet<i16> = [(1, 2), (50, 60)].to_interval_set(alloc)?;
+///     let x = IntervalSet::new(alloc, 60, 93)?;
+///     let sums = results_in_set(&x, &a, &b, Combined::Sum)?;
+///     assert!(sums == [(60, 72), (91, 93)].to_interval_set(alloc)?);
+///     Ok(())
+/// }
 /// ```
 ///
 /// # Proved

@@ -1,3 +1,4 @@
+// Written by bindings/rust/extract from crates/ivl_within/src/within/pairs.rt.
 //! The results of two runs in a window.
 
 #[allow(unused_imports)]
@@ -13,14 +14,15 @@ use crate::proved::intervallum::width::Width;
 /// [`IsEmpty::is_empty`](crate::proved::intervallum::ops::IsEmpty::is_empty). `O(1)`, does not allocate.
 ///
 /// ```
-/// # use intervallum::proved::examples::*;
-/// # fn main() -> Result<(), std::boxed::Box<dyn std::error::Error>> {
-/// # let alloc = Global;
-/// let (a, b): (Interval<i16>, Interval<i16>) = (Interval::new(3, 5), Interval::new(10, 20));
-/// let sums = pair_in_window(a, b, Combined::Sum, Interval::new(14, 18));
-/// assert!(sums == Interval::new(14, 18));
-/// # Ok(())
-/// # }
+/// use intervallum::proved::examples::*;
+///
+/// fn main() -> Result<(), std::boxed::Box<dyn std::error::Error>> {
+///     let alloc = Global;
+///     let (a, b): (Interval<i16>, Interval<i16>) = (Interval::new(3, 5), Interval::new(10, 20));
+///     let sums = pair_in_window(a, b, Combined::Sum, Interval::new(14, 18));
+///     assert!(sums == Interval::new(14, 18));
+///     Ok(())
+/// }
 /// ```
 ///
 /// # Proved

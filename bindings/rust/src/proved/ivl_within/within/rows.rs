@@ -1,3 +1,4 @@
+// Written by bindings/rust/extract from crates/ivl_within/src/within/rows.rt.
 //! The results of runs and the runs of a set that reach a window.
 
 #[allow(unused_imports)]

@@ -1,7 +1,8 @@
-use Rattle.std.proofs.Common.{ℕ, ℤ, List, Option, Some, None, MatchOption}
+use Rattle.std.proofs.Common.{ℕ, ℤ, List, Option, Some, None, MatchOption, subst}
 use Rattle.ivl_laws.specs.Runs.{Covers, IsRunsOf}
 use Rattle.ivl_laws.specs.Sets.{IsBetween, Without}
 use Rattle.intervallum.specs.FirstFit.{FitsAt, IsFirstFit}
+use Rattle.ivl_calendar.proofs.Taking.{taken_from_window, within_window}
 use Rattle.ivl_calendar.proofs.rooms.Room.first_gap.Goals as goal
 
 -- what fits first in the members of a list of runs fits first in the set of which they are the runs
@@ -10,5 +11,10 @@ gap_is : (n : ℕ) (L : List (ℤ × ℤ)) (S : ℤ → Type 0) (o : Option (ℤ
 gap_is n L S None r m = λ v f. m v (λ z b. (r.members z).1 (f z b))
 gap_is n L S (Some run) r m = record { count = m.count; members = λ z b. (r.members z).0 (m.members z b); lowest = λ v f. m.lowest v (λ z b. (r.members z).1 (f z b)) }
 
+pub take_busy-requires : goal.take_busy-requires
+take_busy-requires c = within_window c.in_ok-free.free c.args.window c.in_ok-free.ensures
+
 pub returns : goal.returns
-returns c = gap_is c.args.days _ (Without (IsBetween c.args.window) (Covers c.args.self.now)) c.first_fit.result c.in_ok-free.ensures c.first_fit.ensures
+returns c =
+    let busy = subst (λ (L : List (ℤ × ℤ)). IsRunsOf c.take_busy.new.free (Without (Covers c.in_ok-free.free) (Covers L))) c.self.view_is c.in_ok-take_busy.ensures in
+    gap_is c.args.days _ (Without (IsBetween c.args.window) (Covers c.args.self.now)) c.first_fit.result (taken_from_window c.in_ok-free.free c.args.window c.in_ok-free.ensures _ _ busy) c.first_fit.ensures

@@ -1,4 +1,7 @@
-use Rattle.std.proofs.Common.{◌<◌, length, subst, sym, ◌∙◌}
+use Rattle.std.proofs.Common.{◌<◌, ◌+◌, ◌*◌, ◌/◌, List, length, max, subst, sym, ◌∙◌}
+use Rattle.std.specs.Prelude.{ℤ}
+use Rattle.ivl_search.specs.Budget.{points_of}
+use Rattle.ivl_search.proofs.Rooms.{best_more}
 use Rattle.ivl_search.proofs.Popping.{known_variable}
 use Rattle.ivl_search.proofs.search.optimum.best_at.Goals as goal
 
@@ -6,3 +9,9 @@ pub best_of-requires-clause-known : goal.best_of-requires-clause-known
 best_of-requires-clause-known g c =
     subst (λ D. c.args.variable < length D) (sym c.in_ok-network.ensures.domains)
     (known_variable c.args.variable (length c.args.domains.now) c.args.constraints.now (sym c.first_unknown_or.ensures ∙ c.in_default.is))
+
+pub returns-clause-enough : goal.returns-clause-enough
+returns-clause-enough g c = λ e.
+    let net = c.in_ok-network.network in
+    best_more (length net.constraints) (length c.args.constraints.now) (2 * max 1 (points_of g.B.Width.whole c.args.domains.now)) c.args.limits.nodes c.in_ok-network.ensures.no_more
+    (subst (λ (D : List (List (ℤ × ℤ))). c.args.limits.nodes < 2 * max 1 (points_of g.B.Width.whole D) * (length net.constraints / 500 + 1) + 1) c.in_ok-network.ensures.domains (c.in_ok-best.ensures.enough e))

@@ -1,4 +1,4 @@
-use Rattle.std.proofs.Common.{◌≡◌, ◌⊎◌, []}
+use Rattle.std.proofs.Common.{◌≡◌, ◌⊎◌, [], arith, length}
 use Rattle.std.specs.Prelude.{◌↔◌, Contains}
 use Rattle.std.proofs.Common.{◌∙◌, subst, ap}
 use Rattle.ivl_store.specs.declared.store.constraint.Constraint.{Constraint}
@@ -10,3 +10,10 @@ returns-clause-solutions g c =
     let start : c.add_variables.new.network.constraints ≡ [] = c.add_variables.ensures.constraints ∙ ap (λ n. n.constraints) c.new-network.ensures in
     required_solves c.args.constraints.now c.require_all.new.network.constraints c.args.domains.now
     (subst (λ cs. (d : Constraint) → Contains c.require_all.new.network.constraints d ↔ (Contains cs d ⊎ Contains c.args.constraints.now d)) start c.in_ok-require_all.ensures.required)
+
+pub returns-clause-no_more : goal.returns-clause-no_more
+returns-clause-no_more g c =
+    let start : c.add_variables.new.network.constraints ≡ [] = c.add_variables.ensures.constraints ∙ ap (λ n. n.constraints) c.new-network.ensures in
+    let e = ap length start in
+    let h = c.in_ok-require_all.ensures.no_more in
+    omega (arith, e, h)

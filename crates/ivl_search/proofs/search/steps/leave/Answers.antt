@@ -1,5 +1,5 @@
 use Rattle.std.proofs.Common.{length}
-use Rattle.std.specs.Prelude.{◌<ℤ◌}
+use Rattle.ivl_search.specs.Best.{IsBetter}
 use Rattle.ivl_laws.specs.Families.{set_at}
 use Rattle.ivl_store.specs.Network.{IsCutAt}
 use Rattle.std.proofs.Common.{ap, subst, refl, ◌∙◌}
@@ -11,7 +11,7 @@ returns-clause-cut g c = λ d.
     let past = c.undo_to.ensures.undone (c.undo_to.ensures.told.1 c.requires.known) d in (
       c.restrict.ensures.constraints ∙ past.1,
       c.restrict.ensures.kept_count ∙ ap length past.0,
-      subst (λ D. IsCutAt c.args.variable (λ v. g.B.Width.value c.args.value <ℤ v) (set_at D) (set_at c.restrict.new.network.domains)) past.0
-          (cut_in_range g.B.Width.whole c.undo_to.new.self.domains c.undo_to.new.self.domains c.restrict.new.network.domains c.args.variable _ (λ v. g.B.Width.value c.args.value <ℤ v)
-          c.domains.ensures.runs c.in_ok-upper.ensures refl c.in_ok-restrict.ensures.cut),
+      subst (λ D. IsCutAt c.args.cut.variable (λ v. IsBetter c.args.wanted v (g.B.Width.value c.args.cut.value)) (set_at D) (set_at c.restrict.new.network.domains)) past.0
+          (cut_in_range g.B.Width.whole c.undo_to.new.self.domains c.undo_to.new.self.domains c.restrict.new.network.domains c.args.cut.variable _ (λ v. IsBetter c.args.wanted v (g.B.Width.value c.args.cut.value))
+          c.domains.ensures.runs c.in_ok-worse.ensures refl c.in_ok-restrict.ensures.cut),
     )

@@ -1,5 +1,6 @@
-use Rattle.std.proofs.Common.{◌∙◌, All, arith, subst, sym}
+use Rattle.std.proofs.Common.{◌≡◌, ◌∙◌, ◌+◌, ◌*◌, ◌≤◌, ℕ, All, arith, length, subst, sym}
 use Rattle.ivl_laws.specs.Families.{set_at}
+use Rattle.ivl_store.specs.Measure.{total}
 use Rattle.ivl_store.specs.Narrowing.{IsFixed}
 use Rattle.ivl_store.specs.Network.{AreNarrowings, NetworkState}
 use Rattle.ivl_store.specs.Solutions.{AreDistinct}
@@ -57,7 +58,19 @@ returns-clause-solutions g c = narrowings_solve c.args.self.now.constraints c.lo
 
 pub returns-clause-greatest : goal.returns-clause-greatest
 returns-clause-greatest g c = λ all.
-    let reached = c.reached.ensures all in
+    let reached = c.reached.ensures.all all in
     narrowings_greatest c.args.self.now.constraints c.loop.counter c.args.self.now.domains c.loop.self.domains c.loop.invariant.3
     (subst (All AreDistinct) c.loop.invariant.0 reached.0)
     (subst (λ cs. All (IsFixed (set_at c.loop.self.domains)) cs) c.loop.invariant.0 reached.1)
+
+pub returns-clause-enough : goal.returns-clause-enough
+returns-clause-enough g c = λ w.
+    let so_far = c.loop.invariant.4 in
+    let n = c.loop-test.false in
+    let k = c.loop.invariant.2 in
+    let rest = total g.B.Width.whole c.loop.self.domains * (length c.loop.self.constraints + 1) in
+    let none : rest + c.loop.self.unsettled ≤ 0 = omega (arith, w, so_far, n, k) in
+    c.reached.ensures.exactly.1 (nothing_left rest c.loop.self.unsettled none)
+  where
+    nothing_left : (a b : ℕ) → a + b ≤ 0 → b ≡ 0
+    nothing_left a b h = omega arith

@@ -1,4 +1,4 @@
-use Rattle.std.proofs.Common.{◌-◌, ◌<◌, ◌≤◌, ◌∙◌, arith, get_or, inr, length, subst}
+use Rattle.std.proofs.Common.{◌-◌, ◌<◌, ◌∙◌, arith, get_or, inr, length, subst}
 use Rattle.std.proofs.lemmas.List.{get_or_default}
 use Rattle.ivl_store.specs.Trail.{KeepsAt}
 use Rattle.ivl_store.proofs.network.trail.is_kept.Goals as goal

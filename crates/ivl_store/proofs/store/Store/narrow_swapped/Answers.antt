@@ -22,7 +22,7 @@ returns-clause-lost g c =
     rw e (lost_after g.B.Width.whole k old _ _ _ _ c.requires left c.is_some.ensures c.is_some-2.ensures c.is_some-3.ensures)
 
 pub returns-clause-range : goal.returns-clause-range
-returns-clause-range g c = subst (All (IsRunListIn g.B.Width.whole)) c.self.view_is c.self.invariant
+returns-clause-range g c = subst (All (IsRunListIn g.B.Width.whole)) c.self.view_is c.self.invariant.0
 
 pub returns-clause-same : goal.returns-clause-same
 returns-clause-same g c = λ none.

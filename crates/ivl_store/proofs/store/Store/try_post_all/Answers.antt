@@ -2,7 +2,6 @@ use Rattle.std.proofs.Common.{◌≡◌, ℕ, ◌↔◌, Option, Some, None, Res
 use Rattle.std.specs.Result.{IsErrAnd}
 use Rattle.ivl_store.specs.declared.store.constraint.StoreFault.{StoreFault}
 use Rattle.ivl_store.specs.declared.store.constraint.StoreFault.TheVariants.{Variable, Memory}
-use Rattle.ivl_store.specs.Posts.{first_unknown_post}
 use Rattle.ivl_store.proofs.store.Store.try_post_all.Goals as goal
 
 -- a fault that is passed on is the one that was told

@@ -15,5 +15,5 @@ returns-clause-present c =
     let name = c.args.name.now in
     let names = map string_bytes c.self.inside.names.keys in
     let named : c.get_index_of.result ≡ variable_named names name = c.get_index_of.ensures.index ∙ found c.self.inside.names.keys name in
-    let below = index_of-below names name c.get_index_of.result (length c.self.inside.network.domains) named (length-map c.self.inside.names.keys string_bytes ∙ c.self.invariant.one_each) in
+    let below = index_of-below names name c.get_index_of.result (length c.self.inside.network.domains) named (length-map c.self.inside.names.keys string_bytes ∙ c.self.invariant) in
     subst (λ (s : State). IfSome c.get_index_of.result (λ i. i < length s.domains)) c.self.view_is below

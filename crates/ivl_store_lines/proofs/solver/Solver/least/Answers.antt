@@ -1,5 +1,7 @@
+use Rattle.std.proofs.Common.{◌∙◌, sym}
+use Rattle.std.proofs.lemmas.Bool.{true≢false}
 use Rattle.ivl_search.specs.Points.{IsLeastAt}
-use Rattle.ivl_store_lines.proofs.Points.{best_told}
+use Rattle.ivl_store_lines.proofs.Points.{best_none, best_told}
 use Rattle.ivl_store_lines.proofs.solver.Solver.least.Goals as goal
 
 pub returns-in-Ok-clause-best : goal.returns-in-Ok-clause-best
@@ -8,4 +10,9 @@ returns-in-Ok-clause-best c =
     best_told IsLeastAt (λ point. point.items) c.args.name.now c.args.self.now c.in_ok-variable.variable c.constraints.result.now c.domains.result.now
     best.point c.ended.result.point best.end c.ended.result.end
     c.in_ok-variable.ensures.ok c.constraints.ensures.same c.domains.ensures c.in-Ok.ensures.sound c.in-Ok.ensures.best c.in-Ok.ensures.none
-    c.ended.ensures.point c.ended.ensures.all c.ended.ensures.searched
+    c.ended.ensures.point c.ended.ensures.all c.ended.ensures.searched (λ e. true≢false (sym (c.has_empty.ensures.1 e) ∙ c.if-has_empty.false))
+
+pub returns-then-has_empty-clause-best : goal.returns-then-has_empty-clause-best
+returns-then-has_empty-clause-best c =
+    best_none IsLeastAt (λ point. point.items) c.args.name.now c.args.self.now c.in_ok-variable.variable c.none.result.point c.none.result.end
+    c.in_ok-variable.ensures.ok (c.has_empty.ensures.0 c.if-has_empty.true) c.none.ensures.none c.none.ensures.all

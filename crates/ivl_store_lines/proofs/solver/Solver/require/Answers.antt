@@ -4,10 +4,7 @@ use Rattle.ivl_store_lines.specs.Solving.{State}
 use Rattle.ivl_store_lines.proofs.solver.Solver.require.Goals as goal
 
 pub invariant_of-self-2 : goal.invariant_of-self-2
-invariant_of-self-2 c = record {
-  one_each = c.self.invariant.one_each ∙ sym c.in_ok-progress.ensures.kept_count;
-  emptiness = c.has_empty-self-inside.ensures.empty;
-}
+invariant_of-self-2 c = c.self.invariant ∙ sym c.in_ok-progress.ensures.kept_count
 
 pub returns-clause-required : goal.returns-clause-required
 returns-clause-required c = subst (λ (s : State). IsRequired c.args.sum s.constraints c.require_whole.new.network.constraints) c.self.view_is c.in_ok-progress.ensures.required

@@ -2,7 +2,4 @@ use Rattle.std.proofs.Common.{◌∙◌, sym}
 use Rattle.ivl_store_lines.proofs.solver.Solver.restrict.Goals as goal
 
 pub invariant_of-self-2 : goal.invariant_of-self-2
-invariant_of-self-2 c = record {
-  one_each = c.self.invariant.one_each ∙ sym c.in_ok-progress.ensures.kept_count;
-  emptiness = c.has_empty-self-inside.ensures.empty;
-}
+invariant_of-self-2 c = c.self.invariant ∙ sym c.in_ok-progress.ensures.kept_count

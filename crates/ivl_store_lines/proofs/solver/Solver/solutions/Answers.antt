@@ -1,5 +1,8 @@
-use Rattle.std.proofs.Common.{subst, map}
+use Rattle.std.proofs.Common.{◌∙◌, map, subst, sym}
+use Rattle.std.proofs.lemmas.Bool.{true≢false}
 use Rattle.ivl_search.specs.Points.{Finds, Solves}
+use Rattle.ivl_store_lines.specs.Solving.{domain_range}
+use Rattle.ivl_store_lines.proofs.Nothing.{finds_none, not_used_up}
 use Rattle.ivl_store_lines.proofs.Points.{finds_plain}
 use Rattle.ivl_store_lines.proofs.solver.Solver.solutions.Goals as goal
 
@@ -10,3 +13,15 @@ returns-in-Ok-clause-finds c =
     subst (λ domains. Finds (Solves c.args.self.now.constraints domains) points found.end) c.domains.ensures
     (subst (λ constraints. Finds (Solves constraints c.domains.result.now) points found.end) c.constraints.ensures.same
     (finds_plain (λ point. point.items) found.points.items (Solves c.constraints.result.now c.domains.result.now) found.end c.in-Ok.ensures.sound c.in-Ok.ensures.once c.in-Ok.ensures.complete))
+
+pub returns-in-Ok-clause-enough : goal.returns-in-Ok-clause-enough
+returns-in-Ok-clause-enough c =
+    not_used_up domain_range c.args.self.now c.constraints.result.now c.domains.result.now c.limits-limits.result.nodes c.in-Ok.found.end
+    c.constraints.ensures.same c.domains.ensures c.limits-limits.ensures.nodes c.in-Ok.ensures.enough
+
+pub returns-then-has_empty-clause-finds : goal.returns-then-has_empty-clause-finds
+returns-then-has_empty-clause-finds c =
+    rw c.new.ensures.items (finds_none c.args.self.now.constraints c.args.self.now.domains (c.has_empty.ensures.0 c.if-has_empty.true))
+
+pub returns-in-Ok-clause-known : goal.returns-in-Ok-clause-known
+returns-in-Ok-clause-known c = λ e. absurd (true≢false (sym (c.has_empty.ensures.1 e) ∙ c.if-has_empty.false))

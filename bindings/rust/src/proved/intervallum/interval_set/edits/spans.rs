@@ -1,3 +1,4 @@
+// Written by bindings/rust/extract from crates/intervallum/src/interval_set/edits/spans.rt.
 //! Which runs of a set an edit changes.
 
 #[allow(unused_imports)]

@@ -1,3 +1,4 @@
+// Written by bindings/rust/extract from crates/intervallum/src/interval_set/edits/splices.rt.
 //! Runs put in the place of others, in a vector of runs.
 
 #[allow(unused_imports)]

@@ -1,0 +1,65 @@
+// Written by bindings/rust/extract from crates/ivl_calendar/src/calendar.rt.
+//! Rooms by name.
+
+#[allow(unused_imports)]
+use crate::rattle::prelude::*;
+use crate::proved::ivl_calendar::rooms::{Room, free_in_all};
+use crate::proved::intervallum::interval::Interval;
+use crate::proved::intervallum::interval_set::IntervalSet;
+use crate::rattle::std::alloc::{AllocError, Global};
+use crate::rattle::std::collections::BTreeMap;
+
+/// Rooms by name. A contract sees the list of the names, each with the runs of the days on which the
+/// room is busy.
+pub struct Calendar {
+    alloc: Global,
+    rooms: BTreeMap<String, Room>,
+}
+
+impl Calendar {
+    /// Returns a calendar without rooms. Does not allocate.
+    pub fn new(alloc: Global) -> Calendar {
+        Calendar {
+            alloc,
+            rooms: BTreeMap::new(alloc),
+        }
+    }
+
+    /// Returns the room with this name, or `None` if there is no such room. `O(log n)` of `n` rooms.
+    pub fn room(&self, name: &str) -> Option<&Room> {
+        self.rooms.get(name)
+    }
+
+    /// Adds a room that is free on all days. The caller must ensure that no room has this name. Check
+    /// with `room`. `O(log n)` of `n` rooms.
+    ///
+    /// # Errors
+    ///
+    /// Fails only if allocation fails. Nothing is added after an error.
+    pub fn add(&mut self, name: &str) -> Result<(), AllocError> {
+        let key = String::from_str(self.alloc, name)?;
+        self.rooms.insert(key, Room::new(self.alloc))?;
+        Ok(())
+    }
+
+    /// Books a room if it is free on all of these days, and returns whether it was, or `None` if there
+    /// is no such room.
+    ///
+    /// # Errors
+    ///
+    /// Fails only if allocation fails. Nothing is booked after an error.
+    pub fn book(&mut self, name: &str, days: Interval<i32>) -> Result<Option<bool>, AllocError> {
+        let Some(room) = self.rooms.get_mut(name) else {
+            return Ok(None);
+        };
+        match room.book(days) {
+            Ok(done) => Ok(Some(done)),
+            Err(error) => Err(error),
+        }
+    }
+
+    /// Returns the days of a window on which all rooms are free. Fails only if allocation fails.
+    pub fn free_within(&self, window: Interval<i32>) -> Result<IntervalSet<i32>, AllocError> {
+        free_in_all(self.alloc, &self.rooms, window)
+    }
+}

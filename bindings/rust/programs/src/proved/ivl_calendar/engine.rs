@@ -1,0 +1,120 @@
+// Written by bindings/rust/extract from crates/ivl_calendar/src/engine.rt.
+//! What answers the lines of a session.
+
+#[allow(unused_imports)]
+use crate::rattle::prelude::*;
+use crate::proved::ivl_calendar::calendar::Calendar;
+use crate::proved::ivl_calendar::replies::{write_line, write_spans};
+use crate::proved::ivl_calendar::requests::{booking_from, gap_from, window_from};
+use crate::proved::ivl_lines::{AnswersCommands, SessionFault, one_word, serve};
+use crate::rattle::std::alloc::Global;
+use crate::rattle::std::io;
+use crate::rattle::std::io::{Read, Write};
+
+const ROOM: &str = "error: write room NAME, with a new name";
+
+const BOOK: &str =
+    "error: write book NAME FIRST LAST, with a known room and dates in order, such as 2026-03-01";
+
+const GAP: &str =
+    "error: write gap NAME DAYS FIRST LAST, with a known room, 1 to 4294967295 days and dates in order";
+
+const FREE: &str = "error: write free FIRST LAST, with dates in order, such as 2026-03-01";
+
+const OTHER: &str = "error: write room, book, gap or free";
+
+const MEMORY: &str = "error: out of memory";
+
+impl AnswersCommands for Calendar {
+    fn command_may_take_long(&self, name: &str) -> bool {
+        name == "free"
+    }
+
+    fn answer_command<W: Write>(
+        &mut self,
+        name: &str,
+        words: &str,
+        writer: &mut W,
+    ) -> io::Result<()> {
+        match name {
+            "room" => answer_room(self, words, writer),
+            "book" => answer_book(self, words, writer),
+            "gap" => answer_gap(self, words, writer),
+            "free" => answer_free(self, words, writer),
+            _ => write_line(writer, OTHER),
+        }
+    }
+}
+
+/// Answers each line of the input, over a calendar that has no rooms at first. What is written is
+/// flushed before each read, before a line that asks for the free days of all rooms, and at the end.
+///
+/// # Errors
+///
+/// `Read` if a read failed, or the reader still returned bytes after 2^64 - 1 reads; an interrupted
+/// read is repeated. `Write` if a write or a flush failed. `Memory` if there is no memory to begin:
+/// nothing is then read or written. A line that runs out of memory when it is read or carried out is
+/// answered with that, and the session continues.
+///
+/// ```text
+/// let mut input: &[u8] = b"room blue\nbook blue 2026-03-01 2026-03-04\nfree 2026-03-01 2026-03-07";
+/// let mut written = Vec::new(alloc);
+/// assert_eq!(rt; session(alloc, &mut input, &mut written), Ok(()));
+/// assert_eq!(rt; written.as_slice(), b"ok\nbooked\n2026-03-05 to 2026-03-07\n".as_slice());
+/// ```
+pub fn session<R: Read, W: Write>(
+    alloc: Global,
+    reader: &mut R,
+    writer: &mut W,
+) -> Result<(), SessionFault> {
+    serve(alloc, &mut Calendar::new(alloc), reader, writer)
+}
+
+fn answer_room<W: Write>(calendar: &mut Calendar, words: &str, writer: &mut W) -> io::Result<()> {
+    let Some(name) = one_word(words) else {
+        return write_line(writer, ROOM);
+    };
+    if calendar.room(name).is_some() {
+        return write_line(writer, ROOM);
+    }
+    match calendar.add(name) {
+        Ok(()) => write_line(writer, "ok"),
+        Err(_) => write_line(writer, MEMORY),
+    }
+}
+
+fn answer_book<W: Write>(calendar: &mut Calendar, words: &str, writer: &mut W) -> io::Result<()> {
+    let Some(asked) = booking_from(words) else {
+        return write_line(writer, BOOK);
+    };
+    match calendar.book(asked.name, asked.days) {
+        Ok(Some(true)) => write_line(writer, "booked"),
+        Ok(Some(false)) => write_line(writer, "taken"),
+        Ok(None) => write_line(writer, BOOK),
+        Err(_) => write_line(writer, MEMORY),
+    }
+}
+
+fn answer_gap<W: Write>(calendar: &mut Calendar, words: &str, writer: &mut W) -> io::Result<()> {
+    let Some(asked) = gap_from(words) else {
+        return write_line(writer, GAP);
+    };
+    let Some(room) = calendar.room(asked.name) else {
+        return write_line(writer, GAP);
+    };
+    match room.first_gap(asked.window, asked.count) {
+        Ok(Some(run)) => write_spans(writer, &[run]),
+        Ok(None) => write_line(writer, "none"),
+        Err(_) => write_line(writer, MEMORY),
+    }
+}
+
+fn answer_free<W: Write>(calendar: &mut Calendar, words: &str, writer: &mut W) -> io::Result<()> {
+    let Some(window) = window_from(words) else {
+        return write_line(writer, FREE);
+    };
+    match calendar.free_within(window) {
+        Ok(free) => write_spans(writer, free.runs()),
+        Err(_) => write_line(writer, MEMORY),
+    }
+}

@@ -1,0 +1,142 @@
+// Written by bindings/rust/extract from crates/ivl_store_lines/src/engine.rt.
+//! What answers the lines of a session of the store.
+
+#[allow(unused_imports)]
+use crate::rattle::prelude::*;
+use crate::proved::ivl_store_lines::fault::Fault;
+use crate::proved::ivl_store_lines::progress::Progress;
+use crate::proved::ivl_store_lines::replies::{
+    write_best, write_count, write_fault, write_shown, write_solutions, write_state, write_variable,
+};
+use crate::proved::ivl_store_lines::request::{Request, request_from};
+use crate::proved::ivl_store_lines::solver::Solver;
+use crate::proved::ivl_lines::{Answers, SessionFault, first_word, line_text, next_word, serve};
+use crate::rattle::std::alloc::Global;
+use crate::rattle::std::collections::hash_map::RandomState;
+use crate::rattle::std::io;
+use crate::rattle::std::io::{Read, Write};
+
+impl Answers for Solver {
+    fn may_take_long(&self, line: &[u8]) -> bool {
+        match first_word(line) {
+            "cut" | "sum" | "go" | "solve" | "count" | "min" | "max" => true,
+            _ => false,
+        }
+    }
+
+    fn answer<W: Write>(&mut self, line: &[u8], writer: &mut W) -> io::Result<()> {
+        answer_line(self, line, writer)
+    }
+
+    fn answer_to_lost(&self) -> &'static [u8] {
+        b"error: out of memory\n"
+    }
+}
+
+/// Answers each line of the input, over a solver that has no variables at first and looks names up
+/// by hashes with these keys. What is written is flushed before each read, before each line that
+/// narrows domains or searches, and at the end.
+///
+/// # Errors
+///
+/// `Read` if a read failed, or the reader still returned bytes after 2^64 - 1 reads; an interrupted
+/// read is repeated. `Write` if a write or a flush failed. `Memory` if there is no memory to begin:
+/// nothing is then read or written. A line that runs out of memory when it is read or carried out is
+/// answered with that, and the session continues.
+///
+/// ```
+/// use intervallum_programs::proved::examples::*;
+/// use intervallum_programs::proved::ivl_store_lines::*;
+///
+/// fn main() -> Result<(), std::boxed::Box<dyn std::error::Error>> {
+///     let alloc = Global;
+///     let mut input: &[u8] = b"var x 1 9\ncut x 2 5\nshow";
+///     let mut written = Vec::new(alloc);
+///     assert_eq!(session(alloc, RandomState::new(&rt)?, &mut input, &mut written), Ok(()));
+///     assert_eq!(written.as_slice(), b"ok\nok\nx [2..5]\nok\n".as_slice());
+///     Ok(())
+/// }
+/// ```
+pub fn session<R: Read, W: Write>(
+    alloc: Global,
+    keys: RandomState,
+    reader: &mut R,
+    writer: &mut W,
+) -> Result<(), SessionFault> {
+    serve(alloc, &mut Solver::new(alloc, keys), reader, writer)
+}
+
+// Answers one line. A line without words has no answer.
+fn answer_line<W: Write>(solver: &mut Solver, line: &[u8], writer: &mut W) -> io::Result<()> {
+    match line_text(line) {
+        Some(text) => answer_text(solver, text, writer),
+        None => write_fault(writer, &Fault::Bytes),
+    }
+}
+
+fn answer_text<W: Write>(solver: &mut Solver, text: &str, writer: &mut W) -> io::Result<()> {
+    let Some((name, words)) = next_word(text) else {
+        return Ok(());
+    };
+    match request_from(solver.allocator(), name, words) {
+        Ok(request) => answer_request(solver, request, writer),
+        Err(fault) => write_fault(writer, &fault),
+    }
+}
+
+// Carries out what a line asks for, and writes the answer to it.
+fn answer_request<W: Write>(
+    solver: &mut Solver,
+    request: Request<'_>,
+    writer: &mut W,
+) -> io::Result<()> {
+    match request {
+        Request::Show(None) => write_shown(writer, solver),
+        Request::Show(Some(name)) => write_variable(writer, solver, name),
+        Request::Solve(most) => answer_solve(solver, most, writer),
+        Request::Count => answer_count(solver, writer),
+        Request::Least(name) => answer_least(solver, name, writer),
+        Request::Greatest(name) => answer_greatest(solver, name, writer),
+        change => answer_change(solver, change, writer),
+    }
+}
+
+fn answer_change<W: Write>(
+    solver: &mut Solver,
+    request: Request<'_>,
+    writer: &mut W,
+) -> io::Result<()> {
+    match solver.carry_out(request) {
+        Ok(()) => write_state(writer, solver),
+        Err(fault) => write_fault(writer, &fault),
+    }
+}
+
+// Searches for solutions, and then writes what was found. Nothing is written before the search ends.
+fn answer_solve<W: Write>(solver: &Solver, most: u64, writer: &mut W) -> io::Result<()> {
+    match solver.solutions(most) {
+        Ok(found) => write_solutions(writer, solver.names(), &found),
+        Err(_) => write_fault(writer, &Fault::Memory),
+    }
+}
+
+fn answer_count<W: Write>(solver: &Solver, writer: &mut W) -> io::Result<()> {
+    match solver.count() {
+        Ok((found, end)) => write_count(writer, found, end),
+        Err(_) => write_fault(writer, &Fault::Memory),
+    }
+}
+
+fn answer_least<W: Write>(solver: &Solver, name: &str, writer: &mut W) -> io::Result<()> {
+    match solver.least(name) {
+        Ok(best) => write_best(writer, solver.names(), &best),
+        Err(fault) => write_fault(writer, &fault),
+    }
+}
+
+fn answer_greatest<W: Write>(solver: &Solver, name: &str, writer: &mut W) -> io::Result<()> {
+    match solver.greatest(name) {
+        Ok(best) => write_best(writer, solver.names(), &best),
+        Err(fault) => write_fault(writer, &fault),
+    }
+}

@@ -1,0 +1,34 @@
+// Written by bindings/rust/extract from crates/ivl_store_lines/src/fault.rt.
+//! Why a line is not carried out.
+
+#[allow(unused_imports)]
+use crate::rattle::prelude::*;
+use crate::rattle::std::alloc::AllocError;
+
+/// Why a line is not carried out. The texts are words of the line, except that of `Form`.
+pub enum Fault<'a> {
+    /// The line is not UTF-8.
+    Bytes,
+    /// The first word is not a command.
+    Command(&'a str),
+    /// The words after the command do not have its form, which is this.
+    Form(&'static str),
+    /// The word is not a number of `i64`.
+    Number(&'a str),
+    /// A bound is outside the range, which is that of `i64` without its least number.
+    Range,
+    /// No variable has this name.
+    Unknown(&'a str),
+    /// A variable has this name already.
+    Defined(&'a str),
+    /// The variable is named twice in a sum.
+    Repeated(&'a str),
+    /// An allocation failed.
+    Memory,
+}
+
+impl<'a> From<AllocError> for Fault<'a> {
+    fn from(_: AllocError) -> Fault<'a> {
+        Fault::Memory
+    }
+}

@@ -1,0 +1,107 @@
+// Written by bindings/rust/extract from crates/ivl_store_lines/src/replies.rt.
+//! The text of an answer.
+
+#[allow(unused_imports)]
+use crate::rattle::prelude::*;
+
+mod points;
+
+use crate::proved::ivl_store_lines::fault::Fault;
+use crate::proved::ivl_store_lines::progress::Progress;
+use crate::proved::ivl_store_lines::solver::Solver;
+use crate::proved::intervallum::interval_set::IntervalSet;
+use crate::proved::ivl_lines::Escaped;
+pub use points::{write_best, write_count, write_solutions};
+use crate::rattle::std::io;
+use crate::rattle::std::io::Write;
+
+/// Writes `no solution` if a domain is empty, and else how far the domains are narrowed: `ok` if no
+/// constraint narrows them any further.
+pub fn write_state<W: Write>(writer: &mut W, solver: &Solver) -> io::Result<()> {
+    if solver.has_empty() {
+        writer.write_all(b"no solution\n")
+    } else {
+        write_progress(writer, solver.progress())
+    }
+}
+
+fn write_progress<W: Write>(writer: &mut W, progress: Progress) -> io::Result<()> {
+    match progress {
+        Progress::Complete => writer.write_all(b"ok\n"),
+        Progress::Budget => writer.write_all(b"unfinished\n"),
+    }
+}
+
+/// Writes the domain of each variable, one per line, and then what `write_state` writes.
+pub fn write_shown<W: Write>(writer: &mut W, solver: &Solver) -> io::Result<()> {
+    write_domains(writer, solver.names(), solver.domains())?;
+    write_state(writer, solver)
+}
+
+fn write_domains<W: Write>(
+    writer: &mut W,
+    names: &[String],
+    domains: &[IntervalSet<i64>],
+) -> io::Result<()> {
+    let (mut names, mut domains) = (names, domains);
+    while let Some((name, domain, other_names, other_domains)) = first_variable(names, domains) {
+        write_domain(writer, name, domain)?;
+        names = other_names;
+        domains = other_domains;
+    }
+    Ok(())
+}
+
+/// The name and the domain of the first variable, and those of the others.
+fn first_variable<'a>(
+    names: &'a [String],
+    domains: &'a [IntervalSet<i64>],
+) -> Option<
+    (
+        &'a str,
+        &'a IntervalSet<i64>,
+        &'a [String],
+        &'a [IntervalSet<i64>],
+    ),
+> {
+    let [name, other_names @ ..] = names else {
+        return None;
+    };
+    let [domain, other_domains @ ..] = domains else {
+        return None;
+    };
+    Some((name.as_str(), domain, other_names, other_domains))
+}
+
+fn write_domain<W: Write>(writer: &mut W, name: &str, domain: &IntervalSet<i64>) -> io::Result<()> {
+    domain.in_whole();
+    writeln!(writer, "{} {domain}", Escaped(name))
+}
+
+/// Writes the domain of the variable with this name, and then what `write_state` writes, or that no
+/// variable has the name.
+pub fn write_variable<W: Write>(writer: &mut W, solver: &Solver, name: &str) -> io::Result<()> {
+    match solver.domain_named(name) {
+        Ok(domain) => {
+            write_domain(writer, name, domain)?;
+            write_state(writer, solver)
+        }
+        Err(fault) => write_fault(writer, &fault),
+    }
+}
+
+/// Writes why a line was not carried out. Words of the line are printed with their control characters
+/// escaped.
+pub fn write_fault<W: Write>(writer: &mut W, fault: &Fault<'_>) -> io::Result<()> {
+    match fault {
+        Fault::Bytes => writeln!(writer, "error: not UTF-8"),
+        Fault::Command(word) => writeln!(writer, "error: unknown command {}", Escaped(word)),
+        Fault::Form(form) => writeln!(writer, "error: write {form}"),
+        Fault::Number(word) => writeln!(writer, "error: bad number {}", Escaped(word)),
+        Fault::Range => writeln!(writer, "error: out of range"),
+        Fault::Unknown(name) => writeln!(writer, "error: unknown variable {}", Escaped(name)),
+        Fault::Defined(name) => writeln!(writer, "error: {} is defined already", Escaped(name)),
+        Fault::Repeated(name) => writeln!(writer, "error: {} is named twice", Escaped(name)),
+        Fault::Memory => writeln!(writer, "error: out of memory"),
+    }
+}

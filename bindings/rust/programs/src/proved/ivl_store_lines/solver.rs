@@ -1,0 +1,200 @@
+// Written by bindings/rust/extract from crates/ivl_store_lines/src/solver.rt.
+//! The variables by name, their domains, and the sums that hold between them.
+
+#[allow(unused_imports)]
+use crate::rattle::prelude::*;
+use crate::proved::ivl_store_lines::fault::Fault;
+use crate::proved::ivl_store_lines::progress::Progress;
+use crate::proved::ivl_store_lines::request::Request;
+use crate::proved::ivl_store_lines::whole::{require_whole, restrict_whole, settle_whole};
+use indexmap::IndexSet;
+use crate::proved::intervallum::interval::Interval;
+use crate::proved::intervallum::interval_set::{IntervalSet, ToIntervalSet};
+use crate::proved::ivl_store::network::Network;
+use crate::proved::ivl_store::store::Constraint;
+use crate::rattle::std::alloc::{AllocError, Global};
+use crate::rattle::std::collections::hash_map::RandomState;
+
+/// The variables by name, their domains, and the sums that hold between them. A contract sees the
+/// three lists.
+pub struct Solver {
+    alloc: Global,
+    // With random keys, so that nobody can choose names that collide.
+    names: IndexSet<String, RandomState>,
+    network: Network<i64>,
+    limit: u64,
+    progress: Progress,
+}
+
+impl Solver {
+    /// Creates a solver without variables, with a limit of a million. Looks names up by hashes with
+    /// these keys. Does not allocate.
+    pub fn new(alloc: Global, keys: RandomState) -> Solver {
+        Solver {
+            alloc,
+            names: IndexSet::with_hasher(alloc, keys),
+            network: Network::new(alloc),
+            limit: 1_000_000,
+            progress: Progress::Complete,
+        }
+    }
+
+    /// Returns the allocator.
+    pub fn allocator(&self) -> Global {
+        self.alloc
+    }
+
+    /// Carries out what a line asks for. A fault changes nothing.
+    pub fn carry_out<'a>(&mut self, request: Request<'a>) -> Result<(), Fault<'a>> {
+        match request {
+            Request::Var(name, pairs) => self.define(name, &pairs),
+            Request::Cut(name, pairs) => self.cut(name, &pairs),
+            Request::Sum(x, y, z) => self.sum(x, y, z),
+            Request::Limit(limit) => {
+                self.limit = limit;
+                Ok(())
+            }
+            Request::GoOn => {
+                self.settle()?;
+                Ok(())
+            }
+            Request::Show(None) | Request::Solve(_) | Request::Count => Ok(()),
+            Request::Show(Some(name)) | Request::Least(name) | Request::Greatest(name) => {
+                self.known(name)?;
+                Ok(())
+            }
+        }
+    }
+
+    /// Returns the names, in the order in which they were defined.
+    pub fn names(&self) -> &[String] {
+        self.names.as_slice()
+    }
+
+    /// Returns the domains, in the order of the names.
+    pub fn domains(&self) -> &[IntervalSet<i64>] {
+        self.network.domains()
+    }
+
+    /// Returns the constraints, in the order in which they were first required.
+    pub fn constraints(&self) -> &[Constraint] {
+        self.network.constraints()
+    }
+
+    /// Returns the domain of the variable that has this name.
+    ///
+    /// # Errors
+    ///
+    /// `Unknown` if no variable has it.
+    pub fn domain_named<'a>(&self, name: &'a str) -> Result<&IntervalSet<i64>, Fault<'a>> {
+        let index = self.known(name)?;
+        Ok(&self.network.domains()[index])
+    }
+
+    /// Returns true exactly when some domain is empty. `O(1)`.
+    pub fn has_empty(&self) -> bool {
+        self.network.has_empty()
+    }
+
+    /// Returns what the narrowings of a line may count for. `O(1)`.
+    pub fn limit(&self) -> u64 {
+        self.limit
+    }
+
+    /// Returns how far the domains are narrowed. `O(1)`.
+    pub fn progress(&self) -> Progress {
+        self.progress
+    }
+
+    /// Adds a variable, whose domain is the union of the pairs.
+    fn define<'a>(&mut self, name: &'a str, pairs: &[(i64, i64)]) -> Result<(), Fault<'a>> {
+        if self.index_of(name).is_some() {
+            return Err(Fault::Defined(name));
+        }
+        let domain = set_of(self.alloc, pairs)?;
+        self.add(name, domain)?;
+        Ok(())
+    }
+
+    /// Adds a variable. If allocation fails, nothing changes.
+    fn add(&mut self, name: &str, domain: IntervalSet<i64>) -> Result<(), AllocError> {
+        let count = self.names.len();
+        self.names.insert(String::from_str(self.alloc, name)?)?;
+        match self.network.add_variable(domain) {
+            Ok(_) => Ok(()),
+            Err(error) => {
+                self.names.truncate(count);
+                Err(error)
+            }
+        }
+    }
+
+    /// Keeps the members of a domain that are in the union of the pairs.
+    fn cut<'a>(&mut self, name: &'a str, pairs: &[(i64, i64)]) -> Result<(), Fault<'a>> {
+        let variable = self.known(name)?;
+        let allowed = set_of(self.alloc, pairs)?;
+        self.restrict(variable, &allowed)?;
+        Ok(())
+    }
+
+    /// Requires that two variables add to a third.
+    fn sum<'a>(&mut self, x: &'a str, y: &'a str, z: &'a str) -> Result<(), Fault<'a>> {
+        let sum = Constraint {
+            x: self.known(x)?,
+            y: self.known(y)?,
+            z: self.known(z)?,
+        };
+        if !sum.distinct() {
+            return Err(Fault::Repeated(if sum.x == sum.y { x } else { z }));
+        }
+        self.require(sum)?;
+        Ok(())
+    }
+
+    /// Returns the variable of a name.
+    ///
+    /// # Errors
+    ///
+    /// `Unknown` if no variable has it.
+    pub fn known<'a>(&self, name: &'a str) -> Result<usize, Fault<'a>> {
+        self.index_of(name).ok_or(Fault::Unknown(name))
+    }
+
+    /// The index of the variable that has this name, and so of its domain.
+    fn index_of(&self, name: &str) -> Option<usize> {
+        self.names.get_index_of(name)
+    }
+
+    /// Cuts a domain, and narrows all. If allocation fails, nothing changes.
+    fn restrict(&mut self, variable: usize, allowed: &IntervalSet<i64>) -> Result<(), AllocError> {
+        let progress = restrict_whole(&mut self.network, variable, allowed, self.limit)?;
+        self.progress = progress;
+        Ok(())
+    }
+
+    /// Adds a constraint, and narrows the domains. If allocation fails, nothing changes.
+    fn require(&mut self, sum: Constraint) -> Result<(), AllocError> {
+        let progress = require_whole(&mut self.network, sum, self.limit)?;
+        self.progress = progress;
+        Ok(())
+    }
+
+    /// Narrows the domains by the constraints, within the limit. If allocation fails, nothing
+    /// changes.
+    fn settle(&mut self) -> Result<(), AllocError> {
+        let progress = settle_whole(&mut self.network, self.limit)?;
+        self.progress = progress;
+        Ok(())
+    }
+}
+
+/// The union of the pairs; a reversed pair adds nothing.
+fn set_of<'a>(alloc: Global, pairs: &[(i64, i64)]) -> Result<IntervalSet<i64>, Fault<'a>> {
+    if !pairs
+        .iter()
+        .all(|&(lower, upper)| Interval::in_range(lower, upper))
+    {
+        return Err(Fault::Range);
+    }
+    Ok(pairs.to_interval_set(alloc)?)
+}

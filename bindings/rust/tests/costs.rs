@@ -1,0 +1,120 @@
+//! What the docs say of memory and no contract can see, by counting: which calls do not allocate, what a set in pages holds,
+//! that room is kept, and that sums do not list all results.
+// lists of pairs are there only where `usize` has 64 bits, and counts of bytes are of that
+#![cfg(target_pointer_width = "64")]
+
+use intervallum::proved::Global;
+use intervallum::proved::ivl_buffers::comparisons::{Asking, ask};
+use intervallum::proved::ivl_buffers::run::{RunI64, RunU64};
+use intervallum::proved::ivl_buffers::set_calls::{OfOne, OfTwo, of_one, of_two};
+use intervallum::proved::ivl_buffers::{beside, lookup, reading, run_lists, sorted_lookup};
+use intervallum::proved::ivl_paged::PagedSet;
+use intervallum::proved::prelude::*;
+
+mod memory;
+use memory::{Watched, cost};
+
+#[global_allocator]
+static ALLOCATOR: Watched = Watched;
+
+const RUNS: usize = 10_000;
+
+/// Lists of runs, well above each constant in the code.
+fn lists() -> (Vec<RunI64>, Vec<RunI64>) {
+    let of = |from: i64| (0..RUNS as i64).map(|i| RunI64 { lower: from + 5 * i, upper: from + 5 * i + 2 }).collect();
+    (of(0), of(1))
+}
+
+#[test]
+fn calls_on_lists_do_not_allocate() {
+    let (a, b) = lists();
+    let mut out = vec![RunI64 { lower: 0, upper: 0 }; 2 * RUNS + 2];
+    let (mut found, mut run) = (0, a[0]);
+    let ((), told) = cost(|| {
+        for asking in [Asking::Within, Asking::Meets, Asking::Alike] {
+            assert!(ask(Global, asking, &a, &b) >= 0 && ask(Global, asking, &a, &a) == 1);
+        }
+        for (making, runs) in
+            [(OfTwo::Either, RUNS), (OfTwo::Both, RUNS), (OfTwo::FirstAlone, RUNS), (OfTwo::OneAlone, 2 * RUNS)]
+        {
+            assert_eq!(of_two(Global, making, &a, &b, &mut out), runs as i64);
+        }
+        assert_eq!(of_one(Global, OfOne::Rest, &a, &mut out), RUNS as i64 + 1);
+        assert!(reading::contains(&a, 49_997) && !reading::contains(&a, 49_998));
+        assert!(sorted_lookup::contains(&a, 49_997) && !sorted_lookup::contains(&a, 49_998));
+        assert!(lookup::next_from(&a, 49_993, &mut found) && found == 49_995);
+        assert!(sorted_lookup::next_from(&a, 49_993, &mut found) && found == 49_995);
+        assert!(beside::previous_to(&a, 49_994, &mut found) && found == 49_992);
+        assert!(beside::run_at(&a, 49_996, &mut run) && run.upper == a[RUNS - 1].upper);
+        assert!(run_lists::is_run_list(&a));
+    });
+    assert_eq!(told.allocations, 0);
+    // nothing is found, and lists that are empty
+    let none: [RunU64; 0] = [];
+    let ((), told) = cost(|| {
+        assert_eq!(ask(Global, Asking::Within, &none, &none), 1);
+        assert_eq!(of_two(Global, OfTwo::Either, &none, &none, &mut []), 0);
+        assert!(!lookup::next_from(&a, 50_000, &mut found) && !beside::previous_to(&a, -1, &mut found));
+    });
+    assert_eq!(told.allocations, 0);
+}
+
+/// A paged set of `count` runs that come in no order.
+fn paged(count: u64) -> PagedSet<u64> {
+    let mut set = PagedSet::new(Global);
+    for i in 0..count {
+        let _ = set.insert(2 * (i * 48_271 % 65_537)).unwrap();
+    }
+    set
+}
+
+#[test]
+fn pages_are_small_and_well_filled() {
+    let (set, told) = cost(|| paged(65_536));
+    let runs = set.interval_count() as isize;
+    assert!(runs > 65_000);
+    // an edit moves a page, and so no allocation but that of the list of pages has room for many runs
+    let list = 65_536 / 64 * 128;
+    assert!(told.largest <= list, "{told:?}");
+    // pages of one run each would hold some 100 bytes a run
+    assert!(told.held <= runs * 16 * 8 / 5, "{told:?}");
+}
+
+#[test]
+fn clear_keeps_room() {
+    let mut set = IntervalSet::<i64>::empty(Global);
+    let fill = |set: &mut IntervalSet<i64>| (0..1_000).for_each(|i| assert!(set.insert(3 * i).unwrap()));
+    fill(&mut set);
+    let ((), told) = cost(|| {
+        set.clear();
+        fill(&mut set);
+    });
+    assert_eq!((told.allocations, told.held), (0, 0));
+}
+
+#[test]
+fn a_set_copies_runs_and_nothing_more() {
+    let (a, _) = lists();
+    let set = reading::set_of(Global, &a).unwrap();
+    let (copy, told) = cost(|| set.try_clone().unwrap());
+    assert!(copy == set);
+    assert_eq!((told.allocations, told.held), (1, 16 * RUNS as isize));
+    let (_, told) =
+        cost(|| (set.contains(&7), set.first_fit(3), set.size(), set.rank(9_000), set.is_subset(&copy), set == copy));
+    assert_eq!(told.allocations, 0);
+    let (_, told) = cost(|| (set.intersection_size(&copy), set.union_size(&copy), set.difference_size(&copy)));
+    assert_eq!(told.allocations, 0);
+}
+
+#[test]
+fn sums_of_dense_sets_list_few_results() {
+    let of = |step: i64| -> IntervalSet<i64> {
+        let pairs: Vec<(i64, i64)> = (0..1_000).map(|i| (step * i, step * i + step / 2)).collect();
+        pairs.as_slice().to_interval_set(Global).unwrap()
+    };
+    let (a, b) = (of(4), of(6));
+    let (sums, told) = cost(|| (&a + &b).unwrap());
+    assert_eq!(sums.interval_count(), 1);
+    // all million results would take 16 MB
+    assert!(told.most < 1 << 20, "{told:?}");
+}

@@ -1,0 +1,188 @@
+//! Each request for memory of the calls above sets is refused in turn: searches, networks, sums of many pairs of runs. The call
+//! tells it and leaves what it was given, or answers as with ample memory.
+use intervallum::proved::Global;
+use intervallum::proved::ivl_search::search::{Best, End, Limits, SearchFault, count, greatest, least, solutions};
+use intervallum::proved::ivl_store::network::{Network, Settled};
+use intervallum::proved::ivl_store::store::{Constraint, StoreFault};
+use intervallum::proved::prelude::*;
+
+mod memory;
+use memory::{Watched, refusing};
+
+#[global_allocator]
+static ALLOCATOR: Watched = Watched;
+
+type Set = IntervalSet<i64>;
+
+/// Refuses each request of a call in turn, over what `make` gives anew, until it makes no more; `is_right` looks at the answer and
+/// at what is left of the operand. Returns how many were refused, and how often that was told.
+fn each_refused<S, T>(
+    make: impl Fn() -> S,
+    call: impl Fn(&mut S) -> T,
+    is_right: impl Fn(&S, T, bool) -> bool,
+) -> (usize, usize) {
+    let (mut refused, mut told) = (0, 0);
+    for number in 0.. {
+        let mut given = make();
+        let (made, is_refused) = refusing(number, || call(&mut given));
+        let is_answer = is_right(&given, made, is_refused);
+        if !is_refused {
+            assert!(is_answer);
+            break;
+        }
+        refused += 1;
+        told += usize::from(!is_answer);
+    }
+    (refused, told)
+}
+
+/// Six variables from 0 to 5, whose sums have many solutions.
+fn domains() -> Vec<Set> {
+    (0..6).map(|_| Set::new(Global, 0, 5).unwrap()).collect()
+}
+
+const SUMS: [Constraint; 3] =
+    [Constraint { x: 0, y: 1, z: 2 }, Constraint { x: 2, y: 3, z: 4 }, Constraint { x: 1, y: 3, z: 5 }];
+const AMPLE: Limits = Limits { solutions: 1_000, nodes: 100_000 };
+
+/// Whether an answer is that of ample memory; a search that finds none tells it.
+fn is_answer<T>(made: Result<T, SearchFault>, wanted: impl Fn(T) -> bool) -> bool {
+    match made {
+        Ok(made) => {
+            assert!(wanted(made));
+            true
+        }
+        Err(fault) => {
+            assert_eq!(fault, SearchFault::Memory);
+            false
+        }
+    }
+}
+
+#[test]
+fn searches() {
+    let all = solutions(Global, &domains(), &SUMS, AMPLE).unwrap();
+    let number = all.points.len();
+    assert!(all.end == End::All && number > 20);
+    let (refused, told) = each_refused(
+        domains,
+        |domains| solutions(Global, domains, &SUMS, AMPLE),
+        |_, made, _| is_answer(made, |found| found.end == End::All && found.points == all.points),
+    );
+    assert!(refused > 100 && told > 100);
+    let (refused, told) = each_refused(
+        domains,
+        |domains| count(Global, domains, &SUMS, AMPLE),
+        |_, made, _| is_answer(made, |found| found == (number, End::All)),
+    );
+    assert!(refused > 100 && told > 100);
+    let at_end = |best: Best<i64>, value| best.end == End::All && best.point.is_some_and(|point| point[4] == value);
+    let (refused, told) = each_refused(
+        domains,
+        |domains| least(Global, domains, &SUMS, 4, AMPLE),
+        |_, made, _| is_answer(made, |best| at_end(best, 0)),
+    );
+    assert!(refused > 10 && told > 10);
+    let (refused, told) = each_refused(
+        domains,
+        |domains| greatest(Global, domains, &SUMS, 4, AMPLE),
+        |_, made, _| is_answer(made, |best| at_end(best, 5)),
+    );
+    assert!(refused > 10 && told > 10);
+}
+
+/// A network over domains with gaps, which has room for four constraints and has them, with a mark before the last.
+fn network() -> Network<i64> {
+    let mut network = Network::new(Global);
+    for start in 0..6 {
+        let domain = [(start, start + 1), (start + 3, start + 5), (20 + start, 24)].to_interval_set(Global);
+        network.add_variable(domain.unwrap()).unwrap();
+    }
+    for constraint in [SUMS[0], Constraint { x: 1, y: 0, z: 2 }, Constraint { x: 3, y: 1, z: 5 }] {
+        network.require(constraint).unwrap();
+    }
+    assert_eq!(network.settle(1_000).unwrap(), Settled::All);
+    network.mark().unwrap();
+    network.require(SUMS[1]).unwrap();
+    network
+}
+
+/// The domains and constraints of a network.
+fn seen(network: &Network<i64>) -> (Vec<Set>, Vec<Constraint>) {
+    (network.domains().iter().map(|domain| domain.try_clone().unwrap()).collect(), network.constraints().to_vec())
+}
+
+#[test]
+fn edits_of_a_network() {
+    let before = seen(&network());
+    let unless_told = |network: &Network<i64>, made: Result<bool, StoreFault>| match made {
+        Ok(is_right) => {
+            assert!(is_right);
+            true
+        }
+        Err(fault) => {
+            assert!(fault == StoreFault::Memory && seen(network) == before);
+            false
+        }
+    };
+    type Edit = fn(&mut Network<i64>) -> Result<bool, StoreFault>;
+    let edits: [(&str, Edit); 3] = [
+        ("require", |network| network.require(SUMS[2]).map(|()| network.constraints().len() == 5)),
+        ("restrict", |network| {
+            let odd = [(1, 1), (3, 3), (5, 5)].to_interval_set(Global).map_err(|_| StoreFault::Memory)?;
+            network.restrict(0, &odd).map(|()| network.domains()[0].is_subset(&odd))
+        }),
+        ("add_variable", |network| {
+            let domain = Set::new(Global, 7, 9).map_err(|_| StoreFault::Memory)?;
+            network.add_variable(domain).map(|place| place == 6).map_err(|_| StoreFault::Memory)
+        }),
+    ];
+    for (name, edit) in edits {
+        let (refused, told) = each_refused(network, edit, |network, made, _| unless_told(network, made));
+        assert!(refused > 0 && told > 0, "{name}: {refused}, {told}");
+    }
+}
+
+#[test]
+fn a_network_that_settles_can_be_taken_back_and_goes_on() {
+    let mut whole = network();
+    assert_eq!(whole.settle(1_000).unwrap(), Settled::All);
+    let after = seen(&whole);
+    let (refused, told) = each_refused(
+        network,
+        |network| network.settle(1_000),
+        |network, made, _| {
+            let mut again = network.domains().iter().zip(&after.0);
+            // what was narrowed so far stays, and lost nothing
+            assert!(again.all(|(domain, end)| end.is_subset(domain)));
+            made.is_ok_and(|settled| settled == Settled::All && seen(network) == after)
+        },
+    );
+    assert!(refused > 3 && told > 3, "{refused}, {told}");
+    let mut back = network();
+    assert!(refusing(1, || back.settle(1_000)).0.is_err());
+    assert_eq!(back.settle(1_000).unwrap(), Settled::All);
+    assert!(seen(&back) == after && back.undo_to(0) && back.constraints().len() == 3);
+}
+
+#[test]
+fn sums_of_many_pairs_of_runs() {
+    let of = |step: i64| -> Set {
+        let pairs: Vec<(i64, i64)> = (0..20).map(|i| (step * i, step * i + step / 2)).collect();
+        pairs.as_slice().to_interval_set(Global).unwrap()
+    };
+    type Call = fn(&Set, &Set) -> Result<Set, intervallum::proved::AllocError>;
+    let calls: [(&str, Call); 3] = [("+", |a, b| a + b), ("-", |a, b| a - b), ("*", |a, b| a * b)];
+    for (name, call) in calls {
+        let wanted = call(&of(4), &of(6)).unwrap();
+        let (refused, told) = each_refused(
+            || (of(4), of(6)),
+            |(a, b)| call(a, b),
+            |(a, b), made, _| {
+                assert!(*a == of(4) && *b == of(6));
+                made.is_ok_and(|set| set == wanted)
+            },
+        );
+        assert!(refused > 3 && told > 3, "{name}: {refused}, {told}");
+    }
+}

@@ -1,0 +1,119 @@
+use Rattle.std.proofs.Common.{◌≡◌, ◌↔◌, ◌∙◌, ◌∷◌, ◌+◌, ◌<◌, ◌≤◌, Bool, List, ap, arith, [], length, refl, rules, set, subst, sym, true, ℕ}
+use Rattle.std.proofs.lemmas.List.{get_or_default}
+use Rattle.std.specs.Prelude.{ℤ, All, Contains}
+use Rattle.ivl_laws.specs.Families.{set_at}
+use Rattle.ivl_store.specs.declared.store.constraint.Constraint.{Constraint}
+use Rattle.ivl_store.specs.Costs.{AreCounted, cost_of}
+use Rattle.ivl_store.specs.Narrowing.{AllPresent, IsFixed, Narrowed}
+use Rattle.ivl_store.specs.Network.{AreNarrowings, IsSoundNetwork, NetworkState, unmarked_count, work}
+use Rattle.ivl_store.specs.Settled.{AreLost, AreSettled, any_lost}
+use Rattle.ivl_store.specs.Solutions.{AreDistinct}
+use Rattle.ivl_store.proofs.Costs.{counted_one}
+use Rattle.ivl_store.proofs.Indexes.{index_of_count}
+use Rattle.ivl_store.proofs.Kept.{same_at_marks}
+use Rattle.ivl_store.proofs.Logging.{logged_marks, logged_trail, state_is}
+use Rattle.ivl_store.proofs.Narrowings.{all_fixed, one_narrowing, sound_moved}
+use Rattle.ivl_store.proofs.Totals.{total_falls}
+use Rattle.ivl_store.proofs.Work.{work_less}
+use Rattle.ivl_store.proofs.network.Network.narrow_within.Goals as goal
+
+pub returns-clause-narrowed : goal.returns-clause-narrowed
+returns-clause-narrowed g c = λ _ _.
+    let cs = c.self.inside.constraints.items in
+    let lt : c.in-Some.i < length cs = (let a = c.in-Some.ensures.first.0 in let b = c.self.invariant.0.settled.one_each in omega (arith, a, b)) in
+    let at = λ (d : Constraint). get_or_default cs c.in-Some.i d c.index.result.now lt ∙ sym c.index.ensures in
+    let first : Constraint = record { x = 0; y = 0; z = 0 } in
+    subst (λ (s : NetworkState). AreNarrowings s.constraints 1 (set_at s.domains) (set_at c.narrow_swapped.new.self)) c.self.view_is
+    (one_narrowing cs c.in-Some.i first (set_at c.self.inside.store) (set_at c.narrow_swapped.new.self) lt
+    (subst (λ k. (j : ℕ) (v : ℤ) → set_at c.narrow_swapped.new.self j v ↔ Narrowed k (set_at c.self.inside.store) j v) (sym (at first)) c.in_ok-lost.ensures.narrowed))
+
+pub returns-clause-fewer : goal.returns-clause-fewer
+returns-clause-fewer g c = λ _ _.
+    let inside = c.self.inside in
+    let marks = inside.queue.settled.items in
+    subst (λ (s : NetworkState). 1 + work g.B.Width.whole (record { domains = c.narrow_swapped.new.self; constraints = inside.constraints.items; unsettled = unmarked_count c.settle.new.self.settled.items; marked = [] }) ≤ work g.B.Width.whole s) c.self.view_is
+    (work_less g.B.Width.whole inside.store c.narrow_swapped.new.self (length inside.constraints.items) marks c.settle.new.self.settled.items c.in-Some.i (any_lost c.in_ok-lost.lost) c.in-Some.ensures.first.0 c.in-Some.ensures.first.1
+    (c.settle.ensures.count ∙ ap length c.deref-2.ensures.value) c.in_ok-lost.ensures.same (λ none. c.settle.ensures.marked none ∙ ap (λ (ms : List Bool). set ms c.in-Some.i true) c.first.ensures.settled)
+    (λ t. total_falls g.B.Width.whole inside.store c.narrow_swapped.new.self c.in_ok-lost.ensures.range c.narrow_swapped.ensures.kept_count (λ i v h. ((c.in_ok-lost.ensures.narrowed i v).0 h).kept)
+    (c.in_ok-lost.ensures.lost.some.0 t)))
+
+pub invariant_of-self-2 : goal.invariant_of-self-2
+invariant_of-self-2 g c =
+    let inside = c.self.inside in
+    let cs = inside.constraints.items in
+    let lt : c.in-Some.i < length cs = (let a = c.in-Some.ensures.first.0 in let b = c.self.invariant.0.settled.one_each in omega (arith, a, b)) in
+    let at = λ (d : Constraint). sym (get_or_default cs c.in-Some.i d c.index.result.now lt ∙ sym c.index.ensures) in
+    let moved = rw c.deref-2.ensures.value at c.settle.ensures.settled in
+    let sound : IsSoundNetwork c.narrow_swapped.new.self cs c.settle.new.self.settled.items = sound_moved inside.store c.narrow_swapped.new.self cs inside.queue.settled.items c.settle.new.self.settled.items c.narrow_swapped.ensures.kept_count
+    (moved inside.store c.narrow_swapped.new.self
+    (λ d. subst (λ k. (j : ℕ) (v : ℤ) → set_at c.narrow_swapped.new.self j v ↔ Narrowed k (set_at inside.store) j v) (at d) c.in_ok-lost.ensures.narrowed)
+    (λ d. subst (λ k. AreLost k c.in_ok-lost.lost (set_at inside.store) (set_at c.narrow_swapped.new.self)) (at d) c.in_ok-lost.ensures.lost)
+    (subst (λ (ms : List Bool). AreSettled cs ms (set_at inside.store)) (sym c.first.ensures.settled) c.self.invariant.0.settled))
+    c.self.invariant.0 in (
+      sound,
+      logged_trail inside.marks.items inside.trail.items c.reserve_change.new.trail.items c.log_cut.new.trail.items c.in_ok-lost.change _ _ _ c.is_unkept-is_new.result c.self.invariant.1 sound.present
+          c.reserve_change.ensures.same c.log_cut.ensures (c.in_ok-lost.ensures.back cs)
+          (λ f. sym c.deref.ensures.value ∙ c.is_logging-is_kept.ensures f)
+          (λ f. same_at_marks inside.marks.items _ inside.trail.items _ c.in_ok-lost.change _ _ c.any-lost.result c.self.invariant.1 (c.in_ok-lost.ensures.back cs)
+          (λ none. ap (λ (sets : List (List (ℤ × ℤ))). record { domains = sets; constraints = cs }) (c.in_ok-lost.ensures.same (sym c.any-lost.ensures ∙ none))) c.deref-4.ensures.value (c.deref-3.ensures.value ∙ c.reserve_change.ensures.same) (c.is_unkept-is_new.ensures f)),
+      index_of_count _ _ cs inside.index c.narrow_swapped.ensures.kept_count c.self.invariant.2,
+      c.settle.ensures.queue,
+    )
+
+pub returns-clause-marked : goal.returns-clause-marked
+returns-clause-marked g c =
+    let inside = c.self.inside in
+    let cs = inside.constraints.items in
+    logged_marks inside.marks.items inside.trail.items c.reserve_change.new.trail.items c.log_cut.new.trail.items c.in_ok-lost.change _ _ _ c.is_unkept-is_new.result c.self.invariant.1
+    c.reserve_change.ensures.same c.log_cut.ensures (c.in_ok-lost.ensures.back cs)
+    (λ f. sym c.deref.ensures.value ∙ c.is_logging-is_kept.ensures f)
+    (λ f. same_at_marks inside.marks.items _ inside.trail.items _ c.in_ok-lost.change _ _ c.any-lost.result c.self.invariant.1 (c.in_ok-lost.ensures.back cs)
+    (λ none. ap (λ (sets : List (List (ℤ × ℤ))). record { domains = sets; constraints = cs }) (c.in_ok-lost.ensures.same (sym c.any-lost.ensures ∙ none))) c.deref-4.ensures.value (c.deref-3.ensures.value ∙ c.reserve_change.ensures.same) (c.is_unkept-is_new.ensures f))
+    ∙ ap (λ (s : NetworkState). s.marked) c.self.view_is
+
+pub settle-requires-clause-distinct : goal.settle-requires-clause-distinct
+settle-requires-clause-distinct g c = rw c.deref-2.ensures.value c.self.invariant.0.distinct
+
+pub returns-clause-counted : goal.returns-clause-counted
+returns-clause-counted g c = λ cost e.
+    let inside = c.self.inside in
+    let cs = inside.constraints.items in
+    let lt : c.in-Some.i < length cs = (let a = c.in-Some.ensures.first.0 in let b = c.self.invariant.0.settled.one_each in omega (arith, a, b)) in
+    let is : c.cost_of-cost.result ≡ cost = cc in
+    let positive = c.cost_of-cost.ensures.positive in
+    let within = c.if-cost-left.false in
+    subst (λ (s : NetworkState). (0 < cost) × (cost ≤ c.args.left) × (d : Constraint) × AreCounted s.constraints (d ∷ []) cost s.domains c.narrow_swapped.new.self) c.self.view_is (
+      omega (arith, is, positive),
+      omega (arith, is, within),
+      c.index.result.now,
+      counted_one cs c.in-Some.i c.index.result.now cost inside.store c.narrow_swapped.new.self lt (sym c.index.ensures) c.in_ok-lost.ensures.narrowed (sym is ∙ c.cost_of-cost.ensures.cost),
+    )
+
+pub returns-then-cost-left-clause-costly : goal.returns-then-cost-left-clause-costly
+returns-then-cost-left-clause-costly g c = λ _.
+    let cs = c.self.inside.constraints.items in
+    let lt : c.in-Some.i < length cs = (let a = c.in-Some.ensures.first.0 in let b = c.self.invariant.0.settled.one_each in omega (arith, a, b)) in
+    let above = c.if-cost-left.true in
+    let cost = c.cost_of-cost.ensures.cost in (
+      state_is _ _ _ _ _ _ _ _ refl refl (ap unmarked_count c.first.ensures.settled) refl ∙ c.self.view_is,
+      c.index.result.now,
+      subst (λ (s : NetworkState). Contains s.constraints c.index.result.now) c.self.view_is (c.in-Some.i, lt, sym c.index.ensures),
+      subst (λ (s : NetworkState). c.args.left < cost_of c.index.result.now s.domains) c.self.view_is (omega (arith, above, cost)),
+    )
+
+pub cost_of-cost-requires : goal.cost_of-cost-requires
+cost_of-cost-requires g c =
+    let cs = c.self.inside.constraints.items in
+    let lt : c.in-Some.i < length cs = (let a = c.in-Some.ensures.first.0 in let b = c.self.invariant.0.settled.one_each in omega (arith, a, b)) in
+    subst (AllPresent (length c.self.inside.store)) (sym c.index.ensures) (c.self.invariant.0.present c.in-Some.i c.index.result.now lt)
+
+pub returns-in_default-clause-done : goal.returns-in_default-clause-done
+returns-in_default-clause-done g c = ((λ _. ap (λ (s : NetworkState). s.unsettled) (sym c.self.view_is) ∙ c.first.ensures.none.0 (search rules)), (λ _. refl))
+
+pub returns-in_default-clause-none : goal.returns-in_default-clause-none
+returns-in_default-clause-none g c = λ _. (
+  state_is _ _ _ _ _ _ _ _ refl refl (ap unmarked_count c.first.ensures.settled) refl ∙ c.self.view_is,
+  subst (λ (s : NetworkState). All AreDistinct s.constraints) c.self.view_is c.self.invariant.0.distinct,
+  subst (λ (s : NetworkState). All (IsFixed (set_at s.domains)) s.constraints) c.self.view_is
+      (all_fixed c.self.inside.constraints.items c.self.inside.queue.settled.items (set_at c.self.inside.store) c.self.invariant.0.settled c.in_default.ensures.first),
+)

@@ -1,0 +1,24 @@
+//! What narrowings count for.
+ghost use Rattle.std.specs.Prelude.{◌≡◌, ◌<◌, length};
+ghost use Rattle.ivl_store.specs.Costs.{cost_of};
+ghost use Rattle.ivl_store.specs.Narrowing.{AllPresent};
+
+use super::{Constraint, Store};
+use intervallum::width::Width;
+
+impl<B: Width> Store<B> {
+    /// What narrowing by a constraint counts for: one, and one more for each 256 pairs of runs of two
+    /// of its domains.
+    pub(crate) fn cost_of(&self, c: &Constraint) -> u64
+        requires { AllPresent (length self.now) c.now }
+        ensures cost { result ≡ cost_of c.now self.now }
+        ensures positive { 0 < result }
+    {
+        let x = self.domains[c.x].interval_count();
+        let y = self.domains[c.y].interval_count();
+        let z = self.domains[c.z].interval_count();
+        let of_x = x.saturating_mul(y).saturating_add(x.saturating_mul(z));
+        let pairs = of_x.saturating_add(y.saturating_mul(z));
+        (pairs / 256) as u64 + 1
+    }
+}
