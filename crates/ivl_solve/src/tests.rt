@@ -83,10 +83,10 @@ fn a_line_goes_on(rt: HostRuntime) {
 fn a_limit_bounds_one_narrowing(rt: HostRuntime) {
     let pairs = "0 0 2 2 4 4 6 6 8 8 10 10 12 12 14 14 16 16 18 18";
     let lines = format!(in rt.alloc();
-        "var x {pairs}\nvar y {pairs}\nvar z {pairs}\nlimit 1\nsum x y z\ngo on\ncut x 2 9\nlimit 2\ngo on\nshow x\n"
+        "var x {pairs}\nvar y {pairs}\nvar z {pairs}\nlimit 1\nsum x y z\ngo on\nlimit 2\ngo on\nlimit 1\ncut x 2 9\nshow x\n"
     );
-    let answers = "ok\nok\nok\nok\nunfinished\nunfinished\nunfinished\nunfinished\nok\n\
-        x {[2..2][4..4][6..6][8..8]}\nok\n";
+    // Of 300 pairs of runs the limit of 1 takes none; of the 180 that are left by the cut, all.
+    let answers = "ok\nok\nok\nok\nunfinished\nunfinished\nunfinished\nok\nok\nok\nx {[2..2][4..4][6..6][8..8]}\nok\n";
     check_session(&rt, lines.expect(&rt, "memory").as_str(), answers);
 }
 
@@ -240,7 +240,7 @@ fn a_limit_ends_a_search(rt: HostRuntime) {
         count\nlimit 100\nsolve 1\ngo on\nshow\n";
     let answers =
         "ok\nok\nok\nok\nunfinished\nunfinished\nunfinished\ncount 0\nunfinished\nunfinished\nunfinished\n\
-        unfinished\nx [99..9999999999899]\ny [100..9999999999900]\nc [1..1]\nunfinished\n";
+        unfinished\nx [100..9999999999900]\ny [99..9999999999899]\nc [1..1]\nunfinished\n";
     check_session(&rt, lines, answers);
     check_session(
         &rt,
