@@ -83,6 +83,13 @@ macro_rules! contract {
     (PagedSet $call:literal) => {
         concat!("\n\nContract: [`proved::PagedSet::", $call, "`](crate::proved::ivl_paged::PagedSet::", $call, ").")
     };
+    // of a call whose code is this crate's
+    (over $Set:ident $call:literal) => {
+        concat!("\n\nTested and not proved: made of what [`proved::", stringify!($Set), "::", $call, "`](",
+            contract!(path $Set), $call, ") gives.")
+    };
+    (path IntervalSet) => { "crate::proved::IntervalSet::" };
+    (path PagedSet) => { "crate::proved::ivl_paged::PagedSet::" };
     // of a call that the proved paged set lacks
     (lists IntervalSet $call:literal) => { contract!(IntervalSet $call) };
     (lists PagedSet $call:literal) => {

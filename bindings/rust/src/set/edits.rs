@@ -147,6 +147,7 @@ macro_rules! edits {
             /// a.retain(|x| x != 5 && x < 8);
             /// assert_eq!(a.to_string(), "{[1..4][6..7]}");
             /// ```
+            #[doc = contract!(over $Set "iter")]
             pub fn retain(&mut self, mut keep: impl FnMut(T) -> bool) {
                 let mut kept = Vec::new();
                 self.runs().for_each(|run| keep_of_run(run, &mut keep, &mut kept));

@@ -370,6 +370,7 @@ macro_rules! iterated {
             /// assert_eq!(a.iter().collect::<Vec<_>>(), [1, 2, 5, 6]);
             /// assert_eq!((a.iter().next_back(), a.iter().nth(2), a.iter().len()), (Some(6), Some(5), 4));
             /// ```
+            #[doc = contract!(over $Set "iter")]
             pub fn iter(&self) -> $Iter<'_, T> {
                 Members::of(self.runs())
             }
@@ -394,6 +395,7 @@ macro_rules! iterated {
             #[doc = concat!("let a = ", stringify!($Set), "::from([5..=6, 1..=2, 3..=3]);")]
             /// assert_eq!(a.runs().collect::<Vec<_>>(), [1..=3, 5..=6]);
             /// ```
+            #[doc = contract!(over $Set "iter")]
             pub fn runs(&self) -> $Runs<'_, T> {
                 self.all_runs()
             }

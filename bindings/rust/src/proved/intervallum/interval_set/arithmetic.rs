@@ -648,6 +648,8 @@ impl<B: Width> Mul<B> for IntervalSet<B> {
     ///
     /// # Proved
     ///
+    /// If it is `Ok`, the members of the answer are, for each pair of runs, a value being a run of its own, exactly the numbers from the least to the greatest product.
+    ///
     /// ```text
     /// requires { IsSubset (ExactProducts (Covers self) (Only (B.value rhs))) (IsBetween B.whole) }
     /// ensures members { IfOk result (λ L. IsRunsOf L (Products (Covers self) (Only (B.value rhs)))) }
@@ -679,6 +681,8 @@ impl<B: Width> Mul<&B> for IntervalSet<B> {
     /// `O(n)` for `n` runs. Reserves at most `n` runs once. Fails only if allocation fails.
     ///
     /// # Proved
+    ///
+    /// If it is `Ok`, the members of the answer are, for each pair of runs, a value being a run of its own, exactly the numbers from the least to the greatest product.
     ///
     /// ```text
     /// requires { IsSubset (ExactProducts (Covers self) (Only (B.value rhs.now))) (IsBetween B.whole) }
@@ -712,6 +716,8 @@ impl<B: Width> Mul<B> for &IntervalSet<B> {
     ///
     /// # Proved
     ///
+    /// If it is `Ok`, the members of the answer are, for each pair of runs, a value being a run of its own, exactly the numbers from the least to the greatest product.
+    ///
     /// ```text
     /// requires { IsSubset (ExactProducts (Covers self.now) (Only (B.value rhs))) (IsBetween B.whole) }
     /// ensures members { IfOk result (λ L. IsRunsOf L (Products (Covers self.now) (Only (B.value rhs)))) }
@@ -743,6 +749,8 @@ impl<B: Width> Mul<&B> for &IntervalSet<B> {
     /// `O(n)` for `n` runs. Reserves at most `n` runs once. Fails only if allocation fails.
     ///
     /// # Proved
+    ///
+    /// If it is `Ok`, the members of the answer are, for each pair of runs, a value being a run of its own, exactly the numbers from the least to the greatest product.
     ///
     /// ```text
     /// requires { IsSubset (ExactProducts (Covers self.now) (Only (B.value rhs.now))) (IsBetween B.whole) }
