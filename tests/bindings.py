@@ -586,7 +586,7 @@ def header():
         call = getattr(intervallum._types[bounds], name)
         expected = [pointer if "*" in one else sizes[one.split()[0]] for one in arguments.split(",")]
         assert call.restype is sizes[answer] and list(call.argtypes) == expected, (name, bounds, call.argtypes)
-    assert len(found) == 2 * len(intervallum._SHAPES)
+    assert len(found) == 2 * len(intervallum.SHAPES)
     print("bindings: Python: the types of %d calls are those of the header" % len(found))
 
 

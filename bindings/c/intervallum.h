@@ -1,3 +1,4 @@
+/* Written by bindings/calls from intervallum.h.in and crates/ivl_c/src/signed.rt. */
 /* Sets of whole numbers as lists of runs. The answer of each call is proved.
 
    A list of pairs may be in any order and overlap. It stands for the set of the numbers in some pair; a crossed
@@ -284,10 +285,10 @@ static inline bool ivl_has_common(const void *x, size_t x_size, const void *y, s
     IVL_CHECKED_TWO(intersection, type)                                                                                     \
     IVL_CHECKED_TWO(difference, type)                                                                                       \
     IVL_CHECKED_TWO(symmetric_difference, type)                                                                             \
+    IVL_CHECKED_SIZE(type)                                                                                                  \
     IVL_CHECKED_TWO(sums, type)                                                                                             \
     IVL_CHECKED_TWO(differences, type)                                                                                      \
     IVL_CHECKED_TWO(products, type)                                                                                         \
-    IVL_CHECKED_SIZE(type)                                                                                                  \
     IVL_CHECKED_FIT(type)                                                                                                   \
     IVL_CHECKED_FOUND(rank, type, number, uint64_t)                                                                         \
     IVL_CHECKED_FOUND(nth, type, uint64_t, number)
@@ -299,10 +300,10 @@ IVL_CHECKED_ALL(u64, uint64_t)
 #define ivl_intersection_i64 ivl_checked_intersection_i64
 #define ivl_difference_i64 ivl_checked_difference_i64
 #define ivl_symmetric_difference_i64 ivl_checked_symmetric_difference_i64
+#define ivl_size_i64 ivl_checked_size_i64
 #define ivl_sums_i64 ivl_checked_sums_i64
 #define ivl_differences_i64 ivl_checked_differences_i64
 #define ivl_products_i64 ivl_checked_products_i64
-#define ivl_size_i64 ivl_checked_size_i64
 #define ivl_first_fit_i64 ivl_checked_first_fit_i64
 #define ivl_rank_i64 ivl_checked_rank_i64
 #define ivl_nth_i64 ivl_checked_nth_i64
@@ -312,10 +313,10 @@ IVL_CHECKED_ALL(u64, uint64_t)
 #define ivl_intersection_u64 ivl_checked_intersection_u64
 #define ivl_difference_u64 ivl_checked_difference_u64
 #define ivl_symmetric_difference_u64 ivl_checked_symmetric_difference_u64
+#define ivl_size_u64 ivl_checked_size_u64
 #define ivl_sums_u64 ivl_checked_sums_u64
 #define ivl_differences_u64 ivl_checked_differences_u64
 #define ivl_products_u64 ivl_checked_products_u64
-#define ivl_size_u64 ivl_checked_size_u64
 #define ivl_first_fit_u64 ivl_checked_first_fit_u64
 #define ivl_rank_u64 ivl_checked_rank_u64
 #define ivl_nth_u64 ivl_checked_nth_u64

@@ -28,7 +28,9 @@ import operator
 import os
 import sys
 from array import array as Numbers
-from typing import Any, Callable, Iterable, Iterator, Literal, Sequence, SupportsIndex, Union, overload
+from typing import Any, Iterable, Iterator, Literal, Sequence, SupportsIndex, Union, overload
+
+from ._calls import NUMBER, SHAPES, Call, Calls
 
 __version__ = "2.0.0"
 __all__ = ["IntervalSet", "OutOfMemory", "OutOfRange", "ProductOutOfRange", "Runs"]
@@ -77,48 +79,8 @@ def _load() -> ctypes.CDLL:
         raise ImportError("the shared library %s cannot be loaded (%s): %s" % (path, error, _HOW)) from None
 
 
-_ONE: list[Any] = [ctypes.c_void_p, ctypes.c_size_t]  # a list of pairs, or the buffer of an answer
-_SHAPES: dict[str, list[Any]] = {
-    "normalize": _ONE * 2, "complement": _ONE * 2, "union": _ONE * 3, "intersection": _ONE * 3, "difference": _ONE * 3,
-    "symmetric_difference": _ONE * 3, "sums": _ONE * 3, "differences": _ONE * 3, "products": _ONE * 3,
-    "is_subset": _ONE * 2, "overlap": _ONE * 2, "equal": _ONE * 2, "size": _ONE + [ctypes.c_void_p],
-    "contains": _ONE + ["number"], "contains_sorted": _ONE + ["number"],
-    "next_from": _ONE + ["number", ctypes.c_void_p], "next_from_sorted": _ONE + ["number", ctypes.c_void_p],
-    "previous_to_sorted": _ONE + ["number", ctypes.c_void_p], "run_at_sorted": _ONE + ["number", ctypes.c_void_p],
-    "first_fit": _ONE + [ctypes.c_uint64, ctypes.c_void_p], "rank": _ONE + ["number", ctypes.c_void_p],
-    "nth": _ONE + [ctypes.c_uint64, ctypes.c_void_p], "insert": _ONE + [ctypes.c_size_t, "number", "number"],
-    "remove": _ONE + [ctypes.c_size_t, "number", "number"],
-}
-_Call = Callable[..., int]
-
-
-class _Bounds:
+class _Bounds(Calls):
     """The calls of one type of bounds."""
-
-    normalize: _Call
-    complement: _Call
-    union: _Call
-    intersection: _Call
-    difference: _Call
-    symmetric_difference: _Call
-    sums: _Call
-    differences: _Call
-    products: _Call
-    is_subset: _Call
-    overlap: _Call
-    equal: _Call
-    size: _Call
-    contains: _Call
-    contains_sorted: _Call
-    next_from: _Call
-    next_from_sorted: _Call
-    previous_to_sorted: _Call
-    run_at_sorted: _Call
-    first_fit: _Call
-    rank: _Call
-    nth: _Call
-    insert: _Call
-    remove: _Call
 
     def __init__(self, library: ctypes.CDLL, name: Bounds, number: type[Any]) -> None:
         class Run(ctypes.Structure):
@@ -130,14 +92,13 @@ class _Bounds:
         self.range = (-(2**63) + 1, 2**63 - 1) if self.is_signed else (0, 2**64 - 2)
         self.code: Literal["q", "Q"] = "q" if self.is_signed else "Q"
         self.one_pair = Numbers(self.code, (0, 0))
-        for call, shape in _SHAPES.items():
+        for call, (shape, answer) in SHAPES.items():
             try:
                 found = getattr(library, "ivl_%s_%s" % (call, name))
             except AttributeError as error:
                 raise ImportError("the shared library %s is none of this version: %s" % (library._name, error)) from error
-            found.argtypes = [number if kind == "number" else kind for kind in shape]
-            is_asked = call.startswith(("contains", "next_from", "previous_to", "run_at"))
-            found.restype = ctypes.c_bool if is_asked else ctypes.c_int64
+            found.argtypes = [number if kind == NUMBER else kind for kind in shape]
+            found.restype = answer
             setattr(self, call, found)
 
     def holds(self, value: int) -> bool:
@@ -249,7 +210,7 @@ class IntervalSet(collections.abc.Set[int]):
         return made
 
     @classmethod
-    def _of(cls, bounds: _Bounds, call: _Call, *lists: int, room: int) -> IntervalSet:
+    def _of(cls, bounds: _Bounds, call: Call, *lists: int, room: int) -> IntervalSet:
         while True:
             out = bounds.one_pair * room
             count = bounds.checked(call(*lists, out.buffer_info()[0], room))
@@ -270,11 +231,11 @@ class IntervalSet(collections.abc.Set[int]):
             return other
         return IntervalSet(other, bounds=self._type.name)
 
-    def _with(self, call: _Call, other: IntervalSet) -> IntervalSet:
+    def _with(self, call: Call, other: IntervalSet) -> IntervalSet:
         lists = self._at, self._count, other._at, other._count
         return self._of(self._type, call, *lists, room=self._count + other._count)
 
-    def _merged(self, call: _Call, others: Iterable[Iterable[Item]]) -> IntervalSet:
+    def _merged(self, call: Call, others: Iterable[Iterable[Item]]) -> IntervalSet:
         made = self
         for other in others:
             made = made._with(call, self._taken(other))

@@ -1,4 +1,4 @@
-//! The calls over u64, whose sets range from 0 to `UINT64_MAX - 1`.
+//! The calls over u64, whose sets range from 0 to `UINT64_MAX - 1`. Written by bindings/calls from signed.rt.
 ghost use Rattle.std.specs.Prelude.{◌≡◌, ◌↔◌, false, IsTrue, pos, take};
 ghost use Rattle.ivl_laws.specs.Sets.{AtLeast, AtMost, Complement, Differences, HasSome, Intersection, IsBetween, IsSubset, SameMembers, Sums, SymmetricDifference, Union, Without};
 ghost use Rattle.ivl_laws.specs.Runs.{Covers, IsMaximal};
