@@ -9,7 +9,7 @@ ghost use Rattle.intervallum.specs.FirstFit.{FitsAt, IsFirstFit};
 
 use intervallum::interval::Interval;
 use intervallum::interval_set::IntervalSet;
-use intervallum::ops::{Difference, Intersection, Overlap, Union};
+use intervallum::ops::{Bounded, Difference, Intersection, Overlap, Union};
 use intervallum::steps::{Place, Probes, find};
 use intervallum::width::{SizeNumber, Width};
 use std::alloc::{AllocError, Global};
@@ -198,4 +198,13 @@ pub fn member_by_number<B: Width>(set: &IntervalSet<B>, i: B::Output) -> Option<
         (λ x. Covers set.now (B.value x) × IsCountOf (B.Output.size i) (Below (B.value x) (Covers set.now))) }
 {
     set.nth(i)
+}
+
+/// Returns the least number of the last run, by a walk over the runs: each of them has one.
+pub fn start_of_last_run<B: Width>(set: &IntervalSet<B>) -> Option<B> {
+    let mut start = None;
+    for run in set.runs() {
+        start = Some(run.lower());
+    }
+    start
 }
