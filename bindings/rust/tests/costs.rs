@@ -1,5 +1,5 @@
-//! What the docs say of memory and no contract can see, by counting: which calls do not allocate, what a set in pages holds,
-//! that room is kept, and that sums do not list all results.
+//! What the docs say of memory and time and no contract can see, by counting: which calls do not allocate, what a set in pages
+//! holds, that room is kept, that sums do not list all results, and that sizes of few runs and many take few looks.
 // lists of pairs are there only where `usize` has 64 bits, and counts of bytes are of that
 #![cfg(target_pointer_width = "64")]
 
@@ -10,6 +10,8 @@ use intervallum::proved::ivl_buffers::set_calls::{OfOne, OfTwo, of_one, of_two};
 use intervallum::proved::ivl_buffers::{beside, lookup, reading, run_lists, sorted_lookup};
 use intervallum::proved::ivl_paged::PagedSet;
 use intervallum::proved::prelude::*;
+use std::cell::Cell;
+use std::cmp::Ordering;
 
 mod memory;
 use memory::{Watched, cost};
@@ -117,4 +119,94 @@ fn sums_of_dense_sets_list_few_results() {
     assert_eq!(sums.interval_count(), 1);
     // all million results would take 16 MB
     assert!(told.most < 1 << 20, "{told:?}");
+}
+
+thread_local! {
+    static READ: Cell<usize> = const { Cell::new(0) };
+}
+
+/// A number that counts how often one is compared or read.
+#[derive(Clone, Copy, Debug)]
+struct Counted(i64);
+
+impl Counted {
+    fn read(self) -> i64 {
+        READ.set(READ.get() + 1);
+        self.0
+    }
+}
+
+impl PartialEq for Counted {
+    fn eq(&self, other: &Counted) -> bool {
+        self.read() == other.0
+    }
+}
+
+impl Eq for Counted {}
+
+impl PartialOrd for Counted {
+    fn partial_cmp(&self, other: &Counted) -> Option<Ordering> {
+        Some(self.cmp(other))
+    }
+}
+
+impl Ord for Counted {
+    fn cmp(&self, other: &Counted) -> Ordering {
+        self.read().cmp(&other.0)
+    }
+}
+
+impl Width for Counted {
+    type Output = u64;
+
+    fn min_value() -> Counted {
+        Counted(-i64::MAX)
+    }
+
+    fn max_value() -> Counted {
+        Counted(i64::MAX)
+    }
+
+    fn number(self) -> i128 {
+        self.read().into()
+    }
+
+    fn from_number(number: i128) -> Option<Counted> {
+        i64::try_from(number).ok().filter(|&number| number > i64::MIN).map(Counted)
+    }
+}
+
+/// `count` runs of `width` numbers from `from` on, `step` apart.
+fn counted(count: i64, from: i64, step: i64, width: i64) -> IntervalSet<Counted> {
+    let of = |i: i64| (Counted(from + step * i), Counted(from + step * i + width - 1));
+    let pairs: Vec<(Counted, Counted)> = (0..count).map(of).collect();
+    pairs.as_slice().to_interval_set(Global).unwrap()
+}
+
+/// What a call returns, and how often it compared or read a bound. It must not allocate.
+fn reads<T>(call: impl FnOnce() -> T) -> (T, usize) {
+    READ.set(0);
+    let (made, told) = cost(call);
+    assert_eq!(told.allocations, 0);
+    (made, READ.get())
+}
+
+#[test]
+fn sizes_of_few_runs_and_many_take_few_looks() {
+    let (many, other) = (counted(100_000, 0, 10, 4), counted(100_000, 5, 10, 4));
+    // each of the ten overlaps two of the many
+    let few = counted(10, 2, 100_000, 11);
+    assert_eq!((many.interval_count(), few.interval_count()), (100_000, 10));
+    let (found, looks) = reads(|| (many.intersection_size(&few), few.intersection_size(&many)));
+    assert_eq!(found, (50, 50));
+    assert!(looks < 10_000, "{looks}");
+    let (found, looks) = reads(|| (many.difference_size(&few), few.difference_size(&many)));
+    assert_eq!(found, (399_950, 60));
+    assert!(looks < 10_000, "{looks}");
+    let (found, looks) = reads(|| (many.union_size(&few), few.union_size(&many)));
+    assert_eq!(found, (400_060, 400_060));
+    assert!(looks < 10_000, "{looks}");
+    // two sets of many runs are walked over
+    let (found, looks) = reads(|| many.intersection_size(&other));
+    assert!(found == 0 && looks >= 200_000, "{found} {looks}");
 }

@@ -5,12 +5,14 @@ use Rattle.std.proofs.Math.Nat.{mul-le-mul_right}
 use Rattle.std.proofs.lemmas.Result.{IfOk-weaker}
 use Rattle.std.specs.Prelude.{Result, IfOk}
 use Rattle.ivl_laws.specs.Sets.{Complement, IsBetween, Intersection, SameMembers, Union, Without}
+use Rattle.ivl_laws.specs.Counts.{IsCountOf}
 use Rattle.ivl_laws.specs.Runs.{Covers, IsMaximal, IsRunListIn, IsRunsOf, StartsBy}
 use Rattle.ivl_laws.proofs.Places.{open_at, runs_ascend}
 use Rattle.ivl_laws.proofs.SetLaws.{IsRunsOf-same}
 use Rattle.intervallum.specs.Places.{EndBelow, EndsFrom, StartAbove}
 use Rattle.intervallum.specs.Order.{IsBelow}
 use Rattle.intervallum.proofs.Finding.{EndBelow-more}
+use Rattle.intervallum.proofs.PartCounts.{parts_more, parts_none}
 use Rattle.intervallum.proofs.Splicing.{taken_below}
 use Rattle.intervallum.proofs.Sweeping.{same_item}
 use Rattle.intervallum.proofs.Windows.{IsWindow, is_window, first_of_kept, part_is_run_list, same_in_window, starts_of_kept}
@@ -78,6 +80,16 @@ covered_by_more (p ∷ L) (suc k) d z h c =
     subst (λ (n : ℕ). Covers (take n (p ∷ L)) z) e
     (⊎_elim (⊎_elim (λ b. inl b) (λ t. inr (covered_by_more L k d z (omega arith) (inl t)))) (λ b. inr (covered_by_more L k d z (omega arith) (inr b))) c)
 
+-- what ends below a run ends below the next one
+below_next : (L M : List (ℤ × ℤ)) (k i : ℕ) (d : ℤ × ℤ) → IsMaximal L → k < length L → d ≡ get_or L k d → EndBelow d.0 (take i M) →
+    (next : ℤ × ℤ) → k + 1 < length L → next ≡ get_or L (k + 1) next → EndBelow next.0 (take i M)
+below_next L M k i d m h is e next more there =
+    let far = runs_ascend L k (k + 1) (pos 0, pos 0) m (omega arith) more in
+    let open_run = open_at L k (pos 0, pos 0) m h in
+    let start : d.0 ≡ (get_or L k (pos 0, pos 0)).0 = ap (λ (p : ℤ × ℤ). p.0) (is ∙ same_item L k d (pos 0, pos 0) h) in
+    let later : next.0 ≡ (get_or L (k + 1) (pos 0, pos 0)).0 = ap (λ (p : ℤ × ℤ). p.0) (there ∙ same_item L (k + 1) next (pos 0, pos 0) more) in
+    EndBelow-more (take i M) d.0 next.0 (omega (arith, ints, far, open_run, start, later)) e
+
 pub shared_by_next : (L M written added : List (ℤ × ℤ)) (k from i : ℕ) (d : ℤ × ℤ) → IsMaximal L → k < length L → d ≡ get_or L k d → SharedSoFar L M written k from →
     IsRunsOf added (Union (Covers written) (Intersection (Covers M) (IsBetween d))) → i ≤ length M → EndBelow d.0 (take i M) → SharedSoFar L M added (k + 1) i
 shared_by_next L M written added k from i d m h is s r le e = record {
@@ -92,17 +104,33 @@ shared_by_next L M written added k from i d m h is s r le e = record {
     );
   };
   at_most = le;
-  below = λ next more there.
-      let far = runs_ascend L k (k + 1) (pos 0, pos 0) m (omega arith) more in
-      let open_run = open_at L k (pos 0, pos 0) m h in
-      let start : d.0 ≡ (get_or L k (pos 0, pos 0)).0 = ap (λ (p : ℤ × ℤ). p.0) (is ∙ same_item L k d (pos 0, pos 0) h) in
-      let later : next.0 ≡ (get_or L (k + 1) (pos 0, pos 0)).0 = ap (λ (p : ℤ × ℤ). p.0) (there ∙ same_item L (k + 1) next (pos 0, pos 0) more) in
-      EndBelow-more (take i M) d.0 next.0 (omega (arith, ints, far, open_run, start, later)) e;
+  below = below_next L M k i d m h is e;
 }
 
 -- all of the few are done
 pub shared_by_all : (L M written : List (ℤ × ℤ)) (k from : ℕ) → length L ≤ k → SharedSoFar L M written k from → IsRunsOf written (Intersection (Covers L) (Covers M))
 shared_by_all L M written k from n s = subst (λ (K : List (ℤ × ℤ)). IsRunsOf written (Intersection (Covers K) (Covers M))) (take_all k L n) s.runs
+
+-- what the first k of the few have in common with the many, M, are n numbers, and the next one is looked for from a place below it
+pub record CountedSoFar (L M : List (ℤ × ℤ)) (n k from : ℕ) : Type 0 where
+  pub count : IsCountOf n (Intersection (Covers (take k L)) (Covers M))
+  pub at_most : from ≤ length M
+  pub below : (d : ℤ × ℤ) → k < length L → d ≡ get_or L k d → EndBelow d.0 (take from M)
+
+pub counted_by_none : (L M : List (ℤ × ℤ)) (n : ℕ) → n ≡ 0 → CountedSoFar L M n 0 0
+counted_by_none L M n e = record { count = parts_none L (Covers M) n e; at_most = omega arith; below = λ d h is. tt }
+
+-- K has what the many have in the next run
+pub counted_more : (L M K : List (ℤ × ℤ)) (n more k from : ℕ) (d : ℤ × ℤ) → IsMaximal L → k < length L → d ≡ get_or L k d → CountedSoFar L M n k from →
+    SameMembers (Intersection (Covers K) (IsBetween d)) (Intersection (Covers M) (IsBetween d)) → IsCountOf more (Intersection (Covers K) (IsBetween d)) →
+    IsCountOf (n + more) (Intersection (Covers (take (k + 1) L)) (Covers M))
+counted_more L M K n more k from d m h is s same here =
+    parts_more L k d m h is (Intersection (Covers K) (IsBetween d)) (Covers M) n more
+    (λ z. ((λ i. let t = (same z).0 i in (t.1, t.0)), (λ i. (same z).1 (i.1, i.0)))) s.count here
+
+pub counted_by_next : (L M : List (ℤ × ℤ)) (n k i : ℕ) (d : ℤ × ℤ) → IsMaximal L → k < length L → d ≡ get_or L k d →
+    IsCountOf n (Intersection (Covers (take (k + 1) L)) (Covers M)) → i ≤ length M → EndBelow d.0 (take i M) → CountedSoFar L M n (k + 1) i
+counted_by_next L M n k i d m h is count le e = record { count = count; at_most = le; below = below_next L M k i d m h is e }
 
 -- looks of one run more, and of no more runs than there are
 pub more_looks : (k x old before now : ℕ) → before ≤ old + k * x → now ≤ before + x → now ≤ old + (k + 1) * x

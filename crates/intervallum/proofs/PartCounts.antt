@@ -14,17 +14,18 @@ use Rattle.intervallum.proofs.Ranks.{ahead, more_is, none_taken}
 pub parts_none : (L : List (ℤ × ℤ)) (T : ℤ → Type 0) (n : ℕ) → n ≡ 0 → IsCountOf n (Intersection (Covers (take 0 L)) T)
 parts_none L T n e = subst (λ (k : ℕ). IsCountOf k (Intersection (Covers (take 0 L)) T)) (sym e) (IsCountOf-none _ (λ z c. none_taken L z c.0))
 
-pub parts_more : (L : List (ℤ × ℤ)) (i : ℕ) (d : ℤ × ℤ) → IsMaximal L → i < length L → d ≡ get_or L i d → (part : ℤ × ℤ) (T : ℤ → Type 0) (k n : ℕ) →
-    SameMembers (IsBetween part) (Intersection (IsBetween d) T) → IsCountOf k (Intersection (Covers (take i L)) T) → IsCountOf n (IsBetween part) → IsCountOf (k + n) (Intersection (Covers (take (i + 1) L)) T)
-parts_more L i d m h is part T k n s a b =
+-- S is what the next run has in T
+pub parts_more : (L : List (ℤ × ℤ)) (i : ℕ) (d : ℤ × ℤ) → IsMaximal L → i < length L → d ≡ get_or L i d → (S T : ℤ → Type 0) (k n : ℕ) →
+    SameMembers S (Intersection (IsBetween d) T) → IsCountOf k (Intersection (Covers (take i L)) T) → IsCountOf n S → IsCountOf (k + n) (Intersection (Covers (take (i + 1) L)) T)
+parts_more L i d m h is S T k n s a b =
     let P : List (ℤ × ℤ) → Type 0 = λ M. IsCountOf (k + n) (Intersection (Covers M) T) in
     subst P (sym (more_is L i d m h is))
-    (IsCountOf-same (Union (Intersection (Covers (take i L)) T) (IsBetween part)) (Intersection (Covers (take i L ++ d ∷ [])) T) (k + n)
+    (IsCountOf-same (Union (Intersection (Covers (take i L)) T) S) (Intersection (Covers (take i L ++ d ∷ [])) T) (k + n)
     (λ z. (
       ⊎_elim (λ t. (covers-append_left (take i L) (d ∷ []) z t.0, t.1)) (λ t. let w = (s z).0 t in (covers-append_right (take i L) (d ∷ []) z (inl w.0), w.1)),
       (λ (c, w). ⊎_elim (λ (t : Covers (take i L) z). inl (t, w)) (⊎_elim (λ (b : IsBetween d z). inr ((s z).1 (b, w))) (λ x. absurd x)) (covers-append (take i L) (d ∷ []) z c)),
     ))
-    (IsCountOf-apart (Intersection (Covers (take i L)) T) (IsBetween part) k n
+    (IsCountOf-apart (Intersection (Covers (take i L)) T) S k n
     (λ z t u. let before_d = ahead L i d m h is z t.0 in let w = ((s z).0 u).0 in let low = w.0 in omega (arith, ints))
     a b))
 

@@ -52,11 +52,18 @@ impl<B: Width> IntervalSet<B> {
     pub fn size_within(&self, window: &Interval<B>) -> B::Output
         ensures { IsCountOf (B.Output.size result) (Intersection (Covers self.now) (IsBetween window.now)) }
     {
-        let runs = self.runs_within(window);
-        let mut size = <B::Output as SizeNumber>::zero();
-        for run in runs {
-            size = grown::<B>(size, run.intersection(window).size());
-        }
-        size
+        size_of_part(self.runs_within(window), window)
     }
+}
+
+/// How many numbers of a window runs cover.
+pub(super) fn size_of_part<B: Width>(runs: &[Interval<B>], window: &Interval<B>) -> B::Output
+    requires { IsRunListIn B.whole runs.now }
+    ensures { IsCountOf (B.Output.size result) (Intersection (Covers runs.now) (IsBetween window.now)) }
+{
+    let mut size = <B::Output as SizeNumber>::zero();
+    for run in runs {
+        size = grown::<B>(size, run.intersection(window).size());
+    }
+    size
 }

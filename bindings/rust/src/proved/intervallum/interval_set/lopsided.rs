@@ -5,10 +5,12 @@
 #[allow(unused_imports)]
 use crate::rattle::prelude::*;
 use super::IntervalSet;
+use super::builder::grown;
+use super::runs_within::size_of_part;
 use crate::proved::intervallum::interval::Interval;
 use crate::proved::intervallum::ops::{Bounded, Complement};
 use crate::proved::intervallum::steps::{Probes, Walk, first_from, last_up_to, without};
-use crate::proved::intervallum::width::Width;
+use crate::proved::intervallum::width::{SizeNumber, Width};
 use crate::rattle::std::alloc::AllocError;
 
 /// How many times as many runs the other set must have for a search to take fewer steps.
@@ -35,6 +37,25 @@ pub(super) fn common_with_few<B: Width>(
         from = push_shared(&mut set, many, probes, *run, from)?;
     }
     Ok(set.fitted())
+}
+
+/// How many members a set of few runs has in common with one of many. Reads the runs of the many that
+/// the few overlap. Does not allocate.
+///
+/// The searches see the runs of the many by the looks of `probes` alone.
+pub(super) fn common_size_with_few<B: Width>(
+    few: &IntervalSet<B>,
+    many: &IntervalSet<B>,
+    probes: &mut Probes<'_, B>,
+) -> B::Output {
+    let mut size = <B::Output as SizeNumber>::zero();
+    let mut from = 0;
+    for run in few.as_runs() {
+        let (start, shared) = shared_runs(many, probes, run, from);
+        size = grown::<B>(size, size_of_part(shared, run));
+        from = start;
+    }
+    size
 }
 
 /// The members of a set of many runs that are not in one of few: what it has in common with the
@@ -68,10 +89,20 @@ fn push_shared<B: Width>(
     run: Interval<B>,
     from: usize,
 ) -> Result<usize, AllocError> {
+    let (start, shared) = shared_runs(many, probes, &run, from);
+    set.push_cut(shared, &run)?;
+    Ok(start)
+}
+
+/// The runs of a set that a run overlaps, and how many end below it, as the first `from` do.
+fn shared_runs<'a, B: Width>(
+    many: &'a IntervalSet<B>,
+    probes: &mut Probes<'_, B>,
+    run: &Interval<B>,
+    from: usize,
+) -> (usize, &'a [Interval<B>]) {
     let runs = many.as_runs();
     let start = first_from(probes, run.lower(), from);
     let end = last_up_to(probes, run.upper(), start);
-    let shared = &runs[start..end];
-    set.push_cut(shared, &run)?;
-    Ok(start)
+    (start, &runs[start..end])
 }

@@ -74,11 +74,15 @@ impl<B: Width> IntervalSet<B> {
     ///
     /// Words: [`IsCountOf`](crate::definitions#IsCountOf), [`Intersection`](crate::definitions#Intersection), [`Covers`](crate::definitions#Covers), [`IsBetween`](crate::definitions#IsBetween).
     pub fn size_within(&self, window: &Interval<B>) -> B::Output {
-        let runs = self.runs_within(window);
-        let mut size = <B::Output as SizeNumber>::zero();
-        for run in runs {
-            size = grown::<B>(size, run.intersection(window).size());
-        }
-        size
+        size_of_part(self.runs_within(window), window)
     }
+}
+
+/// How many numbers of a window runs cover.
+pub(super) fn size_of_part<B: Width>(runs: &[Interval<B>], window: &Interval<B>) -> B::Output {
+    let mut size = <B::Output as SizeNumber>::zero();
+    for run in runs {
+        size = grown::<B>(size, run.intersection(window).size());
+    }
+    size
 }

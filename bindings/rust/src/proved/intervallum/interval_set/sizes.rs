@@ -5,12 +5,16 @@
 use crate::rattle::prelude::*;
 use super::IntervalSet;
 use super::builder::grown;
+use super::lopsided::{common_size_with_few, is_far_shorter};
 use crate::proved::intervallum::ops::Cardinality;
-use crate::proved::intervallum::steps::{Walk, common_size};
+use crate::proved::intervallum::steps::{Probes, Walk, common_size};
 use crate::proved::intervallum::width::{SizeNumber, Width};
 
 impl<B: Width> IntervalSet<B> {
     /// Returns the number of members of both sets. `O(n + m)`. Never overflows. Does not allocate.
+    ///
+    /// If one set has far fewer runs, searches for each of its `k` runs among the `n` of the other,
+    /// from where the last search ended: `O(k log n)`, plus a scan of the runs that these overlap.
     ///
     /// ```
     /// use intervallum::proved::examples::*;
@@ -31,11 +35,17 @@ impl<B: Width> IntervalSet<B> {
     ///
     /// Words: [`IsCountOf`](crate::definitions#IsCountOf), [`Intersection`](crate::definitions#Intersection), [`Covers`](crate::definitions#Covers).
     pub fn intersection_size(&self, other: &IntervalSet<B>) -> B::Output {
-        common_size(Walk::new(self), Walk::new(other))
+        if is_far_shorter(self, other) {
+            common_size_with_few(self, other, &mut Probes::new(other))
+        } else if is_far_shorter(other, self) {
+            common_size_with_few(other, self, &mut Probes::new(self))
+        } else {
+            common_size(Walk::new(self), Walk::new(other))
+        }
     }
 
-    /// Returns the number of members that are not in `other`. `O(n + m)`. Never overflows. Does not
-    /// allocate.
+    /// Returns the number of members that are not in `other`. `O(n + m)`, or if one set has far fewer
+    /// runs, as [`IntervalSet::intersection_size`]. Never overflows. Does not allocate.
     ///
     /// ```
     /// use intervallum::proved::examples::*;
@@ -60,7 +70,8 @@ impl<B: Width> IntervalSet<B> {
         self.size().checked_sub(shared).unwrap()
     }
 
-    /// Returns the number of members of either set. `O(n + m)`. Never overflows. Does not allocate.
+    /// Returns the number of members of either set. `O(n + m)`, or if one set has far fewer
+    /// runs, as [`IntervalSet::intersection_size`]. Never overflows. Does not allocate.
     ///
     /// ```
     /// use intervallum::proved::examples::*;
