@@ -16,7 +16,7 @@ ghost use Rattle.ivl_interval.specs.Characters.{character_number};
 /// Returns the number of a character: its scalar value, less the 2,048 surrogates if it is above
 /// them.
 ///
-/// Does not allocate.
+/// `O(1)`. Does not allocate.
 ///
 /// ```
 /// assert_eq!(rt; number_of('a'), 97);
@@ -37,7 +37,7 @@ pub fn number_of(character: char) -> i128
 /// Returns the character of a number, or `None` if the number is negative or above that of
 /// `char::MAX`, 1,112,063.
 ///
-/// Does not allocate.
+/// `O(1)`. Does not allocate.
 ///
 /// ```
 /// assert_eq!(rt; character_of(97), Some('a'));

@@ -23,7 +23,7 @@ use crate::rattle::prelude::*;
 /// Returns the number of a character: its scalar value, less the 2,048 surrogates if it is above
 /// them.
 ///
-/// Does not allocate.
+/// `O(1)`. Does not allocate.
 ///
 /// ```
 /// use intervallum::proved::examples::*;
@@ -56,7 +56,7 @@ pub fn number_of(character: char) -> i128 {
 /// Returns the character of a number, or `None` if the number is negative or above that of
 /// `char::MAX`, 1,112,063.
 ///
-/// Does not allocate.
+/// `O(1)`. Does not allocate.
 ///
 /// ```
 /// use intervallum::proved::examples::*;
