@@ -93,7 +93,18 @@ pub mod prelude {
     pub use crate::{Full, IntervalSet, PagedSet, Size, Width};
 }
 
-pub use bounds::Full;
+/// A set of `Full` integers has byte 0xFF and port 65535 too:
+///
+/// ```
+/// use intervallum::{Full, IntervalSet};
+///
+/// let mut open = IntervalSet::from([Full(0u16)..=Full(1023), Full(65535)..=Full(65535)]);
+/// assert_eq!(open.size(), 1025u32);
+/// assert!(open.remove(Full(80)) && open.contains(65535.into()));
+/// assert_eq!(open.to_string(), "{[0..79][81..1023][65535..65535]}");
+/// ```
+#[doc(inline)]
+pub use proved::width::full::Full;
 pub use proved::width::{SizeNumber, Width};
 #[doc(inline)]
 pub use set::{IntervalSet, PagedSet};

@@ -33,6 +33,14 @@ unsigned_order = record {
   total = nat_cmp_is_int_cmp;
 }
 
+-- the same of a struct of one such field
+pub full_order : {K : Type 0} (field : K → ℕ) → OrdersByNumber (λ x. pos (field x)) (λ x y. nat_eq (field x) (field y)) (λ x y. Some (nat_cmp (field x) (field y))) (λ x y. nat_cmp (field x) (field y))
+full_order field = record {
+  equal = λ x y. nat_eq_is_int_eq (field x) (field y);
+  partial = λ x y. ap Some (nat_cmp_is_int_cmp (field x) (field y));
+  total = λ x y. nat_cmp_is_int_cmp (field x) (field y);
+}
+
 pub size_order : OrdersByCount (λ x. x) nat_eq (λ x y. Some (nat_cmp x y)) nat_cmp
 size_order = record { equal = λ _ _. refl; partial = λ _ _. refl; total = λ _ _. refl }
 
@@ -49,6 +57,17 @@ range_u8 = record {
 
 pub countable_u8 : width_of (pos 0, pos (2 ^ 8 - 2)) ≤ 2 ^ 8 - 1
 countable_u8 = lit≤ tt
+
+pub range_full_u8 : IsBoundRange (pos 0, pos (2 ^ 8 - 1))
+range_full_u8 = record {
+  low_at_most = record { le = tt };
+  high_at_least = record { le = tt };
+  low_at_least = record { le = tt };
+  high_at_most = record { le = tt };
+}
+
+pub countable_full_u8 : width_of (pos 0, pos (2 ^ 8 - 1)) ≤ 2 ^ 16 - 1
+countable_full_u8 = lit≤ tt
 
 pub range_i8 : IsBoundRange (negsuc (2 ^ 7 - 2), pos (2 ^ 7 - 1))
 range_i8 = record {
@@ -75,6 +94,17 @@ range_u16 = record {
 pub countable_u16 : width_of (pos 0, pos (2 ^ 16 - 2)) ≤ 2 ^ 16 - 1
 countable_u16 = lit≤ tt
 
+pub range_full_u16 : IsBoundRange (pos 0, pos (2 ^ 16 - 1))
+range_full_u16 = record {
+  low_at_most = record { le = tt };
+  high_at_least = record { le = tt };
+  low_at_least = record { le = tt };
+  high_at_most = record { le = tt };
+}
+
+pub countable_full_u16 : width_of (pos 0, pos (2 ^ 16 - 1)) ≤ 2 ^ 32 - 1
+countable_full_u16 = lit≤ tt
+
 pub range_i16 : IsBoundRange (negsuc (2 ^ 15 - 2), pos (2 ^ 15 - 1))
 range_i16 = record {
   low_at_most = record { le = tt };
@@ -99,6 +129,17 @@ range_u32 = record {
 
 pub countable_u32 : width_of (pos 0, pos (2 ^ 32 - 2)) ≤ 2 ^ 32 - 1
 countable_u32 = lit≤ tt
+
+pub range_full_u32 : IsBoundRange (pos 0, pos (2 ^ 32 - 1))
+range_full_u32 = record {
+  low_at_most = record { le = tt };
+  high_at_least = record { le = tt };
+  low_at_least = record { le = tt };
+  high_at_most = record { le = tt };
+}
+
+pub countable_full_u32 : width_of (pos 0, pos (2 ^ 32 - 1)) ≤ 2 ^ 64 - 1
+countable_full_u32 = lit≤ tt
 
 pub range_i32 : IsBoundRange (negsuc (2 ^ 31 - 2), pos (2 ^ 31 - 1))
 range_i32 = record {

@@ -3,6 +3,8 @@ ghost use Rattle.std.specs.Prelude.{◌≡◌, ℕ, ◌+◌, ◌-◌, ◌^◌, �
 ghost use Rattle.ivl_laws.specs.Sets.{IsBetween, IsInRange};
 ghost use Rattle.ivl_laws.specs.Bounds.{width_of, OrdersByNumber, OrdersByCount, IsBoundRange};
 
+pub mod characters;
+pub mod full;
 mod signed;
 mod sizes;
 mod unsigned;
@@ -110,6 +112,7 @@ pub trait SizeNumber: Ord + Copy {
 /// |---|---|---|---|
 /// | `u8`, `u16`, `u32`, `u64`, `usize` | 0 | the greatest value less 1 | the type itself |
 /// | `i8`, `i16`, `i32`, `i64`, `isize` | the least value plus 1 | the greatest value | the unsigned type of its width |
+/// | [`Full<u8>`](crate::width::full::Full), `Full<u16>`, `Full<u32>` | 0 | the greatest value | `u16`, `u32`, `u64` |
 ///
 /// ```
 /// assert_eq!(rt; <u8 as Width>::max_value(), 254);

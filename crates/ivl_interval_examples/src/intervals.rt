@@ -12,6 +12,8 @@ use ivl_interval::ops::{
     ShrinkRight, Singleton, StrictShrinkLeft, StrictShrinkRight, Subset, ToInterval, Top, Whole,
 };
 use ivl_interval::optional::Optional;
+use ivl_interval::width::characters::{character_of, number_of};
+use ivl_interval::width::full::Full;
 use ivl_interval::width::{SizeNumber, Width};
 use std::alloc::Global;
 use std::fmt::{Debug, Display};
@@ -410,5 +412,39 @@ fn numbers_of_sizes(rt: HostRuntime) {
             <u8 as SizeNumber>::add_in_range(200, 55),
         ],
         &[0, 255],
+    );
+}
+
+#[test]
+fn bounds_with_every_value(rt: HostRuntime) {
+    let last = <Full<u8> as Width>::from_number(255).unwrap();
+    check(
+        &rt,
+        &[<Full<u8> as Width>::max_value().0, last.0],
+        &[255, 255],
+    );
+    check(
+        &rt,
+        &[<Full<u8> as Width>::width(&Full(0), &Full(255))],
+        &[256u16],
+    );
+    assert!(rt; <Full<u8> as Width>::from_number(256).is_none());
+}
+
+#[test]
+fn numbers_of_characters(rt: HostRuntime) {
+    let letters = Interval::new(number_of('a') as u32, number_of('z') as u32);
+    assert!(rt; letters.contains(&(number_of('q') as u32)));
+    check(&rt, &[letters.size()], &[26]);
+    let across = number_of('\u{e000}') - number_of('\u{d7ff}');
+    check(&rt, &[number_of('a'), across], &[97, 1]);
+    check(
+        &rt,
+        &[
+            character_of(97),
+            character_of(0xd800),
+            character_of(0x110000),
+        ],
+        &[Some('a'), Some('\u{e000}'), None],
     );
 }

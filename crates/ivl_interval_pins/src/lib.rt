@@ -1,9 +1,12 @@
 //! What callers of intervals can rely on, each as a function that learns it from the public contracts alone.
 //!
 //! [`callers`] know a type by one trait bound; [`intervals`] gives the result of each trait for intervals, in plain
-//! numbers; [`ranges`] gives the ranges of the ten integer types.
+//! numbers; [`ranges`] gives the ranges of the ten integer types, [`full_values`] those of the unsigned integers with every
+//! value of their type, and [`characters`] the numbers of characters.
 #![tactic(auto)]
 
 pub mod callers;
+pub mod characters;
+pub mod full_values;
 pub mod intervals;
 pub mod ranges;

@@ -1,7 +1,7 @@
 //! Iterators over runs and members, and sets from iterators.
 use super::reads::as_range;
 use super::{IntervalSet, PagedSet, Pieces};
-use crate::bounds::Full;
+use crate::Full;
 use crate::proved::Interval;
 use crate::proved::ivl_paged::{PagedSet as ProvedPagedSet, paged_set};
 use crate::proved::ops::{Bounded, IsEmpty};

@@ -4,6 +4,8 @@
 #[allow(unused_imports)]
 use crate::rattle::prelude::*;
 
+pub mod characters;
+pub mod full;
 mod signed;
 mod sizes;
 mod unsigned;
@@ -180,6 +182,7 @@ pub trait SizeNumber: Ord + Copy {
 /// |---|---|---|---|
 /// | `u8`, `u16`, `u32`, `u64`, `usize` | 0 | the greatest value less 1 | the type itself |
 /// | `i8`, `i16`, `i32`, `i64`, `isize` | the least value plus 1 | the greatest value | the unsigned type of its width |
+/// | [`Full<u8>`](crate::proved::ivl_interval::width::full::Full), `Full<u16>`, `Full<u32>` | 0 | the greatest value | `u16`, `u32`, `u64` |
 ///
 /// ```
 /// use intervallum::proved::examples::*;
