@@ -4,7 +4,9 @@ use intervallum::proved::Global;
 use intervallum::proved::ivl_search::search::{Best, End, Limits, SearchFault, count, greatest, least, solutions};
 use intervallum::proved::ivl_store::network::{Network, Settled};
 use intervallum::proved::ivl_store::store::{Constraint, StoreFault};
+use intervallum::proved::ivl_within::within::{Combined, differences_in_window, results_in_set, sums_in_window};
 use intervallum::proved::prelude::*;
+use intervallum::proved::{AllocError, Interval};
 
 mod memory;
 use memory::{Watched, refusing};
@@ -148,17 +150,18 @@ fn a_network_that_settles_can_be_taken_back_and_goes_on() {
     let mut whole = network();
     assert_eq!(whole.settle(1_000).unwrap(), Settled::All);
     let after = seen(&whole);
-    let (refused, told) = each_refused(
-        network,
-        |network| network.settle(1_000),
-        |network, made, _| {
+    type Settle = fn(&mut Network<i64>) -> Result<Settled, StoreFault>;
+    let settles: [(&str, Settle); 2] =
+        [("settle", |network| network.settle(1_000)), ("settle_within", |network| network.settle_within(1_000))];
+    for (name, settle) in settles {
+        let (refused, told) = each_refused(network, settle, |network, made, _| {
             let mut again = network.domains().iter().zip(&after.0);
             // what was narrowed so far stays, and lost nothing
             assert!(again.all(|(domain, end)| end.is_subset(domain)));
             made.is_ok_and(|settled| settled == Settled::All && seen(network) == after)
-        },
-    );
-    assert!(refused > 3 && told > 3, "{refused}, {told}");
+        });
+        assert!(refused > 3 && told > 3, "{name}: {refused}, {told}");
+    }
     let mut back = network();
     assert!(refusing(1, || back.settle(1_000)).0.is_err());
     assert_eq!(back.settle(1_000).unwrap(), Settled::All);
@@ -171,7 +174,7 @@ fn sums_of_many_pairs_of_runs() {
         let pairs: Vec<(i64, i64)> = (0..20).map(|i| (step * i, step * i + step / 2)).collect();
         pairs.as_slice().to_interval_set(Global).unwrap()
     };
-    type Call = fn(&Set, &Set) -> Result<Set, intervallum::proved::AllocError>;
+    type Call = fn(&Set, &Set) -> Result<Set, AllocError>;
     let calls: [(&str, Call); 3] = [("+", |a, b| a + b), ("-", |a, b| a - b), ("*", |a, b| a * b)];
     for (name, call) in calls {
         let wanted = call(&of(4), &of(6)).unwrap();
@@ -184,5 +187,39 @@ fn sums_of_many_pairs_of_runs() {
             },
         );
         assert!(refused > 3 && told > 3, "{name}: {refused}, {told}");
+    }
+}
+
+/// Sums cut to a window or to a set, by pairs and run by run: the operands stay.
+#[test]
+fn sums_in_windows() {
+    let of = |count: i64, step: i64| -> Set {
+        let pairs: Vec<(i64, i64)> = (0..count).map(|i| (step * i, step * i + step / 3)).collect();
+        pairs.as_slice().to_interval_set(Global).unwrap()
+    };
+    let operands = || (of(2, 50), of(20, 6), of(30, 9));
+    let window = Interval::new(40, 60);
+    type Call = fn(&Set, &Set, &Set) -> Result<Set, AllocError>;
+    let calls: [(&str, Call); 3] = [
+        ("sums_in_window", |_, a, b| sums_in_window(a, b, &Interval::new(40, 60))),
+        ("differences_in_window", |_, a, b| differences_in_window(a, b, &Interval::new(40, 60))),
+        ("results_in_set", |x, a, b| results_in_set(x, a, b, Combined::Sum)),
+    ];
+    for (name, call) in calls {
+        let (x, a, b) = operands();
+        let wanted = call(&x, &a, &b).unwrap();
+        assert!(
+            !wanted.is_empty()
+                && (name.starts_with("results") || wanted.is_subset(&window.to_interval_set(Global).unwrap()))
+        );
+        let (refused, told) = each_refused(
+            operands,
+            |(x, a, b)| call(x, a, b),
+            |given, made, _| {
+                assert!(*given == operands());
+                made.is_ok_and(|set| set == wanted)
+            },
+        );
+        assert!(refused > 1 && told > 1, "{name}: {refused}, {told}");
     }
 }
