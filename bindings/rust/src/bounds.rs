@@ -1,6 +1,6 @@
 //! Types of bounds beside the integers of Rust: characters, IPv4 addresses, and the traits of Rust's std for [`Full`].
 use crate::Full;
-use crate::proved::width::{Width, characters};
+use crate::proved::width::{Width, addresses, characters};
 use core::fmt::{self, Debug, Display};
 use core::net::Ipv4Addr;
 use core::num::ParseIntError;
@@ -78,7 +78,10 @@ impl Width for char {
     }
 }
 
-/// Every IPv4 address. Its number is that of its four bytes, the first the highest. Not proved but tested are the laws of [`Width`].
+/// Every IPv4 address. Its number is that of its four bytes, the first the highest.
+///
+/// Proved are both conversions, `number` and `from_number`, and that order and equality are those of the numbers. Not proved but
+/// tested, at a million addresses, is that this impl hands them on.
 ///
 /// ```
 /// use intervallum::IntervalSet;
@@ -102,11 +105,11 @@ impl Width for Ipv4Addr {
     }
 
     fn number(self) -> i128 {
-        u32::from(self).into()
+        addresses::number_of_address(self)
     }
 
     fn from_number(number: i128) -> Option<Ipv4Addr> {
-        u32::try_from(number).ok().map(Ipv4Addr::from)
+        addresses::address_of(number)
     }
 }
 

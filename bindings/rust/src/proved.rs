@@ -82,12 +82,14 @@ pub mod examples {
     pub use super::prelude::*;
     pub use super::steps::{Place, Probes, Walk, common, find, unite};
     pub use super::sweep::{Op, coalesce, images};
+    pub use super::width::addresses::{address_of, number_of_address};
     pub use super::width::characters::{character_of, number_of};
     pub use super::width::full::Full;
     pub use super::{AllocError, Global};
     pub use crate::rattle::boxed::Box;
     pub use crate::rattle::clone::Clone as _;
     pub use crate::rattle::vec::Vec;
+    pub use core::net::Ipv4Addr;
     #[cfg(feature = "json")]
     pub use {core::str::FromStr, serde_json::Value};
 }

@@ -3,6 +3,7 @@ ghost use Rattle.std.specs.Prelude.{◌≡◌, ℕ, ◌+◌, ◌-◌, ◌^◌, �
 ghost use Rattle.ivl_laws.specs.Sets.{IsBetween, IsInRange};
 ghost use Rattle.ivl_laws.specs.Bounds.{width_of, OrdersByNumber, OrdersByCount, IsBoundRange};
 
+pub mod addresses;
 pub mod characters;
 pub mod full;
 mod signed;

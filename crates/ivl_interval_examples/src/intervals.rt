@@ -12,11 +12,13 @@ use ivl_interval::ops::{
     ShrinkRight, Singleton, StrictShrinkLeft, StrictShrinkRight, Subset, ToInterval, Top, Whole,
 };
 use ivl_interval::optional::Optional;
+use ivl_interval::width::addresses::{address_of, number_of_address};
 use ivl_interval::width::characters::{character_of, number_of};
 use ivl_interval::width::full::Full;
 use ivl_interval::width::{SizeNumber, Width};
 use std::alloc::Global;
 use std::fmt::{Debug, Display};
+use std::net::Ipv4Addr;
 use std::process::Abort;
 
 /// Values are those that are wanted.
@@ -447,4 +449,17 @@ fn numbers_of_characters(rt: HostRuntime) {
         ],
         &[Some('a'), Some('\u{e000}'), None],
     );
+}
+
+#[test]
+fn numbers_of_addresses(rt: HostRuntime) {
+    let (first, last) = (Ipv4Addr::new(10, 0, 0, 0), Ipv4Addr::new(10, 255, 255, 255));
+    let net = Interval::new(
+        number_of_address(first) as u64,
+        number_of_address(last) as u64,
+    );
+    check(&rt, &[net.size()], &[1 << 24]);
+    let host = Ipv4Addr::new(0, 0, 1, 2);
+    check(&rt, &[number_of_address(host)], &[258]);
+    assert!(rt; address_of(258) == Some(host) && address_of(-1).is_none());
 }

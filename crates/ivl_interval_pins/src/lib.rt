@@ -2,9 +2,10 @@
 //!
 //! [`callers`] know a type by one trait bound; [`intervals`] gives the result of each trait for intervals, in plain
 //! numbers; [`ranges`] gives the ranges of the ten integer types, [`full_values`] those of the unsigned integers with every
-//! value of their type, and [`characters`] the numbers of characters.
+//! value of their type, and [`characters`] and [`addresses`] the numbers of characters and IPv4 addresses.
 #![tactic(auto)]
 
+pub mod addresses;
 pub mod callers;
 pub mod characters;
 pub mod full_values;

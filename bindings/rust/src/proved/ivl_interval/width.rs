@@ -4,6 +4,7 @@
 #[allow(unused_imports)]
 use crate::rattle::prelude::*;
 
+pub mod addresses;
 pub mod characters;
 pub mod full;
 mod signed;
