@@ -72,6 +72,8 @@ macro_rules! cost {
     (IntervalSet fit_from) => { "`O(log n + k)` for the `k` runs from `value` up to the first that is long enough." };
     (PagedSet fit_from) => { "Reads the runs of two pages, and one number of each page between." };
     (IntervalSet merge) => { "`O(n + m)`." };
+    (IntervalSet sizes) => { "`O(n + m)`, or `O(k log (n + m))` for `k` runs beside more than sixteen times as many." };
+    (PagedSet sizes) => { "`O(n + m)`, with a copy of the runs." };
     (PagedSet merge) => { "`O(n + m)`, with a copy of the runs." };
 }
 

@@ -323,7 +323,7 @@ macro_rules! reads {
             }
 
             /// Returns the number of members of both sets.
-            #[doc = cost!($Set merge)]
+            #[doc = cost!($Set sizes)]
             ///
             /// ```
             #[doc = concat!("# use intervallum::", stringify!($Set), ";")]
@@ -337,7 +337,7 @@ macro_rules! reads {
             }
 
             /// Returns the number of members of either set.
-            #[doc = cost!($Set merge)]
+            #[doc = cost!($Set sizes)]
             #[doc = contract!(lists $Set "union_size")]
             #[must_use]
             pub fn union_size(&self, other: &impl AnySet<T>) -> T::Output {
@@ -345,7 +345,7 @@ macro_rules! reads {
             }
 
             /// Returns the number of members that are not in `other`.
-            #[doc = cost!($Set merge)]
+            #[doc = cost!($Set sizes)]
             #[doc = contract!(lists $Set "difference_size")]
             #[must_use]
             pub fn difference_size(&self, other: &impl AnySet<T>) -> T::Output {
