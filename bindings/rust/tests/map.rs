@@ -176,7 +176,7 @@ fn a_condition_that_does_not_hold_is_told() {
         (map.checked_insert(254, 'b'), map.checked_extend([(7, 'c'), (8, 'c')]), map.get(255)),
         (Some(()), Some(()), None)
     );
-    assert_eq!(map.to_owned().into_iter().last(), Some((254..=254, 'b')));
+    assert_eq!(map.iter().last(), Some((254..=254, &'b')));
     let (first, file) = panics_at(|| IntervalMap::new().insert(255u8, 'a'));
     assert!(file.ends_with("map.rs") && first > 0, "{file}");
 }
@@ -218,7 +218,7 @@ fn maps_stand_in_statics_and_are_shared() {
     let mut none = NONE.clone();
     none.clear();
     none.update(.., String::clone);
-    assert!(none == NONE && NONE == none && format!("{none:?}") == "{}");
+    assert_eq!((format!("{none:?}"), none), ("{}".to_owned(), NONE.clone()));
     std::thread::scope(|scope| {
         for i in 0..8u64 {
             scope.spawn(move || SHARED.lock().unwrap().insert(100 * i..100 * i + 90, i % 2));
