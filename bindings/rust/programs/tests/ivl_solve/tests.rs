@@ -88,7 +88,8 @@ fn a_limit_bounds_one_narrowing() { let rt = HostRuntime;
         "var x {pairs}\nvar y {pairs}\nvar z {pairs}\nlimit 1\nsum x y z\ngo on\nlimit 2\ngo on\nlimit 1\ncut x 2 9\nshow x\n"
     );
     // Of 300 pairs of runs the limit of 1 takes none; of the 180 that are left by the cut, all.
-    let answers = "ok\nok\nok\nok\nunfinished\nunfinished\nunfinished\nok\nok\nok\nx {[2..2][4..4][6..6][8..8]}\nok\n";
+    let answers =
+        "ok\nok\nok\nok\nunfinished\nunfinished\nunfinished\nok\nok\nok\nx {[2..2][4..4][6..6][8..8]}\nok\n";
     check_session(&rt, lines.expect( "memory").as_str(), answers);
 }
 
