@@ -11,6 +11,7 @@
 //! | [`interval`], [`interval_set`], [`ops`], [`width`] | intervals, sets, their operations, and the types of bounds |
 //! | [`steps`], [`sweep`] | walks over the runs of sets, and sets from lists of intervals, as parts for calls of your own |
 //! | [`ivl_paged`] | sets for many runs that change: their runs stand in pages |
+//! | [`ivl_map`] | maps from integers to values, stored as maximal runs of equal values |
 //! | [`ivl_within`] | sums and differences that are cut to a window |
 //! | [`ivl_store`] | domains of variables, narrowed by constraints `x + y = z` |
 //! | [`ivl_search`] | the points that solve such constraints: all of them, or as many as limits allow |
@@ -51,6 +52,7 @@ pub mod ivl_json;
 #[allow(unused_imports)]
 #[cfg(target_pointer_width = "64")]
 pub mod ivl_buffers;
+pub mod ivl_map;
 pub mod ivl_paged;
 pub mod ivl_search;
 pub mod ivl_store;
@@ -69,6 +71,7 @@ pub mod examples {
     pub use super::ivl_expr::{EvalFault, Expr, eval};
     #[cfg(feature = "json")]
     pub use super::ivl_json::{ItemFault, JsonFault, JsonForm};
+    pub use super::ivl_map::{IntervalMap, MapValue};
     pub use super::ivl_paged::PagedSet;
     pub use super::ivl_search::search::{
         Best, End, Found, Limits, SearchFault, all_distinct, count, greatest, least, solutions, try_solutions,

@@ -1,0 +1,109 @@
+// Written by bindings/rust/extract from crates/ivl_map/src/interval_map/changes.rt.
+//! Changes that depend on what the map has.
+
+#[allow(unused_imports)]
+use crate::rattle::prelude::*;
+use super::IntervalMap;
+use crate::proved::ivl_map::updates::updated;
+use crate::proved::ivl_map::value::MapValue;
+use crate::proved::ivl_map::writes::put_if_free;
+use crate::proved::intervallum::interval::Interval;
+use crate::proved::intervallum::ops::IsEmpty;
+use crate::proved::intervallum::width::Width;
+use crate::rattle::std::alloc::AllocError;
+
+impl<B: Width, V: MapValue> IntervalMap<B, V> {
+    /// Gives each number of the interval, which may be empty, the value, if none of them has one yet,
+    /// and returns `None`. Otherwise returns the run of the first entry in the way, and the map is
+    /// unchanged. An entry that touches the interval and has an equal value grows.
+    ///
+    /// Binary search: `O(log n)`, or `O(n)` if an entry is added, as the entries above the interval
+    /// then move. Copies no value.
+    ///
+    /// # Errors
+    ///
+    /// Fails only if an allocation fails. The map is then unchanged.
+    ///
+    /// ```
+    /// use intervallum::proved::examples::*;
+    ///
+    /// fn main() -> Result<(), std::boxed::Box<dyn std::error::Error>> {
+    ///     let alloc = Global;
+    ///     let mut a = IntervalMap::of(alloc, Interval::new(1i32, 5), 'a')?;
+    ///     assert!(a.insert_if_free(Interval::new(4, 9), 'b')? == Some(Interval::new(1, 5)));
+    ///     assert!(a.insert_if_free(Interval::new(6, 9), 'b')?.is_none());
+    ///     assert!(a.get(&5) == Some(&'a') && a.get(&6) == Some(&'b'));
+    ///     Ok(())
+    /// }
+    /// ```
+    ///
+    /// # Proved
+    ///
+    /// ```text
+    /// ensures free { IfOk result (λ met. IfNone met (HasNone (Intersection (IsBetween interval) (HasValue (HasAt V.eq self.old))))) }
+    /// ensures written { IfOk result (λ met. IfNone met (IsEntriesOf V.eq self.new (Written V.eq interval value (HasAt V.eq self.old)))) }
+    /// ensures met { IfOk result (λ met. IfSome met (λ run. (held : V) × IsFirstRunOf V.eq (Intersection (IsBetween interval) (HasValue (HasAt V.eq self.old))) (HasAt V.eq self.old) (run, held))) }
+    /// ensures unchanged { IfOk result (λ met. IfSome met (λ _. self.new ≡ self.old)) }
+    /// ensures err { OnErr result (self.new ≡ self.old) }
+    /// ```
+    ///
+    /// Words: [`HasNone`](crate::definitions#HasNone), [`Intersection`](crate::definitions#Intersection), [`IsBetween`](crate::definitions#IsBetween), [`HasValue`](crate::definitions#HasValue), [`HasAt`](crate::definitions#HasAt), [`IsEntriesOf`](crate::definitions#IsEntriesOf), [`Written`](crate::definitions#Written), [`IsFirstRunOf`](crate::definitions#IsFirstRunOf).
+    pub fn insert_if_free(
+        &mut self,
+        interval: Interval<B>,
+        value: V,
+    ) -> Result<Option<Interval<B>>, AllocError> {
+        self.in_order();
+        if interval.is_empty() {
+            return Ok(None);
+        }
+        interval.in_whole();
+        put_if_free(&mut self.entries, interval, value)
+    }
+
+    /// Changes the values of the numbers of the interval, which may be empty: each that has a value gets
+    /// what `change` returns for it. `change` is called once for each entry that has numbers of the
+    /// interval, in ascending order.
+    ///
+    /// `O(n)`: makes the list of entries anew, and copies the values of the numbers outside of the
+    /// interval.
+    ///
+    /// # Errors
+    ///
+    /// Fails only if `change`, an allocation or the copy of a value fails. The map is then unchanged.
+    ///
+    /// ```
+    /// use intervallum::proved::examples::*;
+    ///
+    /// fn main() -> Result<(), std::boxed::Box<dyn std::error::Error>> {
+    ///     let alloc = Global;
+    ///     let mut a = IntervalMap::of(alloc, Interval::new(1i32, 9), 5u32)?;
+    ///     a.update(Interval::new(4, 20), |value| Ok(*value / 2))?;
+    ///     assert!(a.get(&3) == Some(&5) && a.get(&4) == Some(&2) && a.get(&10).is_none());
+    ///     Ok(())
+    /// }
+    /// ```
+    ///
+    /// # Proved
+    ///
+    /// ```text
+    /// requires { F.IsAlwaysCallable change }
+    /// ensures ok { OnOk result (IsUpdated V.eq (λ v w. FnReturnsAt F.Fn change v (Ok w)) (IsBetween interval) self.old self.new) }
+    /// ensures err { OnErr result (self.new ≡ self.old) }
+    /// ```
+    ///
+    /// Words: [`IsUpdated`](crate::definitions#IsUpdated), [`IsBetween`](crate::definitions#IsBetween).
+    pub fn update<F: Fn(&V) -> Result<V, AllocError>>(
+        &mut self,
+        interval: Interval<B>,
+        change: F,
+    ) -> Result<(), AllocError> {
+        self.in_order();
+        if interval.is_empty() {
+            return Ok(());
+        }
+        let entries = updated(self.allocator(), &self.entries, interval, change)?;
+        self.entries = entries;
+        Ok(())
+    }
+}

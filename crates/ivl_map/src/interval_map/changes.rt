@@ -1,0 +1,88 @@
+//! Changes that depend on what the map has.
+ghost use Rattle.std.specs.Prelude.{◌≡◌, Ok, IfNone, IfOk, IfSome, OnErr, OnOk};
+ghost use Rattle.std.specs.Fn.{FnReturnsAt};
+ghost use Rattle.ivl_laws.specs.Sets.{HasNone, Intersection, IsBetween};
+ghost use Rattle.ivl_map.specs.Entries.{HasAt, HasValue, IsEntriesOf, Written};
+ghost use Rattle.ivl_map.specs.Changes.{IsUpdated};
+ghost use Rattle.ivl_map.specs.Lookups.{IsFirstRunOf};
+
+use super::IntervalMap;
+use crate::updates::updated;
+use crate::value::MapValue;
+use crate::writes::put_if_free;
+use intervallum::interval::Interval;
+use intervallum::ops::IsEmpty;
+use intervallum::width::Width;
+use std::alloc::AllocError;
+
+impl<B: Width, V: MapValue> IntervalMap<B, V> {
+    /// Gives each number of the interval, which may be empty, the value, if none of them has one yet,
+    /// and returns `None`. Otherwise returns the run of the first entry in the way, and the map is
+    /// unchanged. An entry that touches the interval and has an equal value grows.
+    ///
+    /// Binary search: `O(log n)`, or `O(n)` if an entry is added, as the entries above the interval
+    /// then move. Copies no value.
+    ///
+    /// # Errors
+    ///
+    /// Fails only if an allocation fails. The map is then unchanged.
+    ///
+    /// ```
+    /// let mut a = IntervalMap::of(alloc, Interval::new(1i32, 5), 'a')?;
+    /// assert!(rt; a.insert_if_free(Interval::new(4, 9), 'b')? == Some(Interval::new(1, 5)));
+    /// assert!(rt; a.insert_if_free(Interval::new(6, 9), 'b')?.is_none());
+    /// assert!(rt; a.get(&5) == Some(&'a') && a.get(&6) == Some(&'b'));
+    /// ```
+    pub fn insert_if_free(
+        &mut self,
+        interval: Interval<B>,
+        value: V,
+    ) -> Result<Option<Interval<B>>, AllocError>
+        ensures free { IfOk result (λ met. IfNone met (HasNone (Intersection (IsBetween interval) (HasValue (HasAt V.eq self.old))))) }
+        ensures written { IfOk result (λ met. IfNone met (IsEntriesOf V.eq self.new (Written V.eq interval value (HasAt V.eq self.old)))) }
+        ensures met { IfOk result (λ met. IfSome met (λ run. (held : V) × IsFirstRunOf V.eq (Intersection (IsBetween interval) (HasValue (HasAt V.eq self.old))) (HasAt V.eq self.old) (run, held))) }
+        ensures unchanged { IfOk result (λ met. IfSome met (λ _. self.new ≡ self.old)) }
+        ensures err { OnErr result (self.new ≡ self.old) }
+    {
+        self.in_order();
+        if interval.is_empty() {
+            return Ok(None);
+        }
+        interval.in_whole();
+        put_if_free(&mut self.entries, interval, value)
+    }
+
+    /// Changes the values of the numbers of the interval, which may be empty: each that has a value gets
+    /// what `change` returns for it. `change` is called once for each entry that has numbers of the
+    /// interval, in ascending order.
+    ///
+    /// `O(n)`: makes the list of entries anew, and copies the values of the numbers outside of the
+    /// interval.
+    ///
+    /// # Errors
+    ///
+    /// Fails only if `change`, an allocation or the copy of a value fails. The map is then unchanged.
+    ///
+    /// ```
+    /// let mut a = IntervalMap::of(alloc, Interval::new(1i32, 9), 5u32)?;
+    /// a.update(Interval::new(4, 20), |value| Ok(*value / 2))?;
+    /// assert!(rt; a.get(&3) == Some(&5) && a.get(&4) == Some(&2) && a.get(&10).is_none());
+    /// ```
+    pub fn update<F: Fn(&V) -> Result<V, AllocError>>(
+        &mut self,
+        interval: Interval<B>,
+        change: F,
+    ) -> Result<(), AllocError>
+        requires { F.IsAlwaysCallable change }
+        ensures ok { OnOk result (IsUpdated V.eq (λ v w. FnReturnsAt F.Fn change v (Ok w)) (IsBetween interval) self.old self.new) }
+        ensures err { OnErr result (self.new ≡ self.old) }
+    {
+        self.in_order();
+        if interval.is_empty() {
+            return Ok(());
+        }
+        let entries = updated(self.allocator(), &self.entries, interval, change)?;
+        self.entries = entries;
+        Ok(())
+    }
+}

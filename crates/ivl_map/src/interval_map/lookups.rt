@@ -1,0 +1,180 @@
+//! The value at a number, and the entries next to it.
+ghost use Rattle.std.specs.Prelude.{◌≡◌, ◌↔◌, ◌<◌, ◌≤◌, ℤ, IfSome, IsTrue, MatchOption, length, slice_index_or, suc, ℕ};
+ghost use Rattle.ivl_laws.specs.Sets.{AtLeast, AtMost, HasNone};
+ghost use Rattle.ivl_laws.specs.Counts.{IsIn};
+ghost use Rattle.ivl_map.specs.Entries.{HasAt, HasValue};
+ghost use Rattle.ivl_map.specs.Lookups.{IsFirstRunOf, IsLastRunOf, IsRunOfValue, IsStoredAt};
+
+use super::IntervalMap;
+use crate::search::{ends_below, find, starts_up_to};
+use crate::value::MapValue;
+use intervallum::interval::Interval;
+use intervallum::width::Width;
+
+impl<B: Width, V: MapValue> IntervalMap<B, V> {
+    /// Returns the value at a number, or `None` if it has none. The number may be any value of its
+    /// type. Binary search: `O(log n)`. Does not allocate.
+    ///
+    /// ```
+    /// let a = IntervalMap::of(alloc, Interval::new(1i32, 5), 'a')?;
+    /// assert!(rt; a.get(&5) == Some(&'a') && a.get(&6).is_none());
+    /// ```
+    pub fn get(&self, item: &B) -> Option<&V>
+        ensures value { MatchOption result
+            ((v : V) → ¬ (HasAt V.eq self.now (B.value item.now) v))
+            (λ v. HasAt V.eq self.now (B.value item.now) v.now) }
+        ensures stored { IfSome result (λ v. IsStoredAt self.now (B.value item.now) v.now) }
+    {
+        let entries = self.entries.as_slice();
+        match find(entries, *item) {
+            Some(place) => Some(&entries[place].1),
+            None => None,
+        }
+    }
+
+    /// Returns true exactly when a number has a value. Binary search: `O(log n)`. Does not allocate.
+    ///
+    /// ```
+    /// let a = IntervalMap::of(alloc, Interval::new(1i32, 5), 'a')?;
+    /// assert!(rt; a.contains(&5) && !a.contains(&6));
+    /// ```
+    pub fn contains(&self, item: &B) -> bool
+        ensures { IsTrue result ↔ HasValue (HasAt V.eq self.now) (B.value item.now) }
+    {
+        self.get(item).is_some()
+    }
+
+    /// Returns the longest interval with the number in it whose numbers all have equal values, and
+    /// that value, or `None` if the number has none. Binary search: `O(log n)`. Does not allocate.
+    ///
+    /// ```
+    /// let a = IntervalMap::of(alloc, Interval::new(1i32, 5), 'a')?;
+    /// assert!(rt; a.get_run(3) == Some((Interval::new(1, 5), &'a')));
+    /// assert!(rt; a.get_run(6).is_none());
+    /// ```
+    pub fn get_run(&self, item: B) -> Option<(Interval<B>, &V)>
+        ensures run { MatchOption result
+            ((v : V) → ¬ (HasAt V.eq self.now (B.value item) v))
+            (λ r. IsRunOfValue V.eq (B.value item) (HasAt V.eq self.now) (r.0, r.1.now)) }
+        ensures stored { IfSome result (λ r. IsIn self.now (r.0, r.1.now)) }
+    {
+        let entries = self.entries.as_slice();
+        match find(entries, item) {
+            Some(place) => entry_at(entries, place),
+            None => None,
+        }
+    }
+
+    /// Returns the entry with the least numbers, or `None` if there is none. `O(1)`. Does not
+    /// allocate.
+    ///
+    /// ```
+    /// let mut a = IntervalMap::of(alloc, Interval::new(1i32, 5), 'a')?;
+    /// a.insert(Interval::new(8, 9), 'b')?;
+    /// assert!(rt; a.first() == Some((Interval::new(1, 5), &'a')));
+    /// ```
+    pub fn first(&self) -> Option<(Interval<B>, &V)>
+        ensures least { MatchOption result
+            (HasNone (HasValue (HasAt V.eq self.now)))
+            (λ r. IsFirstRunOf V.eq (HasValue (HasAt V.eq self.now)) (HasAt V.eq self.now) (r.0, r.1.now)) }
+        ensures stored { IfSome result (λ r. IsIn self.now (r.0, r.1.now)) }
+    {
+        entry_at(self.entries.as_slice(), 0)
+    }
+
+    /// Returns the entry with the greatest numbers, or `None` if there is none. `O(1)`. Does not
+    /// allocate.
+    ///
+    /// ```
+    /// let mut a = IntervalMap::of(alloc, Interval::new(1i32, 5), 'a')?;
+    /// a.insert(Interval::new(8, 9), 'b')?;
+    /// assert!(rt; a.last() == Some((Interval::new(8, 9), &'b')));
+    /// ```
+    pub fn last(&self) -> Option<(Interval<B>, &V)>
+        ensures greatest { MatchOption result
+            (HasNone (HasValue (HasAt V.eq self.now)))
+            (λ r. IsLastRunOf V.eq (HasValue (HasAt V.eq self.now)) (HasAt V.eq self.now) (r.0, r.1.now)) }
+        ensures stored { IfSome result (λ r. IsIn self.now (r.0, r.1.now)) }
+    {
+        let entries = self.entries.as_slice();
+        entry_before(entries, entries.len())
+    }
+
+    /// Returns the entry of the least number that is at least `v` and has a value, or `None` if
+    /// there is none. `v` may be any value of its type. Binary search: `O(log n)`. Does not
+    /// allocate.
+    ///
+    /// ```
+    /// let mut a = IntervalMap::of(alloc, Interval::new(1i32, 5), 'a')?;
+    /// a.insert(Interval::new(8, 9), 'b')?;
+    /// assert!(rt; a.next_from(4) == Some((Interval::new(1, 5), &'a')));
+    /// assert!(rt; a.next_from(6) == Some((Interval::new(8, 9), &'b')));
+    /// assert!(rt; a.next_from(10).is_none());
+    /// ```
+    pub fn next_from(&self, v: B) -> Option<(Interval<B>, &V)>
+        ensures least { MatchOption result
+            (HasNone (AtLeast (B.value v) (HasValue (HasAt V.eq self.now))))
+            (λ r. IsFirstRunOf V.eq (AtLeast (B.value v) (HasValue (HasAt V.eq self.now))) (HasAt V.eq self.now) (r.0, r.1.now)) }
+        ensures stored { IfSome result (λ r. IsIn self.now (r.0, r.1.now)) }
+    {
+        let entries = self.entries.as_slice();
+        let place = ends_below(entries, v);
+        entry_at(entries, place)
+    }
+
+    /// Returns the entry of the greatest number that is at most `v` and has a value, or `None` if
+    /// there is none. `v` may be any value of its type. Binary search: `O(log n)`. Does not
+    /// allocate.
+    ///
+    /// ```
+    /// let mut a = IntervalMap::of(alloc, Interval::new(1i32, 5), 'a')?;
+    /// a.insert(Interval::new(8, 9), 'b')?;
+    /// assert!(rt; a.previous_to(8) == Some((Interval::new(8, 9), &'b')));
+    /// assert!(rt; a.previous_to(7) == Some((Interval::new(1, 5), &'a')));
+    /// assert!(rt; a.previous_to(0).is_none());
+    /// ```
+    pub fn previous_to(&self, v: B) -> Option<(Interval<B>, &V)>
+        ensures greatest { MatchOption result
+            (HasNone (AtMost (B.value v) (HasValue (HasAt V.eq self.now))))
+            (λ r. IsLastRunOf V.eq (AtMost (B.value v) (HasValue (HasAt V.eq self.now))) (HasAt V.eq self.now) (r.0, r.1.now)) }
+        ensures stored { IfSome result (λ r. IsIn self.now (r.0, r.1.now)) }
+    {
+        let entries = self.entries.as_slice();
+        let place = starts_up_to(entries, v);
+        entry_before(entries, place)
+    }
+}
+
+/// The entry at a place, or `None` if there are no so many.
+fn entry_at<B: Width, V: MapValue>(
+    entries: &[(Interval<B>, V)],
+    place: usize,
+) -> Option<(Interval<B>, &V)>
+    ensures { MatchOption result
+        (length entries.now ≤ place)
+        (λ r. (place < length entries.now) × ((r.0, r.1.now) ≡ slice_index_or entries.now place (r.0, r.1.now))) }
+{
+    if place < entries.len() {
+        let entry = &entries[place];
+        Some((entry.0, &entry.1))
+    } else {
+        None
+    }
+}
+
+/// The entry before a place, or `None` if there is none.
+fn entry_before<B: Width, V: MapValue>(
+    entries: &[(Interval<B>, V)],
+    place: usize,
+) -> Option<(Interval<B>, &V)>
+    requires { place ≤ length entries.now }
+    ensures { MatchOption result
+        (place ≡ 0)
+        (λ r. (k : ℕ) × (place ≡ suc k) × (k < length entries.now) × ((r.0, r.1.now) ≡ slice_index_or entries.now k (r.0, r.1.now))) }
+{
+    if place == 0 {
+        None
+    } else {
+        entry_at(entries, place - 1)
+    }
+}

@@ -1,0 +1,107 @@
+//! Maps from an interval, from a list of writes, and from another map.
+ghost use Rattle.std.specs.Prelude.{◌≡◌, ℕ, IfOk, OnErr, OnOk, take};
+ghost use Rattle.ivl_map.specs.Entries.{HasAt, IsEntriesOf, IsEntryList, NoValue, Written, WrittenAll};
+
+use super::IntervalMap;
+use crate::value::MapValue;
+use intervallum::interval::Interval;
+use intervallum::width::Width;
+use std::alloc::{AllocError, Global};
+
+impl<B: Width, V: MapValue> IntervalMap<B, V> {
+    /// Returns the map in which the numbers of the interval, which may be empty, have the value, and
+    /// no others have one. `O(1)`. Fails only if allocation fails.
+    ///
+    /// ```
+    /// let a = IntervalMap::of(alloc, Interval::new(1i32, 5), 'a')?;
+    /// assert!(rt; a.get(&1) == Some(&'a') && a.get(&6).is_none());
+    /// ```
+    pub fn of(alloc: Global, interval: Interval<B>, value: V) -> Result<Self, AllocError>
+        ensures { IfOk result (λ E. IsEntriesOf V.eq E (Written V.eq interval value NoValue)) }
+    {
+        let mut map = IntervalMap::empty(alloc);
+        map.insert(interval, value)?;
+        Ok(map)
+    }
+
+    /// Returns the map of a list of intervals with values, which are written one after the other: at a
+    /// number that several have, the last one counts. Intervals may be empty. The list is consumed.
+    ///
+    /// As many calls of [`IntervalMap::insert`] as the list has elements, `m`: `O(m log m)` if they are in
+    /// ascending order, and at most `O(m^2)`. Fails only if an allocation or the copy of a value fails.
+    ///
+    /// ```
+    /// let mut list = Vec::new(alloc);
+    /// list.push((Interval::new(1i32, 9), 'a'))?;
+    /// list.push((Interval::new(4, 5), 'b'))?;
+    /// let a = IntervalMap::from_entries(alloc, list)?;
+    /// assert!(rt; a.get(&3) == Some(&'a') && a.get(&4) == Some(&'b'));
+    /// ```
+    pub fn from_entries(alloc: Global, list: Vec<(Interval<B>, V)>) -> Result<Self, AllocError>
+        ensures { IfOk result (λ E. IsEntriesOf V.eq E (WrittenAll V.eq list.items NoValue)) }
+    {
+        let mut map = IntervalMap::empty(alloc);
+        map.extend(list)?;
+        Ok(map)
+    }
+
+    /// Writes each element of a list of intervals with values, as [`IntervalMap::insert`] does, one
+    /// after the other: at a number that several have, the last one counts. The list is consumed.
+    ///
+    /// As many calls of [`IntervalMap::insert`] as the list has elements, `m`: `O(m (n + m))` at most, and
+    /// `O(m log (n + m))` if they are in ascending order and above all entries.
+    ///
+    /// # Errors
+    ///
+    /// Fails only if an allocation or the copy of a value fails. The elements before the one that
+    /// failed have then been written, and the others have not.
+    ///
+    /// ```
+    /// let mut a = IntervalMap::of(alloc, Interval::new(1i32, 9), 'a')?;
+    /// let mut list = Vec::new(alloc);
+    /// list.push((Interval::new(4, 5), 'b'))?;
+    /// a.extend(list)?;
+    /// assert!(rt; a.get(&3) == Some(&'a') && a.get(&4) == Some(&'b'));
+    /// ```
+    pub fn extend(&mut self, list: Vec<(Interval<B>, V)>) -> Result<(), AllocError>
+        ensures ok { OnOk result (IsEntriesOf V.eq self.new (WrittenAll V.eq list.items (HasAt V.eq self.old))) }
+        ensures err { OnErr result ((k : ℕ) × IsEntriesOf V.eq self.new (WrittenAll V.eq (take k list.items) (HasAt V.eq self.old))) }
+    {
+        self.in_order();
+        for (interval, value) in list {
+            self.insert(interval, value)?;
+        }
+        Ok(())
+    }
+
+    /// Returns a copy of the map. `O(n)`: copies each value. Reserves `n` entries. Fails only if an
+    /// allocation or the copy of a value fails.
+    ///
+    /// ```
+    /// let a = IntervalMap::of(alloc, Interval::new(1i32, 5), 'a')?;
+    /// assert!(rt; a.try_clone()? == a);
+    /// ```
+    pub fn try_clone(&self) -> Result<Self, AllocError>
+        ensures { IfOk result (λ E. IsEntriesOf V.eq E (HasAt V.eq self.now)) }
+    {
+        self.in_order();
+        let entries = copies_of(self.allocator(), &self.entries)?;
+        Ok(IntervalMap { entries })
+    }
+}
+
+/// The same intervals with copies of the values.
+fn copies_of<B: Width, V: MapValue>(
+    alloc: Global,
+    entries: &[(Interval<B>, V)],
+) -> Result<Vec<(Interval<B>, V)>, AllocError>
+    requires { IsEntryList V.eq entries.now }
+    ensures { IfOk result (λ made. IsEntriesOf V.eq made.items (HasAt V.eq entries.now)) }
+{
+    let mut made = Vec::with_capacity(alloc, entries.len())?;
+    for entry in entries {
+        let copy = entry.1.try_copy()?;
+        made.push((entry.0, copy))?;
+    }
+    Ok(made)
+}
