@@ -2,7 +2,7 @@
 //! `None`; in the proved face, in debug builds, a panic that names both.
 use intervallum::proved::Global;
 use intervallum::proved::{self, Interval, ops::*, width::SizeNumber, width::Width};
-use intervallum::{IntervalSet, PagedSet};
+use intervallum::{Full, IntervalSet, PagedSet};
 use std::panic::{UnwindSafe, catch_unwind};
 
 type Set = IntervalSet<u8>;
@@ -211,6 +211,10 @@ fn debug_builds_test_the_arithmetic_of_bounds_and_sizes() {
         Width::add_in_range(127i8, 1) => "the condition of `add_in_range` is broken: Width::checked_add(self, other).is_some()";
         Width::sub_in_range(0u8, 1) => "the condition of `sub_in_range` is broken: Width::checked_sub(self, other).is_some()";
         Width::mul_in_range(127u8, 3) => "the condition of `mul_in_range` is broken: Width::checked_mul(self, other).is_some()";
+        Full::<u8>::width(&Full(3), &Full(2)) => "the condition of `width` is broken: lower <= upper";
+        Width::add_in_range(Full(255u8), Full(1)) => "the condition of `add_in_range` is broken: Width::checked_add(self, other).is_some()";
+        Width::sub_in_range(Full(0u16), Full(1)) => "the condition of `sub_in_range` is broken: Width::checked_sub(self, other).is_some()";
+        Width::mul_in_range(Full(65_536u32), Full(65_536)) => "the condition of `mul_in_range` is broken: Width::checked_mul(self, other).is_some()";
         Width::add_in_range(Digit(8), Digit(1)) => "the condition of `add_in_range` is broken: self.checked_add(other).is_some()";
         Width::sub_in_range(Digit(0), Digit(1)) => "the condition of `sub_in_range` is broken: self.checked_sub(other).is_some()";
         Width::mul_in_range(Digit(3), Digit(3)) => "the condition of `mul_in_range` is broken: self.checked_mul(other).is_some()";

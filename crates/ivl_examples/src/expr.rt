@@ -4,7 +4,6 @@
 //! the tests share a few functions that have them, and name sets by their runs.
 
 mod answers;
-mod docs;
 mod faults;
 mod shapes;
 

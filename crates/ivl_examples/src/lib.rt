@@ -1,5 +1,5 @@
-//! The examples in the docs of sets and of the crates above them as tests, with worked examples of the latter. These tests
-//! stand in a crate of their own, so that they do not prove the calls once more. They name JSON, expressions and the calculator
+//! The crates above sets by examples that were worked out by hand, and sets of many runs. These tests stand in a crate of their own,
+//! so that they do not prove the calls once more. They name JSON, expressions and the calculator
 //! by the paths `ivl_json::json`, `ivl_expr::expr` and `ivl_calc::calc` alone.
 #![tactic(auto)]
 

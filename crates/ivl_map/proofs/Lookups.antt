@@ -1,5 +1,5 @@
 -- The entry of a number, the first one and the last one.
-use Rattle.std.proofs.Common.{◌≡◌, ◌⊎◌, ◌↔◌, ⊎_elim, inl, inr, ℕ, zero, suc, ◌<◌, ◌≤◌, ℤ, ◌≤ℤ◌, ◌<ℤ◌, Bool, true, false, true≢false, IsTrue, List, [], ◌∷◌, length, get_or, take, drop, refl, sym, subst, ◌∙◌, arith, Option, Some, None, is_some}
+use Rattle.std.proofs.Common.{◌≡◌, ◌⊎◌, ◌↔◌, ⊎_elim, inl, inr, ℕ, zero, suc, ◌<◌, ◌≤◌, ℤ, ◌≤ℤ◌, Bool, true≢false, IsTrue, List, [], ◌∷◌, length, get_or, take, drop, refl, sym, subst, ◌∙◌, arith, Option, Some, None, is_some}
 use Rattle.std.specs.Prelude.{IsSomeAnd, MatchOption, slice_get}
 use Rattle.std.proofs.lemmas.Int.{ints, by_lt_z}
 use Rattle.std.specs.Cmp.{IsEquivalence}
@@ -8,7 +8,7 @@ use Rattle.ivl_laws.specs.Counts.{IsIn}
 use Rattle.intervallum.specs.Neighbours.{IsGreatest, IsLeast}
 use Rattle.ivl_map.specs.Entries.{HasAt, HasValue, IsEntryList, AllEndBelow, FirstEndsFrom, IsGap, FirstStartsAbove, AllStartBy}
 use Rattle.ivl_map.specs.Lookups.{IsFirstRunOf, IsLastRunOf, IsStoredAt}
-use Rattle.ivl_map.proofs.Lists.{above_past, has-split, has_above, has_at, has_below, open_at, IsEntryList-drop}
+use Rattle.ivl_map.proofs.Lists.{has-split, has_above, has_at, has_below, open_at, IsEntryList-drop}
 use Rattle.ivl_map.proofs.Reading.{above_end, at_some, run_here, some_at}
 use Rattle.ivl_map.proofs.Searching.{end_at, start_by_at}
 use Rattle.ivl_map.proofs.Unique.{from_first}

@@ -1,11 +1,11 @@
 -- The numbers of entries, entry by entry: as a set, how many they are, and those whose values pass a test.
-use Rattle.std.proofs.Common.{◌≡◌, ◌⊎◌, ◌↔◌, ⊎_elim, inl, inr, ℕ, zero, suc, ◌+◌, ◌<◌, ◌≤◌, ℤ, pos, ◌≤ℤ◌, ◌<ℤ◌, Bool, true, false, List, [], ◌∷◌, length, get_or, take, refl, sym, subst, ◌∙◌, arith}
+use Rattle.std.proofs.Common.{◌≡◌, ◌⊎◌, ◌↔◌, ⊎_elim, inl, inr, ℕ, zero, suc, ◌+◌, ◌<◌, ◌≤◌, ℤ, Bool, true, false, List, [], ◌∷◌, length, get_or, take, refl, subst, arith}
 use Rattle.std.proofs.lemmas.Int.{ints}
 use Rattle.std.specs.Cmp.{IsEquivalence}
 use Rattle.ivl_laws.specs.Bounds.{width_of}
 use Rattle.ivl_laws.specs.Sets.{IsBetween, IsSubset, SameMembers, Union, Without}
 use Rattle.ivl_laws.specs.Runs.{Covers, IsRunsOf}
-use Rattle.ivl_laws.specs.Counts.{IsCountOf, IsIn}
+use Rattle.ivl_laws.specs.Counts.{IsCountOf}
 use Rattle.ivl_laws.proofs.Counts.{IsCountOf-apart, IsCountOf-same, count_is_monotone}
 use Rattle.ivl_laws.proofs.Intervals.{IsCountOf-width_of}
 use Rattle.ivl_laws.proofs.SetLaws.{IsRunsOf-same}

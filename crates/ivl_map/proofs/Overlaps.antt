@@ -1,13 +1,13 @@
 -- A walk over entries and runs: what they have in common.
-use Rattle.std.proofs.Common.{◌≡◌, ◌⊎◌, ◌↔◌, ⊎_elim, inl, inr, ℕ, zero, suc, ◌<◌, ◌≤◌, ℤ, pos, ◌+ℤ◌, ◌≤ℤ◌, ◌<ℤ◌, Bool, true, List, [], ◌∷◌, length, get_or, take, drop, refl, sym, subst, ◌∙◌, arith}
+use Rattle.std.proofs.Common.{◌≡◌, ◌⊎◌, ⊎_elim, inl, inr, ℕ, zero, suc, ◌<◌, ◌≤◌, ℤ, ◌≤ℤ◌, ◌<ℤ◌, Bool, true, List, [], ◌∷◌, length, get_or, drop, sym, subst, ◌∙◌, arith}
 use Rattle.std.proofs.lemmas.Int.{ints}
 use Rattle.std.specs.Cmp.{IsEquivalence}
-use Rattle.ivl_laws.specs.Sets.{Intersection, IsBetween, IsCrossed, SameMembers}
+use Rattle.ivl_laws.specs.Sets.{Intersection, IsBetween, SameMembers}
 use Rattle.ivl_laws.specs.Runs.{Covers, IsMaximal}
 use Rattle.ivl_laws.proofs.Runs.{covered_after}
 use Rattle.ivl_map.specs.Entries.{HasAt, IsEntriesOf, IsEntryList, AllEndBelow, OnlyAt, Written}
 use Rattle.ivl_map.proofs.Lists.{has_at, has-drop_more}
-use Rattle.ivl_map.proofs.Writing.{after_end, first_split, has_ends}
+use Rattle.ivl_map.proofs.Writing.{after_end, first_split}
 
 -- D has what the entries E and the runs R have in common, up to where E goes on from place i and R from place j
 pub record IsWalked {V : Type 0} (eq : V → V → Bool) (E : List ((ℤ × ℤ) × V)) (R : List (ℤ × ℤ)) (i j : ℕ) (D : List ((ℤ × ℤ) × V)) : Type 0 where

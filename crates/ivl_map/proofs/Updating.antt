@@ -1,13 +1,11 @@
 -- Entries whose values change within an interval, entry by entry.
-use Rattle.std.proofs.Common.{◌≡◌, ◌⊎◌, ◌↔◌, ⊎_elim, inl, inr, ℕ, zero, suc, ◌<◌, ◌≤◌, ℤ, ◌≤ℤ◌, ◌<ℤ◌, Bool, true, List, [], ◌∷◌, length, get_or, take, refl, sym, subst, ◌∙◌, arith}
+use Rattle.std.proofs.Common.{◌≡◌, ⊎_elim, inl, inr, ℕ, zero, suc, ◌<◌, ℤ, ◌≤ℤ◌, Bool, true, List, [], ◌∷◌, length, get_or, take, sym, subst, arith}
 use Rattle.std.proofs.lemmas.Int.{ints, by_lt_z}
 use Rattle.std.specs.Cmp.{IsEquivalence}
 use Rattle.ivl_laws.specs.Sets.{Above, Below, HasSome, Intersection, IsBetween, SameMembers}
-use Rattle.ivl_laws.specs.Counts.{IsIn}
-use Rattle.ivl_map.specs.Entries.{HasAt, HasValue, IsEntriesOf, IsEntryList, AllEndBelow, Written}
+use Rattle.ivl_map.specs.Entries.{HasAt, IsEntriesOf, IsEntryList, AllEndBelow, Written}
 use Rattle.ivl_map.specs.Changes.{IsUpdated, WrittenPast}
-use Rattle.ivl_map.specs.Lookups.{IsStoredAt}
-use Rattle.ivl_map.proofs.Lists.{has-take, has_below, has_at}
+use Rattle.ivl_map.proofs.Lists.{has_below}
 use Rattle.ivl_map.proofs.Lookups.{in_next}
 use Rattle.ivl_map.proofs.Overlaps.{all_below}
 use Rattle.ivl_map.proofs.Writing.{before_start, last_split}

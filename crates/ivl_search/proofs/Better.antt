@@ -1,10 +1,10 @@
 -- The best solution so far, and which solutions are left.
-use Rattle.std.proofs.Common.{◌≡◌, ◌<◌, ℕ, ◌⊎◌, ◌∙◌, ap, inl, inr, sym, arith, List, get_or, length, map}
-use Rattle.std.specs.Prelude.{ℤ, pos, ◌↔◌, Option, Some, None, IfNone, IfSome}
+use Rattle.std.proofs.Common.{◌≡◌, ◌<◌, ◌≤◌, ◌+◌, ℕ, zero, suc, ◌⊎◌, ◌∙◌, ap, inl, inr, sym, arith, List, get_or, length, map}
+use Rattle.std.specs.Prelude.{ℤ, pos, ◌↔◌, Option, Some, None, IfNone, IfSome, option_map}
 use Rattle.std.proofs.lemmas.Int.{ints}
 use Rattle.std.proofs.lemmas.List.{get_or-map}
 use Rattle.ivl_search.specs.Best.{IsAsGood, IsBestAt, IsBetter}
-use Rattle.ivl_search.specs.Points.{coordinate}
+use Rattle.ivl_search.specs.Points.{ImprovesTo, coordinate}
 use Rattle.ivl_search.specs.declared.search.choice.Wanted.{Wanted}
 use Rattle.ivl_search.specs.declared.search.choice.Wanted.TheVariants.{Least, Greatest}
 use Rattle.ivl_search.proofs.Cuts.{le_or_lt}
@@ -83,6 +83,38 @@ ahead_of_next read wanted variable solves best rest less next l here same = reco
   ahead = λ point h. ((same point).0 h).1;
   outward = λ point s better. (same point).1 (l.outward point s (ahead_of_both read wanted variable best (read next) point (l.ahead (read next) here) better), better);
 }
+
+some_read : {A : Type 0} (read : A → List ℤ) (P : List ℤ → Type 0) (best : Option A) → IfSome best (λ p. P (read p)) → IfSome (option_map read best) P
+some_read read P None h = tt
+some_read read P (Some p) h = h
+
+-- and is one solution more
+pub improves_to_next : {A : Type 0} (read : A → List ℤ) (wanted : Wanted) (variable : ℕ) (solves : List ℤ → Type 0) (best : Option A) (rest : List ℤ → Type 0) (next : A) (n : ℕ)
+    → AreAhead read wanted variable solves best rest → rest (read next) → ImprovesTo (λ old new. IsBetter wanted old new) variable solves n (option_map read best)
+    → ImprovesTo (λ old new. IsBetter wanted old new) variable solves (suc n) (Some (read next))
+improves_to_next read wanted variable solves best rest next n l here so_far = (
+  l.inward (read next) here,
+  (
+    option_map read best,
+    so_far,
+    some_read read (λ e. IsBetter wanted (coordinate e variable) (coordinate (read next) variable)) best (l.ahead (read next) here),
+  ),
+)
+
+-- where a point was found, no limit is 0
+pub some_improved : {A : Type 0} (read : A → List ℤ) (better : ℤ → ℤ → Type 0) (variable : ℕ) (solves : List ℤ → Type 0) (best : Option A) (n left solutions rest nodes : ℕ)
+    → ImprovesTo better variable solves n (option_map read best) → n + left ≡ solutions → n + rest ≤ nodes → IfSome best (λ _. (1 ≤ solutions) × (1 ≤ nodes))
+some_improved read better variable solves None n left solutions rest nodes h counted visited = tt
+some_improved read better variable solves (Some p) zero left solutions rest nodes h counted visited = absurd (cc)
+some_improved read better variable solves (Some p) (suc n) left solutions rest nodes h counted visited = (omega (arith, counted), omega (arith, visited))
+
+-- the same solutions
+pub improves_within : (better : ℤ → ℤ → Type 0) (variable : ℕ) (solves more : List ℤ → Type 0) → ((point : List ℤ) → solves point → more point) → (n : ℕ) (point : Option (List ℤ))
+    → ImprovesTo better variable solves n point → ImprovesTo better variable more n point
+improves_within better variable solves more within zero point h = h
+improves_within better variable solves more within (suc n) None h = absurd h
+improves_within better variable solves more within (suc n) (Some point) h =
+    (within point h.0, (h.1.0, improves_within better variable solves more within n h.1.0 h.1.1, h.1.2))
 
 -- where none is left, no solution is better
 pub best_at_end : {A : Type 0} (read : A → List ℤ) (wanted : Wanted) (variable : ℕ) (solves : List ℤ → Type 0) (best : Option A) (rest : List ℤ → Type 0)

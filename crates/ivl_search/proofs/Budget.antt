@@ -1,8 +1,8 @@
 -- How many points there are before and after a narrowing or a cut.
-use Rattle.std.proofs.Common.{◌≡◌, ◌<◌, ◌≤◌, ◌+◌, ◌*◌, ℕ, zero, suc, ◌⊎◌, inl, inr, sym, subst, arith, refl, Bool, true, false, cond, List, [], ◌∷◌, length, ap, ◌∙◌}
-use Rattle.std.specs.Prelude.{ℤ, pos, ◌+ℤ◌, ◌≤ℤ◌, ◌<ℤ◌, ◌↔◌, All}
-use Rattle.std.proofs.Math.Nat.{mul-le-mul, mul-le-mul_left, mul-le-mul_right, one-le-mul}
-use Rattle.std.proofs.lemmas.Bool.{cases_Bool, both_ways}
+use Rattle.std.proofs.Common.{◌≡◌, ◌<◌, ◌≤◌, ◌+◌, ◌*◌, ℕ, zero, suc, ◌⊎◌, inl, inr, sym, arith, refl, Bool, true, false, cond, List, [], ◌∷◌, length, ap}
+use Rattle.std.specs.Prelude.{ℤ, pos, ◌+ℤ◌, ◌≤ℤ◌, ◌↔◌, All}
+use Rattle.std.proofs.Math.Nat.{mul-le-mul, one-le-mul}
+use Rattle.std.proofs.lemmas.Bool.{both_ways}
 use Rattle.std.proofs.lemmas.Int.{ints}
 use Rattle.std.proofs.lemmas.List.Elements.{All-head, All-tail}
 use Rattle.ivl_laws.specs.Bounds.{width_of}
@@ -10,7 +10,7 @@ use Rattle.ivl_laws.specs.Families.{set_at}
 use Rattle.ivl_laws.specs.Runs.{Covers, IsRunListIn}
 use Rattle.ivl_laws.specs.Sets.{HasSome}
 use Rattle.ivl_laws.proofs.Intervals.{width_of-filled}
-use Rattle.ivl_store.specs.Measure.{covers, count_from, total_from, total}
+use Rattle.ivl_store.specs.Measure.{covers, count_from, total}
 use Rattle.ivl_store.specs.Network.{IsCutAt}
 use Rattle.ivl_store.specs.Solutions.{LiesWithin}
 use Rattle.ivl_store.proofs.Counting.{count_le, count_less, covers-is}

@@ -12,12 +12,10 @@ use Rattle.ivl_store.specs.Narrowing.{AllPresent, Keeps}
 use Rattle.ivl_store.specs.Network.{IsCutAt}
 use Rattle.ivl_store.specs.Posts.{HasEmpty}
 use Rattle.ivl_store.specs.Solutions.{HasSolutionAt, LiesWithin, SupportedBy}
-use Rattle.ivl_search.specs.declared.search.End.TheVariants.{All as AllFound}
 use Rattle.ivl_search.specs.Nodes.{AreSingle, IsOnlyPoint}
-use Rattle.ivl_search.specs.Points.{coordinate, Finds, Solves}
+use Rattle.ivl_search.specs.Points.{coordinate, Solves}
 use Rattle.ivl_laws.proofs.Runs.{≤ℤ_antisymm}
 use Rattle.std.proofs.lemmas.List.Elements.{All-head, All-tail}
-use Rattle.ivl_search.proofs.Progress.{IsLeft, left_part}
 
 -- the sets that hold the numbers of a point alone
 family : List ℤ → List (List (ℤ × ℤ))

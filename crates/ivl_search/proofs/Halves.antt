@@ -1,11 +1,11 @@
 -- The two parts of a set that is cut: how many members one has, and that each has one.
 use Rattle.std.proofs.Common.{◌≡◌, ◌<◌, ◌≤◌, ◌+◌, ℕ, zero, suc, ◌⊎◌, inl, inr, sym, subst, arith, refl, List, [], ◌∷◌, length}
-use Rattle.std.specs.Prelude.{ℤ, pos, ◌+ℤ◌, ◌≤ℤ◌, ◌<ℤ◌, ◌-◌, ◌/◌, ◌↔◌, All, Option, Some, None, IfSome, MatchOption}
+use Rattle.std.specs.Prelude.{ℤ, ◌≤ℤ◌, ◌<ℤ◌, ◌-◌, ◌/◌, All, Option, Some, None, IfSome, MatchOption}
 use Rattle.std.proofs.lemmas.Int.{ints, by_lt_z}
 use Rattle.std.proofs.lemmas.List.Elements.{All-head, All-tail}
 use Rattle.ivl_laws.specs.Counts.{IsCountOf, IsIn}
 use Rattle.ivl_laws.specs.Families.{set_at}
-use Rattle.ivl_laws.specs.Runs.{Covers, IsMaximal, IsRunListIn}
+use Rattle.ivl_laws.specs.Runs.{Covers, IsRunListIn}
 use Rattle.ivl_laws.specs.Sets.{Below, HasNone, HasSome, Intersection, Only, SameMembers, Union}
 use Rattle.ivl_laws.proofs.Counts.{IsCountOf-apart, IsCountOf-only, IsCountOf-same, count_is_monotone, count_is_unique, none_of_count}
 use Rattle.ivl_laws.proofs.Runs.{≤ℤ_antisymm}

@@ -1,16 +1,16 @@
 -- The points of the two parts of a cut, and of what is left of a half.
-use Rattle.std.proofs.Common.{◌≡◌, ◌<◌, ◌≤◌, ◌+◌, ◌-◌, ◌*◌, ◌/◌, ◌++◌, ℕ, zero, suc, ◌⊎◌, inl, inr, sym, subst, arith, refl, List, [], ◌∷◌, length, ap, ◌∙◌}
-use Rattle.std.specs.Prelude.{ℤ, pos, ◌+ℤ◌, ◌≤ℤ◌, ◌<ℤ◌, ◌↔◌, All, slice_index_or}
-use Rattle.std.proofs.Math.Nat.{mul-le-mul, mul-le-mul_left, mul-le-mul_right}
+use Rattle.std.proofs.Common.{◌≡◌, ◌<◌, ◌≤◌, ◌+◌, ◌-◌, ◌*◌, ◌/◌, ◌++◌, ℕ, zero, suc, ◌⊎◌, inl, inr, sym, subst, arith, refl, List, [], ◌∷◌, length, ap}
+use Rattle.std.specs.Prelude.{ℤ, ◌≤ℤ◌, All, slice_index_or}
+use Rattle.std.proofs.Math.Nat.{mul-le-mul_left, mul-le-mul_right}
 use Rattle.std.proofs.lemmas.Int.{ints}
 use Rattle.ivl_laws.specs.Bounds.{width_of}
 use Rattle.ivl_laws.specs.Counts.{IsCountOf}
 use Rattle.ivl_laws.specs.Families.{set_at}
 use Rattle.ivl_laws.specs.Runs.{Covers, IsRunListIn}
-use Rattle.ivl_laws.specs.Sets.{HasSome, Intersection, IsBetween, SameMembers}
+use Rattle.ivl_laws.specs.Sets.{HasSome, Intersection, IsBetween}
 use Rattle.ivl_laws.proofs.Counts.{IsCountOf-same, count_is_unique}
 use Rattle.ivl_laws.proofs.Intervals.{width_of-filled}
-use Rattle.ivl_store.specs.Measure.{HaveTogether, TotalIsSumOfCounts, count_from, total}
+use Rattle.ivl_store.specs.Measure.{count_from}
 use Rattle.ivl_store.specs.Network.{IsCutAt}
 use Rattle.ivl_store.specs.Trail.{Past}
 use Rattle.ivl_store.proofs.Counting.{count_le, count_less}

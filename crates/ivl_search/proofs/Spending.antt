@@ -1,5 +1,5 @@
 -- What the search of a half has used of the nodes, for the best solution.
-use Rattle.std.proofs.Common.{◌≡◌, ◌<◌, ◌≤◌, ◌+◌, ◌-◌, ◌*◌, ◌/◌, ℕ, arith, subst, List, length, max}
+use Rattle.std.proofs.Common.{◌≡◌, ◌<◌, ◌≤◌, ◌+◌, ◌*◌, ℕ, arith, subst, List, length, max}
 use Rattle.std.specs.Prelude.{ℤ, All}
 use Rattle.ivl_laws.specs.Families.{set_at}
 use Rattle.ivl_laws.specs.Runs.{IsRunListIn}

@@ -4,9 +4,11 @@
 --     Solves cs sets point      the point gives each variable a member of its set, and each constraint holds at it
 --     EachOnce points      no point stands twice in the list
 --     IsLeastAt variable solves point, IsGreatestAt variable solves point      no solution gives the variable a smaller number; a greater one
+--     ImprovesTo better variable solves n point      n solutions, each with a better number for the variable than the one before it, and the point is the last; with n 0 there is none
+--     FallsTo, RisesTo variable solves n point      the same, each with a smaller number; with a greater one
 --     first_unknown_or variable count cs      the first index of the constraints that is not below the count, or else the variable if it is not
 --     Finds solves points end      the points are solutions, none of them twice, and all of them if the search ended with that
-use Rattle.std.specs.Prelude.{◌≡◌, ◌<◌, ℕ, ℤ, pos, ◌+ℤ◌, ◌≤ℤ◌, List, [], ◌∷◌, All, Contains, Option, None, Some, if◌then◌else◌, length, nat_le, slice_index_or}
+use Rattle.std.specs.Prelude.{◌≡◌, ◌<◌, ℕ, zero, suc, ℤ, pos, ◌+ℤ◌, ◌≤ℤ◌, ◌<ℤ◌, List, [], ◌∷◌, All, Contains, IfSome, Option, None, Some, if◌then◌else◌, length, nat_le, slice_index_or}
 use Rattle.std.specs.Option.{option_or}
 use Rattle.ivl_laws.specs.Families.{set_at}
 use Rattle.ivl_store.specs.declared.store.constraint.Constraint.{Constraint}
@@ -39,6 +41,18 @@ IsLeastAt variable solves point = (other : List ℤ) → solves other → coordi
 
 abbrev pub IsGreatestAt : ℕ → (List ℤ → Type 0) → List ℤ → Type 0
 IsGreatestAt variable solves point = (other : List ℤ) → solves other → coordinate other variable ≤ℤ coordinate point variable
+
+abbrev pub ImprovesTo : (ℤ → ℤ → Type 0) → ℕ → (List ℤ → Type 0) → ℕ → Option (List ℤ) → Type 0
+ImprovesTo better variable solves zero point = point ≡ None
+ImprovesTo better variable solves (suc n) None = ⊥
+ImprovesTo better variable solves (suc n) (Some point) =
+    solves point × ((earlier : Option (List ℤ)) × ImprovesTo better variable solves n earlier × IfSome earlier (λ e. better (coordinate e variable) (coordinate point variable)))
+
+abbrev pub FallsTo : ℕ → (List ℤ → Type 0) → ℕ → Option (List ℤ) → Type 0
+FallsTo variable solves n point = ImprovesTo (λ old new. new <ℤ old) variable solves n point
+
+abbrev pub RisesTo : ℕ → (List ℤ → Type 0) → ℕ → Option (List ℤ) → Type 0
+RisesTo variable solves n point = ImprovesTo (λ old new. old <ℤ new) variable solves n point
 
 abbrev pub first_unknown_or : ℕ → ℕ → List Constraint → Option ℕ
 first_unknown_or variable count constraints = option_or (first_unknown_of count constraints) (if nat_le count variable then Some variable else None)

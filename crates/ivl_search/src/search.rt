@@ -11,11 +11,11 @@
 //! the greatest member, and searches the upper part first. The cuts on the way from the root are a
 //! list in memory, so the stack does not grow with them. The order in which solutions are found is no
 //! part of the contract.
-ghost use Rattle.std.specs.Prelude.{◌≡◌, ◌<◌, ◌≤◌, ◌↔◌, ℕ, ℤ, List, All, Contains, Err, IfNone, IfOk, IfSome, IsNone, IsTrue, Some, length, map};
+ghost use Rattle.std.specs.Prelude.{◌≡◌, ◌<◌, ◌≤◌, ◌↔◌, ℕ, ℤ, List, All, Contains, Err, IfNone, IfOk, IfSome, IsNone, IsTrue, Some, length, map, option_map};
 ghost use Rattle.ivl_store.specs.Narrowing.{first_unknown_of};
 ghost use Rattle.ivl_store.specs.Solutions.{AreDistinct};
 ghost use Rattle.ivl_search.specs.Budget.{nodes_enough, nodes_for_best};
-ghost use Rattle.ivl_search.specs.Points.{EachOnce, Finds, IsGreatestAt, IsLeastAt, Solves, first_unknown_or};
+ghost use Rattle.ivl_search.specs.Points.{EachOnce, FallsTo, Finds, IsGreatestAt, IsLeastAt, RisesTo, Solves, first_unknown_or};
 
 use intervallum::interval_set::IntervalSet;
 use intervallum::width::Width;
@@ -109,8 +109,9 @@ impl From<AllocError> for SearchFault {
 /// The caller must ensure that each constraint has three different variables. Check with
 /// [`Constraint::distinct`], or [`all_distinct`] for a list.
 ///
-/// Returns [`End::Nodes`] only if `limits.nodes` is less than `(2 p - 1) * (c / 500 + 1)` for `c`
-/// constraints, where `p` is the product of the sizes of the domains, or 1 if that is 0.
+/// Each solution takes a node. Returns [`End::Nodes`] only if `limits.nodes` is less than
+/// `(2 p - 1) * (c / 500 + 1)` for `c` constraints, where `p` is the product of the sizes of the
+/// domains, or 1 if that is 0.
 ///
 /// Copies the domains once. Each node costs its narrowings and a pass over the domains; memory is
 /// that of the solutions, of the domains that one branch replaces, and of the cuts of the branch.
@@ -143,6 +144,7 @@ pub fn solutions<B: Width>(
     ensures complete { IfOk result (λ found. found.end ≡ End.All → (point : List ℤ) → Solves constraints.now domains.now point → Contains (map (λ point. map B.value point.items) found.points.items) point) }
     ensures bounded { IfOk result (λ found. length found.points.items ≤ limits.solutions) }
     ensures full { IfOk result (λ found. found.end ≡ End.Solutions → length found.points.items ≡ limits.solutions) }
+    ensures visited { IfOk result (λ found. length found.points.items ≤ limits.nodes) }
     ensures enough { IfOk result (λ found. found.end ≡ End.Nodes → limits.nodes < nodes_enough B.whole constraints.now domains.now) }
 {
     if let Some(i) = first_unknown(constraints, domains.len()) {
@@ -181,6 +183,7 @@ pub fn try_solutions<B: Width>(
     ensures complete { IfOk result (λ o. IfSome o (λ found. found.end ≡ End.All → (point : List ℤ) → Solves constraints.now domains.now point → Contains (map (λ point. map B.value point.items) found.points.items) point)) }
     ensures bounded { IfOk result (λ o. IfSome o (λ found. length found.points.items ≤ limits.solutions)) }
     ensures full { IfOk result (λ o. IfSome o (λ found. found.end ≡ End.Solutions → length found.points.items ≡ limits.solutions)) }
+    ensures visited { IfOk result (λ o. IfSome o (λ found. length found.points.items ≤ limits.nodes)) }
     ensures enough { IfOk result (λ o. IfSome o (λ found. found.end ≡ End.Nodes → limits.nodes < nodes_enough B.whole constraints.now domains.now)) }
 {
     if all_distinct(constraints) {
@@ -236,6 +239,7 @@ pub fn count<B: Width>(
     ensures counted { IfOk result (λ r. (points : List (List ℤ)) × (length points ≡ r.0) × Finds (Solves constraints.now domains.now) points r.1) }
     ensures bounded { IfOk result (λ r. r.0 ≤ limits.solutions) }
     ensures full { IfOk result (λ r. r.1 ≡ End.Solutions → r.0 ≡ limits.solutions) }
+    ensures visited { IfOk result (λ r. r.0 ≤ limits.nodes) }
     ensures enough { IfOk result (λ r. r.1 ≡ End.Nodes → limits.nodes < nodes_enough B.whole constraints.now domains.now) }
 {
     if let Some(i) = first_unknown(constraints, domains.len()) {
@@ -256,8 +260,9 @@ pub fn count<B: Width>(
 /// search ended with [`End::All`]. After another end it is the best solution of those that were
 /// found.
 ///
-/// Each solution that is found is better than the one before it, and `limits.solutions` bounds their
-/// number. With 0, no point is given.
+/// Each solution that is found is better than the one before it, and takes a node. Returns
+/// [`End::Solutions`] only if as many are found as `limits.solutions` allows; the point is the last of
+/// them. If a limit is 0, no point is given.
 ///
 /// The caller must ensure that each constraint has three different variables. Check with
 /// [`Constraint::distinct`], or [`all_distinct`] for a list.
@@ -297,7 +302,9 @@ pub fn least<B: Width>(
     ensures sound { IfOk result (λ best. IfSome best.point (λ point. Solves constraints.now domains.now (map B.value point.items))) }
     ensures best { IfOk result (λ best. best.end ≡ End.All → IfSome best.point (λ point. IsLeastAt variable (Solves constraints.now domains.now) (map B.value point.items))) }
     ensures none { IfOk result (λ best. best.end ≡ End.All → IfNone best.point ((point : List ℤ) → ¬ (Solves constraints.now domains.now point))) }
-    ensures full { IfOk result (λ best. best.end ≡ End.Solutions → IfNone best.point (limits.solutions ≡ 0)) }
+    ensures bounded { IfOk result (λ best. IfSome best.point (λ _. (1 ≤ limits.solutions) × (1 ≤ limits.nodes))) }
+    ensures full { IfOk result (λ best. best.end ≡ End.Solutions → FallsTo variable (Solves constraints.now domains.now) limits.solutions (option_map (λ point. map B.value point.items) best.point)) }
+    ensures visited { IfOk result (λ best. best.end ≡ End.Solutions → limits.solutions ≤ limits.nodes) }
     ensures enough { IfOk result (λ best. best.end ≡ End.Nodes → limits.nodes < nodes_for_best B.whole constraints.now domains.now) }
 {
     best_at(alloc, domains, constraints, variable, limits, Wanted::Least)
@@ -336,7 +343,9 @@ pub fn greatest<B: Width>(
     ensures sound { IfOk result (λ best. IfSome best.point (λ point. Solves constraints.now domains.now (map B.value point.items))) }
     ensures best { IfOk result (λ best. best.end ≡ End.All → IfSome best.point (λ point. IsGreatestAt variable (Solves constraints.now domains.now) (map B.value point.items))) }
     ensures none { IfOk result (λ best. best.end ≡ End.All → IfNone best.point ((point : List ℤ) → ¬ (Solves constraints.now domains.now point))) }
-    ensures full { IfOk result (λ best. best.end ≡ End.Solutions → IfNone best.point (limits.solutions ≡ 0)) }
+    ensures bounded { IfOk result (λ best. IfSome best.point (λ _. (1 ≤ limits.solutions) × (1 ≤ limits.nodes))) }
+    ensures full { IfOk result (λ best. best.end ≡ End.Solutions → RisesTo variable (Solves constraints.now domains.now) limits.solutions (option_map (λ point. map B.value point.items) best.point)) }
+    ensures visited { IfOk result (λ best. best.end ≡ End.Solutions → limits.solutions ≤ limits.nodes) }
     ensures enough { IfOk result (λ best. best.end ≡ End.Nodes → limits.nodes < nodes_for_best B.whole constraints.now domains.now) }
 {
     best_at(

@@ -1,5 +1,5 @@
 -- The answer to a line, by what was carried out or told.
-use Rattle.std.proofs.Common.{◌≡◌, ◌≢◌, ◌∙◌, ◌≤◌, ◌^◌, ◌-◌, ℕ, ℤ, List, [], ◌++◌, length, map, get_or, Option, None, Some, inl, inr, refl, sym, ap}
+use Rattle.std.proofs.Common.{◌≡◌, ◌≢◌, ◌∙◌, ◌≤◌, ◌^◌, ◌-◌, ◌/◌, ℕ, ℤ, List, [], ◌++◌, length, map, get_or, Option, None, Some, inl, inr, refl, sym, ap}
 use Rattle.std.specs.Prelude.{IsSome, IsTrue, codes, decimal}
 use Rattle.std.proofs.lemmas.List.{length-map}
 use Rattle.ivl_lines.specs.Lines.{with_newline}
@@ -32,10 +32,10 @@ no_request None name words None old none fault memory = (inr (memory refl, refl)
 no_request None name words (Some asked) old none fault memory = inr (inr (refl, refl))
 
 pub solved : {V : Type 0} → (numbers : V → List ℤ) (most : ℕ) (old : State) (names : List (List ℕ)) (points : List V) (end : End)
-    → names ≡ old.names → Finds (Solves old.constraints old.domains) (map numbers points) end → length points ≤ most
+    → names ≡ old.names → Finds (Solves old.constraints old.domains) (map numbers points) end → length points ≤ most → length points ≤ old.limit / 500
     → (end ≡ Solutions → length points ≡ most) → (HasEmptyDomain old → end ≡ AllFound) → (HasNodes (nodes_enough domain_range old.constraints old.domains) old → end ≢ Nodes)
     → AnswersAsked old (solve most) (point_lines names (map numbers points) ++ end_line (length points) end) old
-solved numbers most old names points end named finds few full known enough =
+solved numbers most old names points end named finds few visited full known enough =
     inl (
       refl,
       refl,
@@ -44,6 +44,7 @@ solved numbers most old names points end named finds few full known enough =
         end = end;
         finds = finds;
         at_most = rw (length-map points numbers) few;
+        visited = rw (length-map points numbers) visited;
         full = (λ stopped. length-map points numbers ∙ full stopped);
         known = known;
         enough = enough;
@@ -52,10 +53,10 @@ solved numbers most old names points end named finds few full known enough =
     )
 
 pub counted : (old : State) (points : List (List ℤ)) (found : ℕ) (end : End)
-    → length points ≡ found → Finds (Solves old.constraints old.domains) points end → (end ≡ Solutions → found ≡ 2 ^ 64 - 1)
+    → length points ≡ found → Finds (Solves old.constraints old.domains) points end → found ≤ old.limit / 500 → (end ≡ Solutions → found ≡ 2 ^ 64 - 1)
     → (HasEmptyDomain old → end ≡ AllFound) → (HasNodes (nodes_enough domain_range old.constraints old.domains) old → end ≢ Nodes)
     → AnswersAsked old count (codes "count " ++ with_newline (decimal found) ++ end_line found end) old
-counted old points found end as_many finds full known enough =
+counted old points found end as_many finds visited full known enough =
     inl (
       refl,
       refl,
@@ -63,6 +64,7 @@ counted old points found end as_many finds full known enough =
         points = points;
         end = end;
         finds = finds;
+        visited = rw as_many visited;
         full = (λ stopped. as_many ∙ full stopped);
         known = known;
         enough = enough;

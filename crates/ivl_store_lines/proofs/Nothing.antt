@@ -1,12 +1,11 @@
 -- What is known of a search before it begins: that there is no solution once a domain is empty, and whether it has nodes enough.
-use Rattle.std.proofs.Common.{◌≡◌, ◌≢◌, ◌∙◌, ◌<◌, ◌≤◌, ℕ, ℤ, [], List, arith, get_or, subst, sym}
+use Rattle.std.proofs.Common.{◌≡◌, ◌≢◌, ◌∙◌, ◌<◌, ◌≤◌, ◌^◌, ◌-◌, ◌/◌, ℕ, ℤ, [], List, arith, get_or, subst, sym}
 use Rattle.std.specs.Prelude.{Any}
 use Rattle.std.proofs.lemmas.List.{get_or_default}
 use Rattle.std.proofs.lemmas.List.Elements.{All-nil}
 use Rattle.ivl_laws.specs.Runs.{Covers}
 use Rattle.ivl_search.specs.declared.search.End.{End}
-use Rattle.ivl_search.specs.declared.search.End.TheVariants.{All as AllFound, Nodes}
-use Rattle.ivl_search.specs.Budget.{nodes_enough}
+use Rattle.ivl_search.specs.declared.search.End.TheVariants.{All as AllFound, Nodes, Solutions}
 use Rattle.ivl_search.specs.Points.{Finds, Solves, coordinate}
 use Rattle.ivl_store.specs.declared.store.constraint.Constraint.{Constraint}
 use Rattle.ivl_store_lines.specs.Solved.{HasNodes}
@@ -26,10 +25,19 @@ finds_none constraints domains e = record {
 }
 
 -- a search that used its nodes up had not enough
-pub not_used_up : (whole : ℤ × ℤ) (state : State) (constraints : List Constraint) (domains : List (List (ℤ × ℤ))) (nodes : ℕ) (end : End) → constraints ≡ state.constraints → domains ≡ state.domains
-    → ((needed : ℕ) → HasNodes needed state → needed ≤ nodes) → (end ≡ Nodes → nodes < nodes_enough whole constraints domains)
-    → HasNodes (nodes_enough whole state.constraints state.domains) state → end ≢ Nodes
-not_used_up whole state constraints domains nodes end same_constraints same_domains few enough has used =
-    let less : nodes < nodes_enough whole state.constraints state.domains = rw (← same_constraints, ← same_domains) (enough used) in
-    let most = few (nodes_enough whole state.constraints state.domains) has in
-    omega (arith, less, most)
+pub not_used_up : (needed : List Constraint → List (List (ℤ × ℤ)) → ℕ) (state : State) (constraints : List Constraint) (domains : List (List (ℤ × ℤ))) (nodes : ℕ) (end : End)
+    → constraints ≡ state.constraints → domains ≡ state.domains → nodes ≡ state.limit / 500 → (end ≡ Nodes → nodes < needed constraints domains)
+    → HasNodes (needed state.constraints state.domains) state → end ≢ Nodes
+not_used_up needed state constraints domains nodes end same_constraints same_domains as_many enough has used =
+    let less : nodes < needed state.constraints state.domains = rw (← same_constraints, ← same_domains) (enough used) in
+    let most : needed state.constraints state.domains ≤ nodes = rw as_many has in
+    not_both (needed state.constraints state.domains) nodes less most
+  where
+    not_both : (a n : ℕ) → n < a → a ≤ n → ⊥
+    not_both a n less most = omega (arith, less, most)
+
+-- nor did it find as many as it may, where it has fewer nodes than that
+pub not_full : (nodes solutions : ℕ) (end : End) → (end ≡ Solutions → solutions ≤ nodes) → solutions ≡ 2 ^ 64 - 1 → nodes < 2 ^ 64 - 1 → end ≢ Solutions
+not_full nodes solutions end visited as_many few full =
+    let most = visited full in
+    omega (arith, most, as_many, few)

@@ -1,14 +1,15 @@
 -- The lines of points, and the points that a search found.
-use Rattle.std.proofs.Common.{◌≡◌, ◌≢◌, ◌<◌, ◌+◌, ◌++◌, ◌∷◌, [], ℕ, ℤ, List, length, get_or, map, take, ap, sym, ◌∙◌, append_assoc, refl, subst, Option, None, Some}
+use Rattle.std.proofs.Common.{◌≡◌, ◌≢◌, ◌<◌, ◌≤◌, ◌+◌, ◌/◌, ◌++◌, ◌∷◌, [], ℕ, ℤ, List, length, get_or, map, take, ap, sym, ◌∙◌, append_assoc, refl, subst, Option, None, Some}
 use Rattle.std.specs.Prelude.{All, Contains, IfNone, IfSome, option_map}
 use Rattle.std.proofs.lemmas.List.{append-nil, map-append, map-id, take_more}
 use Rattle.ivl_search.specs.declared.search.End.{End}
-use Rattle.ivl_search.specs.declared.search.End.TheVariants.{All as AllFound, Solutions}
+use Rattle.ivl_search.specs.declared.search.End.TheVariants.{All as AllFound, Nodes, Solutions}
+use Rattle.ivl_search.specs.Budget.{nodes_for_best}
 use Rattle.ivl_search.specs.Points.{EachOnce, Finds, Solves}
 use Rattle.ivl_store.specs.declared.store.constraint.Constraint.{Constraint}
 use Rattle.ivl_store_lines.specs.Solved.{IsBest, point_line, point_lines}
-use Rattle.ivl_store_lines.specs.Solving.{HasEmptyDomain, State, variable_named}
-use Rattle.ivl_store_lines.proofs.Nothing.{none_solves}
+use Rattle.ivl_store_lines.specs.Solving.{HasEmptyDomain, State, domain_range, variable_named}
+use Rattle.ivl_store_lines.proofs.Nothing.{none_solves, not_used_up}
 
 one_more : (names : List (List ℕ)) (points : List (List ℤ)) (point : List ℤ) → point_lines names (points ++ point ∷ []) ≡ point_lines names points ++ point_line names point
 one_more names [] point = append-nil (point_line names point)
@@ -45,24 +46,31 @@ none_plain : {V : Type 0} → (numbers : V → List ℤ) (P : Type 0) (found : O
 none_plain numbers P None p = p
 none_plain numbers P (Some point) p = p
 
--- what a search found is told: that it found all, only where it did
+some_visited : {V : Type 0} → (numbers : V → List ℤ) (found : Option V) (solutions nodes : ℕ) → IfSome found (λ _. (1 ≤ solutions) × (1 ≤ nodes)) → IfSome (option_map numbers found) (λ _. 1 ≤ nodes)
+some_visited numbers None solutions nodes h = tt
+some_visited numbers (Some point) solutions nodes h = h.1
+
+-- what a search found is told
 pub best_told : {V : Type 0} → (best : ℕ → (List ℤ → Type 0) → List ℤ → Type 0) (numbers : V → List ℤ) (name : List ℕ) (old : State) (variable : ℕ)
-    (constraints : List Constraint) (domains : List (List (ℤ × ℤ))) (found told : Option V) (end said : End)
+    (constraints : List Constraint) (domains : List (List (ℤ × ℤ))) (found : Option V) (end : End) (nodes solutions : ℕ)
     → variable_named old.names name ≡ Some variable → constraints ≡ old.constraints → domains ≡ old.domains
     → IfSome found (λ point. Solves constraints domains (map (λ (x : ℤ). x) (numbers point)))
     → (end ≡ AllFound → IfSome found (λ point. best variable (Solves constraints domains) (map (λ (x : ℤ). x) (numbers point))))
     → (end ≡ AllFound → IfNone found ((point : List ℤ) → ¬ (Solves constraints domains point)))
-    → told ≡ found → (said ≡ AllFound → end ≡ AllFound) → said ≢ Solutions → ¬ (HasEmptyDomain old) → IsBest best name old (option_map numbers told) said
-best_told best numbers name old variable constraints domains found told end said named same_constraints same_domains sound is_best none same all searched filled =
-    rw same (record {
+    → IfSome found (λ _. (1 ≤ solutions) × (1 ≤ nodes)) → end ≢ Solutions → ¬ (HasEmptyDomain old) → nodes ≡ old.limit / 500 → (end ≡ Nodes → nodes < nodes_for_best domain_range constraints domains)
+    → IsBest best name old (option_map numbers found) end
+best_told best numbers name old variable constraints domains found end nodes solutions named same_constraints same_domains sound is_best none visited searched filled as_many enough =
+    record {
       variable = variable;
       named = named;
       sound = rw (← same_constraints, ← same_domains) (some_plain numbers (Solves constraints domains) found sound);
-      is_best = (λ every. rw (← same_constraints, ← same_domains) (some_plain numbers (best variable (Solves constraints domains)) found (is_best (all every))));
-      none = (λ every. rw (← same_constraints, ← same_domains) (none_plain numbers ((point : List ℤ) → ¬ (Solves constraints domains point)) found (none (all every))));
+      is_best = (λ every. rw (← same_constraints, ← same_domains) (some_plain numbers (best variable (Solves constraints domains)) found (is_best every)));
+      none = (λ every. rw (← same_constraints, ← same_domains) (none_plain numbers ((point : List ℤ) → ¬ (Solves constraints domains point)) found (none every)));
+      visited = subst (λ n. IfSome (option_map numbers found) (λ _. 1 ≤ n)) as_many (some_visited numbers found solutions nodes visited);
       searched = searched;
       known = (λ e. absurd (filled e));
-    })
+      enough = not_used_up (nodes_for_best domain_range) old constraints domains nodes end same_constraints same_domains as_many enough;
+    }
 
 -- no point, where a domain is empty
 pub best_none : {V : Type 0} → (best : ℕ → (List ℤ → Type 0) → List ℤ → Type 0) (numbers : V → List ℤ) (name : List ℕ) (old : State) (variable : ℕ) (found : Option V) (end : End)
@@ -71,8 +79,10 @@ best_none best numbers name old variable found end named empty is all = rw (is, 
   variable = variable;
   named = named;
   sound = tt;
+  visited = tt;
   is_best = (λ _. tt);
   none = (λ _ point s. none_solves old.constraints old.domains empty point s);
   searched = (λ e. absurd (cc));
   known = (λ _. refl);
+  enough = (λ _ e. absurd (cc));
 })

@@ -3,8 +3,8 @@
 --     point_lines names points      a line for each solution
 --     end_line count end      whether the solutions found are all, by how many they are
 --     HasNodes needed state      one node for each 500 of the limit are as many
---     IsSolved most state text      the text shows solutions, none of them twice, and says how their search ended
---     IsCounted state text      the text says how many solutions there are, and how their search ended
+--     IsSolved most state text      the text shows solutions, none of them twice and no more than the nodes, and says how their search ended
+--     IsCounted state text      the text says how many solutions there are, no more than the nodes, and how their search ended
 --     IsBest best name state found end      the point found is the best solution for the variable with this name, if the search ended with all, and a
 --                       solution in any case
 --     ShowsBest best name state text      the text shows such a point, and says how the search ended
@@ -14,7 +14,7 @@ use Rattle.ivl_lines.specs.Escapes.{escaped}
 use Rattle.ivl_lines.specs.Lines.{with_newline}
 use Rattle.ivl_search.specs.declared.search.End.{End}
 use Rattle.ivl_search.specs.declared.search.End.TheVariants.{All, Solutions, Nodes}
-use Rattle.ivl_search.specs.Budget.{nodes_enough}
+use Rattle.ivl_search.specs.Budget.{nodes_enough, nodes_for_best}
 use Rattle.ivl_search.specs.Points.{Finds, Solves}
 use Rattle.ivl_store_lines.specs.Solving.{HasEmptyDomain, State, domain_range, variable_named}
 
@@ -47,6 +47,7 @@ pub record IsSolved (most : ℕ) (state : State) (text : List ℕ) : Type 0 wher
   pub end : End
   pub finds : Finds (Solves state.constraints state.domains) points end
   pub at_most : length points ≤ most
+  pub visited : length points ≤ state.limit / 500
   pub full : end ≡ Solutions → length points ≡ most
   pub known : HasEmptyDomain state → end ≡ All
   pub enough : HasNodes (nodes_enough domain_range state.constraints state.domains) state → end ≢ Nodes
@@ -56,6 +57,7 @@ pub record IsCounted (state : State) (text : List ℕ) : Type 0 where
   pub points : List (List ℤ)
   pub end : End
   pub finds : Finds (Solves state.constraints state.domains) points end
+  pub visited : length points ≤ state.limit / 500
   pub full : end ≡ Solutions → length points ≡ 2 ^ 64 - 1
   pub known : HasEmptyDomain state → end ≡ All
   pub enough : HasNodes (nodes_enough domain_range state.constraints state.domains) state → end ≢ Nodes
@@ -70,10 +72,12 @@ pub record IsBest (best : ℕ → (List ℤ → Type 0) → List ℤ → Type 0)
   pub variable : ℕ
   pub named : variable_named state.names name ≡ Some variable
   pub sound : IfSome found (Solves state.constraints state.domains)
+  pub visited : IfSome found (λ _. 1 ≤ state.limit / 500)
   pub is_best : end ≡ All → IfSome found (best variable (Solves state.constraints state.domains))
   pub none : end ≡ All → IfNone found ((point : List ℤ) → ¬ (Solves state.constraints state.domains point))
   pub searched : end ≢ Solutions
   pub known : HasEmptyDomain state → end ≡ All
+  pub enough : HasNodes (nodes_for_best domain_range state.constraints state.domains) state → end ≢ Nodes
 
 abbrev pub ShowsBest : (ℕ → (List ℤ → Type 0) → List ℤ → Type 0) → List ℕ → State → List ℕ → Type 0
 ShowsBest best name state text = (found : Option (List ℤ)) × (end : End) × IsBest best name state found end × (text ≡ best_text state.names found end)

@@ -1,5 +1,5 @@
 //! The solutions of the constraints over the domains, as a search finds them within the limit of a line.
-ghost use Rattle.std.specs.Prelude.{◌≡◌, ◌≢◌, ◌≤◌, ◌^◌, ◌-◌, ℕ, ℤ, List, IfErr, IfOk, None, length, map, option_map};
+ghost use Rattle.std.specs.Prelude.{◌≡◌, ◌≢◌, ◌<◌, ◌≤◌, ◌^◌, ◌-◌, ◌/◌, ℕ, ℤ, List, IfErr, IfOk, None, length, map, option_map};
 ghost use Rattle.ivl_search.specs.Budget.{nodes_enough};
 ghost use Rattle.ivl_search.specs.Points.{Finds, IsGreatestAt, IsLeastAt, Solves};
 ghost use Rattle.ivl_store_lines.specs.Faults.{told_of};
@@ -18,6 +18,7 @@ impl Solver {
     pub fn solutions(&self, most: u64) -> Result<Found<i64>, AllocError>
         ensures finds { IfOk result (λ found. Finds (Solves self.now.constraints self.now.domains) (map (λ point. point.items) found.points.items) found.end) }
         ensures at_most { IfOk result (λ found. length found.points.items ≤ most) }
+        ensures visited { IfOk result (λ found. length found.points.items ≤ self.now.limit / 500) }
         ensures full { IfOk result (λ found. found.end ≡ End.Solutions → length found.points.items ≡ most) }
         ensures known { IfOk result (λ found. HasEmptyDomain self.now → found.end ≡ End.All) }
         ensures enough { IfOk result (λ found. HasNodes (nodes_enough domain_range self.now.constraints self.now.domains) self.now → found.end ≢ End.Nodes) }
@@ -38,6 +39,7 @@ impl Solver {
     /// Returns how many solutions there are, and how their search ended.
     pub fn count(&self) -> Result<(usize, End), AllocError>
         ensures found { IfOk result (λ counted. (points : List (List ℤ)) × (length points ≡ counted.0) × Finds (Solves self.now.constraints self.now.domains) points counted.1) }
+        ensures visited { IfOk result (λ counted. counted.0 ≤ self.now.limit / 500) }
         ensures full { IfOk result (λ counted. counted.1 ≡ End.Solutions → counted.0 ≡ 2 ^ 64 - 1) }
         ensures known { IfOk result (λ counted. HasEmptyDomain self.now → counted.1 ≡ End.All) }
         ensures enough { IfOk result (λ counted. HasNodes (nodes_enough domain_range self.now.constraints self.now.domains) self.now → counted.1 ≢ End.Nodes) }
@@ -52,7 +54,8 @@ impl Solver {
         }
     }
 
-    /// Returns a solution with the least number for a variable, and how the search for it ended.
+    /// Returns a solution with the least number for a variable, and how the search for it ended. It has
+    /// fewer nodes than it may find solutions, so it never ends with [`End::Solutions`].
     ///
     /// # Errors
     ///
@@ -73,7 +76,7 @@ impl Solver {
             variable,
             limits,
         ) {
-            Ok(best) => Ok(ended(best)),
+            Ok(best) => Ok(best),
             Err(_) => Err(Fault::Memory),
         }
     }
@@ -100,7 +103,7 @@ impl Solver {
             variable,
             limits,
         ) {
-            Ok(best) => Ok(ended(best)),
+            Ok(best) => Ok(best),
             Err(_) => Err(Fault::Memory),
         }
     }
@@ -108,7 +111,8 @@ impl Solver {
     /// How long a search may go on.
     fn limits(&self, solutions: usize) -> Limits
         ensures solutions { result.solutions ≡ solutions }
-        ensures nodes { (needed : ℕ) → HasNodes needed self.now → needed ≤ result.nodes }
+        ensures nodes { result.nodes ≡ self.now.limit / 500 }
+        ensures fewer { result.nodes < 2 ^ 64 - 1 }
     {
         let nodes = self.limit() / NARROWINGS_PER_NODE;
         Limits { solutions, nodes }
@@ -123,21 +127,5 @@ fn none() -> Best<i64>
     Best {
         point: None,
         end: End::All,
-    }
-}
-
-/// The best solution, where a search that stopped is told as unfinished.
-fn ended(best: Best<i64>) -> Best<i64>
-    ensures point { result.point ≡ best.point }
-    ensures all { result.end ≡ End.All → best.end ≡ End.All }
-    ensures searched { result.end ≢ End.Solutions }
-{
-    let end = match best.end {
-        End::All => End::All,
-        End::Solutions | End::Nodes => End::Nodes,
-    };
-    Best {
-        point: best.point,
-        end,
     }
 }

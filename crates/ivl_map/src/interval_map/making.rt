@@ -27,8 +27,8 @@ impl<B: Width, V: MapValue> IntervalMap<B, V> {
     /// Returns the map of a list of intervals with values, which are written one after the other: at a
     /// number that several have, the last one counts. Intervals may be empty. The list is consumed.
     ///
-    /// As many calls of [`IntervalMap::insert`] as the list has elements: linear if it is in ascending
-    /// order. Fails only if an allocation or the copy of a value fails.
+    /// As many calls of [`IntervalMap::insert`] as the list has elements, `m`: `O(m log m)` if they are in
+    /// ascending order, and at most `O(m^2)`. Fails only if an allocation or the copy of a value fails.
     ///
     /// ```
     /// let mut list = Vec::new(alloc);
@@ -48,7 +48,8 @@ impl<B: Width, V: MapValue> IntervalMap<B, V> {
     /// Writes each element of a list of intervals with values, as [`IntervalMap::insert`] does, one
     /// after the other: at a number that several have, the last one counts. The list is consumed.
     ///
-    /// As many calls of [`IntervalMap::insert`] as the list has elements.
+    /// As many calls of [`IntervalMap::insert`] as the list has elements, `m`: `O(m (n + m))` at most, and
+    /// `O(m log (n + m))` if they are in ascending order and above all entries.
     ///
     /// # Errors
     ///

@@ -12,7 +12,7 @@ use crate::value::MapValue;
 use intervallum::interval::Interval;
 use intervallum::interval_set::IntervalSet;
 use intervallum::ops::{Difference, IsEmpty};
-use intervallum::width::{SizeNumber, Width};
+use intervallum::width::Width;
 use std::alloc::AllocError;
 
 impl<B: Width, V: MapValue> IntervalMap<B, V> {

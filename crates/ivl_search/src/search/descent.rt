@@ -42,6 +42,7 @@ pub(super) fn search<B: Width>(
     ensures enough { IfOk result (λ end. end ≡ End.Nodes → (left.new.nodes ≡ 0) × (left.old.nodes < nodes_enough B.whole network.old.constraints network.old.domains)) }
     ensures nodes { OnOk result (left.new.nodes ≤ left.old.nodes) }
     ensures full { IfOk result (λ end. end ≡ End.Solutions → left.new.solutions ≡ 0) }
+    ensures visited { OnOk result (left.old.solutions + left.new.nodes ≤ left.new.solutions + left.old.nodes) }
     ensures finds { IfOk result (λ end. (more : List (List ℤ)) × Finds (Solves network.old.constraints network.old.domains) more end
         × (found.old.is_kept ≡ true → map (λ point. map B.value point.items) found.new.points.items ≡ map (λ point. map B.value point.items) found.old.points.items ++ more)
         × (length more + left.new.solutions ≡ left.old.solutions)) }

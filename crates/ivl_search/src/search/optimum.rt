@@ -1,6 +1,6 @@
 //! The best solution: a solution is looked for among the better half of a variable's numbers, and the
 //! domain is cut to what is better than it, or to the other half if there is none.
-ghost use Rattle.std.specs.Prelude.{◌≡◌, ◌↔◌, ◌<◌, ◌≤◌, ◌+◌, ℕ, ℤ, List, All, Err, IfNone, IfOk, IfSome, OnOk, Some, length, map};
+ghost use Rattle.std.specs.Prelude.{◌≡◌, ◌↔◌, ◌<◌, ◌≤◌, ◌+◌, ℕ, ℤ, List, All, Err, IfNone, IfOk, IfSome, OnOk, Some, length, map, option_map};
 ghost use Rattle.ivl_laws.specs.Families.{set_at};
 ghost use Rattle.ivl_laws.specs.Runs.{Covers, IsRunListIn};
 ghost use Rattle.ivl_laws.specs.Sets.{Intersection, IsBetween, SameMembers};
@@ -11,7 +11,7 @@ ghost use Rattle.ivl_search.specs.Best.{IsAsGood, IsBestAt, IsBetter};
 ghost use Rattle.ivl_search.specs.Budget.{nodes_enough, nodes_for_best};
 ghost use Rattle.ivl_search.specs.Halves.{IsMiddle};
 ghost use Rattle.ivl_search.specs.Nodes.{AreFilled};
-ghost use Rattle.ivl_search.specs.Points.{Solves, coordinate, first_unknown_or};
+ghost use Rattle.ivl_search.specs.Points.{ImprovesTo, Solves, coordinate, first_unknown_or};
 
 use super::choice::{Node, Wanted, as_good_as, better_than, middle, worse_than};
 use super::descent::{Kept, search};
@@ -38,7 +38,9 @@ pub(super) fn best_at<B: Width>(
     ensures sound { IfOk result (λ best. IfSome best.point (λ point. Solves constraints.now domains.now (map B.value point.items))) }
     ensures best { IfOk result (λ best. best.end ≡ End.All → IfSome best.point (λ point. IsBestAt wanted variable (Solves constraints.now domains.now) (map B.value point.items))) }
     ensures none { IfOk result (λ best. best.end ≡ End.All → IfNone best.point ((point : List ℤ) → ¬ (Solves constraints.now domains.now point))) }
-    ensures full { IfOk result (λ best. best.end ≡ End.Solutions → IfNone best.point (limits.solutions ≡ 0)) }
+    ensures bounded { IfOk result (λ best. IfSome best.point (λ _. (1 ≤ limits.solutions) × (1 ≤ limits.nodes))) }
+    ensures full { IfOk result (λ best. best.end ≡ End.Solutions → ImprovesTo (λ old new. IsBetter wanted old new) variable (Solves constraints.now domains.now) limits.solutions (option_map (λ point. map B.value point.items) best.point)) }
+    ensures visited { IfOk result (λ best. best.end ≡ End.Solutions → limits.solutions ≤ limits.nodes) }
     ensures enough { IfOk result (λ best. best.end ≡ End.Nodes → limits.nodes < nodes_for_best B.whole constraints.now domains.now) }
 {
     if let Some(i) = first_unknown_or(variable, domains.len(), constraints) {
@@ -62,7 +64,9 @@ fn best_of<B: Width>(
     ensures sound { IfOk result (λ best. IfSome best.point (λ point. Solves network.old.constraints network.old.domains (map B.value point.items))) }
     ensures best { IfOk result (λ best. best.end ≡ End.All → IfSome best.point (λ point. IsBestAt wanted variable (Solves network.old.constraints network.old.domains) (map B.value point.items))) }
     ensures none { IfOk result (λ best. best.end ≡ End.All → IfNone best.point ((point : List ℤ) → ¬ (Solves network.old.constraints network.old.domains point))) }
-    ensures full { IfOk result (λ best. best.end ≡ End.Solutions → IfNone best.point (limits.solutions ≡ 0)) }
+    ensures bounded { IfOk result (λ best. IfSome best.point (λ _. (1 ≤ limits.solutions) × (1 ≤ limits.nodes))) }
+    ensures full { IfOk result (λ best. best.end ≡ End.Solutions → ImprovesTo (λ old new. IsBetter wanted old new) variable (Solves network.old.constraints network.old.domains) limits.solutions (option_map (λ point. map B.value point.items) best.point)) }
+    ensures visited { IfOk result (λ best. best.end ≡ End.Solutions → limits.solutions ≤ limits.nodes) }
     ensures enough { IfOk result (λ best. best.end ≡ End.Nodes → limits.nodes < nodes_for_best B.whole network.old.constraints network.old.domains) }
 {
     let mut left = limits;

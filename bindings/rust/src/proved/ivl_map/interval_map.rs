@@ -94,6 +94,8 @@ impl<B: Width, V: MapValue> IntervalMap<B, V> {
     /// ensures count { result ≡ length self.now }
     /// ensures entries { IsEntryListIn B.whole V.eq self.now }
     /// ```
+    ///
+    /// Words: [`IsEntryListIn`](crate::definitions#IsEntryListIn).
     pub fn interval_count(&self) -> usize {
         self.entries.len()
     }
@@ -158,12 +160,14 @@ impl<B: Width, V: MapValue> IntervalMap<B, V> {
     /// ensures entries { IsEntryListIn B.whole V.eq self.now }
     /// ensures one_value { (z : ℤ) (v : V) (w : V) → HasAt V.eq self.now z v → HasAt V.eq self.now z w → V.eq v w ≡ true }
     /// ```
+    ///
+    /// Words: [`IsEntryListIn`](crate::definitions#IsEntryListIn), [`HasAt`](crate::definitions#HasAt).
     pub fn in_order(&self) {
         self.entries.as_slice();
     }
 
-    /// Gives each number of the interval, which may be empty, the value, and takes its value before.
-    /// An entry that touches the interval and has an equal value grows.
+    /// Gives each number of the interval, which may be empty, the value, in place of the one that it
+    /// had. An entry that touches the interval and has an equal value grows.
     ///
     /// Binary search: `O(log n)`, or `O(n)` if the number of entries changes, as the entries above
     /// the interval then move. An interval inside an entry splits it, and the part above gets a copy
@@ -193,6 +197,8 @@ impl<B: Width, V: MapValue> IntervalMap<B, V> {
     /// ensures ok { OnOk result (IsEntriesOf V.eq self.new (Written V.eq interval value (HasAt V.eq self.old))) }
     /// ensures err { OnErr result (self.new ≡ self.old) }
     /// ```
+    ///
+    /// Words: [`IsEntriesOf`](crate::definitions#IsEntriesOf), [`Written`](crate::definitions#Written), [`HasAt`](crate::definitions#HasAt).
     pub fn insert(&mut self, interval: Interval<B>, value: V) -> Result<(), AllocError> {
         self.in_order();
         if interval.is_empty() {
@@ -202,7 +208,7 @@ impl<B: Width, V: MapValue> IntervalMap<B, V> {
         write(&mut self.entries, interval, value)
     }
 
-    /// Takes the values of the numbers of the interval, which may be empty.
+    /// Removes the values of the numbers of the interval, which may be empty.
     ///
     /// Binary search: `O(log n)`, or `O(n)` if the number of entries changes, as the entries above
     /// the interval then move. An interval inside an entry splits it, and the part above gets a copy
@@ -230,6 +236,8 @@ impl<B: Width, V: MapValue> IntervalMap<B, V> {
     /// ensures ok { OnOk result (IsEntriesOf V.eq self.new (Outside interval (HasAt V.eq self.old))) }
     /// ensures err { OnErr result (self.new ≡ self.old) }
     /// ```
+    ///
+    /// Words: [`IsEntriesOf`](crate::definitions#IsEntriesOf), [`Outside`](crate::definitions#Outside), [`HasAt`](crate::definitions#HasAt).
     pub fn remove(&mut self, interval: Interval<B>) -> Result<(), AllocError> {
         self.in_order();
         if interval.is_empty() {
@@ -238,7 +246,7 @@ impl<B: Width, V: MapValue> IntervalMap<B, V> {
         cut(&mut self.entries, interval)
     }
 
-    /// Takes all values. Keeps the capacity. `O(n)`: drops each value. Does not allocate.
+    /// Removes all values. Keeps the capacity. `O(n)`: drops each value. Does not allocate.
     ///
     /// ```
     /// use intervallum::proved::examples::*;
@@ -267,6 +275,8 @@ impl<B: Width, V: MapValue> IntervalMap<B, V> {
 /// ```text
 /// eq = { same_entries V.eq }
 /// ```
+///
+/// Words: [`same_entries`](crate::definitions#same_entries).
 impl<B: Width, V: MapValue> PartialEq for IntervalMap<B, V> {
     /// Returns true exactly when both maps have equal values at the same numbers. `O(n)`. Does not
     /// allocate.
@@ -291,6 +301,8 @@ impl<B: Width, V: MapValue> PartialEq for IntervalMap<B, V> {
     /// ensures value { result ≡ same_entries V.eq self.now other.now }
     /// ensures values { IsTrue result ↔ SameValues (HasAt V.eq self.now) (HasAt V.eq other.now) }
     /// ```
+    ///
+    /// Words: [`same_entries`](crate::definitions#same_entries), [`SameValues`](crate::definitions#SameValues), [`HasAt`](crate::definitions#HasAt).
     fn eq(&self, other: &IntervalMap<B, V>) -> bool {
         self.in_order();
         other.in_order();

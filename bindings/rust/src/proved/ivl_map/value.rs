@@ -45,7 +45,7 @@ pub trait MapValue: Eq + Drop + Sized {
 }
 
 impl MapValue for u8 {
-    /// Returns the same value. Never fails.
+    /// Returns the same value. `O(1)`. Never fails.
     ///
     /// # Proved
     ///
@@ -56,7 +56,7 @@ impl MapValue for u8 {
 }
 
 impl MapValue for u16 {
-    /// Returns the same value. Never fails.
+    /// Returns the same value. `O(1)`. Never fails.
     ///
     /// # Proved
     ///
@@ -67,7 +67,7 @@ impl MapValue for u16 {
 }
 
 impl MapValue for u32 {
-    /// Returns the same value. Never fails.
+    /// Returns the same value. `O(1)`. Never fails.
     ///
     /// # Proved
     ///
@@ -78,7 +78,7 @@ impl MapValue for u32 {
 }
 
 impl MapValue for u64 {
-    /// Returns the same value. Never fails.
+    /// Returns the same value. `O(1)`. Never fails.
     ///
     /// # Proved
     ///
@@ -89,7 +89,7 @@ impl MapValue for u64 {
 }
 
 impl MapValue for usize {
-    /// Returns the same value. Never fails.
+    /// Returns the same value. `O(1)`. Never fails.
     ///
     /// # Proved
     ///
@@ -100,7 +100,7 @@ impl MapValue for usize {
 }
 
 impl MapValue for i8 {
-    /// Returns the same value. Never fails.
+    /// Returns the same value. `O(1)`. Never fails.
     ///
     /// # Proved
     ///
@@ -111,7 +111,7 @@ impl MapValue for i8 {
 }
 
 impl MapValue for i16 {
-    /// Returns the same value. Never fails.
+    /// Returns the same value. `O(1)`. Never fails.
     ///
     /// # Proved
     ///
@@ -122,7 +122,7 @@ impl MapValue for i16 {
 }
 
 impl MapValue for i32 {
-    /// Returns the same value. Never fails.
+    /// Returns the same value. `O(1)`. Never fails.
     ///
     /// # Proved
     ///
@@ -133,7 +133,7 @@ impl MapValue for i32 {
 }
 
 impl MapValue for i64 {
-    /// Returns the same value. Never fails.
+    /// Returns the same value. `O(1)`. Never fails.
     ///
     /// # Proved
     ///
@@ -144,7 +144,7 @@ impl MapValue for i64 {
 }
 
 impl MapValue for isize {
-    /// Returns the same value. Never fails.
+    /// Returns the same value. `O(1)`. Never fails.
     ///
     /// # Proved
     ///
@@ -155,7 +155,7 @@ impl MapValue for isize {
 }
 
 impl MapValue for bool {
-    /// Returns the same value. Never fails.
+    /// Returns the same value. `O(1)`. Never fails.
     ///
     /// # Proved
     ///
@@ -166,7 +166,7 @@ impl MapValue for bool {
 }
 
 impl MapValue for char {
-    /// Returns the same value. Never fails.
+    /// Returns the same value. `O(1)`. Never fails.
     ///
     /// # Proved
     ///
@@ -183,7 +183,7 @@ impl MapValue for String {
     ///
     /// What [`MapValue::try_copy`] says, by the words of the type.
     fn try_copy(&self) -> Result<String, AllocError> {
-        self.clone()
+        Clone::clone(self)
     }
 }
 

@@ -117,8 +117,9 @@ impl From<AllocError> for SearchFault {
 /// The caller must ensure that each constraint has three different variables. Check with
 /// [`Constraint::distinct`], or [`all_distinct`] for a list.
 ///
-/// Returns [`End::Nodes`] only if `limits.nodes` is less than `(2 p - 1) * (c / 500 + 1)` for `c`
-/// constraints, where `p` is the product of the sizes of the domains, or 1 if that is 0.
+/// Each solution takes a node. Returns [`End::Nodes`] only if `limits.nodes` is less than
+/// `(2 p - 1) * (c / 500 + 1)` for `c` constraints, where `p` is the product of the sizes of the
+/// domains, or 1 if that is 0.
 ///
 /// Copies the domains once. Each node costs its narrowings and a pass over the domains; memory is
 /// that of the solutions, of the domains that one branch replaces, and of the cuts of the branch.
@@ -155,6 +156,7 @@ impl From<AllocError> for SearchFault {
 /// ensures complete { IfOk result (λ found. found.end ≡ End.All → (point : List ℤ) → Solves constraints.now domains.now point → Contains (map (λ point. map B.value point.items) found.points.items) point) }
 /// ensures bounded { IfOk result (λ found. length found.points.items ≤ limits.solutions) }
 /// ensures full { IfOk result (λ found. found.end ≡ End.Solutions → length found.points.items ≡ limits.solutions) }
+/// ensures visited { IfOk result (λ found. length found.points.items ≤ limits.nodes) }
 /// ensures enough { IfOk result (λ found. found.end ≡ End.Nodes → limits.nodes < nodes_enough B.whole constraints.now domains.now) }
 /// ```
 ///
@@ -200,6 +202,7 @@ pub fn solutions<B: Width>(
 /// ensures complete { IfOk result (λ o. IfSome o (λ found. found.end ≡ End.All → (point : List ℤ) → Solves constraints.now domains.now point → Contains (map (λ point. map B.value point.items) found.points.items) point)) }
 /// ensures bounded { IfOk result (λ o. IfSome o (λ found. length found.points.items ≤ limits.solutions)) }
 /// ensures full { IfOk result (λ o. IfSome o (λ found. found.end ≡ End.Solutions → length found.points.items ≡ limits.solutions)) }
+/// ensures visited { IfOk result (λ o. IfSome o (λ found. length found.points.items ≤ limits.nodes)) }
 /// ensures enough { IfOk result (λ o. IfSome o (λ found. found.end ≡ End.Nodes → limits.nodes < nodes_enough B.whole constraints.now domains.now)) }
 /// ```
 ///
@@ -279,6 +282,7 @@ pub fn all_distinct(constraints: &[Constraint]) -> bool {
 /// ensures counted { IfOk result (λ r. (points : List (List ℤ)) × (length points ≡ r.0) × Finds (Solves constraints.now domains.now) points r.1) }
 /// ensures bounded { IfOk result (λ r. r.0 ≤ limits.solutions) }
 /// ensures full { IfOk result (λ r. r.1 ≡ End.Solutions → r.0 ≡ limits.solutions) }
+/// ensures visited { IfOk result (λ r. r.0 ≤ limits.nodes) }
 /// ensures enough { IfOk result (λ r. r.1 ≡ End.Nodes → limits.nodes < nodes_enough B.whole constraints.now domains.now) }
 /// ```
 ///
@@ -308,8 +312,9 @@ pub fn count<B: Width>(
 /// search ended with [`End::All`]. After another end it is the best solution of those that were
 /// found.
 ///
-/// Each solution that is found is better than the one before it, and `limits.solutions` bounds their
-/// number. With 0, no point is given.
+/// Each solution that is found is better than the one before it, and takes a node. Returns
+/// [`End::Solutions`] only if as many are found as `limits.solutions` allows; the point is the last of
+/// them. If a limit is 0, no point is given.
 ///
 /// The caller must ensure that each constraint has three different variables. Check with
 /// [`Constraint::distinct`], or [`all_distinct`] for a list.
@@ -352,11 +357,13 @@ pub fn count<B: Width>(
 /// ensures sound { IfOk result (λ best. IfSome best.point (λ point. Solves constraints.now domains.now (map B.value point.items))) }
 /// ensures best { IfOk result (λ best. best.end ≡ End.All → IfSome best.point (λ point. IsLeastAt variable (Solves constraints.now domains.now) (map B.value point.items))) }
 /// ensures none { IfOk result (λ best. best.end ≡ End.All → IfNone best.point ((point : List ℤ) → ¬ (Solves constraints.now domains.now point))) }
-/// ensures full { IfOk result (λ best. best.end ≡ End.Solutions → IfNone best.point (limits.solutions ≡ 0)) }
+/// ensures bounded { IfOk result (λ best. IfSome best.point (λ _. (1 ≤ limits.solutions) × (1 ≤ limits.nodes))) }
+/// ensures full { IfOk result (λ best. best.end ≡ End.Solutions → FallsTo variable (Solves constraints.now domains.now) limits.solutions (option_map (λ point. map B.value point.items) best.point)) }
+/// ensures visited { IfOk result (λ best. best.end ≡ End.Solutions → limits.solutions ≤ limits.nodes) }
 /// ensures enough { IfOk result (λ best. best.end ≡ End.Nodes → limits.nodes < nodes_for_best B.whole constraints.now domains.now) }
 /// ```
 ///
-/// Words: [`AreDistinct`](crate::definitions#AreDistinct), [`first_unknown_or`](crate::definitions#first_unknown_or), [`Solves`](crate::definitions#Solves), [`IsLeastAt`](crate::definitions#IsLeastAt), [`nodes_for_best`](crate::definitions#nodes_for_best).
+/// Words: [`AreDistinct`](crate::definitions#AreDistinct), [`first_unknown_or`](crate::definitions#first_unknown_or), [`Solves`](crate::definitions#Solves), [`IsLeastAt`](crate::definitions#IsLeastAt), [`FallsTo`](crate::definitions#FallsTo), [`nodes_for_best`](crate::definitions#nodes_for_best).
 pub fn least<B: Width>(
     alloc: Global,
     domains: &[IntervalSet<B>],
@@ -404,11 +411,13 @@ pub fn least<B: Width>(
 /// ensures sound { IfOk result (λ best. IfSome best.point (λ point. Solves constraints.now domains.now (map B.value point.items))) }
 /// ensures best { IfOk result (λ best. best.end ≡ End.All → IfSome best.point (λ point. IsGreatestAt variable (Solves constraints.now domains.now) (map B.value point.items))) }
 /// ensures none { IfOk result (λ best. best.end ≡ End.All → IfNone best.point ((point : List ℤ) → ¬ (Solves constraints.now domains.now point))) }
-/// ensures full { IfOk result (λ best. best.end ≡ End.Solutions → IfNone best.point (limits.solutions ≡ 0)) }
+/// ensures bounded { IfOk result (λ best. IfSome best.point (λ _. (1 ≤ limits.solutions) × (1 ≤ limits.nodes))) }
+/// ensures full { IfOk result (λ best. best.end ≡ End.Solutions → RisesTo variable (Solves constraints.now domains.now) limits.solutions (option_map (λ point. map B.value point.items) best.point)) }
+/// ensures visited { IfOk result (λ best. best.end ≡ End.Solutions → limits.solutions ≤ limits.nodes) }
 /// ensures enough { IfOk result (λ best. best.end ≡ End.Nodes → limits.nodes < nodes_for_best B.whole constraints.now domains.now) }
 /// ```
 ///
-/// Words: [`AreDistinct`](crate::definitions#AreDistinct), [`first_unknown_or`](crate::definitions#first_unknown_or), [`Solves`](crate::definitions#Solves), [`IsGreatestAt`](crate::definitions#IsGreatestAt), [`nodes_for_best`](crate::definitions#nodes_for_best).
+/// Words: [`AreDistinct`](crate::definitions#AreDistinct), [`first_unknown_or`](crate::definitions#first_unknown_or), [`Solves`](crate::definitions#Solves), [`IsGreatestAt`](crate::definitions#IsGreatestAt), [`RisesTo`](crate::definitions#RisesTo), [`nodes_for_best`](crate::definitions#nodes_for_best).
 pub fn greatest<B: Width>(
     alloc: Global,
     domains: &[IntervalSet<B>],

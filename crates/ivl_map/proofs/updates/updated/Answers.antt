@@ -1,4 +1,4 @@
-use Rattle.std.proofs.Common.{◌≡◌, ℕ, ◌+◌, suc, Ok, ℤ, List, get_or, take, take_all, subst, sym, arith}
+use Rattle.std.proofs.Common.{◌≡◌, ℕ, ◌+◌, suc, Ok, ℤ, List, take, take_all, subst, sym, arith}
 use Rattle.std.specs.Fn.{FnReturnsAt}
 use Rattle.ivl_laws.specs.Sets.{HasSome, Intersection, IsBetween}
 use Rattle.ivl_map.specs.Entries.{HasAt, IsEntriesOf, AllEndBelow}

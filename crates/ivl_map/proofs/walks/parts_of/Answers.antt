@@ -1,9 +1,8 @@
-use Rattle.std.proofs.Common.{◌≡◌, ℕ, ◌+◌, suc, ◌<◌, ◌≤◌, ℤ, ◌≤ℤ◌, ◌<ℤ◌, List, length, get_or, ap, subst, sym, ◌∙◌, arith}
+use Rattle.std.proofs.Common.{◌≡◌, ℕ, ◌+◌, suc, ℤ, ◌≤ℤ◌, ◌<ℤ◌, get_or, subst, sym, arith}
 use Rattle.std.proofs.lemmas.Int.{ints}
 use Rattle.ivl_laws.specs.Sets.{HasSome, Intersection, IsBetween, SameMembers}
 use Rattle.ivl_laws.proofs.Intervals.{some_is_not_crossed}
 use Rattle.ivl_laws.proofs.Orders.{le_number, not_le_number}
-use Rattle.ivl_map.specs.Entries.{HasAt, IsEntriesOf, Written}
 use Rattle.ivl_map.proofs.Lists.{open_at}
 use Rattle.ivl_map.proofs.Overlaps.{IsWalked, entry_done, part_above, run_done, run_open, walk_begins, walk_ends}
 use Rattle.ivl_map.proofs.walks.parts_of.Goals as goal

@@ -13,7 +13,7 @@ returns-in-Ok g c =
     on_ok_weaker c.write_count.result
     (λ written. (
       codes "count " ++ with_newline (decimal found) ++ end_line found c.in-Ok.end,
-      counted c.args.solver.now points.0 found c.in-Ok.end points.1 points.2 c.in-Ok.ensures.full c.in-Ok.ensures.known c.in-Ok.ensures.enough,
+      counted c.args.solver.now points.0 found c.in-Ok.end points.1 points.2 c.in-Ok.ensures.visited c.in-Ok.ensures.full c.in-Ok.ensures.known c.in-Ok.ensures.enough,
       written,
     ))
     c.write_count.ensures

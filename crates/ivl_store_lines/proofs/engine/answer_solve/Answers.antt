@@ -12,7 +12,7 @@ returns-in-Ok g c =
     on_ok_weaker c.write_solutions.result
     (λ written. (
       point_lines names (map (λ point. point.items) found.points.items) ++ end_line (length found.points.items) found.end,
-      solved (λ point. point.items) c.args.most c.args.solver.now names found.points.items found.end c.names.ensures c.in-Ok.ensures.finds c.in-Ok.ensures.at_most c.in-Ok.ensures.full c.in-Ok.ensures.known c.in-Ok.ensures.enough,
+      solved (λ point. point.items) c.args.most c.args.solver.now names found.points.items found.end c.names.ensures c.in-Ok.ensures.finds c.in-Ok.ensures.at_most c.in-Ok.ensures.visited c.in-Ok.ensures.full c.in-Ok.ensures.known c.in-Ok.ensures.enough,
       written,
     ))
     c.write_solutions.ensures

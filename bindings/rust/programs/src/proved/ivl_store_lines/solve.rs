@@ -37,7 +37,8 @@ impl Solver {
         }
     }
 
-    /// Returns a solution with the least number for a variable, and how the search for it ended.
+    /// Returns a solution with the least number for a variable, and how the search for it ended. It has
+    /// fewer nodes than it may find solutions, so it never ends with [`End::Solutions`].
     ///
     /// # Errors
     ///
@@ -55,7 +56,7 @@ impl Solver {
             variable,
             limits,
         ) {
-            Ok(best) => Ok(ended(best)),
+            Ok(best) => Ok(best),
             Err(_) => Err(Fault::Memory),
         }
     }
@@ -79,7 +80,7 @@ impl Solver {
             variable,
             limits,
         ) {
-            Ok(best) => Ok(ended(best)),
+            Ok(best) => Ok(best),
             Err(_) => Err(Fault::Memory),
         }
     }
@@ -96,17 +97,5 @@ fn none() -> Best<i64> {
     Best {
         point: None,
         end: End::All,
-    }
-}
-
-/// The best solution, where a search that stopped is told as unfinished.
-fn ended(best: Best<i64>) -> Best<i64> {
-    let end = match best.end {
-        End::All => End::All,
-        End::Solutions | End::Nodes => End::Nodes,
-    };
-    Best {
-        point: best.point,
-        end,
     }
 }

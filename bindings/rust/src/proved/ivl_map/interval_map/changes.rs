@@ -47,7 +47,7 @@ impl<B: Width, V: MapValue> IntervalMap<B, V> {
     /// ensures err { OnErr result (self.new ≡ self.old) }
     /// ```
     ///
-    /// Words: [`HasNone`](crate::definitions#HasNone), [`Intersection`](crate::definitions#Intersection), [`IsBetween`](crate::definitions#IsBetween).
+    /// Words: [`HasNone`](crate::definitions#HasNone), [`Intersection`](crate::definitions#Intersection), [`IsBetween`](crate::definitions#IsBetween), [`HasValue`](crate::definitions#HasValue), [`HasAt`](crate::definitions#HasAt), [`IsEntriesOf`](crate::definitions#IsEntriesOf), [`Written`](crate::definitions#Written), [`IsFirstRunOf`](crate::definitions#IsFirstRunOf).
     pub fn insert_if_free(
         &mut self,
         interval: Interval<B>,
@@ -92,7 +92,7 @@ impl<B: Width, V: MapValue> IntervalMap<B, V> {
     /// ensures err { OnErr result (self.new ≡ self.old) }
     /// ```
     ///
-    /// Words: [`IsBetween`](crate::definitions#IsBetween).
+    /// Words: [`IsUpdated`](crate::definitions#IsUpdated), [`IsBetween`](crate::definitions#IsBetween).
     pub fn update<F: Fn(&V) -> Result<V, AllocError>>(
         &mut self,
         interval: Interval<B>,

@@ -106,6 +106,8 @@ impl<B: Width, V: MapValue> IntervalMap<B, V> {
     /// ensures same { result.now ≡ self.now }
     /// ensures entries { IsEntryListIn B.whole V.eq self.now }
     /// ```
+    ///
+    /// Words: [`IsEntryListIn`](crate::definitions#IsEntryListIn).
     pub fn entries(&self) -> &[(Interval<B>, V)] {
         self.entries.as_slice()
     }
@@ -133,6 +135,8 @@ impl<B: Width, V: MapValue> IntervalMap<B, V> {
     /// ensures rest { result.rest.now ≡ self.now }
     /// ensures entries { IsEntryListIn B.whole V.eq self.now }
     /// ```
+    ///
+    /// Words: [`IsEntryListIn`](crate::definitions#IsEntryListIn).
     pub fn iter(&self) -> crate::rattle::std::slice::Iter<'_, (Interval<B>, V)> {
         self.entries.iter()
     }
@@ -159,6 +163,8 @@ impl<B: Width, V: MapValue> IntervalMap<B, V> {
     /// ensures rest { result ≡ self.now }
     /// ensures entries { IsEntryListIn B.whole V.eq self.now }
     /// ```
+    ///
+    /// Words: [`IsEntryListIn`](crate::definitions#IsEntryListIn).
     pub fn values(&self) -> Values<'_, B, V> {
         Values {
             left: self.entries.as_slice(),

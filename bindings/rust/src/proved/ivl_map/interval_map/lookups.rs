@@ -32,6 +32,8 @@ impl<B: Width, V: MapValue> IntervalMap<B, V> {
     ///     (λ v. HasAt V.eq self.now (B.value item.now) v.now) }
     /// ensures stored { IfSome result (λ v. IsStoredAt self.now (B.value item.now) v.now) }
     /// ```
+    ///
+    /// Words: [`HasAt`](crate::definitions#HasAt), [`IsStoredAt`](crate::definitions#IsStoredAt).
     pub fn get(&self, item: &B) -> Option<&V> {
         let entries = self.entries.as_slice();
         match find(entries, *item) {
@@ -58,6 +60,8 @@ impl<B: Width, V: MapValue> IntervalMap<B, V> {
     /// ```text
     /// ensures { IsTrue result ↔ HasValue (HasAt V.eq self.now) (B.value item.now) }
     /// ```
+    ///
+    /// Words: [`HasValue`](crate::definitions#HasValue), [`HasAt`](crate::definitions#HasAt).
     pub fn contains(&self, item: &B) -> bool {
         self.get(item).is_some()
     }
@@ -86,7 +90,7 @@ impl<B: Width, V: MapValue> IntervalMap<B, V> {
     /// ensures stored { IfSome result (λ r. IsIn self.now (r.0, r.1.now)) }
     /// ```
     ///
-    /// Words: [`IsIn`](crate::definitions#IsIn).
+    /// Words: [`HasAt`](crate::definitions#HasAt), [`IsRunOfValue`](crate::definitions#IsRunOfValue), [`IsIn`](crate::definitions#IsIn).
     pub fn get_run(&self, item: B) -> Option<(Interval<B>, &V)> {
         let entries = self.entries.as_slice();
         match find(entries, item) {
@@ -119,7 +123,7 @@ impl<B: Width, V: MapValue> IntervalMap<B, V> {
     /// ensures stored { IfSome result (λ r. IsIn self.now (r.0, r.1.now)) }
     /// ```
     ///
-    /// Words: [`HasNone`](crate::definitions#HasNone), [`IsIn`](crate::definitions#IsIn).
+    /// Words: [`HasNone`](crate::definitions#HasNone), [`HasValue`](crate::definitions#HasValue), [`HasAt`](crate::definitions#HasAt), [`IsFirstRunOf`](crate::definitions#IsFirstRunOf), [`IsIn`](crate::definitions#IsIn).
     pub fn first(&self) -> Option<(Interval<B>, &V)> {
         entry_at(self.entries.as_slice(), 0)
     }
@@ -148,7 +152,7 @@ impl<B: Width, V: MapValue> IntervalMap<B, V> {
     /// ensures stored { IfSome result (λ r. IsIn self.now (r.0, r.1.now)) }
     /// ```
     ///
-    /// Words: [`HasNone`](crate::definitions#HasNone), [`IsIn`](crate::definitions#IsIn).
+    /// Words: [`HasNone`](crate::definitions#HasNone), [`HasValue`](crate::definitions#HasValue), [`HasAt`](crate::definitions#HasAt), [`IsLastRunOf`](crate::definitions#IsLastRunOf), [`IsIn`](crate::definitions#IsIn).
     pub fn last(&self) -> Option<(Interval<B>, &V)> {
         let entries = self.entries.as_slice();
         entry_before(entries, entries.len())
@@ -181,7 +185,7 @@ impl<B: Width, V: MapValue> IntervalMap<B, V> {
     /// ensures stored { IfSome result (λ r. IsIn self.now (r.0, r.1.now)) }
     /// ```
     ///
-    /// Words: [`HasNone`](crate::definitions#HasNone), [`AtLeast`](crate::definitions#AtLeast), [`IsIn`](crate::definitions#IsIn).
+    /// Words: [`HasNone`](crate::definitions#HasNone), [`AtLeast`](crate::definitions#AtLeast), [`HasValue`](crate::definitions#HasValue), [`HasAt`](crate::definitions#HasAt), [`IsFirstRunOf`](crate::definitions#IsFirstRunOf), [`IsIn`](crate::definitions#IsIn).
     pub fn next_from(&self, v: B) -> Option<(Interval<B>, &V)> {
         let entries = self.entries.as_slice();
         let place = ends_below(entries, v);
@@ -215,7 +219,7 @@ impl<B: Width, V: MapValue> IntervalMap<B, V> {
     /// ensures stored { IfSome result (λ r. IsIn self.now (r.0, r.1.now)) }
     /// ```
     ///
-    /// Words: [`HasNone`](crate::definitions#HasNone), [`AtMost`](crate::definitions#AtMost), [`IsIn`](crate::definitions#IsIn).
+    /// Words: [`HasNone`](crate::definitions#HasNone), [`AtMost`](crate::definitions#AtMost), [`HasValue`](crate::definitions#HasValue), [`HasAt`](crate::definitions#HasAt), [`IsLastRunOf`](crate::definitions#IsLastRunOf), [`IsIn`](crate::definitions#IsIn).
     pub fn previous_to(&self, v: B) -> Option<(Interval<B>, &V)> {
         let entries = self.entries.as_slice();
         let place = starts_up_to(entries, v);

@@ -29,6 +29,8 @@ impl<B: Width, V: MapValue> IntervalMap<B, V> {
     /// ```text
     /// ensures { IfOk result (λ E. IsEntriesOf V.eq E (Written V.eq interval value NoValue)) }
     /// ```
+    ///
+    /// Words: [`IsEntriesOf`](crate::definitions#IsEntriesOf), [`Written`](crate::definitions#Written), [`NoValue`](crate::definitions#NoValue).
     pub fn of(alloc: Global, interval: Interval<B>, value: V) -> Result<Self, AllocError> {
         let mut map = IntervalMap::empty(alloc);
         map.insert(interval, value)?;
@@ -38,8 +40,8 @@ impl<B: Width, V: MapValue> IntervalMap<B, V> {
     /// Returns the map of a list of intervals with values, which are written one after the other: at a
     /// number that several have, the last one counts. Intervals may be empty. The list is consumed.
     ///
-    /// As many calls of [`IntervalMap::insert`] as the list has elements: linear if it is in ascending
-    /// order. Fails only if an allocation or the copy of a value fails.
+    /// As many calls of [`IntervalMap::insert`] as the list has elements, `m`: `O(m log m)` if they are in
+    /// ascending order, and at most `O(m^2)`. Fails only if an allocation or the copy of a value fails.
     ///
     /// ```
     /// use intervallum::proved::examples::*;
@@ -60,6 +62,8 @@ impl<B: Width, V: MapValue> IntervalMap<B, V> {
     /// ```text
     /// ensures { IfOk result (λ E. IsEntriesOf V.eq E (WrittenAll V.eq list.items NoValue)) }
     /// ```
+    ///
+    /// Words: [`IsEntriesOf`](crate::definitions#IsEntriesOf), [`WrittenAll`](crate::definitions#WrittenAll), [`NoValue`](crate::definitions#NoValue).
     pub fn from_entries(alloc: Global, list: Vec<(Interval<B>, V)>) -> Result<Self, AllocError> {
         let mut map = IntervalMap::empty(alloc);
         map.extend(list)?;
@@ -69,7 +73,8 @@ impl<B: Width, V: MapValue> IntervalMap<B, V> {
     /// Writes each element of a list of intervals with values, as [`IntervalMap::insert`] does, one
     /// after the other: at a number that several have, the last one counts. The list is consumed.
     ///
-    /// As many calls of [`IntervalMap::insert`] as the list has elements.
+    /// As many calls of [`IntervalMap::insert`] as the list has elements, `m`: `O(m (n + m))` at most, and
+    /// `O(m log (n + m))` if they are in ascending order and above all entries.
     ///
     /// # Errors
     ///
@@ -96,6 +101,8 @@ impl<B: Width, V: MapValue> IntervalMap<B, V> {
     /// ensures ok { OnOk result (IsEntriesOf V.eq self.new (WrittenAll V.eq list.items (HasAt V.eq self.old))) }
     /// ensures err { OnErr result ((k : ℕ) × IsEntriesOf V.eq self.new (WrittenAll V.eq (take k list.items) (HasAt V.eq self.old))) }
     /// ```
+    ///
+    /// Words: [`IsEntriesOf`](crate::definitions#IsEntriesOf), [`WrittenAll`](crate::definitions#WrittenAll), [`HasAt`](crate::definitions#HasAt).
     pub fn extend(&mut self, list: Vec<(Interval<B>, V)>) -> Result<(), AllocError> {
         self.in_order();
         for (interval, value) in list {
@@ -123,6 +130,8 @@ impl<B: Width, V: MapValue> IntervalMap<B, V> {
     /// ```text
     /// ensures { IfOk result (λ E. IsEntriesOf V.eq E (HasAt V.eq self.now)) }
     /// ```
+    ///
+    /// Words: [`IsEntriesOf`](crate::definitions#IsEntriesOf), [`HasAt`](crate::definitions#HasAt).
     pub fn try_clone(&self) -> Result<Self, AllocError> {
         self.in_order();
         let entries = copies_of(self.allocator(), &self.entries)?;

@@ -33,7 +33,7 @@ impl<B: Width, V: MapValue> IntervalMap<B, V> {
     /// ensures { IfOk result (λ L. IsRunsOf L (HasValue (HasAt V.eq self.now))) }
     /// ```
     ///
-    /// Words: [`IsRunsOf`](crate::definitions#IsRunsOf).
+    /// Words: [`IsRunsOf`](crate::definitions#IsRunsOf), [`HasValue`](crate::definitions#HasValue), [`HasAt`](crate::definitions#HasAt).
     pub fn keys(&self) -> Result<IntervalSet<B>, AllocError> {
         numbers_of(self.allocator(), &self.entries)
     }
@@ -58,7 +58,7 @@ impl<B: Width, V: MapValue> IntervalMap<B, V> {
     /// ensures { IsCountOf (B.Output.size result) (HasValue (HasAt V.eq self.now)) }
     /// ```
     ///
-    /// Words: [`IsCountOf`](crate::definitions#IsCountOf).
+    /// Words: [`IsCountOf`](crate::definitions#IsCountOf), [`HasValue`](crate::definitions#HasValue), [`HasAt`](crate::definitions#HasAt).
     pub fn size(&self) -> B::Output {
         size_of(&self.entries)
     }
@@ -84,6 +84,8 @@ impl<B: Width, V: MapValue> IntervalMap<B, V> {
     /// requires { F.IsAlwaysCallable test }
     /// ensures { IfOk result (λ L. IsTested (FnReturnsAt F.Fn test) self.now L) }
     /// ```
+    ///
+    /// Words: [`IsTested`](crate::definitions#IsTested).
     pub fn numbers_with<F: Fn(&V) -> bool>(&self, test: F) -> Result<IntervalSet<B>, AllocError> {
         let mut numbers = IntervalSet::empty(self.allocator());
         for entry in self.entries.as_slice() {

@@ -34,7 +34,7 @@ impl<B: Width, V: MapValue> IntervalMap<B, V> {
     /// ensures { IfOk result (λ E. IsEntriesOf V.eq E (OnlyAt (IsBetween window) (HasAt V.eq self.now))) }
     /// ```
     ///
-    /// Words: [`IsBetween`](crate::definitions#IsBetween).
+    /// Words: [`IsEntriesOf`](crate::definitions#IsEntriesOf), [`OnlyAt`](crate::definitions#OnlyAt), [`IsBetween`](crate::definitions#IsBetween), [`HasAt`](crate::definitions#HasAt).
     pub fn cut_to(&self, window: Interval<B>) -> Result<Self, AllocError> {
         self.in_order();
         let set = IntervalSet::of(self.allocator(), window)?;
@@ -64,7 +64,7 @@ impl<B: Width, V: MapValue> IntervalMap<B, V> {
     /// ensures { IfOk result (λ E. IsEntriesOf V.eq E (OnlyAt (Covers set.now) (HasAt V.eq self.now))) }
     /// ```
     ///
-    /// Words: [`Covers`](crate::definitions#Covers).
+    /// Words: [`IsEntriesOf`](crate::definitions#IsEntriesOf), [`OnlyAt`](crate::definitions#OnlyAt), [`Covers`](crate::definitions#Covers), [`HasAt`](crate::definitions#HasAt).
     pub fn restrict_to(&self, set: &IntervalSet<B>) -> Result<Self, AllocError> {
         self.in_order();
         let entries = parts_of(self.allocator(), &self.entries, set.runs())?;
@@ -94,7 +94,7 @@ impl<B: Width, V: MapValue> IntervalMap<B, V> {
     /// ensures { IfOk result (λ E. IsEntriesOf V.eq E (NotAt (Covers set.now) (HasAt V.eq self.now))) }
     /// ```
     ///
-    /// Words: [`Covers`](crate::definitions#Covers).
+    /// Words: [`IsEntriesOf`](crate::definitions#IsEntriesOf), [`NotAt`](crate::definitions#NotAt), [`Covers`](crate::definitions#Covers), [`HasAt`](crate::definitions#HasAt).
     pub fn without(&self, set: &IntervalSet<B>) -> Result<Self, AllocError> {
         self.in_order();
         let others = set.complement()?;

@@ -10,7 +10,7 @@ use crate::proved::ivl_map::value::MapValue;
 use crate::proved::intervallum::interval::Interval;
 use crate::proved::intervallum::interval_set::IntervalSet;
 use crate::proved::intervallum::ops::{Difference, IsEmpty};
-use crate::proved::intervallum::width::{SizeNumber, Width};
+use crate::proved::intervallum::width::Width;
 use crate::rattle::std::alloc::AllocError;
 
 impl<B: Width, V: MapValue> IntervalMap<B, V> {
@@ -40,7 +40,7 @@ impl<B: Width, V: MapValue> IntervalMap<B, V> {
     /// ensures entries { IsEntryListIn B.whole V.eq result.now }
     /// ```
     ///
-    /// Words: [`IsBetween`](crate::definitions#IsBetween).
+    /// Words: [`IsBetween`](crate::definitions#IsBetween), [`HasAt`](crate::definitions#HasAt), [`IsEntryListIn`](crate::definitions#IsEntryListIn).
     pub fn overlapping(&self, window: Interval<B>) -> &[(Interval<B>, V)] {
         let entries = self.entries.as_slice();
         if window.is_empty() {
@@ -74,7 +74,7 @@ impl<B: Width, V: MapValue> IntervalMap<B, V> {
     /// ensures { IfOk result (λ L. IsRunsOf L (Without (IsBetween window) (HasValue (HasAt V.eq self.now)))) }
     /// ```
     ///
-    /// Words: [`IsRunsOf`](crate::definitions#IsRunsOf), [`Without`](crate::definitions#Without), [`IsBetween`](crate::definitions#IsBetween).
+    /// Words: [`IsRunsOf`](crate::definitions#IsRunsOf), [`Without`](crate::definitions#Without), [`IsBetween`](crate::definitions#IsBetween), [`HasValue`](crate::definitions#HasValue), [`HasAt`](crate::definitions#HasAt).
     pub fn gaps_within(&self, window: Interval<B>) -> Result<IntervalSet<B>, AllocError> {
         let numbers = numbers_of(self.allocator(), self.overlapping(window))?;
         let all = IntervalSet::of(self.allocator(), window)?;
@@ -110,13 +110,13 @@ impl<B: Width, V: MapValue> IntervalMap<B, V> {
     ///     (IsFirstFit (B.Output.size count) (Without (IsBetween window) (HasValue (HasAt V.eq self.now))))) }
     /// ```
     ///
-    /// Words: [`FitsAt`](crate::definitions#FitsAt), [`Without`](crate::definitions#Without), [`IsBetween`](crate::definitions#IsBetween), [`IsFirstFit`](crate::definitions#IsFirstFit).
+    /// Words: [`FitsAt`](crate::definitions#FitsAt), [`Without`](crate::definitions#Without), [`IsBetween`](crate::definitions#IsBetween), [`HasValue`](crate::definitions#HasValue), [`HasAt`](crate::definitions#HasAt), [`IsFirstFit`](crate::definitions#IsFirstFit).
     pub fn first_fit(
         &self,
         window: Interval<B>,
         count: B::Output,
     ) -> Result<Option<Interval<B>>, AllocError> {
-        debug_assert!({ #[allow(unused_imports)] use crate::proved::ivl_interval::ops::*; count.number() > 0 }, "{}", "the condition of `first_fit` is broken: count.number() > 0");
+        debug_assert!({ #[allow(unused_imports)] use crate::proved::ivl_interval::ops::*; crate::proved::ivl_interval::width::SizeNumber::number(count) > 0 }, "{}", "the condition of `first_fit` is broken: crate::proved::ivl_interval::width::SizeNumber::number(count) > 0");
         let gaps = self.gaps_within(window)?;
         Ok(gaps.first_fit(count))
     }

@@ -1,9 +1,7 @@
-use Rattle.std.proofs.Common.{◌≡◌, ℕ, suc, ◌<◌, ◌≤◌, ℤ, List, length, get_or, take, drop, subst, sym, ◌∙◌, arith}
+use Rattle.std.proofs.Common.{◌≡◌, ◌<◌, ◌≤◌, ℤ, List, length, get_or, subst, sym, ◌∙◌}
 use Rattle.std.specs.Prelude.{MatchOption}
-use Rattle.ivl_laws.specs.Sets.{AtLeast, AtMost, HasNone}
-use Rattle.ivl_laws.specs.Counts.{IsIn}
-use Rattle.ivl_map.specs.Entries.{HasAt, HasValue, IsEntryList, AllEndBelow, FirstEndsFrom, FirstStartsAbove, AllStartBy}
-use Rattle.ivl_map.specs.Lookups.{IsFirstRunOf, IsLastRunOf, IsRunOfValue}
+use Rattle.ivl_map.specs.Entries.{HasAt, HasValue, IsEntryList}
+use Rattle.ivl_map.specs.Lookups.{IsFirstRunOf}
 use Rattle.ivl_map.proofs.Lookups.{first_is, none_in, option_weaker}
 use Rattle.ivl_map.proofs.interval_map.IntervalMap.first.Goals as goal
 

@@ -1,4 +1,4 @@
-use Rattle.std.proofs.Common.{ℤ, List}
+use Rattle.std.proofs.Common.{ℤ}
 use Rattle.ivl_laws.specs.Sets.{IsBetween, Without}
 use Rattle.ivl_laws.specs.Runs.{Covers}
 use Rattle.intervallum.specs.FirstFit.{IsFirstFit}

@@ -1,4 +1,4 @@
-use Rattle.std.proofs.Common.{List, subst}
+use Rattle.std.proofs.Common.{subst}
 use Rattle.ivl_map.specs.Entries.{IsEntryList}
 use Rattle.ivl_map.proofs.Kept.{one_value}
 use Rattle.ivl_map.proofs.interval_map.IntervalMap.in_order.Goals as goal

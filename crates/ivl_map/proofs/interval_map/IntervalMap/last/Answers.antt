@@ -1,9 +1,8 @@
-use Rattle.std.proofs.Common.{◌≡◌, ℕ, suc, ◌<◌, ◌≤◌, ℤ, List, length, get_or, take, drop, subst, sym, ap, ◌∙◌, arith}
+use Rattle.std.proofs.Common.{◌≡◌, ℕ, suc, ◌<◌, ℤ, List, length, get_or, subst, sym, ap, ◌∙◌, arith}
 use Rattle.std.specs.Prelude.{MatchOption}
-use Rattle.ivl_laws.specs.Sets.{AtLeast, AtMost, HasNone}
 use Rattle.ivl_laws.specs.Counts.{IsIn}
-use Rattle.ivl_map.specs.Entries.{HasAt, HasValue, IsEntryList, AllEndBelow, FirstEndsFrom, FirstStartsAbove, AllStartBy}
-use Rattle.ivl_map.specs.Lookups.{IsFirstRunOf, IsLastRunOf, IsRunOfValue}
+use Rattle.ivl_map.specs.Entries.{HasAt, HasValue, IsEntryList}
+use Rattle.ivl_map.specs.Lookups.{IsLastRunOf}
 use Rattle.ivl_map.proofs.Lookups.{in_at, option_weaker, last_is, none_in}
 use Rattle.ivl_map.proofs.interval_map.IntervalMap.last.Goals as goal
 

@@ -1,4 +1,3 @@
-use Rattle.std.proofs.Common.{ℤ, List}
 use Rattle.std.proofs.lemmas.Result.{IfOk-weaker}
 use Rattle.ivl_laws.specs.Runs.{Covers}
 use Rattle.ivl_map.specs.Entries.{HasAt, IsEntriesOf, NotAt, OnlyAt}

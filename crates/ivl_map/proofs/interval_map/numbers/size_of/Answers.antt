@@ -1,4 +1,4 @@
-use Rattle.std.proofs.Common.{◌≡◌, ℕ, ◌+◌, ◌≤◌, suc, ℤ, List, get_or, take, take_all, ap, subst, sym, arith}
+use Rattle.std.proofs.Common.{◌≡◌, ℕ, ◌+◌, suc, ℤ, List, take, take_all, ap, subst, sym, arith}
 use Rattle.ivl_map.proofs.Numbers.{IsCounted, counted_all, counted_fits, counted_next}
 use Rattle.ivl_map.proofs.interval_map.numbers.size_of.Goals as goal
 

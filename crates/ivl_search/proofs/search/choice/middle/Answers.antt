@@ -1,5 +1,5 @@
 use Rattle.std.proofs.Common.{◌≡◌, ◌≤◌, ◌<◌, ◌-◌, ◌/◌, ℕ, ap, arith, subst, sym, ◌∙◌}
-use Rattle.std.specs.Prelude.{ℤ, MatchOption}
+use Rattle.std.specs.Prelude.{MatchOption}
 use Rattle.ivl_laws.specs.Counts.{IsCountOf}
 use Rattle.ivl_laws.specs.Runs.{Covers}
 use Rattle.ivl_laws.specs.Sets.{Below}

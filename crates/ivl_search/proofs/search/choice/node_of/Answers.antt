@@ -1,10 +1,10 @@
-use Rattle.std.proofs.Common.{◌≡◌, ◌<◌, [], arith, below_more, length, subst, sym, true, ◌∙◌}
-use Rattle.std.specs.Prelude.{ℤ, IfSome}
+use Rattle.std.proofs.Common.{◌<◌, [], arith, below_more, length, subst, sym, ◌∙◌}
+use Rattle.std.specs.Prelude.{IfSome}
 use Rattle.std.proofs.lemmas.Bool.{false≢true}
 use Rattle.std.proofs.lemmas.List.{get_or_default}
 use Rattle.ivl_laws.specs.Families.{set_at}
 use Rattle.ivl_laws.specs.Runs.{Covers}
-use Rattle.ivl_laws.specs.Sets.{HasSome, Only, SameMembers}
+use Rattle.ivl_laws.specs.Sets.{HasSome}
 use Rattle.ivl_search.specs.Best.{IsBetter}
 use Rattle.ivl_search.specs.Halves.{HasTwo}
 use Rattle.ivl_search.proofs.search.choice.node_of.Goals as goal

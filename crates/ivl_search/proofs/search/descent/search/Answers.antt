@@ -1,23 +1,21 @@
-use Rattle.std.proofs.Common.{◌≡◌, ◌<◌, ◌≤◌, ◌+◌, ◌/◌, ◌++◌, [], List, length, map, ◌∷◌, ap, subst, sym, refl, arith, ◌∙◌}
+use Rattle.std.proofs.Common.{◌≡◌, ◌≤◌, ◌+◌, ◌/◌, ◌++◌, [], List, length, map, ◌∷◌, ap, subst, sym, refl, arith, ◌∙◌}
 use Rattle.std.specs.Prelude.{ℤ, ◌↔◌, All}
 use Rattle.std.proofs.lemmas.List.{append-nil, append_assoc, length_push, length-append}
 use Rattle.ivl_laws.specs.Families.{set_at}
-use Rattle.ivl_laws.specs.Sets.{HasSome, IsBetween}
 use Rattle.ivl_store.specs.Narrowing.{AllPresent}
 use Rattle.ivl_store.specs.Network.{IsCutAt}
 use Rattle.ivl_store.specs.Trail.{Past}
 use Rattle.ivl_store.specs.Solutions.{SupportedBy}
-use Rattle.ivl_search.specs.Best.{IsAsGood, IsBetter}
+use Rattle.ivl_search.specs.Best.{IsAsGood}
 use Rattle.ivl_search.specs.Budget.{points_of}
 use Rattle.ivl_search.specs.Nodes.{AreSingle, IsCut, IsNodeOf, IsOnlyPoint}
-use Rattle.ivl_search.specs.Points.{Solves, Finds}
-use Rattle.ivl_search.specs.declared.search.End.TheVariants.{All as AllFound}
+use Rattle.ivl_search.specs.Points.{Solves}
 use Rattle.ivl_search.proofs.Budget.{points_le, points_some}
 use Rattle.ivl_search.proofs.Cuts.{cut_solves, none_solves, single_solution, single_solves}
 use Rattle.ivl_search.proofs.Opening.{opened, spent_open}
 use Rattle.ivl_search.proofs.Paths.{IsPath, Rest, marks_before, no_cut_left, no_cut_marks, path_in_range, path_known, path_more, path_within, rest_after, rest_more, went_back}
 use Rattle.ivl_search.proofs.Progress.{IsLeft, all_found, finds_none, finds_one, left_after, left_at_first, stopped}
-use Rattle.ivl_search.proofs.Rooms.{HasRoom, nodes_here, root_room, same_work, spent_back, unsettled_less, within_budget}
+use Rattle.ivl_search.proofs.Rooms.{HasRoom, root_room, same_work, spent_back, unsettled_less, within_budget}
 use Rattle.ivl_search.proofs.search.descent.search.Goals as goal
 
 pub loop-left-init : goal.loop-left-init
@@ -40,6 +38,7 @@ loop-left-init g c =
       left = subst (λ cuts. IsLeft (Solves start.constraints start.domains) [] (Rest g.B.Width.value c.args.wanted start.constraints cuts [] start.domains)) (sym none) (left_at_first _);
       kept = λ kept. sym (append-nil _);
       counted = omega arith;
+      visited = omega arith;
       need = 0;
       rooms = subst (λ cuts. HasRoom g.B.Width.value c.args.wanted whole (length start.constraints / 500 + 1) cuts [] 0) (sym none) refl;
       spent = omega (arith, room);
@@ -63,6 +62,7 @@ loop-left-preserved-in-Unsettled g c =
     let less = unsettled_less whole before sets (length cs) c.loop-left.network.unsettled c.advance.new.network.unsettled c.advance.ensures.kept_count c.advance.ensures.within unsettled v.unsettled
     fewer (points_some whole sets c.advance.ensures.runs filled) in
     let spent = v.spent in
+    let visited = v.visited in
     let some = c.loop-left-test.true in record {
       constraints = c.advance.ensures.constraints ∙ v.constraints;
       kept_count = c.advance.ensures.kept_count ∙ v.kept_count;
@@ -78,6 +78,7 @@ loop-left-preserved-in-Unsettled g c =
           (rest_after value c.args.wanted cs c.loop-left.path.items v.pasts before sets same);
       kept = v.kept;
       counted = v.counted;
+      visited = omega (arith, visited, some);
       need = v.need;
       rooms = v.rooms;
       spent = omega (arith, spent, less, some);
@@ -122,6 +123,7 @@ loop-left-preserved-in_ok-push-in-Open g c =
     (points_le whole sets before c.in_ok-advance.ensures.kept_count c.in_ok-advance.ensures.within) both in
     let less = open_cut.less in
     let spent = v.spent in
+    let visited = v.visited in
     let some = c.loop-left-test.true in record {
       constraints = c.in_ok-cut-in-Open.ensures.constraints ∙ known_constraints;
       kept_count = c.in_ok-cut-in-Open.ensures.kept_count ∙ count;
@@ -140,6 +142,7 @@ loop-left-preserved-in_ok-push-in-Open g c =
           (rest_more value wanted whole cs (length start) (length c.args.network.now.marked) (Solves cs start) cuts v.pasts cut past low here part));
       kept = v.kept;
       counted = v.counted;
+      visited = omega (arith, visited, some);
       need = open_cut.more;
       rooms = subst (λ cuts. HasRoom value wanted whole (length cs / 500 + 1) cuts (v.pasts ++ past ∷ []) open_cut.more) (sym longer) open_cut.rooms;
       spent = omega (arith, spent, less, some);
@@ -200,6 +203,7 @@ loop-left-preserved-else-not-branch g c =
     let less = s.less in
     let spent = v.spent in
     let nodes = v.nodes in
+    let visited = v.visited in
     let some = c.loop-left-test.true in record {
       constraints = b.constraints;
       kept_count = b.count;
@@ -213,6 +217,7 @@ loop-left-preserved-else-not-branch g c =
       left = b.left;
       kept = λ kept. v.kept kept ∙ ap (λ more. map (λ point. map value point.items) c.args.found.now.points.items ++ more) (sym (append-nil v.more));
       counted = ap (λ more. length more + c.loop-left.left.solutions) (append-nil v.more) ∙ v.counted;
+      visited = omega (arith, visited, some);
       need = s.rest;
       rooms = s.rooms;
       spent = omega (arith, spent, less, some);
@@ -249,6 +254,7 @@ loop-left-preserved g c =
     let less = s.less in
     let spent = v.spent in
     let nodes = v.nodes in
+    let visited = v.visited in
     let some = c.loop-left-test.true in
     let solutions = c.if-left-eq0.false in
     let so_far = v.counted in
@@ -265,6 +271,7 @@ loop-left-preserved g c =
       left = b.left;
       kept = λ kept. point.2 (v.is_kept ∙ kept) ∙ ap (λ points. points ++ one ∷ []) (v.kept kept) ∙ append_assoc _ v.more (one ∷ []);
       counted = omega (arith, so_far, count, solutions);
+      visited = omega (arith, visited, some, solutions);
       need = s.rest;
       rooms = s.rooms;
       spent = omega (arith, spent, less, some);
@@ -274,6 +281,8 @@ loop-left-preserved g c =
 pub returns-then-not-branch : goal.returns-then-not-branch
 returns-then-not-branch g c =
     let v = c.loop-left.invariant in
+    let visited = v.visited in
+    let some = c.loop-left-test.true in
     let value = g.B.Width.value in
     let whole = g.B.Width.whole in
     let wanted = c.args.wanted in
@@ -296,6 +305,7 @@ returns-then-not-branch g c =
       spent = omega (arith, spent);
       enough = λ e. absurd (cc);
       nodes = omega (arith, nodes);
+      visited = omega (arith, visited, some);
       full = λ e. absurd (cc);
       finds = (
         v.more ++ [],
@@ -308,6 +318,8 @@ returns-then-not-branch g c =
 pub returns-then-not-branch-2 : goal.returns-then-not-branch-2
 returns-then-not-branch-2 g c =
     let v = c.loop-left.invariant in
+    let visited = v.visited in
+    let some = c.loop-left-test.true in
     let value = g.B.Width.value in
     let whole = g.B.Width.whole in
     let wanted = c.args.wanted in
@@ -338,6 +350,7 @@ returns-then-not-branch-2 g c =
       spent = omega (arith, spent);
       enough = λ e. absurd (cc);
       nodes = omega (arith, nodes);
+      visited = omega (arith, visited, solutions, some);
       full = λ e. absurd (cc);
       finds = (
         v.more ++ one ∷ [],
@@ -364,6 +377,7 @@ returns-then-left-eq0 g c =
       spent = omega (arith, spent);
       enough = λ e. absurd (cc);
       nodes = v.nodes;
+      visited = v.visited;
       full = λ e. c.if-left-eq0.true;
       finds = (v.more, stopped (Solves cs start) _ v.more _ v.left (λ e. cc), v.kept, v.counted);
     }
@@ -385,6 +399,7 @@ returns g c =
       spent = omega (arith, spent);
       enough = λ e. (omega (arith, none), omega (arith, spent, none));
       nodes = v.nodes;
+      visited = v.visited;
       full = λ e. absurd (cc);
       finds = (v.more, stopped (Solves cs start) _ v.more _ v.left (λ e. cc), v.kept, v.counted);
     }

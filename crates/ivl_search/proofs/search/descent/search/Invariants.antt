@@ -1,4 +1,4 @@
-use Rattle.std.proofs.Common.{◌≡◌, ◌+◌, ◌*◌, ◌/◌, ◌≤◌, ◌++◌, ℕ, List, length, map, true}
+use Rattle.std.proofs.Common.{◌≡◌, ◌+◌, ◌/◌, ◌≤◌, ◌++◌, ℕ, List, length, map, true}
 use Rattle.std.specs.Prelude.{ℤ}
 use Rattle.ivl_store.specs.Trail.{Past}
 use Rattle.ivl_search.specs.Points.{Solves}
@@ -23,6 +23,7 @@ invariant-loop-left g l = record {
   left : IsLeft (Solves l.fn.network.constraints l.fn.network.domains) more (Rest g.B.Width.value l.wanted l.fn.network.constraints l.path.items pasts l.network.domains);
   kept : l.fn.found.is_kept ≡ true → map (λ point. map g.B.Width.value point.items) l.found.points.items ≡ map (λ point. map g.B.Width.value point.items) l.fn.found.points.items ++ more;
   counted : length more + l.left.solutions ≡ l.fn.left.solutions;
+  visited : l.fn.left.solutions + l.left.nodes ≤ l.left.solutions + l.fn.left.nodes;
   need : ℕ;
   rooms : HasRoom g.B.Width.value l.wanted g.B.Width.whole (length l.fn.network.constraints / 500 + 1) l.path.items pasts need;
   spent : l.fn.left.nodes + (need + nodes_here (length l.fn.network.constraints / 500 + 1) (points_of g.B.Width.whole l.network.domains) l.network.unsettled)

@@ -1,6 +1,9 @@
 use Rattle.std.proofs.Common.{◌<◌, ◌+◌, ◌*◌, ◌/◌, List, length, max, subst, sym, ◌∙◌}
 use Rattle.std.specs.Prelude.{ℤ}
+use Rattle.ivl_search.specs.Best.{IsBetter}
 use Rattle.ivl_search.specs.Budget.{points_of}
+use Rattle.ivl_search.specs.Points.{Solves}
+use Rattle.ivl_search.proofs.Better.{improves_within}
 use Rattle.ivl_search.proofs.Rooms.{best_more}
 use Rattle.ivl_search.proofs.Popping.{known_variable}
 use Rattle.ivl_search.proofs.search.optimum.best_at.Goals as goal
@@ -15,3 +18,10 @@ returns-clause-enough g c = λ e.
     let net = c.in_ok-network.network in
     best_more (length net.constraints) (length c.args.constraints.now) (2 * max 1 (points_of g.B.Width.whole c.args.domains.now)) c.args.limits.nodes c.in_ok-network.ensures.no_more
     (subst (λ (D : List (List (ℤ × ℤ))). c.args.limits.nodes < 2 * max 1 (points_of g.B.Width.whole D) * (length net.constraints / 500 + 1) + 1) c.in_ok-network.ensures.domains (c.in_ok-best.ensures.enough e))
+
+pub returns-clause-full : goal.returns-clause-full
+returns-clause-full g c = λ e.
+    let net = c.in_ok-network.network in
+    improves_within (λ old new. IsBetter c.args.wanted old new) c.args.variable (Solves net.constraints net.domains) (Solves c.args.constraints.now c.args.domains.now)
+    (λ point s. (c.in_ok-network.ensures.solutions point).1 (subst (λ (D : List (List (ℤ × ℤ))). Solves net.constraints D point) c.in_ok-network.ensures.domains s))
+    c.args.limits.solutions _ (c.in_ok-best.ensures.full e)

@@ -1,4 +1,4 @@
-use Rattle.std.proofs.Common.{◌≡◌, ◌<◌, ◌≤◌, ◌+◌, ◌-◌, List, None, Some, ap, arith, rules, length, map, subst, sym, ◌∙◌}
+use Rattle.std.proofs.Common.{◌≡◌, ◌<◌, suc, List, None, Some, ap, arith, rules, length, map, subst, sym, ◌∙◌}
 use Rattle.std.specs.Prelude.{ℤ, ◌↔◌, IfNone, IfSome}
 use Rattle.std.proofs.lemmas.List.{length-map}
 use Rattle.ivl_laws.specs.Families.{set_at}
@@ -8,9 +8,9 @@ use Rattle.ivl_search.specs.Best.{IsAsGood, IsBetter}
 use Rattle.ivl_search.specs.Halves.{IsMiddle}
 use Rattle.ivl_search.specs.Nodes.{AreFilled}
 use Rattle.ivl_search.specs.Points.{Solves, coordinate}
-use Rattle.ivl_search.proofs.Better.{AreAhead, ahead_after, ahead_in_part, ahead_of_next, best_at_end, number_at}
+use Rattle.ivl_search.proofs.Better.{AreAhead, ahead_after, ahead_in_part, ahead_of_next, best_at_end, improves_to_next, number_at, some_improved}
 use Rattle.ivl_search.proofs.Cuts.{cut_solves, in_range}
-use Rattle.ivl_search.specs.Budget.{nodes_each, nodes_enough, points_of}
+use Rattle.ivl_search.specs.Budget.{nodes_each, points_of}
 use Rattle.ivl_search.proofs.Budget.{points_le}
 use Rattle.ivl_search.specs.declared.search.End.TheVariants.{All as AllFound}
 use Rattle.ivl_search.proofs.Spending.{IsGoodHalf, spent_all, spent_before, spent_better, spent_worse}
@@ -77,13 +77,20 @@ loop-left-preserved-in-Some-point g c =
       cut = halved.3;
     } in
     let some = c.loop-left-test.true in
+    let so_far = v.counted in
+    let solutions = c.if-left-eq0.false in
+    let visited = v.visited in
+    let nodes = c.in_ok-point.ensures.nodes in
     let better = subst (λ x. IsCutAt c.args.variable (IsBetter c.args.wanted x) (set_at sets) (set_at new)) (sym number) cut.cut in
     record {
       constraints = cut.constraints ∙ c.in_ok-point.ensures.constraints ∙ c.narrowed_middle.ensures.constraints ∙ v.constraints;
       kept_count = cut.kept_count ∙ count;
       ahead = ahead_of_next (λ point. map g.B.Width.value point.items) c.args.wanted c.args.variable (Solves cs start) c.loop-left.best (Solves cs sets) (Solves cs new) point ahead here
           (cut_solves cs sets new c.args.variable (IsBetter c.args.wanted (coordinate (map value point.items) c.args.variable)) cut.kept_count lt better);
-      full = tt;
+      found = suc v.found;
+      improves = improves_to_next (λ point. map g.B.Width.value point.items) c.args.wanted c.args.variable (Solves cs start) c.loop-left.best (Solves cs sets) point v.found ahead here v.improves;
+      counted = omega (arith, so_far, solutions);
+      visited = omega (arith, visited, nodes, some);
       spent = spent_better g.B.Width.whole c.args.wanted c.narrowed_middle.new.network.constraints cs narrowed halved.0 new c.args.variable (value c.in-Some.half) (coordinate (map value point.items) c.args.variable)
           (points_of g.B.Width.whole start) (points_of g.B.Width.whole c.loop-left.network.domains) c.args.limits.nodes c.loop-left.left.nodes _ _ half_of
           (c.narrowed_middle.ensures.constraints ∙ v.constraints) halved.4 v.spent (omega (arith, some))
@@ -126,6 +133,8 @@ loop-left-preserved g c =
     (ahead_after (λ point. map g.B.Width.value point.items) c.args.wanted c.args.variable (Solves cs start) c.loop-left.best (Solves cs c.loop-left.network.domains) (Solves cs narrowed) v.ahead same) in
     let halved = c.in_ok-point.ensures.half in
     let some = c.loop-left-test.true in
+    let visited = v.visited in
+    let nodes = c.in_ok-point.ensures.nodes in
     let half_of : IsGoodHalf g.B.Width.whole c.args.wanted narrowed halved.0 c.args.variable half = record {
       runs = c.narrowed_middle.ensures.runs;
       filled = subst (λ o. IfSome o (λ x. AreFilled narrowed)) c.in-Some.is c.in_ok-half.ensures.filled;
@@ -140,7 +149,10 @@ loop-left-preserved g c =
       ahead = ahead_in_part (λ point. map g.B.Width.value point.items) c.args.wanted c.args.variable (Solves cs start) c.loop-left.best (Solves cs sets) (Solves cs new)
           (λ point. IsBetter c.args.wanted (coordinate point c.args.variable) half) ahead worse
           (cut_solves cs sets new c.args.variable (λ number. IsBetter c.args.wanted number half) cut.kept_count lt cut.cut);
-      full = v.full;
+      found = v.found;
+      improves = v.improves;
+      counted = v.counted;
+      visited = omega (arith, visited, nodes, some);
       spent = spent_worse g.B.Width.whole c.args.wanted c.narrowed_middle.new.network.constraints cs narrowed halved.0 new c.args.variable half (points_of g.B.Width.whole start)
           (points_of g.B.Width.whole c.loop-left.network.domains) c.args.limits.nodes c.loop-left.left.nodes _ _ half_of same_cs halved.4 v.spent (omega (arith, some))
           (points_le g.B.Width.whole narrowed c.loop-left.network.domains c.narrowed_middle.ensures.kept_count c.narrowed_middle.ensures.within)
@@ -167,3 +179,16 @@ returns-in-None-2-clause-enough g c = λ e.
     (points_of g.B.Width.whole c.args.network.now.domains) (points_of g.B.Width.whole c.loop-left.network.domains) c.args.limits.nodes c.loop-left.left.nodes _ half_of
     (c.narrowed_middle.ensures.constraints ∙ v.constraints) (halved.5 e).1 v.spent (omega (arith, some))
     (points_le g.B.Width.whole narrowed c.loop-left.network.domains c.narrowed_middle.ensures.kept_count c.narrowed_middle.ensures.within)
+
+-- with a limit of 0 none is found
+pub returns-then-left-eq0-clause-bounded : goal.returns-then-left-eq0-clause-bounded
+returns-then-left-eq0-clause-bounded g c =
+    let v = c.loop-left.invariant in
+    some_improved (λ point. map g.B.Width.value point.items) (λ old new. IsBetter c.args.wanted old new) c.args.variable (Solves c.args.network.now.constraints c.args.network.now.domains)
+    c.loop-left.best v.found c.loop-left.left.solutions c.args.limits.solutions c.loop-left.left.nodes c.args.limits.nodes v.improves v.counted v.visited
+
+pub returns-clause-bounded : goal.returns-clause-bounded
+returns-clause-bounded g c =
+    let v = c.loop-left.invariant in
+    some_improved (λ point. map g.B.Width.value point.items) (λ old new. IsBetter c.args.wanted old new) c.args.variable (Solves c.args.network.now.constraints c.args.network.now.domains)
+    c.loop-left.best v.found c.loop-left.left.solutions c.args.limits.solutions c.loop-left.left.nodes c.args.limits.nodes v.improves v.counted v.visited

@@ -1,7 +1,8 @@
-use Rattle.std.proofs.Common.{◌≡◌, ◌≤◌, ◌+◌, ◌*◌, length, map, max}
-use Rattle.std.specs.Prelude.{IfNone}
+use Rattle.std.proofs.Common.{◌≡◌, ◌≤◌, ◌+◌, ◌*◌, ℕ, length, map, max}
+use Rattle.std.specs.Prelude.{option_map}
+use Rattle.ivl_search.specs.Best.{IsBetter}
 use Rattle.ivl_search.specs.Budget.{nodes_each, points_of}
-use Rattle.ivl_search.specs.Points.{Solves}
+use Rattle.ivl_search.specs.Points.{ImprovesTo, Solves}
 use Rattle.ivl_search.proofs.Better.{AreAhead}
 use Rattle.ivl_search.proofs.search.optimum.best_of.Given as goal
 
@@ -10,7 +11,10 @@ invariant-loop-left g l = record {
   constraints : l.network.constraints ≡ l.fn.network.constraints;
   kept_count : length l.network.domains ≡ length l.fn.network.domains;
   ahead : AreAhead (λ point. map g.B.Width.value point.items) l.wanted l.variable (Solves l.fn.network.constraints l.fn.network.domains) l.best (Solves l.fn.network.constraints l.network.domains);
-  full : IfNone l.best (l.left.solutions ≡ l.fn.limits.solutions);
+  found : ℕ;
+  improves : ImprovesTo (λ old new. IsBetter l.wanted old new) l.variable (Solves l.fn.network.constraints l.fn.network.domains) found (option_map (λ point. map g.B.Width.value point.items) l.best);
+  counted : found + l.left.solutions ≡ l.fn.limits.solutions;
+  visited : found + l.left.nodes ≤ l.fn.limits.nodes;
   spent : l.fn.limits.nodes + 2 * points_of g.B.Width.whole l.network.domains * nodes_each l.fn.network.constraints
       ≤ l.left.nodes + 2 * max 1 (points_of g.B.Width.whole l.fn.network.domains) * nodes_each l.fn.network.constraints;
 }

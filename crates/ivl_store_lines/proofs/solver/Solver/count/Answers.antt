@@ -1,5 +1,6 @@
 use Rattle.std.proofs.Common.{◌∙◌, [], refl, sym}
 use Rattle.std.proofs.lemmas.Bool.{true≢false}
+use Rattle.ivl_search.specs.Budget.{nodes_enough}
 use Rattle.ivl_store_lines.specs.Solving.{domain_range}
 use Rattle.ivl_store_lines.proofs.Nothing.{finds_none, not_used_up}
 use Rattle.ivl_store_lines.proofs.solver.Solver.count.Goals as goal
@@ -12,5 +13,5 @@ returns-in-Ok-clause-known c = λ e. absurd (true≢false (sym (c.has_empty.ensu
 
 pub returns-in-Ok-clause-enough : goal.returns-in-Ok-clause-enough
 returns-in-Ok-clause-enough c =
-    not_used_up domain_range c.args.self.now c.constraints.result.now c.domains.result.now c.limits-limits.result.nodes c.in-Ok.counted.1
+    not_used_up (nodes_enough domain_range) c.args.self.now c.constraints.result.now c.domains.result.now c.limits-limits.result.nodes c.in-Ok.counted.1
     c.constraints.ensures.same c.domains.ensures c.limits-limits.ensures.nodes c.in-Ok.ensures.enough

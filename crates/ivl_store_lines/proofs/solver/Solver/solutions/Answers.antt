@@ -1,6 +1,7 @@
 use Rattle.std.proofs.Common.{◌∙◌, map, subst, sym}
 use Rattle.std.proofs.lemmas.Bool.{true≢false}
 use Rattle.ivl_search.specs.Points.{Finds, Solves}
+use Rattle.ivl_search.specs.Budget.{nodes_enough}
 use Rattle.ivl_store_lines.specs.Solving.{domain_range}
 use Rattle.ivl_store_lines.proofs.Nothing.{finds_none, not_used_up}
 use Rattle.ivl_store_lines.proofs.Points.{finds_plain}
@@ -16,7 +17,7 @@ returns-in-Ok-clause-finds c =
 
 pub returns-in-Ok-clause-enough : goal.returns-in-Ok-clause-enough
 returns-in-Ok-clause-enough c =
-    not_used_up domain_range c.args.self.now c.constraints.result.now c.domains.result.now c.limits-limits.result.nodes c.in-Ok.found.end
+    not_used_up (nodes_enough domain_range) c.args.self.now c.constraints.result.now c.domains.result.now c.limits-limits.result.nodes c.in-Ok.found.end
     c.constraints.ensures.same c.domains.ensures c.limits-limits.ensures.nodes c.in-Ok.ensures.enough
 
 pub returns-then-has_empty-clause-finds : goal.returns-then-has_empty-clause-finds

@@ -1,0 +1,113 @@
+//! What the calls of a search mean.
+ghost use Rattle.std.specs.Prelude.{◌≡◌, ◌≢◌, ◌≤◌, ◌<◌, ℕ, ℤ, List, All, Contains, IfNone, IfOk, IfSome, IsNone, IsSome, length, map, option_map};
+ghost use Rattle.ivl_store.specs.Solutions.{AreDistinct};
+ghost use Rattle.ivl_search.specs.Budget.{nodes_enough, nodes_for_best};
+ghost use Rattle.ivl_search.specs.Points.{EachOnce, Finds, IsGreatestAt, IsLeastAt, RisesTo, Solves};
+
+use intervallum::interval_set::IntervalSet;
+use intervallum::width::Width;
+use ivl_search::search;
+use ivl_search::search::{Best, End, Found, Limits, SearchFault, all_distinct};
+use ivl_store::store::Constraint;
+use std::alloc::Global;
+
+/// Returns all solutions, each once, if each constraint is tested to have three different variables, and
+/// the limits allow it.
+pub fn all_solutions<B: Width>(
+    alloc: Global,
+    domains: &[IntervalSet<B>],
+    constraints: &[Constraint],
+    limits: Limits,
+) -> Result<Option<Vec<Vec<B>>>, SearchFault>
+    ensures sound { IfOk result (λ o. IfSome o (λ points. All (Solves constraints.now domains.now) (map (λ point. map B.value point.items) points.items))) }
+    ensures once { IfOk result (λ o. IfSome o (λ points. EachOnce (map (λ point. map B.value point.items) points.items))) }
+    ensures all { IfOk result (λ o. IfSome o (λ points. (point : List ℤ) → Solves constraints.now domains.now point → Contains (map (λ point. map B.value point.items) points.items) point)) }
+    ensures none { IfOk result (λ o. IsNone o → All AreDistinct constraints.now → nodes_enough B.whole constraints.now domains.now ≤ limits.nodes
+        → (points : List (List ℤ)) × (length points ≡ limits.solutions) × All (Solves constraints.now domains.now) points × EachOnce points) }
+{
+    if !all_distinct(constraints) {
+        return Ok(None);
+    }
+    let found = search::solutions(alloc, domains, constraints, limits)?;
+    match found.end {
+        End::All => Ok(Some(found.points)),
+        End::Solutions | End::Nodes => Ok(None),
+    }
+}
+
+/// Returns what was found by the call that tests the constraints itself.
+pub fn some_solutions<B: Width>(
+    alloc: Global,
+    domains: &[IntervalSet<B>],
+    constraints: &[Constraint],
+    limits: Limits,
+) -> Result<Option<Found<B>>, SearchFault>
+    ensures none { IfOk result (λ o. IsNone o → ¬ (All AreDistinct constraints.now)) }
+    ensures sound { IfOk result (λ o. IfSome o (λ found. All (Solves constraints.now domains.now) (map (λ point. map B.value point.items) found.points.items))) }
+    ensures all { IfOk result (λ o. IfSome o (λ found. found.end ≡ End.All → (point : List ℤ) → Solves constraints.now domains.now point → Contains (map (λ point. map B.value point.items) found.points.items) point)) }
+    ensures enough { IfOk result (λ o. IfSome o (λ found. nodes_enough B.whole constraints.now domains.now ≤ limits.nodes → found.end ≢ End.Nodes)) }
+{
+    search::try_solutions(alloc, domains, constraints, limits)
+}
+
+/// Returns how many solutions there are, if the limits allow it.
+pub fn number_of_solutions<B: Width>(
+    alloc: Global,
+    domains: &[IntervalSet<B>],
+    constraints: &[Constraint],
+    limits: Limits,
+) -> Result<Option<usize>, SearchFault>
+    requires { All AreDistinct constraints.now }
+    ensures counted { IfOk result (λ o. IfSome o (λ n. (points : List (List ℤ)) × (length points ≡ n) × Finds (Solves constraints.now domains.now) points End.All)) }
+    ensures none { IfOk result (λ o. IsNone o → nodes_enough B.whole constraints.now domains.now ≤ limits.nodes
+        → (points : List (List ℤ)) × (length points ≡ limits.solutions) × All (Solves constraints.now domains.now) points × EachOnce points) }
+{
+    let (count, end) = search::count(alloc, domains, constraints, limits)?;
+    if end == End::All {
+        Ok(Some(count))
+    } else {
+        Ok(None)
+    }
+}
+
+/// Returns a solution with the least number for a variable, or that there is no solution. `None` only if
+/// a limit may have stopped the search.
+pub fn least_solution<B: Width>(
+    alloc: Global,
+    domains: &[IntervalSet<B>],
+    constraints: &[Constraint],
+    variable: usize,
+    limits: Limits,
+) -> Result<Option<Option<Vec<B>>>, SearchFault>
+    requires { All AreDistinct constraints.now }
+    ensures sound { IfOk result (λ o. IfSome o (λ found. IfSome found (λ point. Solves constraints.now domains.now (map B.value point.items)))) }
+    ensures least { IfOk result (λ o. IfSome o (λ found. IfSome found (λ point. IsLeastAt variable (Solves constraints.now domains.now) (map B.value point.items)))) }
+    ensures none { IfOk result (λ o. IfSome o (λ found. IfNone found ((point : List ℤ) → ¬ (Solves constraints.now domains.now point)))) }
+    ensures sure { IfOk result (λ o. nodes_for_best B.whole constraints.now domains.now ≤ limits.nodes → limits.nodes < limits.solutions → IsSome o) }
+{
+    let best = search::least(alloc, domains, constraints, variable, limits)?;
+    match best.end {
+        End::All => Ok(Some(best.point)),
+        End::Solutions => Ok(None),
+        End::Nodes => Ok(None),
+    }
+}
+
+/// Returns a solution with the greatest number for a variable, or the best that was found. It was found
+/// last of as many as the limit allows, each with a greater number, if the search was stopped by that.
+pub fn greatest_solution<B: Width>(
+    alloc: Global,
+    domains: &[IntervalSet<B>],
+    constraints: &[Constraint],
+    variable: usize,
+    limits: Limits,
+) -> Result<Best<B>, SearchFault>
+    requires { All AreDistinct constraints.now }
+    ensures sound { IfOk result (λ best. IfSome best.point (λ point. Solves constraints.now domains.now (map B.value point.items))) }
+    ensures greatest { IfOk result (λ best. best.end ≡ End.All → IfSome best.point (λ point. IsGreatestAt variable (Solves constraints.now domains.now) (map B.value point.items))) }
+    ensures none { IfOk result (λ best. best.end ≡ End.All → IfNone best.point ((point : List ℤ) → ¬ (Solves constraints.now domains.now point))) }
+    ensures full { IfOk result (λ best. best.end ≡ End.Solutions → RisesTo variable (Solves constraints.now domains.now) limits.solutions (option_map (λ point. map B.value point.items) best.point)) }
+    ensures enough { IfOk result (λ best. nodes_for_best B.whole constraints.now domains.now ≤ limits.nodes → best.end ≢ End.Nodes) }
+{
+    search::greatest(alloc, domains, constraints, variable, limits)
+}
