@@ -72,6 +72,7 @@ extern crate alloc;
 
 mod bounds;
 pub mod definitions;
+pub mod map;
 pub mod proved;
 pub mod rattle;
 pub mod set;
@@ -90,8 +91,11 @@ pub mod set;
 /// assert!(open == IntervalSet::new(8, 13));
 /// ```
 pub mod prelude {
-    pub use crate::{Full, IntervalSet, PagedSet, Size, Width};
+    pub use crate::{Full, IntervalMap, IntervalSet, PagedSet, Size, Width};
 }
+
+#[doc(inline)]
+pub use map::IntervalMap;
 
 /// A set of `Full` integers has byte 0xFF and port 65535 too:
 ///

@@ -1,19 +1,19 @@
 //! Sets with the methods and traits of a set of std, over the proved ones.
 //!
 //! What both kinds have is written once, by macros that are called for each.
-mod below;
+pub(crate) mod below;
 mod combining;
-mod conditions;
+pub(crate) mod conditions;
 mod conversions;
 mod edits;
-mod iterators;
-mod making;
+pub(crate) mod iterators;
+pub(crate) mod making;
 mod operators;
 mod paged;
 mod pieces;
-mod reads;
+pub(crate) mod reads;
 #[cfg(feature = "serde")]
-mod serde;
+pub(crate) mod serde;
 mod text;
 
 pub use below::{AnySet, Lent};

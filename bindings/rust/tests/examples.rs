@@ -23,6 +23,8 @@ programs! {
     keys_and_threads "../examples/keys_and_threads.rs";
     lexer_classes "../examples/lexer_classes.rs";
     ports "../examples/ports.rs";
+    rules "../examples/rules.rs";
     #[cfg(all(feature = "json", feature = "serde"))]
     serde_formats "../examples/serde_formats.rs";
+    switch "../examples/switch.rs";
 }

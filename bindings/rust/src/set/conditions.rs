@@ -1,4 +1,4 @@
-//! Panics, failed allocations, and what the docs of both kinds of sets say otherwise of each.
+//! Panics, failed allocations, and what the docs of sets of both kinds and of maps say otherwise of each.
 use crate::proved::width::Width;
 use crate::proved::{AllocError, Interval};
 use alloc::alloc::{Layout, handle_alloc_error};
@@ -39,7 +39,7 @@ pub fn numbers_between(lower: i128, upper: i128) -> impl Display {
     })
 }
 
-/// The value of a checked form, or a panic with the condition and the call of a set.
+/// The value of a checked form, or a panic with the condition and the call of a set or a map.
 macro_rules! unless_broken {
     ($set:ident: $checked:expr, $condition:expr, $($call:tt)*) => {
         match $checked {
@@ -85,6 +85,9 @@ macro_rules! contract {
     (PagedSet $call:literal) => {
         concat!("\n\nContract: [`proved::PagedSet::", $call, "`](crate::proved::ivl_paged::PagedSet::", $call, ").")
     };
+    (IntervalMap $call:literal) => {
+        concat!("\n\nContract: [`proved::IntervalMap::", $call, "`](crate::proved::ivl_map::IntervalMap::", $call, ").")
+    };
     // of a call whose code is this crate's
     (over $Set:ident $call:literal) => {
         concat!("\n\nTested and not proved: made of what [`proved::", stringify!($Set), "::", $call, "`](",
@@ -92,6 +95,7 @@ macro_rules! contract {
     };
     (path IntervalSet) => { "crate::proved::IntervalSet::" };
     (path PagedSet) => { "crate::proved::ivl_paged::PagedSet::" };
+    (path IntervalMap) => { "crate::proved::ivl_map::IntervalMap::" };
     // of a call that the proved paged set lacks
     (lists IntervalSet $call:literal) => { contract!(IntervalSet $call) };
     (lists PagedSet $call:literal) => {
@@ -100,4 +104,5 @@ macro_rules! contract {
     };
 }
 
-pub(super) use {contract, cost, unless_broken};
+pub(super) use cost;
+pub(crate) use {contract, unless_broken};

@@ -270,13 +270,13 @@ impl<T: Width + Debug> Debug for IntoRuns<T> {
 
 /// Returns the value whose number is greater by one. There must be one in the range.
 #[inline]
-pub(super) fn after<T: Width>(value: T) -> T {
+pub(crate) fn after<T: Width>(value: T) -> T {
     value.add_in_range(T::one())
 }
 
 /// Returns the value whose number is less by one. There must be one in the range.
 #[inline]
-pub(super) fn before<T: Width>(value: T) -> T {
+pub(crate) fn before<T: Width>(value: T) -> T {
     value.sub_in_range(T::one())
 }
 

@@ -153,7 +153,7 @@ pub(super) fn gathered<T: Width, P: Pieces<T>>(
 
 /// Returns the interval of a piece. Panics if some number is outside the limits.
 #[track_caller]
-pub(super) fn interval_of<T: Width>(set: &str, call: &str, piece: &impl Piece<T>) -> Interval<T> {
+pub(crate) fn interval_of<T: Width>(set: &str, call: &str, piece: &impl Piece<T>) -> Interval<T> {
     match piece.interval() {
         Some(interval) => interval,
         None => {

@@ -9,7 +9,7 @@ use crate::proved::width::{SizeNumber, Width};
 use core::ops::RangeInclusive;
 
 const FILLED: &str = "the set must not be empty, but is {}";
-pub(super) const ABOVE_0: &str = "the count must be above 0";
+pub(crate) const ABOVE_0: &str = "the count must be above 0";
 
 /// Returns a proved interval, which is not empty, as a range of std.
 #[inline]

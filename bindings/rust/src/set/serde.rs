@@ -72,7 +72,7 @@ impl<'de, T: Width, R: Into<Option<(T, T)>> + Deserialize<'de>> Visitor<'de> for
 }
 
 /// Returns a bound, which has to be in the range.
-fn bound<T: Width, E: Error>(value: T) -> Result<T, E> {
+pub(crate) fn bound<T: Width, E: Error>(value: T) -> Result<T, E> {
     let is_in_range = Interval::in_range(value, value);
     is_in_range
         .then_some(value)

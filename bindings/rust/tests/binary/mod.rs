@@ -1,5 +1,5 @@
 //! A binary format of the shape of bincode, which does not describe itself: numbers in little-endian order, one byte before an
-//! option, a length of 8 bytes before a sequence, nothing before a tuple.
+//! option, a length of 8 bytes before a sequence or a text, nothing before a tuple.
 use serde::de::value::Error;
 use serde::de::{DeserializeOwned, Deserializer, Error as _, SeqAccess, Visitor};
 use serde::ser::{Impossible, SerializeSeq, SerializeTuple, Serializer};
@@ -182,6 +182,13 @@ impl<'de> Deserializer<'de> for &mut Reader<'_> {
         visitor.visit_char(char::from_u32(number).ok_or_else(|| fault("no char"))?)
     }
 
+    fn deserialize_string<V: Visitor<'de>>(self, visitor: V) -> Result<V::Value, Error> {
+        let length = self.length()?;
+        let (bytes, rest) = self.0.split_at_checked(length).ok_or_else(|| fault("the input ends"))?;
+        self.0 = rest;
+        visitor.visit_str(std::str::from_utf8(bytes).map_err(fault)?)
+    }
+
     fn deserialize_option<V: Visitor<'de>>(self, visitor: V) -> Result<V::Value, Error> {
         match self.bytes()? {
             [0] => visitor.visit_none(),
@@ -204,7 +211,7 @@ impl<'de> Deserializer<'de> for &mut Reader<'_> {
     }
 
     forward_to_deserialize_any! {
-        bool f32 f64 str string bytes byte_buf unit unit_struct tuple_struct map struct enum identifier ignored_any
+        bool f32 f64 str bytes byte_buf unit unit_struct tuple_struct map struct enum identifier ignored_any
     }
 }
 

@@ -1,0 +1,172 @@
+//! Iterators over entries and values.
+use super::IntervalMap;
+use super::below::Entry;
+use super::reads::shown;
+use crate::proved::width::Width;
+use core::fmt::{self, Debug};
+use core::iter::FusedIterator;
+use core::ops::RangeInclusive;
+use core::slice;
+
+/// An iterator over entries of an [`IntervalMap`], in ascending order: the run of each, and its value.
+pub struct Iter<'a, T: Width, V>(pub(super) slice::Iter<'a, Entry<T, V>>);
+
+/// An iterator over the values of an [`IntervalMap`], in ascending order of their numbers.
+pub struct Values<'a, T: Width, V>(pub(super) slice::Iter<'a, Entry<T, V>>);
+
+/// An iterator over the entries of a map that is consumed, in ascending order. Each value that it yields is a copy.
+#[derive(Clone)]
+pub struct IntoIter<T: Width, V: Clone + Eq> {
+    map: IntervalMap<T, V>,
+    first: usize,
+    end: usize,
+}
+
+fn entry<T: Width, V>((run, held): &Entry<T, V>) -> (RangeInclusive<T>, &V) {
+    shown((*run, held))
+}
+
+fn value<T: Width, V>(entry: &Entry<T, V>) -> &V {
+    &entry.1.0
+}
+
+macro_rules! over_entries {
+    ($($Iter:ident yields $item:ty, $of:ident;)*) => {$(
+        impl<T: Width, V> Clone for $Iter<'_, T, V> {
+            fn clone(&self) -> Self {
+                Self(self.0.clone())
+            }
+        }
+
+        impl<'a, T: Width, V> Iterator for $Iter<'a, T, V> {
+            type Item = $item;
+
+            #[inline]
+            fn next(&mut self) -> Option<$item> {
+                self.0.next().map($of)
+            }
+
+            fn size_hint(&self) -> (usize, Option<usize>) {
+                self.0.size_hint()
+            }
+
+            fn count(self) -> usize {
+                self.0.len()
+            }
+
+            fn nth(&mut self, n: usize) -> Option<$item> {
+                self.0.nth(n).map($of)
+            }
+
+            fn last(mut self) -> Option<$item> {
+                self.next_back()
+            }
+
+            fn fold<A, F: FnMut(A, $item) -> A>(self, begin: A, mut step: F) -> A {
+                self.0.fold(begin, |all, next| step(all, $of(next)))
+            }
+        }
+
+        impl<'a, T: Width, V> DoubleEndedIterator for $Iter<'a, T, V> {
+            #[inline]
+            fn next_back(&mut self) -> Option<$item> {
+                self.0.next_back().map($of)
+            }
+
+            fn nth_back(&mut self, n: usize) -> Option<$item> {
+                self.0.nth_back(n).map($of)
+            }
+        }
+
+        impl<T: Width, V> ExactSizeIterator for $Iter<'_, T, V> {}
+
+        impl<T: Width, V> FusedIterator for $Iter<'_, T, V> {}
+    )*};
+}
+
+over_entries! {
+    Iter yields (RangeInclusive<T>, &'a V), entry;
+    Values yields &'a V, value;
+}
+
+/// Writes the entries that are left.
+impl<T: Width + Debug, V: Debug> Debug for Iter<'_, T, V> {
+    fn fmt(&self, f: &mut fmt::Formatter<'_>) -> fmt::Result {
+        f.write_str("Iter ")?;
+        f.debug_map().entries(self.clone()).finish()
+    }
+}
+
+/// Writes the values that are left.
+impl<T: Width, V: Debug> Debug for Values<'_, T, V> {
+    fn fmt(&self, f: &mut fmt::Formatter<'_>) -> fmt::Result {
+        f.write_str("Values ")?;
+        f.debug_list().entries(self.clone()).finish()
+    }
+}
+
+impl<T: Width, V: Clone + Eq> IntoIter<T, V> {
+    /// The entries of a map.
+    pub(super) fn of(map: IntervalMap<T, V>) -> Self {
+        Self { first: 0, end: map.interval_count(), map }
+    }
+
+    /// The entries that are left.
+    fn left(&self) -> Iter<'_, T, V> {
+        Iter(self.map.entries()[self.first..self.end].iter())
+    }
+}
+
+impl<T: Width, V: Clone + Eq> Iterator for IntoIter<T, V> {
+    type Item = (RangeInclusive<T>, V);
+
+    fn next(&mut self) -> Option<(RangeInclusive<T>, V)> {
+        let (run, value) = self.left().next()?;
+        let entry = (run, value.clone());
+        self.first += 1;
+        Some(entry)
+    }
+
+    fn size_hint(&self) -> (usize, Option<usize>) {
+        self.left().size_hint()
+    }
+
+    fn count(self) -> usize {
+        self.end - self.first
+    }
+
+    fn nth(&mut self, n: usize) -> Option<(RangeInclusive<T>, V)> {
+        self.first = self.end.min(self.first.saturating_add(n));
+        self.next()
+    }
+
+    fn last(mut self) -> Option<(RangeInclusive<T>, V)> {
+        self.next_back()
+    }
+}
+
+impl<T: Width, V: Clone + Eq> DoubleEndedIterator for IntoIter<T, V> {
+    fn next_back(&mut self) -> Option<(RangeInclusive<T>, V)> {
+        let (run, value) = self.left().next_back()?;
+        let entry = (run, value.clone());
+        self.end -= 1;
+        Some(entry)
+    }
+
+    fn nth_back(&mut self, n: usize) -> Option<(RangeInclusive<T>, V)> {
+        self.end = self.first.max(self.end.saturating_sub(n));
+        self.next_back()
+    }
+}
+
+impl<T: Width, V: Clone + Eq> ExactSizeIterator for IntoIter<T, V> {}
+
+impl<T: Width, V: Clone + Eq> FusedIterator for IntoIter<T, V> {}
+
+/// Writes the entries that are left.
+impl<T: Width + Debug, V: Clone + Eq + Debug> Debug for IntoIter<T, V> {
+    fn fmt(&self, f: &mut fmt::Formatter<'_>) -> fmt::Result {
+        f.write_str("IntoIter ")?;
+        f.debug_map().entries(self.left()).finish()
+    }
+}

@@ -1,0 +1,361 @@
+//! Maps of the root: each call, least inputs and the ends of the range, panics, values of several types, traits of std.
+use intervallum::map::{IntoIter, Iter, Values};
+use intervallum::{Full, IntervalMap, IntervalSet, PagedSet};
+use std::collections::{BTreeMap, HashMap, HashSet};
+use std::fmt::Debug;
+use std::ops::Bound::{Excluded, Unbounded};
+use std::panic::{self, AssertUnwindSafe, UnwindSafe};
+use std::sync::Mutex;
+
+type Map<V> = IntervalMap<i32, V>;
+
+/// A value of a type of one's own.
+#[derive(Clone, Copy, Debug, PartialEq, Eq, Hash)]
+enum Owner {
+    Kernel,
+    User(u32),
+}
+
+use Owner::{Kernel, User};
+
+/// The entries of a map, as pairs of bounds.
+fn told<V: Clone + Eq>(map: &Map<V>) -> Vec<(i32, i32, V)> {
+    map.iter().map(|(run, value)| (*run.start(), *run.end(), value.clone())).collect()
+}
+
+#[test]
+fn entries_are_written_over_joined_and_split() {
+    let mut map = Map::new();
+    map.insert(0..=9, User(1));
+    map.insert(3..=4, Kernel);
+    assert_eq!(told(&map), [(0, 2, User(1)), (3, 4, Kernel), (5, 9, User(1))]);
+    map.insert(3..=4, User(1));
+    assert_eq!(told(&map), [(0, 9, User(1))]);
+    map.insert(10..=12, User(1));
+    map.insert(-3..0, User(1));
+    assert_eq!(told(&map), [(-3, 12, User(1))]);
+    map.insert(20..=30, Kernel);
+    map.insert(40..=50, User(2));
+    map.insert(25..=45, User(3));
+    assert_eq!(told(&map), [(-3, 12, User(1)), (20, 24, Kernel), (25, 45, User(3)), (46, 50, User(2))]);
+    map.insert(.., Kernel);
+    assert_eq!(told(&map), [(-i32::MAX, i32::MAX, Kernel)]);
+    map.insert(5..5, User(1));
+    assert_eq!(map.interval_count(), 1, "an empty range has no numbers");
+    assert!(map.remove(0) && !map.remove(0) && !map.remove(7..7) && map.remove(10..));
+    assert_eq!(told(&map), [(-i32::MAX, -1, Kernel), (1, 9, Kernel)]);
+    assert!(map.remove(i32::MIN..) && map.is_empty() && !map.remove(..));
+}
+
+#[test]
+fn ranges_of_each_kind_are_arguments() {
+    let mut map = Map::new();
+    map.insert(1, 'a');
+    map.insert((3, 4), 'b');
+    map.insert(&(5..7), 'c');
+    map.insert((Excluded(9), Excluded(12)), 'd');
+    assert_eq!(told(&map), [(1, 1, 'a'), (3, 4, 'b'), (5, 6, 'c'), (10, 11, 'd')]);
+    assert_eq!(map.overlapping((Excluded(4), Unbounded)).count(), 2);
+    assert_eq!(map.gaps_within(..=4), IntervalSet::from([-i32::MAX..=0, 2..=2]));
+}
+
+#[test]
+fn questions_and_their_least_inputs() {
+    let none = Map::<String>::empty();
+    let map = Map::from([(1..=5, "a"), (6..=9, "b"), (12..=20, "a")]);
+    assert_eq!((none.get(1), none.get_run(1), none.first(), none.last()), (None, None, None, None));
+    assert_eq!((none.next_from(i32::MIN), none.previous_to(i32::MAX), none.size()), (None, None, 0));
+    assert_eq!((none.interval_count(), none.iter().len(), none.values().len()), (0, 0, 0));
+    assert_eq!((none.keys(), none.numbers_with(|_| true)), (IntervalSet::empty(), IntervalSet::empty()));
+    assert_eq!((none.gaps_within(1..3), none.first_fit(4.., 2)), (IntervalSet::from(1..3), Some(4..=5)));
+    assert!(none.overlapping(..).next().is_none() && !none.contains(1) && none.is_empty());
+
+    assert_eq!((map.get(5), map.get(6), map.get(10), map.get(i32::MIN)), (Some(&"a"), Some(&"b"), None, None));
+    assert!(map.contains(12) && !map.contains(11) && !map.is_empty());
+    assert_eq!((map.get_run(5), map.get_run(20)), (Some((1..=5, &"a")), Some((12..=20, &"a"))));
+    assert_eq!((map.get_run(0), map.get_run(21)), (None, None));
+    assert_eq!((map.first(), map.last()), (Some((1..=5, &"a")), Some((12..=20, &"a"))));
+    assert_eq!((map.next_from(9), map.next_from(10), map.next_from(21)), (map.get_run(6), map.get_run(12), None));
+    assert_eq!((map.previous_to(12), map.previous_to(11), map.previous_to(0)), (map.get_run(12), map.get_run(9), None));
+    assert_eq!((map.interval_count(), map.size()), (3, 18));
+    assert_eq!(map.keys(), IntervalSet::from([1..=9, 12..=20]));
+    assert_eq!(map.numbers_with(|name| *name == "a"), IntervalSet::from([1..=5, 12..=20]));
+    assert_eq!(map.numbers_with(|_| true), map.keys());
+    assert_eq!(map.gaps_within(0..=30), IntervalSet::from([0..=0, 10..=11, 21..=30]));
+    assert_eq!((map.gaps_within(3..7), map.gaps_within(3..3)), (IntervalSet::empty(), IntervalSet::empty()));
+    assert_eq!((map.first_fit(1..=30, 2), map.first_fit(1..=30, 3)), (Some(10..=11), Some(21..=23)));
+    assert_eq!((map.first_fit(1..=22, 3), map.checked_first_fit(.., 0)), (None, None));
+    assert_eq!(map.checked_first_fit(5..9, 1), Some(None));
+    let met = |range| map.overlapping(range).map(|(run, _)| *run.start()).collect::<Vec<_>>();
+    assert_eq!(
+        (met(5..6), met(5..7), met(10..12), met(9..9), met(9..13)),
+        (vec![1], vec![1, 6], vec![], vec![], vec![6, 12])
+    );
+    assert_eq!(map.values().copied().collect::<String>(), "aba");
+}
+
+#[test]
+fn a_free_range_is_taken_or_the_entry_in_the_way_is_told() {
+    let mut map = Map::new();
+    assert_eq!(map.insert_if_free(1..=5, Kernel), Ok(()));
+    assert_eq!(map.insert_if_free(5..=9, User(7)), Err((1..=5, &Kernel)));
+    assert_eq!(map.insert_if_free(-5..=30, User(7)), Err((1..=5, &Kernel)));
+    assert_eq!(map.insert_if_free(6..=9, Kernel), Ok(()));
+    assert_eq!(map.insert_if_free(20..=20, User(7)), Ok(()));
+    assert_eq!(map.insert_if_free(7..7, User(7)), Ok(()));
+    assert_eq!(map.checked_insert_if_free(10..=12, User(8)), Some(Ok(())));
+    assert_eq!(map.checked_insert_if_free(12..=12, User(9)), Some(Err((10..=12, &User(8)))));
+    assert_eq!(map.checked_insert_if_free(i32::MIN..=0, User(9)), None);
+    assert_eq!(told(&map), [(1, 9, Kernel), (10, 12, User(8)), (20, 20, User(7))]);
+}
+
+#[test]
+fn parts_of_maps_and_maps_of_two() {
+    let map = Map::from([(1..=5, 1), (6..=9, 2), (12..=20, 3)]);
+    assert_eq!(told(&map.cut_to(4..13)), [(4, 5, 1), (6, 9, 2), (12, 12, 3)]);
+    assert!(map.cut_to(10..12).is_empty() && map.cut_to(5..5).is_empty() && map.cut_to(..) == map);
+    let some = IntervalSet::from([2..=3, 5..=6, 15..=40]);
+    assert_eq!(told(&map.restrict_to(&some)), [(2, 3, 1), (5, 5, 1), (6, 6, 2), (15, 20, 3)]);
+    assert_eq!(told(&map.without(&some)), [(1, 1, 1), (4, 4, 1), (7, 9, 2), (12, 14, 3)]);
+    assert_eq!(map.restrict_to(&PagedSet::from(&some)), map.restrict_to(&some));
+    assert_eq!(map.without(&PagedSet::from(&some)), map.without(&some));
+    assert_eq!((map.without(&map.keys()), map.restrict_to(&map.keys())), (Map::empty(), map.clone()));
+    let other = Map::from([(-3..=2, 10), (5..=13, 20), (30..=31, 30)]);
+    let mut asked = Vec::new();
+    let sums = map.merge(&other, |x, y| {
+        asked.push((*x, *y));
+        x + y
+    });
+    let wanted = [
+        (-3, 0, 10),
+        (1, 2, 11),
+        (3, 4, 1),
+        (5, 5, 21),
+        (6, 9, 22),
+        (10, 11, 20),
+        (12, 13, 23),
+        (14, 20, 3),
+        (30, 31, 30),
+    ];
+    assert_eq!((told(&sums), asked), (wanted.to_vec(), vec![(1, 10), (1, 20), (2, 20), (3, 20)]));
+    assert_eq!((map.merge(&Map::empty(), |x, _| *x), Map::empty().merge(&map, |x, _| *x)), (map.clone(), map.clone()));
+    assert_eq!(map.merge(&map, |x, _| *x), map);
+    // neighbours that get equal values are one entry
+    assert_eq!(told(&map.merge(&other, |_, _| 20).cut_to(5..=13)), [(5, 13, 20)]);
+    let mut changed = map.clone();
+    changed.update(8..=14, |x| x * 10);
+    assert_eq!(told(&changed), [(1, 5, 1), (6, 7, 2), (8, 9, 20), (12, 14, 30), (15, 20, 3)]);
+    changed.update(.., |_| 0);
+    assert_eq!(told(&changed), [(1, 9, 0), (12, 20, 0)]);
+    changed.update(5..5, |_| panic!("an empty range asks nothing"));
+}
+
+/// The message of the panic of a call.
+fn message(call: impl FnOnce()) -> String {
+    let fault = panic::catch_unwind(AssertUnwindSafe(call)).unwrap_err();
+    fault.downcast_ref::<String>().cloned().unwrap_or_else(|| (*fault.downcast_ref::<&str>().unwrap()).to_owned())
+}
+
+#[test]
+fn a_condition_that_does_not_hold_is_told() {
+    let mut map = IntervalMap::from([(1..=5u8, 'a')]);
+    let range = "the numbers must be from 0 to 254";
+    assert_eq!(message(|| map.insert(9..=255, 'b')), format!("IntervalMap::insert(9..=255): {range}"));
+    assert_eq!(message(|| _ = map.insert_if_free(255, 'b')), format!("IntervalMap::insert_if_free(255): {range}"));
+    assert_eq!(message(|| map.extend([(7..=8, 'b'), (255..=255, 'b')])), format!("IntervalMap::extend(255): {range}"));
+    assert_eq!(
+        message(|| _ = [(7..=255, 'b')].into_iter().collect::<IntervalMap<u8, char>>()),
+        format!("IntervalMap::from_iter(7..=255): {range}")
+    );
+    assert_eq!(message(|| _ = IntervalMap::from([(255u8, 'b')])), format!("IntervalMap::from(255): {range}"));
+    assert_eq!(message(|| _ = map.first_fit(.., 0)), "IntervalMap::first_fit(.., 0): the count must be above 0");
+    assert_eq!((map.checked_insert(9..=255, 'b'), map.checked_extend([(7, 'b'), (255, 'b')])), (None, None));
+    assert_eq!(IntervalMap::checked_from_iter([(7u8, 'b'), (255, 'b')]), None);
+    assert_eq!(map, IntervalMap::from([(1..=5, 'a')]), "it is unchanged");
+    assert_eq!(
+        (map.checked_insert(254, 'b'), map.checked_extend([(7, 'c'), (8, 'c')]), map.get(255)),
+        (Some(()), Some(()), None)
+    );
+    assert_eq!(map.iter().last(), Some((254..=254, &'b')));
+    let (first, file) = panics_at(|| IntervalMap::new().insert(255u8, 'a'));
+    assert!(file.ends_with("map.rs") && first > 0, "{file}");
+}
+
+/// The line and the file that the panic of a call names.
+fn panics_at(call: impl FnOnce()) -> (u32, String) {
+    static PLACE: Mutex<Option<(u32, String)>> = Mutex::new(None);
+    let hook = panic::take_hook();
+    panic::set_hook(Box::new(|info| {
+        *PLACE.lock().unwrap() = info.location().map(|at| (at.line(), at.file().to_owned()));
+    }));
+    panic::catch_unwind(AssertUnwindSafe(call)).unwrap_err();
+    panic::set_hook(hook);
+    PLACE.lock().unwrap().take().unwrap()
+}
+
+#[test]
+fn later_entries_win() {
+    let list = [(1..=9, "a"), (4..=5, "b"), (-3..=4, "c"), (9..=12, "a")];
+    let map = Map::from(list.clone());
+    assert_eq!(told(&map), [(-3, 4, "c"), (5, 5, "b"), (6, 12, "a")]);
+    assert_eq!((Map::from(list.to_vec()), list.clone().into_iter().collect()), (map.clone(), map.clone()));
+    let mut other = Map::from([(5, "z")]);
+    other.extend(list.clone());
+    assert_eq!((other, Map::checked_from_iter(list)), (map.clone(), Some(map)));
+    assert_eq!(Map::<u8>::from(Vec::<(i32, u8)>::new()), Map::empty());
+}
+
+static NONE: IntervalMap<u32, String> = IntervalMap::new();
+static SHARED: Mutex<IntervalMap<u64, u64>> = Mutex::new(IntervalMap::empty());
+
+fn is_plain<T: Send + Sync + Clone + Debug + Eq + std::hash::Hash + Default + UnwindSafe>() {}
+
+#[test]
+fn maps_stand_in_statics_and_are_shared() {
+    is_plain::<IntervalMap<u8, String>>();
+    assert!(NONE.is_empty() && NONE == IntervalMap::default() && NONE.clone().into_iter().next().is_none());
+    assert_eq!((NONE.cut_to(..), NONE.restrict_to(&IntervalSet::whole())), (NONE.clone(), NONE.clone()));
+    let mut none = NONE.clone();
+    none.clear();
+    none.update(.., String::clone);
+    assert_eq!((format!("{none:?}"), none), ("{}".to_owned(), NONE.clone()));
+    std::thread::scope(|scope| {
+        for i in 0..8u64 {
+            scope.spawn(move || SHARED.lock().unwrap().insert(100 * i..100 * i + 90, i % 2));
+        }
+    });
+    let shared = SHARED.lock().unwrap();
+    assert_eq!((shared.size(), shared.get(389)), (720, Some(&1)));
+}
+
+#[test]
+fn values_are_of_any_type() {
+    let mut names: IntervalMap<char, String> = IntervalMap::new();
+    names.insert('a'..='z', "small".to_owned());
+    names.insert('m'..='m', "em".to_owned());
+    names.insert('m', "small".to_owned());
+    assert_eq!(names.get_run('q').unwrap(), ('a'..='z', &"small".to_owned()));
+    let sets = IntervalMap::from([(Full(200u8)..=Full(255), IntervalSet::from([1..=2]))]);
+    assert_eq!(sets.get(255.into()), Some(&IntervalSet::from([1..=2])));
+    let units = IntervalMap::from([(1..=2u64, ()), (3..=4, ())]);
+    assert_eq!(units.iter().collect::<Vec<_>>(), [(1..=4, &())]);
+    let maps = IntervalMap::from([(1..=2u64, BTreeMap::from([(1, 'a')])), (3..=4, BTreeMap::new())]);
+    assert_eq!(maps.interval_count(), 2);
+    let maybe = IntervalMap::from([(1..=2i8, Some(1)), (3..=4, None), (5..=6, None)]);
+    assert_eq!(maybe.iter().collect::<Vec<_>>(), [(1..=2, &Some(1)), (3..=6, &None)]);
+}
+
+#[test]
+fn iterators_have_names_and_go_both_ways() {
+    struct Walks<'a>(Iter<'a, u8, char>, Values<'a, u8, char>, IntoIter<u8, char>);
+    let map = IntervalMap::from([(1..=2u8, 'a'), (3..=4, 'b'), (9..=9, 'c')]);
+    let mut walks = Walks(map.iter(), map.values(), map.clone().into_iter());
+    assert_eq!(
+        format!("{:?} {:?} {:?}", walks.0, walks.1, walks.2),
+        "Iter {1..=2: 'a', 3..=4: 'b', 9..=9: 'c'} Values ['a', 'b', 'c'] IntoIter {1..=2: 'a', 3..=4: 'b', 9..=9: 'c'}"
+    );
+    assert_eq!((walks.0.len(), walks.1.size_hint(), walks.2.len()), (3, (3, Some(3)), 3));
+    assert_eq!(
+        (walks.0.next_back(), walks.1.next_back(), walks.2.next_back()),
+        (Some((9..=9, &'c')), Some(&'c'), Some((9..=9, 'c')))
+    );
+    assert_eq!((walks.0.next(), walks.1.next(), walks.2.next()), (Some((1..=2, &'a')), Some(&'a'), Some((1..=2, 'a'))));
+    assert_eq!(
+        (walks.0.clone().last(), walks.1.clone().count(), walks.2.clone().last()),
+        (Some((3..=4, &'b')), 1, Some((3..=4, 'b')))
+    );
+    assert_eq!((walks.0.nth(1), walks.1.nth_back(1), walks.2.nth(1)), (None, None, None));
+    assert_eq!((walks.0.next(), walks.1.next_back(), walks.2.next_back()), (None, None, None));
+    assert_eq!((map.iter().nth(1), map.values().nth_back(1)), (Some((3..=4, &'b')), Some(&'b')));
+    assert_eq!(
+        (map.clone().into_iter().nth(2), map.clone().into_iter().nth_back(1)),
+        (Some((9..=9, 'c')), Some((3..=4, 'b')))
+    );
+    assert_eq!(map.iter().fold(0, |sum, (run, _)| sum + run.count()), 5);
+    assert_eq!((&map).into_iter().rev().map(|(_, value)| *value).collect::<String>(), "cba");
+    let again: IntervalMap<u8, char> = map.clone().into_iter().collect();
+    assert_eq!(again, map);
+}
+
+#[test]
+fn maps_are_compared_hashed_and_written_by_entries() {
+    let map = Map::from([(1..=5, "anna"), (8..=9, "bela")]);
+    let other = Map::from([(8..=9, "bela"), (1..=3, "anna"), (4..=5, "anna")]);
+    assert!(
+        map == other && map != Map::from([(1..=5, "anna"), (8..=9, "anna")]) && map != Map::from([(1..=5, "anna")])
+    );
+    let keys: HashSet<Map<&str>> = HashSet::from([map.clone(), other, Map::empty(), Map::default()]);
+    assert_eq!(keys.len(), 2);
+    assert_eq!(format!("{map:?}"), r#"{1..=5: "anna", 8..=9: "bela"}"#);
+    let counts: HashMap<&str, usize> = map.iter().map(|(run, name)| (*name, run.count())).collect();
+    assert_eq!(counts, HashMap::from([("anna", 5), ("bela", 2)]));
+}
+
+/// 3,000 entries, and edits in their midst.
+#[test]
+fn many_entries() {
+    let mut map: Map<i32> = (0..3_000).map(|i| (10 * i..10 * i + 10, i % 3)).collect();
+    assert_eq!((map.interval_count(), map.size(), map.keys()), (3_000, 30_000, IntervalSet::from(0..30_000)));
+    map.insert(4_990..25_010, 7);
+    assert_eq!((map.interval_count(), map.get_run(5_000)), (499 + 1 + 499, Some((4_990..=25_009, &7))));
+    map.remove(10_000..10_001);
+    assert_eq!((map.interval_count(), map.get(9_999), map.get(10_000)), (1_000, Some(&7), None));
+    map.update(.., |_| 1);
+    assert_eq!(told(&map), [(0, 9_999, 1), (10_001, 29_999, 1)]);
+    let falling: Map<i32> = (0..3_000).rev().map(|i| (10 * i..10 * i + 10, i % 3)).collect();
+    let parts = falling.restrict_to(&(0..3_000).map(|i| 10 * i + 4..10 * i + 6).collect::<IntervalSet<i32>>());
+    assert_eq!((parts.interval_count(), parts.size()), (3_000, 6_000));
+    assert_eq!(falling.merge(&parts, |x, y| x + y).interval_count(), 3_000 + 2 * 2_000);
+}
+
+/// A value whose comparison or copy panics when it is told to.
+#[derive(Debug)]
+struct Touchy(u8);
+
+thread_local! {
+    static COPIES_LEFT: std::cell::Cell<i32> = const { std::cell::Cell::new(i32::MAX) };
+    static LOOKS_LEFT: std::cell::Cell<i32> = const { std::cell::Cell::new(i32::MAX) };
+}
+
+fn spend(left: &std::cell::Cell<i32>) {
+    assert!(left.get() > 0, "no more");
+    left.set(left.get() - 1);
+}
+
+impl Clone for Touchy {
+    fn clone(&self) -> Self {
+        COPIES_LEFT.with(spend);
+        Touchy(self.0)
+    }
+}
+
+impl PartialEq for Touchy {
+    fn eq(&self, other: &Self) -> bool {
+        LOOKS_LEFT.with(spend);
+        self.0 == other.0
+    }
+}
+
+impl Eq for Touchy {}
+
+/// After a panic of a value's own code a map still has ascending entries, and numbers that the edit did not name keep their values.
+#[test]
+fn a_value_that_panics_leaves_a_map() {
+    for (copies, looks) in [(0, 9), (1, 0), (1, 1), (9, 9)] {
+        let mut map = Map::new();
+        [(0..10, 1), (10..20, 2), (20..30, 1)].into_iter().for_each(|(range, value)| map.insert(range, Touchy(value)));
+        COPIES_LEFT.set(copies);
+        LOOKS_LEFT.set(looks);
+        let is_split = panic::catch_unwind(AssertUnwindSafe(|| map.insert(14..=16, Touchy(9)))).is_ok();
+        let is_joined = panic::catch_unwind(AssertUnwindSafe(|| map.insert(10..20, Touchy(1)))).is_ok();
+        COPIES_LEFT.set(i32::MAX);
+        LOOKS_LEFT.set(i32::MAX);
+        let runs: Vec<_> = map.iter().map(|(run, _)| run).collect();
+        assert!(runs.windows(2).all(|pair| pair[0].end() < pair[1].start()));
+        assert!(
+            (0..10).chain(20..30).all(|x| map.get(x).is_some_and(|value| value.0 == 1)),
+            "{copies} {looks}: {map:?}"
+        );
+        assert_eq!((copies, looks) == (9, 9), is_split && is_joined);
+    }
+}
