@@ -1,16 +1,17 @@
-//! Times the calls of the root on sets of `i64`.
+//! Times the calls of the root on sets of `i64`, and two on maps from `i64`.
 //!
 //! `cargo run --release --example bench` prints what each call answers at two sizes of its inputs: the runs and the size of a
 //! set, or a number. With the arguments `time SECONDS GREATEST_N [WORD]` it prints lines `name n ns_per_operation runs size`, each
 //! the least of three repetitions of at least so many seconds; WORD picks measures by name. The inputs are those of `ivl_bench`, so that the lines can be
-//! compared with its, and with those of other programs that make the same. The names that end in `_btree` are the edits of a
-//! `BTreeMap` from the start of each run to its end.
-use intervallum::IntervalSet;
+//! compared with its, and with those of other programs that make the same. The names that end in `_btree` are the same calls of a
+//! `BTreeMap` from the start of each run to its end, and of an entry also to its value.
+use intervallum::{IntervalMap, IntervalSet};
 use std::collections::BTreeMap;
 use std::hint::black_box;
 use std::time::{Duration, Instant};
 
 type Set = IntervalSet<i64>;
+type Map = IntervalMap<i64, u32>;
 
 const SIZES: [usize; 7] = [10, 100, 300, 1_000, 10_000, 100_000, 1_000_000];
 
@@ -92,6 +93,69 @@ impl Tree {
     }
 }
 
+/// The starts of entries, their ends and values.
+#[derive(Clone)]
+struct TreeOfEntries(BTreeMap<i64, (i64, u32)>);
+
+impl TreeOfEntries {
+    fn get(&self, number: i64) -> Option<u32> {
+        let (_, &(end, value)) = self.0.range(..=number).next_back()?;
+        (end >= number).then_some(value)
+    }
+
+    fn insert(&mut self, lower: i64, upper: i64, value: u32) {
+        let (mut first, mut last) = (lower, upper);
+        if let Some((&start, entry)) = self.0.range_mut(..lower).next_back() {
+            let (end, old) = *entry;
+            if end >= lower - 1 && old == value {
+                (first, last) = (start, upper.max(end));
+                self.0.remove(&start);
+            } else if end >= lower {
+                entry.0 = lower - 1;
+                if end > upper {
+                    self.0.insert(upper + 1, (end, old));
+                }
+            }
+        }
+        while let Some((&start, &(end, old))) = self.0.range(lower..=upper + 1).next() {
+            if start > upper && old != value {
+                break;
+            }
+            self.0.remove(&start);
+            if old == value {
+                last = last.max(end);
+            } else if end > upper {
+                self.0.insert(upper + 1, (end, old));
+            }
+        }
+        self.0.insert(first, (last, value));
+    }
+
+    fn answer(&self) -> (u64, u64) {
+        (self.0.len() as u64, self.0.iter().map(|(start, (end, _))| (end - start + 1) as u64).sum())
+    }
+}
+
+/// A map of `n` entries, the same as a tree, and what is written to them.
+struct Entries {
+    map: Map,
+    tree: TreeOfEntries,
+    writes: Vec<(i64, i64, u32)>,
+}
+
+impl Entries {
+    fn new(n: usize, starts: &[i64]) -> Self {
+        let mut random = Generator(7);
+        let entries: Vec<_> = dense(n, 1).into_iter().map(|run| (run, random.next() % 4)).collect();
+        let write = |&lower| (lower, lower + i64::from(random.next() % 8), random.next() % 4);
+        Self {
+            map: entries.iter().copied().collect(),
+            tree: TreeOfEntries(entries.iter().map(|&((lower, upper), value)| (lower, (upper, value))).collect()),
+            writes: starts.iter().map(write).collect(),
+        }
+    }
+}
+
 /// The operands for sets of `n` runs.
 struct Inputs {
     n: usize,
@@ -103,6 +167,7 @@ struct Inputs {
     probes: Vec<i64>,
     edits: Vec<i64>,
     tree: Tree,
+    entries: Entries,
     few: (Set, Set),
     sparse: (Set, Set),
     fresh: Vec<(Set, Set)>,
@@ -112,13 +177,15 @@ impl Inputs {
     fn new(n: usize) -> Inputs {
         let (a, b): (Set, Set) = (dense(n, 1).into_iter().collect(), dense(n, 2).into_iter().collect());
         let pair = |p: u64| (dense(n, 2 * p + 1).into_iter().collect(), dense(n, 2 * p + 2).into_iter().collect());
+        let edits = probes(n.min(10_000).min(1_000_000_000 / n), 6, &a);
         Inputs {
             n,
             both: &a & &b,
             copy: a.clone(),
             pairs: shuffled(dense(n, 1), 3),
             probes: probes(1000, 5, &a),
-            edits: probes(n.min(10_000).min(1_000_000_000 / n), 6, &a),
+            entries: Entries::new(n, &edits),
+            edits,
             tree: Tree(dense(n, 1).into_iter().collect()),
             few: (dense(10, 2).into_iter().collect(), dense(100_000, 1).into_iter().collect()),
             sparse: if n <= 300 { (apart(n, 1, n), apart(n, 2, 1)) } else { Default::default() },
@@ -237,6 +304,38 @@ fn questions<'a>(inputs: &'a Inputs) -> Vec<Measure<'a>> {
     ]
 }
 
+/// Calls of a map, and the same of a tree.
+fn of_maps<'a>(inputs: &'a Inputs) -> Vec<Measure<'a>> {
+    let Entries { map, tree, writes } = &inputs.entries;
+    let (gets, inserts) = (inputs.probes.len() as u64, writes.len() as u64);
+    vec![
+        ("map_get", gets, Box::new(move || count(&inputs.probes, |probe| map.get(probe).is_some_and(|x| *x < 3)))),
+        (
+            "map_get_btree",
+            gets,
+            Box::new(move || count(&inputs.probes, |probe| tree.get(probe).is_some_and(|x| x < 3))),
+        ),
+        (
+            "map_insert",
+            inserts,
+            Box::new(move || {
+                let mut copy = black_box(map).clone();
+                writes.iter().for_each(|&(lower, upper, value)| copy.insert(lower..=upper, value));
+                (copy.interval_count() as u64, copy.size())
+            }),
+        ),
+        (
+            "map_insert_btree",
+            inserts,
+            Box::new(move || {
+                let mut copy = black_box(tree).clone();
+                writes.iter().for_each(|&(lower, upper, value)| copy.insert(lower, upper, value));
+                copy.answer()
+            }),
+        ),
+    ]
+}
+
 /// The calls that take long, or that do not depend on `n`.
 fn long<'a>(inputs: &'a Inputs) -> Vec<Measure<'a>> {
     let (a, b, sparse, few) = (&inputs.a, &inputs.b, &inputs.sparse, &inputs.few);
@@ -256,8 +355,13 @@ fn long<'a>(inputs: &'a Inputs) -> Vec<Measure<'a>> {
 fn measures(inputs: &Inputs) -> Vec<Measure<'_>> {
     match inputs.n {
         300 => long(inputs).into_iter().filter(|measure| measure.0 == "plus_sparse").collect(),
-        100_000.. => [makings(inputs), merges(inputs), questions(inputs)].into_iter().flatten().collect(),
-        _ => [makings(inputs), merges(inputs), questions(inputs), long(inputs)].into_iter().flatten().collect(),
+        100_000.. => {
+            [makings(inputs), merges(inputs), questions(inputs), of_maps(inputs)].into_iter().flatten().collect()
+        }
+        _ => {
+            let all = [makings(inputs), merges(inputs), questions(inputs), of_maps(inputs), long(inputs)];
+            all.into_iter().flatten().collect()
+        }
     }
 }
 

@@ -34,6 +34,8 @@
 //! A [`PagedSet`] has the same calls but for `+`, `-` and `*`, and is for more than some 1,000 runs that change: an edit moves the runs
 //! of one page, where that of an [`IntervalSet`] may move all runs above it. Calls with two sets take one of either kind.
 //!
+//! An [`IntervalMap`] has a value at each number of its runs: who holds which ids, which rule is for which addresses.
+//!
 //! # Values
 //!
 //! Sets have integers of at most 64 bits, less the greatest value of an unsigned type and the least of a signed one; all values of
@@ -43,7 +45,7 @@
 //!
 //! [`proved`] is the proved surface as it is: it takes an allocator and returns a `Result`, so that a failed allocation is an
 //! error and nothing more, and its docs have each call's contract, clause by clause. The root is for programs in which running
-//! out of memory may end the process: [`IntervalSet`] and [`PagedSet`] have methods that need no trait in scope, and the traits
+//! out of memory may end the process: [`IntervalSet`], [`PagedSet`] and [`IntervalMap`] have methods that need no trait in scope, and the traits
 //! of a set of Rust's std. Each method is one call of the proved face, or some few. Its conditions are tested in every build.
 //!
 //! # What is proved, and what is trusted
@@ -57,7 +59,8 @@
 //!
 //! None is enabled by itself, and then the crate depends on nothing but `core` and `alloc`.
 //!
-//! - `serde`: `Serialize` and `Deserialize` of both sets, as the sequence of the runs: `[[1,2],[5,5]]` in JSON.
+//! - `serde`: `Serialize` and `Deserialize` of both sets, as the sequence of the runs: `[[1,2],[5,5]]` in JSON; and of maps, as that of
+//!   runs and values: `[[[1,2],"anna"],[[5,5],"bela"]]`.
 //! - `json`: [`proved`]`::ivl_json`, the proved reading and writing of JSON, over `serde_json`.
 //!
 //! # Machines of 32 bits

@@ -225,12 +225,14 @@ fn debug_builds_test_the_arithmetic_of_bounds_and_sizes() {
 
 #[test]
 #[cfg(debug_assertions)]
-fn debug_builds_test_the_conditions_of_pages_and_searches() {
+fn debug_builds_test_the_conditions_of_pages_maps_and_searches() {
+    use intervallum::proved::ivl_map::IntervalMap;
     use intervallum::proved::ivl_paged::PagedSet;
     use intervallum::proved::ivl_search::search::{Limits, count, greatest, least, solutions};
     use intervallum::proved::ivl_store::store::Constraint;
 
     let paged = || PagedSet::of_set(&proved::IntervalSet::new(Global, 10u8, 20).unwrap()).unwrap();
+    let map = || IntervalMap::of(Global, Interval::new(10u8, 20), 'a').unwrap();
     let domains = || [proved::IntervalSet::new(Global, 0, 9).unwrap()];
     let twice = [Constraint { x: 0, y: 0, z: 0 }];
     let limits = || Limits { solutions: 1, nodes: 9 };
@@ -238,6 +240,7 @@ fn debug_builds_test_the_conditions_of_pages_and_searches() {
         paged().first_fit(0) => "the condition of `first_fit` is broken: crate::proved::ivl_interval::width::SizeNumber::number(count) > 0";
         paged().first_fit_from(3, 0) => "the condition of `first_fit_from` is broken: crate::proved::ivl_interval::width::SizeNumber::number(count) > 0";
         paged().take_first_fit(0) => "the condition of `take_first_fit` is broken: crate::proved::ivl_interval::width::SizeNumber::number(count) > 0";
+        map().first_fit(Interval::new(1, 9), 0).is_ok() => "the condition of `first_fit` is broken: crate::proved::ivl_interval::width::SizeNumber::number(count) > 0";
         solutions(Global, &domains(), &twice, limits()) => "the condition of `solutions` is broken: all_distinct(constraints)";
         count(Global, &domains(), &twice, limits()) => "the condition of `count` is broken: all_distinct(constraints)";
         least(Global, &domains(), &twice, 0, limits()) => "the condition of `least` is broken: all_distinct(constraints)";

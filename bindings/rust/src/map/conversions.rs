@@ -25,8 +25,8 @@ impl<T: Width, V: Clone + Eq, P: Piece<T>> From<Vec<(P, V)>> for IntervalMap<T, 
     }
 }
 
-/// Makes the map of every range with its value: later ones win. All numbers must be within the limits. `O(k)` for `k` of them in
-/// ascending order, and otherwise as long as so many calls of [`insert`](IntervalMap::insert).
+/// Makes the map of every range with its value: later ones win. All numbers must be within the limits. As many calls of
+/// [`insert`](IntervalMap::insert): `O(k log k)` for `k` ranges in ascending order, and at most `O(k^2)`.
 impl<T: Width, V: Clone + Eq, P: Piece<T>> FromIterator<(P, V)> for IntervalMap<T, V> {
     fn from_iter<I: IntoIterator<Item = (P, V)>>(entries: I) -> Self {
         Self::gathered("from_iter", entries)

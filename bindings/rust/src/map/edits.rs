@@ -71,7 +71,7 @@ impl<T: Width, V: Clone + Eq> IntervalMap<T, V> {
         }
     }
 
-    /// Takes the values of the numbers of a range, and returns true exactly when some of them had one. `O(log n)`, or `O(n)` if the
+    /// Removes the values of the numbers of a range, and returns true exactly when some of them had one. `O(log n)`, or `O(n)` if the
     /// number of entries changes. Within an entry the value of this is copied.
     ///
     /// ```
@@ -90,7 +90,7 @@ impl<T: Width, V: Clone + Eq> IntervalMap<T, V> {
         had_some
     }
 
-    /// Takes all values. Keeps the capacity.
+    /// Removes all values. Keeps the capacity.
     #[doc = contract!(IntervalMap "clear")]
     pub fn clear(&mut self) {
         self.edited().clear();
@@ -120,6 +120,7 @@ impl<T: Width, V: Clone + Eq> IntervalMap<T, V> {
     /// assert_eq!(a.checked_extend([(2..=3, "b"), (9..=255, "c")]), None);
     /// assert_eq!((a.checked_extend([(2..=3, "b"), (3..=4, "c")]), a.get(3)), (Some(()), Some(&"c")));
     /// ```
+    #[doc = contract!(IntervalMap "extend")]
     pub fn checked_extend<P: Piece<T>>(&mut self, entries: impl IntoIterator<Item = (P, V)>) -> Option<()> {
         let entries = entries_of(entries)?;
         memory(self.edited().extend(entries.into()));

@@ -28,12 +28,13 @@ impl<T: Width, V: Clone + Eq> IntervalMap<T, V> {
     }
 
     /// Returns the map of every range with its value that an iterator yields, as `collect` does, or `None` if some number is
-    /// outside the limits.
+    /// outside the limits. Takes as long as so many calls of [`insert`](Self::insert).
     ///
     /// ```
     /// # use intervallum::IntervalMap;
     /// assert_eq!(IntervalMap::checked_from_iter([(1..=5u8, 'a'), (9..=255, 'b')]), None);
     /// ```
+    #[doc = contract!(IntervalMap "from_entries")]
     #[must_use]
     pub fn checked_from_iter<P: Piece<T>>(entries: impl IntoIterator<Item = (P, V)>) -> Option<Self> {
         Some(Self::of_list(entries_of(entries)?))
@@ -45,8 +46,7 @@ impl<T: Width, V: Clone + Eq> IntervalMap<T, V> {
         Self::of_list(gathered(call, entries))
     }
 
-    /// Returns the map of a list of entries in any order: later ones win. Fewest moves are made if they are in order.
-    #[doc = contract!(IntervalMap "from_entries")]
+    /// Returns the map of a list of entries in any order, of which later ones win, by `from_entries`.
     pub(super) fn of_list(entries: Vec<Entry<T, V>>) -> Self {
         Self(Some(memory(Proved::from_entries(Global, entries.into()))))
     }
