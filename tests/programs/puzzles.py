@@ -60,7 +60,25 @@ def solve(program, name, number, limit):
         raise SystemExit(f"puzzles: {name}: {len(points)} lines, some of them no solutions, or twice")
 
 
+def best_within_nodes(program):
+    """`min` and `max` under limits of 0, 1, 2 .. nodes, of which 9 suffice: the best point so far is shown, and no better one is known."""
+    # z = 9 - y, and y is cut first: each half of the numbers of z has a solution, and a better one
+    lines = ["var y 0 9", "var n 9 9", "var z 0 9", "sum z y n"]
+    for asked, optimum in (("min", 0), ("max", 9)):
+        told = []
+        for nodes in range(10):
+            text = "".join(line + "\n" for line in [*lines, f"limit {500 * nodes}", f"{asked} z"])
+            ran = subprocess.run([program], input=text, capture_output=True, text=True, timeout=60, check=False)
+            *points, end = ran.stdout.splitlines()[len(lines) + 1 :]
+            told.append((end, [abs(int(point.split(" ")[5]) - optimum) for point in points]))
+        distances = [point[0] if point else 10 for _, point in told]
+        ends = [end for end, _ in told]
+        if ends != ["unfinished"] * 9 + ["ok"] or distances[-1] != 0 or distances != sorted(distances, reverse=True) or len(set(distances)) < 4:
+            raise SystemExit(f"puzzles: {asked} within so many nodes: {told}")
+
+
 def main(program):
+    best_within_nodes(program)
     for name, (number, limit) in SOLUTIONS.items():
         solve(program, name, number, limit)
     print(f"puzzles: {len(SOLUTIONS)} as they should be")

@@ -5,6 +5,7 @@ use Rattle.std.proofs.lemmas.Int.{ints, by_lt_z}
 use Rattle.std.specs.Cmp.{IsEquivalence}
 use Rattle.ivl_laws.specs.Sets.{AtLeast, AtMost, HasNone, Intersection, IsBetween}
 use Rattle.ivl_laws.specs.Counts.{IsIn}
+use Rattle.ivl_laws.proofs.Places.{in_at}
 use Rattle.intervallum.specs.Neighbours.{IsGreatest, IsLeast}
 use Rattle.ivl_map.specs.Entries.{HasAt, HasValue, IsEntryList, AllEndBelow, FirstEndsFrom, IsGap, FirstStartsAbove, AllStartBy}
 use Rattle.ivl_map.specs.Lookups.{IsFirstRunOf, IsLastRunOf, IsStoredAt}
@@ -13,11 +14,6 @@ use Rattle.ivl_map.proofs.Reading.{above_end, at_some, run_here, some_at}
 use Rattle.ivl_map.proofs.Searching.{end_at, start_by_at}
 use Rattle.ivl_map.proofs.Unique.{from_first}
 use Rattle.ivl_map.proofs.Writing.{before_start, last_split}
-
-pub in_at : {X : Type 0} (xs : List X) (i : ℕ) (d : X) → i < length xs → IsIn xs (get_or xs i d)
-in_at [] i d h = absurd (omega arith)
-in_at (x ∷ xs) zero d h = inl refl
-in_at (x ∷ xs) (suc i) d h = inr (in_at xs i d (omega arith))
 
 -- what is in the list up to the next place
 pub in_next : {X : Type 0} (xs : List X) (i : ℕ) (d x : X) → i < length xs → IsIn (take (suc i) xs) x ↔ (IsIn (take i xs) x ⊎ (x ≡ get_or xs i d))

@@ -46,16 +46,11 @@ run_after [] j d z m h c = absurd (omega arith)
 run_after (p ∷ R) zero d z m h c = let a = covered_after p.1 R z m.1 m.2 c in omega (arith, ints, a)
 run_after (p ∷ R) (suc j) d z m h c = run_after R j d z m.2 (omega arith) c
 
-pub run_open : (R : List (ℤ × ℤ)) (j : ℕ) (d : ℤ × ℤ) → IsMaximal R → j < length R → (get_or R j d).0 ≤ℤ (get_or R j d).1
-run_open [] j d m h = absurd (omega arith)
-run_open (p ∷ R) zero d m h = m.0
-run_open (p ∷ R) (suc j) d m h = run_open R j d m.2 (omega arith)
-
-no_runs : (R : List (ℤ × ℤ)) (j : ℕ) (z : ℤ) → length R ≤ j → ¬ (Covers (drop j R) z)
-no_runs [] zero z h c = c
-no_runs [] (suc j) z h c = c
-no_runs (p ∷ R) zero z h c = absurd (omega arith)
-no_runs (p ∷ R) (suc j) z h c = no_runs R j z (omega arith) c
+no_runs : (R : List (ℤ × ℤ)) (j : ℕ) (z : ℤ) → Covers (drop j R) z → j < length R
+no_runs [] zero z c = absurd c
+no_runs [] (suc j) z c = absurd c
+no_runs (p ∷ R) zero z c = omega arith
+no_runs (p ∷ R) (suc j) z c = let h = no_runs R j z c in omega (arith, h)
 
 module _ {V : Type 0} (eq : V → V → Bool) (o : IsEquivalence eq) where
   no_entries : (E : List ((ℤ × ℤ) × V)) (i : ℕ) (z : ℤ) (w : V) → length E ≤ i → ¬ (HasAt eq (drop i E) z w)
@@ -106,7 +101,7 @@ module _ {V : Type 0} (eq : V → V → Bool) (o : IsEquivalence eq) where
       maximal = l.maximal;
       values = λ z v. (
         (λ c. l.held z v c),
-        (λ (c, r). ⊎_elim (λ k. k) (λ k. absurd (⊎_elim (λ h. no_entries E i z v h k.0) (λ h. no_runs R j z h k.1) t)) (l.done z v c r)),
+        (λ (c, r). ⊎_elim (λ k. k) (λ k. absurd (⊎_elim (λ h. no_entries E i z v h k.0) (λ h. let less = no_runs R j z k.1 in omega (arith, h, less)) t)) (l.done z v c r)),
       );
     }
 

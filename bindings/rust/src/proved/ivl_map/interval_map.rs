@@ -216,7 +216,8 @@ impl<B: Width, V: MapValue> IntervalMap<B, V> {
     ///
     /// # Errors
     ///
-    /// Fails only if an allocation or the copy of a value fails. The map is then unchanged.
+    /// Fails only if the interval lies inside an entry, and an allocation or the copy of its value fails.
+    /// The map is then unchanged.
     ///
     /// ```
     /// use intervallum::proved::examples::*;
@@ -235,9 +236,10 @@ impl<B: Width, V: MapValue> IntervalMap<B, V> {
     /// ```text
     /// ensures ok { OnOk result (IsEntriesOf V.eq self.new (Outside interval (HasAt V.eq self.old))) }
     /// ensures err { OnErr result (self.new ≡ self.old) }
+    /// ensures in_place { ¬ (HasThroughout V (widened interval) (HasAt V.eq self.old)) → IsOk result }
     /// ```
     ///
-    /// Words: [`IsEntriesOf`](crate::definitions#IsEntriesOf), [`Outside`](crate::definitions#Outside), [`HasAt`](crate::definitions#HasAt).
+    /// Words: [`IsEntriesOf`](crate::definitions#IsEntriesOf), [`Outside`](crate::definitions#Outside), [`HasAt`](crate::definitions#HasAt), [`HasThroughout`](crate::definitions#HasThroughout), [`widened`](crate::definitions#widened).
     pub fn remove(&mut self, interval: Interval<B>) -> Result<(), AllocError> {
         self.in_order();
         if interval.is_empty() {

@@ -2,9 +2,10 @@ use Rattle.std.proofs.Common.{◌≡◌, ℕ, ◌+◌, suc, ℤ, ◌≤ℤ◌, �
 use Rattle.std.proofs.lemmas.Int.{ints}
 use Rattle.ivl_laws.specs.Sets.{HasSome, Intersection, IsBetween, SameMembers}
 use Rattle.ivl_laws.proofs.Intervals.{some_is_not_crossed}
+use Rattle.ivl_laws.proofs.Places as places
 use Rattle.ivl_laws.proofs.Orders.{le_number, not_le_number}
 use Rattle.ivl_map.proofs.Lists.{open_at}
-use Rattle.ivl_map.proofs.Overlaps.{IsWalked, entry_done, part_above, run_done, run_open, walk_begins, walk_ends}
+use Rattle.ivl_map.proofs.Overlaps.{IsWalked, entry_done, part_above, run_done, walk_begins, walk_ends}
 use Rattle.ivl_map.proofs.walks.parts_of.Goals as goal
 
 pub walk-init : goal.walk-init
@@ -67,7 +68,7 @@ upper-other_end-requires g c =
     let e : p ≡ (get_or E i d).0 = found.2 d in
     let f : q ≡ get_or R j q = found.3 in
     let H : ℤ × ℤ → Type 0 = λ r. HasSome (IsBetween r) in
-    subst H (sym f) ((some_is_not_crossed (get_or R j q)).1 (run_open R j q c.requires.runs found.1))
+    subst H (sym f) ((some_is_not_crossed (get_or R j q)).1 (places.open_at R j q c.requires.runs found.1))
 
 pub walk-preserved-then-le : goal.walk-preserved-then-le
 walk-preserved-then-le g c =

@@ -3,7 +3,8 @@ use Rattle.std.specs.Prelude.{MatchOption}
 use Rattle.ivl_laws.specs.Counts.{IsIn}
 use Rattle.ivl_map.specs.Entries.{HasAt, HasValue, IsEntryList}
 use Rattle.ivl_map.specs.Lookups.{IsLastRunOf}
-use Rattle.ivl_map.proofs.Lookups.{in_at, option_weaker, last_is, none_in}
+use Rattle.ivl_laws.proofs.Places.{in_at}
+use Rattle.ivl_map.proofs.Lookups.{option_weaker, last_is, none_in}
 use Rattle.ivl_map.proofs.interval_map.IntervalMap.last.Goals as goal
 
 pub returns-clause-greatest : goal.returns-clause-greatest

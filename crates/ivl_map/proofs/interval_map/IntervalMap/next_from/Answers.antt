@@ -4,7 +4,8 @@ use Rattle.ivl_laws.specs.Sets.{AtLeast}
 use Rattle.ivl_laws.specs.Counts.{IsIn}
 use Rattle.ivl_map.specs.Entries.{HasAt, HasValue, IsEntryList, AllEndBelow, FirstEndsFrom}
 use Rattle.ivl_map.specs.Lookups.{IsFirstRunOf}
-use Rattle.ivl_map.proofs.Lookups.{in_at, next_is, none_next, option_weaker}
+use Rattle.ivl_laws.proofs.Places.{in_at}
+use Rattle.ivl_map.proofs.Lookups.{next_is, none_next, option_weaker}
 use Rattle.ivl_map.proofs.interval_map.IntervalMap.next_from.Goals as goal
 
 pub returns-clause-least : goal.returns-clause-least

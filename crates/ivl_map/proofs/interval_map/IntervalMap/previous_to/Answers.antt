@@ -4,7 +4,8 @@ use Rattle.ivl_laws.specs.Sets.{AtMost}
 use Rattle.ivl_laws.specs.Counts.{IsIn}
 use Rattle.ivl_map.specs.Entries.{HasAt, HasValue, IsEntryList, FirstStartsAbove, AllStartBy}
 use Rattle.ivl_map.specs.Lookups.{IsLastRunOf}
-use Rattle.ivl_map.proofs.Lookups.{in_at, option_weaker, none_previous, previous_is}
+use Rattle.ivl_laws.proofs.Places.{in_at}
+use Rattle.ivl_map.proofs.Lookups.{option_weaker, none_previous, previous_is}
 use Rattle.ivl_map.proofs.interval_map.IntervalMap.previous_to.Goals as goal
 
 pub returns-clause-greatest : goal.returns-clause-greatest
