@@ -4,6 +4,8 @@
 //! A null pointer with count 0 is an empty list.
 #![deny(unsafe_op_in_unsafe_fn)]
 
+// as a script writes it
+#[rustfmt::skip]
 mod calls;
 
 use std::slice;
