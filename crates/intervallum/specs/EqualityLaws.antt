@@ -1,4 +1,5 @@
 -- The laws of equality of run lists.
+--     same_runs_equiv, same_runs_laws      the laws of the test `same_runs`
 use Rattle.std.specs.Cmp.{IsPartialEquivalence, IsEquivalence, partial_equiv_from_equiv}
 use Rattle.std.proofs.lemmas.Cmp.{lists_equiv}
 use Rattle.ivl_interval.specs.SameInterval.{same_interval_equiv}

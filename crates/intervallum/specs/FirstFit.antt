@@ -1,6 +1,6 @@
 -- Members of a set that stand in a row.
 --     FitsAt n S v      the n numbers from v up are in S
---     IsFirstFit n S run      run is the lowest n numbers in a row that are in S
+--     IsFirstFit n S run      `run` is the lowest n consecutive numbers that are in S
 use Rattle.std.specs.Prelude.{◌≡◌, ℕ, ℤ, pos, ◌+ℤ◌, ◌-ℤ◌, ◌≤ℤ◌}
 use Rattle.ivl_laws.specs.Sets.{IsBetween, IsSubset}
 

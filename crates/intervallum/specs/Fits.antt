@@ -1,10 +1,11 @@
 -- The shortest of the runs of a set that are long enough.
---     IsBestFit n S fit      fit is the first n numbers of a run of S, and no run that has n numbers is shorter, or as short and lower
+--     IsBestFit n S fit      `fit` is the first n numbers of the shortest run of S that has so many, the lowest of
+--         these
+--     IsNoBetter p q      the pair q is longer than p, or as long and no lower
 use Rattle.std.specs.Prelude.{◌≡◌, ◌⊎◌, ℕ, ◌<◌, ◌≤◌, ℤ, pos, ◌+ℤ◌, ◌-ℤ◌, ◌≤ℤ◌}
 use Rattle.ivl_laws.specs.Bounds.{width_of}
 use Rattle.intervallum.specs.Neighbours.{IsRunWith}
 
--- run q of a set is no better than p: longer, or as long and no lower
 abbrev pub IsNoBetter : ℤ × ℤ → ℤ × ℤ → Type 0
 IsNoBetter p q = (width_of p < width_of q) ⊎ ((width_of p ≡ width_of q) × (p.0 ≤ℤ q.0))
 

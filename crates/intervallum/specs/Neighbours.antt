@@ -1,8 +1,10 @@
 -- What lies beside a number in a set.
 --     IsLeast x S, IsGreatest x S      x is in S, and no member is below it, or above it
---     IsRunWith v S run      the run of S that holds v
---     IsGapAt runs v i      v lies above the first i runs and below the others
---     IsBeside runs v place      what a place tells of the members next to v
+--     IsRunWith v S run      the run of S that holds v: its numbers are in S, and the next number on either side is
+--         not
+--     IsGapAt runs v i      v lies above the first i runs and below the others; run i, if there is one, starts at the
+--         next member, and the run before it ends at the previous one
+--     IsBeside runs v place      what a place says about the members next to v: the run that holds it, or the gap
 use Rattle.std.specs.Prelude.{◌≡◌, ℕ, ◌-◌, ◌<◌, ◌≤◌, ℤ, pos, ◌+ℤ◌, ◌-ℤ◌, ◌≤ℤ◌, List, length, slice_get, take, drop, MatchOption, IfSome}
 use Rattle.ivl_laws.specs.Sets.{AtLeast, AtMost, HasNone, IsBetween, IsSubset}
 use Rattle.ivl_laws.specs.Runs.{Covers}

@@ -1,8 +1,8 @@
 -- Where a number stands in a list of runs.
---     IsPlaceOf runs v place      the run that has v, or how many runs lie below v where none has
---     index_of place      the number of runs before it
+--     IsPlaceOf runs v place      run `i` has v; or none has, and `i` runs lie below v
+--     index_of place      how many runs lie before it
 --     EndBelow v L, StartAbove v L      each pair ends below v; each starts above v
---     HoldsAt i p L      the runs before place i end below p, and those of the list cover it
+--     HoldsAt i p L      the runs before place i end below the run p, which the list covers
 --     EndsFrom v L      the first pair, if there is one, ends at v or above
 use Rattle.std.specs.Prelude.{◌≡◌, ℕ, ◌<◌, ℤ, ◌≤ℤ◌, ◌<ℤ◌, List, [], ◌∷◌, length, slice_get, take, IsSomeAnd}
 use Rattle.ivl_laws.specs.Sets.{IsBetween, IsSubset}

@@ -2,8 +2,9 @@
 --     IsResultOf op p q r      r holds the results of two runs: the sums, the differences, the least interval of the products
 --     ResultsBy op S T      the members of the answer
 --     ExactResultsBy op S T      the results over one member of each, which have to fit
---     run_at L i      the run at a place, in a list that is that long
---     AreImages op L M entries      one entry for each pair of runs: that of run i of L and run j of M stands at place i * m + j
+--     run_at L i      the run at place i of L, which is longer
+--     AreImages op L M entries      one entry for each pair of runs: that of run `i` and run `j` is at index `i * m +
+--         j`
 --     result_of op p q      the pair that holds the results of two runs
 --     IsShift op      the results with a value are the runs, moved by it
 use Rattle.std.specs.Prelude.{◌≡◌, ℕ, ◌+◌, ◌*◌, ◌<◌, ℤ, List, length, slice_index_or, pos}

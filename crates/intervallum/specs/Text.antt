@@ -1,7 +1,7 @@
 -- The text of a set, from the text of each of its runs.
 --     runs_text text L      the texts of the runs, one after the other
---     set_text text L      {} for no run, the text of a run that is alone, and more of them between braces
---     styled_set_text L      the text whatever options a formatter has: {} for no run, and of others it says nothing
+--     set_text text L      the text of a set: `{}`, one run alone, or the runs between braces
+--     styled_set_text L      what is said of the text under other options of a formatter: `{}` for no run
 use Rattle.std.specs.Prelude.{ℕ, ℤ, List, [], ◌∷◌, Option, None, Some, codes}
 use Rattle.std.specs.Fmt.{◌++?◌}
 

@@ -1,12 +1,18 @@
 -- What the calls tell, by members.
 --     out_of_range, out_of_memory, product_out_of_range      the codes
 --     Refuses code old new told      that code is told, and nothing is written
---     written L room      the room with the list in its first places, where it has so many
---     IsWritten S old new told L      the list has the runs of S, their number is told, and they are written
---     AnswersSet whole given S old new told      what a call tells that makes the set S of the members that are given
---     AnswersProducts whole S T old new told      what a call tells that makes the set of the products of two sets
---     AnswersQuestion whole given Holds told      what a question tells of the members that are given
---     AnswersSize whole given old new told      what is told of the number of the members that are given
+--     written L room      the room with the list in its first places; the room unchanged if it is shorter than the
+--         list
+--     IsWritten S old new told L      the list has the runs of S, their number is returned, and they are written if
+--         there is room (`written`)
+--     AnswersSet whole given S old new told      what a call that makes S returns: `out_of_range` exactly when some
+--         given member lies outside the range; else the runs are written if there is room, or it is out of memory
+--     AnswersProducts whole S T old new told      the same for the products of S and T, with the code
+--         `product_out_of_range` if some product of members lies outside the range, unless memory runs out before it
+--         is found
+--     AnswersQuestion whole given Holds told      the same for a query: 1 if it holds, 0 if it does not
+--     AnswersSize whole given old new told      the same for the number of members: 0 is returned, and the number is
+--         written
 use Rattle.std.specs.Prelude.{◌≡◌, ◌⊎◌, ℕ, ℤ, pos, negsuc, List, length, drop, ◌++◌, if◌then◌else◌, nat_le}
 use Rattle.ivl_laws.specs.Sets.{ExactProducts, IsBetween, IsSubset, Products, Union}
 use Rattle.ivl_laws.specs.Runs.{IsRunsOf}

@@ -1,7 +1,8 @@
 -- The greatest member up to a number, and the run that holds a number.
 --     IsPreviousIn v S previous      the greatest member of S that is at most v; none where there is none
 --     AnswersPrevious v S old new told      that member is written, and true told; else nothing is written
---     AnswersRun v S old new told      where v is a member, true is told and the run of S that holds it is written; else nothing is written
+--     AnswersRun v S old new told      the same for the run of S that holds v, which there is exactly if v is a
+--         member
 use Rattle.std.specs.Prelude.{◌≡◌, ◌⊎◌, ℤ, Option, MatchOption, Bool, true, false}
 use Rattle.ivl_laws.specs.Sets.{AtMost, HasNone}
 use Rattle.intervallum.specs.Neighbours.{IsGreatest, IsRunWith}

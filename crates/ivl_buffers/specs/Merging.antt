@@ -1,9 +1,9 @@
 -- What one walk over two run lists writes.
---     IsRunIn whole p      the pair is not crossed, and its bounds are in the range
+--     IsRunIn whole p      p is not crossed, and its bounds are in the range
 --     laid L room      the room with the first pairs of the list in its first places, as many as there are places
 --     LaysNext p room room' told told'      one pair more is laid in the room, or none where the pair is crossed, and one more told
 --     Stands p room told      the pair is the one in the room where the last of the pairs that are told is laid, or at the first place before any is, if there is such a place
---     IsLaid S old new told L      the list has the runs of S, their number is told, and they are laid in the room
+--     IsLaid S old new told L      the list has the runs of S, their number is returned, and they are laid
 use Rattle.std.specs.Prelude.{◌≡◌, ℕ, ◌+◌, ◌-◌, ℤ, ◌≤ℤ◌, ◌<ℤ◌, List, [], ◌∷◌, length, slice_get, slice_set, IfSome}
 use Rattle.ivl_laws.specs.Sets.{IsInRange}
 use Rattle.ivl_laws.specs.Runs.{IsRunsOf}

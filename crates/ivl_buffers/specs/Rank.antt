@@ -1,6 +1,8 @@
 -- Members by the number of members below them.
---     AnswersRank whole v S old new told      what is told of the number of members of S below v
---     AnswersNth whole i S old new told      what a call tells that looks for the member with i members below it
+--     AnswersRank whole v S old new told      the number of members of S below v is written and 0 returned; or
+--         nothing is written and a code is returned
+--     AnswersNth whole i S old new told      the member of S with i members below it is written and 1 returned; or
+--         nothing is written, and 0 is returned if S has no more than i members, or a code
 use Rattle.std.specs.Prelude.{◌≡◌, ◌⊎◌, ◌≤◌, ℕ, ℤ, pos}
 use Rattle.ivl_laws.specs.Counts.{IsCountOf}
 use Rattle.ivl_laws.specs.Sets.{Below, IsBetween, IsSubset}

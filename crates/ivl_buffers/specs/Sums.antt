@@ -1,5 +1,5 @@
 -- Sums and differences of the members of two lists.
---     AddedBy whole adding S T      those of a member of each that are in the range
+--     AddedBy whole adding S T      the sums or differences of a member of each that are in the range
 use Rattle.std.specs.Prelude.{ℤ}
 use Rattle.ivl_laws.specs.Sets.{Differences, Intersection, IsBetween, Sums}
 use Rattle.ivl_buffers.specs.declared.sums.Adding.{Adding}

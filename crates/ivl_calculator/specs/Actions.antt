@@ -1,8 +1,10 @@
 -- Commands and replies as plain data over whole numbers. Nothing here knows bounds or memory.
---     Making      what a register is given, from pairs or from the members of registers
+--     Making      what a register is given: `pairs`, or by the members of registers, as `union`, `complement`, `times`
 --     Question      what is asked of registers
 --     Action      register r is given what is made, or a question
 --     Answer      the reply to an action
+--     make r making, ask question      the two kinds of action
+--     low, high      among the questions: the least member, the greatest
 use Rattle.std.specs.Prelude.{ℕ, ℤ, Bool, List, Option}
 use Rattle.ivl_calculator.specs.declared.reply.Refusal.{Refusal}
 

@@ -1,13 +1,17 @@
 -- What the calculator does, as a relation over plain sets of numbers. The state is the list of the registers, each
 -- the list of the runs of its set; `whole` is the range.
---     Made whole s making      the members of what is made
---     MustFit s making      the numbers that have to lie in the range, or the action is refused
---     IsReportOf whole s making answer      what is answered where a register is given a set
---     IsAnswerTo s question answer      the answer to a question
---     IsRefusedFor whole s action why      why an action is refused, failed allocations aside; the first reason counts
+--     Made whole s making      the members of what a register is given, by the members of the registers that are read
+--     MustFit s making      the numbers that have to lie in the range: products, and results with a value
+--     IsReportOf whole s making answer      `done`; for `plus` and `minus` a `cut`, true if some sum or difference
+--         lies outside the range
+--     IsAnswerTo s question answer      the answer to a question, by members
+--     IsRefusedFor whole s action why      why an action is refused: a register, the range of a pair, a result that
+--         does not fit, in this order
 --     IsAllowed whole s action      none of these reasons is there
 --     MayStep whole old action answer new      this answer may be given, and the state go on from old to new
 --     Run whole old actions answers new      the same for a list of actions, one after another
+--     IsLeastOf S z, IsGreatestOf S z      z is the least member, the greatest
+--     IsEndOf P S m      the end that P names, and none if S is empty
 use Rattle.std.specs.Prelude.{◌≡◌, ℕ, ℤ, ◌≤ℤ◌, ◌<◌, ◌⊎◌, ◌↔◌, Bool, true, false, IsTrue, List, [], ◌∷◌, length, All, Option, None, Some, slice_set}
 use Rattle.ivl_laws.specs.Sets.{IsBetween, IsInRange, Only, HasNone, HasSome, IsSubset, SameMembers, Union, Intersection, Without, SymmetricDifference, Complement, AtLeast, AtMost, Above, Below, Sums, Differences, ExactProducts, Products}
 use Rattle.ivl_laws.specs.Runs.{Covers, IsRunsOf}
@@ -66,7 +70,6 @@ IsLeastOf S z = S z × ((x : ℤ) → S x → z ≤ℤ x)
 abbrev pub IsGreatestOf : (ℤ → Type 0) → ℤ → Type 0
 IsGreatestOf S z = S z × ((x : ℤ) → S x → x ≤ℤ z)
 
--- the end that P names, and nothing where S is empty
 abbrev pub IsEndOf : ((ℤ → Type 0) → ℤ → Type 0) → (ℤ → Type 0) → Option ℤ → Type 0
 IsEndOf P S None = HasNone S
 IsEndOf P S (Some z) = P S z

@@ -1,4 +1,7 @@
 -- What the code's commands and replies stand for, by the numbers of bounds and of sizes.
+--     number_pairs number list      the numbers of the bounds of some pairs
+--     action_of number command      the action of a command, by the numbers of its bounds
+--     answer_of number size reply      the answer of a reply, by the numbers of bounds and of sizes
 use Rattle.std.specs.Prelude.{ℕ, ℤ, List, map, option_map}
 use Rattle.ivl_calculator.specs.Actions.{pairs, union, intersection, difference, symmetric, complement, at_least, at_most, above, below, plus, minus, times, plus_value, minus_value, times_value, has, size, count, low, high, same, subset, meets, show, Action, make, ask, Answer, done, cut, flag, sized, counted, value, runs, refused}
 use Rattle.ivl_calculator.specs.declared.command.Command.{Command}

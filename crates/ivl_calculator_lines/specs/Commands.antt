@@ -3,7 +3,8 @@
 --     register_alone_of, two_registers_of, three_registers_of words      so many registers, and nothing else
 --     register_and_number_of, two_registers_and_number_of words      so many registers, then a number, and nothing else
 --     commands      the table: each name but `set`, with what the words after it say
---     action_from name words      what the command does
+--     action_from name words      what a command does, by its name and the words after it; `looked_up commands` finds
+--         the name in the table, `of_pairs` reads the words of `set`
 use Rattle.std.specs.Prelude.{ℕ, ℤ, ◌-◌, ◌&&◌, List, [], ◌∷◌, nat_le, if◌then◌else◌, bytes_eq, codes, Option, None, Some, option_map, option_and_then}
 use Rattle.ivl_calculator.specs.Actions.{Making, pairs, union, intersection, difference, symmetric, complement, at_least, at_most, above, below, plus, minus, times, plus_value, minus_value, times_value, Question, has, size, count, low, high, same, subset, meets, show, Action, make, ask}
 use Rattle.ivl_lines.specs.Numbers.{number_of, pairs_of}

@@ -1,4 +1,5 @@
 -- The text of a reply.
+--     refusal_text why      the text of a refusal
 use Rattle.std.specs.Prelude.{ℕ, ℤ, ◌≤ℤ◌, Bool, List, All, codes, decimal, if◌then◌else◌, Option, None, Some}
 use Rattle.std.specs.Fmt.{signed_decimal}
 use Rattle.ivl_lines.specs.Sets.{pairs_text}

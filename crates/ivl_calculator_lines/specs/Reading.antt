@@ -1,4 +1,6 @@
 -- What a line says: nothing, no command, a command, or what is not known, since the line is lost.
+--     reading_of line, reading_from action      nothing, no command, or a command with its action; a line that is not
+--         UTF-8 is no command
 use Rattle.std.specs.Prelude.{◌≡◌, ◌⊎◌, ℕ, List, [], ◌∷◌, if◌then◌else◌, Option, None, Some}
 use Rattle.std.specs.Str.{is_utf8}
 use Rattle.ivl_calculator.specs.Actions.{Action}
@@ -20,7 +22,6 @@ abbrev pub reading_of_words : List (List ℕ) → Reading
 reading_of_words [] = blank
 reading_of_words (name ∷ words) = reading_from (action_from name words)
 
--- a line that is not UTF-8 is no command
 abbrev pub reading_of : List ℕ → Reading
 reading_of line = if is_utf8 line then reading_of_words (words_of line) else bad
 

@@ -2,7 +2,8 @@
 -- its set.
 --     Answers old lines text new      from old, this text may answer these lines, and the state go on to new
 --     IsSessionText lines text      the same from 26 empty registers
---     IsWholeSessionText lines text      the same, and no line was lost and no command refused as out of memory
+--     IsWholeSessionText lines text      `IsSessionText`, no line was lost, and no command was refused as out of
+--         memory; the same lines have one such text
 use Rattle.std.specs.Prelude.{◌≡◌, ◌≢◌, ℕ, ℤ, pos, negsuc, ◌^◌, ◌-◌, All, List, [], ◌∷◌, ◌++◌, codes, map, replicate}
 use Rattle.ivl_lines.specs.Lines.{with_newline}
 use Rattle.ivl_calculator.specs.Actions.{Action, Answer, refused}

@@ -1,4 +1,6 @@
 -- What the code's lines and replies stand for, over numbers.
+--     action_over_i64 command, answer_over_i64 reply, view_of line      the action of a command, the answer of a
+--         reply, and the reading of a line, over whole numbers themselves
 use Rattle.std.specs.Prelude.{ℕ, ℤ}
 use Rattle.ivl_calculator.specs.Actions.{Action, Answer}
 use Rattle.ivl_calculator.specs.View as calc
@@ -8,7 +10,6 @@ use Rattle.ivl_calculator_lines.specs.Reading.{Reading, blank, bad, command}
 use Rattle.ivl_calculator_lines.specs.declared.lines.Line.{Line}
 use Rattle.ivl_calculator_lines.specs.declared.lines.Line.TheVariants as lines
 
--- a bound of i64 is its own number
 abbrev pub action_over_i64 : Command ℤ → Action
 action_over_i64 order = calc.action_of (λ z. z) order
 

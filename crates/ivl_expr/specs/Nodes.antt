@@ -1,10 +1,13 @@
 -- The sets of the nodes of an expression, each made of the sets of the nodes below it.
---     Node number e sets      the set of a variable, a constant alone, or the results over the operands' sets
---     subexpressions e      e and all that stands in it
+--     Node number e sets      the set of a variable, a constant alone, or `Sums`, `Differences` or `Products` of the
+--         operands' node sets, over all numbers
+--     subexpressions e      e and all its parts
 --     AllNodesIn whole number e sets      the set of each node lies in the range
 --     SomeNodeOutside whole number e sets      the set of some node has a member outside the range
---     JoinsProducts S T U      with two products of factors from one run of S and one run of T, U has all that lies between
---     HoldsNodes number F sets      each F e holds what e is made of: the variable's set, the constant, or the results over F of the operands
+--     JoinsProducts S T U      with two products of factors from one run of S and one run of T, U has all that lies
+--         between them
+--     HoldsNodes number F sets      each `F e` holds what `e` is made of; `Node` is the least such F of all whose
+--         sets are covered by lists of pairs
 use Rattle.std.specs.Prelude.{ℕ, ℤ, ◌*ℤ◌, List, [], ◌∷◌, ◌++◌, All}
 use Rattle.ivl_laws.specs.Sets.{Differences, HasSome, InOneRun, IsBetween, IsSubset, Only, Products, Sums, Without}
 use Rattle.ivl_laws.specs.Counts.{IsIn}

@@ -1,6 +1,7 @@
 -- The numbers that an expression takes.
---     value_at number e point      what e is worth where variable i is worth point i; `number c` is that of a constant c
---     Values number e sets      what e is worth over the points whose entries are members of the sets
+--     value_at number e point      the value of e if variable `i` has the value `point i`, by ordinary arithmetic
+--     Values number e sets      the values of e over all points whose entry for each variable that occurs is a member
+--         of its set
 use Rattle.std.specs.Prelude.{◌≡◌, ℕ, ℤ, ◌+ℤ◌, ◌-ℤ◌, ◌*ℤ◌}
 use Rattle.ivl_expr.specs.Variables.{Occurs}
 use Rattle.ivl_expr.specs.declared.expr.Expr.{Expr}

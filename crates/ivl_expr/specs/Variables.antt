@@ -1,10 +1,10 @@
 -- Which variables and products stand in an expression.
 --     variables e      the variables, in reading order
 --     first_missing count e      the leftmost variable that is not below the count, if there is one
---     occurrences i e, Occurs i e      how often variable i stands in e; at least once
+--     occurrences i e, Occurs i e      how often variable i occurs in e; at least once
 --     ReadOnce e      no variable occurs twice
 --     ShareVariable a b      some variable occurs in both
---     products e, HasProduct e, NoProduct e      how many products stand in e; at least one; none
+--     products e, HasProduct e, NoProduct e      how many products occur in e; at least one; none
 use Rattle.std.specs.Prelude.{◌≡◌, ℕ, ◌+◌, ◌<◌, ◌≤◌, ◌==◌, nat_le, if◌then◌else◌, List, [], ◌∷◌, ◌++◌, Option, find}
 use Rattle.ivl_expr.specs.declared.expr.Expr.{Expr}
 use Rattle.ivl_expr.specs.declared.expr.Expr.TheVariants.{Var, Const, Add', Sub', Mul'}

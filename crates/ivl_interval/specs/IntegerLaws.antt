@@ -1,4 +1,9 @@
 -- The laws of bounds and sizes at the integer types.
+--     signed_order, unsigned_order, size_order      how the values of the integer types are ordered
+--     range_u8, countable_u8      the laws of `u8` as a bound type; so for each integer type, `usize` and `isize` by
+--         those of 64 bits
+--     fits_u8      the numbers of `u8` are sizes; so for each unsigned type
+--     range_full_u8, countable_full_u8, full_order      the laws of `Full<u8>`; so for `u16` and `u32`
 use Rattle.std.specs.Prelude.{◌≡◌, ℕ, pos, negsuc, refl, nat_eq, Some, ◌-◌, ◌^◌, ◌<◌, ◌≤◌, ◌<ℤ◌}
 use Rattle.std.specs.declared.cmp.Ordering.{Ordering}
 use Rattle.std.specs.declared.cmp.Ordering.TheVariants.{Less, Equal, Greater}
@@ -33,7 +38,6 @@ unsigned_order = record {
   total = nat_cmp_is_int_cmp;
 }
 
--- the same of a struct of one such field
 pub full_order : {K : Type 0} (field : K → ℕ) → OrdersByNumber (λ x. pos (field x)) (λ x y. nat_eq (field x) (field y)) (λ x y. Some (nat_cmp (field x) (field y))) (λ x y. nat_cmp (field x) (field y))
 full_order field = record {
   equal = λ x y. nat_eq_is_int_eq (field x) (field y);

@@ -1,4 +1,6 @@
 -- A value reads one way at most, and what it reads as lies in the range.
+--     intervals_read_alike, sets_read_alike      a value reads as one interval, as one set
+--     interval_refused_alone, set_refused_alone      and what reads is not refused
 use Rattle.std.proofs.Common.{inl, inr, ◌⊎◌, ⊎_elim, ◌≡◌, ◌≢◌, ℕ, suc, ℤ, pos, List, [], ◌∷◌, refl, arith, sym, subst}
 use Rattle.std.proofs.lemmas.Int.{ints}
 use Rattle.std.specs.Prelude.{Option, Some, None, Result, Ok, Err}

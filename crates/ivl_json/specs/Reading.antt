@@ -1,7 +1,11 @@
 -- What a JSON value reads as over a range: a bound, or an interval; else the fault for which it is refused.
---     bound_read whole d      the whole number of d, where it is in the range
---     interval_read whole d      the bounds of d, which may be crossed; null has the bounds 1 and 0
+--     bound_read whole d      the whole number of d if it is in the range; else `Number` if there is none, `Range` if
+--         it lies outside
+--     interval_read whole d      the two bounds of d, which may be crossed; null has the bounds 1 and 0; else the
+--         fault: `Shape`, then `Length`, then that of the first element, then that of the second
 --     Reads whole d S      d reads as an interval that has the members of S
+--     elements_read      the elements of an array as two bounds, or a wrong count, whatever they are
+--     count_of items      how many there are
 use Rattle.std.specs.Prelude.{◌≡◌, ℕ, suc, ℤ, pos, ◌&&◌, int_le, if◌then◌else◌, Option, None, Some, option_and_then, Result, Ok, Err}
 use Rattle.serde_json.specs.Data.{Data, null, boolean, number, string, array, object, Items, no_items, item}
 use Rattle.serde_json.specs.Find.{as_number, as_integer}
@@ -26,7 +30,6 @@ abbrev pub count_of : Items → ℕ
 count_of no_items = 0
 count_of (item d ds) = suc (count_of ds)
 
--- the elements of an array: two bounds, or a wrong count, whatever the elements are
 abbrev pub elements_read : ℤ × ℤ → Items → Result (ℤ × ℤ) ItemFault
 elements_read whole no_items = Err (ItemFault.Length 0)
 elements_read whole (item first no_items) = Err (ItemFault.Length 1)

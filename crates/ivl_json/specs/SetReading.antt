@@ -1,6 +1,7 @@
 -- What a JSON value reads as over a range: a set; else the fault for which it is refused.
 --     items_read whole i ds      the pairs of items that stand from place i on; the first faulty item comes first, with its place
---     set_read whole d      the pairs of the items of d, in their order; a crossed pair has no member
+--     set_read whole d      the pairs of the items of d, in their order; none for null; else `Shape`, or the first
+--         fault of an item with its place
 --     SetReads whole d S      d reads as a set that has the members of S
 use Rattle.std.specs.Prelude.{◌≡◌, ℕ, suc, ℤ, List, [], ◌∷◌, Result, Ok, Err}
 use Rattle.serde_json.specs.Data.{Data, null, boolean, number, string, array, object, Items, no_items, item}

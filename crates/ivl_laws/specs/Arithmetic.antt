@@ -1,6 +1,6 @@
 -- What the sums, differences and products of sets are in terms of their runs, and what a hull holds.
---     CoversBoth L x y      one pair of the list covers both
---     pairwise f L M      the results of f over each pair of L with each pair of M, the pairs of M running faster
+--     CoversBoth L x y      one pair of the list covers both numbers
+--     pairwise f L M      the results of f over each pair of L with each pair of M, those of M running faster
 --     interval_sum, interval_difference      the sums, and the differences, of two intervals that are not crossed
 --     corner_hull      from the least to the greatest of the four products of the ends
 --     Span S      the numbers from one member of S to another

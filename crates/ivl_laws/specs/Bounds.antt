@@ -1,12 +1,12 @@
 -- The range of a bound type, how many numbers a pair spans, and how the values of a type are ordered.
---     width_of p      the upper less the lower plus one; none where the pair is crossed
---     IsBoundRange whole      the range holds 0 and 1, and lies in the 64-bit numbers
+--     width_of p      the upper less the lower plus one; 0 if the pair is crossed
+--     IsBoundRange whole      the range holds 0 and 1 and lies in the 64-bit numbers
 --     OrdersByNumber, OrdersByCount      the tests of a type answer as those of the numbers of its values
+--     non_negative_part z      z, or zero if it is negative
 use Rattle.std.specs.Prelude.{◌≡◌, ℕ, ◌-◌, ◌^◌, ℤ, pos, negsuc, ◌+ℤ◌, ◌-ℤ◌, ◌≤ℤ◌, Bool, Option, Some, nat_eq}
 use Rattle.std.specs.declared.cmp.Ordering.{Ordering}
 use Rattle.std.specs.Ordering.{int_cmp, int_eq, nat_cmp}
 
--- z, or zero where it is negative
 abbrev pub non_negative_part : ℤ → ℕ
 non_negative_part (pos n) = n
 non_negative_part (negsuc n) = 0

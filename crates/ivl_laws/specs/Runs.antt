@@ -6,6 +6,7 @@
 --     IsRunListIn whole L      L is maximal and covers numbers of the range alone
 --     StartsBy v L      no pair starts above v
 --     runs_below v L      how many pairs end below v
+--     AddsRun old p new      what adding a run that starts no lower than the others makes
 use Rattle.std.specs.Prelude.{ℕ, ◌+◌, ◌⊎◌, ℤ, pos, ◌+ℤ◌, ◌≤ℤ◌, int_lt, if◌then◌else◌, List, [], ◌∷◌}
 use Rattle.ivl_laws.specs.Sets.{IsBetween, IsSubset, SameMembers, Union}
 
@@ -34,7 +35,6 @@ abbrev pub StartsBy : ℤ → List (ℤ × ℤ) → Type 0
 StartsBy v [] = Unit {0}
 StartsBy v (p ∷ L) = (p.0 ≤ℤ v) × StartsBy v L
 
--- what adding a run that starts no lower than the others makes
 pub record AddsRun (old : List (ℤ × ℤ)) (p : ℤ × ℤ) (new : List (ℤ × ℤ)) : Type 0 where
   pub runs : IsRunsOf new (Union (Covers old) (IsBetween p))
   pub starts : StartsBy p.0 new

@@ -1,7 +1,8 @@
 -- What is written for lines one after another.
 --     MayBeLost line      there may be no memory for the bytes of this line
 --     AnswersOrLoses lost allowed old line text new      from old, this text may answer the line, and the state go on to new
---     IsAnswered allowed old lines text new      the same for these lines
+--     IsAnswered allowed old lines text new      the same as `allowed` for lines one after another, the state handed
+--         on
 use Rattle.std.specs.Prelude.{◌≡◌, ◌⊎◌, ◌<◌, ℕ, List, [], ◌∷◌, ◌++◌, length}
 
 -- for the first 65,536 there always is

@@ -1,4 +1,6 @@
 -- What the arguments of a program ask for: its first argument, and whether there are more.
+--     started_by first has_more      what the arguments of a program ask for: `Lines` without any, `Help`, `Version`,
+--         or `Other`
 use Rattle.std.specs.Prelude.{ℕ, Bool, true, false, List, Option, None, Some, bytes_eq, codes, if◌then◌else◌}
 use Rattle.ivl_lines.specs.declared.arguments.Start.{Start}
 use Rattle.ivl_lines.specs.declared.arguments.Start.TheVariants.{Lines, Help, Version, Other}

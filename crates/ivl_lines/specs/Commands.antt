@@ -1,6 +1,7 @@
 -- The answer to a line, by its first word and the words after it.
 --     no_memory      the answer where there is no memory
---     AnswersByCommand allowed old line text new      nothing for a line without words, `error: not UTF-8` for one that is not UTF-8, and what is allowed for any other
+--     AnswersByCommand allowed old line text new      the answer to a line by its first word and the others
+--         (`AnswersSplit`): none if it has no word; `error: not UTF-8` if it is not UTF-8 (`AnswersDecoded`)
 use Rattle.std.specs.Prelude.{◌≡◌, ℕ, Bool, true, false, List, [], ◌∷◌, codes}
 use Rattle.std.specs.Str.{is_utf8}
 use Rattle.ivl_lines.specs.Lines.{with_newline, words_of}

@@ -3,6 +3,7 @@
 --     pairs_of words      the numbers two by two; none where one is no number, or their count is odd
 --     up_to most n      the number, if it is from 0 to `most`
 --     is_in_range pair      both bounds are those of a set over i64
+--     pair_of l u      two numbers; none if one is none
 use Rattle.std.specs.Prelude.{ℕ, ℤ, pos, neg_ℤ, ◌^◌, ◌&&◌, List, [], ◌∷◌, length, drop, nat_lt, nat_le, ◌==◌, if◌then◌else◌, slice_index, Option, None, Some, option_map, option_and_then, negsuc, int_le, Bool, ◌-◌}
 use Rattle.std.specs.Str.{all_ascii_digits}
 use Rattle.std.specs.Str.Parse.{digits_value}

@@ -2,9 +2,12 @@
 --     State      the values that `i` and `k` may have, each as the list of its runs, and the length of the array
 --     IsSafe s      every `i + k` is an index
 --     SetsIndex, SetsOffset, SetsLength old words told new      what `i`, `k` and `length` with these words do, and what is told
---     Checks s words told      what `check` with these words finds
---     Replies old name words told new      the same of a line, by its first word and the others
+--     Checks s words told      what `check` with these words tells: that all is safe, for which `i` it is, or why
+--         there is no answer
+--     Replies old name words told new      the same of each line, by its first word and the others
 --     AnswersLine old line text new      the text that a line is answered with
+--     HasRanges s      `i` and `k` have ranges
+--     AnswersCommand old name words text new      the answer to a line by its command and the words after it
 use Rattle.std.specs.Prelude.{◌≡◌, ◌≢◌, ℕ, ℤ, List, [], bytes_eq, codes, MatchBool, None, Some, Result, Ok, Err}
 use Rattle.ivl_laws.specs.Runs.{Covers, IsRunsOf}
 use Rattle.ivl_laws.specs.Sets.{IsSubset, Sums}
@@ -42,7 +45,6 @@ SetsLength old words (Ok Done) new = (length_in words ≡ Some new.length) × (n
 SetsLength old words (Err Length) new = (length_in words ≡ None) × (new ≡ old)
 SetsLength old words _ new = ⊥
 
--- `i` and `k` have ranges
 abbrev pub HasRanges : State → Type 0
 HasRanges s = (s.index ≢ []) × (s.offset ≢ [])
 

@@ -1,5 +1,5 @@
 -- Indexes of an array, and what may be added to them.
---     IsIndexOf length z      z is an index of an array of this length
+--     IsIndexOf length z      z is an index of an array of this length: from 0 to below it
 --     SafeIn S T length x      x is in S, and x + y is an index for every y in T
 use Rattle.std.specs.Prelude.{ℕ, ℤ, pos, ◌+ℤ◌, ◌≤ℤ◌, ◌<ℤ◌}
 

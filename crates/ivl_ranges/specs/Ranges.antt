@@ -1,9 +1,11 @@
 -- What the words of a line give: ranges, or a length.
---     IsRange word p      the word is the two numbers of the pair with two dots between them, in order, in the range of a set of `i64`
+--     IsRange word p      the word is the two numbers of the pair with two dots between them, the first not above the
+--         second, both in the range of a set of `i64`
 --     AreRanges words ranges      each word is the range at its place
 --     IsSetOf words L      there are words, each is a range, and L is the list of the runs of their union
 --     IsNoSet words      there is no word, or one that is no range
---     length_in words      the number from 0 to 4294967295 that the only word is; none if it is no such number, or there are more words or none
+--     length_in words      the number from 0 to 4294967295 that the only word is; none if it is no such number, or if
+--         there is no word or more than one
 use Rattle.std.specs.Prelude.{◌≡◌, ◌≢◌, ◌-◌, ◌^◌, ◌++◌, ℕ, ℤ, pos, negsuc, ◌≤ℤ◌, List, [], ◌∷◌, codes, Option, None, Some, option_and_then}
 use Rattle.ivl_laws.specs.Runs.{Covers, IsRunsOf}
 use Rattle.ivl_laws.specs.Sets.{IsInRange}

@@ -1,8 +1,11 @@
 -- How many nodes suffice for a search. Each node cuts the domains in two parts that have points, so there are no more leaves than points.
 --     points_of whole sets      how many points there are: the product of how many members each set has within the range
---     nodes_each cs      how many nodes the same members take at most: one, and one more for every 500 constraints
---     nodes_enough whole cs sets      so many nodes suffice to find all solutions
---     nodes_for_best whole cs sets      so many suffice to find the best, since the halves that are searched for it part the points
+--     nodes_each cs      how many nodes domains take at most until they lose a member: one, and one more for every
+--         500 constraints
+--     nodes_enough whole cs sets      so many nodes suffice to find all solutions: twice the number of points less
+--         one, times `nodes_each`; where there is no point, as many as for one
+--     nodes_for_best whole cs sets      so many suffice to find the best solution: twice the number of points times
+--         `nodes_each`, and one; where there is no point, as many as for one
 use Rattle.std.specs.Prelude.{ℕ, ◌+◌, ◌*◌, ◌-◌, ◌/◌, ℤ, List, [], ◌∷◌, length, max}
 use Rattle.ivl_laws.specs.Bounds.{width_of}
 use Rattle.ivl_store.specs.declared.store.constraint.Constraint.{Constraint}

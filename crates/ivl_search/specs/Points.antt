@@ -1,11 +1,14 @@
 -- Points, which give each variable a number, and the solutions among them.
---     coordinate point i      the number that the point gives variable i
+--     coordinate point i      the number that the point gives variable i; 0 if it gives it none
 --     SumHolds point c      the numbers of x and y add up to that of z
---     Solves cs sets point      the point gives each variable a member of its set, and each constraint holds at it
+--     Solves cs sets point      the point has one number for each set, a member of it, and each constraint of the
+--         list holds at it
 --     EachOnce points      no point stands twice in the list
---     IsLeastAt variable solves point, IsGreatestAt variable solves point      no solution gives the variable a smaller number; a greater one
+--     IsLeastAt variable solves point, IsGreatestAt variable solves point      no solution gives the variable a
+--         smaller number than the point does; a greater one
 --     ImprovesTo better variable solves n point      n solutions, each with a better number for the variable than the one before it, and the point is the last; with n 0 there is none
---     FallsTo, RisesTo variable solves n point      the same, each with a smaller number; with a greater one
+--     FallsTo, RisesTo variable solves n point      n solutions, each with a smaller number for the variable than the
+--         one before it, and the point is the last; with a greater one; `None` if n is 0
 --     first_unknown_or variable count cs      the first index of the constraints that is not below the count, or else the variable if it is not
 --     Finds solves points end      the points are solutions, none of them twice, and all of them if the search ended with that
 use Rattle.std.specs.Prelude.{◌≡◌, ◌<◌, ℕ, zero, suc, ℤ, pos, ◌+ℤ◌, ◌≤ℤ◌, ◌<ℤ◌, List, [], ◌∷◌, All, Contains, IfSome, Option, None, Some, if◌then◌else◌, length, nat_le, slice_index_or}

@@ -1,7 +1,9 @@
 -- What narrowing by constraints leaves of a family of sets.
---     Narrowed c sets      the family narrowed by a constraint; a variable in two places takes the rule of its last
+--     Narrowed c sets      `x` keeps its members in the differences of `z` and `y`, `y` those in the differences of
+--         `z` and `x`, `z` those in the sums, all over the old sets; a variable in two places takes the rule of its
+--         last
 --     IsFixed sets c      narrowing by the constraint changes nothing
---     Keeps cs old new      the new sets only lack members, and none of a supported family
+--     Keeps cs old new      domains only lost members, and no supported family lost one
 --     AllPresent count c      x, y and z are among the first `count` variables
 --     first_unknown count c      the first of x, y and z that is not below the count; `None` if all are
 --     first_unknown_of count cs      the first such index in list order; `None` if there is none

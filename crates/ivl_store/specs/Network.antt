@@ -1,10 +1,11 @@
 -- What a network of constraints keeps, and what its calls do to that.
---     NetworkState      the domain of each variable, the constraints so far, how many of these have to be looked at again, and what both were at
---                       each mark
+--     NetworkState      the domain of each variable, the constraints so far, how many of these have to be looked at
+--         again, and what both lists were at each mark
 --     unmarked_count marks      how many marks are not set
 --     work whole network      how many narrowings are left at most, of which each removes a member or leaves one constraint fewer to look at
 --     IsSoundNetwork domains cs marks      the constraints name three different variables each, which have a domain; narrowing by a marked one changes nothing
---     IsRequired c old new      the new constraints are the old ones if the constraint is one of them, and else these with it at the end
+--     IsRequired c old new      the constraint is among the new ones, at the end, or where it was if it was among the
+--         old ones
 --     IsCutAt i S before after      variable i keeps its members that are in S, and the others keep all
 --     AreNarrowings cs count before after      so many narrowings, each by one of the constraints, leave these members
 use Rattle.std.specs.Prelude.{◌≡◌, ◌↔◌, ◌⊎◌, ◌++◌, ◌∷◌, [], ◌+◌, ◌*◌, ℕ, ℤ, Bool, List, All, Contains, length, not}

@@ -3,14 +3,16 @@
 --     OfConstraint P post      P holds of the post's constraint, if it has one
 --     AllAllow posts i v      the sets of all posts on variable i have the number
 --     CutBy posts sets      the family cut by the sets of all posts
---     IsLeftBy posts given family      the greatest family that all the posts leave
+--     IsLeftBy posts given family      the greatest family that the constraints among the posts support, within the
+--         given one cut by their sets
 --     HasEmpty count sets      one of the first `count` sets is empty
 --     empty_count sets      how many sets are empty
---     AnswersPosts posts old replies      one reply a post, which says whether what the posts up to it leave has an empty set
+--     AnswersPosts posts old replies      one reply per post: whether what the posts up to it leave has an empty set
 --     IsKnown count post      the post names only variables below the count
 --     unknown_in count post, first_unknown_post count posts      the first index that is not below it, in list order; `None` if there is none
 --     CutKeeps cs posts old new      the new sets only lack members, and none of a supported family within the cut
---     IsPartlyPosted posts old new      some first posts leave these sets; or they leave others, which the next post cut, and its rounds partly settled
+--     IsPartlyPosted posts old new      some first posts leave these sets; or they leave others, and these are left
+--         of those by the cut of the next post and a part of the rounds after it (`IsPartlySettled`)
 use Rattle.std.specs.Prelude.{◌≡◌, ◌<◌, ◌≤◌, ◌+◌, ◌↔◌, ◌⊎◌, ℕ, ℤ, Bool, true, false, IsTrue, List, [], ◌∷◌, length, take, slice_index_or, Option, Some, None, nat_le, if◌then◌else◌}
 use Rattle.std.specs.List.{count_by}
 use Rattle.std.specs.Option.{option_or}

@@ -6,7 +6,8 @@
 --     After cs n before after      n rounds leave these members
 --     AfterSome cs n j before after      n rounds do, and of the next the narrowings by the first j constraints
 --     EachLost cs n sets      each of the first n rounds takes a member
---     IsPartlySettled cs before after      rounds that each take a member leave these members, or such rounds and some first narrowings of one more
+--     IsPartlySettled cs before after      these members are left by some whole rounds, each of which removed a
+--         member, and the first narrowings of one more
 use Rattle.std.specs.Prelude.{◌↔◌, ◌<◌, ◌≤◌, ◌+◌, ℕ, zero, suc, ℤ, List, [], ◌∷◌, length, take}
 use Rattle.ivl_store.specs.declared.store.constraint.Constraint.{Constraint}
 use Rattle.ivl_store.specs.Solutions.{LostMember}

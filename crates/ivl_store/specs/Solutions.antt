@@ -1,14 +1,16 @@
 -- Solutions of x + y = z over sets, and the families of sets that they support. A family gives each variable, named by
 -- its index, a set of whole numbers.
---     AreDistinct c      x, y and z are three variables
+--     AreDistinct c      `x`, `y` and `z` are three different variables
 --     Names c i      variable i is x, y or z
---     IsSolution c sets point      the point gives x, y and z members of their sets, and the sum holds
+--     IsSolution c sets point      the point gives `x`, `y` and `z` members of their sets, and the sum holds; other
+--         sets do not matter
 --     IsCommonSolution cs sets point      the point solves each constraint of the list
 --     HasSolutionAt c sets i v      some solution gives variable i the number v
 --     Supports c sets      each member of the sets that the constraint names stands in a solution over the family
 --     SupportedBy cs sets      each constraint of the list supports the family
 --     LiesWithin inner outer      each set of the one family lies within that of the other
---     IsGreatestFamily cs given family      the greatest family within the given one that the constraints support
+--     IsGreatestFamily cs given family      the greatest family within the given one that the constraints support,
+--         among families that are lists of runs
 --     LostMember before after      some variable has lost a member
 use Rattle.std.specs.Prelude.{◌≡◌, ◌≢◌, ℕ, ℤ, ◌+ℤ◌, ◌⊎◌, List, All}
 use Rattle.ivl_laws.specs.Families.{set_at}

@@ -1,7 +1,8 @@
 -- What a session of the store answers to a line, and the state that is left.
 --     AnswersAsked old asked text new      the answer to a request
 --     AnswersWords old words text new      the answer to a line of these words
---     AnswersLine old line text new      the answer to a line
+--     AnswersLine old line text new      what a line may be answered with, and the state that is left: nothing for a
+--         line without words, an error for a line that is not UTF-8
 use Rattle.std.specs.Prelude.{◌≡◌, ◌⊎◌, ℕ, Bool, true, false, IsTrue, List, [], ◌∷◌, Option, None, Some}
 use Rattle.std.specs.Str.{is_utf8}
 use Rattle.ivl_lines.specs.Lines.{words_of}

@@ -1,5 +1,7 @@
 -- A fault of a line, by the words that it is told with.
 --     told_of fault      the fault as it is told; `None` if it is want of memory, which is no fault of the line
+--     Told      a fault by the words that it is reported with: `no_text`, `no_command`, `no_form`, `no_number`,
+--         `out_of_range`, `unknown`, `defined`, `repeated`
 use Rattle.std.specs.Prelude.{ℕ, List, Option, None, Some}
 use Rattle.ivl_store_lines.specs.declared.fault.Fault.{Fault}
 use Rattle.ivl_store_lines.specs.declared.fault.Fault.TheVariants.{Bytes, Command, Form, Number, Range, Unknown, Defined, Repeated, Memory}

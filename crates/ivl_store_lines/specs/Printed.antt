@@ -4,7 +4,10 @@
 --     variable_line name variable domains      the line of the variable with this index; nothing without one
 --     domain_lines names domains      the lines of all variables
 --     state_line domains progress      whether a domain is empty, and if none is, how far the domains are narrowed
---     IsReply asked new text      the text is an answer to a request that is carried out
+--     IsReply asked new text      the text is an answer to a request that is carried out: `state_line`; before it
+--         `domain_lines` or `variable_line` for `show`; `IsSolved` for `solve`; `IsCounted` for `count`; `ShowsBest`
+--         for `min` and `max`
+--     progress_text progress      how far the domains are narrowed: `ok` or `unfinished`
 use Rattle.std.specs.Prelude.{◌≡◌, ℕ, ℤ, List, [], ◌∷◌, ◌++◌, codes, get_or, if◌then◌else◌, Option, None, Some}
 use Rattle.std.specs.List.{list_any}
 use Rattle.ivl_lines.specs.Escapes.{escaped}
@@ -42,7 +45,6 @@ abbrev pub variable_line : List ℕ → Option ℕ → List (List (ℤ × ℤ)) 
 variable_line name None domains = []
 variable_line name (Some i) domains = domain_line name (get_or domains i [])
 
--- how far the domains are narrowed
 abbrev pub progress_text : Progress → List ℕ
 progress_text Complete = codes "ok"
 progress_text Budget = codes "unfinished"

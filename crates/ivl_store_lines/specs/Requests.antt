@@ -1,11 +1,14 @@
 -- What a line asks for, by its words.
 --     name_and_pairs, name_and_some_pairs, with_pairs, three_names, limit_of, only_on, shown_by, most_of, counted_by, best_by words      the words after a command, by its form; `None` if they do not have it
 --     natural_of word      the number of i64 from 0 up that a word is; `None` if it is no such number
---     request_of name words      what a command and the words after it ask for; `None` if they are no request
+--     request_of name words      what a command and the words after it ask for; none if they are not a request
 --     asked_of request      the request as the program keeps it
---     first_bad_number_of words      the first word that is no number; `None` if all are
+--     first_bad_number_of words      the first word that is not a number; `None` if all are numbers
 --     why_no_request name words      the fault of a command and the words after it that are no request
 --     needs_list name words      whether pairs may stand there, for which memory is needed
+--     why_no_pairs form words, why_no_limit words, why_no_most words      the same for words that should be pairs, a
+--         limit, a number of solutions
+--     is_no_word words      there is no word
 use Rattle.std.specs.Prelude.{◌^◌, ◌-◌, ℕ, ℤ, pos, nat_le, negsuc, Bool, true, false, not, ◌&&◌, ◌||◌, List, [], ◌∷◌, bytes_eq, codes, find, if◌then◌else◌, is_none, Option, None, Some, option_and_then, option_map}
 use Rattle.ivl_lines.specs.Numbers.{number_of, pairs_of}
 use Rattle.ivl_store_lines.specs.Faults.{Told, no_command, no_form, no_number}

@@ -8,6 +8,7 @@
 --     IsBest best name state found end      the point found is the best solution for the variable with this name, if the search ended with all, and a
 --                       solution in any case
 --     ShowsBest best name state text      the text shows such a point, and says how the search ended
+--     best_text names found end      the point that was found, if any, and how the search ended
 use Rattle.std.specs.Prelude.{◌≡◌, ◌≢◌, ◌≤◌, ◌==◌, ◌^◌, ◌-◌, ◌/◌, IfNone, IfSome, Option, None, Some, ℕ, ℤ, List, [], ◌∷◌, ◌++◌, codes, decimal, if◌then◌else◌, length}
 use Rattle.std.specs.Fmt.{signed_decimal}
 use Rattle.ivl_lines.specs.Escapes.{escaped}

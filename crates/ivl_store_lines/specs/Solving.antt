@@ -1,12 +1,20 @@
 -- What carrying out a request does to the variables, their domains, and the constraints between them.
---     State      the names, the domains, the constraints, what the narrowings of a line may count for, and how far the domains are narrowed
+--     State      one name and one domain for each variable, the constraints, what the narrowings of a line may count
+--         for, and how far the domains are narrowed: `Complete`, or stopped by the `Budget`
 --     variable_named names name      the index of the variable with this name
 --     HasEmptyDomain state      some domain is empty, so that there is no solution
 --     domain_range      the least and the greatest number that a domain may hold
---     Settles limit cs before after progress      narrowings by the constraints that count for no more than the limit lead from the one domains to the others
---     Carries asked old new      the request takes the solver from old to new
---     range_fault pairs      the fault of pairs that are not all in range; `None` if they are
---     fault_of asked old      the fault of a request; `None` if it has none
+--     Settles limit cs before after progress      narrowings by the constraints that count for no more than the limit
+--         (`AreCounted`) lead from the one domains to the others, which keep each supported family; if the limit
+--         stopped it, one more would count for more than is left; each but for one by each constraint removes a
+--         member; to the greatest supported family if it is complete
+--     Carries asked old new      the request takes the solver from `old` to `new`: `Defines` adds a name and a
+--         domain, `Cuts` and `Adds` cut a domain or require a sum and then narrow (`Settles`), all or nothing,
+--         `GoesOn` narrows, `Limits` sets the limit, `show` changes nothing
+--     range_fault pairs      the fault of pairs that are not all in range (`is_in_range`); `None` if they are
+--     fault_of asked old      the fault of a request (`var`, `cut`, `sum` or `show` with a name; `limit`, `go_on` and
+--         `show` alone have none), by the solver before it: `var_fault`, `cut_fault`, `sum_fault`, `show_fault` by
+--         the variables that have the names; `None` if it has none
 use Rattle.std.specs.Prelude.{◌≡◌, ◌<◌, ◌≤◌, ◌+◌, ◌-◌, ◌*◌, ◌^◌, ◌||◌, ◌==◌, ℕ, ℤ, pos, negsuc, List, Any, Contains, [], ◌∷◌, ◌++◌, bytes_eq, if◌then◌else◌, length, position, Option, Some, None}
 use Rattle.std.specs.List.{list_all}
 use Rattle.ivl_lines.specs.Numbers.{is_in_range}

@@ -1,4 +1,5 @@
 -- The order of values that hold one number.
+--     held_order      the laws of the order of a type that holds a number
 use Rattle.std.specs.Prelude.{ℤ, refl}
 use Rattle.std.specs.Ordering.{int_cmp, int_eq, on, as_partial_cmp}
 use Rattle.ivl_laws.specs.Bounds.{OrdersByNumber}

@@ -62,7 +62,7 @@ use crate::rattle::std::alloc::{AllocError, Global};
 /// ensures exact { ReadOnce expr.now → NoProduct expr.now → IfOk result (λ L. IsRunsOf L (Values B.value expr.now (set_at sets.now))) }
 /// ```
 ///
-/// Words: [`first_missing`](crate::definitions#first_missing), [`SomeNodeOutside`](crate::definitions#SomeNodeOutside), [`AllNodesIn`](crate::definitions#AllNodesIn), [`IsRunsOf`](crate::definitions#IsRunsOf), [`Node`](crate::definitions#Node), [`IsSubset`](crate::definitions#IsSubset), [`Values`](crate::definitions#Values), [`Covers`](crate::definitions#Covers), [`ReadOnce`](crate::definitions#ReadOnce), [`NoProduct`](crate::definitions#NoProduct).
+/// Words: [`first_missing`](crate::definitions#first_missing), [`SomeNodeOutside`](crate::definitions#SomeNodeOutside), [`set_at`](crate::definitions#set_at), [`AllNodesIn`](crate::definitions#AllNodesIn), [`IsRunsOf`](crate::definitions#IsRunsOf), [`Node`](crate::definitions#Node), [`IsSubset`](crate::definitions#IsSubset), [`Values`](crate::definitions#Values), [`Covers`](crate::definitions#Covers), [`ReadOnce`](crate::definitions#ReadOnce), [`NoProduct`](crate::definitions#NoProduct).
 pub fn eval<B: Width>(
     alloc: Global,
     expr: &Expr<B>,

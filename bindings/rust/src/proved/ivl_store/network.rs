@@ -154,7 +154,7 @@ impl<B: Width> Network<B> {
     /// ensures variable { IsTrue result ↔ HasEmpty (length self.now.domains) (set_at self.now.domains) }
     /// ```
     ///
-    /// Words: [`HasEmpty`](crate::definitions#HasEmpty).
+    /// Words: [`HasEmpty`](crate::definitions#HasEmpty), [`set_at`](crate::definitions#set_at).
     pub fn has_empty(&self) -> bool {
         self.store.has_empty()
     }
@@ -294,7 +294,7 @@ impl<B: Width> Network<B> {
     /// ensures refused { OnErr result (self.new ≡ self.old) }
     /// ```
     ///
-    /// Words: [`IsCutAt`](crate::definitions#IsCutAt), [`Covers`](crate::definitions#Covers).
+    /// Words: [`IsCutAt`](crate::definitions#IsCutAt), [`Covers`](crate::definitions#Covers), [`set_at`](crate::definitions#set_at).
     pub fn restrict(&mut self, variable: usize, allowed: &IntervalSet<B>) -> Result<(), StoreFault> {
         if variable >= self.store.domains().len() {
             return Err(StoreFault::Variable(variable));
@@ -363,7 +363,7 @@ impl<B: Width> Network<B> {
     /// ensures enough { IfOk result (λ s. work B.whole self.old ≤ budget → s ≡ Settled.All) }
     /// ```
     ///
-    /// Words: [`Keeps`](crate::definitions#Keeps), [`IsCommonSolution`](crate::definitions#IsCommonSolution), [`IsGreatestFamily`](crate::definitions#IsGreatestFamily), [`AreNarrowings`](crate::definitions#AreNarrowings), [`work`](crate::definitions#work).
+    /// Words: [`Keeps`](crate::definitions#Keeps), [`IsCommonSolution`](crate::definitions#IsCommonSolution), [`set_at`](crate::definitions#set_at), [`IsGreatestFamily`](crate::definitions#IsGreatestFamily), [`AreNarrowings`](crate::definitions#AreNarrowings), [`work`](crate::definitions#work).
     pub fn settle(&mut self, budget: u64) -> Result<Settled, StoreFault> {
         for _ in 0..budget {
             if !self.narrow_next()? {
@@ -419,7 +419,7 @@ impl<B: Width> Network<B> {
     ///     × (length by + work B.whole self.new ≤ work B.whole self.old)) }
     /// ```
     ///
-    /// Words: [`Keeps`](crate::definitions#Keeps), [`IsCommonSolution`](crate::definitions#IsCommonSolution), [`IsGreatestFamily`](crate::definitions#IsGreatestFamily), [`AreCounted`](crate::definitions#AreCounted), [`cost_of`](crate::definitions#cost_of), [`work`](crate::definitions#work).
+    /// Words: [`Keeps`](crate::definitions#Keeps), [`IsCommonSolution`](crate::definitions#IsCommonSolution), [`set_at`](crate::definitions#set_at), [`IsGreatestFamily`](crate::definitions#IsGreatestFamily), [`AreCounted`](crate::definitions#AreCounted), [`cost_of`](crate::definitions#cost_of), [`work`](crate::definitions#work).
     pub fn settle_within(&mut self, budget: u64) -> Result<Settled, StoreFault> {
         let mut left = budget;
         loop {

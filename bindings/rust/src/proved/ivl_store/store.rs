@@ -162,7 +162,7 @@ impl<B: Width> Store<B> {
     /// ensures variable { IsTrue result ↔ HasEmpty (length self.now) (set_at self.now) }
     /// ```
     ///
-    /// Words: [`HasEmpty`](crate::definitions#HasEmpty).
+    /// Words: [`HasEmpty`](crate::definitions#HasEmpty), [`set_at`](crate::definitions#set_at).
     pub fn has_empty(&self) -> bool {
         self.empties > 0
     }

@@ -56,7 +56,7 @@ impl<B: Width> Store<B> {
     /// ensures families { (family : List (List (ℤ × ℤ))) → SupportedBy (constraints_of posts.now) (set_at family) → LiesWithin (set_at family) (CutBy posts.now (set_at self.old)) → LiesWithin (set_at family) (set_at self.new) }
     /// ```
     ///
-    /// Words: [`AreDistinct`](crate::definitions#AreDistinct), [`constraints_of`](crate::definitions#constraints_of), [`AnswersPosts`](crate::definitions#AnswersPosts), [`IsLeftBy`](crate::definitions#IsLeftBy), [`first_unknown_in_posts`](crate::definitions#first_unknown_post), [`IsPartlyPosted`](crate::definitions#IsPartlyPosted), [`LiesWithin`](crate::definitions#LiesWithin), [`SupportedBy`](crate::definitions#SupportedBy), [`CutBy`](crate::definitions#CutBy).
+    /// Words: [`AreDistinct`](crate::definitions#AreDistinct), [`constraints_of`](crate::definitions#constraints_of), [`AnswersPosts`](crate::definitions#AnswersPosts), [`IsLeftBy`](crate::definitions#IsLeftBy), [`set_at`](crate::definitions#set_at), [`first_unknown_in_posts`](crate::definitions#first_unknown_post), [`IsPartlyPosted`](crate::definitions#IsPartlyPosted), [`LiesWithin`](crate::definitions#LiesWithin), [`SupportedBy`](crate::definitions#SupportedBy), [`CutBy`](crate::definitions#CutBy).
     pub fn try_post_all(&mut self, posts: &[Post<B>]) -> Result<Option<Vec<bool>>, StoreFault> {
         if !all_distinct(posts) {
             return Ok(None);

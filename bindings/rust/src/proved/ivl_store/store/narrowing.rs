@@ -55,7 +55,7 @@ impl<B: Width> Store<B> {
     /// ensures exact { OnOk result (AreDistinct constraint.now → (i : ℕ) → Names constraint.now i → (v : ℤ) → set_at self.new i v ↔ HasSolutionAt constraint.now (set_at self.old) i v) }
     /// ```
     ///
-    /// Words: [`first_unknown`](crate::definitions#first_unknown), [`Narrowed`](crate::definitions#Narrowed), [`LostMember`](crate::definitions#LostMember), [`Supports`](crate::definitions#Supports), [`LiesWithin`](crate::definitions#LiesWithin), [`IsSolution`](crate::definitions#IsSolution), [`AreDistinct`](crate::definitions#AreDistinct), [`Names`](crate::definitions#Names), [`HasSolutionAt`](crate::definitions#HasSolutionAt).
+    /// Words: [`first_unknown`](crate::definitions#first_unknown), [`set_at`](crate::definitions#set_at), [`Narrowed`](crate::definitions#Narrowed), [`LostMember`](crate::definitions#LostMember), [`Supports`](crate::definitions#Supports), [`LiesWithin`](crate::definitions#LiesWithin), [`IsSolution`](crate::definitions#IsSolution), [`AreDistinct`](crate::definitions#AreDistinct), [`Names`](crate::definitions#Names), [`HasSolutionAt`](crate::definitions#HasSolutionAt).
     pub fn narrow(&mut self, constraint: &Constraint) -> Result<bool, StoreFault> {
         if let Some(i) = constraint.first_unknown(self.domains.len()) {
             return Err(StoreFault::Variable(i));
@@ -167,7 +167,7 @@ impl<B: Width> Store<B> {
     ///     × EachLost constraints.now k (set_at self.old) × AfterSome constraints.now k j (set_at self.old) (set_at self.new) }
     /// ```
     ///
-    /// Words: [`first_unknown_in`](crate::definitions#first_unknown_of), [`Keeps`](crate::definitions#Keeps), [`IsCommonSolution`](crate::definitions#IsCommonSolution), [`IsFixed`](crate::definitions#IsFixed), [`AreDistinct`](crate::definitions#AreDistinct), [`IsGreatestFamily`](crate::definitions#IsGreatestFamily), [`total`](crate::definitions#total), [`After`](crate::definitions#After), [`EachLost`](crate::definitions#EachLost), [`AfterSome`](crate::definitions#AfterSome).
+    /// Words: [`first_unknown_in`](crate::definitions#first_unknown_of), [`Keeps`](crate::definitions#Keeps), [`IsCommonSolution`](crate::definitions#IsCommonSolution), [`set_at`](crate::definitions#set_at), [`IsFixed`](crate::definitions#IsFixed), [`AreDistinct`](crate::definitions#AreDistinct), [`IsGreatestFamily`](crate::definitions#IsGreatestFamily), [`total`](crate::definitions#total), [`After`](crate::definitions#After), [`EachLost`](crate::definitions#EachLost), [`AfterSome`](crate::definitions#AfterSome).
     pub fn propagate(
         &mut self,
         constraints: &[Constraint],

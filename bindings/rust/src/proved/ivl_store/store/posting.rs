@@ -64,7 +64,7 @@ impl<B: Width> Store<B> {
     /// ensures memory { result ≡ Err StoreFault.Memory → IsPartlyPosted posts.now self.old self.new }
     /// ```
     ///
-    /// Words: [`AreDistinct`](crate::definitions#AreDistinct), [`constraints_of`](crate::definitions#constraints_of), [`first_unknown_in_posts`](crate::definitions#first_unknown_post), [`LiesWithin`](crate::definitions#LiesWithin), [`SupportedBy`](crate::definitions#SupportedBy), [`CutBy`](crate::definitions#CutBy), [`IsCommonSolution`](crate::definitions#IsCommonSolution), [`AnswersPosts`](crate::definitions#AnswersPosts), [`IsLeftBy`](crate::definitions#IsLeftBy), [`IsPartlyPosted`](crate::definitions#IsPartlyPosted).
+    /// Words: [`AreDistinct`](crate::definitions#AreDistinct), [`constraints_of`](crate::definitions#constraints_of), [`first_unknown_in_posts`](crate::definitions#first_unknown_post), [`LiesWithin`](crate::definitions#LiesWithin), [`set_at`](crate::definitions#set_at), [`SupportedBy`](crate::definitions#SupportedBy), [`CutBy`](crate::definitions#CutBy), [`IsCommonSolution`](crate::definitions#IsCommonSolution), [`AnswersPosts`](crate::definitions#AnswersPosts), [`IsLeftBy`](crate::definitions#IsLeftBy), [`IsPartlyPosted`](crate::definitions#IsPartlyPosted).
     pub fn post_all(&mut self, posts: &[Post<B>]) -> Result<Vec<bool>, StoreFault> {
         debug_assert!({ #[allow(unused_imports)] use crate::proved::ivl_interval::ops::*; posts.iter().all(|post| match post { Post::Require(c) => c.distinct(), Post::Restrict(..) => true }) }, "{}", "the condition of `post_all` is broken: posts.iter().all(|post| match post { Post::Require(c) => c.distinct(), Post::Restrict(..) => true })");
         if let Some(i) = first_unknown_post(posts, self.domains.len()) {
