@@ -9,7 +9,7 @@ use Rattle.ivl_laws.proofs.Runs.{lower_end, upper_end}
 use Rattle.ivl_laws.proofs.Products.{one_covers}
 use Rattle.ivl_laws.proofs.Places.{free_above_end, covers_at, open_at, runs_ascend}
 use Rattle.ivl_laws.proofs.Ranges.{first_is_least, last_is_greatest}
-use Rattle.intervallum.specs.Places.{EndBelow, HoldsAt}
+use Rattle.intervallum.specs.Places.{EndBelow, CoversFrom}
 use Rattle.intervallum.proofs.Sweeping.{same_item}
 
 pub covered_at_place : (L : List (ℤ × ℤ)) (i : ℕ) (v : ℤ) → IsSomeAnd (slice_get L i) (λ run. IsBetween run v) → Covers L v
@@ -67,7 +67,7 @@ EndBelow-more [] v w h b = tt
 EndBelow-more (p ∷ L) v w h b = (omega (arith, ints, h, b.0), EndBelow-more L v w h b.1)
 
 pub holds_at_place : (L : List (ℤ × ℤ)) (i : ℕ) (q r : ℤ × ℤ) (v b c : ℤ) (t : Bool) → IsMaximal L → r.0 ≤ℤ r.1 → slice_get L i ≡ Some q → IsSomeAnd (slice_get L i) (λ run. IsBetween run v) →
-    v ≡ r.0 → b ≡ r.1 → c ≡ q.1 → (IsTrue t ↔ (b ≤ℤ c)) → t ≡ true → HoldsAt i r L
+    v ≡ r.0 → b ≡ r.1 → c ≡ q.1 → (IsTrue t ↔ (b ≤ℤ c)) → t ≡ true → CoversFrom i r L
 holds_at_place L i q r v b c t m o e h ev eb ec k is = record {
   held = (held_by L i q r v b c t m o e h ev eb ec k).0 is;
   less = place_is_less L i v h;
@@ -176,7 +176,7 @@ found_for_none L R = record {
   below = λ d h e. tt;
 }
 
-pub found_for_next : (L R : List (ℤ × ℤ)) (k from i : ℕ) (d : ℤ × ℤ) → IsMaximal L → k < length L → d ≡ get_or L k d → HoldsAt i d R → FoundFor L R k from → FoundFor L R (k + 1) i
+pub found_for_next : (L R : List (ℤ × ℤ)) (k from i : ℕ) (d : ℤ × ℤ) → IsMaximal L → k < length L → d ≡ get_or L k d → CoversFrom i d R → FoundFor L R k from → FoundFor L R (k + 1) i
 found_for_next L R k from i d m h is held found = record {
   included = included_more L k d (Covers R) h found.included (subst (λ (r : ℤ × ℤ). IsSubset (IsBetween r) (Covers R)) is held.held);
   at_most = let less = held.less in omega arith;

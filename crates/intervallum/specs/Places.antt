@@ -2,7 +2,7 @@
 --     IsPlaceOf runs v place      run `i` has v; or none has, and `i` runs lie below v
 --     index_of place      how many runs lie before it
 --     EndBelow v L, StartAbove v L      each pair ends below v; each starts above v
---     HoldsAt i p L      the runs before place i end below the run p, which the list covers
+--     CoversFrom i p L      the runs before place i end below the run p, which the list covers
 --     EndsFrom v L      the first pair, if there is one, ends at v or above
 use Rattle.std.specs.Prelude.{◌≡◌, ℕ, ◌<◌, ℤ, ◌≤ℤ◌, ◌<ℤ◌, List, [], ◌∷◌, length, slice_get, take, IsSomeAnd}
 use Rattle.ivl_laws.specs.Sets.{IsBetween, IsSubset}
@@ -32,7 +32,7 @@ EndsFrom v [] = Unit {0}
 EndsFrom v (r ∷ L) = v ≤ℤ r.1
 
 -- the runs before place i end below the run p, which the list covers
-pub record HoldsAt (i : ℕ) (p : ℤ × ℤ) (L : List (ℤ × ℤ)) : Type 0 where
+pub record CoversFrom (i : ℕ) (p : ℤ × ℤ) (L : List (ℤ × ℤ)) : Type 0 where
   pub held : IsSubset (IsBetween p) (Covers L)
   pub less : i < length L
   pub below : EndBelow p.0 (take i L)

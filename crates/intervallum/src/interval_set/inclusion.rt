@@ -2,7 +2,7 @@
 ghost use Rattle.std.specs.Prelude.{◌≡◌, ◌↔◌, ◌≤◌, ◌≤ℤ◌, IsTrue, MatchOption, length, take};
 ghost use Rattle.ivl_laws.specs.Sets.{IsBetween, IsProperSubset, IsSubset};
 ghost use Rattle.ivl_laws.specs.Runs.{Covers};
-ghost use Rattle.intervallum.specs.Places.{EndBelow, HoldsAt};
+ghost use Rattle.intervallum.specs.Places.{EndBelow, CoversFrom};
 
 use super::IntervalSet;
 use super::lopsided::is_far_shorter;
@@ -59,7 +59,7 @@ fn holder<B: Width>(runs: &mut Probes<'_, B>, run: &Interval<B>, from: usize) ->
     requires filled { run.now.0 ≤ℤ run.now.1 }
     requires at_most { from ≤ length runs.old.runs }
     requires below { EndBelow run.now.0 (take from runs.old.runs) }
-    ensures held { MatchOption result (¬ (IsSubset (IsBetween run.now) (Covers runs.old.runs))) (λ i. HoldsAt i run.now runs.old.runs) }
+    ensures held { MatchOption result (¬ (IsSubset (IsBetween run.now) (Covers runs.old.runs))) (λ i. CoversFrom i run.now runs.old.runs) }
     ensures same { runs.new.runs ≡ runs.old.runs }
 {
     match find_from(runs, run.lower(), from) {

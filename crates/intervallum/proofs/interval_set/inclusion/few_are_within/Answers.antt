@@ -1,6 +1,6 @@
 use Rattle.std.proofs.Common.{ℤ, ◌≤ℤ◌, List, sym, subst, ◌∙◌}
 use Rattle.ivl_laws.proofs.Places.{open_at}
-use Rattle.intervallum.specs.Places.{HoldsAt}
+use Rattle.intervallum.specs.Places.{CoversFrom}
 use Rattle.intervallum.proofs.Finding.{found_for_next, one_run_not_included}
 use Rattle.intervallum.proofs.interval_set.inclusion.few_are_within.Goals as goal
 
@@ -17,7 +17,7 @@ returns-in-None g c =
 pub loop-run-preserved : goal.loop-run-preserved
 loop-run-preserved g c =
     let inv = c.loop-run.invariant in
-    let P : List (ℤ × ℤ) → Type 0 = λ R. HoldsAt c.in-Some.place c.run-item.result R in (
+    let P : List (ℤ × ℤ) → Type 0 = λ R. CoversFrom c.in-Some.place c.run-item.result R in (
       c.holder.ensures.same ∙ inv.0,
       inv.1,
       inv.2,
