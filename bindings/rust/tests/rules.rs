@@ -70,9 +70,7 @@ fn supported(rule: &Rule, domains: &[Numbers], i: usize) -> Numbers {
     let choices: Vec<Numbers> = (0..3).map(|j| if rule.names(j) { domains[j].clone() } else { vec![0] }).collect();
     let is_in_point = |&n: &i64| {
         choices[0].iter().any(|&a| {
-            choices[1].iter().any(|&b| {
-                choices[2].iter().any(|&c| [a, b, c][i] == n && satisfies(rule, &[a, b, c]))
-            })
+            choices[1].iter().any(|&b| choices[2].iter().any(|&c| [a, b, c][i] == n && satisfies(rule, &[a, b, c])))
         })
     };
     domains[i].iter().copied().filter(is_in_point).collect()
@@ -85,9 +83,8 @@ fn narrowing_leaves_what_some_point_has() {
     for _ in 0..ROUNDS {
         let before: Vec<Numbers> = (0..3).map(|_| numbers(&mut random)).collect();
         let rule = rule(&mut random);
-        let after: Vec<Numbers> = (0..3)
-            .map(|i| if rule.names(i) { supported(&rule, &before, i) } else { before[i].clone() })
-            .collect();
+        let after: Vec<Numbers> =
+            (0..3).map(|i| if rule.names(i) { supported(&rule, &before, i) } else { before[i].clone() }).collect();
         let mut domains: Vec<IntervalSet<i8>> = before.iter().map(set).collect();
         let lost = narrow(&mut domains, &rule).unwrap();
         assert_eq!(lost, after != before, "{rule:?} over {before:?}");

@@ -48,6 +48,8 @@ impl Rule {
     /// ```text
     /// ensures { result ≡ places_of self.now }
     /// ```
+    ///
+    /// Words: [`places_of`](crate::definitions#places).
     pub fn places(&self) -> Constraint {
         match self {
             Rule::Sum(c) => *c,
@@ -75,6 +77,8 @@ impl Rule {
     /// ```text
     /// ensures { IsTrue result ↔ AreDifferent self.now }
     /// ```
+    ///
+    /// Words: [`AreDifferent`](crate::definitions#AreDifferent).
     pub fn is_over_different(&self) -> bool {
         match self {
             Rule::Sum(c) => c.distinct(),
@@ -101,6 +105,8 @@ impl Rule {
     /// ```text
     /// ensures { IsTrue result ↔ NamesOf self.now variable }
     /// ```
+    ///
+    /// Words: [`NamesOf`](crate::definitions#NamesOf).
     pub fn names(&self, variable: usize) -> bool {
         let c = self.places();
         variable == c.x || variable == c.y || variable == c.z
@@ -126,7 +132,7 @@ impl Rule {
     /// ensures present { result ≡ None → AllPresent count (places_of self.now) }
     /// ```
     ///
-    /// Words: [`first_unknown_in`](crate::definitions#first_unknown), [`AllPresent`](crate::definitions#AllPresent).
+    /// Words: [`first_unknown_in`](crate::definitions#first_unknown), [`places_of`](crate::definitions#places), [`AllPresent`](crate::definitions#AllPresent).
     pub fn first_unknown(&self, count: usize) -> Option<usize> {
         self.places().first_unknown(count)
     }

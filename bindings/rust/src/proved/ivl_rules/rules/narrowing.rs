@@ -57,7 +57,7 @@ use crate::rattle::std::alloc::AllocError;
 /// ensures exact { OnOk result ((i : ℕ) → NamesOf rule.now i → (v : ℤ) → set_at domains.new i v ↔ HasPointAt rule.now (set_at domains.old) i v) }
 /// ```
 ///
-/// Words: [`AllPresent`](crate::definitions#AllPresent), [`LostMember`](crate::definitions#LostMember), [`set_at`](crate::definitions#set_at).
+/// Words: [`AreDifferent`](crate::definitions#AreDifferent), [`AllPresent`](crate::definitions#AllPresent), [`places_of`](crate::definitions#places), [`LostMember`](crate::definitions#LostMember), [`set_at`](crate::definitions#set_at), [`NarrowedBy`](crate::definitions#NarrowedBy), [`NamesOf`](crate::definitions#NamesOf), [`HasPointAt`](crate::definitions#HasPointAt).
 pub fn narrow<B: Width>(domains: &mut [IntervalSet<B>], rule: &Rule) -> Result<bool, AllocError> {
     let (x, y, z) = narrowed_at_places(domains, rule)?;
     let lost = is_any(&x, &y, &z);
@@ -94,7 +94,7 @@ fn put<B: Width>(domains: &mut [IntervalSet<B>], i: usize, left: Option<Interval
 /// ensures { IfOk result (λ r. AreLeftAtPlaces B.whole (places_of rule.now) (HasPointAt rule.now (set_at domains.now)) domains.now r.0 r.1 r.2) }
 /// ```
 ///
-/// Words: [`AllPresent`](crate::definitions#AllPresent), [`set_at`](crate::definitions#set_at).
+/// Words: [`AreDifferent`](crate::definitions#AreDifferent), [`AllPresent`](crate::definitions#AllPresent), [`places_of`](crate::definitions#places), [`AreLeftAtPlaces`](crate::definitions#AreLeftAtPlaces), [`HasPointAt`](crate::definitions#HasPointAt), [`set_at`](crate::definitions#set_at).
 pub fn narrowed_at_places<B: Width>(
     domains: &[IntervalSet<B>],
     rule: &Rule,

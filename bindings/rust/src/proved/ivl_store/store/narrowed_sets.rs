@@ -65,7 +65,7 @@ pub(super) fn narrowed_sets<B: Width>(
 /// ensures { IfOk result (IsLeftOf B.whole x.now (SumsBy op (Covers a.now) (Covers b.now))) }
 /// ```
 ///
-/// Words: [`SumsBy`](crate::definitions#SumsBy), [`Covers`](crate::definitions#Covers).
+/// Words: [`IsLeftOf`](crate::definitions#IsLeftOf), [`SumsBy`](crate::definitions#SumsBy), [`Covers`](crate::definitions#Covers).
 pub fn narrowed_by<B: Width>(
     x: &IntervalSet<B>,
     a: &IntervalSet<B>,
