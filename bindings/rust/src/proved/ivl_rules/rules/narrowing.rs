@@ -59,6 +59,7 @@ use crate::rattle::std::alloc::AllocError;
 ///
 /// Words: [`AreDifferent`](crate::definitions#AreDifferent), [`AllPresent`](crate::definitions#AllPresent), [`places_of`](crate::definitions#places), [`LostMember`](crate::definitions#LostMember), [`set_at`](crate::definitions#set_at), [`NarrowedBy`](crate::definitions#NarrowedBy), [`NamesOf`](crate::definitions#NamesOf), [`HasPointAt`](crate::definitions#HasPointAt).
 pub fn narrow<B: Width>(domains: &mut [IntervalSet<B>], rule: &Rule) -> Result<bool, AllocError> {
+    debug_assert!({ #[allow(unused_imports)] use crate::proved::ivl_interval::ops::*; rule.is_over_different() && rule.first_unknown(domains.len()).is_none() }, "{}", "the condition of `narrow` is broken: rule.is_over_different() && rule.first_unknown(domains.len()).is_none()");
     let (x, y, z) = narrowed_at_places(domains, rule)?;
     let lost = is_any(&x, &y, &z);
     let c = rule.places();
