@@ -14,6 +14,7 @@
 //! | [`ivl_map`] | maps from integers to values, stored as maximal runs of equal values |
 //! | [`ivl_within`] | sums and differences that are cut to a window |
 //! | [`ivl_store`] | domains of variables, narrowed by constraints `x + y = z` |
+//! | [`ivl_rules`] | rules of two or three variables, `x + 3 <= y` or `x != y` among them, and what narrowing by one leaves |
 //! | [`ivl_search`] | the points that solve such constraints: all of them, or as many as limits allow |
 //! | [`ivl_expr`] | expressions over sets, for range analysis |
 //! | `ivl_buffers` | sets as lists of pairs in the caller's memory, which the library for C has; where `usize` has 64 bits |
@@ -54,6 +55,7 @@ pub mod ivl_json;
 pub mod ivl_buffers;
 pub mod ivl_map;
 pub mod ivl_paged;
+pub mod ivl_rules;
 pub mod ivl_search;
 pub mod ivl_store;
 pub mod ivl_within;
@@ -73,10 +75,13 @@ pub mod examples {
     pub use super::ivl_json::{ItemFault, JsonFault, JsonForm};
     pub use super::ivl_map::{IntervalMap, MapValue};
     pub use super::ivl_paged::PagedSet;
+    pub use super::ivl_rules::rules::Rule;
+    pub use super::ivl_rules::rules::narrowing::narrow;
     pub use super::ivl_search::search::{
         Best, End, Found, Limits, SearchFault, all_distinct, count, greatest, least, solutions, try_solutions,
     };
     pub use super::ivl_store::network::{Network, Settled};
+    pub use super::ivl_store::store::narrowed_sets::narrowed_by;
     pub use super::ivl_store::store::{Constraint, Post, Store, StoreFault};
     pub use super::ivl_within::within::{
         Combined, add_within, differences_in_window, pair_in_window, results_in_set, sub_within, sums_in_window,

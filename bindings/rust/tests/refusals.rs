@@ -1,8 +1,11 @@
 //! Each request for memory of the calls above sets is refused in turn: searches, networks, sums of many pairs of runs. The call
 //! tells it and leaves what it was given, or answers as with ample memory.
 use intervallum::proved::Global;
+use intervallum::proved::ivl_rules::rules::Rule;
+use intervallum::proved::ivl_rules::rules::narrowing::narrow;
 use intervallum::proved::ivl_search::search::{Best, End, Limits, SearchFault, count, greatest, least, solutions};
 use intervallum::proved::ivl_store::network::{Network, Settled};
+use intervallum::proved::ivl_store::store::narrowed_sets::narrowed_by;
 use intervallum::proved::ivl_store::store::{Constraint, StoreFault};
 use intervallum::proved::ivl_within::within::{Combined, differences_in_window, results_in_set, sums_in_window};
 use intervallum::proved::prelude::*;
@@ -222,4 +225,44 @@ fn sums_in_windows() {
         );
         assert!(refused > 1 && told > 1, "{name}: {refused}, {told}");
     }
+}
+
+/// Narrowing by a rule writes nothing before all that it needs is made.
+#[test]
+fn narrowing_by_rules() {
+    let given = || -> [Set; 3] {
+        let runs = |step: i64| {
+            let pairs: Vec<(i64, i64)> = (0..20).map(|i| (step * i, step * i + step / 2)).collect();
+            pairs.as_slice().to_interval_set(Global).unwrap()
+        };
+        [runs(4), Set::new(Global, 8, 8).unwrap(), runs(6)]
+    };
+    let rules = [
+        Rule::Sum(Constraint { x: 0, y: 1, z: 2 }),
+        Rule::Shifted { x: 0, y: 2, by: 3 },
+        Rule::AtMost { x: 0, y: 2, by: 90 },
+        Rule::Differs { x: 0, y: 1, by: 0 },
+    ];
+    for rule in rules {
+        let mut wanted = given();
+        assert!(narrow(&mut wanted, &rule).unwrap());
+        let (refused, told) = each_refused(
+            given,
+            |domains| narrow(domains, &rule),
+            |domains, made, _| {
+                assert!(if made.is_ok() { *domains == wanted } else { *domains == given() });
+                made.is_ok_and(|lost| lost)
+            },
+        );
+        assert!(refused > 0 && told == refused, "{rule:?}: {refused}, {told}");
+    }
+    let (refused, told) = each_refused(
+        given,
+        |[x, a, b]| narrowed_by(x, a, b, Combined::Difference),
+        |domains, made, _| {
+            assert!(*domains == given());
+            made.is_ok_and(|left| left.is_some())
+        },
+    );
+    assert!(refused > 1 && told > 1);
 }

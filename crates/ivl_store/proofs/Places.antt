@@ -59,13 +59,13 @@ pub length-replaced : (sets : List (List (ℤ × ℤ))) (i : ℕ) (left : Option
 length-replaced sets i None = refl
 length-replaced sets i (Some left) = length-set sets i left
 
-replaced-same : (sets : List (List (ℤ × ℤ))) (i : ℕ) (left : Option (List (ℤ × ℤ))) → i < length sets
+pub replaced-same : (sets : List (List (ℤ × ℤ))) (i : ℕ) (left : Option (List (ℤ × ℤ))) → i < length sets
     → get_or (narrowed_at sets i left) i [] ≡ kept_or left (get_or sets i [])
 replaced-same sets i None h = refl
 replaced-same sets i (Some left) h = get_or-set_same sets i left [] h
 
 -- a place that is another, or one where all members stay
-replaced-other : (sets : List (List (ℤ × ℤ))) (i j : ℕ) (left : Option (List (ℤ × ℤ))) → (j ≡ i → left ≡ None)
+pub replaced-other : (sets : List (List (ℤ × ℤ))) (i j : ℕ) (left : Option (List (ℤ × ℤ))) → (j ≡ i → left ≡ None)
     → get_or (narrowed_at sets i left) j [] ≡ get_or sets j []
 replaced-other sets i j None h = refl
 replaced-other sets i j (Some left) h = elim (cases_eq j i) [
@@ -129,7 +129,7 @@ at_y whole c old x y z p left nz =
     ∙ replaced-same _ c.y y (omega arith)
     ∙ ap (kept_or y) (replaced-other old c.x c.y x (λ e. left.x_is_later (inl (sym e))))
 
-at_x : (c : Constraint) (old : List (List (ℤ × ℤ))) (x y z : Option (List (ℤ × ℤ))) → AllPresent (length old) c → c.x ≢ c.y → c.x ≢ c.z
+pub at_x : (c : Constraint) (old : List (List (ℤ × ℤ))) (x y z : Option (List (ℤ × ℤ))) → AllPresent (length old) c → c.x ≢ c.y → c.x ≢ c.z
     → get_or (after c old x y z) c.x [] ≡ kept_or x (get_or old c.x [])
 at_x c old x y z p ny nz =
     replaced-other _ c.z c.x z (λ e. absurd (nz e)) ∙ replaced-other _ c.y c.x y (λ e. absurd (ny e)) ∙ replaced-same old c.x x p.0
@@ -197,13 +197,13 @@ narrowed_after whole c old x y z p left i =
 -- ---- what was lost
 
 -- one of three tests
-one_of : (a b d : Bool) → (a || (b || d)) ≡ true → (a ≡ true) ⊎ ((b ≡ true) ⊎ (d ≡ true))
+pub one_of : (a b d : Bool) → (a || (b || d)) ≡ true → (a ≡ true) ⊎ ((b ≡ true) ⊎ (d ≡ true))
 one_of true b d h = inl refl
 one_of false true d h = inr (inl refl)
 one_of false false d h = inr (inr h)
 
 -- three tests of which none holds, or one does
-none_of : (a b d : Bool) → ((a ≡ false) × (b ≡ false) × (d ≡ false)) ⊎ ((a || (b || d)) ≡ true)
+pub none_of : (a b d : Bool) → ((a ≡ false) × (b ≡ false) × (d ≡ false)) ⊎ ((a || (b || d)) ≡ true)
 none_of true b d = inr refl
 none_of false true d = inr refl
 none_of false false true = inr refl
@@ -228,7 +228,7 @@ none_after c old x y z lost mx my mz none =
     rw (is_none_of x (sym mx ∙ n.0), is_none_of y (sym my ∙ n.1), is_none_of z (sym mz ∙ n.2)) refl
 
 -- where a set is made, a member is lost
-lost_at : (whole : ℤ × ℤ) (L : List (ℤ × ℤ)) (S : ℤ → Type 0) (left : Option (List (ℤ × ℤ))) → IsLeftOf whole L S left → is_some left ≡ true
+pub lost_at : (whole : ℤ × ℤ) (L : List (ℤ × ℤ)) (S : ℤ → Type 0) (left : Option (List (ℤ × ℤ))) → IsLeftOf whole L S left → is_some left ≡ true
     → HasSome (Without (Covers L) (Covers (kept_or left L)))
 lost_at whole L S None h e = absurd (false≢true e)
 lost_at whole L S (Some left) h e = lacks left L h.0.maximal (λ v m. ((h.2 v).0 m).0) h.3

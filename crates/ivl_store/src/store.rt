@@ -26,7 +26,7 @@ mod constraint;
 mod costs;
 pub mod laws;
 pub(crate) mod marks;
-mod narrowed_sets;
+pub mod narrowed_sets;
 mod narrowing;
 mod post;
 mod posting;

@@ -45,7 +45,12 @@ impl Constraint {
     }
 
     /// Returns the first of `x`, `y` and `z` that is not below `count`, or `None` if all are.
-    pub(crate) fn first_unknown(&self, count: usize) -> Option<usize>
+    ///
+    /// ```
+    /// assert!(rt; Constraint { x: 0, y: 5, z: 7 }.first_unknown(5) == Some(5));
+    /// assert!(rt; Constraint { x: 0, y: 1, z: 2 }.first_unknown(3) == None);
+    /// ```
+    pub fn first_unknown(&self, count: usize) -> Option<usize>
         ensures { result ≡ first_unknown count self.now }
     {
         if self.x >= count {

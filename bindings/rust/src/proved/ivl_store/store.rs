@@ -32,7 +32,7 @@ mod constraint;
 mod costs;
 
 pub(crate) mod marks;
-mod narrowed_sets;
+pub mod narrowed_sets;
 mod narrowing;
 mod post;
 mod posting;

@@ -52,7 +52,26 @@ impl Constraint {
     }
 
     /// Returns the first of `x`, `y` and `z` that is not below `count`, or `None` if all are.
-    pub(crate) fn first_unknown(&self, count: usize) -> Option<usize> {
+    ///
+    /// ```
+    /// use intervallum::proved::examples::*;
+    ///
+    /// fn main() -> Result<(), std::boxed::Box<dyn std::error::Error>> {
+    ///     let alloc = Global;
+    ///     assert!(Constraint { x: 0, y: 5, z: 7 }.first_unknown(5) == Some(5));
+    ///     assert!(Constraint { x: 0, y: 1, z: 2 }.first_unknown(3) == None);
+    ///     Ok(())
+    /// }
+    /// ```
+    ///
+    /// # Proved
+    ///
+    /// ```text
+    /// ensures { result ≡ first_unknown count self.now }
+    /// ```
+    ///
+    /// Words: [`first_unknown`](crate::definitions#first_unknown).
+    pub fn first_unknown(&self, count: usize) -> Option<usize> {
         if self.x >= count {
             Some(self.x)
         } else if self.y >= count {

@@ -39,8 +39,34 @@ pub(super) fn narrowed_sets<B: Width>(
     Ok((left_of_x, left_of_y, left_of_z))
 }
 
-/// Returns the members of `x` that are made of one of `a` and one of `b`, or `None` if all are.
-fn narrowed_by<B: Width>(
+/// Returns the members of `x` that are a sum, or a difference, of a member of `a` and one of `b`, or `None` if all
+/// are. `O(1)` if each is a single run; else costs what [`results_in_set`] costs.
+///
+/// # Errors
+///
+/// Fails only if allocation fails.
+///
+/// ```
+/// use intervallum::proved::examples::*;
+///
+/// fn main() -> Result<(), std::boxed::Box<dyn std::error::Error>> {
+///     let alloc = Global;
+///     let x = IntervalSet::new(alloc, 0, 10)?;
+///     let (a, b) = (IntervalSet::new(alloc, 5, 6)?, IntervalSet::new(alloc, 3, 4)?);
+///     let left = narrowed_by(&x, &a, &b, Combined::Difference)?;
+///     assert!(left == Some(IntervalSet::new(alloc, 1, 3)?));
+///     Ok(())
+/// }
+/// ```
+///
+/// # Proved
+///
+/// ```text
+/// ensures { IfOk result (IsLeftOf B.whole x.now (SumsBy op (Covers a.now) (Covers b.now))) }
+/// ```
+///
+/// Words: [`IsLeftOf`](crate::definitions#IsLeftOf), [`SumsBy`](crate::definitions#SumsBy), [`Covers`](crate::definitions#Covers).
+pub fn narrowed_by<B: Width>(
     x: &IntervalSet<B>,
     a: &IntervalSet<B>,
     b: &IntervalSet<B>,

@@ -1,0 +1,213 @@
+// Written by bindings/rust/extract from crates/ivl_rules/src/rules/narrowing.rt.
+//! Narrowing by one rule.
+
+#[allow(unused_imports)]
+use crate::rattle::prelude::*;
+use super::Rule;
+use super::windows::{
+    at_least, at_most, narrowed_to_moved, narrowed_to_none, narrowed_to_window, narrowed_without,
+    shift_back_of, shift_of,
+};
+use crate::proved::intervallum::interval_set::IntervalSet;
+use crate::proved::intervallum::ops::{Bounded, IsEmpty};
+use crate::proved::intervallum::width::Width;
+use crate::proved::ivl_store::store::Constraint;
+use crate::proved::ivl_store::store::narrowed_sets::narrowed_by;
+use crate::proved::ivl_within::within::Combined;
+use crate::rattle::std::alloc::AllocError;
+
+/// Narrows by a rule: a domain that it names keeps its members that are in a point of the domains which satisfies the
+/// rule, and the others stay. Returns true exactly when some domain lost a member.
+///
+/// The caller must ensure that the rule names each of its variables once, and that each has a domain. Check with
+/// [`Rule::is_over_different`] and [`Rule::first_unknown`].
+///
+/// `AtMost` and `Differs` look at the ends of a domain and, where a member is lost, copy what is left of it.
+/// `Shifted` looks each run of one domain up in the other, and makes that anew where one is lost. `Sum` costs what
+/// [`narrowed_by`] costs, for each of its three domains. A domain that keeps its members is not written, and no
+/// rule of two variables allocates where none is lost.
+///
+/// # Errors
+///
+/// Fails only if allocation fails. The domains are then unchanged.
+///
+/// ```
+/// use intervallum::proved::examples::*;
+///
+/// fn main() -> Result<(), std::boxed::Box<dyn std::error::Error>> {
+///     let alloc = Global;
+///     // x != y, where y is 4
+///     let mut domains = Vec::from_array(alloc, [ IntervalSet::new(alloc, 0, 9)?, IntervalSet::new(alloc, 4, 4)?])?;
+///     assert!(narrow(&mut domains, &Rule::Differs { x: 0, y: 1, by: 0 })?);
+///     assert!(domains[0] == IntervalSet::from_entries(alloc, Vec::from_array(alloc, [ Interval::new(0, 3), Interval::new(5, 9)])?)?);
+///     assert!(!narrow(&mut domains, &Rule::Differs { x: 0, y: 1, by: 0 })?);
+///     Ok(())
+/// }
+/// ```
+///
+/// # Proved
+///
+/// ```text
+/// requires different { AreDifferent rule.now }
+/// requires present { AllPresent (length domains.old) (places_of rule.now) }
+/// ensures refused { OnErr result (domains.new ≡ domains.old) }
+/// ensures kept_count { OnOk result (length domains.new ≡ length domains.old) }
+/// ensures lost { IfOk result (λ b. IsTrue b ↔ LostMember (set_at domains.old) (set_at domains.new)) }
+/// ensures narrowed { OnOk result ((i : ℕ) (v : ℤ) → set_at domains.new i v ↔ NarrowedBy rule.now (set_at domains.old) i v) }
+/// ensures exact { OnOk result ((i : ℕ) → NamesOf rule.now i → (v : ℤ) → set_at domains.new i v ↔ HasPointAt rule.now (set_at domains.old) i v) }
+/// ```
+///
+/// Words: [`AreDifferent`](crate::definitions#AreDifferent), [`AllPresent`](crate::definitions#AllPresent), [`places_of`](crate::definitions#places), [`LostMember`](crate::definitions#LostMember), [`set_at`](crate::definitions#set_at), [`NarrowedBy`](crate::definitions#NarrowedBy), [`NamesOf`](crate::definitions#NamesOf), [`HasPointAt`](crate::definitions#HasPointAt).
+pub fn narrow<B: Width>(domains: &mut [IntervalSet<B>], rule: &Rule) -> Result<bool, AllocError> {
+    debug_assert!({ #[allow(unused_imports)] use crate::proved::ivl_interval::ops::*; rule.is_over_different() && rule.first_unknown(domains.len()).is_none() }, "{}", "the condition of `narrow` is broken: rule.is_over_different() && rule.first_unknown(domains.len()).is_none()");
+    let (x, y, z) = narrowed_at_places(domains, rule)?;
+    let lost = is_any(&x, &y, &z);
+    let c = rule.places();
+    put(domains, c.x, x);
+    put(domains, c.y, y);
+    put(domains, c.z, z);
+    Ok(lost)
+}
+
+/// Whether a set was made for one place at least.
+fn is_any<B: Width>(
+    x: &Option<IntervalSet<B>>,
+    y: &Option<IntervalSet<B>>,
+    z: &Option<IntervalSet<B>>,
+) -> bool {
+    x.is_some() || y.is_some() || z.is_some()
+}
+
+/// Puts what is left in place of a domain.
+fn put<B: Width>(domains: &mut [IntervalSet<B>], i: usize, left: Option<IntervalSet<B>>) {
+    if let Some(set) = left {
+        domains[i] = set;
+    }
+}
+
+/// Returns what narrowing leaves at each place of the rule, or `None` where no member is lost.
+///
+/// # Proved
+///
+/// ```text
+/// requires different { AreDifferent rule.now }
+/// requires present { AllPresent (length domains.now) (places_of rule.now) }
+/// ensures { IfOk result (λ r. AreLeftAtPlaces B.whole (places_of rule.now) (HasPointAt rule.now (set_at domains.now)) domains.now r.0 r.1 r.2) }
+/// ```
+///
+/// Words: [`AreDifferent`](crate::definitions#AreDifferent), [`AllPresent`](crate::definitions#AllPresent), [`places_of`](crate::definitions#places), [`AreLeftAtPlaces`](crate::definitions#AreLeftAtPlaces), [`HasPointAt`](crate::definitions#HasPointAt), [`set_at`](crate::definitions#set_at).
+pub fn narrowed_at_places<B: Width>(
+    domains: &[IntervalSet<B>],
+    rule: &Rule,
+) -> Result<
+    (
+        Option<IntervalSet<B>>,
+        Option<IntervalSet<B>>,
+        Option<IntervalSet<B>>,
+    ),
+    AllocError,
+> {
+    match rule {
+        Rule::Sum(c) => narrowed_by_sum(domains, c),
+        Rule::Shifted { x, y, by } => {
+            let (x, y) = narrowed_moved(&domains[*x], &domains[*y], by)?;
+            Ok((x, y, None))
+        }
+        Rule::AtMost { x, y, by } => {
+            let (x, y) = narrowed_at_most(&domains[*x], &domains[*y], by)?;
+            Ok((x, y, None))
+        }
+        Rule::Differs { x, y, by } => {
+            let (x, y) = narrowed_differing(&domains[*x], &domains[*y], by)?;
+            Ok((x, y, None))
+        }
+    }
+}
+
+/// Returns what is left of two sets where a member of the first and `by` are one of the second.
+fn narrowed_moved<B: Width>(
+    x: &IntervalSet<B>,
+    y: &IntervalSet<B>,
+    by: &i64,
+) -> Result<(Option<IntervalSet<B>>, Option<IntervalSet<B>>), AllocError> {
+    let left_of_x = narrowed_to_moved(x, y, shift_back_of(by))?;
+    let left_of_y = narrowed_to_moved(y, x, shift_of(by))?;
+    Ok((left_of_x, left_of_y))
+}
+
+/// Returns what is left of two sets where a member of the first and `by` are at most one of the
+/// second.
+fn narrowed_at_most<B: Width>(
+    x: &IntervalSet<B>,
+    y: &IntervalSet<B>,
+    by: &i64,
+) -> Result<(Option<IntervalSet<B>>, Option<IntervalSet<B>>), AllocError> {
+    let shift = shift_of(by);
+    x.in_whole();
+    y.in_whole();
+    let left_of_x = if y.is_empty() {
+        narrowed_to_none(x)
+    } else {
+        narrowed_to_window(x, at_most(y.upper(), shift))?
+    };
+    let left_of_y = if x.is_empty() {
+        narrowed_to_none(y)
+    } else {
+        narrowed_to_window(y, at_least(x.lower(), shift))?
+    };
+    Ok((left_of_x, left_of_y))
+}
+
+/// Returns what is left of two sets where a member of the first and `by` are not one of the second.
+fn narrowed_differing<B: Width>(
+    x: &IntervalSet<B>,
+    y: &IntervalSet<B>,
+    by: &i64,
+) -> Result<(Option<IntervalSet<B>>, Option<IntervalSet<B>>), AllocError> {
+    x.in_whole();
+    y.in_whole();
+    let left_of_x = if y.is_empty() {
+        narrowed_to_none(x)
+    } else {
+        narrowed_from(x, y, shift_back_of(by))?
+    };
+    let left_of_y = if x.is_empty() {
+        narrowed_to_none(y)
+    } else {
+        narrowed_from(y, x, shift_of(by))?
+    };
+    Ok((left_of_x, left_of_y))
+}
+
+/// Returns the members of `x` that are not each member of `y` and `by`, where `y` has a member.
+fn narrowed_from<B: Width>(
+    x: &IntervalSet<B>,
+    y: &IntervalSet<B>,
+    by: i128,
+) -> Result<Option<IntervalSet<B>>, AllocError> {
+    x.in_whole();
+    let number = y.lower().number();
+    if number != y.upper().number() {
+        return Ok(None);
+    }
+    narrowed_without(x, number + by)
+}
+
+/// Returns what is left at x, y and z of a sum.
+fn narrowed_by_sum<B: Width>(
+    domains: &[IntervalSet<B>],
+    c: &Constraint,
+) -> Result<
+    (
+        Option<IntervalSet<B>>,
+        Option<IntervalSet<B>>,
+        Option<IntervalSet<B>>,
+    ),
+    AllocError,
+> {
+    let (x, y, z) = (&domains[c.x], &domains[c.y], &domains[c.z]);
+    let left_of_x = narrowed_by(x, z, y, Combined::Difference)?;
+    let left_of_y = narrowed_by(y, z, x, Combined::Difference)?;
+    let left_of_z = narrowed_by(z, x, y, Combined::Sum)?;
+    Ok((left_of_x, left_of_y, left_of_z))
+}

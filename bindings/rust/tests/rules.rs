@@ -1,0 +1,115 @@
+//! Narrowing by a rule beside all points: of the domains of `i8`, at the ends of their range and of shifts too.
+use intervallum::proved::Global;
+use intervallum::proved::interval_set::{IntervalSet, ToIntervalSet};
+use intervallum::proved::ivl_rules::rules::Rule;
+use intervallum::proved::ivl_rules::rules::narrowing::narrow;
+use intervallum::proved::ivl_store::store::Constraint;
+
+// a debug build tests conditions, and takes a hundred times as long
+const ROUNDS: usize = if cfg!(debug_assertions) { 4_000 } else { 200_000 };
+
+struct Random(u64);
+
+impl Random {
+    fn below(&mut self, bound: u64) -> u64 {
+        self.0 ^= self.0 << 13;
+        self.0 ^= self.0 >> 7;
+        self.0 ^= self.0 << 17;
+        self.0 % bound
+    }
+
+    fn one_of<T: Copy>(&mut self, some: &[T]) -> T {
+        some[self.below(some.len() as u64) as usize]
+    }
+}
+
+type Numbers = Vec<i64>;
+
+/// A few numbers near one of the ends of `i8` or near 0; at times none.
+fn numbers(random: &mut Random) -> Numbers {
+    let middle = random.one_of(&[-127 + 12, 0, 0, 127 - 12]);
+    let density = random.one_of(&[0, 1, 3, 6]);
+    (middle - 12..=middle + 12).filter(|_| random.below(6) < density).collect()
+}
+
+fn set(numbers: &Numbers) -> IntervalSet<i8> {
+    let pairs: Vec<(i8, i8)> = numbers.iter().map(|&n| (n as i8, n as i8)).collect();
+    pairs.as_slice().to_interval_set(Global).unwrap()
+}
+
+/// Two different places of three.
+fn places(random: &mut Random) -> (usize, usize, usize) {
+    random.one_of(&[(0, 1, 2), (0, 2, 1), (1, 0, 2), (1, 2, 0), (2, 0, 1), (2, 1, 0)])
+}
+
+fn rule(random: &mut Random) -> Rule {
+    let (x, y, z) = places(random);
+    let near = random.below(31) as i64 - 15;
+    let by = random.one_of(&[near, near, near, 0, 230, -230, 254, -254, 300, i64::MAX, i64::MIN]);
+    match random.below(4) {
+        0 => Rule::Sum(Constraint { x, y, z }),
+        1 => Rule::Shifted { x, y, by },
+        2 => Rule::AtMost { x, y, by },
+        _ => Rule::Differs { x, y, by },
+    }
+}
+
+fn satisfies(rule: &Rule, point: &[i64; 3]) -> bool {
+    let at = |i: usize| point[i] as i128;
+    match *rule {
+        Rule::Sum(c) => at(c.x) + at(c.y) == at(c.z),
+        Rule::Shifted { x, y, by } => at(x) + by as i128 == at(y),
+        Rule::AtMost { x, y, by } => at(x) + by as i128 <= at(y),
+        Rule::Differs { x, y, by } => at(x) + by as i128 != at(y),
+    }
+}
+
+/// The members of the domain of variable `i` that are in a point of the domains which satisfies the rule.
+fn supported(rule: &Rule, domains: &[Numbers], i: usize) -> Numbers {
+    // what the rule does not name takes one number, though its domain be empty
+    let choices: Vec<Numbers> = (0..3).map(|j| if rule.names(j) { domains[j].clone() } else { vec![0] }).collect();
+    let is_in_point = |&n: &i64| {
+        choices[0].iter().any(|&a| {
+            choices[1].iter().any(|&b| choices[2].iter().any(|&c| [a, b, c][i] == n && satisfies(rule, &[a, b, c])))
+        })
+    };
+    domains[i].iter().copied().filter(is_in_point).collect()
+}
+
+#[test]
+fn narrowing_leaves_what_some_point_has() {
+    let mut random = Random(0x2545_f491_4f6c_dd1d);
+    let mut lost_by = [0; 4];
+    for _ in 0..ROUNDS {
+        let before: Vec<Numbers> = (0..3).map(|_| numbers(&mut random)).collect();
+        let rule = rule(&mut random);
+        let after: Vec<Numbers> =
+            (0..3).map(|i| if rule.names(i) { supported(&rule, &before, i) } else { before[i].clone() }).collect();
+        let mut domains: Vec<IntervalSet<i8>> = before.iter().map(set).collect();
+        let lost = narrow(&mut domains, &rule).unwrap();
+        assert_eq!(lost, after != before, "{rule:?} over {before:?}");
+        for (domain, numbers) in domains.iter().zip(&after) {
+            assert!(*domain == set(numbers), "{rule:?} over {before:?} leaves {domain}");
+        }
+        let again = narrow(&mut domains, &rule).unwrap();
+        assert!(!again, "{rule:?} over {before:?} narrows twice");
+        let kind = match rule {
+            Rule::Sum(_) => 0,
+            Rule::Shifted { .. } => 1,
+            Rule::AtMost { .. } => 2,
+            Rule::Differs { .. } => 3,
+        };
+        lost_by[kind] += usize::from(lost);
+    }
+    assert!(lost_by.iter().all(|&times| times > ROUNDS / 40), "{lost_by:?}");
+}
+
+#[test]
+fn rules_tell_their_variables() {
+    let before = Rule::AtMost { x: 4, y: 2, by: -3 };
+    assert_eq!(before.places(), Constraint { x: 4, y: 2, z: 2 });
+    assert!(before.names(4) && before.names(2) && !before.names(3));
+    assert_eq!((before.first_unknown(4), before.first_unknown(5)), (Some(4), None));
+    assert!(before.is_over_different() && !Rule::Shifted { x: 1, y: 1, by: 0 }.is_over_different());
+    assert!(!Rule::Sum(Constraint { x: 1, y: 2, z: 1 }).is_over_different());
+}

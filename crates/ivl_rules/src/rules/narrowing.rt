@@ -1,0 +1,220 @@
+//! Narrowing by one rule.
+ghost use Rattle.std.specs.Prelude.{◌≡◌, ◌↔◌, ◌≢◌, ◌<◌, ◌||◌, ℕ, ℤ, ◌+ℤ◌, IfOk, IsTrue, OnErr, OnOk, is_some, length};
+ghost use Rattle.ivl_laws.specs.Families.{set_at};
+ghost use Rattle.ivl_laws.specs.Runs.{Covers};
+ghost use Rattle.ivl_laws.specs.Sets.{HasSome};
+ghost use Rattle.ivl_store.specs.NarrowedSets.{IsLeftOf, narrowed_at};
+ghost use Rattle.ivl_store.specs.Narrowing.{AllPresent};
+ghost use Rattle.ivl_store.specs.Solutions.{AreDistinct, LostMember};
+ghost use Rattle.ivl_rules.specs.Rules.{AreDifferent, HasPointAt, NamesOf, NarrowedBy, places as places_of};
+ghost use Rattle.ivl_rules.specs.NarrowedSets.{AreLeftAtPlaces, AreLeftBy, IsAtMost, IsMoved, IsNot, IsSmall};
+ghost use Rattle.ivl_rules.specs.declared.rules.Rule.TheVariants.{Sum as SumRule};
+
+use super::Rule;
+use super::windows::{
+    at_least, at_most, narrowed_to_moved, narrowed_to_none, narrowed_to_window, narrowed_without,
+    shift_back_of, shift_of,
+};
+use intervallum::interval_set::IntervalSet;
+use intervallum::ops::{Bounded, IsEmpty};
+use intervallum::width::Width;
+use ivl_store::store::Constraint;
+use ivl_store::store::narrowed_sets::narrowed_by;
+use ivl_within::within::Combined;
+use std::alloc::AllocError;
+
+/// Narrows by a rule: a domain that it names keeps its members that are in a point of the domains which satisfies the
+/// rule, and the others stay. Returns true exactly when some domain lost a member.
+///
+/// The caller must ensure that the rule names each of its variables once, and that each has a domain. Check with
+/// [`Rule::is_over_different`] and [`Rule::first_unknown`].
+///
+/// `AtMost` and `Differs` look at the ends of a domain and, where a member is lost, copy what is left of it.
+/// `Shifted` looks each run of one domain up in the other, and makes that anew where one is lost. `Sum` costs what
+/// [`narrowed_by`] costs, for each of its three domains. A domain that keeps its members is not written, and no
+/// rule of two variables allocates where none is lost.
+///
+/// # Errors
+///
+/// Fails only if allocation fails. The domains are then unchanged.
+///
+/// ```
+/// // x != y, where y is 4
+/// let mut domains = vec![in alloc; IntervalSet::new(alloc, 0, 9)?, IntervalSet::new(alloc, 4, 4)?]?;
+/// assert!(rt; narrow(&mut domains, &Rule::Differs { x: 0, y: 1, by: 0 })?);
+/// assert!(rt; domains[0] == IntervalSet::from_entries(alloc, vec![in alloc; Interval::new(0, 3), Interval::new(5, 9)]?)?);
+/// assert!(rt; !narrow(&mut domains, &Rule::Differs { x: 0, y: 1, by: 0 })?);
+/// ```
+pub fn narrow<B: Width>(domains: &mut [IntervalSet<B>], rule: &Rule) -> Result<bool, AllocError>
+    requires different { AreDifferent rule.now }
+    requires present { AllPresent (length domains.old) (places_of rule.now) }
+    ensures refused { OnErr result (domains.new ≡ domains.old) }
+    ensures kept_count { OnOk result (length domains.new ≡ length domains.old) }
+    ensures lost { IfOk result (λ b. IsTrue b ↔ LostMember (set_at domains.old) (set_at domains.new)) }
+    ensures narrowed { OnOk result ((i : ℕ) (v : ℤ) → set_at domains.new i v ↔ NarrowedBy rule.now (set_at domains.old) i v) }
+    ensures exact { OnOk result ((i : ℕ) → NamesOf rule.now i → (v : ℤ) → set_at domains.new i v ↔ HasPointAt rule.now (set_at domains.old) i v) }
+{
+    let (x, y, z) = narrowed_at_places(domains, rule)?;
+    let lost = is_any(&x, &y, &z);
+    let c = rule.places();
+    put(domains, c.x, x);
+    put(domains, c.y, y);
+    put(domains, c.z, z);
+    Ok(lost)
+}
+
+/// Whether a set was made for one place at least.
+fn is_any<B: Width>(
+    x: &Option<IntervalSet<B>>,
+    y: &Option<IntervalSet<B>>,
+    z: &Option<IntervalSet<B>>,
+) -> bool
+    ensures { result ≡ (is_some x.now || (is_some y.now || is_some z.now)) }
+{
+    x.is_some() || y.is_some() || z.is_some()
+}
+
+/// Puts what is left in place of a domain.
+fn put<B: Width>(domains: &mut [IntervalSet<B>], i: usize, left: Option<IntervalSet<B>>)
+    requires { i < length domains.old }
+    ensures { domains.new ≡ narrowed_at domains.old i left }
+{
+    if let Some(set) = left {
+        domains[i] = set;
+    }
+}
+
+/// Returns what narrowing leaves at each place of the rule, or `None` where no member is lost.
+pub fn narrowed_at_places<B: Width>(
+    domains: &[IntervalSet<B>],
+    rule: &Rule,
+) -> Result<
+    (
+        Option<IntervalSet<B>>,
+        Option<IntervalSet<B>>,
+        Option<IntervalSet<B>>,
+    ),
+    AllocError,
+>
+    requires different { AreDifferent rule.now }
+    requires present { AllPresent (length domains.now) (places_of rule.now) }
+    ensures { IfOk result (λ r. AreLeftAtPlaces B.whole (places_of rule.now) (HasPointAt rule.now (set_at domains.now)) domains.now r.0 r.1 r.2) }
+{
+    match rule {
+        Rule::Sum(c) => narrowed_by_sum(domains, c),
+        Rule::Shifted { x, y, by } => {
+            let (x, y) = narrowed_moved(&domains[*x], &domains[*y], by)?;
+            Ok((x, y, None))
+        }
+        Rule::AtMost { x, y, by } => {
+            let (x, y) = narrowed_at_most(&domains[*x], &domains[*y], by)?;
+            Ok((x, y, None))
+        }
+        Rule::Differs { x, y, by } => {
+            let (x, y) = narrowed_differing(&domains[*x], &domains[*y], by)?;
+            Ok((x, y, None))
+        }
+    }
+}
+
+/// Returns what is left of two sets where a member of the first and `by` are one of the second.
+fn narrowed_moved<B: Width>(
+    x: &IntervalSet<B>,
+    y: &IntervalSet<B>,
+    by: &i64,
+) -> Result<(Option<IntervalSet<B>>, Option<IntervalSet<B>>), AllocError>
+    ensures { IfOk result (λ r. AreLeftBy B.whole (IsMoved by.now) x.now y.now r.0 r.1) }
+{
+    let left_of_x = narrowed_to_moved(x, y, shift_back_of(by))?;
+    let left_of_y = narrowed_to_moved(y, x, shift_of(by))?;
+    Ok((left_of_x, left_of_y))
+}
+
+/// Returns what is left of two sets where a member of the first and `by` are at most one of the
+/// second.
+fn narrowed_at_most<B: Width>(
+    x: &IntervalSet<B>,
+    y: &IntervalSet<B>,
+    by: &i64,
+) -> Result<(Option<IntervalSet<B>>, Option<IntervalSet<B>>), AllocError>
+    ensures { IfOk result (λ r. AreLeftBy B.whole (IsAtMost by.now) x.now y.now r.0 r.1) }
+{
+    let shift = shift_of(by);
+    x.in_whole();
+    y.in_whole();
+    let left_of_x = if y.is_empty() {
+        narrowed_to_none(x)
+    } else {
+        narrowed_to_window(x, at_most(y.upper(), shift))?
+    };
+    let left_of_y = if x.is_empty() {
+        narrowed_to_none(y)
+    } else {
+        narrowed_to_window(y, at_least(x.lower(), shift))?
+    };
+    Ok((left_of_x, left_of_y))
+}
+
+/// Returns what is left of two sets where a member of the first and `by` are not one of the second.
+fn narrowed_differing<B: Width>(
+    x: &IntervalSet<B>,
+    y: &IntervalSet<B>,
+    by: &i64,
+) -> Result<(Option<IntervalSet<B>>, Option<IntervalSet<B>>), AllocError>
+    ensures { IfOk result (λ r. AreLeftBy B.whole (IsNot by.now) x.now y.now r.0 r.1) }
+{
+    x.in_whole();
+    y.in_whole();
+    let left_of_x = if y.is_empty() {
+        narrowed_to_none(x)
+    } else {
+        narrowed_from(x, y, shift_back_of(by))?
+    };
+    let left_of_y = if x.is_empty() {
+        narrowed_to_none(y)
+    } else {
+        narrowed_from(y, x, shift_of(by))?
+    };
+    Ok((left_of_x, left_of_y))
+}
+
+/// Returns the members of `x` that are not each member of `y` and `by`, where `y` has a member.
+fn narrowed_from<B: Width>(
+    x: &IntervalSet<B>,
+    y: &IntervalSet<B>,
+    by: i128,
+) -> Result<Option<IntervalSet<B>>, AllocError>
+    requires filled { HasSome (Covers y.now) }
+    requires small { IsSmall by }
+    ensures { IfOk result (IsLeftOf B.whole x.now (λ v. (w : ℤ) × Covers y.now w × ((w +ℤ by) ≢ v))) }
+{
+    x.in_whole();
+    let number = y.lower().number();
+    if number != y.upper().number() {
+        return Ok(None);
+    }
+    narrowed_without(x, number + by)
+}
+
+/// Returns what is left at x, y and z of a sum.
+fn narrowed_by_sum<B: Width>(
+    domains: &[IntervalSet<B>],
+    c: &Constraint,
+) -> Result<
+    (
+        Option<IntervalSet<B>>,
+        Option<IntervalSet<B>>,
+        Option<IntervalSet<B>>,
+    ),
+    AllocError,
+>
+    requires different { AreDistinct c.now }
+    requires present { AllPresent (length domains.now) c.now }
+    ensures { IfOk result (λ r. AreLeftAtPlaces B.whole c.now (HasPointAt (SumRule c.now) (set_at domains.now)) domains.now r.0 r.1 r.2) }
+{
+    let (x, y, z) = (&domains[c.x], &domains[c.y], &domains[c.z]);
+    let left_of_x = narrowed_by(x, z, y, Combined::Difference)?;
+    let left_of_y = narrowed_by(y, z, x, Combined::Difference)?;
+    let left_of_z = narrowed_by(z, x, y, Combined::Sum)?;
+    Ok((left_of_x, left_of_y, left_of_z))
+}
