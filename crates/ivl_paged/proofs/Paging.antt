@@ -502,6 +502,18 @@ put_behind (L ∷ P) D (suc i) M h =
     let e : suc i + 1 ≡ suc (i + 1) = omega arith in
     ap (λ (n : ℕ). set (take n (L ∷ P) ++ D) (suc i) M) e ∙ ap (λ (N : List (List (ℤ × ℤ))). L ∷ N) (put_behind P D i M (omega arith))
 
+kept_there : (P D : List (List (ℤ × ℤ))) (i : ℕ) → i < length P → i < length (take (i + 1) P ++ D)
+kept_there [] D i h = absurd (omega arith)
+kept_there (L ∷ P) D zero h = omega arith
+kept_there (L ∷ P) D (suc i) h =
+    let e : suc i + 1 ≡ suc (i + 1) = omega arith in
+    let n = kept_there P D i (omega arith) in
+    subst (λ (k : ℕ). suc i < length (take k (L ∷ P) ++ D)) (sym e) (omega (arith, n))
+
+-- Q has the pages up to i, and those from j on
+pub page_there : (P Q : List (List (ℤ × ℤ))) (i j : ℕ) → i < j → j ≤ length P → Q ≡ take (i + 1) P ++ drop j P → i < length Q
+page_there P Q i j o most e = subst (λ (R : List (List (ℤ × ℤ))). i < length R) (sym e) (kept_there P (drop j P) i (omega (arith, o, most)))
+
 -- a page M in the place of those from i to before j
 pub replace_pages : (P : List (List (ℤ × ℤ))) (M : List (ℤ × ℤ)) (i j : ℕ) → i < length P →
     flattened (set (take (i + 1) P ++ drop j P) i M) ≡ flattened (take i P) ++ (M ++ flattened (drop j P))

@@ -1,6 +1,6 @@
 use Rattle.std.proofs.Common.{◌≡◌, ◌+◌, length, take}
 use Rattle.ivl_paged.specs.Pages.{flattened}
-use Rattle.ivl_paged.proofs.pages.runs_beside.Given as goal
+use Rattle.ivl_paged.proofs.page_list.runs_beside.Given as goal
 
 -- the runs of the pages so far are taken off
 abbrev pub invariant-loop-page : goal.invariant-loop-page
