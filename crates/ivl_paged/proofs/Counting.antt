@@ -51,15 +51,6 @@ length_inside P i j h =
     let c = ap (λ (Q : List (List (ℤ × ℤ))). length (flattened Q)) more in
     omega (arith, a, b, c)
 
--- a list M in the place of the pages from place i to before place j
-pub length_replaced : (P : List (List (ℤ × ℤ))) (M : List (ℤ × ℤ)) (i j : ℕ) → i ≤ j →
-    length (flattened (take i P) ++ (M ++ flattened (drop j P))) + length (flattened (take (j - i) (drop i P))) ≡ length (flattened P) + length M
-length_replaced P M i j h =
-    let a = length-append (flattened (take i P)) (M ++ flattened (drop j P)) in
-    let b = length-append M (flattened (drop j P)) in
-    let c = length_inside P i j h in
-    omega (arith, a, b, c)
-
 -- ---- a page that a list of pages lends: the runs beside it, and what the list keeps once it is M
 
 -- H are the least numbers of the pages P, which a caller sees as Q

@@ -519,10 +519,6 @@ pub replace_pages : (P : List (List (ℤ × ℤ))) (M : List (ℤ × ℤ)) (i j 
     flattened (set (take (i + 1) P ++ drop j P) i M) ≡ flattened (take i P) ++ (M ++ flattened (drop j P))
 replace_pages P M i j h = ap flattened (put_behind P (drop j P) i M h) ∙ flattened-append (take i P) (M ∷ drop j P)
 
--- no page in their place
-pub cut_pages : (P : List (List (ℤ × ℤ))) (M : List (ℤ × ℤ)) (i j : ℕ) → M ≡ [] → flattened (take i P ++ drop j P) ≡ flattened (take i P) ++ (M ++ flattened (drop j P))
-cut_pages P M i j e = flattened-append (take i P) (drop j P) ∙ ap (λ (N : List (ℤ × ℤ)). flattened (take i P) ++ (N ++ flattened (drop j P))) (sym e)
-
 -- what is left after a change that may have failed is a list of runs in the range
 pub within_after : {A E : Type 0} (whole : ℤ × ℤ) (r : Result A E) (L N : List (ℤ × ℤ)) (S : ℤ → Type 0) → IsRunListIn whole L → IsSubset S (IsBetween whole) →
     OnOk r (IsRunsOf N S) → OnErr r (N ≡ L) → IsRunListIn whole N

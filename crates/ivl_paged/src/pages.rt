@@ -14,7 +14,7 @@ use crate::page_list::PageList;
 use intervallum::interval::Interval;
 use intervallum::interval_set::IntervalSet;
 use intervallum::ops::{
-    Bounded, Cardinality, Contains, IsEmpty, ShrinkLeft, Singleton, StrictShrinkRight, Union,
+    Bounded, Cardinality, Contains, ShrinkLeft, Singleton, StrictShrinkRight, Union,
 };
 use intervallum::sweep::coalesce;
 use intervallum::width::{SizeNumber, Width};
@@ -389,6 +389,7 @@ fn join<B: Width>(pages: &mut PageList<B>, i: usize) -> Result<(), AllocError>
     ensures { flattened pages.new ≡ flattened pages.old }
 {
     let both = pages.page(i).set().union(pages.page(i + 1).set())?;
+    // for the prover: so many runs are counted, and the join makes none
     pages.interval_count();
     pages.replace(i, i + 2, Page::of(both));
     Ok(())
