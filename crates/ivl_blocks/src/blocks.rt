@@ -1,23 +1,29 @@
-//! The free blocks of a disk: the lowest room for so many, and the longest run.
-ghost use Rattle.std.specs.Prelude.{◌≡◌, ◌↔◌, ◌<◌, ℤ, ◌≤ℤ◌, pos, ◌∷◌, [], List, IfOk, IfSome, IsTrue, MatchOption, OnErr, OnOk, length};
+//! The free blocks of a disk, and what answers the lines of a session.
+ghost use Rattle.std.specs.Prelude.{◌≡◌, ◌≤ℤ◌, ◌++◌, ◌∷◌, [], ℕ, ℤ, pos, List, IfSome, IsErrOf, MatchOption, OnOk, codes, decimal, length};
+ghost use Rattle.std.specs.Io.KnownBytes.{Appends, Consumes, IsAtEnd};
 ghost use Rattle.ivl_laws.specs.Counts.{IsCountOf};
-ghost use Rattle.ivl_laws.specs.Sets.{HasNone, Intersection, IsBetween, Union, Without};
-ghost use Rattle.ivl_laws.specs.Runs.{Covers, IsRunsOf};
-ghost use Rattle.intervallum.specs.FirstFit.{FitsAt, IsFirstFit};
-ghost use Rattle.ivl_blocks.specs.Answering.{IsLongestRun};
+ghost use Rattle.ivl_laws.specs.Runs.{Covers};
+ghost use Rattle.ivl_lines.specs.Answered.{AnswersOrLoses, IsAnswered};
+ghost use Rattle.ivl_lines.specs.Commands.{no_memory};
+ghost use Rattle.ivl_lines.specs.Lines.{ended_lines_of, lines_of, with_newline};
+ghost use Rattle.ivl_lines.specs.Words.{words_between};
+ghost use Rattle.ivl_blocks.specs.Answering.{AnswersLine, IsLongestRun, ShowsFree, ShowsLongest};
 
 use intervallum::interval::Interval;
-use intervallum::interval_set::IntervalSet;
-use intervallum::ops::{Cardinality, Range};
+use intervallum::ops::Cardinality;
+use ivl_allocator::{all_free, give, take, write_run};
+use ivl_lines::{AnswersCommands, SessionFault, next_word, serve};
 use ivl_paged::PagedSet;
-use std::alloc::{AllocError, Global};
+use std::alloc::Global;
+use std::io;
+use std::io::{Read, Write};
 use std::marker::Model;
 
-/// How many blocks there are: 2^40.
-pub const COUNT: u64 = LAST + 1;
+/// The greatest number of a block; the least is 0.
+const LAST: u64 = 1_099_511_627_775;
 
-/// The greatest number of a block.
-pub const LAST: u64 = 1_099_511_627_775;
+/// How many blocks there are: 2^40.
+const COUNT: u64 = LAST + 1;
 
 /// The free blocks. A contract sees the list of their runs.
 #[derive(Drop)]
@@ -28,79 +34,111 @@ pub struct Blocks {
 impl Model for Blocks {
     ghost Value = { List (ℤ × ℤ) };
 
-    ghost view = { λ b. b.free };
+    ghost view = { λ p. p.free };
 }
 
-impl Blocks {
-    /// Returns the blocks of a disk, all of them free. Fails only if allocation fails.
-    pub fn new(alloc: Global) -> Result<Blocks, AllocError>
-        ensures { IfOk result (λ L. L ≡ (pos 0, pos 1099511627775) ∷ []) }
-    {
-        let all = IntervalSet::new(alloc, 0, LAST)?;
-        Ok(Blocks {
-            free: PagedSet::of_set(&all)?,
-        })
+impl AnswersCommands for Blocks {
+    ghost use Rattle.ivl_blocks.specs.Answering.{AnswersCommand};
+
+    ghost command_allowed = { AnswersCommand };
+
+    fn command_may_take_long(&self, _: &str) -> bool {
+        false
     }
 
-    /// Returns how many blocks are free.
-    pub fn free_count(&self) -> u64
-        ensures { IsCountOf result (Covers self.now) }
-    {
-        self.free.size()
-    }
-
-    /// Returns how many runs the free blocks have.
-    pub fn run_count(&self) -> usize
-        ensures { result ≡ length self.now }
-    {
-        self.free.interval_count()
-    }
-
-    /// Returns the lowest of the longest runs of free blocks, or `None` if no block is free. `O(n)` for
-    /// `n` runs.
-    pub fn longest(&self) -> Option<Interval<u64>>
-        ensures run { MatchOption result (self.now ≡ []) (IsLongestRun self.now) }
-        ensures filled { IfSome result (λ run. run.0 ≤ℤ run.1) }
-    {
-        let mut left = self.free.iter();
-        let mut longest = left.next()?;
-        'runs: while let Some(run) = left.next() {
-            if longest.size() < run.size() {
-                longest = run;
-            }
-        }
-        Some(longest)
-    }
-
-    /// Returns true exactly when none of the blocks is free.
-    pub fn are_taken(&self, blocks: &Interval<u64>) -> bool
-        ensures { IsTrue result ↔ HasNone (Intersection (Covers self.now) (IsBetween blocks.now)) }
-    {
-        match self.free.next_from(blocks.lower_bound()) {
-            Some(next) => blocks.upper_bound() < next,
-            None => true,
+    fn answer_command<W: Write>(
+        &mut self,
+        name: &str,
+        words: &str,
+        writer: &mut W,
+    ) -> io::Result<()> {
+        match name {
+            "take" => take(&mut self.free, COUNT, words, writer),
+            "give" => give(&mut self.free, "blocks", 0, LAST, words, writer),
+            "free" => show(&self.free, words, writer),
+            "largest" => show_longest(&self.free, words, writer),
+            _ => writer.write_all(b"error: write take COUNT, give FIRST LAST, free or largest\n"),
         }
     }
+}
 
-    /// Takes and returns the lowest `count` consecutive free blocks, or returns `None` if there are none. The caller
-    /// must ensure that `count` is above 0. Never fails for want of memory.
-    pub fn take(&mut self, count: u64) -> Option<Interval<u64>>
-        requires { 0 < count }
-        ensures { MatchOption result (((v : ℤ) → ¬ (FitsAt count (Covers self.old) v)) × (self.new ≡ self.old))
-            (λ taken. IsFirstFit count (Covers self.old) taken × IsRunsOf self.new (Without (Covers self.old) (IsBetween taken))) }
-    {
-        self.free.take_first_fit(count)
-    }
+/// Answers each line of the input; all 2^40 blocks are free at first. What is written is flushed before
+/// each read and at the end.
+///
+/// # Errors
+///
+/// `Read` if a read failed, or the reader still returned bytes after 2^64 - 1 reads; an interrupted read is repeated.
+/// `Write` if a write or a flush failed. `Memory` if there is no memory to begin: nothing is then read or written. A line
+/// that runs out of memory when it is read or carried out is answered with that, and the session continues.
+pub fn session<R: Read, W: Write>(
+    alloc: Global,
+    reader: &mut R,
+    writer: &mut W,
+) -> Result<(), SessionFault>
+    // All bytes were read, and what is written answers their lines.
+    ensures end { OnOk result (IsAtEnd (R.remaining reader.new)) }
+    ensures ok { OnOk result (IfSome (R.remaining reader.old) (λ bytes. (text : List ℕ) × (end : List (ℤ × ℤ))
+        × IsAnswered (AnswersOrLoses no_memory AnswersLine) ((pos 0, pos 1099511627775) ∷ []) (lines_of bytes) text end
+        × Appends (W.contents writer.old) (W.contents writer.new) text)) }
+    // What is written answers the ended lines of the bytes that the reader gave.
+    ensures read { IsErrOf result SessionFault.Read → (front : List ℕ) × (text : List ℕ) × (end : List (ℤ × ℤ))
+        × Consumes (R.remaining reader.old) (R.remaining reader.new) front
+        × IsAnswered (AnswersOrLoses no_memory AnswersLine) ((pos 0, pos 1099511627775) ∷ []) (ended_lines_of front) text end
+        × Appends (W.contents writer.old) (W.contents writer.new) text }
+    // There was no memory to begin.
+    ensures memory { IsErrOf result SessionFault.Memory → (reader.new ≡ reader.old) × (writer.new ≡ writer.old) }
+{
+    let free = all_free(alloc, 0, LAST)?;
+    serve(alloc, &mut Blocks { free }, reader, writer)
+}
 
-    /// Gives blocks back; blocks that are already free stay free.
-    ///
-    /// # Errors
-    ///
-    /// Fails only if allocation fails. No block is then given back.
-    pub fn give_back(&mut self, blocks: Interval<u64>) -> Result<(), AllocError>
-        ensures ok { OnOk result (IsRunsOf self.new (Union (Covers self.old) (IsBetween blocks))) }
-        ensures err { OnErr result (self.new ≡ self.old) }
-    {
-        self.free.insert_interval(blocks)
+/// Answers `free`, given the words after it: how many blocks are free, and in how many runs.
+fn show<W: Write>(free: &PagedSet<u64>, words: &str, writer: &mut W) -> io::Result<()>
+    ensures { OnOk result ((text : List ℕ)
+        × ShowsFree (words_between words.now) free.now text free.now
+        × Appends (W.contents writer.old) (W.contents writer.new) text) }
+{
+    match next_word(words) {
+        Some(_) => writer.write_all(b"error: write free\n"),
+        None => write_free(writer, free),
     }
+}
+
+/// Writes how many blocks are free, and in how many runs.
+fn write_free<W: Write>(writer: &mut W, free: &PagedSet<u64>) -> io::Result<()>
+    ensures { OnOk result ((size : ℕ) × IsCountOf size (Covers free.now)
+        × Appends (W.contents writer.old) (W.contents writer.new) (decimal size ++ (codes " free in " ++ (decimal (length free.now) ++ with_newline (codes " runs"))))) }
+{
+    let (size, runs) = (free.size(), free.interval_count());
+    writeln!(writer, "{size} free in {runs} runs")
+}
+
+/// Answers `largest`, given the words after it: the lowest of the longest runs, or `none`.
+fn show_longest<W: Write>(free: &PagedSet<u64>, words: &str, writer: &mut W) -> io::Result<()>
+    ensures { OnOk result ((text : List ℕ)
+        × ShowsLongest (words_between words.now) free.now text free.now
+        × Appends (W.contents writer.old) (W.contents writer.new) text) }
+{
+    if next_word(words).is_some() {
+        return writer.write_all(b"error: write largest\n");
+    }
+    match longest(free) {
+        Some(run) => write_run(writer, &run),
+        None => writer.write_all(b"none\n"),
+    }
+}
+
+/// Returns the lowest of the longest runs, or `None` if there is none. `O(n)` for `n` runs.
+fn longest(free: &PagedSet<u64>) -> Option<Interval<u64>>
+    ensures run { MatchOption result (free.now ≡ []) (IsLongestRun free.now) }
+    ensures filled { IfSome result (λ run. run.0 ≤ℤ run.1) }
+{
+    let mut left = free.iter();
+    let mut longest = left.next()?;
+    'runs: while let Some(run) = left.next() {
+        if longest.size() < run.size() {
+            longest = run;
+        }
+    }
+    Some(longest)
 }

@@ -11,9 +11,6 @@
 #![tactic(auto)]
 
 mod blocks;
-mod engine;
-mod replies;
-mod requests;
 
 use ivl_lines::{Program, SessionFault, run};
 use std::io::{Read, Write};
@@ -40,7 +37,7 @@ impl Program for Lines {
         reader: &mut R,
         writer: &mut W,
     ) -> Result<(), SessionFault> {
-        engine::session(rt.alloc(), reader, writer)
+        blocks::session(rt.alloc(), reader, writer)
     }
 }
 

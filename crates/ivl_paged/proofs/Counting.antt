@@ -1,5 +1,5 @@
 -- How many runs pages have: before an edit, beside the pages that it changes, and after it.
-use Rattle.std.proofs.Common.{◌≡◌, ⊎_elim, inl, inr, Bool, ℕ, ◌+◌, ◌-◌, ◌<◌, ◌≤◌, ℤ, pos, ◌+ℤ◌, ◌-ℤ◌, ◌≤ℤ◌, List, ◌∷◌, ◌++◌, length, length-append, get_or, take, drop, set, sym, ap, subst, ◌∙◌, arith}
+use Rattle.std.proofs.Common.{◌≡◌, ◌⊎◌, ⊎_elim, inl, inr, Bool, ℕ, ◌+◌, ◌-◌, ◌^◌, ◌<◌, ◌≤◌, ℤ, pos, ◌+ℤ◌, ◌-ℤ◌, ◌≤ℤ◌, List, ◌∷◌, ◌++◌, length, length-append, get_or, take, drop, set, sym, ap, subst, ◌∙◌, arith}
 use Rattle.std.specs.Prelude.{◌<ℤ◌, ◌↔◌, Err, IsOk, IsTrue, Ok, Result, false}
 use Rattle.std.proofs.lemmas.Int.{ints, by_lt_z}
 use Rattle.std.proofs.lemmas.List.{drop-drop}
@@ -11,9 +11,11 @@ use Rattle.ivl_laws.proofs.Lengths.{decide_between, decide_covers, length-starts
 use Rattle.ivl_laws.proofs.Places.{start_in}
 use Rattle.ivl_laws.proofs.Products.{one_covers}
 use Rattle.intervallum.specs.Edits.{widened}
-use Rattle.intervallum.specs.Neighbours.{IsRunWith}
 use Rattle.intervallum.proofs.FirstFit.{in_one_run}
-use Rattle.ivl_paged.specs.Pages.{flattened}
+use Rattle.intervallum.proofs.IntervalOperands.{length_but_interval}
+use Rattle.intervallum.specs.Neighbours.{IsLeast, IsRunWith}
+use Rattle.ivl_paged.specs.Pages.{AreHeads, flattened}
+use Rattle.ivl_paged.proofs.Heads.{heads_set}
 use Rattle.ivl_paged.proofs.Paging.{cut_at, flattened-append, flattened_more, set_page}
 
 -- ---- the runs of some of the pages
@@ -49,14 +51,26 @@ length_inside P i j h =
     let c = ap (λ (Q : List (List (ℤ × ℤ))). length (flattened Q)) more in
     omega (arith, a, b, c)
 
--- a list M in the place of the pages from place i to before place j
-pub length_replaced : (P : List (List (ℤ × ℤ))) (M : List (ℤ × ℤ)) (i j : ℕ) → i ≤ j →
-    length (flattened (take i P) ++ (M ++ flattened (drop j P))) + length (flattened (take (j - i) (drop i P))) ≡ length (flattened P) + length M
-length_replaced P M i j h =
-    let a = length-append (flattened (take i P)) (M ++ flattened (drop j P)) in
-    let b = length-append M (flattened (drop j P)) in
-    let c = length_inside P i j h in
-    omega (arith, a, b, c)
+-- ---- a page that a list of pages lends: the runs beside it, and what the list keeps once it is M
+
+-- H are the least numbers of the pages P, which a caller sees as Q
+module _ {X : Type 0} (value : X → ℤ) (H : List X) (P Q : List (List (ℤ × ℤ))) (L : List (ℤ × ℤ)) (i count here : ℕ)
+    (kept : AreHeads value H P × (count ≡ length (flattened P))) (same : P ≡ Q) (less : i < length Q) (is : L ≡ get_or P i L) (counted : here ≡ length L) where
+  there : i < length P
+  there = subst (λ (R : List (List (ℤ × ℤ))). i < length R) (sym same) less
+
+  pub lent_within : here ≤ count
+  lent_within = let all = length_page P L L i there is in let n = kept.1 in omega (arith, all, n, counted)
+
+  pub count_after : (M : List (ℤ × ℤ)) (after : ℕ) → after ≡ length M → count - here + after ≡ length (flattened (set P i M))
+  count_after M after e =
+      let all = length_page P L L i there is in
+      let made = length_set P M i there in
+      let n = kept.1 in
+      omega (arith, all, made, n, counted, e)
+
+  pub kept_after : (M : List (ℤ × ℤ)) (x : X) (after : ℕ) → IsLeast (value x) (Covers M) → after ≡ length M → AreHeads value (set H i x) (set P i M) × (count - here + after ≡ length (flattened (set P i M)))
+  kept_after M x after least e = (heads_set value H P i x M kept.0 least, count_after M after e)
 
 -- ---- what is left of the runs of a set
 
@@ -96,6 +110,14 @@ no_more_runs L R p m filled n r = ⊎_elim (λ last. ⊎_elim (both last) (λ fr
         let less = length-without q.0 (starts L) h in
         let same = length-starts L in
         omega (arith, short, less, same)
+
+-- R is L without the interval, which splits no run, or one run more is counted still
+pub fits_after_split : (L R : List (ℤ × ℤ)) (p : ℤ × ℤ) (count here after : ℕ) → IsMaximal L → p.0 ≤ℤ p.1 → IsRunsOf R (Without (Covers L) (IsBetween p)) → here ≡ length L → after ≡ length R → here ≤ count → count < 2 ^ 64 →
+    (count < 2 ^ 64 - 1) ⊎ (¬ (IsSubset (IsBetween (widened p)) (Covers L))) → count - here + after < 2 ^ 64
+fits_after_split L R p count here after m filled r e f within fits counted = ⊎_elim
+    (λ lt. let most = length_but_interval L R p r in omega (arith, most, lt, e, f, within))
+    (λ n. let most = no_more_runs L R p m filled n r in omega (arith, most, fits, e, f, within))
+    counted
 
 -- ---- an interval inside a run
 

@@ -20,6 +20,10 @@ module _ {X : Type 0} (value : X → ℤ) where
   heads_length (x ∷ H) [] h = absurd h
   heads_length (x ∷ H) (L ∷ P) h = let e = heads_length H P h.1 in omega (arith, e)
 
+  -- Q is the same list of pages, as a caller sees it
+  pub heads_there : (H : List X) (P Q : List (List (ℤ × ℤ))) (i : ℕ) → AreHeads value H P → P ≡ Q → i < length Q → i < length H
+  heads_there H P Q i h e less = let same = heads_length H P h in let view = ap (λ (R : List (List (ℤ × ℤ))). length R) e in omega (arith, same, view, less)
+
   pub head_at : (H : List X) (P : List (List (ℤ × ℤ))) (i : ℕ) (d : X) → AreHeads value H P → i < length P → IsLeast (value (get_or H i d)) (set_at P i)
   head_at [] [] i d h less = absurd (omega arith)
   head_at [] (L ∷ P) i d h less = absurd h

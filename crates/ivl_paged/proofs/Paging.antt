@@ -502,14 +502,22 @@ put_behind (L ∷ P) D (suc i) M h =
     let e : suc i + 1 ≡ suc (i + 1) = omega arith in
     ap (λ (n : ℕ). set (take n (L ∷ P) ++ D) (suc i) M) e ∙ ap (λ (N : List (List (ℤ × ℤ))). L ∷ N) (put_behind P D i M (omega arith))
 
+kept_there : (P D : List (List (ℤ × ℤ))) (i : ℕ) → i < length P → i < length (take (i + 1) P ++ D)
+kept_there [] D i h = absurd (omega arith)
+kept_there (L ∷ P) D zero h = omega arith
+kept_there (L ∷ P) D (suc i) h =
+    let e : suc i + 1 ≡ suc (i + 1) = omega arith in
+    let n = kept_there P D i (omega arith) in
+    subst (λ (k : ℕ). suc i < length (take k (L ∷ P) ++ D)) (sym e) (omega (arith, n))
+
+-- Q has the pages up to i, and those from j on
+pub page_there : (P Q : List (List (ℤ × ℤ))) (i j : ℕ) → i < j → j ≤ length P → Q ≡ take (i + 1) P ++ drop j P → i < length Q
+page_there P Q i j o most e = subst (λ (R : List (List (ℤ × ℤ))). i < length R) (sym e) (kept_there P (drop j P) i (omega (arith, o, most)))
+
 -- a page M in the place of those from i to before j
 pub replace_pages : (P : List (List (ℤ × ℤ))) (M : List (ℤ × ℤ)) (i j : ℕ) → i < length P →
     flattened (set (take (i + 1) P ++ drop j P) i M) ≡ flattened (take i P) ++ (M ++ flattened (drop j P))
 replace_pages P M i j h = ap flattened (put_behind P (drop j P) i M h) ∙ flattened-append (take i P) (M ∷ drop j P)
-
--- no page in their place
-pub cut_pages : (P : List (List (ℤ × ℤ))) (M : List (ℤ × ℤ)) (i j : ℕ) → M ≡ [] → flattened (take i P ++ drop j P) ≡ flattened (take i P) ++ (M ++ flattened (drop j P))
-cut_pages P M i j e = flattened-append (take i P) (drop j P) ∙ ap (λ (N : List (ℤ × ℤ)). flattened (take i P) ++ (N ++ flattened (drop j P))) (sym e)
 
 -- what is left after a change that may have failed is a list of runs in the range
 pub within_after : {A E : Type 0} (whole : ℤ × ℤ) (r : Result A E) (L N : List (ℤ × ℤ)) (S : ℤ → Type 0) → IsRunListIn whole L → IsSubset S (IsBetween whole) →

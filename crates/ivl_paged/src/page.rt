@@ -59,6 +59,14 @@ impl<B: Width> Page<B> {
         self.longest.size()
     }
 
+    /// The number of runs.
+    pub(crate) fn interval_count(&self) -> usize
+        ensures count { result ≡ length self.now }
+        ensures runs { IsMaximal self.now }
+    {
+        self.set.interval_count()
+    }
+
     /// The runs, as a set, which has a member.
     pub(crate) fn set(&self) -> &IntervalSet<B>
         ensures same { result.now ≡ self.now }

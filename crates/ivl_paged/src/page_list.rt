@@ -1,5 +1,5 @@
-//! The pages of a set, in order, beside a list of their least members.
-ghost use Rattle.std.specs.Prelude.{◌≡◌, ◌==◌, ◌↔◌, ◌+◌, ◌++◌, ◌<◌, ◌≤◌, ℤ, ◌≤ℤ◌, List, [], ◌∷◌, drop, length, set, slice_index_or, take, IfOk, IsOk, IsTrue, OnErr, OnOk};
+//! The pages of a set, in order, beside a list of their least members and the number of their runs.
+ghost use Rattle.std.specs.Prelude.{◌≡◌, ◌==◌, ◌↔◌, ◌⊎◌, ◌+◌, ◌++◌, ◌<◌, ◌≤◌, ℤ, ◌≤ℤ◌, List, [], ◌∷◌, drop, length, set, slice_index_or, take, IfOk, IsOk, IsTrue, OnErr, OnOk, false};
 ghost use Rattle.ivl_laws.specs.Families.{set_at};
 ghost use Rattle.ivl_laws.specs.Sets.{HasSome, IsBetween, IsSubset, Only, Union, Without};
 ghost use Rattle.ivl_laws.specs.Runs.{Covers, IsMaximal, IsRunsOf};
@@ -19,6 +19,8 @@ use std::marker::Model;
 pub(crate) struct PageList<B: Width> {
     heads: Vec<B>,
     pages: Vec<Page<B>>,
+    /// How many runs the pages have together.
+    count: usize,
 }
 
 impl<B: Width> Model for PageList<B> {
@@ -26,7 +28,7 @@ impl<B: Width> Model for PageList<B> {
 
     ghost view = { λ l. l.pages.items };
 
-    ghost invariant = { λ l. AreHeads B.value l.heads.items l.pages.items };
+    ghost invariant = { λ l. AreHeads B.value l.heads.items l.pages.items × (l.count ≡ length (flattened l.pages.items)) };
 }
 
 impl<B: Width> PageList<B> {
@@ -37,6 +39,7 @@ impl<B: Width> PageList<B> {
         PageList {
             heads: Vec::new(alloc),
             pages: Vec::new(alloc),
+            count: 0,
         }
     }
 
@@ -47,6 +50,7 @@ impl<B: Width> PageList<B> {
         Ok(PageList {
             heads: Vec::with_capacity(alloc, capacity)?,
             pages: Vec::with_capacity(alloc, capacity)?,
+            count: 0,
         })
     }
 
@@ -63,6 +67,13 @@ impl<B: Width> PageList<B> {
         ensures { result ≡ (length self.now == 0) }
     {
         self.pages.is_empty()
+    }
+
+    /// How many runs the pages have together.
+    pub(crate) fn interval_count(&self) -> usize
+        ensures { result ≡ length (flattened self.now) }
+    {
+        self.count
     }
 
     /// The pages.
@@ -118,32 +129,45 @@ impl<B: Width> PageList<B> {
         ensures err { OnErr result (self.new ≡ self.old) }
     {
         let head = page.head();
+        // no memory holds more runs than a `usize` counts
+        let Some(count) = self.count.checked_add(page.interval_count()) else {
+            return Err(AllocError);
+        };
         self.heads.reserve(1)?;
         self.pages.push(page)?;
         self.heads.push_reserved(head);
+        self.count = count;
         Ok(())
     }
 
-    /// Puts a page before page `i`.
-    pub(crate) fn insert(&mut self, i: usize, page: Page<B>) -> Result<(), AllocError>
-        requires { i ≤ length self.old }
-        ensures ok { OnOk result (self.new ≡ take i self.old ++ page ∷ drop i self.old) }
-        ensures err { OnErr result (self.new ≡ self.old) }
+    /// Puts two pages, which have the runs of page `i`, in its place.
+    pub(crate) fn split(&mut self, i: usize, low: Page<B>, high: Page<B>) -> Result<(), AllocError>
+        requires less { i < length self.old }
+        requires fits { length self.old < usize.MAX }
+        requires parts { low ++ high ≡ slice_index_or self.old i [] }
+        ensures { flattened self.new ≡ flattened self.old }
     {
-        let head = page.head();
+        let head = high.head();
         self.heads.reserve(1)?;
-        self.pages.insert(i, page)?;
-        self.heads.insert(i, head).unwrap();
+        self.pages.insert(i + 1, high)?;
+        self.heads.insert(i + 1, head).unwrap();
+        self.heads[i] = low.head();
+        self.pages[i] = low;
         Ok(())
     }
 
-    /// Puts a page in the place of another.
-    pub(crate) fn put(&mut self, i: usize, page: Page<B>)
-        requires { i < length self.old }
-        ensures { self.new ≡ set self.old i page }
+    /// Puts one page in the place of those from `start` to before `end`.
+    pub(crate) fn replace(&mut self, start: usize, end: usize, page: Page<B>)
+        requires in_order { start < end }
+        requires at_most { end ≤ length self.old }
+        requires fits { length (flattened (take start self.old)) + (length page + length (flattened (drop end self.old))) ≤ usize.MAX }
+        ensures { flattened self.new ≡ flattened (take start self.old) ++ (page ++ flattened (drop end self.old)) }
     {
-        self.heads[i] = page.head();
-        self.pages[i] = page;
+        self.take_out(start + 1, end);
+        let others = self.count - self.pages[start].interval_count();
+        self.count = others + page.interval_count();
+        self.heads[start] = page.head();
+        self.pages[start] = page;
     }
 
     /// Takes out page `i`.
@@ -151,6 +175,7 @@ impl<B: Width> PageList<B> {
         requires { i < length self.old }
         ensures { self.new ≡ take i self.old ++ drop (i + 1) self.old }
     {
+        self.count -= self.pages[i].interval_count();
         self.heads.remove(i);
         self.pages.remove(i);
     }
@@ -161,6 +186,7 @@ impl<B: Width> PageList<B> {
         requires at_most { end ≤ length self.old }
         ensures { self.new ≡ take start self.old ++ drop end self.old }
     {
+        self.count = runs_beside(&self.pages[start..end], self.count);
         drop(self.heads.drain(start..end));
         drop(self.pages.drain(start..end));
     }
@@ -171,6 +197,7 @@ impl<B: Width> PageList<B> {
     {
         self.heads.clear();
         self.pages.clear();
+        self.count = 0;
     }
 
     /// Adds the members of an interval to page `i`. Returns true exactly when its first number was a
@@ -182,13 +209,16 @@ impl<B: Width> PageList<B> {
     ) -> Result<bool, AllocError>
         requires filled { interval.0 ≤ℤ interval.1 }
         requires less { i < length self.old }
+        requires room { length (flattened self.old) < usize.MAX }
         ensures ok { OnOk result ((L : List (ℤ × ℤ)) × (self.new ≡ set self.old i L) × IsRunsOf L (Union (set_at self.old i) (IsBetween interval))) }
         ensures was_member { IfOk result (λ was_member. IsTrue was_member ↔ set_at self.old i interval.0) }
         ensures err { OnErr result (self.new ≡ self.old) }
     {
         let page = &mut self.pages[i];
+        let others = self.count - page.interval_count();
         let was_member = page.insert_interval(interval)?;
         self.heads[i] = page.head();
+        self.count = others + page.interval_count();
         Ok(was_member)
     }
 
@@ -207,9 +237,15 @@ impl<B: Width> PageList<B> {
         ensures err { OnErr result (self.new ≡ self.old) }
         ensures in_place { ¬ (IsSubset (IsBetween (widened interval)) (set_at self.old i)) → IsOk result }
     {
+        // no memory holds more runs than a `usize` counts
+        if is_split_uncounted(self.count, &self.pages[i], &interval) {
+            return Err(AllocError);
+        }
         let page = &mut self.pages[i];
+        let others = self.count - page.interval_count();
         let was_member = page.remove_interval(interval)?;
         self.heads[i] = page.head();
+        self.count = others + page.interval_count();
         Ok(was_member)
     }
 
@@ -221,8 +257,31 @@ impl<B: Width> PageList<B> {
         ensures rest { (L : List (ℤ × ℤ)) × (self.new ≡ set self.old i L) × IsRunsOf L (Without (set_at self.old i) (Only (B.value result))) }
     {
         let page = &mut self.pages[i];
+        let others = self.count - page.interval_count();
         let least = page.pop_first();
         self.heads[i] = page.head();
+        self.count = others + page.interval_count();
         least
     }
+}
+
+/// Whether an edit would split a run of a page, where there are as many runs as a `usize` counts.
+fn is_split_uncounted<B: Width>(count: usize, page: &Page<B>, interval: &Interval<B>) -> bool
+    requires { interval.now.0 ≤ℤ interval.now.1 }
+    ensures split { IsTrue result → IsSubset (IsBetween (widened interval.now)) (Covers page.now) }
+    ensures counted { result ≡ false → (count < usize.MAX) ⊎ (¬ (IsSubset (IsBetween (widened interval.now)) (Covers page.now))) }
+{
+    count == usize::MAX && page.has_inside(interval)
+}
+
+/// How many runs a list of pages has beside those of some of them, of `count` in all.
+fn runs_beside<B: Width>(pages: &[Page<B>], count: usize) -> usize
+    requires { length (flattened pages.now) ≤ count }
+    ensures { result + length (flattened pages.now) ≡ count }
+{
+    let mut others = count;
+    for page in pages {
+        others -= page.interval_count();
+    }
+    others
 }

@@ -47,8 +47,6 @@ use std::marker::Model;
 pub struct PagedSet<B: Width> {
     alloc: Global,
     pages: PageList<B>,
-    /// How many runs the pages have together.
-    count: usize,
 }
 
 impl<B: Width> Model for PagedSet<B> {
@@ -56,7 +54,7 @@ impl<B: Width> Model for PagedSet<B> {
 
     ghost view = { λ s. flattened s.pages };
 
-    ghost invariant = { λ s. IsRunListIn B.whole (flattened s.pages) × (s.count ≡ length (flattened s.pages)) };
+    ghost invariant = { λ s. IsRunListIn B.whole (flattened s.pages) };
 }
 
 impl<B: Width> PagedSet<B> {
@@ -71,7 +69,6 @@ impl<B: Width> PagedSet<B> {
         PagedSet {
             alloc,
             pages: PageList::new(alloc),
-            count: 0,
         }
     }
 
@@ -88,12 +85,7 @@ impl<B: Width> PagedSet<B> {
         set.in_whole();
         let alloc = set.allocator();
         let pages = pages::pages_of(alloc, set.iter().as_slice())?;
-        let count = set.interval_count();
-        Ok(PagedSet {
-            alloc,
-            pages,
-            count,
-        })
+        Ok(PagedSet { alloc, pages })
     }
 
     /// Returns true exactly when the set has no members. `O(1)`. Does not allocate.
@@ -185,7 +177,7 @@ impl<B: Width> PagedSet<B> {
         if !Interval::in_range(value, value) {
             return Ok(false);
         }
-        self.cut(Interval::singleton(value))
+        self.take_away(Interval::singleton(value))
     }
 
     /// Adds the members of an interval, which may be empty.
@@ -225,12 +217,10 @@ impl<B: Width> PagedSet<B> {
     {
         interval.in_whole();
         if self.pages.is_empty() {
-            self.count = pages::push_first(self.alloc, &mut self.pages, interval)?;
+            pages::push_first(self.alloc, &mut self.pages, interval)?;
             return Ok(false);
         }
-        let (count, was_member) = pages::insert_interval(&mut self.pages, self.count, interval)?;
-        self.count = count;
-        Ok(was_member)
+        pages::insert_interval(&mut self.pages, interval)
     }
 
     /// Removes the members of an interval, which may be empty.
@@ -260,12 +250,12 @@ impl<B: Width> PagedSet<B> {
         if interval.is_empty() {
             return Ok(());
         }
-        self.cut(interval)?;
+        self.take_away(interval)?;
         Ok(())
     }
 
     /// Removes the members of an interval. Returns true exactly when its first number was a member.
-    fn cut(&mut self, interval: Interval<B>) -> Result<bool, AllocError>
+    fn take_away(&mut self, interval: Interval<B>) -> Result<bool, AllocError>
         requires { interval.0 ≤ℤ interval.1 }
         ensures ok { OnOk result (IsRunsOf self.new (Without (Covers self.old) (IsBetween interval))) }
         ensures was_member { IfOk result (λ was_member. IsTrue was_member ↔ Covers self.old interval.0) }
@@ -275,9 +265,7 @@ impl<B: Width> PagedSet<B> {
         if self.pages.is_empty() {
             return Ok(false);
         }
-        let (count, was_member) = pages::remove_interval(&mut self.pages, self.count, interval)?;
-        self.count = count;
-        Ok(was_member)
+        pages::remove_interval(&mut self.pages, interval)
     }
 
     /// Removes and returns the least member, or returns `None` if the set is empty. Searches nothing:
@@ -301,9 +289,7 @@ impl<B: Width> PagedSet<B> {
         if self.pages.is_empty() {
             return None;
         }
-        let (count, least) = pages::pop_first(&mut self.pages, self.count);
-        self.count = count;
-        Some(least)
+        Some(pages::pop_first(&mut self.pages))
     }
 
     /// Removes and returns the greatest member, or returns `None` if the set is empty. `O(log n)`.
@@ -345,7 +331,6 @@ impl<B: Width> PagedSet<B> {
         ensures { self.new ≡ [] }
     {
         self.pages.clear();
-        self.count = 0;
     }
 
     /// Does nothing: its contract states that the runs are maximal and in the range.

@@ -9,10 +9,7 @@
 //! ```
 #![tactic(auto)]
 
-mod engine;
 mod ports;
-mod replies;
-mod requests;
 
 use ivl_lines::{Program, SessionFault, run};
 use std::io::{Read, Write};
@@ -38,7 +35,7 @@ impl Program for Lines {
         reader: &mut R,
         writer: &mut W,
     ) -> Result<(), SessionFault> {
-        engine::session(rt.alloc(), reader, writer)
+        ports::session(rt.alloc(), reader, writer)
     }
 }
 

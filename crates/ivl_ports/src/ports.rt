@@ -1,20 +1,33 @@
-//! An allocator of ports, which takes the lowest consecutive free ones.
-ghost use Rattle.std.specs.Prelude.{◌≡◌, ◌↔◌, ◌<◌, ◌≤◌, ℤ, pos, ◌∷◌, [], List, IfOk, IsTrue, MatchOption, OnErr, OnOk};
+//! The free ports, and what answers the lines of a session.
+ghost use Rattle.std.specs.Prelude.{◌≡◌, ◌++◌, ◌∷◌, [], ℕ, ℤ, pos, List, IfSome, IsErrOf, OnOk, codes, decimal};
+ghost use Rattle.std.specs.Io.KnownBytes.{Appends, Consumes, IsAtEnd};
 ghost use Rattle.ivl_laws.specs.Counts.{IsCountOf};
-ghost use Rattle.ivl_laws.specs.Sets.{HasNone, Intersection, IsBetween, Union, Without};
-ghost use Rattle.ivl_laws.specs.Runs.{Covers, IsRunsOf};
-ghost use Rattle.intervallum.specs.FirstFit.{FitsAt, IsFirstFit};
+ghost use Rattle.ivl_laws.specs.Runs.{Covers};
+ghost use Rattle.ivl_lines.specs.Answered.{AnswersOrLoses, IsAnswered};
+ghost use Rattle.ivl_lines.specs.Commands.{no_memory};
+ghost use Rattle.ivl_lines.specs.Lines.{ended_lines_of, lines_of, with_newline};
+ghost use Rattle.ivl_lines.specs.Sets.{pairs_text};
+ghost use Rattle.ivl_lines.specs.Words.{words_between};
+ghost use Rattle.ivl_ports.specs.Answering.{AnswersLine, Shows};
 
-use intervallum::interval::Interval;
-use intervallum::interval_set::IntervalSet;
-use intervallum::ops::{Cardinality, Disjoint};
-use std::alloc::{AllocError, Global};
+use ivl_allocator::{all_free, give, take};
+use ivl_lines::{AnswersCommands, SessionFault, next_word, serve};
+use ivl_paged::PagedSet;
+use std::alloc::Global;
+use std::io;
+use std::io::{Read, Write};
 use std::marker::Model;
+
+/// The lowest port.
+const FIRST: u64 = 1024;
+
+/// The highest port. `take` asks for no more ports than this.
+const LAST: u64 = 65535;
 
 /// The free ports. A contract sees the list of their runs.
 #[derive(Drop)]
 pub struct Ports {
-    free: IntervalSet<u32>,
+    free: PagedSet<u64>,
 }
 
 impl Model for Ports {
@@ -23,58 +36,77 @@ impl Model for Ports {
     ghost view = { λ p. p.free };
 }
 
-impl Ports {
-    /// Returns an allocator whose ports are all free. The caller must ensure that `lowest` is at most
-    /// `highest`. Fails only if allocation fails.
-    pub fn new(alloc: Global, lowest: u16, highest: u16) -> Result<Ports, AllocError>
-        requires { lowest ≤ highest }
-        ensures { IfOk result (λ L. L ≡ (pos lowest, pos highest) ∷ []) }
-    {
-        Ok(Ports {
-            free: IntervalSet::new(alloc, u32::from(lowest), u32::from(highest))?,
-        })
+impl AnswersCommands for Ports {
+    ghost use Rattle.ivl_ports.specs.Answering.{AnswersCommand};
+
+    ghost command_allowed = { AnswersCommand };
+
+    fn command_may_take_long(&self, _: &str) -> bool {
+        false
     }
 
-    /// Returns the free ports.
-    pub fn free(&self) -> &IntervalSet<u32>
-        ensures { result.now ≡ self.now }
-    {
-        &self.free
+    fn answer_command<W: Write>(
+        &mut self,
+        name: &str,
+        words: &str,
+        writer: &mut W,
+    ) -> io::Result<()> {
+        match name {
+            "take" => take(&mut self.free, LAST, words, writer),
+            "give" => give(&mut self.free, "ports", FIRST, LAST, words, writer),
+            "free" => show(&self.free, words, writer),
+            _ => writer.write_all(b"error: write take COUNT, give FIRST LAST or free\n"),
+        }
     }
+}
 
-    /// Returns how many ports are free.
-    pub fn free_count(&self) -> u32
-        ensures { IsCountOf result (Covers self.now) }
-    {
-        self.free.size()
-    }
+/// Answers each line of the input; the ports from 1024 to 65535 are free at first. What is written is flushed before
+/// each read and at the end.
+///
+/// # Errors
+///
+/// `Read` if a read failed, or the reader still returned bytes after 2^64 - 1 reads; an interrupted read is repeated.
+/// `Write` if a write or a flush failed. `Memory` if there is no memory to begin: nothing is then read or written. A line
+/// that runs out of memory when it is read or carried out is answered with that, and the session continues.
+pub fn session<R: Read, W: Write>(
+    alloc: Global,
+    reader: &mut R,
+    writer: &mut W,
+) -> Result<(), SessionFault>
+    // All bytes were read, and what is written answers their lines.
+    ensures end { OnOk result (IsAtEnd (R.remaining reader.new)) }
+    ensures ok { OnOk result (IfSome (R.remaining reader.old) (λ bytes. (text : List ℕ) × (end : List (ℤ × ℤ))
+        × IsAnswered (AnswersOrLoses no_memory AnswersLine) ((pos 1024, pos 65535) ∷ []) (lines_of bytes) text end
+        × Appends (W.contents writer.old) (W.contents writer.new) text)) }
+    // What is written answers the ended lines of the bytes that the reader gave.
+    ensures read { IsErrOf result SessionFault.Read → (front : List ℕ) × (text : List ℕ) × (end : List (ℤ × ℤ))
+        × Consumes (R.remaining reader.old) (R.remaining reader.new) front
+        × IsAnswered (AnswersOrLoses no_memory AnswersLine) ((pos 1024, pos 65535) ∷ []) (ended_lines_of front) text end
+        × Appends (W.contents writer.old) (W.contents writer.new) text }
+    // There was no memory to begin.
+    ensures memory { IsErrOf result SessionFault.Memory → (reader.new ≡ reader.old) × (writer.new ≡ writer.old) }
+{
+    let free = all_free(alloc, FIRST, LAST)?;
+    serve(alloc, &mut Ports { free }, reader, writer)
+}
 
-    /// Returns true exactly when none of the ports is free.
-    pub fn are_taken(&self, ports: &Interval<u32>) -> bool
-        ensures { IsTrue result ↔ HasNone (Intersection (Covers self.now) (IsBetween ports.now)) }
-    {
-        self.free.is_disjoint(ports)
+/// Answers `free`, given the words after it: how many ports are free, and their runs.
+fn show<W: Write>(free: &PagedSet<u64>, words: &str, writer: &mut W) -> io::Result<()>
+    ensures { OnOk result ((text : List ℕ)
+        × Shows (words_between words.now) free.now text free.now
+        × Appends (W.contents writer.old) (W.contents writer.new) text) }
+{
+    match next_word(words) {
+        Some(_) => writer.write_all(b"error: write free\n"),
+        None => write_free(writer, free),
     }
+}
 
-    /// Takes and returns the lowest `count` consecutive free ports, or returns `None` if there are none. The caller
-    /// must ensure that `count` is above 0. Does not allocate.
-    pub fn take(&mut self, count: u32) -> Option<Interval<u32>>
-        requires { 0 < count }
-        ensures { MatchOption result (((v : ℤ) → ¬ (FitsAt count (Covers self.old) v)) × (self.new ≡ self.old))
-            (λ taken. IsFirstFit count (Covers self.old) taken × IsRunsOf self.new (Without (Covers self.old) (IsBetween taken))) }
-    {
-        self.free.take_first_fit(count)
-    }
-
-    /// Gives ports back; ports that are already free stay free.
-    ///
-    /// # Errors
-    ///
-    /// Fails only if allocation fails. No port is then given back.
-    pub fn give_back(&mut self, ports: Interval<u32>) -> Result<(), AllocError>
-        ensures ok { OnOk result (IsRunsOf self.new (Union (Covers self.old) (IsBetween ports))) }
-        ensures err { OnErr result (self.new ≡ self.old) }
-    {
-        self.free.insert_interval(ports)
-    }
+/// Writes how many ports are free, and their runs.
+fn write_free<W: Write>(writer: &mut W, free: &PagedSet<u64>) -> io::Result<()>
+    ensures { OnOk result ((size : ℕ) × IsCountOf size (Covers free.now)
+        × Appends (W.contents writer.old) (W.contents writer.new) (decimal size ++ (codes " free: " ++ with_newline (pairs_text free.now)))) }
+{
+    free.in_whole();
+    writeln!(writer, "{} free: {free}", free.size())
 }

@@ -7,6 +7,7 @@
 // the bodies stand as they were proved
 #![allow(clippy::style, clippy::complexity)]
 
+pub mod ivl_allocator;
 pub mod ivl_blocks;
 pub mod ivl_calculator;
 pub mod ivl_calculator_lines;

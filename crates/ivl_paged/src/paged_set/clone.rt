@@ -27,7 +27,6 @@ impl<B: Width> PagedSet<B> {
         Ok(PagedSet {
             alloc: self.alloc,
             pages,
-            count: self.count,
         })
     }
 }

@@ -20,7 +20,7 @@ impl<B: Width> PagedSet<B> {
     pub fn interval_count(&self) -> usize
         ensures { result ≡ length self.now }
     {
-        self.count
+        self.pages.interval_count()
     }
 
     /// Returns the number of members. Adds up what each page has: `O(n / page)`. Never overflows.

@@ -14,9 +14,6 @@
 use crate::rattle::prelude::*;
 
 mod blocks;
-mod engine;
-mod replies;
-mod requests;
 
 use crate::proved::ivl_lines::{Program, SessionFault, run};
 use crate::rattle::std::io::{Read, Write};
@@ -43,7 +40,7 @@ impl Program for Lines {
         reader: &mut R,
         writer: &mut W,
     ) -> Result<(), SessionFault> {
-        engine::session(rt.alloc(), reader, writer)
+        blocks::session(rt.alloc(), reader, writer)
     }
 }
 

@@ -12,10 +12,7 @@
 #[allow(unused_imports)]
 use crate::rattle::prelude::*;
 
-mod engine;
 mod ports;
-mod replies;
-mod requests;
 
 use crate::proved::ivl_lines::{Program, SessionFault, run};
 use crate::rattle::std::io::{Read, Write};
@@ -41,7 +38,7 @@ impl Program for Lines {
         reader: &mut R,
         writer: &mut W,
     ) -> Result<(), SessionFault> {
-        engine::session(rt.alloc(), reader, writer)
+        ports::session(rt.alloc(), reader, writer)
     }
 }
 

@@ -37,6 +37,11 @@ impl<B: Width> Page<B> {
         self.longest.size()
     }
 
+    /// The number of runs.
+    pub(crate) fn interval_count(&self) -> usize {
+        self.set.interval_count()
+    }
+
     /// The runs, as a set, which has a member.
     pub(crate) fn set(&self) -> &IntervalSet<B> {
         &self.set

@@ -1,5 +1,5 @@
 // Written by bindings/rust/extract from crates/ivl_paged/src/page_list.rt.
-//! The pages of a set, in order, beside a list of their least members.
+//! The pages of a set, in order, beside a list of their least members and the number of their runs.
 
 #[allow(unused_imports)]
 use crate::rattle::prelude::*;
@@ -13,6 +13,8 @@ use crate::rattle::std::hint::select_unpredictable;
 pub(crate) struct PageList<B: Width> {
     heads: Vec<B>,
     pages: Vec<Page<B>>,
+    /// How many runs the pages have together.
+    count: usize,
 }
 
 impl<B: Width> PageList<B> {
@@ -21,6 +23,7 @@ impl<B: Width> PageList<B> {
         PageList {
             heads: Vec::new(alloc),
             pages: Vec::new(alloc),
+            count: 0,
         }
     }
 
@@ -29,6 +32,7 @@ impl<B: Width> PageList<B> {
         Ok(PageList {
             heads: Vec::with_capacity(alloc, capacity)?,
             pages: Vec::with_capacity(alloc, capacity)?,
+            count: 0,
         })
     }
 
@@ -40,6 +44,11 @@ impl<B: Width> PageList<B> {
     /// Returns true exactly when there is no page.
     pub(crate) fn is_empty(&self) -> bool {
         self.pages.is_empty()
+    }
+
+    /// How many runs the pages have together.
+    pub(crate) fn interval_count(&self) -> usize {
+        self.count
     }
 
     /// The pages.
@@ -81,35 +90,47 @@ impl<B: Width> PageList<B> {
     /// Puts a page behind the others.
     pub(crate) fn push(&mut self, page: Page<B>) -> Result<(), AllocError> {
         let head = page.head();
+        // no memory holds more runs than a `usize` counts
+        let Some(count) = self.count.checked_add(page.interval_count()) else {
+            return Err(AllocError);
+        };
         self.heads.reserve(1)?;
         self.pages.push(page)?;
         self.heads.push_reserved(head);
+        self.count = count;
         Ok(())
     }
 
-    /// Puts a page before page `i`.
-    pub(crate) fn insert(&mut self, i: usize, page: Page<B>) -> Result<(), AllocError> {
-        let head = page.head();
+    /// Puts two pages, which have the runs of page `i`, in its place.
+    pub(crate) fn split(&mut self, i: usize, low: Page<B>, high: Page<B>) -> Result<(), AllocError> {
+        let head = high.head();
         self.heads.reserve(1)?;
-        self.pages.insert(i, page)?;
-        self.heads.insert(i, head).unwrap();
+        self.pages.insert(i + 1, high)?;
+        self.heads.insert(i + 1, head).unwrap();
+        self.heads[i] = low.head();
+        self.pages[i] = low;
         Ok(())
     }
 
-    /// Puts a page in the place of another.
-    pub(crate) fn put(&mut self, i: usize, page: Page<B>) {
-        self.heads[i] = page.head();
-        self.pages[i] = page;
+    /// Puts one page in the place of those from `start` to before `end`.
+    pub(crate) fn replace(&mut self, start: usize, end: usize, page: Page<B>) {
+        self.take_out(start + 1, end);
+        let others = self.count - self.pages[start].interval_count();
+        self.count = others + page.interval_count();
+        self.heads[start] = page.head();
+        self.pages[start] = page;
     }
 
     /// Takes out page `i`.
     pub(crate) fn remove(&mut self, i: usize) {
+        self.count -= self.pages[i].interval_count();
         self.heads.remove(i);
         self.pages.remove(i);
     }
 
     /// Takes out the pages from `start` to before `end`.
     pub(crate) fn take_out(&mut self, start: usize, end: usize) {
+        self.count = runs_beside(&self.pages[start..end], self.count);
         drop(self.heads.drain(start..end));
         drop(self.pages.drain(start..end));
     }
@@ -118,6 +139,7 @@ impl<B: Width> PageList<B> {
     pub(crate) fn clear(&mut self) {
         self.heads.clear();
         self.pages.clear();
+        self.count = 0;
     }
 
     /// Adds the members of an interval to page `i`. Returns true exactly when its first number was a
@@ -128,8 +150,10 @@ impl<B: Width> PageList<B> {
         interval: Interval<B>,
     ) -> Result<bool, AllocError> {
         let page = &mut self.pages[i];
+        let others = self.count - page.interval_count();
         let was_member = page.insert_interval(interval)?;
         self.heads[i] = page.head();
+        self.count = others + page.interval_count();
         Ok(was_member)
     }
 
@@ -140,17 +164,39 @@ impl<B: Width> PageList<B> {
         i: usize,
         interval: Interval<B>,
     ) -> Result<bool, AllocError> {
+        // no memory holds more runs than a `usize` counts
+        if is_split_uncounted(self.count, &self.pages[i], &interval) {
+            return Err(AllocError);
+        }
         let page = &mut self.pages[i];
+        let others = self.count - page.interval_count();
         let was_member = page.remove_interval(interval)?;
         self.heads[i] = page.head();
+        self.count = others + page.interval_count();
         Ok(was_member)
     }
 
     /// Removes and returns the least member of page `i`, which has another.
     pub(crate) fn pop_from(&mut self, i: usize) -> B {
         let page = &mut self.pages[i];
+        let others = self.count - page.interval_count();
         let least = page.pop_first();
         self.heads[i] = page.head();
+        self.count = others + page.interval_count();
         least
     }
+}
+
+/// Whether an edit would split a run of a page, where there are as many runs as a `usize` counts.
+fn is_split_uncounted<B: Width>(count: usize, page: &Page<B>, interval: &Interval<B>) -> bool {
+    count == usize::MAX && page.has_inside(interval)
+}
+
+/// How many runs a list of pages has beside those of some of them, of `count` in all.
+fn runs_beside<B: Width>(pages: &[Page<B>], count: usize) -> usize {
+    let mut others = count;
+    for page in pages {
+        others -= page.interval_count();
+    }
+    others
 }

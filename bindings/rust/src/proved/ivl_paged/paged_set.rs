@@ -50,8 +50,6 @@ use crate::rattle::std::alloc::{AllocError, Global};
 pub struct PagedSet<B: Width> {
     alloc: Global,
     pages: PageList<B>,
-    /// How many runs the pages have together.
-    count: usize,
 }
 
 impl<B: Width> PagedSet<B> {
@@ -76,7 +74,6 @@ impl<B: Width> PagedSet<B> {
         PagedSet {
             alloc,
             pages: PageList::new(alloc),
-            count: 0,
         }
     }
 
@@ -103,12 +100,7 @@ impl<B: Width> PagedSet<B> {
         set.in_whole();
         let alloc = set.allocator();
         let pages = pages::pages_of(alloc, set.iter().as_slice())?;
-        let count = set.interval_count();
-        Ok(PagedSet {
-            alloc,
-            pages,
-            count,
-        })
+        Ok(PagedSet { alloc, pages })
     }
 
     /// Returns true exactly when the set has no members. `O(1)`. Does not allocate.
@@ -248,7 +240,7 @@ impl<B: Width> PagedSet<B> {
         if !Interval::in_range(value, value) {
             return Ok(false);
         }
-        self.cut(Interval::singleton(value))
+        self.take_away(Interval::singleton(value))
     }
 
     /// Adds the members of an interval, which may be empty.
@@ -295,12 +287,10 @@ impl<B: Width> PagedSet<B> {
     fn add(&mut self, interval: Interval<B>) -> Result<bool, AllocError> {
         interval.in_whole();
         if self.pages.is_empty() {
-            self.count = pages::push_first(self.alloc, &mut self.pages, interval)?;
+            pages::push_first(self.alloc, &mut self.pages, interval)?;
             return Ok(false);
         }
-        let (count, was_member) = pages::insert_interval(&mut self.pages, self.count, interval)?;
-        self.count = count;
-        Ok(was_member)
+        pages::insert_interval(&mut self.pages, interval)
     }
 
     /// Removes the members of an interval, which may be empty.
@@ -341,18 +331,16 @@ impl<B: Width> PagedSet<B> {
         if interval.is_empty() {
             return Ok(());
         }
-        self.cut(interval)?;
+        self.take_away(interval)?;
         Ok(())
     }
 
     /// Removes the members of an interval. Returns true exactly when its first number was a member.
-    fn cut(&mut self, interval: Interval<B>) -> Result<bool, AllocError> {
+    fn take_away(&mut self, interval: Interval<B>) -> Result<bool, AllocError> {
         if self.pages.is_empty() {
             return Ok(false);
         }
-        let (count, was_member) = pages::remove_interval(&mut self.pages, self.count, interval)?;
-        self.count = count;
-        Ok(was_member)
+        pages::remove_interval(&mut self.pages, interval)
     }
 
     /// Removes and returns the least member, or returns `None` if the set is empty. Searches nothing:
@@ -388,9 +376,7 @@ impl<B: Width> PagedSet<B> {
         if self.pages.is_empty() {
             return None;
         }
-        let (count, least) = pages::pop_first(&mut self.pages, self.count);
-        self.count = count;
-        Some(least)
+        Some(pages::pop_first(&mut self.pages))
     }
 
     /// Removes and returns the greatest member, or returns `None` if the set is empty. `O(log n)`.
@@ -454,7 +440,6 @@ impl<B: Width> PagedSet<B> {
     /// ```
     pub fn clear(&mut self) {
         self.pages.clear();
-        self.count = 0;
     }
 
     /// Does nothing: its contract states that the runs are maximal and in the range.

@@ -8,7 +8,7 @@ use crate::proved::ivl_paged::page_list::PageList;
 use crate::proved::intervallum::interval::Interval;
 use crate::proved::intervallum::interval_set::IntervalSet;
 use crate::proved::intervallum::ops::{
-    Bounded, Cardinality, Contains, IsEmpty, ShrinkLeft, Singleton, StrictShrinkRight, Union,
+    Bounded, Cardinality, Contains, ShrinkLeft, Singleton, StrictShrinkRight, Union,
 };
 use crate::proved::intervallum::sweep::coalesce;
 use crate::proved::intervallum::width::{SizeNumber, Width};
@@ -60,15 +60,6 @@ pub(crate) fn size_of<B: Width>(pages: &[Page<B>]) -> B::Output {
         count = count.add_in_range(page.set().size());
     }
     count
-}
-
-/// How many runs a list of pages has beside those of some of them, of `count` in all.
-fn runs_beside<B: Width>(pages: &[Page<B>], count: usize) -> usize {
-    let mut others = count;
-    for page in pages {
-        others -= page.set().interval_count();
-    }
-    others
 }
 
 /// The least member that is at least `v` in the first `count` pages, which are those that start at
@@ -132,159 +123,114 @@ fn one_above<B: Width>(value: B) -> B {
     }
 }
 
-/// Puts an interval into the first page of a list that has none. Returns how many runs there are.
+/// Puts an interval into the first page of a list that has none.
 pub(crate) fn push_first<B: Width>(
     alloc: Global,
     pages: &mut PageList<B>,
     interval: Interval<B>,
-) -> Result<usize, AllocError> {
+) -> Result<(), AllocError> {
     let first = IntervalSet::of(alloc, interval)?;
-    let count = first.interval_count();
-    pages.push(Page::of(first))?;
-    Ok(count)
+    pages.push(Page::of(first))
 }
 
-/// Adds the members of an interval to pages of which there is one at least, with `count` runs.
-/// Returns how many runs there are then, and whether the first number of the interval was a member.
+/// Adds the members of an interval to pages of which there is one at least. Returns true exactly when
+/// its first number was a member.
 pub(crate) fn insert_interval<B: Width>(
     pages: &mut PageList<B>,
-    count: usize,
     interval: Interval<B>,
-) -> Result<(usize, bool), AllocError> {
+) -> Result<bool, AllocError> {
     // no memory holds more runs than a `usize` counts
-    if count == usize::MAX {
+    if pages.interval_count() == usize::MAX {
         return Err(AllocError);
     }
     interval.in_whole();
     let upper = one_above(interval.upper());
     let (start, end) = span(pages, interval.lower(), upper);
-    let edit = insert_between(pages, count, start, end, interval)?;
+    let was_member = insert_between(pages, start, end, interval)?;
     balance(pages, start);
-    Ok(edit)
+    Ok(was_member)
 }
 
-/// Adds the members of an interval to the pages from `start` to before `end`, where there are
-/// `count` runs in all. Returns what [`insert_interval`] does.
+/// Adds the members of an interval to the pages from `start` to before `end`. Returns true exactly when
+/// its first number was a member of the first of them.
 fn insert_between<B: Width>(
     pages: &mut PageList<B>,
-    count: usize,
     start: usize,
     end: usize,
     interval: Interval<B>,
-) -> Result<(usize, bool), AllocError> {
+) -> Result<bool, AllocError> {
     if end - start == 1 {
-        return insert_into_one(pages, count, start, interval);
+        return pages.insert_into(start, interval);
     }
-    let others = runs_beside(&pages.as_slice()[start..end], count);
     let was_member = pages.page(start).set().contains(&interval.lower());
     let mut joined = pages.page(start).set().union(pages.page(end - 1).set())?;
     joined.insert_interval(interval)?;
-    let here = joined.interval_count();
-    replace(pages, start, end, joined);
-    Ok((others + here, was_member))
+    pages.replace(start, end, Page::of(joined));
+    Ok(was_member)
 }
 
-/// Adds the members of an interval to page `i`, where there are `count` runs in all. Returns how many
-/// there are then, and whether the first number of the interval was a member of the page.
-fn insert_into_one<B: Width>(
-    pages: &mut PageList<B>,
-    count: usize,
-    i: usize,
-    interval: Interval<B>,
-) -> Result<(usize, bool), AllocError> {
-    let others = count - pages.page(i).set().interval_count();
-    let was_member = pages.insert_into(i, interval)?;
-    Ok((others + pages.page(i).set().interval_count(), was_member))
-}
-
-/// Removes the members of an interval from pages of which there is one at least, with `count` runs.
-/// Returns how many runs there are then, and whether the first number of the interval was a member.
+/// Removes the members of an interval from pages of which there is one at least. Returns true exactly
+/// when its first number was a member.
 pub(crate) fn remove_interval<B: Width>(
     pages: &mut PageList<B>,
-    count: usize,
     interval: Interval<B>,
-) -> Result<(usize, bool), AllocError> {
+) -> Result<bool, AllocError> {
     let (start, end) = span(pages, interval.lower(), interval.upper());
-    let edit = remove_between(pages, count, start, end, interval)?;
+    let was_member = remove_between(pages, start, end, interval)?;
     balance(pages, start);
-    Ok(edit)
+    Ok(was_member)
 }
 
-/// Removes the members of an interval from the pages from `start` to before `end`, where there are
-/// `count` runs in all. Of several, the first and the last are cut, and those between removed:
-/// nothing is allocated. Returns what [`remove_interval`] does.
+/// Removes the members of an interval from the pages from `start` to before `end`. Of several, the
+/// first and the last are cut, and those between removed: nothing is allocated. Returns true exactly
+/// when its first number was a member of the first of them.
 fn remove_between<B: Width>(
     pages: &mut PageList<B>,
-    count: usize,
     start: usize,
     end: usize,
     interval: Interval<B>,
-) -> Result<(usize, bool), AllocError> {
+) -> Result<bool, AllocError> {
     if end - start == 1 {
-        return remove_from_one(pages, count, start, interval);
+        return remove_from_one(pages, start, interval);
     }
-    let was_member = pages.page(start).set().contains(&interval.lower());
-    let (count, _) = remove_from_one(pages, count, end - 1, interval).unwrap();
-    let count = runs_beside(&pages.as_slice()[start + 1..end - 1], count);
+    remove_from_one(pages, end - 1, interval).unwrap();
     pages.take_out(start + 1, end - 1);
-    let (count, _) = remove_from_one(pages, count, start, interval).unwrap();
-    Ok((count, was_member))
+    let was_member = remove_from_one(pages, start, interval).unwrap();
+    Ok(was_member)
 }
 
-/// Removes the members of an interval from page `i`, and the page if it has no others, where there
-/// are `count` runs in all. Returns how many runs there are then, and whether the first number of the
-/// interval was a member of the page.
+/// Removes the members of an interval from page `i`, and the page if it has no others. Returns true
+/// exactly when its first number was a member of the page.
 fn remove_from_one<B: Width>(
     pages: &mut PageList<B>,
-    count: usize,
     i: usize,
     interval: Interval<B>,
-) -> Result<(usize, bool), AllocError> {
+) -> Result<bool, AllocError> {
     let page = pages.page(i);
-    let others = count - page.set().interval_count();
     if page.lies_within(&interval) {
         let was_member = page.set().contains(&interval.lower());
         pages.remove(i);
-        return Ok((others, was_member));
+        return Ok(was_member);
     }
-    // no memory holds more runs than a `usize` counts
-    if count == usize::MAX && page.has_inside(&interval) {
-        return Err(AllocError);
-    }
-    let was_member = pages.remove_from(i, interval)?;
-    Ok((others + pages.page(i).set().interval_count(), was_member))
+    pages.remove_from(i, interval)
 }
 
-/// Removes the least member from pages of which there is one at least, with `count` runs. Returns how
-/// many runs there are then, and that member.
-pub(crate) fn pop_first<B: Width>(pages: &mut PageList<B>, count: usize) -> (usize, B) {
-    let (count, least) = pop_from_first(pages, count);
+/// Removes and returns the least member of pages of which there is one at least.
+pub(crate) fn pop_first<B: Width>(pages: &mut PageList<B>) -> B {
+    let least = pop_from_first(pages);
     balance(pages, 0);
-    (count, least)
+    least
 }
 
-/// Removes the least member from the first page, and the page if it has no others, where there are
-/// `count` runs in all. Returns how many runs there are then, and that member.
-fn pop_from_first<B: Width>(pages: &mut PageList<B>, count: usize) -> (usize, B) {
+/// Removes and returns the least member of the first page, which goes if it has no others.
+fn pop_from_first<B: Width>(pages: &mut PageList<B>) -> B {
     let page = pages.page(0);
-    let others = count - page.set().interval_count();
     let least = page.head();
     if page.lies_within(&Interval::singleton(least)) {
         pages.remove(0);
-        return (others, least);
+        return least;
     }
-    let least = pages.pop_from(0);
-    (others + pages.page(0).set().interval_count(), least)
-}
-
-/// Puts one page, or none if the set is empty, in the place of those from `start` to before `end`.
-fn replace<B: Width>(pages: &mut PageList<B>, start: usize, end: usize, set: IntervalSet<B>) {
-    if set.is_empty() {
-        pages.take_out(start, end);
-    } else {
-        pages.take_out(start + 1, end);
-        pages.put(start, Page::of(set));
-    }
+    pages.pop_from(0)
 }
 
 /// Splits page `i` if there is one and it is full, or joins it with a neighbour if both have few
@@ -293,7 +239,7 @@ fn balance<B: Width>(pages: &mut PageList<B>, i: usize) {
     if pages.len() <= i {
         return;
     }
-    let count = pages.page(i).set().interval_count();
+    let count = pages.page(i).interval_count();
     if count >= MOST_RUNS {
         // without memory the page grows beyond its measure
         let _split = split(pages, i);
@@ -315,8 +261,8 @@ fn join_if_few<B: Width>(pages: &mut PageList<B>, i: usize) {
     if pages.len() < 2 || pages.len() - 2 < i {
         return;
     }
-    let here = pages.page(i).set().interval_count();
-    let next = pages.page(i + 1).set().interval_count();
+    let here = pages.page(i).interval_count();
+    let next = pages.page(i + 1).interval_count();
     if here.saturating_add(next) <= FIRST_RUNS {
         // without memory both pages stay
         let _joined = join(pages, i);
@@ -326,16 +272,16 @@ fn join_if_few<B: Width>(pages: &mut PageList<B>, i: usize) {
 /// Puts the runs of page `i` and of the one after it in one page.
 fn join<B: Width>(pages: &mut PageList<B>, i: usize) -> Result<(), AllocError> {
     let both = pages.page(i).set().union(pages.page(i + 1).set())?;
-    replace(pages, i, i + 2, both);
+    // for the prover: so many runs are counted, and the join makes none
+    pages.interval_count();
+    pages.replace(i, i + 2, Page::of(both));
     Ok(())
 }
 
 /// Splits page `i`, which has two runs at least, in the middle.
 fn split<B: Width>(pages: &mut PageList<B>, i: usize) -> Result<(), AllocError> {
     let (low, high) = halves(pages.page(i).set())?;
-    pages.insert(i + 1, high)?;
-    pages.put(i, low);
-    Ok(())
+    pages.split(i, low, high)
 }
 
 /// The pages of the first and of the second half of the runs of a set, which has two at least.

@@ -1,77 +1,99 @@
 // Written by bindings/rust/extract from crates/ivl_blocks/src/blocks.rt.
-//! The free blocks of a disk: the lowest room for so many, and the longest run.
+//! The free blocks of a disk, and what answers the lines of a session.
 
 #[allow(unused_imports)]
 use crate::rattle::prelude::*;
 use crate::proved::intervallum::interval::Interval;
-use crate::proved::intervallum::interval_set::IntervalSet;
-use crate::proved::intervallum::ops::{Cardinality, Range};
+use crate::proved::intervallum::ops::Cardinality;
+use crate::proved::ivl_allocator::{all_free, give, take, write_run};
+use crate::proved::ivl_lines::{AnswersCommands, SessionFault, next_word, serve};
 use crate::proved::ivl_paged::PagedSet;
-use crate::rattle::std::alloc::{AllocError, Global};
+use crate::rattle::std::alloc::Global;
+use crate::rattle::std::io;
+use crate::rattle::std::io::{Read, Write};
+
+/// The greatest number of a block; the least is 0.
+const LAST: u64 = 1_099_511_627_775;
 
 /// How many blocks there are: 2^40.
-pub const COUNT: u64 = LAST + 1;
-
-/// The greatest number of a block.
-pub const LAST: u64 = 1_099_511_627_775;
+const COUNT: u64 = LAST + 1;
 
 /// The free blocks. A contract sees the list of their runs.
 pub struct Blocks {
     free: PagedSet<u64>,
 }
 
-impl Blocks {
-    /// Returns the blocks of a disk, all of them free. Fails only if allocation fails.
-    pub fn new(alloc: Global) -> Result<Blocks, AllocError> {
-        let all = IntervalSet::new(alloc, 0, LAST)?;
-        Ok(Blocks {
-            free: PagedSet::of_set(&all)?,
-        })
+impl AnswersCommands for Blocks {
+    fn command_may_take_long(&self, _: &str) -> bool {
+        false
     }
 
-    /// Returns how many blocks are free.
-    pub fn free_count(&self) -> u64 {
-        self.free.size()
-    }
-
-    /// Returns how many runs the free blocks have.
-    pub fn run_count(&self) -> usize {
-        self.free.interval_count()
-    }
-
-    /// Returns the lowest of the longest runs of free blocks, or `None` if no block is free. `O(n)` for
-    /// `n` runs.
-    pub fn longest(&self) -> Option<Interval<u64>> {
-        let mut left = self.free.iter();
-        let mut longest = left.next()?;
-        'runs: while let Some(run) = left.next() {
-            if longest.size() < run.size() {
-                longest = run;
-            }
-        }
-        Some(longest)
-    }
-
-    /// Returns true exactly when none of the blocks is free.
-    pub fn are_taken(&self, blocks: &Interval<u64>) -> bool {
-        match self.free.next_from(blocks.lower_bound()) {
-            Some(next) => blocks.upper_bound() < next,
-            None => true,
+    fn answer_command<W: Write>(
+        &mut self,
+        name: &str,
+        words: &str,
+        writer: &mut W,
+    ) -> io::Result<()> {
+        match name {
+            "take" => take(&mut self.free, COUNT, words, writer),
+            "give" => give(&mut self.free, "blocks", 0, LAST, words, writer),
+            "free" => show(&self.free, words, writer),
+            "largest" => show_longest(&self.free, words, writer),
+            _ => writer.write_all(b"error: write take COUNT, give FIRST LAST, free or largest\n"),
         }
     }
+}
 
-    /// Takes and returns the lowest `count` consecutive free blocks, or returns `None` if there are none. The caller
-    /// must ensure that `count` is above 0. Never fails for want of memory.
-    pub fn take(&mut self, count: u64) -> Option<Interval<u64>> {
-        self.free.take_first_fit(count)
-    }
+/// Answers each line of the input; all 2^40 blocks are free at first. What is written is flushed before
+/// each read and at the end.
+///
+/// # Errors
+///
+/// `Read` if a read failed, or the reader still returned bytes after 2^64 - 1 reads; an interrupted read is repeated.
+/// `Write` if a write or a flush failed. `Memory` if there is no memory to begin: nothing is then read or written. A line
+/// that runs out of memory when it is read or carried out is answered with that, and the session continues.
+pub fn session<R: Read, W: Write>(
+    alloc: Global,
+    reader: &mut R,
+    writer: &mut W,
+) -> Result<(), SessionFault> {
+    let free = all_free(alloc, 0, LAST)?;
+    serve(alloc, &mut Blocks { free }, reader, writer)
+}
 
-    /// Gives blocks back; blocks that are already free stay free.
-    ///
-    /// # Errors
-    ///
-    /// Fails only if allocation fails. No block is then given back.
-    pub fn give_back(&mut self, blocks: Interval<u64>) -> Result<(), AllocError> {
-        self.free.insert_interval(blocks)
+/// Answers `free`, given the words after it: how many blocks are free, and in how many runs.
+fn show<W: Write>(free: &PagedSet<u64>, words: &str, writer: &mut W) -> io::Result<()> {
+    match next_word(words) {
+        Some(_) => writer.write_all(b"error: write free\n"),
+        None => write_free(writer, free),
     }
+}
+
+/// Writes how many blocks are free, and in how many runs.
+fn write_free<W: Write>(writer: &mut W, free: &PagedSet<u64>) -> io::Result<()> {
+    let (size, runs) = (free.size(), free.interval_count());
+    writeln!(writer, "{size} free in {runs} runs")
+}
+
+/// Answers `largest`, given the words after it: the lowest of the longest runs, or `none`.
+fn show_longest<W: Write>(free: &PagedSet<u64>, words: &str, writer: &mut W) -> io::Result<()> {
+    if next_word(words).is_some() {
+        return writer.write_all(b"error: write largest\n");
+    }
+    match longest(free) {
+        Some(run) => write_run(writer, &run),
+        None => writer.write_all(b"none\n"),
+    }
+}
+
+/// Returns the lowest of the longest runs, or `None` if there is none. `O(n)` for `n` runs.
+fn longest(free: &PagedSet<u64>) -> Option<Interval<u64>> {
+    let mut left = free.iter();
+    let mut longest = left.next()?;
+    'runs: while let Some(run) = left.next() {
+        if longest.size() < run.size() {
+            longest = run;
+        }
+    }
+    Some(longest)
 }

@@ -1,54 +1,73 @@
 // Written by bindings/rust/extract from crates/ivl_ports/src/ports.rt.
-//! An allocator of ports, which takes the lowest consecutive free ones.
+//! The free ports, and what answers the lines of a session.
 
 #[allow(unused_imports)]
 use crate::rattle::prelude::*;
-use crate::proved::intervallum::interval::Interval;
-use crate::proved::intervallum::interval_set::IntervalSet;
-use crate::proved::intervallum::ops::{Cardinality, Disjoint};
-use crate::rattle::std::alloc::{AllocError, Global};
+use crate::proved::ivl_allocator::{all_free, give, take};
+use crate::proved::ivl_lines::{AnswersCommands, SessionFault, next_word, serve};
+use crate::proved::ivl_paged::PagedSet;
+use crate::rattle::std::alloc::Global;
+use crate::rattle::std::io;
+use crate::rattle::std::io::{Read, Write};
+
+/// The lowest port.
+const FIRST: u64 = 1024;
+
+/// The highest port. `take` asks for no more ports than this.
+const LAST: u64 = 65535;
 
 /// The free ports. A contract sees the list of their runs.
 pub struct Ports {
-    free: IntervalSet<u32>,
+    free: PagedSet<u64>,
 }
 
-impl Ports {
-    /// Returns an allocator whose ports are all free. The caller must ensure that `lowest` is at most
-    /// `highest`. Fails only if allocation fails.
-    pub fn new(alloc: Global, lowest: u16, highest: u16) -> Result<Ports, AllocError> {
-        Ok(Ports {
-            free: IntervalSet::new(alloc, u32::from(lowest), u32::from(highest))?,
-        })
+impl AnswersCommands for Ports {
+    fn command_may_take_long(&self, _: &str) -> bool {
+        false
     }
 
-    /// Returns the free ports.
-    pub fn free(&self) -> &IntervalSet<u32> {
-        &self.free
+    fn answer_command<W: Write>(
+        &mut self,
+        name: &str,
+        words: &str,
+        writer: &mut W,
+    ) -> io::Result<()> {
+        match name {
+            "take" => take(&mut self.free, LAST, words, writer),
+            "give" => give(&mut self.free, "ports", FIRST, LAST, words, writer),
+            "free" => show(&self.free, words, writer),
+            _ => writer.write_all(b"error: write take COUNT, give FIRST LAST or free\n"),
+        }
     }
+}
 
-    /// Returns how many ports are free.
-    pub fn free_count(&self) -> u32 {
-        self.free.size()
-    }
+/// Answers each line of the input; the ports from 1024 to 65535 are free at first. What is written is flushed before
+/// each read and at the end.
+///
+/// # Errors
+///
+/// `Read` if a read failed, or the reader still returned bytes after 2^64 - 1 reads; an interrupted read is repeated.
+/// `Write` if a write or a flush failed. `Memory` if there is no memory to begin: nothing is then read or written. A line
+/// that runs out of memory when it is read or carried out is answered with that, and the session continues.
+pub fn session<R: Read, W: Write>(
+    alloc: Global,
+    reader: &mut R,
+    writer: &mut W,
+) -> Result<(), SessionFault> {
+    let free = all_free(alloc, FIRST, LAST)?;
+    serve(alloc, &mut Ports { free }, reader, writer)
+}
 
-    /// Returns true exactly when none of the ports is free.
-    pub fn are_taken(&self, ports: &Interval<u32>) -> bool {
-        self.free.is_disjoint(ports)
+/// Answers `free`, given the words after it: how many ports are free, and their runs.
+fn show<W: Write>(free: &PagedSet<u64>, words: &str, writer: &mut W) -> io::Result<()> {
+    match next_word(words) {
+        Some(_) => writer.write_all(b"error: write free\n"),
+        None => write_free(writer, free),
     }
+}
 
-    /// Takes and returns the lowest `count` consecutive free ports, or returns `None` if there are none. The caller
-    /// must ensure that `count` is above 0. Does not allocate.
-    pub fn take(&mut self, count: u32) -> Option<Interval<u32>> {
-        self.free.take_first_fit(count)
-    }
-
-    /// Gives ports back; ports that are already free stay free.
-    ///
-    /// # Errors
-    ///
-    /// Fails only if allocation fails. No port is then given back.
-    pub fn give_back(&mut self, ports: Interval<u32>) -> Result<(), AllocError> {
-        self.free.insert_interval(ports)
-    }
+/// Writes how many ports are free, and their runs.
+fn write_free<W: Write>(writer: &mut W, free: &PagedSet<u64>) -> io::Result<()> {
+    free.in_whole();
+    writeln!(writer, "{} free: {free}", free.size())
 }

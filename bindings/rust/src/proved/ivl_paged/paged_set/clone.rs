@@ -39,7 +39,6 @@ impl<B: Width> PagedSet<B> {
         Ok(PagedSet {
             alloc: self.alloc,
             pages,
-            count: self.count,
         })
     }
 }

@@ -29,7 +29,7 @@ impl<B: Width> PagedSet<B> {
     /// ensures { result ≡ length self.now }
     /// ```
     pub fn interval_count(&self) -> usize {
-        self.count
+        self.pages.interval_count()
     }
 
     /// Returns the number of members. Adds up what each page has: `O(n / page)`. Never overflows.

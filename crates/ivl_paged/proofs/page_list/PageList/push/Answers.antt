@@ -1,7 +1,13 @@
+use Rattle.std.proofs.Common.{◌∙◌, ◌∷◌, [], ap, arith, length, length-append}
+use Rattle.ivl_paged.specs.Pages.{flattened}
 use Rattle.ivl_paged.proofs.Heads.{heads_push}
+use Rattle.ivl_paged.proofs.Paging.{flattened-append}
 use Rattle.ivl_paged.proofs.page_list.PageList.push.Goals as goal
 
 pub invariant_of-self-2 : goal.invariant_of-self-2
 invariant_of-self-2 g c =
+    let P = c.self.inside.pages.items in
+    let all = ap length (flattened-append P (c.args.page ∷ [])) ∙ length-append (flattened P) (flattened (c.args.page ∷ [])) in
+    let one = length-append c.args.page [] in
     rw (c.push_reserved.ensures.items, c.in_ok-push.ensures.items, c.reserve.ensures.items)
-    (heads_push g.B.Width.value c.self.inside.heads.items c.self.inside.pages.items c.head-head.result c.args.page c.self.invariant c.head-head.ensures)
+    (heads_push g.B.Width.value c.self.inside.heads.items P c.head-head.result c.args.page c.self.invariant.0 c.head-head.ensures, omega (arith, all, one, c.self.invariant.1))

@@ -1,14 +1,25 @@
-use Rattle.std.proofs.Common.{suc, List, ℤ, ap, arith, length}
-use Rattle.ivl_paged.proofs.Heads.{heads_length, heads_without}
+use Rattle.std.proofs.Common.{◌≡◌, ◌+◌, ◌<◌, suc, List, ℤ, ap, arith, drop, length, subst, sym}
+use Rattle.ivl_paged.specs.Pages.{flattened}
+use Rattle.ivl_paged.proofs.Counting.{length_outside, length_page, lent_within}
+use Rattle.ivl_paged.proofs.Heads.{heads_there, heads_without}
 use Rattle.ivl_paged.proofs.page_list.PageList.remove.Goals as goal
 
 pub remove-requires : goal.remove-requires
 remove-requires g c =
-    let same = heads_length g.B.Width.value c.self.inside.heads.items c.self.inside.pages.items c.self.invariant in
-    let view = ap (λ (Q : List (List (ℤ × ℤ))). length Q) c.self.view_is in
-    omega (arith, same, view, c.requires)
+    let there = heads_there g.B.Width.value c.self.inside.heads.items c.self.inside.pages.items c.args.self.now c.args.i c.self.invariant.0 c.self.view_is c.requires in
+    omega (arith, there)
+
+pub overflow_sub-self : goal.overflow_sub-self
+overflow_sub-self g c = lent_within g.B.Width.value c.self.inside.heads.items c.self.inside.pages.items c.args.self.now c.index.result.now c.args.i c.self.inside.count _ c.self.invariant c.self.view_is c.requires c.index.ensures c.interval_count.ensures.count
 
 pub invariant_of-self : goal.invariant_of-self
 invariant_of-self g c =
+    let P = c.self.inside.pages.items in
+    let i = c.args.i in
+    let less : i < length P = subst (λ (Q : List (List (ℤ × ℤ))). i < length Q) (sym c.self.view_is) c.requires in
+    let all = length_page P c.index.result.now c.index.result.now i less c.index.ensures in
+    let next : i + 1 ≡ suc i = omega arith in
+    let after = ap (λ n. length (flattened (drop n P))) next in
+    let outside = length_outside P i (suc i) in
     rw (c.remove.ensures.items, c.remove-2.ensures.items)
-    (heads_without g.B.Width.value c.self.inside.heads.items c.self.inside.pages.items c.args.i (suc c.args.i) c.self.invariant)
+    (heads_without g.B.Width.value c.self.inside.heads.items P i (suc i) c.self.invariant.0, omega (arith, all, after, outside, c.interval_count.ensures.count, c.self.invariant.1))

@@ -1,19 +1,46 @@
-use Rattle.std.proofs.Common.{List, ℤ, ap, arith, length, set, subst, sym}
+use Rattle.std.proofs.lemmas.List.{set-get_or}
+use Rattle.std.proofs.Common.{rules, ◌≡◌, ◌⊎◌, ◌<◌, ◌-◌, ◌^◌, ◌∙◌, List, ℤ, ap, arith, set, subst, sym}
 use Rattle.ivl_laws.specs.Sets.{HasSome, IsBetween, IsSubset, Without}
 use Rattle.ivl_laws.specs.Runs.{Covers, IsRunsOf}
 use Rattle.intervallum.specs.Edits.{widened}
-use Rattle.ivl_paged.proofs.Counting.{err_is_not_ok}
-use Rattle.ivl_paged.proofs.Heads.{heads_length, heads_set, lent_page}
+use Rattle.ivl_paged.proofs.Counting.{err_is_not_ok, fits_after_split, kept_after, lent_within}
+use Rattle.ivl_paged.proofs.Heads.{heads_there, lent_page}
 use Rattle.ivl_paged.proofs.page_list.PageList.remove_from.Goals as goal
 
 pub index_mut-requires : goal.index_mut-requires
-index_mut-requires g c =
-    let same = heads_length g.B.Width.value c.self.inside.heads.items c.self.inside.pages.items c.self.invariant in
-    let view = ap (λ (Q : List (List (ℤ × ℤ))). length Q) c.self.view_is in
-    omega (arith, same, view, c.requires.less)
+index_mut-requires g c = let there = heads_there g.B.Width.value c.self.inside.heads.items c.self.inside.pages.items c.args.self.now c.args.i c.self.invariant.0 c.self.view_is c.requires.less in omega (arith, there)
+
+pub overflow_sub-others : goal.overflow_sub-others
+overflow_sub-others g c = lent_within g.B.Width.value c.self.inside.heads.items c.self.inside.pages.items c.args.self.now c.index_mut-page.result.now c.args.i c.self.inside.count _ c.self.invariant c.self.view_is c.requires.less c.index_mut-page.ensures.value c.interval_count.ensures.count
+
+pub overflow_add-self : goal.overflow_add-self
+overflow_add-self g c =
+    let P = c.self.inside.pages.items in
+    let L = c.index_mut-page.result.now in
+    let fits : c.self.inside.count < 2 ^ 64 = omega (arith, c.self.ranges) in
+    let within = lent_within g.B.Width.value c.self.inside.heads.items c.self.inside.pages.items c.args.self.now c.index_mut-page.result.now c.args.i c.self.inside.count _ c.self.invariant c.self.view_is c.requires.less c.index_mut-page.ensures.value c.interval_count.ensures.count in
+    let looked = lent_page P c.args.self.now c.index.result.now c.args.i c.self.view_is c.requires.less c.index.ensures in
+    let page = lent_page P c.args.self.now L c.args.i c.self.view_is c.requires.less c.index_mut-page.ensures.value in
+    let counted = fits_after_split L c.remove_interval.new.self c.args.interval c.self.inside.count _ _ c.interval_count.ensures.runs c.requires.filled c.in_ok-was_member.ensures.ok c.interval_count.ensures.count c.interval_count-2.ensures.count within fits
+    (subst (λ (N : List (ℤ × ℤ)). (c.self.inside.count < 2 ^ 64 - 1) ⊎ (¬ (IsSubset (IsBetween (widened c.args.interval)) (Covers N)))) (looked ∙ sym page) (c.is_split_uncounted.ensures.counted c.if-is_split_uncounted.false)) in
+    omega (arith, counted)
+
+pub returns-then-is_split_uncounted-clause-in_place : goal.returns-then-is_split_uncounted-clause-in_place
+returns-then-is_split_uncounted-clause-in_place g c = λ n.
+    let page = lent_page c.self.inside.pages.items c.args.self.now c.index.result.now c.args.i c.self.view_is c.requires.less c.index.ensures in
+    absurd (n (subst (λ (L : List (ℤ × ℤ)). IsSubset (IsBetween (widened c.args.interval)) (Covers L)) page (c.is_split_uncounted.ensures.split c.if-is_split_uncounted.true)))
 
 pub invariant_of-self-2 : goal.invariant_of-self-2
-invariant_of-self-2 g c = heads_set g.B.Width.value c.self.inside.heads.items c.self.inside.pages.items c.args.i c.head.result c.remove_interval.new.self c.self.invariant c.head.ensures
+invariant_of-self-2 g c =
+    kept_after g.B.Width.value c.self.inside.heads.items c.self.inside.pages.items c.args.self.now c.index_mut-page.result.now c.args.i c.self.inside.count _ c.self.invariant c.self.view_is c.requires.less c.index_mut-page.ensures.value c.interval_count.ensures.count
+    c.remove_interval.new.self c.head.result _ c.head.ensures c.interval_count-2.ensures.count
+
+pub returns-in_err-was_member-clause-err : goal.returns-in_err-was_member-clause-err
+returns-in_err-was_member-clause-err g c =
+    let P = c.self.inside.pages.items in
+    let kept : set P c.args.i c.remove_interval.new.self ≡ c.args.self.now =
+    ap (λ L. set P c.args.i L) (c.in_err-was_member.ensures.err ∙ c.index_mut-page.ensures.value) ∙ set-get_or P c.args.i c.index_mut-page.result.now ∙ c.self.view_is in
+    search rules
 
 pub returns-clause-ok : goal.returns-clause-ok
 returns-clause-ok g c =

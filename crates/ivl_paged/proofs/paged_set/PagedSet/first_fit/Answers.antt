@@ -5,7 +5,7 @@ use Rattle.ivl_paged.specs.Pages.{flattened}
 use Rattle.ivl_paged.proofs.paged_set.PagedSet.first_fit.Goals as goal
 
 pub fit_in-requires-clause-runs : goal.fit_in-requires-clause-runs
-fit_in-requires-clause-runs g c = subst (λ (Q : List (List (ℤ × ℤ))). IsMaximal (flattened Q)) (sym c.as_slice.ensures.value) c.self.invariant.0.maximal
+fit_in-requires-clause-runs g c = subst (λ (Q : List (List (ℤ × ℤ))). IsMaximal (flattened Q)) (sym c.as_slice.ensures.value) c.self.invariant.maximal
 
 pub returns : goal.returns
 returns g c =

@@ -12,7 +12,7 @@ pub fit_in-requires-clause-runs : goal.fit_in-requires-clause-runs
 fit_in-requires-clause-runs g c =
     let P = c.self.inside.pages in
     let k = c.starts_up_to-place.result in
-    subst IsMaximal (sym (rest_of_pages P c.as_slice-in-None.result.now k c.as_slice-in-None.ensures.value)) (IsMaximal-dropped P k c.self.invariant.0.maximal)
+    subst IsMaximal (sym (rest_of_pages P c.as_slice-in-None.result.now k c.as_slice-in-None.ensures.value)) (IsMaximal-dropped P k c.self.invariant.maximal)
 
 pub returns-in-Some : goal.returns-in-Some
 returns-in-Some g c =
@@ -21,7 +21,7 @@ returns-in-Some g c =
     let v = g.B.Width.value c.args.v in
     let k = c.starts_up_to-place.result in
     let s : StartsUpTo P v k = c.starts_up_to-place.ensures in
-    fit_from_below n P c.args.self.now v k c.requires c.self.invariant.0.maximal c.self.view_is s c.in-Some.run'
+    fit_from_below n P c.args.self.now v k c.requires c.self.invariant.maximal c.self.view_is s c.in-Some.run'
     (subst (λ (N : List (List (ℤ × ℤ))). IsFirstFit n (AtLeast v (Covers (flattened (take k N)))) c.in-Some.run') c.as_slice.ensures.value c.in-Some.ensures)
 
 pub returns-in-None : goal.returns-in-None
@@ -31,6 +31,6 @@ returns-in-None g c =
     let v = g.B.Width.value c.args.v in
     let k = c.starts_up_to-place.result in
     let s : StartsUpTo P v k = c.starts_up_to-place.ensures in
-    fit_from_above n P c.args.self.now v k c.requires c.self.invariant.0.maximal c.self.view_is s c.fit_in.result
+    fit_from_above n P c.args.self.now v k c.requires c.self.invariant.maximal c.self.view_is s c.fit_in.result
     (subst (λ (N : List (List (ℤ × ℤ))). IsFitOf n (AtLeast v (Covers (flattened (take k N)))) None) c.as_slice.ensures.value c.in-None.ensures)
     (subst (λ (L : List (ℤ × ℤ)). IsFitOf n (Covers L) c.fit_in.result) (rest_of_pages P c.as_slice-in-None.result.now k c.as_slice-in-None.ensures.value) c.fit_in.ensures)

@@ -2,4 +2,4 @@ use Rattle.intervallum.proofs.Finding.{each_is_filled}
 use Rattle.ivl_paged.proofs.paged_set.PagedSet.iter.Goals as goal
 
 pub returns-clause-filled : goal.returns-clause-filled
-returns-clause-filled g c = each_is_filled _ c.args.self.now c.self.view_is c.self.invariant.0.maximal
+returns-clause-filled g c = each_is_filled _ c.args.self.now c.self.view_is c.self.invariant.maximal

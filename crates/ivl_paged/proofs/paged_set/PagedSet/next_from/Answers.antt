@@ -13,7 +13,7 @@ returns-in-Some g c =
     let n = c.starts_up_to-count.result in
     let s : StartsUpTo P v n = c.starts_up_to-count.ensures in
     let x = g.B.Width.value c.in-Some.next in
-    next_seen_below P c.args.self.now c.self.invariant.0.maximal c.self.view_is v x n s
+    next_seen_below P c.args.self.now c.self.invariant.maximal c.self.view_is v x n s
     (subst (λ (N : List (List (ℤ × ℤ))). IsLeast x (AtLeast v (Covers (flattened (take n N))))) c.as_slice.ensures.value c.in-Some.ensures)
 
 pub returns-then-count-len : goal.returns-then-count-len
@@ -23,7 +23,7 @@ returns-then-count-len g c =
     let n = c.starts_up_to-count.result in
     let s : StartsUpTo P v n = c.starts_up_to-count.ensures in
     let less : n < length P = omega (arith, c.len.ensures.value, c.if-count-len.true) in
-    next_seen_above P c.args.self.now c.self.invariant.0.maximal c.self.view_is (get_or P n []) v (g.B.Width.value c.head.result) n s
+    next_seen_above P c.args.self.now c.self.invariant.maximal c.self.view_is (get_or P n []) v (g.B.Width.value c.head.result) n s
     (subst (λ (N : List (List (ℤ × ℤ))). HasNone (AtLeast v (Covers (flattened (take n N))))) c.as_slice.ensures.value c.in-None.ensures) refl c.head.ensures
 
 pub returns-else-count-len : goal.returns-else-count-len
@@ -31,5 +31,5 @@ returns-else-count-len g c =
     let P = c.self.inside.pages in
     let v = g.B.Width.value c.args.v in
     let n = c.starts_up_to-count.result in
-    no_next_seen P c.args.self.now c.self.invariant.0.maximal c.self.view_is v n
+    no_next_seen P c.args.self.now c.self.invariant.maximal c.self.view_is v n
     (subst (λ (N : List (List (ℤ × ℤ))). HasNone (AtLeast v (Covers (flattened (take n N))))) c.as_slice.ensures.value c.in-None.ensures) (omega (arith, c.len.ensures.value, c.if-count-len.false))

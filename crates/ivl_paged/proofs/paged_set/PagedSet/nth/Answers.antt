@@ -19,7 +19,7 @@ returns-in-None g c =
     let i = c.loop-page.page-index in
     let N = c.args.self.now in
     let left = g.B.Output.SizeNumber.size c.loop-page.left in
-    let open_all : IsMaximal (flattened P) = subst (λ (Q : List (List (ℤ × ℤ))). IsMaximal (flattened Q)) (sym c.as_slice-page-items.ensures.value) c.self.invariant.0.maximal in
+    let open_all : IsMaximal (flattened P) = subst (λ (Q : List (List (ℤ × ℤ))). IsMaximal (flattened Q)) (sym c.as_slice-page-items.ensures.value) c.self.invariant.maximal in
     let view : flattened P ≡ N = subst (λ (Q : List (List (ℤ × ℤ))). flattened Q ≡ N) (sym c.as_slice-page-items.ensures.value) c.self.view_is in
     let page : c.set-in-None.result.now ≡ get_or P i [] = c.set-in-None.ensures.same ∙ c.page-item.is ∙ get_or_default P i _ [] c.loop-page-test.true in
     let size : IsCountOf (g.B.Output.SizeNumber.size c.size.result) (Covers c.set-in-None.result.now) = subst (λ (L : List (ℤ × ℤ)). IsCountOf (g.B.Output.SizeNumber.size c.size.result) (Covers L)) (c.set.ensures.same ∙ sym c.set-in-None.ensures.same) c.size.ensures in
@@ -33,7 +33,7 @@ loop-page-preserved g c =
     let P = c.as_slice-page-items.result.now in
     let i = c.loop-page.page-index in
     let f = c.in-Some.ensures.same_number in
-    let open_all : IsMaximal (flattened P) = subst (λ (Q : List (List (ℤ × ℤ))). IsMaximal (flattened Q)) (sym c.as_slice-page-items.ensures.value) c.self.invariant.0.maximal in
+    let open_all : IsMaximal (flattened P) = subst (λ (Q : List (List (ℤ × ℤ))). IsMaximal (flattened Q)) (sym c.as_slice-page-items.ensures.value) c.self.invariant.maximal in
     let page : c.set.result.now ≡ get_or P i [] = c.set.ensures.same ∙ c.page-item.is ∙ get_or_default P i _ [] c.loop-page-test.true in
     (m + g.B.Output.SizeNumber.size c.size.result, omega (arith, e, f), counts_next_page P i c.set.result.now m (g.B.Output.SizeNumber.size c.size.result) open_all c.loop-page-test.true page a c.size.ensures)
 

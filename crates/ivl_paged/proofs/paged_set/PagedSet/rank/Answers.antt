@@ -14,13 +14,13 @@ returns-then-count-eq0 g c =
     let v = g.B.Width.value c.args.v in
     let n = c.starts_up_to-count.result in
     let s : StartsUpTo P v n = c.starts_up_to-count.ensures in
-    no_rank_seen P c.args.self.now v n _ c.self.invariant.0.maximal c.self.view_is s c.if-count-eq0.true c.zero.ensures
+    no_rank_seen P c.args.self.now v n _ c.self.invariant.maximal c.self.view_is s c.if-count-eq0.true c.zero.ensures
 
 pub size_of-below-requires : goal.size_of-below-requires
 size_of-below-requires g c =
     let P = c.self.inside.pages in
     let k = c.starts_up_to-count.result - 1 in
-    taken_is_run_list g.B.Width.whole P (take k c.as_slice.result.now) k (ap (λ (Q : List (List (ℤ × ℤ))). take k Q) c.as_slice.ensures.value) c.self.invariant.0 (IsMaximal-taken P k c.self.invariant.0.maximal)
+    taken_is_run_list g.B.Width.whole P (take k c.as_slice.result.now) k (ap (λ (Q : List (List (ℤ × ℤ))). take k Q) c.as_slice.ensures.value) c.self.invariant (IsMaximal-taken P k c.self.invariant.maximal)
 
 pub add_in_range-requires : goal.add_in_range-requires
 add_in_range-requires g c =
@@ -34,8 +34,8 @@ add_in_range-requires g c =
     let page : c.page.result.now ≡ get_or P (n - 1) [] = c.page.ensures ∙ get_or_default P (n - 1) _ [] (omega arith) in
     let below : IsCountOf (g.B.Output.SizeNumber.size c.size_of-below.result) (Covers (flattened (take (n - 1) P))) =
     subst (λ (Q : List (List (ℤ × ℤ))). IsCountOf (g.B.Output.SizeNumber.size c.size_of-below.result) (Covers (flattened (take (n - 1) Q)))) c.as_slice.ensures.value c.size_of-below.ensures in
-    ranks_fit g.B.Width.whole P c.args.self.now v _ _ c.self.invariant.0 c.self.view_is g.met.B.Width.countable
-    (ranks_seen P c.args.self.now c.set.result.now v n _ _ c.self.invariant.0.maximal c.self.view_is s some (c.set.ensures.same ∙ page) below c.rank-here.ensures)
+    ranks_fit g.B.Width.whole P c.args.self.now v _ _ c.self.invariant c.self.view_is g.met.B.Width.countable
+    (ranks_seen P c.args.self.now c.set.result.now v n _ _ c.self.invariant.maximal c.self.view_is s some (c.set.ensures.same ∙ page) below c.rank-here.ensures)
 
 pub returns : goal.returns
 returns g c =
@@ -50,4 +50,4 @@ returns g c =
     let below : IsCountOf (g.B.Output.SizeNumber.size c.size_of-below.result) (Covers (flattened (take (n - 1) P))) =
     subst (λ (Q : List (List (ℤ × ℤ))). IsCountOf (g.B.Output.SizeNumber.size c.size_of-below.result) (Covers (flattened (take (n - 1) Q)))) c.as_slice.ensures.value c.size_of-below.ensures in
     subst (λ (k : ℕ). IsCountOf k (Below v (Covers c.args.self.now))) (sym c.add_in_range.ensures)
-    (ranks_seen P c.args.self.now c.set.result.now v n _ _ c.self.invariant.0.maximal c.self.view_is s some (c.set.ensures.same ∙ page) below c.rank-here.ensures)
+    (ranks_seen P c.args.self.now c.set.result.now v n _ _ c.self.invariant.maximal c.self.view_is s some (c.set.ensures.same ∙ page) below c.rank-here.ensures)

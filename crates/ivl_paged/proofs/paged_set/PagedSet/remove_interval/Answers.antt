@@ -2,8 +2,8 @@ use Rattle.ivl_laws.proofs.Adding.{untrue}
 use Rattle.ivl_laws.proofs.Intervals.{not_crossed}
 use Rattle.ivl_paged.proofs.paged_set.PagedSet.remove_interval.Goals as goal
 
-pub cut-requires : goal.cut-requires
-cut-requires g c = not_crossed c.args.interval (untrue _ c.if-is_empty.false c.is_empty.ensures.crossed)
+pub take_away-requires : goal.take_away-requires
+take_away-requires g c = not_crossed c.args.interval (untrue _ c.if-is_empty.false c.is_empty.ensures.crossed)
 
 pub returns-then-is_empty-clause-ok : goal.returns-then-is_empty-clause-ok
 returns-then-is_empty-clause-ok g c =

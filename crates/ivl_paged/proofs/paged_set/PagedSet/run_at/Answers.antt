@@ -10,7 +10,7 @@ returns-then-count-eq0 g c =
     let v = g.B.Width.value c.args.v in
     let n = c.starts_up_to-count.result in
     let s : StartsUpTo P v n = c.starts_up_to-count.ensures in
-    no_run_seen P c.args.self.now c.self.invariant.0.maximal c.self.view_is v n s c.if-count-eq0.true
+    no_run_seen P c.args.self.now c.self.invariant.maximal c.self.view_is v n s c.if-count-eq0.true
 
 pub returns : goal.returns
 returns g c =
@@ -22,4 +22,4 @@ returns g c =
     let none = c.if-count-eq0.false in
     let some : 0 < n = omega arith in
     let page : c.page.result.now ≡ get_or P (n - 1) [] = c.page.ensures ∙ get_or_default P (n - 1) _ [] (omega arith) in
-    run_seen P c.args.self.now c.self.invariant.0.maximal c.self.view_is c.page.result.now v n c.run_at.result s page c.run_at.ensures
+    run_seen P c.args.self.now c.self.invariant.maximal c.self.view_is c.page.result.now v n c.run_at.result s page c.run_at.ensures

@@ -5,7 +5,7 @@ use Rattle.ivl_paged.specs.Pages.{flattened}
 use Rattle.ivl_paged.proofs.paged_set.PagedSet.size.Goals as goal
 
 pub size_of-requires : goal.size_of-requires
-size_of-requires g c = subst (λ (Q : List (List (ℤ × ℤ))). IsRunListIn g.B.Width.whole (flattened Q)) (sym c.as_slice.ensures.value) c.self.invariant.0
+size_of-requires g c = subst (λ (Q : List (List (ℤ × ℤ))). IsRunListIn g.B.Width.whole (flattened Q)) (sym c.as_slice.ensures.value) c.self.invariant
 
 pub returns : goal.returns
 returns g c =

@@ -16,4 +16,4 @@ returns g c =
     let P = c.as_slice-page-items.result.now in
     let all : c.loop-page.runs.items ≡ flattened c.self.inside.pages =
     c.loop-page.invariant ∙ ap flattened (take_all c.loop-page.page-index P c.loop-page-test.false ∙ c.as_slice-page-items.ensures.value) in
-    IfOk-weaker c.coalesce.result _ _ (λ L r. one_list c.self.inside.pages c.args.self.now c.loop-page.runs.items L c.self.invariant.0.maximal c.self.view_is all r) c.coalesce.ensures
+    IfOk-weaker c.coalesce.result _ _ (λ L r. one_list c.self.inside.pages c.args.self.now c.loop-page.runs.items L c.self.invariant.maximal c.self.view_is all r) c.coalesce.ensures

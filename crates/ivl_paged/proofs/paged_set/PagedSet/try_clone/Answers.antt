@@ -1,4 +1,4 @@
-use Rattle.std.proofs.Common.{◌≡◌, ◌∙◌, ap, sym, subst, take_all, length}
+use Rattle.std.proofs.Common.{◌≡◌, ◌∙◌, ap, sym, subst, take_all}
 use Rattle.ivl_laws.specs.Runs.{IsRunListIn}
 use Rattle.ivl_paged.specs.Pages.{flattened}
 use Rattle.ivl_paged.proofs.Iterating.{pages_so_far}
@@ -13,7 +13,7 @@ pub invariant_of-result : goal.invariant_of-result
 invariant_of-result g c =
     let all : flattened c.loop-page.pages ≡ flattened c.self.inside.pages =
     c.loop-page.invariant ∙ ap flattened (take_all c.loop-page.page-index c.as_slice-page-items.result.now c.loop-page-test.false ∙ c.as_slice-page-items.ensures.value) in
-    (subst (IsRunListIn g.B.Width.whole) (sym all) c.self.invariant.0, c.self.invariant.1 ∙ ap length (sym all))
+    subst (IsRunListIn g.B.Width.whole) (sym all) c.self.invariant
 
 pub returns : goal.returns
 returns g c =

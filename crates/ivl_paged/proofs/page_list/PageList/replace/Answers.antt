@@ -1,0 +1,45 @@
+use Rattle.std.proofs.Common.{◌∙◌, ◌++◌, List, ℤ, ap, arith, drop, length, length-append, set, take}
+use Rattle.ivl_paged.specs.Pages.{flattened}
+use Rattle.ivl_paged.proofs.Counting.{count_after, kept_after, lent_within}
+use Rattle.ivl_paged.proofs.Heads.{heads_there}
+use Rattle.ivl_paged.proofs.Paging.{page_there, replace_pages}
+use Rattle.ivl_paged.proofs.page_list.PageList.replace.Goals as goal
+
+pub overflow_sub-others : goal.overflow_sub-others
+overflow_sub-others g c =
+    lent_within g.B.Width.value c.self.inside.heads.items c.self.inside.pages.items c.take_out.new.self c.index.result.now c.args.start c.self.inside.count _ c.self.invariant c.self.view_is
+    (page_there c.args.self.now c.take_out.new.self c.args.start c.args.end c.requires.in_order c.requires.at_most c.take_out.ensures) c.index.ensures c.interval_count.ensures.count
+
+pub overflow_add-self : goal.overflow_add-self
+overflow_add-self g c =
+    let P = c.args.self.now in
+    let A = flattened (take c.args.start P) in
+    let D = flattened (drop c.args.end P) in
+    let o = c.requires.in_order in
+    let most = c.requires.at_most in
+    let made = count_after g.B.Width.value c.self.inside.heads.items c.self.inside.pages.items c.take_out.new.self c.index.result.now c.args.start c.self.inside.count _ c.self.invariant c.self.view_is
+    (page_there c.args.self.now c.take_out.new.self c.args.start c.args.end c.requires.in_order c.requires.at_most c.take_out.ensures) c.index.ensures c.interval_count.ensures.count
+    c.args.page _ c.interval_count-2.ensures.count in
+    let all = ap length (ap (λ (Q : List (List (ℤ × ℤ))). flattened (set Q c.args.start c.args.page)) (c.self.view_is ∙ c.take_out.ensures) ∙ replace_pages P c.args.page c.args.start c.args.end (omega (arith, o, most))) in
+    let a = length-append A (c.args.page ++ D) in
+    let b = length-append c.args.page D in
+    omega (arith, made, all, a, b, c.requires.fits)
+
+pub index_mut-requires : goal.index_mut-requires
+index_mut-requires g c =
+    let there = heads_there g.B.Width.value c.self.inside.heads.items c.self.inside.pages.items c.take_out.new.self c.args.start c.self.invariant.0 c.self.view_is
+    (page_there c.args.self.now c.take_out.new.self c.args.start c.args.end c.requires.in_order c.requires.at_most c.take_out.ensures) in
+    omega (arith, there)
+
+pub invariant_of-self : goal.invariant_of-self
+invariant_of-self g c =
+    kept_after g.B.Width.value c.self.inside.heads.items c.self.inside.pages.items c.take_out.new.self c.index.result.now c.args.start c.self.inside.count _ c.self.invariant c.self.view_is
+    (page_there c.args.self.now c.take_out.new.self c.args.start c.args.end c.requires.in_order c.requires.at_most c.take_out.ensures) c.index.ensures c.interval_count.ensures.count
+    c.args.page c.head.result _ c.head.ensures c.interval_count-2.ensures.count
+
+pub returns : goal.returns
+returns g c =
+    let P = c.args.self.now in
+    let o = c.requires.in_order in
+    let most = c.requires.at_most in
+    ap (λ (Q : List (List (ℤ × ℤ))). flattened (set Q c.args.start c.args.page)) (c.self.view_is ∙ c.take_out.ensures) ∙ replace_pages P c.args.page c.args.start c.args.end (omega (arith, o, most))
