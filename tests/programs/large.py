@@ -92,6 +92,8 @@ INPUTS = {
         "busy rooms": lambda size: busy_rooms(3 * size),
         "bookings of one room": lambda size: descending_bookings(3 * size),
         "bookings": lambda size: "".join(f"room r{n}\nbook r{n} 2026-03-01 2026-03-04\n" for n in range(size)),
+        "bookings for names": lambda size: "room blue\n"
+        + "".join(f"book blue {day(2 * n)} {day(2 * n)} n{n % 7}\nwho blue {day(2 * n)}\n" for n in range(1, size)),
         "a long name": lambda size: f"room {'x' * (10 * size)}\nbook {'x' * (10 * size)} 2026-03-01 2026-03-04\n",
     },
 }

@@ -22,6 +22,7 @@ programs! {
     in_a_static "../examples/in_a_static.rs";
     keys_and_threads "../examples/keys_and_threads.rs";
     lexer_classes "../examples/lexer_classes.rs";
+    names "../examples/names.rs";
     ports "../examples/ports.rs";
     rules "../examples/rules.rs";
     #[cfg(all(feature = "json", feature = "serde"))]

@@ -1,6 +1,8 @@
 pub mod Answering
 pub mod Free
+pub mod Listing
 pub mod Maps
+pub mod Named
 pub mod Spans
 pub mod Taking
 pub mod Texts

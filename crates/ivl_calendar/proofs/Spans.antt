@@ -15,7 +15,7 @@ pub record AreDays (runs : List (ℤ × ℤ)) : Type 0 where
   pub maximal : IsMaximal runs
   pub dates : IsSubset (Covers runs) IsEpochDay
 
-itself : (z : ℤ) → z ≤ℤ z
+pub itself : (z : ℤ) → z ≤ℤ z
 itself z = omega (arith, ints)
 
 pub no_items : {A : Type 0} (xs : List A) → length xs ≡ 0 → xs ≡ []

@@ -1,12 +1,14 @@
 -- Days out of which the busy days of a room are taken, one run after the other.
-use Rattle.std.proofs.Common.{◌≡◌, ◌<◌, ℤ, ◌≤ℤ◌, ◌<ℤ◌, ◌+ℤ◌, ◌-ℤ◌, pos, ℕ, List, Option, None, Some, arith, subst}
-use Rattle.std.specs.Prelude.{MatchOption}
+use Rattle.std.proofs.Common.{◌≡◌, ◌⊎◌, ⊎_elim, inl, inr, ◌<◌, ℤ, ◌≤ℤ◌, ◌<ℤ◌, ◌+ℤ◌, ◌-ℤ◌, pos, ℕ, List, [], ◌∷◌, ◌++◌, ◌∙◌, Option, None, Some, ap, append_assoc, arith, subst, sym}
+use Rattle.std.specs.Prelude.{MatchOption, String}
+use Rattle.std.specs.Global.{Global}
 use Rattle.std.proofs.lemmas.Int.{ints, by_lt_z, clamps}
 use Rattle.ivl_laws.specs.Bounds.{width_of}
 use Rattle.ivl_laws.proofs.Intervals.{pos-non_negative_part, width_of-filled}
 use Rattle.ivl_laws.specs.Runs.{Covers, IsMaximal, IsRunsOf}
 use Rattle.ivl_laws.specs.Sets.{AtLeast, HasNone, IsBetween, IsSubset, Without}
 use Rattle.intervallum.specs.Neighbours.{IsLeast, IsRunWith}
+use Rattle.ivl_map.specs.Entries.{intervals_of}
 use Rattle.ivl_calendar.specs.Rooms.{IsRunFrom}
 
 -- those of all that are free, or at least not before some day
@@ -98,9 +100,45 @@ module _ (days : List (ℤ × ℤ)) (window : ℤ × ℤ) (h : IsRunsOf days (Is
   within_window z m = (h.members z).0 m
 
   -- the days of the window out of which busy days are taken
-  pub taken_from_window : (new busy : List (ℤ × ℤ)) → IsRunsOf new (Without (Covers days) (Covers busy)) → IsRunsOf new (Without (IsBetween window) (Covers busy))
+  pub taken_from_window : (new : List (ℤ × ℤ)) (busy : ℤ → Type 0) → IsRunsOf new (Without (Covers days) busy) → IsRunsOf new (Without (IsBetween window) busy)
   taken_from_window new busy k =
       record {
         maximal = k.maximal;
         members = λ z. ((λ m. let w = (k.members z).0 m in ((h.members z).0 w.0, w.1)), (λ m. (k.members z).1 ((h.members z).1 m.0, m.1)));
       }
+
+-- ---- bookings with a name, one after the other
+
+abbrev Kept : Type 0
+Kept = List ((ℤ × ℤ) × String Global)
+
+covers_before : (done : Kept) (booking : (ℤ × ℤ) × String Global) (z : ℤ) → Covers (intervals_of done) z → Covers (intervals_of (done ++ booking ∷ [])) z
+covers_before [] booking z c = absurd c
+covers_before (e ∷ done) booking z (inl b) = inl b
+covers_before (e ∷ done) booking z (inr c) = inr (covers_before done booking z c)
+
+covers_last : (done : Kept) (booking : (ℤ × ℤ) × String Global) (z : ℤ) → IsBetween booking.0 z → Covers (intervals_of (done ++ booking ∷ [])) z
+covers_last [] booking z b = inl b
+covers_last (e ∷ done) booking z b = inr (covers_last done booking z b)
+
+covers_either : (done : Kept) (booking : (ℤ × ℤ) × String Global) (z : ℤ) → Covers (intervals_of (done ++ booking ∷ [])) z → Covers (intervals_of done) z ⊎ IsBetween booking.0 z
+covers_either [] booking z c = ⊎_elim (λ b. inr b) (λ n. absurd n) c
+covers_either (e ∷ done) booking z c = ⊎_elim (λ b. inl (inl b)) (λ d. ⊎_elim (λ k. inl (inr k)) (λ b. inr b) (covers_either done booking z d)) c
+
+-- one booking more is taken
+pub named_next : (all free new : List (ℤ × ℤ)) (done : Kept) (booking : (ℤ × ℤ) × String Global) → IsRunsOf free (Without (Covers all) (Covers (intervals_of done))) → IsRunsOf new (Without (Covers free) (IsBetween booking.0))
+    → IsRunsOf new (Without (Covers all) (Covers (intervals_of (done ++ booking ∷ []))))
+named_next all free new done booking h k =
+    record {
+      maximal = k.maximal;
+      members = λ z. (
+        (λ m.
+            let w = (k.members z).0 m in
+            let a = (h.members z).0 w.0 in
+            (a.0, λ c. ⊎_elim a.1 w.1 (covers_either done booking z c))),
+        (λ m. (k.members z).1 ((h.members z).1 (m.0, λ c. m.1 (covers_before done booking z c)), λ b. m.1 (covers_last done booking z b))),
+      );
+    }
+
+pub next_booking : (done left later all : Kept) (booking : (ℤ × ℤ) × String Global) → left ≡ booking ∷ later → done ++ left ≡ all → (done ++ booking ∷ []) ++ later ≡ all
+next_booking done left later all booking is h = append_assoc done (booking ∷ []) later ∙ ap (λ (more : Kept). done ++ more) (sym is) ∙ h

@@ -1,19 +1,30 @@
 -- What a line asks for, by the words after its first.
 --     AsksToAdd words name      the name alone
---     AsksToBook words name days      a name, and the dates of the first and the last day
+--     IsName word      the word may be a name of who books: it is neither a date nor `free`, which `who` answers of a day
+--     IsWho words who      the name that these words are, or none where there is no word
+--     AsksToBook words name days who      a room, the dates of the first and the last day, and the name of who books, if there is one
+--     AsksWho words name day      a room, and the date of the day
+--     AsksOf words who      the name of who books, alone
 --     AsksForGap words name count window      a name, how many days, and the first and the last date of a window
 --     AsksForFree words window      the first and the last date of a window
 --     command_of name      what the first word of a line asks for
-use Rattle.std.specs.Prelude.{◌≡◌, ◌^◌, ◌<◌, ℕ, ℤ, pos, List, [], ◌∷◌, Some, bytes_eq, codes, if◌then◌else◌}
+use Rattle.std.specs.Prelude.{◌≡◌, ◌⊎◌, ◌^◌, ◌<◌, ℕ, ℤ, pos, List, [], ◌∷◌, Option, None, Some, bytes_eq, codes, if◌then◌else◌}
 use Rattle.ivl_lines.specs.Numbers.{number_of}
-use Rattle.ivl_calendar.specs.Days.{IsWindow}
+use Rattle.ivl_calendar.specs.Days.{IsDayText, IsWindow}
 
 abbrev pub AsksToAdd : List (List ℕ) → List ℕ → Type 0
 AsksToAdd words name = words ≡ name ∷ []
 
-abbrev pub AsksToBook : List (List ℕ) → List ℕ → ℤ × ℤ → Type 0
-AsksToBook words name days =
-    (first last : List ℕ) × (words ≡ name ∷ first ∷ last ∷ []) × IsWindow first last days
+abbrev pub IsName : List ℕ → Type 0
+IsName word = ((day : ℤ) → ¬ (IsDayText day word)) × (¬ (word ≡ codes "free"))
+
+abbrev pub IsWho : List (List ℕ) → Option (List ℕ) → Type 0
+IsWho words None = words ≡ []
+IsWho words (Some who) = (words ≡ who ∷ []) × IsName who
+
+abbrev pub AsksToBook : List (List ℕ) → List ℕ → ℤ × ℤ → Option (List ℕ) → Type 0
+AsksToBook words name days who =
+    (first last : List ℕ) × (rest : List (List ℕ)) × (words ≡ name ∷ first ∷ last ∷ rest) × IsWindow first last days × IsWho rest who
 
 -- one day at least
 abbrev pub AsksForGap : List (List ℕ) → List ℕ → ℕ → ℤ × ℤ → Type 0
@@ -24,11 +35,19 @@ AsksForGap words name count window =
 abbrev pub AsksForFree : List (List ℕ) → ℤ × ℤ → Type 0
 AsksForFree words window = (first last : List ℕ) × (words ≡ first ∷ last ∷ []) × IsWindow first last window
 
+abbrev pub AsksWho : List (List ℕ) → List ℕ → ℤ → Type 0
+AsksWho words name day = (text : List ℕ) × (words ≡ name ∷ text ∷ []) × IsDayText day text
+
+abbrev pub AsksOf : List (List ℕ) → List ℕ → Type 0
+AsksOf words who = words ≡ who ∷ []
+
 pub data Command : Type 0 where
   room : Command
   book : Command
   gap : Command
   free : Command
+  who : Command
+  of : Command
   other : Command
 
 abbrev pub command_of : List ℕ → Command
@@ -37,4 +56,6 @@ command_of name =
     else if bytes_eq name (codes "book") then book
     else if bytes_eq name (codes "gap") then gap
     else if bytes_eq name (codes "free") then free
+    else if bytes_eq name (codes "who") then who
+    else if bytes_eq name (codes "of") then of
     else other

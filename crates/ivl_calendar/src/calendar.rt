@@ -1,18 +1,24 @@
 //! Rooms by name.
-ghost use Rattle.std.specs.Prelude.{◌≡◌, [], IfNone, IfOk, IfSome, IsSome, IfErr, None, OnErr, OnOk, Some, List, ℤ};
+ghost use Rattle.std.specs.Prelude.{◌≡◌, ◌≤ℤ◌, ℕ, List, [], IfNone, IfOk, IfSome, IsSome, None, OnErr, OnOk, Some, option_map};
+ghost use Rattle.std.specs.Io.KnownBytes.{Appends};
 ghost use Rattle.std.specs.Option.{option_copied};
+ghost use Rattle.jiff.specs.Words.{IsEpochDay};
 ghost use Rattle.ivl_laws.specs.Runs.{IsRunsOf};
-ghost use Rattle.ivl_calendar.specs.Rooms.{Books, IsAdded, IsFreeInAll, busy_of};
+ghost use Rattle.ivl_lines.specs.Lines.{with_newline};
+ghost use Rattle.ivl_calendar.specs.Names.{IsOfText};
+ghost use Rattle.ivl_calendar.specs.Rooms.{Bookings, Books, IsAdded, IsFreeInAll, busy_of};
 
+use crate::names::write_days_of;
 use crate::rooms::{Room, free_in_all};
 use intervallum::interval::Interval;
 use intervallum::interval_set::IntervalSet;
 use std::alloc::{AllocError, Global};
 use std::collections::BTreeMap;
+use std::io;
+use std::io::Write;
 use std::marker::Model;
 
-/// Rooms by name. A contract sees the list of the names, each with the runs of the days on which the
-/// room is busy.
+/// Rooms by name. A contract sees the list of the names, each with the bookings of the room.
 #[derive(Drop)]
 pub struct Calendar {
     alloc: Global,
@@ -61,22 +67,31 @@ impl Calendar {
         Ok(())
     }
 
-    /// Books a room if it is free on all of these days, and returns whether it was, or `None` if there
-    /// is no such room.
+    /// Books a room, for a name or without one, if it is free on all of these days, and returns whether
+    /// it was, or `None` if there is no such room. The caller must ensure that the days are dates in
+    /// order.
     ///
     /// # Errors
     ///
     /// Fails only if allocation fails. Nothing is booked after an error.
-    pub fn book(&mut self, name: &str, days: Interval<i32>) -> Result<Option<bool>, AllocError>
-        ensures known { IfOk result (λ o. IfSome o (λ done. (busy : List (ℤ × ℤ)) × (busy_of self.old name.now ≡ Some busy)
-            × Books done name.now busy days self.old self.new)) }
+    pub fn book(
+        &mut self,
+        name: &str,
+        days: Interval<i32>,
+        who: Option<&str>,
+    ) -> Result<Option<bool>, AllocError>
+        requires order { days.0 ≤ℤ days.1 }
+        requires first { IsEpochDay days.0 }
+        requires last { IsEpochDay days.1 }
+        ensures known { IfOk result (λ o. IfSome o (λ done. (room : Bookings) × (busy_of self.old name.now ≡ Some room)
+            × Books done name.now room days (option_map (λ it. it.now) who.entry) self.old self.new)) }
         ensures unknown { IfOk result (λ o. IfNone o ((busy_of self.old name.now ≡ None) × (self.new ≡ self.old))) }
         ensures err { OnErr result (IsSome (busy_of self.old name.now) × (self.new ≡ self.old)) }
     {
         let Some(room) = self.rooms.get_mut(name) else {
             return Ok(None);
         };
-        match room.book(days) {
+        match room.book(days, who) {
             Ok(done) => Ok(Some(done)),
             Err(error) => Err(error),
         }
@@ -87,5 +102,13 @@ impl Calendar {
         ensures { IfOk result (λ L. IsRunsOf L (IsFreeInAll self.now window)) }
     {
         free_in_all(self.alloc, &self.rooms, window)
+    }
+
+    /// Writes the days that are booked for a name, as a line. Looks at each booking with a name. Does not allocate.
+    pub fn write_days_of<W: Write>(&self, writer: &mut W, who: &str) -> io::Result<()>
+        ensures { OnOk result ((text : List ℕ) × IsOfText who.now self.now text
+            × Appends (W.contents writer.old) (W.contents writer.new) (with_newline text)) }
+    {
+        write_days_of(writer, &self.rooms, who)
     }
 }

@@ -1,16 +1,19 @@
 //! What answers the lines of a session.
-ghost use Rattle.std.specs.Prelude.{◌≡◌, ℕ, ℤ, List, [], IfSome, IsErrOf, OnOk};
+ghost use Rattle.std.specs.Prelude.{◌≡◌, ◌≤ℤ◌, ℕ, List, [], IfSome, IsErrOf, IsSome, OnOk, Some};
 ghost use Rattle.std.specs.Io.KnownBytes.{Appends, Consumes, IsAtEnd};
 ghost use Rattle.ivl_lines.specs.Answered.{AnswersOrLoses, IsAnswered};
 ghost use Rattle.ivl_lines.specs.Commands.{no_memory};
-ghost use Rattle.ivl_lines.specs.Lines.{ended_lines_of, lines_of};
+ghost use Rattle.ivl_lines.specs.Lines.{ended_lines_of, lines_of, with_newline};
 ghost use Rattle.ivl_lines.specs.Words.{words_between};
-ghost use Rattle.ivl_calendar.specs.Answering.{AnswersBook, AnswersFree, AnswersGap, AnswersLine, AnswersRoom};
-ghost use Rattle.ivl_calendar.specs.Rooms.{Rooms};
+ghost use Rattle.ivl_calendar.specs.Answering.{AnswersBook, AnswersFree, AnswersGap, AnswersLine, AnswersOf, AnswersRoom, AnswersWho};
+ghost use Rattle.ivl_calendar.specs.Names.{IsTakenText};
+ghost use Rattle.ivl_calendar.specs.Rooms.{Bookings, Rooms, busy_of};
 
 use crate::calendar::Calendar;
+use crate::names::{write_taken, write_who};
 use crate::replies::{write_line, write_spans};
-use crate::requests::{booking_from, gap_from, window_from};
+use crate::requests::{booking_from, gap_from, room_and_day_from, window_from};
+use intervallum::interval::Interval;
 use ivl_lines::{AnswersCommands, SessionFault, one_word, serve};
 use std::alloc::Global;
 use std::io;
@@ -26,7 +29,11 @@ const GAP: &str =
 
 const FREE: &str = "error: write free FIRST LAST, with dates in order, such as 2026-03-01";
 
-const OTHER: &str = "error: write room, book, gap or free";
+const WHO: &str = "error: write who NAME DATE, with a known room and a date such as 2026-03-01";
+
+const OF: &str = "error: write of NAME, with one name";
+
+const OTHER: &str = "error: write room, book, gap, free, who or of";
 
 const MEMORY: &str = "error: out of memory";
 
@@ -36,7 +43,7 @@ impl AnswersCommands for Calendar {
     ghost command_allowed = { AnswersNamed };
 
     fn command_may_take_long(&self, name: &str) -> bool {
-        name == "free"
+        name == "free" || name == "of"
     }
 
     fn answer_command<W: Write>(
@@ -50,13 +57,15 @@ impl AnswersCommands for Calendar {
             "book" => answer_book(self, words, writer),
             "gap" => answer_gap(self, words, writer),
             "free" => answer_free(self, words, writer),
+            "who" => answer_who(self, words, writer),
+            "of" => answer_of(self, words, writer),
             _ => write_line(writer, OTHER),
         }
     }
 }
 
 /// Answers each line of the input, over a calendar that has no rooms at first. What is written is
-/// flushed before each read, before a line that asks for the free days of all rooms, and at the end.
+/// flushed before each read, before a line that looks at all rooms, and at the end.
 ///
 /// # Errors
 ///
@@ -66,10 +75,10 @@ impl AnswersCommands for Calendar {
 /// answered with that, and the session continues.
 ///
 /// ```
-/// let mut input: &[u8] = b"room blue\nbook blue 2026-03-01 2026-03-04\nfree 2026-03-01 2026-03-07";
+/// let mut input: &[u8] = b"room blue\nbook blue 2026-03-01 2026-03-04 anna\nwho blue 2026-03-04";
 /// let mut written = Vec::new(alloc);
 /// assert_eq!(rt; session(alloc, &mut input, &mut written), Ok(()));
-/// assert_eq!(rt; written.as_slice(), b"ok\nbooked\n2026-03-05 to 2026-03-07\n".as_slice());
+/// assert_eq!(rt; written.as_slice(), b"ok\nbooked\nanna\n".as_slice());
 /// ```
 pub fn session<R: Read, W: Write>(
     alloc: Global,
@@ -117,11 +126,29 @@ fn answer_book<W: Write>(calendar: &mut Calendar, words: &str, writer: &mut W) -
     let Some(asked) = booking_from(words) else {
         return write_line(writer, BOOK);
     };
-    match calendar.book(asked.name, asked.days) {
+    match calendar.book(asked.name, asked.days, asked.who) {
         Ok(Some(true)) => write_line(writer, "booked"),
-        Ok(Some(false)) => write_line(writer, "taken"),
+        Ok(Some(false)) => answer_taken(calendar, asked.name, &asked.days, writer),
         Ok(None) => write_line(writer, BOOK),
         Err(_) => write_line(writer, MEMORY),
+    }
+}
+
+// Says what is in the way of a booking.
+fn answer_taken<W: Write>(
+    calendar: &Calendar,
+    name: &str,
+    days: &Interval<i32>,
+    writer: &mut W,
+) -> io::Result<()>
+    requires order { days.now.0 ≤ℤ days.now.1 }
+    requires known { IsSome (busy_of calendar.now name.now) }
+    ensures { OnOk result ((bookings : Bookings) × (text : List ℕ) × (busy_of calendar.now name.now ≡ Some bookings)
+        × IsTakenText bookings days.now text × Appends (W.contents writer.old) (W.contents writer.new) (with_newline text)) }
+{
+    match calendar.room(name) {
+        Some(room) => write_taken(writer, room, days),
+        None => unreachable!(),
     }
 }
 
@@ -154,5 +181,30 @@ fn answer_free<W: Write>(calendar: &mut Calendar, words: &str, writer: &mut W) -
     match calendar.free_within(window) {
         Ok(free) => write_spans(writer, free.runs()),
         Err(_) => write_line(writer, MEMORY),
+    }
+}
+
+fn answer_who<W: Write>(calendar: &mut Calendar, words: &str, writer: &mut W) -> io::Result<()>
+    ensures { OnOk result ((text : List ℕ)
+        × AnswersWho calendar.old (words_between words.now) text calendar.new
+        × Appends (W.contents writer.old) (W.contents writer.new) text) }
+{
+    let Some((name, day)) = room_and_day_from(words) else {
+        return write_line(writer, WHO);
+    };
+    match calendar.room(name) {
+        Some(room) => write_who(writer, room, day),
+        None => write_line(writer, WHO),
+    }
+}
+
+fn answer_of<W: Write>(calendar: &mut Calendar, words: &str, writer: &mut W) -> io::Result<()>
+    ensures { OnOk result ((text : List ℕ)
+        × AnswersOf calendar.old (words_between words.now) text calendar.new
+        × Appends (W.contents writer.old) (W.contents writer.new) text) }
+{
+    match one_word(words) {
+        Some(name) => calendar.write_days_of(writer, name),
+        None => write_line(writer, OF),
     }
 }

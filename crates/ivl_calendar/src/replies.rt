@@ -51,8 +51,8 @@ fn write_more_spans<W: Write>(writer: &mut W, runs: &[Interval<i32>]) -> io::Res
     Ok(())
 }
 
-// Writes the first and the last day of an interval, which must be days of the calendar, in order.
-fn write_span<W: Write>(writer: &mut W, days: &Interval<i32>) -> io::Result<()>
+/// Writes the first and the last day of an interval, which must be days of the calendar, in order.
+pub fn write_span<W: Write>(writer: &mut W, days: &Interval<i32>) -> io::Result<()>
     requires order { days.now.0 ≤ℤ days.now.1 }
     requires first { IsEpochDay days.now.0 }
     requires last { IsEpochDay days.now.1 }

@@ -60,9 +60,14 @@ impl<K: Ord, V> BTreeMap<K, V> {
         Ok(None)
     }
 
+    /// Returns the keys in order, each with its value.
+    pub fn iter(&self) -> impl Iterator<Item = (&K, &V)> {
+        self.pages.iter().flat_map(|page| page.iter()).map(|(key, value)| (key, value))
+    }
+
     /// Returns the values in the order of their keys.
     pub fn values(&self) -> impl Iterator<Item = &V> {
-        self.pages.iter().flat_map(|page| page.iter()).map(|(_, value)| value)
+        self.iter().map(|(_, value)| value)
     }
 
     /// The page of a key, and where it stands in it or would.

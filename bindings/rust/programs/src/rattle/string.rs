@@ -1,7 +1,9 @@
 //! Texts whose allocation may fail.
+use ::intervallum::proved::ivl_map::MapValue;
 use ::intervallum::rattle::alloc::{AllocError, Global};
 use ::std::string::String as Inner;
 use core::borrow::Borrow;
+use core::ops::Deref;
 
 /// A text that owns its bytes.
 #[derive(Debug, PartialEq, Eq, PartialOrd, Ord, Hash)]
@@ -27,5 +29,19 @@ impl String {
 impl Borrow<str> for String {
     fn borrow(&self) -> &str {
         &self.0
+    }
+}
+
+impl Deref for String {
+    type Target = str;
+
+    fn deref(&self) -> &str {
+        &self.0
+    }
+}
+
+impl MapValue for String {
+    fn try_copy(&self) -> Result<String, AllocError> {
+        String::from_str(Global, &self.0)
     }
 }

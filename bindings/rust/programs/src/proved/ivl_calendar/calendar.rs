@@ -3,14 +3,16 @@
 
 #[allow(unused_imports)]
 use crate::rattle::prelude::*;
+use crate::proved::ivl_calendar::names::write_days_of;
 use crate::proved::ivl_calendar::rooms::{Room, free_in_all};
 use crate::proved::intervallum::interval::Interval;
 use crate::proved::intervallum::interval_set::IntervalSet;
 use crate::rattle::std::alloc::{AllocError, Global};
 use crate::rattle::std::collections::BTreeMap;
+use crate::rattle::std::io;
+use crate::rattle::std::io::Write;
 
-/// Rooms by name. A contract sees the list of the names, each with the runs of the days on which the
-/// room is busy.
+/// Rooms by name. A contract sees the list of the names, each with the bookings of the room.
 pub struct Calendar {
     alloc: Global,
     rooms: BTreeMap<String, Room>,
@@ -42,17 +44,23 @@ impl Calendar {
         Ok(())
     }
 
-    /// Books a room if it is free on all of these days, and returns whether it was, or `None` if there
-    /// is no such room.
+    /// Books a room, for a name or without one, if it is free on all of these days, and returns whether
+    /// it was, or `None` if there is no such room. The caller must ensure that the days are dates in
+    /// order.
     ///
     /// # Errors
     ///
     /// Fails only if allocation fails. Nothing is booked after an error.
-    pub fn book(&mut self, name: &str, days: Interval<i32>) -> Result<Option<bool>, AllocError> {
+    pub fn book(
+        &mut self,
+        name: &str,
+        days: Interval<i32>,
+        who: Option<&str>,
+    ) -> Result<Option<bool>, AllocError> {
         let Some(room) = self.rooms.get_mut(name) else {
             return Ok(None);
         };
-        match room.book(days) {
+        match room.book(days, who) {
             Ok(done) => Ok(Some(done)),
             Err(error) => Err(error),
         }
@@ -61,5 +69,10 @@ impl Calendar {
     /// Returns the days of a window on which all rooms are free. Fails only if allocation fails.
     pub fn free_within(&self, window: Interval<i32>) -> Result<IntervalSet<i32>, AllocError> {
         free_in_all(self.alloc, &self.rooms, window)
+    }
+
+    /// Writes the days that are booked for a name, as a line. Looks at each booking with a name. Does not allocate.
+    pub fn write_days_of<W: Write>(&self, writer: &mut W, who: &str) -> io::Result<()> {
+        write_days_of(writer, &self.rooms, who)
     }
 }

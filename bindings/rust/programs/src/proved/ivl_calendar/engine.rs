@@ -4,8 +4,10 @@
 #[allow(unused_imports)]
 use crate::rattle::prelude::*;
 use crate::proved::ivl_calendar::calendar::Calendar;
+use crate::proved::ivl_calendar::names::{write_taken, write_who};
 use crate::proved::ivl_calendar::replies::{write_line, write_spans};
-use crate::proved::ivl_calendar::requests::{booking_from, gap_from, window_from};
+use crate::proved::ivl_calendar::requests::{booking_from, gap_from, room_and_day_from, window_from};
+use crate::proved::intervallum::interval::Interval;
 use crate::proved::ivl_lines::{AnswersCommands, SessionFault, one_word, serve};
 use crate::rattle::std::alloc::Global;
 use crate::rattle::std::io;
@@ -21,13 +23,17 @@ const GAP: &str =
 
 const FREE: &str = "error: write free FIRST LAST, with dates in order, such as 2026-03-01";
 
-const OTHER: &str = "error: write room, book, gap or free";
+const WHO: &str = "error: write who NAME DATE, with a known room and a date such as 2026-03-01";
+
+const OF: &str = "error: write of NAME, with one name";
+
+const OTHER: &str = "error: write room, book, gap, free, who or of";
 
 const MEMORY: &str = "error: out of memory";
 
 impl AnswersCommands for Calendar {
     fn command_may_take_long(&self, name: &str) -> bool {
-        name == "free"
+        name == "free" || name == "of"
     }
 
     fn answer_command<W: Write>(
@@ -41,13 +47,15 @@ impl AnswersCommands for Calendar {
             "book" => answer_book(self, words, writer),
             "gap" => answer_gap(self, words, writer),
             "free" => answer_free(self, words, writer),
+            "who" => answer_who(self, words, writer),
+            "of" => answer_of(self, words, writer),
             _ => write_line(writer, OTHER),
         }
     }
 }
 
 /// Answers each line of the input, over a calendar that has no rooms at first. What is written is
-/// flushed before each read, before a line that asks for the free days of all rooms, and at the end.
+/// flushed before each read, before a line that looks at all rooms, and at the end.
 ///
 /// # Errors
 ///
@@ -57,10 +65,10 @@ impl AnswersCommands for Calendar {
 /// answered with that, and the session continues.
 ///
 /// ```text
-/// let mut input: &[u8] = b"room blue\nbook blue 2026-03-01 2026-03-04\nfree 2026-03-01 2026-03-07";
+/// let mut input: &[u8] = b"room blue\nbook blue 2026-03-01 2026-03-04 anna\nwho blue 2026-03-04";
 /// let mut written = Vec::new(alloc);
 /// assert_eq!(rt; session(alloc, &mut input, &mut written), Ok(()));
-/// assert_eq!(rt; written.as_slice(), b"ok\nbooked\n2026-03-05 to 2026-03-07\n".as_slice());
+/// assert_eq!(rt; written.as_slice(), b"ok\nbooked\nanna\n".as_slice());
 /// ```
 pub fn session<R: Read, W: Write>(
     alloc: Global,
@@ -87,11 +95,24 @@ fn answer_book<W: Write>(calendar: &mut Calendar, words: &str, writer: &mut W) -
     let Some(asked) = booking_from(words) else {
         return write_line(writer, BOOK);
     };
-    match calendar.book(asked.name, asked.days) {
+    match calendar.book(asked.name, asked.days, asked.who) {
         Ok(Some(true)) => write_line(writer, "booked"),
-        Ok(Some(false)) => write_line(writer, "taken"),
+        Ok(Some(false)) => answer_taken(calendar, asked.name, &asked.days, writer),
         Ok(None) => write_line(writer, BOOK),
         Err(_) => write_line(writer, MEMORY),
+    }
+}
+
+// Says what is in the way of a booking.
+fn answer_taken<W: Write>(
+    calendar: &Calendar,
+    name: &str,
+    days: &Interval<i32>,
+    writer: &mut W,
+) -> io::Result<()> {
+    match calendar.room(name) {
+        Some(room) => write_taken(writer, room, days),
+        None => unreachable!(),
     }
 }
 
@@ -116,5 +137,22 @@ fn answer_free<W: Write>(calendar: &mut Calendar, words: &str, writer: &mut W) -
     match calendar.free_within(window) {
         Ok(free) => write_spans(writer, free.runs()),
         Err(_) => write_line(writer, MEMORY),
+    }
+}
+
+fn answer_who<W: Write>(calendar: &mut Calendar, words: &str, writer: &mut W) -> io::Result<()> {
+    let Some((name, day)) = room_and_day_from(words) else {
+        return write_line(writer, WHO);
+    };
+    match calendar.room(name) {
+        Some(room) => write_who(writer, room, day),
+        None => write_line(writer, WHO),
+    }
+}
+
+fn answer_of<W: Write>(calendar: &mut Calendar, words: &str, writer: &mut W) -> io::Result<()> {
+    match one_word(words) {
+        Some(name) => calendar.write_days_of(writer, name),
+        None => write_line(writer, OF),
     }
 }

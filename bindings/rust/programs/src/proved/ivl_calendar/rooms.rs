@@ -1,19 +1,25 @@
 // Written by bindings/rust/extract from crates/ivl_calendar/src/rooms.rt.
-//! Rooms, and the days on which they are busy.
+//! Rooms, and the days on which they are booked.
 
 #[allow(unused_imports)]
 use crate::rattle::prelude::*;
 use crate::proved::intervallum::interval::Interval;
 use crate::proved::intervallum::interval_set::IntervalSet;
-use crate::proved::intervallum::ops::Range;
+use crate::proved::intervallum::ops::{Bounded, Range};
+use crate::proved::ivl_map::IntervalMap;
 use crate::proved::ivl_paged::PagedSet;
 use crate::rattle::std::alloc::{AllocError, Global};
 use crate::rattle::std::collections::BTreeMap;
 
-/// The days on which a room is busy, as numbers of days. A contract sees the list of their runs.
+/// The bookings of a room, by the number of the day. A contract sees the runs of the days that are booked without a
+/// name, and the list of the other bookings.
+///
+/// The days without a name stand in a `PagedSet`, so that bookings of a room may come in any order. A map has the
+/// others: one of `n` bookings with a name moves those that come later, `O(n)`.
 pub struct Room {
     alloc: Global,
-    busy: PagedSet<i32>,
+    unnamed: PagedSet<i32>,
+    named: IntervalMap<i32, String>,
 }
 
 impl Room {
@@ -21,50 +27,99 @@ impl Room {
     pub fn new(alloc: Global) -> Room {
         Room {
             alloc,
-            busy: PagedSet::new(alloc),
+            unnamed: PagedSet::new(alloc),
+            named: IntervalMap::empty(alloc),
         }
     }
 
     /// Returns the first `days` consecutive days of a window on which the room is free, or `None` if there are none.
     /// The caller must ensure that `days` is above 0.
     ///
-    /// `O(k log n)`, where `k` of the `n` runs of busy days overlap the window. Fails only if allocation fails.
+    /// `O(k log n)`, where `k` of the `n` runs of booked days overlap the window. Fails only if allocation fails.
     pub fn first_gap(
         &self,
         window: Interval<i32>,
         days: u32,
     ) -> Result<Option<Interval<i32>>, AllocError> {
         let mut free = days_of(self.alloc, window)?;
-        take_busy(&mut free, &self.busy, window)?;
+        self.take_busy(&mut free, window)?;
         Ok(free.first_fit(days))
     }
 
-    /// Books the room if it is free on all of these days, and returns whether it was. `O(log n)` for `n` runs of busy
-    /// days.
+    /// Books the room if it is free on all of these days, and returns whether it was. The caller must ensure that the
+    /// days are dates in order.
+    ///
+    /// `O(log n)` for `n` runs of booked days; a booking with a name moves those with a name that come later.
     ///
     /// # Errors
     ///
     /// Fails only if allocation fails. Nothing is booked after an error, or if the result is false.
-    pub fn book(&mut self, days: Interval<i32>) -> Result<bool, AllocError> {
+    pub fn book(&mut self, days: Interval<i32>, who: Option<&str>) -> Result<bool, AllocError> {
         if !self.is_free(&days) {
             return Ok(false);
         }
-        self.busy.insert_interval(days)?;
+        match who {
+            Some(name) => self.add_named(days, name)?,
+            None => self.unnamed.insert_interval(days)?,
+        }
         Ok(true)
+    }
+
+    // Books days for a name, also those that were booked.
+    fn add_named(&mut self, days: Interval<i32>, name: &str) -> Result<(), AllocError> {
+        let name = String::from_str(self.alloc, name)?;
+        self.named.insert(days, name)
     }
 
     /// Returns whether the room is free on all of these days.
     fn is_free(&self, days: &Interval<i32>) -> bool {
-        match self.busy.next_from(days.lower_bound()) {
-            Some(next) => days.upper_bound() < next,
-            None => true,
+        is_free_of(&self.unnamed, days) && self.first_named(days).is_none()
+    }
+
+    /// Returns the first booking with a name that has one of these days, or `None` if there is none: all days
+    /// in a row that are booked for this name, and the name. The caller must ensure that the days are in order.
+    /// `O(log n)` for `n` bookings with a name. Does not allocate.
+    pub fn first_named(&self, days: &Interval<i32>) -> Option<(Interval<i32>, &str)> {
+        let Some(met) = self.named.next_from(days.lower()) else {
+            return None;
+        };
+        if met.0.lower() <= days.upper() {
+            Some((met.0, met.1.as_str()))
+        } else {
+            None
         }
+    }
+
+    /// Returns the name for which the room is booked on a day, or `None` if there is none. `O(log n)` for `n` bookings
+    /// with a name. Does not allocate.
+    pub fn name_on(&self, day: i32) -> Option<&str> {
+        match self.named.get(&day) {
+            Some(name) => Some(name.as_str()),
+            None => None,
+        }
+    }
+
+    /// Returns whether the room is booked without a name on a day. `O(log n)` for `n` runs of such days. Does not
+    /// allocate.
+    pub fn is_booked_without_name(&self, day: i32) -> bool {
+        self.unnamed.contains(&day)
+    }
+
+    /// Returns the bookings with a name, in ascending order. Does not allocate.
+    pub fn named(&self) -> &[(Interval<i32>, String)] {
+        self.named.entries()
+    }
+
+    // Takes the booked days of a window out of days of the window.
+    fn take_busy(&self, free: &mut PagedSet<i32>, window: Interval<i32>) -> Result<(), AllocError> {
+        take_unnamed(free, &self.unnamed, window)?;
+        take_named(free, self.named.overlapping(window))
     }
 }
 
 /// Returns the days of a window on which all rooms are free.
 ///
-/// `O(m log n)`, where the rooms have `m` runs of busy days that overlap the window, and looks at each room. Fails only
+/// `O(m log n)`, where the rooms have `m` runs of booked days that overlap the window, and looks at each room. Fails only
 /// if allocation fails.
 pub fn free_in_all(
     alloc: Global,
@@ -73,7 +128,7 @@ pub fn free_in_all(
 ) -> Result<IntervalSet<i32>, AllocError> {
     let mut free = days_of(alloc, window)?;
     for room in rooms.values() {
-        take_busy(&mut free, &room.busy, window)?;
+        room.take_busy(&mut free, window)?;
     }
     free.to_set()
 }
@@ -85,8 +140,8 @@ fn days_of(alloc: Global, window: Interval<i32>) -> Result<PagedSet<i32>, AllocE
     Ok(days)
 }
 
-// Takes the busy days of a room out of days of a window.
-fn take_busy(
+// Takes busy days out of days of a window.
+fn take_unnamed(
     free: &mut PagedSet<i32>,
     busy: &PagedSet<i32>,
     window: Interval<i32>,
@@ -101,6 +156,28 @@ fn take_busy(
         next = run_from(busy, run.upper_bound() + 1);
     }
     Ok(())
+}
+
+// Takes the days of bookings out of days.
+fn take_named(
+    free: &mut PagedSet<i32>,
+    bookings: &[(Interval<i32>, String)],
+) -> Result<(), AllocError> {
+    free.in_whole();
+    let mut left = bookings;
+    while let Some((booking, later)) = left.split_first() {
+        free.remove_interval(booking.0)?;
+        left = later;
+    }
+    Ok(())
+}
+
+// Whether none of these days is among those of a set.
+fn is_free_of(busy: &PagedSet<i32>, days: &Interval<i32>) -> bool {
+    match busy.next_from(days.lower_bound()) {
+        Some(next) => days.upper_bound() < next,
+        None => true,
+    }
 }
 
 // The first run of days that ends on a day or after it, or `None` if there is none.

@@ -1,4 +1,5 @@
 use Rattle.std.proofs.Common.{sym}
+use Rattle.std.specs.Prelude.{option_map}
 use Rattle.ivl_calendar.proofs.Maps.{booked, unbooked, none_there}
 use Rattle.ivl_calendar.proofs.calendar.Calendar.book.Goals as goal
 use Rattle.ivl_calendar.proofs.calendar.Calendar.book.Goals.{in-Ok, in-Err}
@@ -10,7 +11,7 @@ pub returns-clause-known : goal.returns-clause-known
 returns-clause-known c = elim c.match-book.branch [
   | in-Ok w ↦
       let of = w.in-Ok.ensures in
-      rw w.result-is (booked w.in-Ok.done c.self.inside.rooms (c.get_mut.follows.lender c.book.new.self) c.args.self.now c.args.name.now c.args.days c.in-Some.room.now c.book.new.self c.self.view_is (sym c.in-Some.ensures.value)
+      rw w.result-is (booked w.in-Ok.done c.self.inside.rooms (c.get_mut.follows.lender c.book.new.self) c.args.self.now c.args.name.now c.args.days (option_map (λ it. it.now) c.args.who) c.in-Some.room.now c.book.new.self c.self.view_is (sym c.in-Some.ensures.value)
       (c.get_mut.follows.holds c.book.new.self).0 of.booked of.unless_busy of.refused)
   | in-Err w ↦ rw w.result-is tt
 ]

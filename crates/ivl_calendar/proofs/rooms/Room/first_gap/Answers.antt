@@ -1,7 +1,8 @@
-use Rattle.std.proofs.Common.{ℕ, ℤ, List, Option, Some, None, MatchOption, subst}
+use Rattle.std.proofs.Common.{ℕ, ℤ, List, Option, Some, None, MatchOption}
 use Rattle.ivl_laws.specs.Runs.{Covers, IsRunsOf}
 use Rattle.ivl_laws.specs.Sets.{IsBetween, Without}
 use Rattle.intervallum.specs.FirstFit.{FitsAt, IsFirstFit}
+use Rattle.ivl_calendar.specs.Rooms.{IsBusy}
 use Rattle.ivl_calendar.proofs.Taking.{taken_from_window, within_window}
 use Rattle.ivl_calendar.proofs.rooms.Room.first_gap.Goals as goal
 
@@ -16,5 +17,4 @@ take_busy-requires c = within_window c.in_ok-free.free c.args.window c.in_ok-fre
 
 pub returns : goal.returns
 returns c =
-    let busy = subst (λ (L : List (ℤ × ℤ)). IsRunsOf c.take_busy.new.free (Without (Covers c.in_ok-free.free) (Covers L))) c.self.view_is c.in_ok-take_busy.ensures in
-    gap_is c.args.days _ (Without (IsBetween c.args.window) (Covers c.args.self.now)) c.first_fit.result (taken_from_window c.in_ok-free.free c.args.window c.in_ok-free.ensures _ _ busy) c.first_fit.ensures
+    gap_is c.args.days _ (Without (IsBetween c.args.window) (IsBusy c.args.self.now)) c.first_fit.result (taken_from_window c.in_ok-free.free c.args.window c.in_ok-free.ensures _ (IsBusy c.args.self.now) c.in_ok-take_busy.ensures) c.first_fit.ensures

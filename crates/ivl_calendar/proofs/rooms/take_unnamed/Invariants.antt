@@ -4,7 +4,7 @@ use Rattle.ivl_laws.specs.Runs.{Covers, IsRunsOf}
 use Rattle.ivl_laws.specs.Sets.{AtLeast, HasNone}
 use Rattle.ivl_calendar.specs.Rooms.{IsRunFrom}
 use Rattle.ivl_calendar.proofs.Taking.{IsLeftFrom, width_left}
-use Rattle.ivl_calendar.proofs.rooms.take_busy.Given as goal
+use Rattle.ivl_calendar.proofs.rooms.take_unnamed.Given as goal
 
 -- no busy day before `from` is left, and the next run is the first that ends from there on
 abbrev pub invariant-loop-next : goal.invariant-loop-next

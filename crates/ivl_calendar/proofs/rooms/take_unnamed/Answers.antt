@@ -5,7 +5,7 @@ use Rattle.ivl_laws.specs.Runs.{Covers}
 use Rattle.ivl_laws.specs.Sets.{AtLeast, HasNone}
 use Rattle.ivl_calendar.specs.Rooms.{IsRunFrom}
 use Rattle.ivl_calendar.proofs.Taking.{left_first, left_last, left_next, left_none, width_left, width_smaller}
-use Rattle.ivl_calendar.proofs.rooms.take_busy.Goals as goal
+use Rattle.ivl_calendar.proofs.rooms.take_unnamed.Goals as goal
 
 pub loop-next-init : goal.loop-next-init
 loop-next-init c =
