@@ -158,8 +158,6 @@ fn is_below<R: Run>(run: R, next: R) -> bool {
 /// requires run { IsRunIn R.Bound.whole (R.pair run) }
 /// ensures { IsTrue result ↔ (((R.pair last).1 +ℤ pos 2) ≤ℤ (R.pair run).0) }
 /// ```
-///
-/// Words: [`IsRunIn`](crate::definitions#IsRunIn).
 pub fn leaves_free<R: Run>(last: R, run: R) -> bool {
     debug_assert!({ #[allow(unused_imports)] use crate::proved::ivl_interval::ops::*; is_run_list(&[last]) && is_run_list(&[run]) }, "{}", "the condition of `leaves_free` is broken: is_run_list(&[last]) && is_run_list(&[run])");
     let (end, start) = (last.upper(), run.lower());
