@@ -54,6 +54,9 @@ pub mod ivl_json;
 #[cfg(target_pointer_width = "64")]
 pub mod ivl_buffers;
 pub mod ivl_map;
+// the source imports a trait for whose methods Rust does not ask
+#[allow(unused_imports)]
+pub mod ivl_merges;
 pub mod ivl_paged;
 pub mod ivl_rules;
 pub mod ivl_search;

@@ -10,8 +10,8 @@ use Rattle.ivl_laws.specs.Counts.{IsCountOf}
 use Rattle.ivl_laws.proofs.Counts.{IsCountOf-apart, IsCountOf-same}
 use Rattle.ivl_laws.proofs.Merging.{covers-append, covers-append_left, covers-append_right}
 use Rattle.ivl_laws.proofs.Widths.{count_is_total_width, total_width-le}
-use Rattle.intervallum.specs.Order.{IsBelow}
-use Rattle.intervallum.proofs.Splicing.{IsMaximal-append}
+use Rattle.ivl_merges.specs.Order.{IsBelow}
+use Rattle.ivl_merges.proofs.MergeState.{IsMaximal-append}
 
 -- V is the list L and what R has in W, n and more numbers
 pub record AddsPart (whole : ℤ × ℤ) (L V R : List (ℤ × ℤ)) (W : ℤ × ℤ) (n more greatest : ℕ) : Type 0 where

@@ -10,8 +10,8 @@ use Rattle.ivl_laws.proofs.Orders.{not_le}
 use Rattle.ivl_laws.proofs.Places.{covers-drop, IsMaximal-drop, start_in}
 use Rattle.ivl_laws.proofs.Runs.{covered_after, covered_from, upper_end}
 use Rattle.intervallum.specs.Places.{EndBelow}
-use Rattle.intervallum.proofs.Intersections.{first_covers}
-use Rattle.intervallum.proofs.Walking.{first_is_open, is_first}
+use Rattle.ivl_merges.proofs.Intersections.{first_covers}
+use Rattle.ivl_merges.proofs.Walking.{first_is_open, is_first}
 use Rattle.intervallum.proofs.Windows.{below_all, covers_split}
 
 -- M is the list L without its first runs, which end below v

@@ -10,7 +10,7 @@ use Rattle.ivl_laws.proofs.Counts.{IsCountOf-same}
 use Rattle.ivl_laws.proofs.Ranges.{IsRunsOf-one}
 use Rattle.ivl_laws.proofs.Runs.{pair_same}
 use Rattle.ivl_laws.proofs.SetLaws.{IsRunsOf-same}
-use Rattle.intervallum.proofs.RunBounds.{length_of_without}
+use Rattle.ivl_merges.proofs.RunBounds.{length_of_without}
 use Rattle.intervallum.specs.Neighbours.{IsLeast, IsRunWith}
 
 -- ---- the set of an interval

@@ -5,7 +5,7 @@ use Rattle.std.proofs.lemmas.List.{take_more}
 use Rattle.ivl_laws.specs.Sets.{IsBetween, IsSubset}
 use Rattle.ivl_laws.specs.Runs.{AddsRun, Covers, IsRunListIn}
 use Rattle.ivl_laws.proofs.Adding.{adds_to_none}
-use Rattle.intervallum.proofs.MergeState.{adds_above}
+use Rattle.ivl_merges.proofs.MergeState.{adds_above}
 
 pub record AreRunsTo (p whole : ℤ × ℤ) (L : List (ℤ × ℤ)) : Type 0 where
   pub list : IsRunListIn whole L

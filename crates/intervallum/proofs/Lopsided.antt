@@ -10,7 +10,7 @@ use Rattle.ivl_laws.specs.Runs.{Covers, IsMaximal, IsRunListIn, IsRunsOf, Starts
 use Rattle.ivl_laws.proofs.Places.{open_at, runs_ascend}
 use Rattle.ivl_laws.proofs.SetLaws.{IsRunsOf-same}
 use Rattle.intervallum.specs.Places.{EndBelow, EndsFrom, StartAbove}
-use Rattle.intervallum.specs.Order.{IsBelow}
+use Rattle.ivl_merges.specs.Order.{IsBelow}
 use Rattle.intervallum.proofs.Finding.{EndBelow-more}
 use Rattle.intervallum.proofs.PartCounts.{parts_more, parts_none}
 use Rattle.intervallum.proofs.Splicing.{taken_below}

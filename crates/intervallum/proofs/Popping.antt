@@ -10,7 +10,7 @@ use Rattle.ivl_laws.proofs.Runs.{≤ℤ_antisymm}
 use Rattle.ivl_laws.proofs.SetLaws.{IsRunsOf-same}
 use lib.Signed.{≤ℤ_refl}
 use Rattle.intervallum.specs.Edits.{IsSpan, replaced}
-use Rattle.intervallum.specs.HeldRun.{led_by}
+use Rattle.ivl_merges.specs.HeldRun.{led_by}
 use Rattle.intervallum.proofs.Splicing.{left_without}
 use Rattle.intervallum.proofs.Windows.{split_by_run}
 

@@ -9,10 +9,10 @@ use Rattle.ivl_laws.specs.Sets.{HasNone, Intersection, IsBetween, IsSubset, Same
 use Rattle.ivl_laws.specs.Runs.{Covers, IsMaximal, IsRunsOf}
 use Rattle.ivl_laws.proofs.Counts.{IsCountOf-apart, IsCountOf-none, IsCountOf-same, count_is_monotone, count_is_unique}
 use Rattle.ivl_laws.proofs.Intervals.{IsCountOf-width_of}
-use Rattle.intervallum.specs.HeldRun.{IsTakenIf}
-use Rattle.intervallum.specs.Order.{IsBelow}
-use Rattle.intervallum.proofs.MergeState.{IsBuilding, building_ends, building_starts, written_if_filled}
-use Rattle.intervallum.proofs.Intersections.{common_next, first_covers, shared_is_above}
+use Rattle.ivl_merges.specs.HeldRun.{IsTakenIf}
+use Rattle.ivl_merges.specs.Order.{IsBelow}
+use Rattle.ivl_merges.proofs.MergeState.{IsBuilding, building_ends, building_starts, written_if_filled}
+use Rattle.ivl_merges.proofs.Intersections.{common_next, first_covers, shared_is_above}
 
 -- ---- the numbers of a list that are in T, and the others
 

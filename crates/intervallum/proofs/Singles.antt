@@ -7,7 +7,7 @@ use Rattle.ivl_laws.specs.Runs.{Covers, IsRunsOf}
 use Rattle.ivl_laws.proofs.SetLaws.{IsRunsOf-same, only_is_covered}
 use Rattle.ivl_laws.proofs.Ranges.{IsRunsOf-none}
 use Rattle.ivl_laws.proofs.Lengths.{length_of_union}
-use Rattle.intervallum.proofs.RunBounds.{length_of_without}
+use Rattle.ivl_merges.proofs.RunBounds.{length_of_without}
 use lib.Signed.{≤ℤ_refl}
 
 -- a value that is a member is all that the two have in common, and else nothing is

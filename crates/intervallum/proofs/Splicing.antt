@@ -5,7 +5,7 @@ use Rattle.std.specs.Int.{int_max, int_min}
 use Rattle.std.proofs.lemmas.List.{drop-drop, take-append-drop}
 use Rattle.std.proofs.lemmas.List.Sums.{sum_by-append, sum_by-cons}
 use Rattle.ivl_laws.specs.Sets.{Above, Below, IsBetween, IsSubset, Union, Without}
-use Rattle.ivl_laws.specs.Runs.{Covers, IsMaximal, IsRunListIn, IsRunsOf, StartsAfter, StartsBy}
+use Rattle.ivl_laws.specs.Runs.{Covers, IsMaximal, IsRunListIn, IsRunsOf, StartsBy}
 use Rattle.ivl_laws.specs.Bounds.{width_of}
 use Rattle.ivl_laws.specs.Counts.{IsCountOf}
 use Rattle.ivl_laws.proofs.Runs.{covered_after, covered_from, lower_end, upper_end}
@@ -13,9 +13,10 @@ use Rattle.ivl_laws.proofs.Merging.{covers-append, covers-append_left, covers-ap
 use Rattle.ivl_laws.proofs.Places.{covers_at, covers-drop, covers-take, open_at, IsMaximal-drop, IsMaximal-take}
 use Rattle.ivl_laws.proofs.Widths.{count_is_total_width, total_width, total_width-le}
 use Rattle.intervallum.specs.Edits.{IsSpan, replaced}
-use Rattle.intervallum.specs.HeldRun.{led_by}
+use Rattle.ivl_merges.specs.HeldRun.{led_by}
 use Rattle.intervallum.specs.Places.{EndsFrom}
-use Rattle.intervallum.specs.Order.{IsBelow}
+use Rattle.ivl_merges.specs.Order.{IsBelow}
+use Rattle.ivl_merges.proofs.MergeState.{IsMaximal-append}
 use Rattle.intervallum.proofs.Windows.{above_all, below_all, covers_split}
 
 -- a write at the end of what is kept
@@ -27,15 +28,6 @@ set_before (q ∷ L) M (suc i) p h =
     ap (λ (n : ℕ). set (take n (q ∷ L) ++ M) (suc i) p) e ∙ ap (λ (N : List (ℤ × ℤ)). q ∷ N) (set_before L M i p (omega arith))
 
 -- ---- lists one above the other
-
-StartsAfter-append : (p : ℤ × ℤ) (A B : List (ℤ × ℤ)) → IsMaximal (p ∷ A) → IsMaximal B → IsBelow (pos 2) (Covers (p ∷ A)) (Covers B) → StartsAfter p.1 (A ++ B)
-StartsAfter-append p [] [] m n h = tt
-StartsAfter-append p [] (q ∷ B) m n h = h p.1 q.0 (inl (upper_end p m.0)) (inl (lower_end q n.0))
-StartsAfter-append p (r ∷ A) B m n h = m.1
-
-pub IsMaximal-append : (A B : List (ℤ × ℤ)) → IsMaximal A → IsMaximal B → IsBelow (pos 2) (Covers A) (Covers B) → IsMaximal (A ++ B)
-IsMaximal-append [] B m n h = n
-IsMaximal-append (p ∷ A) B m n h = (m.0, StartsAfter-append p A B m n h, IsMaximal-append A B m.2 n (λ x y c. h x y (inr c)))
 
 -- the runs before a place, and those from one on, lie on either side of what stands there
 pub taken_below : (L : List (ℤ × ℤ)) (i : ℕ) (d : ℤ × ℤ) (x : ℤ) → IsMaximal L → i < length L → Covers (take i L) x → (x +ℤ pos 2) ≤ℤ (get_or L i d).0

@@ -4,7 +4,7 @@
 --     widened p      the pair with one number more on either side
 use Rattle.std.specs.Prelude.{ℕ, ◌≤◌, ℤ, pos, ◌+ℤ◌, ◌-ℤ◌, List, ◌++◌, Option, length, take, drop}
 use Rattle.ivl_laws.specs.Runs.{StartsBy}
-use Rattle.intervallum.specs.HeldRun.{led_by}
+use Rattle.ivl_merges.specs.HeldRun.{led_by}
 use Rattle.intervallum.specs.Places.{EndBelow, EndsFrom, StartAbove}
 
 pub record IsSpan (L : List (ℤ × ℤ)) (u v : ℤ) (i j : ℕ) : Type 0 where

@@ -4,8 +4,6 @@ pub mod EqualityLaws
 pub mod Sweeps
 pub mod Text
 pub mod Places
-pub mod Order
-pub mod HeldRun
 pub mod Edits
 pub mod Neighbours
 pub mod FirstFit

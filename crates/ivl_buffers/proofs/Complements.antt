@@ -4,10 +4,11 @@ use Rattle.std.proofs.lemmas.Int.{ints, clamps}
 use Rattle.ivl_laws.specs.Bounds.{IsBoundRange}
 use Rattle.ivl_laws.specs.Sets.{Complement, SameMembers, Without}
 use Rattle.ivl_laws.specs.Runs.{Covers, IsMaximal, IsRunListIn}
-use Rattle.ivl_buffers.specs.Merging.{IsLaid, IsRunIn, LaysNext}
+use Rattle.ivl_merges.specs.Sinks.{IsRunIn}
+use Rattle.ivl_buffers.specs.Merging.{IsLaid, LaysNext}
 use Rattle.ivl_buffers.proofs.Differences.{above_part, below_part, part_alone, part_first, part_second}
 use Rattle.ivl_buffers.proofs.Output.{IsLaying, laying_begins, laying_ends, laying_same}
-use Rattle.ivl_buffers.proofs.Suffixes.{rest_all, rest_at, rest_list, rest_none}
+use Rattle.ivl_merges.proofs.Suffixes.{rest_all, rest_at, rest_list, rest_none}
 
 -- a number of the range is no member, or is in the one run of the range and not in the list
 module _ (whole : ℤ × ℤ) (L : List (ℤ × ℤ)) where

@@ -7,14 +7,15 @@ use Rattle.std.proofs.lemmas.Option.{slice_get_within}
 use Rattle.ivl_laws.specs.Sets.{Above, Below, IsBetween, SameMembers, Union, Without}
 use Rattle.ivl_laws.specs.Runs.{Covers, IsMaximal, IsRunListIn}
 use Rattle.ivl_laws.proofs.Runs.{covered_after}
-use Rattle.intervallum.specs.HeldRun.{led_by}
-use Rattle.intervallum.specs.Order.{IsBelow}
-use Rattle.intervallum.proofs.MergeState.{building_below, building_takes}
-use Rattle.intervallum.proofs.Differences.{cut_maximal, part_is_above, parts_first, parts_second}
-use Rattle.ivl_buffers.specs.Merging.{IsLaid, IsRunIn, LaysNext}
+use Rattle.ivl_merges.specs.HeldRun.{led_by}
+use Rattle.ivl_merges.specs.Order.{IsBelow}
+use Rattle.ivl_merges.proofs.MergeState.{building_below, building_takes}
+use Rattle.ivl_merges.proofs.Differences.{cut_maximal, part_is_above, parts_first, parts_second}
+use Rattle.ivl_merges.specs.Sinks.{IsRunIn}
+use Rattle.ivl_buffers.specs.Merging.{IsLaid, LaysNext}
 use Rattle.ivl_buffers.proofs.Output.{IsLaying, laying_begins, laying_ends, lays}
 use Rattle.ivl_buffers.proofs.Intersections.{led}
-use Rattle.ivl_buffers.proofs.Suffixes.{led_at, none_from, rest_all, rest_at, rest_list, rest_none}
+use Rattle.ivl_merges.proofs.Suffixes.{led_at, none_from, rest_all, rest_at, rest_list, rest_none}
 use Rattle.ivl_buffers.proofs.RunLists.{first_is_run}
 
 -- ---- parts of a run

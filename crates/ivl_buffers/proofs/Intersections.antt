@@ -10,12 +10,12 @@ use Rattle.ivl_laws.specs.Runs.{Covers, IsMaximal}
 use Rattle.ivl_laws.proofs.Adding.{untrue}
 use Rattle.ivl_laws.proofs.Merging.{overlap_between}
 use Rattle.ivl_laws.proofs.Runs.{pair_same}
-use Rattle.intervallum.proofs.MergeState.{building_same}
-use Rattle.intervallum.proofs.HeldRun.{IsLed, zip_none}
-use Rattle.intervallum.proofs.Intersections.{common_next, shared_is_above, turned}
+use Rattle.ivl_merges.proofs.MergeState.{building_same}
+use Rattle.ivl_merges.proofs.HeldRun.{IsLed, zip_none}
+use Rattle.ivl_merges.proofs.Intersections.{common_next, shared_is_above, turned}
 use Rattle.ivl_buffers.specs.Merging.{IsLaid, LaysNext}
 use Rattle.ivl_buffers.proofs.Output.{IsLaying, laying_begins, laying_ends, lays}
-use Rattle.ivl_buffers.proofs.Suffixes.{none_from, rest_all, rest_at, rest_maximal}
+use Rattle.ivl_merges.proofs.Suffixes.{none_from, rest_all, rest_at, rest_maximal}
 
 pub both_starts : {a b m n : ℤ} → a ≡ m → b ≡ n → int_min a b ≡ int_min m n
 both_starts e f = cc

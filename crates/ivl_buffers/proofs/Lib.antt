@@ -4,7 +4,6 @@ pub mod SumLists
 pub mod ProductLists
 pub mod LeastMember
 pub mod InOrder
-pub mod Suffixes
 pub mod RunLists
 pub mod Links
 pub mod Output

@@ -4,7 +4,7 @@ use Rattle.std.proofs.lemmas.Bool.Decides.{nat_tests}
 use Rattle.std.proofs.lemmas.Int.{ints}
 use Rattle.ivl_laws.specs.Runs.{IsRunListIn}
 use Rattle.ivl_buffers.specs.Links.{AreLinked, EndsIn, StartsIn}
-use Rattle.ivl_buffers.specs.Merging.{IsRunIn}
+use Rattle.ivl_merges.specs.Sinks.{IsRunIn}
 use Rattle.ivl_buffers.proofs.RunLists.{first_is_run, more_is_list, one_is_list}
 
 pub some_from : (n : ℕ) (t : Bool) → t ≡ (n == 0) → t ≡ false → 0 < n

@@ -9,10 +9,11 @@ use Rattle.ivl_laws.specs.Sets.{SymmetricDifference}
 use Rattle.ivl_laws.specs.Runs.{Covers, IsRunListIn}
 use Rattle.ivl_laws.proofs.Adding.{untrue}
 use Rattle.ivl_laws.proofs.Runs.{covered_from}
-use Rattle.intervallum.proofs.Alone.{IsAlone, alone_from, alone_starts}
-use Rattle.intervallum.proofs.AloneSteps.{all_alone, alone_next, ends_alone, one_at_most}
-use Rattle.intervallum.proofs.Placing.{MeetsAt}
-use Rattle.ivl_buffers.specs.Merging.{IsLaid, laid}
+use Rattle.ivl_merges.proofs.Alone.{IsAlone, alone_from, alone_starts}
+use Rattle.ivl_merges.proofs.AloneSteps.{all_alone, alone_next, ends_alone, one_at_most}
+use Rattle.ivl_merges.proofs.Placing.{MeetsAt}
+use Rattle.ivl_merges.specs.Sinks.{laid}
+use Rattle.ivl_buffers.specs.Merging.{IsLaid}
 use Rattle.ivl_buffers.proofs.Output.{length_more}
 
 -- what is laid, and what is still to lay to make up S

@@ -9,10 +9,11 @@ use Rattle.ivl_laws.specs.Sets.{HasNone, IsBetween, SameMembers, Union}
 use Rattle.ivl_laws.specs.Runs.{Covers, IsMaximal}
 use Rattle.ivl_laws.proofs.Intervals.{none_is_crossed}
 use Rattle.ivl_laws.proofs.SetLaws.{IsRunsOf-unique}
-use Rattle.intervallum.specs.Order.{IsBelow}
-use Rattle.intervallum.proofs.MergeState.{IsBuilding, adds_above, adds_none, building_ends, building_same}
+use Rattle.ivl_merges.specs.Order.{IsBelow}
+use Rattle.ivl_merges.proofs.MergeState.{IsBuilding, adds_above, adds_none, building_ends, building_same}
 use Rattle.ivl_buffers.specs.Answers.{IsWritten, written}
-use Rattle.ivl_buffers.specs.Merging.{IsLaid, LaysNext, Stands, laid}
+use Rattle.ivl_merges.specs.Sinks.{Stands, laid}
+use Rattle.ivl_buffers.specs.Merging.{IsLaid, LaysNext}
 
 pub laid_more : (L room : List (ℤ × ℤ)) (p : ℤ × ℤ) → set (laid L room) (length L) p ≡ laid (L ++ p ∷ []) room
 laid_more [] [] p = refl

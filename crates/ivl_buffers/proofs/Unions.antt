@@ -12,11 +12,12 @@ use Rattle.ivl_laws.proofs.Adding.{untrue}
 use Rattle.ivl_laws.proofs.Runs.{pair_same}
 use Rattle.ivl_laws.proofs.Merging.{StartsBy-push, first_run, run_apart, run_joined}
 use Rattle.ivl_laws.proofs.Walks.{IsUniting, uniting_begins, uniting_next}
-use Rattle.intervallum.specs.HeldRun.{led_by}
-use Rattle.intervallum.proofs.Unions.{all_united, taken_starts}
-use Rattle.ivl_buffers.specs.Merging.{IsLaid, IsRunIn, laid}
+use Rattle.ivl_merges.specs.HeldRun.{led_by}
+use Rattle.ivl_merges.proofs.Unions.{all_united, taken_starts}
+use Rattle.ivl_merges.specs.Sinks.{IsRunIn, laid}
+use Rattle.ivl_buffers.specs.Merging.{IsLaid}
 use Rattle.ivl_buffers.proofs.Output.{laid_more, length_more}
-use Rattle.ivl_buffers.proofs.Suffixes.{led_at, none_from, rest_all, rest_list}
+use Rattle.ivl_merges.proofs.Suffixes.{led_at, none_from, rest_all, rest_list}
 use Rattle.ivl_buffers.proofs.RunLists.{first_is_run}
 
 -- ---- the pair that is taken

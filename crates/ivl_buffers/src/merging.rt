@@ -12,7 +12,8 @@ ghost use Rattle.std.specs.Option.{option_zip};
 ghost use Rattle.ivl_laws.specs.Sets.{Complement, Intersection, SymmetricDifference, Union, Without};
 ghost use Rattle.ivl_laws.specs.Runs.{Covers, IsRunListIn};
 ghost use Rattle.ivl_laws.specs.Walks.{TakesFirst};
-ghost use Rattle.ivl_buffers.specs.Merging.{IsLaid, IsRunIn, LaysNext, Stands, laid};
+ghost use Rattle.ivl_merges.specs.Sinks.{IsRunIn, Stands, laid};
+ghost use Rattle.ivl_buffers.specs.Merging.{IsLaid, LaysNext};
 
 use crate::run::Run;
 use crate::run_lists::{leaves_free, one_if};

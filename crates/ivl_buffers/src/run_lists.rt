@@ -4,7 +4,7 @@ ghost use Rattle.std.specs.Int.{from_bool};
 ghost use Rattle.ivl_laws.specs.Sets.{IsBetween};
 ghost use Rattle.ivl_laws.specs.Runs.{IsRunListIn};
 ghost use Rattle.ivl_buffers.specs.Links.{AreLinked, EndsIn, IsLinked, StartsIn};
-ghost use Rattle.ivl_buffers.specs.Merging.{IsRunIn};
+ghost use Rattle.ivl_merges.specs.Sinks.{IsRunIn};
 
 use crate::run::Run;
 use intervallum::interval::Interval;

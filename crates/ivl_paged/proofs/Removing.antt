@@ -9,7 +9,7 @@ use Rattle.ivl_laws.specs.Runs.{Covers, IsMaximal, IsRunsOf}
 use Rattle.ivl_laws.proofs.Merging.{covers-append, covers-append_left, covers-append_right}
 use Rattle.ivl_laws.proofs.Runs.{runs_are_unique}
 use Rattle.intervallum.specs.Edits.{widened}
-use Rattle.intervallum.proofs.Splicing.{IsMaximal-append}
+use Rattle.ivl_merges.proofs.MergeState.{IsMaximal-append}
 use Rattle.intervallum.specs.Neighbours.{IsLeast}
 use Rattle.ivl_paged.specs.Pages.{IsPageCut, IsPageSpan, flattened}
 use Rattle.ivl_paged.proofs.Longest.{without_same}

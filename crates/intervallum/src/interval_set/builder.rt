@@ -1,14 +1,12 @@
 //! How a set is built: from a list of runs and its size, or by pushing runs at its end.
-ghost use Rattle.std.specs.Prelude.{◌≡◌, ◌+◌, ◌<◌, ◌≤◌, pos, ◌+ℤ◌, ◌≤ℤ◌, [], ◌∷◌, ◌++◌, ◌-◌, IfOk, OnOk, OnErr, Some, length, slice_get, vec_capacity, vec_len};
-ghost use Rattle.ivl_laws.specs.Sets.{IsBetween, IsSubset};
+ghost use Rattle.std.specs.Prelude.{◌≡◌, ◌+◌, ◌<◌, ◌≤◌, ◌≤ℤ◌, [], ◌-◌, IfOk, Some, length, slice_get, vec_capacity, vec_len};
 ghost use Rattle.ivl_laws.specs.Runs.{AddsRun, Covers, IsMaximal, IsRunListIn, StartsBy};
 ghost use Rattle.ivl_laws.specs.Counts.{IsCountOf};
-ghost use Rattle.ivl_laws.specs.Bounds.{width_of};
 
 use super::IntervalSet;
 use super::run_lists::joins;
 use crate::interval::Interval;
-use crate::ops::{Bounded, Cardinality, Range, StrictShrinkLeft};
+use crate::ops::{Bounded, Range};
 use crate::width::{SizeNumber, Width};
 use std::alloc::{AllocError, Global};
 use std::hint::select_unpredictable;
@@ -69,40 +67,6 @@ impl<B: Width> IntervalSet<B> {
         }
         self
     }
-
-    /// Adds the members of a run that starts no lower than the last run does, joined with that one
-    /// if the two overlap or touch.
-    pub(crate) fn push_run(&mut self, run: Interval<B>) -> Result<(), AllocError>
-        requires filled { run.0 ≤ℤ run.1 }
-        requires within { IsSubset (IsBetween run) (IsBetween B.whole) }
-        requires in_order { StartsBy run.0 self.old }
-        ensures ok { OnOk result (AddsRun self.old run self.new) }
-        ensures err { OnErr result (self.new ≡ self.old) }
-    {
-        let count = self.intervals.len();
-        if count > 0 {
-            let last = self.intervals[count - 1];
-            if joins(&last, &run) {
-                let upper = last.upper().max(run.upper());
-                self.size = grown::<B>(self.size, numbers_past(&last, &run));
-                self.intervals[count - 1] = Interval::new(last.lower(), upper);
-                return Ok(());
-            }
-        }
-        self.push_apart(run)
-    }
-
-    /// Adds a run at the end, where it joins with no other.
-    pub(crate) fn push_apart(&mut self, run: Interval<B>) -> Result<(), AllocError>
-        requires within { IsSubset (IsBetween run) (IsBetween B.whole) }
-        requires apart { AddsRun self.old run (self.old ++ run ∷ []) }
-        ensures ok { OnOk result (AddsRun self.old run self.new) }
-        ensures err { OnErr result (self.new ≡ self.old) }
-    {
-        self.intervals.push(run)?;
-        self.size = grown::<B>(self.size, run.size());
-        Ok(())
-    }
 }
 
 /// Adds a run that starts no lower than the last one, in room that is reserved, and returns the run
@@ -129,16 +93,6 @@ pub(crate) fn add_reserved<B: Width>(
     runs.truncate(runs.len() - usize::from(is_joined));
     runs.push_reserved(next);
     next
-}
-
-/// How many numbers of a run lie above another run's end.
-fn numbers_past<B: Width>(last: &Interval<B>, run: &Interval<B>) -> B::Output
-    requires last { last.now.0 ≤ℤ last.now.1 }
-    requires run { run.now.0 ≤ℤ run.now.1 }
-    requires near { run.now.0 ≤ℤ (last.now.1 +ℤ pos 1) }
-    ensures { B.Output.size result ≡ width_of (last.now.1 +ℤ pos 1, run.now.1) }
-{
-    run.strict_shrink_left(last.upper()).size()
 }
 
 /// A size and some more. The sum is a size again.

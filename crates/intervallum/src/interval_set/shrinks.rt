@@ -3,7 +3,7 @@ ghost use Rattle.std.specs.Prelude.{◌≡◌, ◌+◌, ◌≤◌, pos, ◌≤�
 ghost use Rattle.ivl_laws.specs.Sets.{Above, AtLeast, AtMost, Below, Intersection, IsBetween, Union};
 ghost use Rattle.ivl_laws.specs.Runs.{Covers, IsRunListIn, IsRunsOf, StartsBy};
 ghost use Rattle.intervallum.specs.Places.{EndBelow, EndsFrom, StartAbove};
-ghost use Rattle.intervallum.specs.Order.{IsBelow};
+ghost use Rattle.ivl_merges.specs.Order.{IsBelow};
 
 use super::IntervalSet;
 use super::builder::grown;

@@ -1,14 +1,14 @@
 //! The numbers of the range that are no members of a set.
-ghost use Rattle.std.specs.Prelude.{◌≡◌, ◌+◌, ◌≤◌, ◌+ℤ◌, ◌-ℤ◌, ◌∷◌, IfOk, length, pos};
-ghost use Rattle.ivl_laws.specs.Sets.{Complement, IsBetween};
-ghost use Rattle.ivl_laws.specs.Runs.{Covers, IsRunListIn, IsRunsOf};
+ghost use Rattle.std.specs.Prelude.{◌+◌, ◌≤◌, IfOk, length};
+ghost use Rattle.ivl_laws.specs.Sets.{Complement};
+ghost use Rattle.ivl_laws.specs.Runs.{Covers, IsRunsOf};
 
-use super::intersection::push_reserved_part;
-use super::walk::Walk;
+use super::union::room_of;
 use crate::interval::Interval;
 use crate::interval_set::IntervalSet;
-use crate::ops::{Bounded, Cardinality, Range, StrictShrinkLeft, StrictShrinkRight, Whole};
+use crate::ops::{Cardinality, Whole};
 use crate::width::{SizeNumber, Width};
+use ivl_merges::merges::complement;
 use std::alloc::AllocError;
 
 /// The numbers of the range that are no members of a set. Advances once for each run, and reserves
@@ -18,48 +18,12 @@ pub(crate) fn gaps<B: Width>(set: &IntervalSet<B>) -> Result<IntervalSet<B>, All
     ensures runs_at_most { IfOk result (λ L. length L ≤ length set.now + 1) }
 {
     set.in_whole();
-    let mut walk = Walk::new(set);
-    let Some(first) = walk.take() else {
-        return IntervalSet::whole(set.allocator());
-    };
-    let runs = gaps_around(first, walk)?;
+    let list = set.as_runs();
+    let room = room_of(list.len(), 1)?;
+    let mut runs = Vec::with_capacity(set.allocator(), room)?;
+    complement(list, &mut runs);
     let all = Interval::<B>::whole().size();
     // a number of the range is a member or is in a gap
     let size = all.checked_sub(set.size()).unwrap();
     Ok(IntervalSet::of_runs(runs, size).fitted())
-}
-
-/// The gaps below, between and above a run and those that are left in its walk.
-fn gaps_around<B: Width>(
-    first: Interval<B>,
-    mut walk: Walk<'_, B>,
-) -> Result<Vec<Interval<B>>, AllocError>
-    requires { IsRunListIn B.whole (first ∷ walk.left) }
-    ensures members { IfOk result (λ v. IsRunsOf v.items (Complement B.whole (Covers (first ∷ walk.entry.left)))) }
-{
-    // no memory holds more runs than a `usize` counts
-    let room = walk.left().checked_add(2).ok_or(AllocError)?;
-    let mut gaps = Vec::with_capacity(walk.alloc(), room)?;
-    push_reserved_part(
-        &mut gaps,
-        Interval::whole().strict_shrink_right(first.lower()),
-    );
-    let mut end = first.upper();
-    'walk: while let Some(run) = walk.peek() {
-        // a number is missing between two runs, so there is nothing to test
-        gaps.push_reserved(between(end, run.lower()));
-        end = run.upper();
-        walk.advance();
-    }
-    push_reserved_part(&mut gaps, Interval::whole().strict_shrink_left(end));
-    Ok(gaps)
-}
-
-/// The numbers above one value and below another.
-fn between<B: Width>(end: B, start: B) -> Interval<B>
-    requires after { IsBetween B.whole (B.value end +ℤ pos 1) }
-    requires before { IsBetween B.whole (B.value start -ℤ pos 1) }
-    ensures { result ≡ (B.value end +ℤ pos 1, B.value start -ℤ pos 1) }
-{
-    Interval::new(end.add_in_range(B::one()), start.sub_in_range(B::one()))
 }

@@ -1,15 +1,15 @@
 //! The common members of two walks.
-ghost use Rattle.std.specs.Prelude.{◌≡◌, ◌↔◌, ◌+◌, ◌<◌, ◌≤◌, IfOk, IsTrue, MatchOption, Some, length, pos, slice_get, vec_capacity, vec_len};
-ghost use Rattle.ivl_laws.specs.Sets.{HasNone, HasSome, Intersection, IsBetween, Union};
-ghost use Rattle.ivl_laws.specs.Runs.{Covers, IsMaximal, IsRunListIn, IsRunsOf};
-ghost use Rattle.intervallum.specs.Order.{IsBelow};
+ghost use Rattle.std.specs.Prelude.{◌≡◌, ◌↔◌, ◌+◌, ◌≤◌, IfOk, IsTrue, MatchOption, Some, length, slice_get};
+ghost use Rattle.ivl_laws.specs.Sets.{HasNone, HasSome, Intersection};
+ghost use Rattle.ivl_laws.specs.Runs.{Covers, IsRunListIn, IsRunsOf};
 
+use super::union::{room_of, set_of};
 use super::walk::Walk;
 use crate::interval::Interval;
 use crate::interval_set::IntervalSet;
-use crate::interval_set::run_lists::size_of_runs;
-use crate::ops::{Bounded, Intersection, IsEmpty};
+use crate::ops::Bounded;
 use crate::width::Width;
+use ivl_merges::merges::intersection;
 use std::alloc::AllocError;
 
 /// Returns the common members of the runs left in two walks. Advances at most once for each of
@@ -28,30 +28,10 @@ pub fn common<B: Width>(
     ensures members { IfOk result (λ L. IsRunsOf L (Intersection (Covers first.entry.left) (Covers second.entry.left))) }
     ensures runs_at_most { IfOk result (λ L. length L ≤ length first.entry.left + length second.entry.left) }
 {
-    let runs = common_runs(first, second)?;
-    let size = size_of_runs(&runs);
-    Ok(IntervalSet::of_runs(runs, size).fitted())
-}
-
-/// The runs of the common members of the runs left in two walks.
-fn common_runs<B: Width>(
-    mut first: Walk<'_, B>,
-    mut second: Walk<'_, B>,
-) -> Result<Vec<Interval<B>>, AllocError>
-    ensures runs { IfOk result (λ v. IsRunListIn B.whole v.items) }
-    ensures members { IfOk result (λ v. IsRunsOf v.items (Intersection (Covers first.entry.left) (Covers second.entry.left))) }
-{
-    // no memory holds more runs than a `usize` counts
-    let room = first.left().checked_add(second.left()).ok_or(AllocError)?;
+    let room = room_of(first.left(), second.left())?;
     let mut runs = Vec::with_capacity(first.alloc(), room)?;
-    'walk: while let Some(heads) = heads(&first, &second) {
-        let (run, other) = heads;
-        push_reserved_part(&mut runs, run.intersection(&other));
-        let ends_first = run.upper() <= other.upper();
-        first.advance_if(ends_first);
-        second.advance_if(!ends_first);
-    }
-    Ok(runs)
+    intersection(first.rest(), second.rest(), &mut runs);
+    Ok(set_of(runs))
 }
 
 /// The first runs of two walks, if both have one.
@@ -68,21 +48,6 @@ pub(super) fn heads<B: Width>(
     let a = first.peek()?;
     let b = second.peek()?;
     Some((a, b))
-}
-
-/// Adds the members of an interval, if it has any, at least two above those that are there, in room
-/// that is reserved.
-pub(super) fn push_reserved_part<B: Width>(runs: &mut Vec<Interval<B>>, part: Interval<B>)
-    requires room { vec_len runs.old < vec_capacity runs.old }
-    requires maximal { IsMaximal runs.old.items }
-    requires apart { IsBelow (pos 2) (Covers runs.old.items) (IsBetween part) }
-    ensures members { IsRunsOf runs.new.items (Union (Covers runs.old.items) (IsBetween part)) }
-    ensures count { vec_len runs.new ≤ vec_len runs.old + 1 }
-    ensures capacity { vec_capacity runs.new ≡ vec_capacity runs.old }
-{
-    // written, and dropped again if it has none: no branch hangs on the values
-    runs.push_reserved(part);
-    runs.truncate(runs.len() - usize::from(part.is_empty()));
 }
 
 /// Whether the runs left in two walks have a member in common. Advances at most once for each of

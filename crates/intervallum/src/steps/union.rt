@@ -1,18 +1,15 @@
 //! Merges the runs of two walks.
-ghost use Rattle.std.specs.Prelude.{◌≡◌, ◌≤◌, ◌+◌, [], IfOk, MatchOption, length};
+ghost use Rattle.std.specs.Prelude.{◌≡◌, ◌≤◌, ◌+◌, IfOk, length};
 ghost use Rattle.ivl_laws.specs.Sets.{Union};
 ghost use Rattle.ivl_laws.specs.Runs.{Covers, IsRunListIn, IsRunsOf};
-ghost use Rattle.ivl_laws.specs.Walks.{TakesFirst};
 
 use super::walk::Walk;
 use crate::interval::Interval;
 use crate::interval_set::IntervalSet;
-use crate::interval_set::builder::add_reserved;
 use crate::interval_set::run_lists::size_of_runs;
-use crate::ops::Bounded;
 use crate::width::Width;
+use ivl_merges::merges::union;
 use std::alloc::AllocError;
-use std::hint::select_unpredictable;
 
 /// Returns the members of the runs left in either walk. Advances once for each of these runs, and
 /// reserves as many runs once. The result has the allocator of the first walk. Fails only if
@@ -30,66 +27,24 @@ pub fn unite<B: Width>(
     ensures members { IfOk result (λ L. IsRunsOf L (Union (Covers first.entry.left) (Covers second.entry.left))) }
     ensures runs_at_most { IfOk result (λ L. length L ≤ length first.entry.left + length second.entry.left) }
 {
-    let runs = united_runs(first, second)?;
-    let size = size_of_runs(&runs);
-    Ok(IntervalSet::of_runs(runs, size).fitted())
-}
-
-/// The runs of the members of the runs left in either walk.
-fn united_runs<B: Width>(
-    mut first: Walk<'_, B>,
-    mut second: Walk<'_, B>,
-) -> Result<Vec<Interval<B>>, AllocError>
-    ensures runs { IfOk result (λ v. IsRunListIn B.whole v.items) }
-    ensures members { IfOk result (λ v. IsRunsOf v.items (Union (Covers first.entry.left) (Covers second.entry.left))) }
-{
-    // no memory holds more runs than a `usize` counts
-    let room = first.left().checked_add(second.left()).ok_or(AllocError)?;
+    let room = room_of(first.left(), second.left())?;
     let mut runs = Vec::with_capacity(first.alloc(), room)?;
-    let Some(mut last) = take_first(&mut first, &mut second) else {
-        return Ok(runs);
-    };
-    runs.push_reserved(last);
-    'walk: while let Some(run) = take_first(&mut first, &mut second) {
-        last = add_reserved(&mut runs, last, run);
-    }
-    Ok(runs)
+    union(first.rest(), second.rest(), &mut runs);
+    Ok(set_of(runs))
 }
 
-/// An empty set with room for as many runs as two walks have left, by the allocator of the first.
-pub(super) fn room_for<B: Width>(
-    first: &Walk<'_, B>,
-    second: &Walk<'_, B>,
-) -> Result<IntervalSet<B>, AllocError>
-    ensures empty { IfOk result (λ L. L ≡ []) }
-    ensures within { IsRunListIn B.whole first.now.left × IsRunListIn B.whole second.now.left }
+/// Room for as many runs as two lists have: no memory holds more runs than a `usize` counts.
+pub(super) fn room_of(n: usize, m: usize) -> Result<usize, AllocError>
+    ensures { IfOk result (λ room. room ≡ n + m) }
 {
-    let room = first.left().saturating_add(second.left());
-    IntervalSet::with_room(first.alloc(), room)
+    n.checked_add(m).ok_or(AllocError)
 }
 
-/// Takes the run that starts first from the two walks.
-fn take_first<B: Width>(first: &mut Walk<'_, B>, second: &mut Walk<'_, B>) -> Option<Interval<B>>
-    ensures taken { MatchOption result
-        ((first.old.left ≡ []) × (second.old.left ≡ []))
-        (λ run. TakesFirst first.old.left second.old.left first.new.left second.new.left run) }
-    ensures within { IsRunListIn B.whole first.old.left × IsRunListIn B.whole second.old.left }
+/// The set of a list of runs.
+pub(super) fn set_of<B: Width>(runs: Vec<Interval<B>>) -> IntervalSet<B>
+    requires { IsRunListIn B.whole runs.items }
+    ensures { result ≡ runs.items }
 {
-    match (first.peek(), second.peek()) {
-        (Some(a), Some(b)) => {
-            let is_first = a.lower() <= b.lower();
-            first.advance_if(is_first);
-            second.advance_if(!is_first);
-            Some(select_unpredictable(is_first, a, b))
-        }
-        (Some(a), None) => {
-            first.advance();
-            Some(a)
-        }
-        (None, Some(b)) => {
-            second.advance();
-            Some(b)
-        }
-        (None, None) => None,
-    }
+    let size = size_of_runs(&runs);
+    IntervalSet::of_runs(runs, size).fitted()
 }

@@ -1,9 +1,9 @@
 //! A walk over the runs of a set, from the left.
-ghost use Rattle.std.specs.Prelude.{◌≡◌, ◌≢◌, ℕ, ◌+◌, ◌≤◌, ℤ, [], ◌∷◌, IfSome, IsTrue, None, length, slice_get};
+ghost use Rattle.std.specs.Prelude.{◌≡◌, ◌≢◌, ℕ, ◌+◌, ◌≤◌, ℤ, [], ◌∷◌, IfSome, IsTrue, length, slice_get};
 ghost use Rattle.std.specs.Int.{from_bool};
 ghost use Rattle.ivl_laws.specs.Sets.{HasSome, IsBetween};
 ghost use Rattle.ivl_laws.specs.Runs.{IsRunListIn};
-ghost use Rattle.intervallum.specs.HeldRun.{IsTakenIf, led_by};
+ghost use Rattle.ivl_merges.specs.HeldRun.{IsTakenIf};
 
 use crate::interval::Interval;
 use crate::interval_set::IntervalSet;
@@ -103,15 +103,12 @@ impl<'a, B: Width> Walk<'a, B> {
         self.taken += usize::from(condition);
     }
 
-    /// Takes the first run that is left, if there is one.
-    pub(crate) fn take(&mut self) -> Option<Interval<B>>
-        ensures taken { self.old.left ≡ led_by result self.new.left }
-        ensures none { (result ≡ None) → (self.new.left ≡ []) }
-        ensures runs { IsRunListIn B.whole self.old.left }
+    /// The runs that are left.
+    pub(crate) fn rest(&self) -> &'a [Interval<B>]
+        ensures left { result.now ≡ self.now.left }
+        ensures runs { IsRunListIn B.whole self.now.left }
     {
-        let run = self.peek()?;
-        self.advance();
-        Some(run)
+        &self.runs[self.taken..]
     }
 
     /// Returns the number of runs that are left: the runs of the set less the advances made.

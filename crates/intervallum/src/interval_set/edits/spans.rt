@@ -3,7 +3,7 @@ ghost use Rattle.std.specs.Prelude.{◌≡◌, ◌⊎◌, ◌+◌, ◌<◌, ◌�
 ghost use Rattle.ivl_laws.specs.Sets.{IsBetween, IsSubset, Union, Without};
 ghost use Rattle.ivl_laws.specs.Runs.{Covers, IsMaximal, IsRunsOf, StartsBy};
 ghost use Rattle.intervallum.specs.Edits.{IsSpan, replaced, widened};
-ghost use Rattle.intervallum.specs.HeldRun.{led_by};
+ghost use Rattle.ivl_merges.specs.HeldRun.{led_by};
 ghost use Rattle.intervallum.specs.Places.{EndBelow, EndsFrom, IsPlaceOf, StartAbove};
 
 use crate::interval::Interval;

@@ -1,5 +1,5 @@
 use Rattle.std.proofs.Common.{◌∙◌, ◌++◌, ap, map, take_all, arith}
-use Rattle.ivl_buffers.specs.Merging.{laid}
+use Rattle.ivl_merges.specs.Sinks.{laid}
 use Rattle.ivl_buffers.proofs.Output.{laid_next, laid_none_yet}
 use Rattle.ivl_buffers.proofs.merging.append.Goals as goal
 

@@ -1,5 +1,5 @@
 use Rattle.std.proofs.Common.{◌≡◌, ◌+◌, ◌++◌, ◌≤◌, ℤ, List, length, map, take}
-use Rattle.ivl_buffers.specs.Merging.{laid}
+use Rattle.ivl_merges.specs.Sinks.{laid}
 use Rattle.ivl_buffers.proofs.merging.append.Given as goal
 
 -- the pairs so far stand after those that were laid

@@ -1,7 +1,7 @@
 use Rattle.std.proofs.Common.{◌≡◌, ℤ, map, ap, sym, subst, arith, ◌∙◌}
 use Rattle.ivl_laws.proofs.Orders.{le_number, not_le_number}
-use Rattle.intervallum.proofs.Intersections.{ends_before, ends_by}
-use Rattle.ivl_buffers.specs.Merging.{IsRunIn}
+use Rattle.ivl_merges.proofs.Intersections.{ends_before, ends_by}
+use Rattle.ivl_merges.specs.Sinks.{IsRunIn}
 use Rattle.ivl_buffers.proofs.Complements.{above_is_run, leaving_begins, leaving_ends, leaving_next, leaving_none, range_is_run}
 use Rattle.ivl_buffers.proofs.Output.{one_more_at_most}
 use Rattle.ivl_buffers.proofs.RunLists.{run_at}

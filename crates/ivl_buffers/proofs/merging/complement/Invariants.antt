@@ -1,5 +1,5 @@
 use Rattle.std.proofs.Common.{◌≤◌, length, map}
-use Rattle.ivl_buffers.specs.Merging.{IsRunIn}
+use Rattle.ivl_merges.specs.Sinks.{IsRunIn}
 use Rattle.ivl_buffers.proofs.Complements.{IsLeaving}
 use Rattle.ivl_buffers.proofs.merging.complement.Given as goal
 

@@ -1,7 +1,7 @@
 use Rattle.std.proofs.Common.{◌+◌, map, refl, arith}
 use Rattle.ivl_laws.proofs.Orders.{lt_number}
 use Rattle.ivl_interval.proofs.Pairs.{not_below}
-use Rattle.intervallum.proofs.Intersections.{ends_before, ends_by}
+use Rattle.ivl_merges.proofs.Intersections.{ends_before, ends_by}
 use Rattle.ivl_buffers.proofs.Output.{lays_put, one_more_at_most}
 use Rattle.ivl_buffers.proofs.Differences.{cut_list, held_ended, held_is_run, held_list, held_place, parting_alone, parting_begins, parting_first, parting_second}
 use Rattle.ivl_buffers.proofs.RunLists.{run_at}

@@ -3,11 +3,11 @@ use Rattle.std.proofs.lemmas.Option.{slice_get_within}
 use Rattle.std.specs.Prelude.{slice_get}
 use Rattle.std.specs.Option.{option_zip}
 use Rattle.ivl_laws.proofs.Orders.{le_number, max_number, min_number}
-use Rattle.intervallum.proofs.HeldRun.{zip_some}
-use Rattle.intervallum.proofs.Pushing.{both_ends}
+use Rattle.ivl_merges.proofs.HeldRun.{zip_some}
+use Rattle.ivl_merges.proofs.Unions.{both_ends}
 use Rattle.ivl_buffers.proofs.Output.{one_more_at_most}
 use Rattle.ivl_buffers.proofs.Intersections.{both_starts, meeting_begins, meeting_ends, meeting_next}
-use Rattle.ivl_buffers.proofs.Suffixes.{one_moves}
+use Rattle.ivl_merges.proofs.Suffixes.{one_moves}
 use Rattle.ivl_buffers.proofs.merging.intersection.Goals as goal
 
 pub walk-init : goal.walk-init

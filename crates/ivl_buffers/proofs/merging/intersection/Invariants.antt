@@ -1,7 +1,7 @@
 use Rattle.std.proofs.Common.{◌≡◌, ◌+◌, ◌-◌, ◌≤◌, ℤ, List, length, map}
 use Rattle.std.specs.Prelude.{slice_get}
 use Rattle.std.specs.Option.{option_zip}
-use Rattle.ivl_buffers.specs.Merging.{Stands}
+use Rattle.ivl_merges.specs.Sinks.{Stands}
 use Rattle.ivl_buffers.proofs.Output.{IsLaying}
 use Rattle.ivl_buffers.proofs.Intersections.{common_from, common_of}
 use Rattle.ivl_buffers.proofs.merging.intersection.Given as goal

@@ -5,11 +5,11 @@ use Rattle.std.specs.Prelude.{cond}
 use Rattle.ivl_laws.specs.Sets.{SymmetricDifference}
 use Rattle.ivl_laws.specs.Runs.{Covers}
 use Rattle.ivl_laws.proofs.Orders.{eq_number, le_number, max_number, min_number, number_of_cond}
-use Rattle.intervallum.proofs.AloneSteps.{are_heads, differ, from_fits, next_fits, one_at_most, some_moves, sum_same}
-use Rattle.intervallum.proofs.Pushing.{both_ends}
-use Rattle.intervallum.proofs.Unions.{same_conds}
+use Rattle.ivl_merges.proofs.AloneSteps.{are_heads, differ, from_fits, next_fits, one_at_most, some_moves, sum_same}
+use Rattle.ivl_merges.proofs.Unions.{both_ends}
+use Rattle.ivl_merges.proofs.Unions.{same_conds}
 use Rattle.ivl_buffers.proofs.OneAlone.{one_alone_begins, one_alone_ends, one_alone_next, one_alone_rest, opens}
-use Rattle.ivl_buffers.proofs.Suffixes.{map_ended, map_rest, none_split, opened_map}
+use Rattle.ivl_merges.proofs.Suffixes.{map_ended, map_rest, none_split, opened_map}
 use Rattle.ivl_buffers.proofs.merging.symmetric_difference.Goals as goal
 
 pub walk-init : goal.walk-init

@@ -1,7 +1,7 @@
 use Rattle.std.proofs.Common.{◌∙◌, ◌+◌, sym, subst, arith}
 use Rattle.std.proofs.lemmas.Option.{slice_get_within}
 use Rattle.ivl_laws.proofs.Orders.{le_number}
-use Rattle.ivl_buffers.proofs.Suffixes.{none_from, one_moves}
+use Rattle.ivl_merges.proofs.Suffixes.{none_from, one_moves}
 use Rattle.ivl_buffers.proofs.Unions.{TakesTo, takes_left_alone, takes_next, takes_right_alone}
 use Rattle.ivl_buffers.proofs.merging.take_first.Goals as goal
 

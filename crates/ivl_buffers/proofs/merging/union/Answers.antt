@@ -1,8 +1,8 @@
 use Rattle.std.proofs.Common.{◌∙◌, ap, ℤ, map, arith}
 use Rattle.ivl_laws.proofs.Orders.{max_number, number_of_cond}
-use Rattle.intervallum.proofs.Pushing.{both_ends}
-use Rattle.intervallum.proofs.AloneSteps.{one_at_most}
-use Rattle.intervallum.proofs.Unions.{same_conds}
+use Rattle.ivl_merges.proofs.Unions.{both_ends}
+use Rattle.ivl_merges.proofs.AloneSteps.{one_at_most}
+use Rattle.ivl_merges.proofs.Unions.{same_conds}
 use Rattle.ivl_buffers.proofs.Unions.{joined_is_run, joining_ends, joining_first, joins_next, next_is_run}
 use Rattle.ivl_buffers.proofs.merging.union.Goals as goal
 

@@ -1,7 +1,7 @@
 use Rattle.std.proofs.Common.{◌+◌, ◌-◌, ◌≤◌, ℤ, List, drop, length, map}
 use Rattle.ivl_laws.specs.Sets.{Union}
 use Rattle.ivl_laws.specs.Runs.{Covers}
-use Rattle.ivl_buffers.specs.Merging.{IsRunIn}
+use Rattle.ivl_merges.specs.Sinks.{IsRunIn}
 use Rattle.ivl_buffers.proofs.Unions.{IsJoining}
 use Rattle.ivl_buffers.proofs.merging.union.Given as goal
 

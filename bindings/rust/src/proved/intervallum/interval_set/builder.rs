@@ -6,7 +6,7 @@ use crate::rattle::prelude::*;
 use super::IntervalSet;
 use super::run_lists::joins;
 use crate::proved::intervallum::interval::Interval;
-use crate::proved::intervallum::ops::{Bounded, Cardinality, Range, StrictShrinkLeft};
+use crate::proved::intervallum::ops::{Bounded, Range};
 use crate::proved::intervallum::width::{SizeNumber, Width};
 use crate::rattle::std::alloc::{AllocError, Global};
 use crate::rattle::std::hint::select_unpredictable;
@@ -60,29 +60,6 @@ impl<B: Width> IntervalSet<B> {
         }
         self
     }
-
-    /// Adds the members of a run that starts no lower than the last run does, joined with that one
-    /// if the two overlap or touch.
-    pub(crate) fn push_run(&mut self, run: Interval<B>) -> Result<(), AllocError> {
-        let count = self.intervals.len();
-        if count > 0 {
-            let last = self.intervals[count - 1];
-            if joins(&last, &run) {
-                let upper = last.upper().max(run.upper());
-                self.size = grown::<B>(self.size, numbers_past(&last, &run));
-                self.intervals[count - 1] = Interval::new(last.lower(), upper);
-                return Ok(());
-            }
-        }
-        self.push_apart(run)
-    }
-
-    /// Adds a run at the end, where it joins with no other.
-    pub(crate) fn push_apart(&mut self, run: Interval<B>) -> Result<(), AllocError> {
-        self.intervals.push(run)?;
-        self.size = grown::<B>(self.size, run.size());
-        Ok(())
-    }
 }
 
 /// Adds a run that starts no lower than the last one, in room that is reserved, and returns the run
@@ -99,11 +76,6 @@ pub(crate) fn add_reserved<B: Width>(
     runs.truncate(runs.len() - usize::from(is_joined));
     runs.push_reserved(next);
     next
-}
-
-/// How many numbers of a run lie above another run's end.
-fn numbers_past<B: Width>(last: &Interval<B>, run: &Interval<B>) -> B::Output {
-    run.strict_shrink_left(last.upper()).size()
 }
 
 /// A size and some more. The sum is a size again.

@@ -3,12 +3,13 @@
 
 #[allow(unused_imports)]
 use crate::rattle::prelude::*;
+use super::union::{room_of, set_of};
 use super::walk::Walk;
 use crate::proved::intervallum::interval::Interval;
 use crate::proved::intervallum::interval_set::IntervalSet;
-use crate::proved::intervallum::interval_set::run_lists::size_of_runs;
-use crate::proved::intervallum::ops::{Bounded, Intersection, IsEmpty};
+use crate::proved::intervallum::ops::Bounded;
 use crate::proved::intervallum::width::Width;
+use crate::proved::ivl_merges::merges::intersection;
 use crate::rattle::std::alloc::AllocError;
 
 /// Returns the common members of the runs left in two walks. Advances at most once for each of
@@ -39,27 +40,10 @@ pub fn common<B: Width>(
     first: Walk<'_, B>,
     second: Walk<'_, B>,
 ) -> Result<IntervalSet<B>, AllocError> {
-    let runs = common_runs(first, second)?;
-    let size = size_of_runs(&runs);
-    Ok(IntervalSet::of_runs(runs, size).fitted())
-}
-
-/// The runs of the common members of the runs left in two walks.
-fn common_runs<B: Width>(
-    mut first: Walk<'_, B>,
-    mut second: Walk<'_, B>,
-) -> Result<Vec<Interval<B>>, AllocError> {
-    // no memory holds more runs than a `usize` counts
-    let room = first.left().checked_add(second.left()).ok_or(AllocError)?;
+    let room = room_of(first.left(), second.left())?;
     let mut runs = Vec::with_capacity(first.alloc(), room)?;
-    'walk: while let Some(heads) = heads(&first, &second) {
-        let (run, other) = heads;
-        push_reserved_part(&mut runs, run.intersection(&other));
-        let ends_first = run.upper() <= other.upper();
-        first.advance_if(ends_first);
-        second.advance_if(!ends_first);
-    }
-    Ok(runs)
+    intersection(first.rest(), second.rest(), &mut runs);
+    Ok(set_of(runs))
 }
 
 /// The first runs of two walks, if both have one.
@@ -71,14 +55,6 @@ pub(super) fn heads<B: Width>(
     let a = first.peek()?;
     let b = second.peek()?;
     Some((a, b))
-}
-
-/// Adds the members of an interval, if it has any, at least two above those that are there, in room
-/// that is reserved.
-pub(super) fn push_reserved_part<B: Width>(runs: &mut Vec<Interval<B>>, part: Interval<B>) {
-    // written, and dropped again if it has none: no branch hangs on the values
-    runs.push_reserved(part);
-    runs.truncate(runs.len() - usize::from(part.is_empty()));
 }
 
 /// Whether the runs left in two walks have a member in common. Advances at most once for each of

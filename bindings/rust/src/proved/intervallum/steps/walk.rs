@@ -121,11 +121,9 @@ impl<'a, B: Width> Walk<'a, B> {
         self.taken += usize::from(condition);
     }
 
-    /// Takes the first run that is left, if there is one.
-    pub(crate) fn take(&mut self) -> Option<Interval<B>> {
-        let run = self.peek()?;
-        self.advance();
-        Some(run)
+    /// The runs that are left.
+    pub(crate) fn rest(&self) -> &'a [Interval<B>] {
+        &self.runs[self.taken..]
     }
 
     /// Returns the number of runs that are left: the runs of the set less the advances made.

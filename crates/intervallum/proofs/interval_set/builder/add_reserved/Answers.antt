@@ -3,8 +3,8 @@ use Rattle.std.specs.Int.{from_bool, int_max}
 use Rattle.std.specs.Prelude.{cond}
 use Rattle.ivl_laws.proofs.Intervals.{some_is_not_crossed}
 use Rattle.ivl_laws.proofs.Orders.{max_number, number_of_cond}
-use Rattle.intervallum.proofs.Pushing.{both_ends}
-use Rattle.intervallum.proofs.Unions.{adds_by_test, last_is_open, last_is_written, same_conds}
+use Rattle.ivl_merges.proofs.Unions.{both_ends}
+use Rattle.ivl_merges.proofs.Unions.{adds_by_test, last_is_open, last_is_written, same_conds}
 use Rattle.intervallum.proofs.interval_set.builder.add_reserved.Goals as goal
 
 pub joins-is_joined-requires-clause-last : goal.joins-is_joined-requires-clause-last

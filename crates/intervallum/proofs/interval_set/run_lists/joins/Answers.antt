@@ -1,7 +1,7 @@
 use Rattle.std.proofs.Common.{◌∙◌}
 use Rattle.ivl_laws.proofs.Intervals.{some_is_not_crossed}
 use Rattle.ivl_laws.proofs.Orders.{max_number}
-use Rattle.intervallum.proofs.Joins.{joins_by_width}
+use Rattle.ivl_merges.proofs.Joins.{joins_by_width}
 use Rattle.intervallum.proofs.interval_set.run_lists.joins.Goals as goal
 
 pub upper-end-requires : goal.upper-end-requires

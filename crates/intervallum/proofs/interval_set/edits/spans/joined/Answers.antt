@@ -3,7 +3,7 @@ use Rattle.std.specs.Int.{int_max, int_min}
 use Rattle.ivl_laws.proofs.Intervals.{some_is_not_crossed}
 use Rattle.ivl_laws.proofs.Orders.{max_number, min_number}
 use Rattle.ivl_laws.proofs.Places.{open_at}
-use Rattle.intervallum.proofs.Pushing.{both_ends}
+use Rattle.ivl_merges.proofs.Unions.{both_ends}
 use Rattle.intervallum.proofs.Splicing.{joined_with_none, joined_with_some}
 use Rattle.intervallum.proofs.interval_set.edits.spans.joined.Goals as goal
 

@@ -1,0 +1,364 @@
+//! What is made of two lists of runs by one walk over both, and of one list by a walk over it.
+//!
+//! Each is linear in the runs of its lists, and writes the runs of its answer to a sink that holds none
+//! before. None allocates. In the loops of `union` and `intersection` no branch hangs on the values:
+//! what a comparison tells is added to a place as 0 or 1, or chooses by a conditional move. No caller
+//! takes in a walk over two lists, so that its loop has all registers to itself.
+ghost use Rattle.std.specs.Prelude.{◌≡◌, ◌↔◌, ◌⊎◌, ◌++◌, ◌+◌, ◌-◌, ◌^◌, ◌<◌, ◌≤◌, ℤ, ◌+ℤ◌, ◌-ℤ◌, ◌<ℤ◌, ◌≤ℤ◌, not, pos, IfSome, IsTrue, List, [], MatchOption, None, Some, drop, length, map, slice_get};
+ghost use Rattle.std.specs.Int.{from_bool, int_max, int_min};
+ghost use Rattle.std.specs.Option.{option_zip};
+ghost use Rattle.ivl_laws.specs.Sets.{Complement, Intersection, IsBetween, SymmetricDifference, Union, Without};
+ghost use Rattle.ivl_laws.specs.Runs.{AddsRun, Covers, IsMaximal, IsRunListIn, StartsBy};
+ghost use Rattle.ivl_laws.specs.Walks.{TakesFirst};
+ghost use Rattle.ivl_merges.specs.Sinks.{AddsFilled, IsMerged, IsRunIn};
+
+use crate::pair::Pair;
+use crate::sink::Sink;
+use ivl_interval::width::{SizeNumber, Width};
+use std::hint::select_unpredictable;
+
+/// Writes the members of either list.
+///
+/// The caller must ensure that both lists are runs of sets in the range, from the left, with at least one
+/// number missing between neighbours, and that the sink is empty and has room for as many runs as the
+/// two lists have. `O(n + m)` runs, of which it adds at most `n + m`. Does not allocate.
+#[inline(never)]
+pub fn union<R: Pair, S: Sink<R>>(a: &[R], b: &[R], out: &mut S)
+    requires first { IsRunListIn R.Bound.whole (map R.pair a.now) }
+    requires second { IsRunListIn R.Bound.whole (map R.pair b.now) }
+    requires empty { S.holds out.old out.old [] }
+    requires room { S.count out.old + (length a.now + length b.now) ≤ S.room out.old }
+    ensures { (L : List (ℤ × ℤ)) × IsMerged (S.holds out.old out.new) (Union (Covers (map R.pair a.now)) (Covers (map R.pair b.now)))
+        (length a.now + length b.now) L }
+{
+    let (mut i, mut j) = (0, 0);
+    let Some(mut last) = take_first(a, &mut i, b, &mut j) else {
+        return;
+    };
+    out.push(last);
+    'walk: while let Some(run) = take_first(a, &mut i, b, &mut j) {
+        last = push_joined(out, last, run);
+    }
+}
+
+/// Adds a run that starts no lower than the last one, and returns the run that is then the last. The
+/// last run is written again unless the new one is apart from it, so that no branch hangs on their
+/// values.
+fn push_joined<R: Pair, S: Sink<R>>(out: &mut S, last: R, run: R) -> R
+    requires last { IsRunIn R.Bound.whole (R.pair last) }
+    requires run { IsRunIn R.Bound.whole (R.pair run) }
+    requires some { 0 < S.count out.old }
+    requires room { S.count out.old < S.room out.old }
+    ensures adds { (start : S) (L : List (ℤ × ℤ)) → S.holds start out.old L → IsMaximal L → StartsBy (R.pair run).0 L → Some (R.pair last) ≡ slice_get L (length L - 1)
+        → (M : List (ℤ × ℤ)) × S.holds start out.new M × AddsRun L (R.pair run) M × (Some (R.pair result) ≡ slice_get M (length M - 1)) }
+    ensures last { IsRunIn R.Bound.whole (R.pair result) }
+    ensures some { 0 < S.count out.new }
+    ensures count { S.count out.new ≤ S.count out.old + 1 }
+    ensures room { S.room out.new ≡ S.room out.old }
+{
+    let is_joined = joins(last, run);
+    let lower = select_unpredictable(is_joined, last.lower(), run.lower());
+    let next = R::of(lower, last.upper().max(run.upper()));
+    out.push_over(is_joined, next);
+    next
+}
+
+/// True exactly when no number is missing between a run and one that starts no lower.
+fn joins<R: Pair>(last: R, run: R) -> bool
+    requires last { IsRunIn R.Bound.whole (R.pair last) }
+    requires run { IsRunIn R.Bound.whole (R.pair run) }
+    ensures { IsTrue result ↔ ((R.pair run).0 ≤ℤ ((R.pair last).1 +ℤ pos 1)) }
+{
+    let (end, start) = (last.upper(), run.lower());
+    // by one comparison: the width is one where the run starts no higher than the other ends
+    R::Bound::width(&end, &start.max(end)).number() <= 2
+}
+
+/// Takes the pair that starts first of those at two places, if there is one, and advances its
+/// place.
+fn take_first<R: Pair>(a: &[R], i: &mut usize, b: &[R], j: &mut usize) -> Option<R>
+    requires first { i.old ≤ length a.now }
+    requires second { j.old ≤ length b.now }
+    ensures taken { MatchOption result
+        ((map R.pair (drop i.old a.now) ≡ []) × (map R.pair (drop j.old b.now) ≡ []))
+        (λ run. TakesFirst (map R.pair (drop i.old a.now)) (map R.pair (drop j.old b.now)) (map R.pair (drop i.new a.now)) (map R.pair (drop j.new b.now)) (R.pair run)) }
+    ensures first { i.new ≤ length a.now }
+    ensures second { j.new ≤ length b.now }
+    ensures one { IfSome result (λ _. i.new + j.new ≡ i.old + j.old + 1) }
+    ensures none { (result ≡ None) → (i.new ≡ i.old) × (j.new ≡ j.old) }
+{
+    match (pair_at(a, *i), pair_at(b, *j)) {
+        (Some(run), Some(other)) => {
+            let is_first = run.lower() <= other.lower();
+            *i += usize::from(is_first);
+            *j += usize::from(!is_first);
+            Some(select_unpredictable(is_first, run, other))
+        }
+        (Some(run), None) => {
+            *i += 1;
+            Some(run)
+        }
+        (None, Some(other)) => {
+            *j += 1;
+            Some(other)
+        }
+        (None, None) => None,
+    }
+}
+
+/// Returns the pair at a place, if there is one.
+pub fn pair_at<R: Pair>(runs: &[R], i: usize) -> Option<R>
+    ensures { result ≡ slice_get runs.now i }
+{
+    runs.get(i).copied()
+}
+
+/// Writes the members of both lists.
+///
+/// The caller must ensure that both lists are runs of sets in the range, from the left, with at least one
+/// number missing between neighbours, and that the sink is empty and has room for as many runs as the
+/// two lists have. `O(n + m)` runs, of which it adds at most `n + m`. Does not allocate.
+#[inline(never)]
+pub fn intersection<R: Pair, S: Sink<R>>(a: &[R], b: &[R], out: &mut S)
+    requires first { IsRunListIn R.Bound.whole (map R.pair a.now) }
+    requires second { IsRunListIn R.Bound.whole (map R.pair b.now) }
+    requires empty { S.holds out.old out.old [] }
+    requires repeats { S.repeats out.old }
+    requires room { S.count out.old + (length a.now + length b.now) ≤ S.room out.old }
+    ensures { (L : List (ℤ × ℤ)) × IsMerged (S.holds out.old out.new) (Intersection (Covers (map R.pair a.now)) (Covers (map R.pair b.now)))
+        (length a.now + length b.now) L }
+{
+    let (mut i, mut j) = (0, 0);
+    let mut heads = pair_at(a, 0).zip(pair_at(b, 0));
+    'walk: while let Some(runs) = heads {
+        let (run, other) = runs;
+        let start = run.lower().max(other.lower());
+        let end = run.upper().min(other.upper());
+        out.push_filled(R::of(start, end));
+        let ends_first = run.upper() <= other.upper();
+        heads = next_heads(a, i, b, j, runs, ends_first);
+        i += usize::from(ends_first);
+        j += usize::from(!ends_first);
+    }
+}
+
+/// Writes the members of the first list that are not in the second.
+///
+/// The caller must ensure that both lists are runs of sets in the range, from the left, with at least one
+/// number missing between neighbours, and that the sink is empty and has room for as many runs as the
+/// two lists have. `O(n + m)` runs, of which it adds at most `n + m`. Does not allocate.
+#[inline(never)]
+pub fn difference<R: Pair, S: Sink<R>>(a: &[R], b: &[R], out: &mut S)
+    requires first { IsRunListIn R.Bound.whole (map R.pair a.now) }
+    requires second { IsRunListIn R.Bound.whole (map R.pair b.now) }
+    requires empty { S.holds out.old out.old [] }
+    requires room { S.count out.old + (length a.now + length b.now) ≤ S.room out.old }
+    ensures { (L : List (ℤ × ℤ)) × IsMerged (S.holds out.old out.new) (Without (Covers (map R.pair a.now)) (Covers (map R.pair b.now)))
+        (length a.now + length b.now) L }
+{
+    let (mut i, mut j) = (0, 0);
+    let mut held = pair_at(a, 0);
+    'walk: while let Some(run) = held {
+        if j < b.len() {
+            let other = b[j];
+            push_below(out, run, other);
+            if other.upper() < run.upper() {
+                held = Some(above(run, other));
+                j += 1;
+            } else {
+                i += 1;
+                held = pair_at(a, i);
+            }
+        } else {
+            out.push(run);
+            i += 1;
+            held = pair_at(a, i);
+        }
+    }
+}
+
+/// Writes the numbers of the range that are in no run of the list.
+///
+/// The caller must ensure that the list is the runs of a set in the range, from the left, with at least
+/// one number missing between neighbours, and that the sink is empty and has room for one run more than
+/// the list has. `O(n)` runs, of which it adds at most `n + 1`. Does not allocate.
+// taken in by its caller, the loop keeps the number of runs in a register
+#[inline]
+pub fn complement<R: Pair, S: Sink<R>>(runs: &[R], out: &mut S)
+    requires runs { IsRunListIn R.Bound.whole (map R.pair runs.now) }
+    requires empty { S.holds out.old out.old [] }
+    requires room { S.count out.old + (length runs.now + 1) ≤ S.room out.old }
+    ensures { (L : List (ℤ × ℤ)) × IsMerged (S.holds out.old out.new) (Complement R.Bound.whole (Covers (map R.pair runs.now))) (length runs.now + 1) L }
+{
+    let Some((first, more)) = runs.split_first() else {
+        out.push(R::of(R::Bound::min_value(), R::Bound::max_value()));
+        return;
+    };
+    push_under(out, *first);
+    let mut end = first.upper();
+    for run in more {
+        // a number is missing between two runs, so there is nothing to test
+        let start = end.add_in_range(R::Bound::one());
+        out.push(R::of(start, run.lower().sub_in_range(R::Bound::one())));
+        end = run.upper();
+    }
+    push_past(out, end);
+}
+
+/// Writes the members of exactly one of the two lists.
+///
+/// The caller must ensure that both lists are runs of sets in the range, from the left, with at least one
+/// number missing between neighbours, and that the sink is empty and has room for as many runs as the
+/// two lists have. `O(n + m)` runs, of which it adds at most `n + m`. Does not allocate.
+#[inline(never)]
+pub fn symmetric_difference<R: Pair, S: Sink<R>>(a: &[R], b: &[R], out: &mut S)
+    requires first { IsRunListIn R.Bound.whole (map R.pair a.now) }
+    requires second { IsRunListIn R.Bound.whole (map R.pair b.now) }
+    requires empty { S.begins out.old out.old [] }
+    requires counted { length a.now + length b.now < 2 ^ 64 }
+    requires room { S.count out.old + (length a.now + length b.now) ≤ S.room out.old }
+    ensures { (L : List (ℤ × ℤ)) × IsMerged (S.holds out.old out.new) (SymmetricDifference (Covers (map R.pair a.now)) (Covers (map R.pair b.now)))
+        (length a.now + length b.now) L }
+{
+    let (mut i, mut j, mut count) = (0, 0, 0);
+    // all below it is done
+    let mut from = R::Bound::min_value();
+    // where the last run starts, and whether the next one goes on with it
+    let mut start = from;
+    let mut is_joined = false;
+    'walk: while i < a.len() && j < b.len() {
+        let (run, other) = (a[i], b[j]);
+        let (u, v) = (run.upper(), other.upper());
+        let x = run.lower().max(from);
+        let y = other.lower().max(from);
+        let upper = select_unpredictable(x <= y, u, v);
+        let next = x.max(y);
+        let is_filled = x != y;
+        start = select_unpredictable(is_joined, start, x.min(y));
+        let end = upper.min(next.sub_in_range(one_if(is_filled)));
+        count -= usize::from(is_joined);
+        out.put_if(count, is_filled, R::of(start, end));
+        count += usize::from(is_filled);
+        let is_left = u != v;
+        i += usize::from(u <= v);
+        j += usize::from(v <= u);
+        from = u.min(v).add_in_range(one_if(is_left));
+        is_joined = is_left & (next == from);
+    }
+    out.cut(count);
+    let Some((head, more)) = left_of(a, i, b, j).split_first() else {
+        return;
+    };
+    let lower = select_unpredictable(is_joined, start, head.lower().max(from));
+    out.push_over(is_joined, R::of(lower, head.upper()));
+    append(out, more);
+}
+
+/// The pairs that are left of one of two lists, of which the other has none left.
+fn left_of<'a, R: Pair>(a: &'a [R], i: usize, b: &'a [R], j: usize) -> &'a [R]
+    requires ended { (length a.now ≡ i) ⊎ (length b.now ≡ j) }
+    requires first { i ≤ length a.now }
+    requires second { j ≤ length b.now }
+    ensures left { result.now ≡ drop i a.now ++ drop j b.now }
+    ensures ended { (drop i a.now ≡ []) ⊎ (drop j b.now ≡ []) }
+{
+    if i < a.len() { &a[i..] } else { &b[j..] }
+}
+
+/// Adds runs, one by one.
+fn append<R: Pair, S: Sink<R>>(out: &mut S, runs: &[R])
+    requires { S.count out.old + length runs.now ≤ S.room out.old }
+    ensures { (start : S) (L : List (ℤ × ℤ)) → S.holds start out.old L → S.holds start out.new (L ++ map R.pair runs.now) }
+{
+    for run in runs {
+        out.push(*run);
+    }
+}
+
+/// The pairs at two places of two lists, once one of the places has advanced, from those that stand
+/// there before: both next pairs are read before it is known which place advances.
+fn next_heads<R: Pair>(
+    a: &[R],
+    i: usize,
+    b: &[R],
+    j: usize,
+    heads: (R, R),
+    ends_first: bool,
+) -> Option<(R, R)>
+    requires first { i < length a.now }
+    requires second { j < length b.now }
+    requires first_head { slice_get a.now i ≡ Some heads.0 }
+    requires second_head { slice_get b.now j ≡ Some heads.1 }
+    ensures { result ≡ option_zip (slice_get a.now (i + from_bool ends_first)) (slice_get b.now (j + from_bool (not ends_first))) }
+{
+    let (run, other) = heads;
+    if i + 1 < a.len() && j + 1 < b.len() {
+        let next = select_unpredictable(ends_first, a[i + 1], run);
+        let more = select_unpredictable(ends_first, other, b[j + 1]);
+        return Some((next, more));
+    }
+    pair_at(a, i + usize::from(ends_first)).zip(pair_at(b, j + usize::from(!ends_first)))
+}
+
+/// The part of a run above another one that ends below its end.
+fn above<R: Pair>(run: R, other: R) -> R
+    requires run { IsRunIn R.Bound.whole (R.pair run) }
+    requires other { IsRunIn R.Bound.whole (R.pair other) }
+    requires ends { (R.pair other).1 <ℤ (R.pair run).1 }
+    ensures { R.pair result ≡ (int_max (R.pair run).0 ((R.pair other).1 +ℤ pos 1), (R.pair run).1) }
+{
+    let next = other.upper().add_in_range(R::Bound::one());
+    R::of(run.lower().max(next), run.upper())
+}
+
+/// Adds the part of a run below the start of another one, if there is any.
+fn push_below<R: Pair, S: Sink<R>>(out: &mut S, run: R, other: R)
+    requires run { IsRunIn R.Bound.whole (R.pair run) }
+    requires other { IsRunIn R.Bound.whole (R.pair other) }
+    requires room { S.count out.old < S.room out.old }
+    ensures list { (start : S) → AddsFilled ((R.pair run).0, int_min (R.pair run).1 ((R.pair other).0 -ℤ pos 1)) (S.holds start out.old) (S.holds start out.new) }
+    ensures count { S.count out.new ≤ S.count out.old + 1 }
+    ensures room { S.room out.new ≡ S.room out.old }
+{
+    let (start, next) = (run.lower(), other.lower());
+    if next <= start {
+        return;
+    }
+    let end = run.upper().min(next.sub_in_range(R::Bound::one()));
+    out.push(R::of(start, end));
+}
+
+/// Adds the numbers of the range below a run, if there are any.
+fn push_under<R: Pair, S: Sink<R>>(out: &mut S, run: R)
+    requires run { IsRunIn R.Bound.whole (R.pair run) }
+    requires room { S.count out.old < S.room out.old }
+    ensures list { (start : S) → AddsFilled (R.Bound.whole.0, (R.pair run).0 -ℤ pos 1) (S.holds start out.old) (S.holds start out.new) }
+    ensures count { S.count out.new ≤ S.count out.old + 1 }
+    ensures room { S.room out.new ≡ S.room out.old }
+{
+    let (low, start) = (R::Bound::min_value(), run.lower());
+    if start <= low {
+        return;
+    }
+    out.push(R::of(low, start.sub_in_range(R::Bound::one())));
+}
+
+/// Adds the numbers of the range above a number, if there are any.
+fn push_past<R: Pair, S: Sink<R>>(out: &mut S, end: R::Bound)
+    requires end { IsBetween R.Bound.whole (R.Bound.value end) }
+    requires room { S.count out.old < S.room out.old }
+    ensures { (start : S) → AddsFilled (R.Bound.value end +ℤ pos 1, R.Bound.whole.1) (S.holds start out.old) (S.holds start out.new) }
+{
+    let high = R::Bound::max_value();
+    if high <= end {
+        return;
+    }
+    out.push(R::of(end.add_in_range(R::Bound::one()), high));
+}
+
+/// Returns one if a condition holds, and zero if not.
+pub fn one_if<B: Width>(condition: bool) -> B
+    ensures { B.value result ≡ pos (from_bool condition) }
+{
+    select_unpredictable(condition, B::one(), B::zero())
+}

@@ -1,0 +1,205 @@
+//! Where a merge writes its answer: the caller's slice, or a list in reserved room.
+ghost use Rattle.std.specs.Prelude.{◌≡◌, ℕ, ◌+◌, ◌-◌, ◌^◌, ◌<◌, ◌≤◌, ℤ, ◌≤ℤ◌, IsTrue, List, [], ◌∷◌, ◌++◌, length, map, slice_set, take, if◌then◌else◌, vec_capacity, vec_len};
+ghost use Rattle.std.specs.Int.{from_bool};
+ghost use Rattle.ivl_merges.specs.Sinks.{AddsAtEnd, AddsFilled, AddsOver, PutsAt, Stands, laid};
+
+use crate::pair::Pair;
+use ivl_interval::width::Width;
+use std::hint::select_unpredictable;
+
+/// A list of runs that grows at its end, from where it was empty on. What stands past the list stays as
+/// it was.
+pub trait Sink<R: Pair> {
+    /// The number of runs.
+    ghost count: { Self → ℕ };
+
+    /// The number of runs up to which the list may grow.
+    ghost room: { Self → ℕ };
+
+    /// The second sink is the first with these runs written to it, and no others.
+    ghost holds: { Self → Self → List (ℤ × ℤ) → Type 0 };
+
+    /// The same, where some more may stand after them until `cut` drops it.
+    ghost begins: { Self → Self → List (ℤ × ℤ) → Type 0 };
+
+    /// Only `push_filled` has added to the list.
+    ghost repeats: { Self → Type 0 };
+
+    /// Adds a run.
+    fn push(&mut self, run: R)
+        requires { count self.old < room self.old }
+        ensures list { (start : Self) → AddsAtEnd (R.pair run) (holds start self.old) (holds start self.new) }
+        ensures count { count self.new ≡ count self.old + 1 }
+        ensures room { room self.new ≡ room self.old };
+
+    /// Adds a run, in the place of the last one if a condition holds.
+    fn push_over(&mut self, is_over: bool, run: R)
+        requires room { count self.old < room self.old }
+        requires last { from_bool is_over ≤ count self.old }
+        ensures list { (start : Self) → AddsOver is_over (R.pair run) (holds start self.old) (holds start self.new) }
+        ensures count { count self.new + from_bool is_over ≡ count self.old + 1 }
+        ensures room { room self.new ≡ room self.old };
+
+    /// Adds a run unless it is crossed.
+    fn push_filled(&mut self, run: R)
+        requires room { count self.old < room self.old }
+        requires repeats { repeats self.old }
+        ensures list { (start : Self) → AddsFilled (R.pair run) (holds start self.old) (holds start self.new) }
+        ensures repeats { repeats self.new }
+        ensures count { count self.new ≤ count self.old + 1 }
+        ensures room { room self.new ≡ room self.old };
+
+    /// Writes a run at a place, the last one or the next, if it `is_filled`: the list ends there then.
+    /// What stands after it has to be dropped by `cut`.
+    fn put_if(&mut self, place: usize, is_filled: bool, run: R)
+        requires { place < room self.old }
+        ensures list { (start : Self) → PutsAt place is_filled (R.pair run) (begins start self.old) (begins start self.new) }
+        ensures room { room self.new ≡ room self.old };
+
+    /// Keeps the first `kept` runs, which are all that were written.
+    fn cut(&mut self, kept: usize)
+        ensures list { (start : Self) (L : List (ℤ × ℤ)) → begins start self.old L → kept ≡ length L → holds start self.new L × (count self.new ≡ kept) }
+        ensures room { room self.new ≡ room self.old };
+}
+
+/// A list in reserved room: no call reserves.
+impl<R: Pair> Sink<R> for Vec<R> {
+    ghost count = { λ v. vec_len v };
+
+    ghost room = { λ v. vec_capacity v };
+
+    ghost holds = { λ s t L. map R.pair t.items ≡ L };
+
+    ghost begins = { λ s t L. (take (length L) (map R.pair t.items) ≡ L) × (length L ≤ vec_len t) };
+
+    ghost repeats = { λ v. Unit {0} };
+
+    fn push(&mut self, run: R) {
+        self.push_reserved(run);
+    }
+
+    fn push_over(&mut self, is_over: bool, run: R) {
+        self.truncate(self.len() - usize::from(is_over));
+        self.push_reserved(run);
+    }
+
+    fn push_filled(&mut self, run: R) {
+        // written, and dropped again if it is crossed: no branch hangs on the values
+        self.push_reserved(run);
+        self.truncate(self.len() - usize::from(run.upper() < run.lower()));
+    }
+
+    fn put_if(&mut self, place: usize, _is_filled: bool, run: R) {
+        self.truncate(place);
+        self.push_reserved(run);
+    }
+
+    fn cut(&mut self, kept: usize) {
+        self.truncate(kept);
+    }
+}
+
+/// The first places of a slice, as many as there are, and the number of all runs.
+#[derive(Drop)]
+pub struct Places<'a, R: Pair> {
+    pub out: &'a mut [R],
+    pub count: usize,
+    // what stands at the last place of the list, or at the first of the slice if the list is empty
+    pub last: R,
+}
+
+impl<'a, R: Pair> Places<'a, R> {
+    /// Returns an empty list.
+    pub fn new(out: &'a mut [R]) -> Places<'a, R>
+        ensures same { result.out.ghost_name ≡ out.entry.ghost_name }
+        ensures now { result.out.now ≡ out.old }
+        ensures count { result.count ≡ 0 }
+        ensures last { Stands (R.pair result.last) (map R.pair out.old) 0 }
+    {
+        let last = first_or_any(out);
+        Places {
+            out,
+            count: 0,
+            last,
+        }
+    }
+
+    /// Returns the number of all runs.
+    pub fn count(&self) -> usize
+        ensures { result ≡ self.now.count }
+    {
+        self.count
+    }
+}
+
+impl<R: Pair> Sink<R> for Places<'_, R> {
+    ghost count = { λ s. s.count };
+
+    ghost room = { λ s. 2 ^ 63 };
+
+    ghost holds = { λ s t L. (t.out.ghost_name ≡ s.out.ghost_name) × (t.count ≡ length L) × (map R.pair t.out.now ≡ laid L (map R.pair s.out.now)) };
+
+    ghost begins = { λ s t L. (t.out.ghost_name ≡ s.out.ghost_name) × (map R.pair t.out.now ≡ laid L (map R.pair s.out.now)) };
+
+    ghost repeats = { λ s. Stands (R.pair s.last) (map R.pair s.out.now) s.count };
+
+    fn push(&mut self, run: R) {
+        put(self.out, self.count, run);
+        self.count += 1;
+    }
+
+    fn push_over(&mut self, is_over: bool, run: R) {
+        let place = self.count - usize::from(is_over);
+        put(self.out, place, run);
+        self.count = place + 1;
+    }
+
+    /// The last run is written once more where it stands if the pair is crossed: so each step of a loop
+    /// writes, and none reads the slice, which would wait for what the step before has written.
+    fn push_filled(&mut self, run: R) {
+        let is_filled = run.lower() <= run.upper();
+        self.last = select_unpredictable(is_filled, run, self.last);
+        self.count += usize::from(is_filled);
+        let place = self.count.saturating_sub(1);
+        put(self.out, place, self.last);
+    }
+
+    /// A compiler may choose by a jump, since what stands there is read: this serves where the
+    /// condition nearly always holds.
+    fn put_if(&mut self, place: usize, is_filled: bool, run: R) {
+        put_by(self.out, place, run, is_filled);
+    }
+
+    fn cut(&mut self, kept: usize) {
+        self.count = kept;
+    }
+}
+
+/// The pair at the first place of the buffer, or any pair if it has no place.
+fn first_or_any<R: Pair>(out: &[R]) -> R
+    ensures { Stands (R.pair result) (map R.pair out.now) 0 }
+{
+    if out.is_empty() {
+        let any = R::Bound::min_value();
+        return R::of(any, any);
+    }
+    out[0]
+}
+
+/// Writes a pair at a place of the buffer, if a condition holds and there is such a place.
+fn put_by<R: Pair>(out: &mut [R], place: usize, run: R, condition: bool)
+    ensures { map R.pair out.new ≡ (if condition then slice_set (map R.pair out.old) place (R.pair run) else map R.pair out.old) }
+{
+    if place < out.len() {
+        out[place] = select_unpredictable(condition, run, out[place]);
+    }
+}
+
+/// Writes a pair at a place of the buffer, if there is such a place.
+fn put<R: Pair>(out: &mut [R], place: usize, run: R)
+    ensures { map R.pair out.new ≡ slice_set (map R.pair out.old) place (R.pair run) }
+{
+    if place < out.len() {
+        out[place] = run;
+    }
+}
