@@ -1,4 +1,4 @@
-use Rattle.std.proofs.Common.{◌≡◌, ◌↔◌, IsTrue, ◌+◌, ◌-◌, ◌/◌, ◌<◌, ◌≤◌, ◌≤ℤ◌, ℤ, subst, arith}
+use Rattle.std.proofs.Common.{◌↔◌, IsTrue, ◌-◌, ◌/◌, ◌<◌, ◌≤ℤ◌, ℤ, subst, arith}
 use Rattle.ivl_laws.proofs.Orders.{le_number}
 use Rattle.ivl_map.proofs.Searching.{starts_narrowed}
 use Rattle.ivl_map.proofs.search.starts_between.Goals as goal
