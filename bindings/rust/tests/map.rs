@@ -246,6 +246,22 @@ fn values_are_of_any_type() {
 }
 
 #[test]
+fn entries_by_value_are_not_copied() {
+    #[derive(PartialEq, Eq, Debug)]
+    struct Single(u8);
+
+    impl Clone for Single {
+        fn clone(&self) -> Self {
+            panic!("a copy of {}", self.0)
+        }
+    }
+
+    let mut map = IntervalMap::from([(1..=2u8, Single(1)), (5..=6, Single(2))]);
+    map.insert(5..=9, Single(3));
+    assert_eq!(map.into_iter().collect::<Vec<_>>(), [(1..=2, Single(1)), (5..=9, Single(3))]);
+}
+
+#[test]
 fn iterators_have_names_and_go_both_ways() {
     struct Walks<'a>(Iter<'a, u8, char>, Values<'a, u8, char>, IntoIter<u8, char>);
     let map = IntervalMap::from([(1..=2u8, 'a'), (3..=4, 'b'), (9..=9, 'c')]);

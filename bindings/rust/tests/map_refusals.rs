@@ -57,7 +57,7 @@ fn set() -> IntervalSet<i64> {
 type Edit = fn(&mut Map, Boxed, ProvedVec<(Interval<i64>, Boxed)>) -> Result<(), AllocError>;
 
 const EDITS: [(&str, bool, Edit); 8] = [
-    ("insert", true, |map, value, _| map.insert(Interval::new(50, 60), value)),
+    ("insert", true, |map, value, _| map.insert(Interval::new(50, 55), value)),
     ("insert within an entry", true, |map, value, _| map.insert(Interval::new(15, 16), value)),
     ("insert above", true, |map, value, _| map.insert(Interval::new(100, 200), value)),
     ("insert_if_free", true, |map, value, _| {
@@ -102,7 +102,8 @@ fn edits() {
 
 #[test]
 fn edits_that_need_no_memory_are_not_refused() {
-    let edits: [(&str, Edit); 5] = [
+    let edits: [(&str, Edit); 6] = [
+        ("insert over an entry", |map, value, _| map.insert(Interval::new(50, 60), value)),
         ("remove of whole entries", |map, _, _| map.remove(Interval::new(10, 40))),
         ("remove of nothing", |map, _, _| map.remove(Interval::new(5, 6))),
         ("insert of nothing", |map, value, _| map.insert(Interval::empty(), value)),
@@ -115,7 +116,8 @@ fn edits_that_need_no_memory_are_not_refused() {
         }),
     ];
     for (name, edit) in edits {
-        let (mut map, value, list) = (ten(), Boxed::of(77), list());
+        // a map that is copied has no room for more
+        let (mut map, value, list) = (ten().try_clone().unwrap(), Boxed::of(77), list());
         let (made, told) = cost(|| edit(&mut map, value, list));
         assert!(made.is_ok() && told.allocations == 0, "{name}: {told:?}");
     }

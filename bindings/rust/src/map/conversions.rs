@@ -74,7 +74,7 @@ impl<T: Width + Debug, V: Clone + Eq + Debug> Debug for IntervalMap<T, V> {
     }
 }
 
-/// Iterates over the entries, in ascending order. Each value is copied, since the proved map does not give its own away.
+/// Iterates over the entries, in ascending order. Copies no value.
 impl<T: Width, V: Clone + Eq> IntoIterator for IntervalMap<T, V> {
     type Item = (RangeInclusive<T>, V);
 

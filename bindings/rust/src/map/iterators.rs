@@ -1,8 +1,10 @@
 //! Iterators over entries and values.
 use super::IntervalMap;
-use super::below::Entry;
+use super::below::{Entry, Held};
 use super::reads::shown;
 use crate::proved::width::Width;
+use crate::set::reads::as_range;
+use alloc::vec::{self, Vec};
 use core::fmt::{self, Debug};
 use core::iter::FusedIterator;
 use core::ops::RangeInclusive;
@@ -14,13 +16,8 @@ pub struct Iter<'a, T: Width, V>(pub(super) slice::Iter<'a, Entry<T, V>>);
 /// An iterator over the values of an [`IntervalMap`], in ascending order of their numbers.
 pub struct Values<'a, T: Width, V>(pub(super) slice::Iter<'a, Entry<T, V>>);
 
-/// An iterator over the entries of a map that is consumed, in ascending order. Each value that it yields is a copy.
-#[derive(Clone)]
-pub struct IntoIter<T: Width, V: Clone + Eq> {
-    map: IntervalMap<T, V>,
-    first: usize,
-    end: usize,
-}
+/// An iterator over the entries of a map that is consumed, in ascending order. Copies no value.
+pub struct IntoIter<T: Width, V>(vec::IntoIter<Entry<T, V>>);
 
 fn entry<T: Width, V>((run, held): &Entry<T, V>) -> (RangeInclusive<T>, &V) {
     shown((*run, held))
@@ -105,39 +102,49 @@ impl<T: Width, V: Debug> Debug for Values<'_, T, V> {
     }
 }
 
+fn owned<T: Width, V>((run, held): Entry<T, V>) -> (RangeInclusive<T>, V) {
+    (as_range(&run), held.0)
+}
+
 impl<T: Width, V: Clone + Eq> IntoIter<T, V> {
     /// The entries of a map.
     pub(super) fn of(map: IntervalMap<T, V>) -> Self {
-        Self { first: 0, end: map.interval_count(), map }
-    }
-
-    /// The entries that are left.
-    fn left(&self) -> Iter<'_, T, V> {
-        Iter(self.map.entries()[self.first..self.end].iter())
+        Self(map.0.map_or_else(Vec::new, |map| map.into_entries().into_inner()).into_iter())
     }
 }
 
-impl<T: Width, V: Clone + Eq> Iterator for IntoIter<T, V> {
+impl<T: Width, V> IntoIter<T, V> {
+    /// The entries that are left.
+    fn left(&self) -> Iter<'_, T, V> {
+        Iter(self.0.as_slice().iter())
+    }
+}
+
+impl<T: Width, V: Clone> Clone for IntoIter<T, V> {
+    fn clone(&self) -> Self {
+        let entries: Vec<_> = self.0.as_slice().iter().map(|(run, held)| (*run, Held(held.0.clone()))).collect();
+        Self(entries.into_iter())
+    }
+}
+
+impl<T: Width, V> Iterator for IntoIter<T, V> {
     type Item = (RangeInclusive<T>, V);
 
+    #[inline]
     fn next(&mut self) -> Option<(RangeInclusive<T>, V)> {
-        let (run, value) = self.left().next()?;
-        let entry = (run, value.clone());
-        self.first += 1;
-        Some(entry)
+        self.0.next().map(owned)
     }
 
     fn size_hint(&self) -> (usize, Option<usize>) {
-        self.left().size_hint()
+        self.0.size_hint()
     }
 
     fn count(self) -> usize {
-        self.end - self.first
+        self.0.len()
     }
 
     fn nth(&mut self, n: usize) -> Option<(RangeInclusive<T>, V)> {
-        self.first = self.end.min(self.first.saturating_add(n));
-        self.next()
+        self.0.nth(n).map(owned)
     }
 
     fn last(mut self) -> Option<(RangeInclusive<T>, V)> {
@@ -145,26 +152,23 @@ impl<T: Width, V: Clone + Eq> Iterator for IntoIter<T, V> {
     }
 }
 
-impl<T: Width, V: Clone + Eq> DoubleEndedIterator for IntoIter<T, V> {
+impl<T: Width, V> DoubleEndedIterator for IntoIter<T, V> {
+    #[inline]
     fn next_back(&mut self) -> Option<(RangeInclusive<T>, V)> {
-        let (run, value) = self.left().next_back()?;
-        let entry = (run, value.clone());
-        self.end -= 1;
-        Some(entry)
+        self.0.next_back().map(owned)
     }
 
     fn nth_back(&mut self, n: usize) -> Option<(RangeInclusive<T>, V)> {
-        self.end = self.first.max(self.end.saturating_sub(n));
-        self.next_back()
+        self.0.nth_back(n).map(owned)
     }
 }
 
-impl<T: Width, V: Clone + Eq> ExactSizeIterator for IntoIter<T, V> {}
+impl<T: Width, V> ExactSizeIterator for IntoIter<T, V> {}
 
-impl<T: Width, V: Clone + Eq> FusedIterator for IntoIter<T, V> {}
+impl<T: Width, V> FusedIterator for IntoIter<T, V> {}
 
 /// Writes the entries that are left.
-impl<T: Width + Debug, V: Clone + Eq + Debug> Debug for IntoIter<T, V> {
+impl<T: Width + Debug, V: Debug> Debug for IntoIter<T, V> {
     fn fmt(&self, f: &mut fmt::Formatter<'_>) -> fmt::Result {
         f.write_str("IntoIter ")?;
         f.debug_map().entries(self.left()).finish()

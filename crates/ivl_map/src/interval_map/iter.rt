@@ -87,6 +87,22 @@ impl<B: Width, V: MapValue> IntervalMap<B, V> {
         self.entries.as_slice()
     }
 
+    /// Returns the vector of the entries, in ascending order. Consumes the map. `O(1)`. Does not
+    /// allocate, and copies no value.
+    ///
+    /// ```
+    /// let a = IntervalMap::of(alloc, Interval::new(1i32, 5), 'a')?;
+    /// let entries = a.into_entries();
+    /// assert!(rt; entries.len() == 1 && entries[0].0 == Interval::new(1, 5));
+    /// ```
+    pub fn into_entries(self) -> Vec<(Interval<B>, V)>
+        ensures same { result.items ≡ self }
+        ensures entries { IsEntryListIn B.whole V.eq self }
+    {
+        self.in_order();
+        self.entries
+    }
+
     /// Returns a double-ended iterator over the entries, in ascending order. `O(1)`. Does not
     /// allocate.
     ///

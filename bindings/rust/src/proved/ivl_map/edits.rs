@@ -3,7 +3,7 @@
 
 #[allow(unused_imports)]
 use crate::rattle::prelude::*;
-use crate::proved::ivl_map::search::{ends_below, starts_up_to};
+use crate::proved::ivl_map::search::{ends_below, starts_from};
 use crate::proved::ivl_map::value::MapValue;
 use crate::proved::intervallum::interval::Interval;
 use crate::proved::intervallum::ops::{Bounded, StrictShrinkLeft, StrictShrinkRight};
@@ -11,7 +11,11 @@ use crate::proved::intervallum::width::Width;
 use crate::rattle::std::alloc::AllocError;
 
 /// Takes out the entries from `start` to before `end`.
-fn take_out<B: Width, V: MapValue>(entries: &mut Vec<(Interval<B>, V)>, start: usize, end: usize) {
+pub(crate) fn take_out<B: Width, V: MapValue>(
+    entries: &mut Vec<(Interval<B>, V)>,
+    start: usize,
+    end: usize,
+) {
     let count = end - start;
     if count == 1 {
         entries.remove(start);
@@ -99,7 +103,7 @@ pub(crate) fn span<B: Width, V: MapValue>(
     interval: Interval<B>,
 ) -> (usize, usize) {
     let start = ends_below(entries, interval.lower());
-    let end = starts_up_to(entries, interval.upper());
+    let end = starts_from(entries, interval.upper(), start);
     (start, end)
 }
 
@@ -119,7 +123,7 @@ pub(crate) fn cut<B: Width, V: MapValue>(
 }
 
 /// The part of an interval below a number of it or just above it, if there is one.
-fn part_below<B: Width>(run: Interval<B>, value: B) -> Option<Interval<B>> {
+pub(crate) fn part_below<B: Width>(run: Interval<B>, value: B) -> Option<Interval<B>> {
     if run.lower() < value {
         Some(run.strict_shrink_right(value))
     } else {
@@ -128,7 +132,7 @@ fn part_below<B: Width>(run: Interval<B>, value: B) -> Option<Interval<B>> {
 }
 
 /// The part of an interval above a number of it or just below it, if there is one.
-fn part_above<B: Width>(run: Interval<B>, value: B) -> Option<Interval<B>> {
+pub(crate) fn part_above<B: Width>(run: Interval<B>, value: B) -> Option<Interval<B>> {
     if value < run.upper() {
         Some(run.strict_shrink_left(value))
     } else {

@@ -175,7 +175,8 @@ impl<B: Width, V: MapValue> IntervalMap<B, V> {
     ///
     /// # Errors
     ///
-    /// Fails only if an allocation or the copy of a value fails. The map is then unchanged.
+    /// Fails only if an allocation or the copy of a value fails. The map is then unchanged. Where an entry
+    /// lies within the interval, or one that touches or overlaps it has an equal value, it cannot fail.
     ///
     /// ```
     /// use intervallum::proved::examples::*;
@@ -196,9 +197,11 @@ impl<B: Width, V: MapValue> IntervalMap<B, V> {
     /// ```text
     /// ensures ok { OnOk result (IsEntriesOf V.eq self.new (Written V.eq interval value (HasAt V.eq self.old))) }
     /// ensures err { OnErr result (self.new ≡ self.old) }
+    /// ensures replaces { (e : _) → IsIn self.old e → interval.0 ≤ℤ e.0.0 → e.0.1 ≤ℤ interval.1 → IsOk result }
+    /// ensures grows { (z : ℤ) → IsBetween (widened interval) z → HasAt V.eq self.old z value → IsOk result }
     /// ```
     ///
-    /// Words: [`IsEntriesOf`](crate::definitions#IsEntriesOf), [`Written`](crate::definitions#Written), [`HasAt`](crate::definitions#HasAt).
+    /// Words: [`IsEntriesOf`](crate::definitions#IsEntriesOf), [`Written`](crate::definitions#Written), [`HasAt`](crate::definitions#HasAt), [`IsIn`](crate::definitions#IsIn), [`IsBetween`](crate::definitions#IsBetween), [`widened`](crate::definitions#widened).
     pub fn insert(&mut self, interval: Interval<B>, value: V) -> Result<(), AllocError> {
         self.in_order();
         if interval.is_empty() {

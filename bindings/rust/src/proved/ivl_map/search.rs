@@ -6,33 +6,63 @@ use crate::rattle::prelude::*;
 use crate::proved::ivl_map::value::MapValue;
 use crate::proved::intervallum::interval::Interval;
 use crate::proved::intervallum::width::Width;
+use crate::rattle::std::hint::select_unpredictable;
 
 /// How many entries end below a value.
 pub(crate) fn ends_below<B: Width, V: MapValue>(entries: &[(Interval<B>, V)], value: B) -> usize {
     let mut low = 0;
-    let mut high = entries.len();
-    'search: while low < high {
-        let middle = low + (high - low) / 2;
-        if entries[middle].0.upper_bound() < value {
-            low = middle + 1;
-        } else {
-            high = middle;
-        }
+    // how many are left does not depend on what is seen, so the next look need not wait for it
+    let mut left = entries.len();
+    'search: while 0 < left {
+        let half = left - left / 2;
+        left -= half;
+        let last = low + half - 1;
+        let is_below = entries[last].0.upper_bound() < value;
+        low = select_unpredictable(is_below, low + half, low);
     }
     low
 }
 
 /// How many entries start at a value or below.
 pub(crate) fn starts_up_to<B: Width, V: MapValue>(entries: &[(Interval<B>, V)], value: B) -> usize {
-    let mut low = 0;
-    let mut high = entries.len();
-    'search: while low < high {
-        let middle = low + (high - low) / 2;
-        if entries[middle].0.lower_bound() <= value {
-            low = middle + 1;
-        } else {
-            high = middle;
+    starts_between(entries, value, 0, entries.len())
+}
+
+/// How many entries start at a value or below, if those before place `from` do. Doubles its steps
+/// until it is past the value: few looks where few of the others do.
+pub(crate) fn starts_from<B: Width, V: MapValue>(
+    entries: &[(Interval<B>, V)],
+    value: B,
+    from: usize,
+) -> usize {
+    let count = entries.len();
+    let mut low = from;
+    'search: while low - from < count - low {
+        let next = low + (low - from);
+        if value < entries[next].0.lower_bound() {
+            return starts_between(entries, value, low, next);
         }
+        low = next + 1;
+    }
+    starts_between(entries, value, low, count)
+}
+
+/// How many entries start at a value or below, if those before place `low` do, and none from place
+/// `high` on.
+fn starts_between<B: Width, V: MapValue>(
+    entries: &[(Interval<B>, V)],
+    value: B,
+    mut low: usize,
+    high: usize,
+) -> usize {
+    // how many are left does not depend on what is seen, so the next look need not wait for it
+    let mut left = high - low;
+    'search: while 0 < left {
+        let half = left - left / 2;
+        left -= half;
+        let last = low + half - 1;
+        let is_up_to = entries[last].0.lower_bound() <= value;
+        low = select_unpredictable(is_up_to, low + half, low);
     }
     low
 }

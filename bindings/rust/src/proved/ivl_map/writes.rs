@@ -3,7 +3,7 @@
 
 #[allow(unused_imports)]
 use crate::rattle::prelude::*;
-use crate::proved::ivl_map::edits::{cut, keep_first, put_in};
+use crate::proved::ivl_map::edits::{keep_first, part_above, part_below, put_in, span, take_out};
 use crate::proved::ivl_map::search::ends_below;
 use crate::proved::ivl_map::value::MapValue;
 use crate::proved::intervallum::interval::Interval;
@@ -16,9 +16,9 @@ fn are_next<B: Width>(low: B, high: B) -> bool {
     low.add_in_range(B::one()) == high
 }
 
-/// What a value makes, written from a number on, with the entry below: how many entries stay, and
-/// where the new one starts.
-fn join_below<B: Width, V: MapValue>(
+/// What a value makes, written from a number on, with an entry that ends right below: how many
+/// entries stay, and where the new one starts.
+fn touch_below<B: Width, V: MapValue>(
     entries: &[(Interval<B>, V)],
     at: usize,
     lower: B,
@@ -40,9 +40,9 @@ fn join_below<B: Width, V: MapValue>(
     }
 }
 
-/// What a value makes, written up to a number, with the entry above: the place after the last entry
-/// that goes, and where the new one ends.
-fn join_above<B: Width, V: MapValue>(
+/// What a value makes, written up to a number, with an entry that starts right above: the place
+/// after the last entry that goes, and where the new one ends.
+fn touch_above<B: Width, V: MapValue>(
     entries: &[(Interval<B>, V)],
     at: usize,
     upper: B,
@@ -63,6 +63,153 @@ fn join_above<B: Width, V: MapValue>(
     }
 }
 
+/// The part below an interval of the entry that has numbers of it and lower ones, or `None` if none
+/// has.
+fn over_lower<B: Width, V: MapValue>(
+    entries: &[(Interval<B>, V)],
+    interval: Interval<B>,
+    start: usize,
+    end: usize,
+) -> Option<Interval<B>> {
+    if end <= start {
+        return None;
+    }
+    part_below(entries[start].0, interval.lower())
+}
+
+/// The part above an interval of the entry that has numbers of it and higher ones, or `None` if none
+/// has.
+fn over_upper<B: Width, V: MapValue>(
+    entries: &[(Interval<B>, V)],
+    interval: Interval<B>,
+    start: usize,
+    end: usize,
+) -> Option<Interval<B>> {
+    if end <= start {
+        return None;
+    }
+    let last = end - 1;
+    part_above(entries[last].0, interval.upper())
+}
+
+/// What a value makes, written to an interval, with the entry below: how many entries stay whole,
+/// the part that stays of the next one, and where the new entry starts.
+fn join_below<B: Width, V: MapValue>(
+    entries: &[(Interval<B>, V)],
+    interval: Interval<B>,
+    start: usize,
+    end: usize,
+    value: &V,
+) -> (usize, Option<Interval<B>>, B) {
+    match over_lower(entries, interval, start, end) {
+        Some(part) => {
+            if entries[start].1 == *value {
+                (start, None, part.lower())
+            } else {
+                (start, Some(part), interval.lower())
+            }
+        }
+        None => {
+            let (first, lower) = touch_below(entries, start, interval.lower(), value);
+            (first, None, lower)
+        }
+    }
+}
+
+/// What a value makes, written to an interval, with the entry above: the place of the first entry
+/// that stays whole, the part that stays of the one before it, and where the new entry ends.
+fn join_above<B: Width, V: MapValue>(
+    entries: &[(Interval<B>, V)],
+    interval: Interval<B>,
+    start: usize,
+    end: usize,
+    value: &V,
+) -> (usize, Option<Interval<B>>, B) {
+    match over_upper(entries, interval, start, end) {
+        Some(part) => {
+            if entries[end - 1].1 == *value {
+                (end, None, part.upper())
+            } else {
+                (end, Some(part), interval.upper())
+            }
+        }
+        None => {
+            let (last, upper) = touch_above(entries, end, interval.upper(), value);
+            (last, None, upper)
+        }
+    }
+}
+
+/// Puts an entry in the place of those from `start` to before `end`. Fails only if there are none
+/// of these and no room, and allocation fails.
+fn replace<B: Width, V: MapValue>(
+    entries: &mut Vec<(Interval<B>, V)>,
+    start: usize,
+    end: usize,
+    run: Interval<B>,
+    value: V,
+) -> Result<(), AllocError> {
+    if start == end {
+        return put_in(entries, start, run, value);
+    }
+    entries[start] = (run, value);
+    take_out(entries, start + 1, end);
+    Ok(())
+}
+
+/// Puts an entry in the place of those from `start` to before `end`, and leaves a part of the first
+/// of these below it, and one of the last above it, if there are such parts. Fails only if it needs
+/// room, or splits an entry.
+fn lay<B: Width, V: MapValue>(
+    entries: &mut Vec<(Interval<B>, V)>,
+    start: usize,
+    below: Option<Interval<B>>,
+    run: Interval<B>,
+    value: V,
+    end: usize,
+    above: Option<Interval<B>>,
+) -> Result<(), AllocError> {
+    match (below, above) {
+        (None, None) => replace(entries, start, end, run, value),
+        (Some(low), None) => {
+            replace(entries, start + 1, end, run, value)?;
+            keep_first(entries, start, start + 1, low);
+            Ok(())
+        }
+        (None, Some(high)) => {
+            replace(entries, start, end - 1, run, value)?;
+            keep_first(entries, start + 1, start + 2, high);
+            Ok(())
+        }
+        (Some(low), Some(high)) => lay_between(entries, start, low, run, value, end, high),
+    }
+}
+
+/// Puts an entry between two parts of the entries from `start` to before `end`. The second part of
+/// one entry has a copy of its value.
+fn lay_between<B: Width, V: MapValue>(
+    entries: &mut Vec<(Interval<B>, V)>,
+    start: usize,
+    low: Interval<B>,
+    run: Interval<B>,
+    value: V,
+    end: usize,
+    high: Interval<B>,
+) -> Result<(), AllocError> {
+    if end - start == 1 {
+        let copy = entries[start].1.try_copy()?;
+        entries.reserve(2)?;
+        put_in(entries, end, high, copy).unwrap();
+        put_in(entries, end, run, value).unwrap();
+        keep_first(entries, start, end, low);
+        return Ok(());
+    }
+    replace(entries, start + 1, end - 1, run, value)?;
+    keep_first(entries, start + 2, start + 3, high);
+    keep_first(entries, start, start + 1, low);
+    Ok(())
+}
+
 /// Gives the numbers of an interval, of which no entry has one, a value. Fails only if there is no
 /// room for an entry, and allocation fails.
 pub(crate) fn put<B: Width, V: MapValue>(
@@ -71,14 +218,9 @@ pub(crate) fn put<B: Width, V: MapValue>(
     interval: Interval<B>,
     value: V,
 ) -> Result<(), AllocError> {
-    let (start, lower) = join_below(entries, at, interval.lower(), &value);
-    let (end, upper) = join_above(entries, at, interval.upper(), &value);
-    let run = Interval::new(lower, upper);
-    if start == end {
-        return put_in(entries, start, run, value);
-    }
-    keep_first(entries, start, end, run);
-    Ok(())
+    let (start, lower) = touch_below(entries, at, interval.lower(), &value);
+    let (end, upper) = touch_above(entries, at, interval.upper(), &value);
+    replace(entries, start, end, Interval::new(lower, upper), value)
 }
 
 /// Gives the numbers of an interval a value. If the copy of a value or an allocation fails, the
@@ -88,11 +230,18 @@ pub(crate) fn write<B: Width, V: MapValue>(
     interval: Interval<B>,
     value: V,
 ) -> Result<(), AllocError> {
-    entries.reserve(2)?;
-    cut(entries, interval)?;
-    let at = ends_below(entries, interval.lower());
-    put(entries, at, interval, value).unwrap();
-    Ok(())
+    let (start, end) = span(entries, interval);
+    let (first, below, lower) = join_below(entries, interval, start, end, &value);
+    let (last, above, upper) = join_above(entries, interval, start, end, &value);
+    lay(
+        entries,
+        first,
+        below,
+        Interval::new(lower, upper),
+        value,
+        last,
+        above,
+    )
 }
 
 /// The run of the first entry that has a number of an interval, or `None` if none has. `at` entries

@@ -112,6 +112,34 @@ impl<B: Width, V: MapValue> IntervalMap<B, V> {
         self.entries.as_slice()
     }
 
+    /// Returns the vector of the entries, in ascending order. Consumes the map. `O(1)`. Does not
+    /// allocate, and copies no value.
+    ///
+    /// ```
+    /// use intervallum::proved::examples::*;
+    ///
+    /// fn main() -> Result<(), std::boxed::Box<dyn std::error::Error>> {
+    ///     let alloc = Global;
+    ///     let a = IntervalMap::of(alloc, Interval::new(1i32, 5), 'a')?;
+    ///     let entries = a.into_entries();
+    ///     assert!(entries.len() == 1 && entries[0].0 == Interval::new(1, 5));
+    ///     Ok(())
+    /// }
+    /// ```
+    ///
+    /// # Proved
+    ///
+    /// ```text
+    /// ensures same { result.items ≡ self }
+    /// ensures entries { IsEntryListIn B.whole V.eq self }
+    /// ```
+    ///
+    /// Words: [`IsEntryListIn`](crate::definitions#IsEntryListIn).
+    pub fn into_entries(self) -> Vec<(Interval<B>, V)> {
+        self.in_order();
+        self.entries
+    }
+
     /// Returns a double-ended iterator over the entries, in ascending order. `O(1)`. Does not
     /// allocate.
     ///
