@@ -7,12 +7,7 @@ pub mod InOrder
 pub mod RunLists
 pub mod Links
 pub mod Output
-pub mod Intersections
-pub mod Differences
-pub mod Unions
 pub mod Previous
 pub mod SameRanks
 pub mod EditedSets
 pub mod Counted
-pub mod Complements
-pub mod OneAlone

@@ -7,7 +7,7 @@ use Rattle.ivl_laws.specs.Sets.{IsBetween, IsInRange}
 use Rattle.ivl_laws.specs.Runs.{Covers, IsRunListIn}
 use Rattle.ivl_laws.proofs.Adding.{untrue}
 use Rattle.ivl_merges.specs.Sinks.{IsRunIn}
-use Rattle.ivl_merges.proofs.Suffixes.{rest_all, rest_at, rest_list, rest_none}
+use Rattle.ivl_merges.proofs.Suffixes.{first_is_run, rest_all, rest_at, rest_list, rest_none}
 
 -- ---- tests of one pair, and of two
 
@@ -59,12 +59,6 @@ module _ (whole p q : ℤ × ℤ) (start end : ℤ) (e : start ≡ q.0) (f : end
     )
 
 -- ---- the first pair
-
-pub first_is_run : (whole p : ℤ × ℤ) (M : List (ℤ × ℤ)) → IsRunListIn whole (p ∷ M) → IsRunIn whole p
-first_is_run whole p M r = (
-  r.maximal.0,
-  ((r.within p.0 (inl (≤ℤ_refl p.0, r.maximal.0))).0, (r.within p.1 (inl (r.maximal.0, ≤ℤ_refl p.1))).1),
-)
 
 pub one_is_list : (whole p : ℤ × ℤ) → IsRunIn whole p → IsRunListIn whole (p ∷ [])
 one_is_list whole p o = record { maximal = (o.0, tt, tt); within = within }
@@ -125,7 +119,3 @@ refused n = ((λ u. absurd (cc)), (λ p. absurd (n p)))
 
 pub granted : {P : Type 0} → P → IsTrue true ↔ P
 granted p = ((λ _. p), (λ _. refl))
-
--- the pair at a place of a run list
-pub run_at : {X : Type 0} (pair : X → ℤ × ℤ) (whole : ℤ × ℤ) (L : List X) (k : ℕ) (d : X) → k < length L → d ≡ get_or L k d → IsRunListIn whole (map pair L) → IsRunIn whole (pair d)
-run_at pair whole L k d h is r = first_is_run whole (pair d) (map pair (drop (k + 1) L)) (subst (IsRunListIn whole) (rest_at pair L k d h is) (rest_list pair whole L k r))

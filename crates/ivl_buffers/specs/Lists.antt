@@ -7,25 +7,25 @@
 --     IsInOrder L      no pair is crossed, and neither the lower nor the upper bounds descend
 use Rattle.std.specs.Prelude.{◌-◌, ◌^◌, ℤ, pos, negsuc, ◌≤ℤ◌, List, [], ◌∷◌, map}
 use Rattle.ivl_laws.specs.Runs.{Covers}
-use Rattle.ivl_buffers.specs.declared.run.RunI64.{RunI64}
-use Rattle.ivl_buffers.specs.declared.run.RunU64.{RunU64}
+use Rattle.ivl_buffers.specs.declared.pair.PairI64.{PairI64}
+use Rattle.ivl_buffers.specs.declared.pair.PairU64.{PairU64}
 
-abbrev pub pair_i64 : RunI64 → ℤ × ℤ
+abbrev pub pair_i64 : PairI64 → ℤ × ℤ
 pair_i64 r = (r.lower, r.upper)
 
-abbrev pub pair_u64 : RunU64 → ℤ × ℤ
+abbrev pub pair_u64 : PairU64 → ℤ × ℤ
 pair_u64 r = (pos r.lower, pos r.upper)
 
-abbrev pub pairs_i64 : List RunI64 → List (ℤ × ℤ)
+abbrev pub pairs_i64 : List PairI64 → List (ℤ × ℤ)
 pairs_i64 L = map (λ r. (r.lower, r.upper)) L
 
-abbrev pub pairs_u64 : List RunU64 → List (ℤ × ℤ)
+abbrev pub pairs_u64 : List PairU64 → List (ℤ × ℤ)
 pairs_u64 L = map (λ r. (pos r.lower, pos r.upper)) L
 
-abbrev pub members_i64 : List RunI64 → ℤ → Type 0
+abbrev pub members_i64 : List PairI64 → ℤ → Type 0
 members_i64 L = Covers (pairs_i64 L)
 
-abbrev pub members_u64 : List RunU64 → ℤ → Type 0
+abbrev pub members_u64 : List PairU64 → ℤ → Type 0
 members_u64 L = Covers (pairs_u64 L)
 
 abbrev pub whole_i64 : ℤ × ℤ

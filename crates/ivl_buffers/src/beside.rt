@@ -7,12 +7,12 @@ ghost use Rattle.intervallum.specs.Neighbours.{IsRunWith};
 ghost use Rattle.ivl_buffers.specs.Beside.{AnswersPrevious, AnswersRun, IsPreviousIn};
 ghost use Rattle.ivl_buffers.specs.Lists.{IsInOrder};
 
-use crate::run::Run;
+use crate::pair::Pair;
 use crate::sorted_lookup::{pair_at, search};
 
 /// Writes a member that is at most `v`, and the greatest one if the list is sorted. Returns whether
 /// it found one. `O(log n)`, does not allocate.
-pub fn previous_to<R: Run>(runs: &[R], v: R::Bound, found: &mut R::Bound) -> bool
+pub fn previous_to<R: Pair>(runs: &[R], v: R::Bound, found: &mut R::Bound) -> bool
     ensures member { IsTrue result → AtMost (R.Bound.value v) (Covers (map R.pair runs.now)) (R.Bound.value found.new) }
     ensures same { result ≡ false → R.Bound.value found.new ≡ R.Bound.value found.old }
     ensures in_order { IsInOrder (map R.pair runs.now)
@@ -28,7 +28,7 @@ pub fn previous_to<R: Run>(runs: &[R], v: R::Bound, found: &mut R::Bound) -> boo
 }
 
 /// A member that is at most `v`, and the greatest one if the list is sorted.
-fn greatest_to<R: Run>(runs: &[R], v: R::Bound) -> Option<R::Bound>
+fn greatest_to<R: Pair>(runs: &[R], v: R::Bound) -> Option<R::Bound>
     ensures member { IfSome result (λ x. AtMost (R.Bound.value v) (Covers (map R.pair runs.now)) (R.Bound.value x)) }
     ensures in_order { IsInOrder (map R.pair runs.now) → IsPreviousIn (R.Bound.value v) (Covers (map R.pair runs.now)) (option_map R.Bound.value result) }
 {
@@ -43,7 +43,7 @@ fn greatest_to<R: Run>(runs: &[R], v: R::Bound) -> Option<R::Bound>
 }
 
 /// The greatest number of a pair that is at most `v`.
-fn greatest_in<R: Run>(run: R, v: R::Bound) -> Option<R::Bound>
+fn greatest_in<R: Pair>(run: R, v: R::Bound) -> Option<R::Bound>
     ensures { IsPreviousIn (R.Bound.value v) (IsBetween (R.pair run)) (option_map R.Bound.value result) }
 {
     let upper = run.upper();
@@ -54,7 +54,7 @@ fn greatest_in<R: Run>(run: R, v: R::Bound) -> Option<R::Bound>
 /// Writes a pair of the list that has `v`, and the run that holds it if the list is one of runs.
 /// Returns whether it found one: exactly when `v` is a member, if the list is sorted. `O(log n)`,
 /// does not allocate.
-pub fn run_at<R: Run>(runs: &[R], v: R::Bound, found: &mut R) -> bool
+pub fn run_at<R: Pair>(runs: &[R], v: R::Bound, found: &mut R) -> bool
     ensures member { IsTrue result → IsBetween (R.pair found.new) (R.Bound.value v) × IsSubset (IsBetween (R.pair found.new)) (Covers (map R.pair runs.now)) }
     ensures same { result ≡ false → R.pair found.new ≡ R.pair found.old }
     ensures in_order { IsInOrder (map R.pair runs.now) → (IsTrue result ↔ Covers (map R.pair runs.now) (R.Bound.value v)) }
@@ -71,7 +71,7 @@ pub fn run_at<R: Run>(runs: &[R], v: R::Bound, found: &mut R) -> bool
 }
 
 /// A pair of the list that has `v`, and the run that holds it if the list is one of runs.
-fn pair_with<R: Run>(runs: &[R], v: R::Bound) -> Option<R>
+fn pair_with<R: Pair>(runs: &[R], v: R::Bound) -> Option<R>
     ensures member { IfSome result (λ run. IsBetween (R.pair run) (R.Bound.value v) × IsSubset (IsBetween (R.pair run)) (Covers (map R.pair runs.now))) }
     ensures in_order { IsInOrder (map R.pair runs.now) → MatchOption result (¬ (Covers (map R.pair runs.now) (R.Bound.value v))) (λ run. Covers (map R.pair runs.now) (R.Bound.value v)) }
     ensures run { IsMaximal (map R.pair runs.now)

@@ -6,8 +6,8 @@ ghost use Rattle.ivl_buffers.specs.Answers.{AnswersQuestion, AnswersSize};
 ghost use Rattle.ivl_buffers.specs.Operations.{HoldsOf};
 
 use crate::merging::{difference, intersection};
+use crate::pair::Pair;
 use crate::reading::{are_inside, set_of};
-use crate::run::Run;
 use crate::run_lists::can_walk_both;
 use crate::writing::{OUT_OF_MEMORY, OUT_OF_RANGE};
 use intervallum::ops::{Cardinality, Overlap, Subset};
@@ -26,7 +26,7 @@ pub enum Asking {
 }
 
 /// Returns 1 for yes, 0 for no, or an error code.
-pub fn ask<R: Run>(alloc: Global, asking: Asking, a: &[R], b: &[R]) -> i64
+pub fn ask<R: Pair>(alloc: Global, asking: Asking, a: &[R], b: &[R]) -> i64
     ensures { AnswersQuestion R.Bound.whole (Union (Covers (map R.pair a.now)) (Covers (map R.pair b.now)))
         (HoldsOf asking (Covers (map R.pair a.now)) (Covers (map R.pair b.now))) result }
 {
@@ -44,7 +44,7 @@ pub fn ask<R: Run>(alloc: Global, asking: Asking, a: &[R], b: &[R]) -> i64
 }
 
 /// What is asked of two lists of runs.
-fn holds<R: Run>(asking: Asking, a: &[R], b: &[R]) -> bool
+fn holds<R: Pair>(asking: Asking, a: &[R], b: &[R]) -> bool
     requires first { IsRunListIn R.Bound.whole (map R.pair a.now) }
     requires second { IsRunListIn R.Bound.whole (map R.pair b.now) }
     requires counted { length a.now + length b.now < 2 ^ 63 }
@@ -58,7 +58,7 @@ fn holds<R: Run>(asking: Asking, a: &[R], b: &[R]) -> bool
 }
 
 /// True exactly when the difference of two lists of runs, which is only counted, has no run.
-fn is_within<R: Run>(a: &[R], b: &[R]) -> bool
+fn is_within<R: Pair>(a: &[R], b: &[R]) -> bool
     requires first { IsRunListIn R.Bound.whole (map R.pair a.now) }
     requires second { IsRunListIn R.Bound.whole (map R.pair b.now) }
     requires counted { length a.now + length b.now < 2 ^ 63 }
@@ -68,7 +68,7 @@ fn is_within<R: Run>(a: &[R], b: &[R]) -> bool
 }
 
 /// True exactly when the intersection of two lists of runs, which is only counted, has a run.
-fn meets<R: Run>(a: &[R], b: &[R]) -> bool
+fn meets<R: Pair>(a: &[R], b: &[R]) -> bool
     requires first { IsRunListIn R.Bound.whole (map R.pair a.now) }
     requires second { IsRunListIn R.Bound.whole (map R.pair b.now) }
     requires counted { length a.now + length b.now < 2 ^ 63 }
@@ -77,7 +77,7 @@ fn meets<R: Run>(a: &[R], b: &[R]) -> bool
     intersection(a, b, &mut []) > 0
 }
 
-fn asked<R: Run>(alloc: Global, asking: Asking, a: &[R], b: &[R]) -> Result<bool, AllocError>
+fn asked<R: Pair>(alloc: Global, asking: Asking, a: &[R], b: &[R]) -> Result<bool, AllocError>
     requires first { IsSubset (Covers (map R.pair a.now)) (IsBetween R.Bound.whole) }
     requires second { IsSubset (Covers (map R.pair b.now)) (IsBetween R.Bound.whole) }
     ensures { IfOk result (λ t. IsTrue t ↔ HoldsOf asking (Covers (map R.pair a.now)) (Covers (map R.pair b.now))) }
@@ -92,7 +92,7 @@ fn asked<R: Run>(alloc: Global, asking: Asking, a: &[R], b: &[R]) -> Result<bool
 }
 
 /// Writes the number of members and returns 0, or returns an error code.
-pub fn count<R: Run>(alloc: Global, a: &[R], size: &mut <R::Bound as Width>::Output) -> i64
+pub fn count<R: Pair>(alloc: Global, a: &[R], size: &mut <R::Bound as Width>::Output) -> i64
     ensures { AnswersSize R.Bound.whole (Covers (map R.pair a.now))
         (R.Bound.Output.size size.old) (R.Bound.Output.size size.new) result }
 {

@@ -5,8 +5,8 @@ ghost use Rattle.ivl_laws.specs.Runs.{Covers, IsRunsOf};
 ghost use Rattle.ivl_buffers.specs.Answers.{AnswersSet};
 ghost use Rattle.ivl_buffers.specs.Edits.{EditedBy};
 
+use crate::pair::Pair;
 use crate::reading::{are_inside, interval_of, is_inside, set_of};
-use crate::run::Run;
 use crate::writing::{OUT_OF_RANGE, tell};
 use intervallum::interval_set::IntervalSet;
 use std::alloc::{AllocError, Global};
@@ -20,9 +20,9 @@ pub enum Editing {
     Remove,
 }
 
-/// Adds or removes a run. The list is the first `n` pairs of the buffer, and what is made of it is
+/// AddsAtEnd or removes a run. The list is the first `n` pairs of the buffer, and what is made of it is
 /// written to the same buffer. Returns the number of runs or an error code.
-pub fn edit<R: Run>(alloc: Global, editing: Editing, buffer: &mut [R], n: usize, run: R) -> i64
+pub fn edit<R: Pair>(alloc: Global, editing: Editing, buffer: &mut [R], n: usize, run: R) -> i64
     ensures { AnswersSet R.Bound.whole (Union (Covers (take n (map R.pair buffer.old))) (IsBetween (R.pair run)))
         (EditedBy editing (R.pair run) (Covers (take n (map R.pair buffer.old))))
         (map R.pair buffer.old) (map R.pair buffer.new) result }
@@ -36,7 +36,7 @@ pub fn edit<R: Run>(alloc: Global, editing: Editing, buffer: &mut [R], n: usize,
 }
 
 /// The first `n` pairs, or all if there are no more.
-fn first_of<R: Run>(buffer: &[R], n: usize) -> &[R]
+fn first_of<R: Pair>(buffer: &[R], n: usize) -> &[R]
     ensures { map R.pair result.now ≡ take n (map R.pair buffer.now) }
 {
     if n < buffer.len() {
@@ -47,7 +47,7 @@ fn first_of<R: Run>(buffer: &[R], n: usize) -> &[R]
 }
 
 /// The set of the list with the numbers of the run, or without them.
-fn edited<R: Run>(
+fn edited<R: Pair>(
     alloc: Global,
     editing: Editing,
     list: &[R],
@@ -64,7 +64,10 @@ fn edited<R: Run>(
     }
 }
 
-fn inserted<R: Run>(set: IntervalSet<R::Bound>, run: R) -> Result<IntervalSet<R::Bound>, AllocError>
+fn inserted<R: Pair>(
+    set: IntervalSet<R::Bound>,
+    run: R,
+) -> Result<IntervalSet<R::Bound>, AllocError>
     requires { IsSubset (IsBetween (R.pair run)) (IsBetween R.Bound.whole) }
     ensures { IfOk result (λ L. IsRunsOf L (Union (Covers set) (IsBetween (R.pair run)))) }
 {
@@ -73,7 +76,7 @@ fn inserted<R: Run>(set: IntervalSet<R::Bound>, run: R) -> Result<IntervalSet<R:
     Ok(set)
 }
 
-fn removed<R: Run>(set: IntervalSet<R::Bound>, run: R) -> Result<IntervalSet<R::Bound>, AllocError>
+fn removed<R: Pair>(set: IntervalSet<R::Bound>, run: R) -> Result<IntervalSet<R::Bound>, AllocError>
     requires { IsSubset (IsBetween (R.pair run)) (IsBetween R.Bound.whole) }
     ensures { IfOk result (λ L. IsRunsOf L (Without (Covers set) (IsBetween (R.pair run)))) }
 {

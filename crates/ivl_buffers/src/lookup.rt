@@ -4,8 +4,8 @@ ghost use Rattle.ivl_laws.specs.Sets.{IsBetween, IsSubset, Union};
 ghost use Rattle.ivl_laws.specs.Runs.{Covers};
 ghost use Rattle.ivl_buffers.specs.Lookup.{AnswersFit, AnswersNext, IsFitIn, IsNextIn};
 
+use crate::pair::Pair;
 use crate::reading::{are_inside, set_of};
-use crate::run::Run;
 use crate::writing::{OUT_OF_MEMORY, OUT_OF_RANGE};
 use intervallum::interval::Interval;
 use intervallum::ops::Bounded;
@@ -14,7 +14,7 @@ use std::alloc::{AllocError, Global};
 
 /// Writes the least member that is at least `v`. Returns true exactly when there is one. `O(n)`,
 /// does not allocate.
-pub fn next_from<R: Run>(runs: &[R], v: R::Bound, found: &mut R::Bound) -> bool
+pub fn next_from<R: Pair>(runs: &[R], v: R::Bound, found: &mut R::Bound) -> bool
     ensures { AnswersNext (R.Bound.value v) (Covers (map R.pair runs.now)) (R.Bound.value found.old) (R.Bound.value found.new) result }
 {
     match least_from(runs, v) {
@@ -27,7 +27,7 @@ pub fn next_from<R: Run>(runs: &[R], v: R::Bound, found: &mut R::Bound) -> bool
 }
 
 /// The least number in some pair of the list that is at least `v`.
-fn least_from<R: Run>(runs: &[R], v: R::Bound) -> Option<R::Bound>
+fn least_from<R: Pair>(runs: &[R], v: R::Bound) -> Option<R::Bound>
     ensures { IsNextIn (R.Bound.value v) (Covers (map R.pair runs.now)) (option_map R.Bound.value result) }
 {
     let mut least = None;
@@ -38,7 +38,7 @@ fn least_from<R: Run>(runs: &[R], v: R::Bound) -> Option<R::Bound>
 }
 
 /// Returns the least number of a pair that is at least `v`.
-pub fn least_in<R: Run>(run: R, v: R::Bound) -> Option<R::Bound>
+pub fn least_in<R: Pair>(run: R, v: R::Bound) -> Option<R::Bound>
     ensures { IsNextIn (R.Bound.value v) (IsBetween (R.pair run)) (option_map R.Bound.value result) }
 {
     let lower = run.lower();
@@ -64,7 +64,7 @@ fn lesser<B: Width>(a: Option<B>, b: Option<B>) -> Option<B>
 
 /// Writes the lowest `count` consecutive members and returns 1, or returns 0 if there are none, or
 /// an error code.
-pub fn first_fit<R: Run>(
+pub fn first_fit<R: Pair>(
     alloc: Global,
     a: &[R],
     count: <R::Bound as Width>::Output,
@@ -77,7 +77,9 @@ pub fn first_fit<R: Run>(
     }
     match lowest_fit(alloc, a, count) {
         Ok(Some(run)) => {
-            *found = R::of(run.lower(), run.upper());
+            // for the prover: its bounds are in the range
+            run.in_whole();
+            *found = R::of(Bounded::lower(&run), Bounded::upper(&run));
             1
         }
         Ok(None) => 0,
@@ -86,7 +88,7 @@ pub fn first_fit<R: Run>(
 }
 
 /// The lowest `count` consecutive members; `None` if there are none or `count` is 0.
-fn lowest_fit<R: Run>(
+fn lowest_fit<R: Pair>(
     alloc: Global,
     a: &[R],
     count: <R::Bound as Width>::Output,

@@ -5,8 +5,8 @@ ghost use Rattle.ivl_laws.specs.Runs.{Covers};
 ghost use Rattle.ivl_buffers.specs.Answers.{AnswersProducts};
 ghost use Rattle.ivl_buffers.specs.Products.{Multiplies};
 
+use crate::pair::Pair;
 use crate::reading::{are_inside, set_of};
-use crate::run::Run;
 use crate::writing::{OUT_OF_MEMORY, OUT_OF_RANGE, PRODUCT_OUT_OF_RANGE, tell};
 use intervallum::interval_set::IntervalSet;
 use intervallum::ops::Fits;
@@ -14,7 +14,7 @@ use intervallum::width::Width;
 use std::alloc::{AllocError, Global};
 
 /// Makes the set of the products, and writes its runs. Returns their number or an error code.
-pub fn products<R: Run>(alloc: Global, a: &[R], b: &[R], out: &mut [R]) -> i64
+pub fn products<R: Pair>(alloc: Global, a: &[R], b: &[R], out: &mut [R]) -> i64
     ensures { AnswersProducts R.Bound.whole (Covers (map R.pair a.now)) (Covers (map R.pair b.now)) (map R.pair out.old) (map R.pair out.new) result }
 {
     if !are_inside(a) || !are_inside(b) {
@@ -28,7 +28,7 @@ pub fn products<R: Run>(alloc: Global, a: &[R], b: &[R], out: &mut [R]) -> i64
 }
 
 /// The set of the products; `None` if some product is outside the range.
-fn multiplied<R: Run>(
+fn multiplied<R: Pair>(
     alloc: Global,
     a: &[R],
     b: &[R],

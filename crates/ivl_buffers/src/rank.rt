@@ -5,14 +5,14 @@ ghost use Rattle.ivl_laws.specs.Sets.{Below, IsBetween, IsSubset};
 ghost use Rattle.ivl_laws.specs.Runs.{Covers};
 ghost use Rattle.ivl_buffers.specs.Rank.{AnswersNth, AnswersRank};
 
+use crate::pair::Pair;
 use crate::reading::{are_inside, set_of};
-use crate::run::Run;
 use crate::writing::{OUT_OF_MEMORY, OUT_OF_RANGE};
 use intervallum::width::Width;
 use std::alloc::{AllocError, Global};
 
 /// Writes the number of members below `v` and returns 0, or returns an error code.
-pub fn rank<R: Run>(
+pub fn rank<R: Pair>(
     alloc: Global,
     a: &[R],
     v: R::Bound,
@@ -34,7 +34,7 @@ pub fn rank<R: Run>(
 }
 
 /// The number of members below `v`.
-fn rank_of<R: Run>(
+fn rank_of<R: Pair>(
     alloc: Global,
     a: &[R],
     v: R::Bound,
@@ -48,7 +48,7 @@ fn rank_of<R: Run>(
 
 /// Writes the member with exactly `i` members below it and returns 1, or returns 0 if there is none,
 /// or an error code.
-pub fn nth<R: Run>(
+pub fn nth<R: Pair>(
     alloc: Global,
     a: &[R],
     i: <R::Bound as Width>::Output,
@@ -71,7 +71,7 @@ pub fn nth<R: Run>(
 }
 
 /// The member with exactly `i` members below it.
-fn member_at<R: Run>(
+fn member_at<R: Pair>(
     alloc: Global,
     a: &[R],
     i: <R::Bound as Width>::Output,

@@ -4,7 +4,7 @@ ghost use Rattle.ivl_laws.specs.Sets.{IsBetween, IsCrossed, IsSubset};
 ghost use Rattle.ivl_laws.specs.Runs.{Covers, IsRunsOf};
 ghost use Rattle.ivl_interval.specs.SameInterval.{normal_pair};
 
-use crate::run::Run;
+use crate::pair::Pair;
 use intervallum::interval::Interval;
 use intervallum::interval_set::IntervalSet;
 use intervallum::ops::Range;
@@ -13,7 +13,7 @@ use intervallum::width::Width;
 use std::alloc::{AllocError, Global};
 
 /// Returns true exactly when each member of the pairs is in the range.
-pub fn are_inside<R: Run>(runs: &[R]) -> bool
+pub fn are_inside<R: Pair>(runs: &[R]) -> bool
     ensures { IsTrue result ↔ IsSubset (Covers (map R.pair runs.now)) (IsBetween R.Bound.whole) }
 {
     for run in runs {
@@ -25,21 +25,21 @@ pub fn are_inside<R: Run>(runs: &[R]) -> bool
 }
 
 /// True exactly when each member of the pair is in the range.
-pub(crate) fn is_inside<R: Run>(run: R) -> bool
+pub(crate) fn is_inside<R: Pair>(run: R) -> bool
     ensures { IsTrue result ↔ IsSubset (IsBetween (R.pair run)) (IsBetween R.Bound.whole) }
 {
     is_crossed(run) || Interval::in_range(run.lower(), run.upper())
 }
 
 /// True exactly when the pair is crossed.
-fn is_crossed<R: Run>(run: R) -> bool
+fn is_crossed<R: Pair>(run: R) -> bool
     ensures { IsTrue result ↔ IsCrossed (R.pair run) }
 {
     run.upper() < run.lower()
 }
 
 /// Returns the set of the members of the pairs.
-pub fn set_of<R: Run>(alloc: Global, runs: &[R]) -> Result<IntervalSet<R::Bound>, AllocError>
+pub fn set_of<R: Pair>(alloc: Global, runs: &[R]) -> Result<IntervalSet<R::Bound>, AllocError>
     requires { IsSubset (Covers (map R.pair runs.now)) (IsBetween R.Bound.whole) }
     ensures { IfOk result (λ L. IsRunsOf L (Covers (map R.pair runs.now))) }
 {
@@ -51,7 +51,7 @@ pub fn set_of<R: Run>(alloc: Global, runs: &[R]) -> Result<IntervalSet<R::Bound>
 }
 
 /// The interval with the members of the pair.
-pub(crate) fn interval_of<R: Run>(run: R) -> Interval<R::Bound>
+pub(crate) fn interval_of<R: Pair>(run: R) -> Interval<R::Bound>
     requires { IsSubset (IsBetween (R.pair run)) (IsBetween R.Bound.whole) }
     ensures { result ≡ normal_pair (R.pair run) }
 {
@@ -63,7 +63,7 @@ pub(crate) fn interval_of<R: Run>(run: R) -> Interval<R::Bound>
 }
 
 /// Returns true exactly when some pair of the list has the number. `O(n)`, does not allocate.
-pub fn contains<R: Run>(runs: &[R], v: R::Bound) -> bool
+pub fn contains<R: Pair>(runs: &[R], v: R::Bound) -> bool
     ensures { IsTrue result ↔ Covers (map R.pair runs.now) (R.Bound.value v) }
 {
     for run in runs {
@@ -75,7 +75,7 @@ pub fn contains<R: Run>(runs: &[R], v: R::Bound) -> bool
 }
 
 /// True exactly when the pair has the number.
-fn has<R: Run>(run: R, v: R::Bound) -> bool
+fn has<R: Pair>(run: R, v: R::Bound) -> bool
     ensures { IsTrue result ↔ IsBetween (R.pair run) (R.Bound.value v) }
 {
     run.lower() <= v && v <= run.upper()

@@ -1,20 +1,19 @@
 //! Lists that are already the runs of a set.
 ghost use Rattle.std.specs.Prelude.{◌≡◌, ◌↔◌, ◌+◌, ◌^◌, ◌<◌, ◌≤◌, ◌+ℤ◌, ◌≤ℤ◌, IsTrue, drop, length, map, pos};
-ghost use Rattle.std.specs.Int.{from_bool};
 ghost use Rattle.ivl_laws.specs.Sets.{IsBetween};
 ghost use Rattle.ivl_laws.specs.Runs.{IsRunListIn};
 ghost use Rattle.ivl_buffers.specs.Links.{AreLinked, EndsIn, IsLinked, StartsIn};
 ghost use Rattle.ivl_merges.specs.Sinks.{IsRunIn};
 
-use crate::run::Run;
+use crate::pair::Pair;
 use intervallum::interval::Interval;
 use intervallum::ops::Range;
 use intervallum::width::Width;
-use std::hint::select_unpredictable;
+use ivl_merges::merges::one_if;
 
 /// Returns true exactly when no pair is crossed, the pairs ascend with at least one number missing
 /// between neighbours, and all are in the range. `O(n)`, does not allocate.
-pub fn is_run_list<R: Run>(runs: &[R]) -> bool
+pub fn is_run_list<R: Pair>(runs: &[R]) -> bool
     ensures { IsTrue result ↔ IsRunListIn R.Bound.whole (map R.pair runs.now) }
 {
     has_ends(runs) & are_linked(runs)
@@ -24,7 +23,7 @@ pub fn is_run_list<R: Run>(runs: &[R]) -> bool
 const MOST_RUNS: usize = 1 << 61;
 
 /// Returns true only if the pairs are a list of runs, and their number leaves room to count with.
-pub(crate) fn can_walk<R: Run>(runs: &[R]) -> bool
+pub(crate) fn can_walk<R: Pair>(runs: &[R]) -> bool
     ensures runs { IsTrue result → IsRunListIn R.Bound.whole (map R.pair runs.now) }
     ensures counted { IsTrue result → length runs.now ≤ 2 ^ 61 }
 {
@@ -32,7 +31,7 @@ pub(crate) fn can_walk<R: Run>(runs: &[R]) -> bool
 }
 
 /// Returns true only if both are lists of runs, and their numbers leave room to count with.
-pub(crate) fn can_walk_both<R: Run>(a: &[R], b: &[R]) -> bool
+pub(crate) fn can_walk_both<R: Pair>(a: &[R], b: &[R]) -> bool
     ensures first { IsTrue result → IsRunListIn R.Bound.whole (map R.pair a.now) }
     ensures second { IsTrue result → IsRunListIn R.Bound.whole (map R.pair b.now) }
     ensures counted { IsTrue result → length a.now + length b.now < 2 ^ 63 }
@@ -41,7 +40,7 @@ pub(crate) fn can_walk_both<R: Run>(a: &[R], b: &[R]) -> bool
 }
 
 /// True exactly when both are lists of runs.
-fn are_run_lists<R: Run>(a: &[R], b: &[R]) -> bool
+fn are_run_lists<R: Pair>(a: &[R], b: &[R]) -> bool
     ensures { IsTrue result ↔ (IsRunListIn R.Bound.whole (map R.pair a.now) × IsRunListIn R.Bound.whole (map R.pair b.now)) }
 {
     has_ends(a) & has_ends(b) & are_both_linked(a, b)
@@ -49,7 +48,7 @@ fn are_run_lists<R: Run>(a: &[R], b: &[R]) -> bool
 
 /// True exactly when the first pair, if there is one, does not start below the range, and the last
 /// one is a run in the range.
-fn has_ends<R: Run>(runs: &[R]) -> bool
+fn has_ends<R: Pair>(runs: &[R]) -> bool
     ensures { IsTrue result ↔ (StartsIn R.Bound.whole (map R.pair runs.now) × EndsIn R.Bound.whole (map R.pair runs.now)) }
 {
     if runs.is_empty() {
@@ -60,7 +59,7 @@ fn has_ends<R: Run>(runs: &[R]) -> bool
 }
 
 /// True exactly when the pair is not crossed and its bounds are in the range.
-fn is_run<R: Run>(run: R) -> bool
+fn is_run<R: Pair>(run: R) -> bool
     ensures { IsTrue result ↔ IsRunIn R.Bound.whole (R.pair run) }
 {
     run.lower() <= run.upper() && Interval::in_range(run.lower(), run.upper())
@@ -70,7 +69,7 @@ fn is_run<R: Run>(run: R) -> bool
 const FEWEST_IN_PARTS: usize = 64;
 
 /// True exactly when each pair of both lists but their last is linked to the next.
-fn are_both_linked<R: Run>(a: &[R], b: &[R]) -> bool
+fn are_both_linked<R: Pair>(a: &[R], b: &[R]) -> bool
     ensures { IsTrue result ↔ (AreLinked R.Bound.whole (map R.pair a.now) × AreLinked R.Bound.whole (map R.pair b.now)) }
 {
     let count = a.len().min(b.len());
@@ -86,7 +85,7 @@ fn are_both_linked<R: Run>(a: &[R], b: &[R]) -> bool
 }
 
 /// True exactly when each pair but the last is linked to the next.
-fn are_linked<R: Run>(runs: &[R]) -> bool
+fn are_linked<R: Pair>(runs: &[R]) -> bool
     ensures { IsTrue result ↔ AreLinked R.Bound.whole (map R.pair runs.now) }
 {
     if runs.len() < FEWEST_IN_PARTS {
@@ -101,7 +100,7 @@ fn are_linked<R: Run>(runs: &[R]) -> bool
 }
 
 /// The pairs up to the one at a place, and those from it on: it is in both.
-fn split_at_pair<R: Run>(runs: &[R], i: usize) -> (&[R], &[R])
+fn split_at_pair<R: Pair>(runs: &[R], i: usize) -> (&[R], &[R])
     requires { i < length runs.now }
     ensures first { length result.0.now ≡ i + 1 }
     ensures second { length result.1.now + i ≡ length runs.now }
@@ -113,7 +112,7 @@ fn split_at_pair<R: Run>(runs: &[R], i: usize) -> (&[R], &[R])
 /// True exactly when each pair but the last of each of four parts, which are equally long, is linked to
 /// the next. The four are read side by side: so none waits for the memory of another, and no branch
 /// hangs on the values.
-fn four_are_linked<R: Run>(first: &[R], second: &[R], third: &[R], fourth: &[R]) -> bool
+fn four_are_linked<R: Pair>(first: &[R], second: &[R], third: &[R], fourth: &[R]) -> bool
     requires filled { 0 < length first.now }
     requires second { length second.now ≡ length first.now }
     requires third { length third.now ≡ length first.now }
@@ -137,7 +136,7 @@ fn four_are_linked<R: Run>(first: &[R], second: &[R], third: &[R], fourth: &[R])
 }
 
 /// The same pairs, as many as another list has: a compiler that knows it need not test each index.
-fn as_long_as<'a, R: Run>(runs: &'a [R], other: &[R]) -> &'a [R]
+fn as_long_as<'a, R: Pair>(runs: &'a [R], other: &[R]) -> &'a [R]
     requires { length runs.now ≡ length other.now }
     ensures { result.now ≡ runs.now }
 {
@@ -145,7 +144,7 @@ fn as_long_as<'a, R: Run>(runs: &'a [R], other: &[R]) -> &'a [R]
 }
 
 /// As `are_linked`, from the first pair on.
-fn are_linked_in_turn<R: Run>(runs: &[R]) -> bool
+fn are_linked_in_turn<R: Pair>(runs: &[R]) -> bool
     ensures { IsTrue result ↔ AreLinked R.Bound.whole (map R.pair runs.now) }
 {
     if runs.is_empty() {
@@ -161,7 +160,7 @@ fn are_linked_in_turn<R: Run>(runs: &[R]) -> bool
 
 /// True exactly when the pair at a place is linked to the next: whether it is and those after it are
 /// linked decides of those from it on.
-fn is_linked_at<R: Run>(runs: &[R], i: usize) -> bool
+fn is_linked_at<R: Pair>(runs: &[R], i: usize) -> bool
     requires { i + 1 < length runs.now }
     ensures { (IsTrue result × AreLinked R.Bound.whole (map R.pair (drop (i + 1) runs.now))) ↔ AreLinked R.Bound.whole (map R.pair (drop i runs.now)) }
 {
@@ -170,7 +169,7 @@ fn is_linked_at<R: Run>(runs: &[R], i: usize) -> bool
 
 /// True exactly when a pair is not crossed, and the number above it is in the range and below another
 /// pair.
-fn is_linked<R: Run>(run: R, next: R) -> bool
+fn is_linked<R: Pair>(run: R, next: R) -> bool
     ensures { IsTrue result ↔ IsLinked R.Bound.whole (R.pair run) (R.pair next) }
 {
     let is_open = run.lower() <= run.upper();
@@ -178,7 +177,7 @@ fn is_linked<R: Run>(run: R, next: R) -> bool
 }
 
 /// True exactly when the number above a pair is in the range and below another pair.
-fn is_below<R: Run>(run: R, next: R) -> bool
+fn is_below<R: Pair>(run: R, next: R) -> bool
     ensures { IsTrue result ↔ (IsBetween R.Bound.whole ((R.pair run).1 +ℤ pos 1) × (((R.pair run).1 +ℤ pos 2) ≤ℤ (R.pair next).0)) }
 {
     match run.upper().checked_add(R::Bound::one()) {
@@ -188,18 +187,11 @@ fn is_below<R: Run>(run: R, next: R) -> bool
 }
 
 /// Returns true exactly when some number lies above one run and below another.
-pub fn leaves_free<R: Run>(last: R, run: R) -> bool
+pub fn leaves_free<R: Pair>(last: R, run: R) -> bool
     requires last { IsRunIn R.Bound.whole (R.pair last) }
     requires run { IsRunIn R.Bound.whole (R.pair run) }
     ensures { IsTrue result ↔ (((R.pair last).1 +ℤ pos 2) ≤ℤ (R.pair run).0) }
 {
     let (end, start) = (last.upper(), run.lower());
     end.add_in_range(one_if(end < start)) < start
-}
-
-/// One if a condition holds, and zero if not.
-pub(crate) fn one_if<B: Width>(condition: bool) -> B
-    ensures { B.value result ≡ pos (from_bool condition) }
-{
-    select_unpredictable(condition, B::one(), B::zero())
 }

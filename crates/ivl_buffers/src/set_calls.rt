@@ -7,8 +7,8 @@ ghost use Rattle.ivl_buffers.specs.Operations.{MadeOfOne, MadeOfTwo};
 ghost use Rattle.ivl_buffers.specs.Merging.{IsLaid};
 
 use crate::merging::{complement, difference, intersection, symmetric_difference, union};
+use crate::pair::Pair;
 use crate::reading::{are_inside, set_of};
-use crate::run::Run;
 use crate::run_lists::{can_walk, can_walk_both};
 use crate::writing::{OUT_OF_RANGE, tell};
 use intervallum::interval_set::IntervalSet;
@@ -38,7 +38,7 @@ pub enum OfTwo {
 }
 
 /// Makes a set of one list, and writes its runs. Returns their number or an error code.
-pub fn of_one<R: Run>(alloc: Global, making: OfOne, a: &[R], out: &mut [R]) -> i64
+pub fn of_one<R: Pair>(alloc: Global, making: OfOne, a: &[R], out: &mut [R]) -> i64
     ensures { AnswersSet R.Bound.whole (Covers (map R.pair a.now))
         (MadeOfOne R.Bound.whole making (Covers (map R.pair a.now))) (map R.pair out.old) (map R.pair out.new) result }
 {
@@ -48,7 +48,7 @@ pub fn of_one<R: Run>(alloc: Global, making: OfOne, a: &[R], out: &mut [R]) -> i
     }
 }
 
-fn normalized<R: Run>(alloc: Global, a: &[R], out: &mut [R]) -> i64
+fn normalized<R: Pair>(alloc: Global, a: &[R], out: &mut [R]) -> i64
     ensures { AnswersSet R.Bound.whole (Covers (map R.pair a.now)) (Covers (map R.pair a.now)) (map R.pair out.old) (map R.pair out.new) result }
 {
     if !are_inside(a) {
@@ -57,7 +57,7 @@ fn normalized<R: Run>(alloc: Global, a: &[R], out: &mut [R]) -> i64
     tell(set_of(alloc, a), out)
 }
 
-fn rest<R: Run>(alloc: Global, a: &[R], out: &mut [R]) -> i64
+fn rest<R: Pair>(alloc: Global, a: &[R], out: &mut [R]) -> i64
     ensures { AnswersSet R.Bound.whole (Covers (map R.pair a.now)) (Complement R.Bound.whole (Covers (map R.pair a.now)))
         (map R.pair out.old) (map R.pair out.new) result }
 {
@@ -71,7 +71,7 @@ fn rest<R: Run>(alloc: Global, a: &[R], out: &mut [R]) -> i64
 }
 
 /// The complement of the members of a list.
-fn rest_of<R: Run>(alloc: Global, a: &[R]) -> Result<IntervalSet<R::Bound>, AllocError>
+fn rest_of<R: Pair>(alloc: Global, a: &[R]) -> Result<IntervalSet<R::Bound>, AllocError>
     requires { IsSubset (Covers (map R.pair a.now)) (IsBetween R.Bound.whole) }
     ensures { IfOk result (λ L. IsRunsOf L (Complement R.Bound.whole (Covers (map R.pair a.now)))) }
 {
@@ -81,7 +81,7 @@ fn rest_of<R: Run>(alloc: Global, a: &[R]) -> Result<IntervalSet<R::Bound>, Allo
 
 /// Writes the complement of a run list, and returns its number of runs. If there may be too little
 /// room, counts them first.
-fn walk_rest<R: Run>(a: &[R], out: &mut [R]) -> i64
+fn walk_rest<R: Pair>(a: &[R], out: &mut [R]) -> i64
     requires runs { IsRunListIn R.Bound.whole (map R.pair a.now) }
     requires counted { length a.now ≤ 2 ^ 61 }
     ensures { (L : List (ℤ × ℤ)) × IsWritten (Complement R.Bound.whole (Covers (map R.pair a.now))) (map R.pair out.old) (map R.pair out.new) result L }
@@ -97,7 +97,7 @@ fn walk_rest<R: Run>(a: &[R], out: &mut [R]) -> i64
 }
 
 /// Makes a set of two lists, and writes its runs. Returns their number or an error code.
-pub fn of_two<R: Run>(alloc: Global, making: OfTwo, a: &[R], b: &[R], out: &mut [R]) -> i64
+pub fn of_two<R: Pair>(alloc: Global, making: OfTwo, a: &[R], b: &[R], out: &mut [R]) -> i64
     ensures { AnswersSet R.Bound.whole (Union (Covers (map R.pair a.now)) (Covers (map R.pair b.now)))
         (MadeOfTwo making (Covers (map R.pair a.now)) (Covers (map R.pair b.now))) (map R.pair out.old) (map R.pair out.new) result }
 {
@@ -110,7 +110,7 @@ pub fn of_two<R: Run>(alloc: Global, making: OfTwo, a: &[R], b: &[R], out: &mut 
     tell(made_of_two(alloc, making, a, b), out)
 }
 
-fn made_of_two<R: Run>(
+fn made_of_two<R: Pair>(
     alloc: Global,
     making: OfTwo,
     a: &[R],
@@ -132,7 +132,7 @@ fn made_of_two<R: Run>(
 
 /// Writes what is made of two run lists, and returns its number of runs. If there may be too little
 /// room, counts them first.
-fn merge<R: Run>(making: OfTwo, a: &[R], b: &[R], out: &mut [R]) -> i64
+fn merge<R: Pair>(making: OfTwo, a: &[R], b: &[R], out: &mut [R]) -> i64
     requires first { IsRunListIn R.Bound.whole (map R.pair a.now) }
     requires second { IsRunListIn R.Bound.whole (map R.pair b.now) }
     requires counted { length a.now + length b.now < 2 ^ 63 }
@@ -151,7 +151,7 @@ fn merge<R: Run>(making: OfTwo, a: &[R], b: &[R], out: &mut [R]) -> i64
 
 /// Writes as many runs of what is made of two run lists as there is room for, and returns the
 /// number of all of them.
-fn walk<R: Run>(making: OfTwo, a: &[R], b: &[R], out: &mut [R]) -> usize
+fn walk<R: Pair>(making: OfTwo, a: &[R], b: &[R], out: &mut [R]) -> usize
     requires first { IsRunListIn R.Bound.whole (map R.pair a.now) }
     requires second { IsRunListIn R.Bound.whole (map R.pair b.now) }
     requires counted { length a.now + length b.now < 2 ^ 63 }

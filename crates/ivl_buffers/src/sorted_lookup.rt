@@ -7,11 +7,12 @@ ghost use Rattle.ivl_buffers.specs.Lookup.{AnswersNext, IsFirstFrom, IsNextIn, T
 ghost use Rattle.ivl_buffers.specs.Lists.{IsInOrder};
 
 use crate::lookup::least_in;
-use crate::run::Run;
+use crate::pair::Pair;
+pub use ivl_merges::merges::pair_at;
 
 /// Returns true only if some pair of the list has the number, and exactly then if the list is
 /// sorted. `O(log n)`, does not allocate.
-pub fn contains<R: Run>(runs: &[R], v: R::Bound) -> bool
+pub fn contains<R: Pair>(runs: &[R], v: R::Bound) -> bool
     ensures member { IsTrue result → Covers (map R.pair runs.now) (R.Bound.value v) }
     ensures in_order { IsInOrder (map R.pair runs.now) → (IsTrue result ↔ Covers (map R.pair runs.now) (R.Bound.value v)) }
 {
@@ -21,7 +22,7 @@ pub fn contains<R: Run>(runs: &[R], v: R::Bound) -> bool
 
 /// Writes a member that is at least `v`, and the least one if the list is sorted. Returns whether
 /// it found one. `O(log n)`, does not allocate.
-pub fn next_from<R: Run>(runs: &[R], v: R::Bound, found: &mut R::Bound) -> bool
+pub fn next_from<R: Pair>(runs: &[R], v: R::Bound, found: &mut R::Bound) -> bool
     ensures member { IsTrue result → AtLeast (R.Bound.value v) (Covers (map R.pair runs.now)) (R.Bound.value found.new) }
     ensures same { result ≡ false → R.Bound.value found.new ≡ R.Bound.value found.old }
     ensures in_order { IsInOrder (map R.pair runs.now)
@@ -37,7 +38,7 @@ pub fn next_from<R: Run>(runs: &[R], v: R::Bound, found: &mut R::Bound) -> bool
 }
 
 /// A member that is at least `v`, and the least one if the list is sorted.
-fn least_from<R: Run>(runs: &[R], v: R::Bound) -> Option<R::Bound>
+fn least_from<R: Pair>(runs: &[R], v: R::Bound) -> Option<R::Bound>
     ensures member { IfSome result (λ x. AtLeast (R.Bound.value v) (Covers (map R.pair runs.now)) (R.Bound.value x)) }
     ensures in_order { IsInOrder (map R.pair runs.now) → IsNextIn (R.Bound.value v) (Covers (map R.pair runs.now)) (option_map R.Bound.value result) }
 {
@@ -46,7 +47,7 @@ fn least_from<R: Run>(runs: &[R], v: R::Bound) -> Option<R::Bound>
 }
 
 /// A pair of the list, and the first that ends at `v` or above if the list is sorted.
-fn first_from<R: Run>(runs: &[R], v: R::Bound) -> Option<R>
+fn first_from<R: Pair>(runs: &[R], v: R::Bound) -> Option<R>
     ensures members { IfSome result (λ run. IsSubset (IsBetween (R.pair run)) (Covers (map R.pair runs.now))) }
     ensures in_order { IsInOrder (map R.pair runs.now) → MatchOption result
         (HasNone (AtLeast (R.Bound.value v) (Covers (map R.pair runs.now))))
@@ -60,7 +61,7 @@ fn first_from<R: Run>(runs: &[R], v: R::Bound) -> Option<R>
 /// sorted; and whether the pair at that place has `v`. No caller takes it in: where one drops half of
 /// the answer, the loop for the other half gets a jump that hangs on the values.
 #[inline(never)]
-pub(crate) fn search<R: Run>(runs: &[R], v: R::Bound) -> (usize, bool)
+pub(crate) fn search<R: Pair>(runs: &[R], v: R::Bound) -> (usize, bool)
     ensures at_most { result.0 ≤ length runs.now }
     ensures has { TellsAt R.pair (R.Bound.value v) (slice_get runs.now result.0) result.1 }
     ensures below { IsInOrder (map R.pair runs.now) → EndBelow (R.Bound.value v) (take result.0 (map R.pair runs.now)) }
@@ -84,11 +85,4 @@ pub(crate) fn search<R: Run>(runs: &[R], v: R::Bound) -> (usize, bool)
         }
     }
     (low, is_in)
-}
-
-/// Returns the pair at a place, if there is one.
-pub fn pair_at<R: Run>(runs: &[R], i: usize) -> Option<R>
-    ensures { result ≡ slice_get runs.now i }
-{
-    runs.get(i).copied()
 }

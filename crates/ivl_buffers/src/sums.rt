@@ -5,8 +5,8 @@ ghost use Rattle.ivl_laws.specs.Runs.{Covers, IsRunsOf};
 ghost use Rattle.ivl_buffers.specs.Answers.{AnswersSet};
 ghost use Rattle.ivl_buffers.specs.Sums.{AddedBy};
 
+use crate::pair::Pair;
 use crate::reading::{are_inside, set_of};
-use crate::run::Run;
 use crate::writing::{OUT_OF_RANGE, tell};
 use intervallum::interval_set::IntervalSet;
 use intervallum::width::Width;
@@ -23,7 +23,7 @@ pub enum Adding {
 }
 
 /// Makes the set of the sums or differences that are in the range, and writes its runs.
-pub fn of_members<R: Run>(alloc: Global, adding: Adding, a: &[R], b: &[R], out: &mut [R]) -> i64
+pub fn of_members<R: Pair>(alloc: Global, adding: Adding, a: &[R], b: &[R], out: &mut [R]) -> i64
     ensures { AnswersSet R.Bound.whole (Union (Covers (map R.pair a.now)) (Covers (map R.pair b.now)))
         (AddedBy R.Bound.whole adding (Covers (map R.pair a.now)) (Covers (map R.pair b.now))) (map R.pair out.old) (map R.pair out.new) result }
 {
@@ -33,7 +33,7 @@ pub fn of_members<R: Run>(alloc: Global, adding: Adding, a: &[R], b: &[R], out: 
     tell(added(alloc, adding, a, b), out)
 }
 
-fn added<R: Run>(
+fn added<R: Pair>(
     alloc: Global,
     adding: Adding,
     a: &[R],

@@ -2,7 +2,7 @@
 ghost use Rattle.std.specs.Prelude.{◌≡◌, ◌⊎◌, ◌++◌, ◌≤◌, pos, drop, length, map, IsOkAnd};
 ghost use Rattle.ivl_buffers.specs.Answers.{Refuses, out_of_memory, written};
 
-use crate::run::Run;
+use crate::pair::Pair;
 use intervallum::interval_set::IntervalSet;
 use intervallum::ops::{Bounded, IsEmpty};
 use std::alloc::AllocError;
@@ -18,7 +18,7 @@ pub const PRODUCT_OUT_OF_RANGE: i64 = -3;
 
 /// Writes the runs of a set if there is room for all, and returns their number. Returns a code if
 /// making the set failed, or if the number does not fit `i64`.
-pub fn tell<R: Run>(made: Result<IntervalSet<R::Bound>, AllocError>, out: &mut [R]) -> i64
+pub fn tell<R: Pair>(made: Result<IntervalSet<R::Bound>, AllocError>, out: &mut [R]) -> i64
     ensures { Refuses out_of_memory (map R.pair out.old) (map R.pair out.new) result
         ⊎ IsOkAnd made (λ L. (result ≡ pos (length L)) × (map R.pair out.new ≡ written L (map R.pair out.old))) }
 {
@@ -35,13 +35,15 @@ pub fn tell<R: Run>(made: Result<IntervalSet<R::Bound>, AllocError>, out: &mut [
 }
 
 /// Writes the runs of a set to the first places of the buffer.
-fn write<R: Run>(set: &IntervalSet<R::Bound>, out: &mut [R])
+fn write<R: Pair>(set: &IntervalSet<R::Bound>, out: &mut [R])
     requires { length set.now ≤ length out.old }
     ensures { map R.pair out.new ≡ set.now ++ drop (length set.now) (map R.pair out.old) }
 {
     let runs = set.runs();
     for i in 0..runs.len() {
         let run = runs[i];
-        out[i] = R::of(run.lower(), run.upper());
+        // for the prover: its bounds are in the range
+        run.in_whole();
+        out[i] = R::of(Bounded::lower(&run), Bounded::upper(&run));
     }
 }

@@ -11,9 +11,9 @@ ghost use Rattle.ivl_buffers.specs.Lists.{IsInOrder, members_u64, pair_u64, pair
 use ivl_buffers::comparisons::{Asking, ask, count};
 use ivl_buffers::edits::{Editing, edit};
 use ivl_buffers::lookup::{first_fit, next_from};
+use ivl_buffers::pair::PairU64;
 use ivl_buffers::products::products;
 use ivl_buffers::rank::{nth, rank};
-use ivl_buffers::run::RunU64;
 use ivl_buffers::set_calls::{OfOne, OfTwo, of_one, of_two};
 use ivl_buffers::sums::{Adding, of_members};
 use ivl_buffers::{beside, reading, sorted_lookup};
@@ -21,7 +21,7 @@ use std::alloc::Global;
 
 /// Writes the members of a list as a list of runs. `O(n log n)`.
 #[unsafe(no_mangle)]
-pub extern "C" fn ivl_normalize_u64(alloc: Global, a: &[RunU64], out: &mut [RunU64]) -> i64
+pub extern "C" fn ivl_normalize_u64(alloc: Global, a: &[PairU64], out: &mut [PairU64]) -> i64
     ensures { AnswersSet whole_u64 (members_u64 a.now) (members_u64 a.now) (pairs_u64 out.old) (pairs_u64 out.new) result }
 {
     of_one(alloc, OfOne::Same, a, out)
@@ -30,7 +30,7 @@ pub extern "C" fn ivl_normalize_u64(alloc: Global, a: &[RunU64], out: &mut [RunU
 /// Writes the complement within the range. `O(n log n)`; if the list is one of runs, `O(n)`, and does
 /// not allocate.
 #[unsafe(no_mangle)]
-pub extern "C" fn ivl_complement_u64(alloc: Global, a: &[RunU64], out: &mut [RunU64]) -> i64
+pub extern "C" fn ivl_complement_u64(alloc: Global, a: &[PairU64], out: &mut [PairU64]) -> i64
     ensures { AnswersSet whole_u64 (members_u64 a.now) (Complement whole_u64 (members_u64 a.now)) (pairs_u64 out.old) (pairs_u64 out.new) result }
 {
     of_one(alloc, OfOne::Rest, a, out)
@@ -41,9 +41,9 @@ pub extern "C" fn ivl_complement_u64(alloc: Global, a: &[RunU64], out: &mut [Run
 #[unsafe(no_mangle)]
 pub extern "C" fn ivl_union_u64(
     alloc: Global,
-    a: &[RunU64],
-    b: &[RunU64],
-    out: &mut [RunU64],
+    a: &[PairU64],
+    b: &[PairU64],
+    out: &mut [PairU64],
 ) -> i64
     ensures { AnswersSet whole_u64 (Union (members_u64 a.now) (members_u64 b.now)) (Union (members_u64 a.now) (members_u64 b.now))
         (pairs_u64 out.old) (pairs_u64 out.new) result }
@@ -56,9 +56,9 @@ pub extern "C" fn ivl_union_u64(
 #[unsafe(no_mangle)]
 pub extern "C" fn ivl_intersection_u64(
     alloc: Global,
-    a: &[RunU64],
-    b: &[RunU64],
-    out: &mut [RunU64],
+    a: &[PairU64],
+    b: &[PairU64],
+    out: &mut [PairU64],
 ) -> i64
     ensures { AnswersSet whole_u64 (Union (members_u64 a.now) (members_u64 b.now)) (Intersection (members_u64 a.now) (members_u64 b.now))
         (pairs_u64 out.old) (pairs_u64 out.new) result }
@@ -71,9 +71,9 @@ pub extern "C" fn ivl_intersection_u64(
 #[unsafe(no_mangle)]
 pub extern "C" fn ivl_difference_u64(
     alloc: Global,
-    a: &[RunU64],
-    b: &[RunU64],
-    out: &mut [RunU64],
+    a: &[PairU64],
+    b: &[PairU64],
+    out: &mut [PairU64],
 ) -> i64
     ensures { AnswersSet whole_u64 (Union (members_u64 a.now) (members_u64 b.now)) (Without (members_u64 a.now) (members_u64 b.now))
         (pairs_u64 out.old) (pairs_u64 out.new) result }
@@ -85,9 +85,9 @@ pub extern "C" fn ivl_difference_u64(
 #[unsafe(no_mangle)]
 pub extern "C" fn ivl_symmetric_difference_u64(
     alloc: Global,
-    a: &[RunU64],
-    b: &[RunU64],
-    out: &mut [RunU64],
+    a: &[PairU64],
+    b: &[PairU64],
+    out: &mut [PairU64],
 ) -> i64
     ensures { AnswersSet whole_u64 (Union (members_u64 a.now) (members_u64 b.now)) (SymmetricDifference (members_u64 a.now) (members_u64 b.now))
         (pairs_u64 out.old) (pairs_u64 out.new) result }
@@ -98,7 +98,7 @@ pub extern "C" fn ivl_symmetric_difference_u64(
 /// Returns 1 if each member of the first list is one of the second, and 0 if not.
 /// `O(n log n + m log m)`; if both are lists of runs, `O(n + m)`, and does not allocate.
 #[unsafe(no_mangle)]
-pub extern "C" fn ivl_is_subset_u64(alloc: Global, a: &[RunU64], b: &[RunU64]) -> i64
+pub extern "C" fn ivl_is_subset_u64(alloc: Global, a: &[PairU64], b: &[PairU64]) -> i64
     ensures { AnswersQuestion whole_u64 (Union (members_u64 a.now) (members_u64 b.now)) (IsSubset (members_u64 a.now) (members_u64 b.now)) result }
 {
     ask(alloc, Asking::Within, a, b)
@@ -107,7 +107,7 @@ pub extern "C" fn ivl_is_subset_u64(alloc: Global, a: &[RunU64], b: &[RunU64]) -
 /// Returns 1 if some number is a member of both lists, and 0 if not. `O(n log n + m log m)`; if both
 /// are lists of runs, `O(n + m)`, and does not allocate.
 #[unsafe(no_mangle)]
-pub extern "C" fn ivl_overlap_u64(alloc: Global, a: &[RunU64], b: &[RunU64]) -> i64
+pub extern "C" fn ivl_overlap_u64(alloc: Global, a: &[PairU64], b: &[PairU64]) -> i64
     ensures { AnswersQuestion whole_u64 (Union (members_u64 a.now) (members_u64 b.now)) (HasSome (Intersection (members_u64 a.now) (members_u64 b.now))) result }
 {
     ask(alloc, Asking::Meets, a, b)
@@ -116,7 +116,7 @@ pub extern "C" fn ivl_overlap_u64(alloc: Global, a: &[RunU64], b: &[RunU64]) -> 
 /// Returns 1 if the lists have the same members, and 0 if not. `O(n log n + m log m)`; if both are
 /// lists of runs, `O(n + m)`, and does not allocate.
 #[unsafe(no_mangle)]
-pub extern "C" fn ivl_equal_u64(alloc: Global, a: &[RunU64], b: &[RunU64]) -> i64
+pub extern "C" fn ivl_equal_u64(alloc: Global, a: &[PairU64], b: &[PairU64]) -> i64
     ensures { AnswersQuestion whole_u64 (Union (members_u64 a.now) (members_u64 b.now)) (SameMembers (members_u64 a.now) (members_u64 b.now)) result }
 {
     ask(alloc, Asking::Alike, a, b)
@@ -124,7 +124,7 @@ pub extern "C" fn ivl_equal_u64(alloc: Global, a: &[RunU64], b: &[RunU64]) -> i6
 
 /// Writes the number of members of a list, and returns 0. `O(n log n)`.
 #[unsafe(no_mangle)]
-pub extern "C" fn ivl_size_u64(alloc: Global, a: &[RunU64], size: &mut u64) -> i64
+pub extern "C" fn ivl_size_u64(alloc: Global, a: &[PairU64], size: &mut u64) -> i64
     ensures { AnswersSize whole_u64 (members_u64 a.now) size.old size.new result }
 {
     count(alloc, a, size)
@@ -132,7 +132,7 @@ pub extern "C" fn ivl_size_u64(alloc: Global, a: &[RunU64], size: &mut u64) -> i
 
 /// Returns true exactly when a number is a member of the list. `O(n)`, does not allocate.
 #[unsafe(no_mangle)]
-pub extern "C" fn ivl_contains_u64(a: &[RunU64], v: u64) -> bool
+pub extern "C" fn ivl_contains_u64(a: &[PairU64], v: u64) -> bool
     ensures { IsTrue result ↔ members_u64 a.now (pos v) }
 {
     reading::contains(a, v)
@@ -141,7 +141,7 @@ pub extern "C" fn ivl_contains_u64(a: &[RunU64], v: u64) -> bool
 /// Returns true exactly when a number is a member of a sorted list. For any other list, returns
 /// true only if the number is a member. `O(log n)`, does not allocate.
 #[unsafe(no_mangle)]
-pub extern "C" fn ivl_contains_sorted_u64(a: &[RunU64], v: u64) -> bool
+pub extern "C" fn ivl_contains_sorted_u64(a: &[PairU64], v: u64) -> bool
     ensures member { IsTrue result → members_u64 a.now (pos v) }
     ensures in_order { IsInOrder (pairs_u64 a.now) → (IsTrue result ↔ members_u64 a.now (pos v)) }
 {
@@ -150,7 +150,12 @@ pub extern "C" fn ivl_contains_sorted_u64(a: &[RunU64], v: u64) -> bool
 
 /// Writes the sums of a member of each list that are in the range. `O(n m log (n m))`.
 #[unsafe(no_mangle)]
-pub extern "C" fn ivl_sums_u64(alloc: Global, a: &[RunU64], b: &[RunU64], out: &mut [RunU64]) -> i64
+pub extern "C" fn ivl_sums_u64(
+    alloc: Global,
+    a: &[PairU64],
+    b: &[PairU64],
+    out: &mut [PairU64],
+) -> i64
     ensures { AnswersSet whole_u64 (Union (members_u64 a.now) (members_u64 b.now))
         (Intersection (Sums (members_u64 a.now) (members_u64 b.now)) (IsBetween whole_u64))
         (pairs_u64 out.old) (pairs_u64 out.new) result }
@@ -163,9 +168,9 @@ pub extern "C" fn ivl_sums_u64(alloc: Global, a: &[RunU64], b: &[RunU64], out: &
 #[unsafe(no_mangle)]
 pub extern "C" fn ivl_differences_u64(
     alloc: Global,
-    a: &[RunU64],
-    b: &[RunU64],
-    out: &mut [RunU64],
+    a: &[PairU64],
+    b: &[PairU64],
+    out: &mut [PairU64],
 ) -> i64
     ensures { AnswersSet whole_u64 (Union (members_u64 a.now) (members_u64 b.now))
         (Intersection (Differences (members_u64 a.now) (members_u64 b.now)) (IsBetween whole_u64))
@@ -179,9 +184,9 @@ pub extern "C" fn ivl_differences_u64(
 #[unsafe(no_mangle)]
 pub extern "C" fn ivl_products_u64(
     alloc: Global,
-    a: &[RunU64],
-    b: &[RunU64],
-    out: &mut [RunU64],
+    a: &[PairU64],
+    b: &[PairU64],
+    out: &mut [PairU64],
 ) -> i64
     ensures { AnswersProducts whole_u64 (members_u64 a.now) (members_u64 b.now) (pairs_u64 out.old) (pairs_u64 out.new) result }
 {
@@ -191,7 +196,7 @@ pub extern "C" fn ivl_products_u64(
 /// Writes the least member that is at least `v`. Returns true exactly when there is one. `O(n)`,
 /// does not allocate.
 #[unsafe(no_mangle)]
-pub extern "C" fn ivl_next_from_u64(a: &[RunU64], v: u64, found: &mut u64) -> bool
+pub extern "C" fn ivl_next_from_u64(a: &[PairU64], v: u64, found: &mut u64) -> bool
     ensures { AnswersNext (pos v) (members_u64 a.now) (pos found.old) (pos found.new) result }
 {
     next_from(a, v, found)
@@ -201,7 +206,7 @@ pub extern "C" fn ivl_next_from_u64(a: &[RunU64], v: u64, found: &mut u64) -> bo
 /// is one. For any other list, what is written is a member that is at least `v`. `O(log n)`, does
 /// not allocate.
 #[unsafe(no_mangle)]
-pub extern "C" fn ivl_next_from_sorted_u64(a: &[RunU64], v: u64, found: &mut u64) -> bool
+pub extern "C" fn ivl_next_from_sorted_u64(a: &[PairU64], v: u64, found: &mut u64) -> bool
     ensures member { IsTrue result → AtLeast (pos v) (members_u64 a.now) (pos found.new) }
     ensures same { result ≡ false → found.new ≡ found.old }
     ensures in_order { IsInOrder (pairs_u64 a.now) → AnswersNext (pos v) (members_u64 a.now) (pos found.old) (pos found.new) result }
@@ -213,7 +218,7 @@ pub extern "C" fn ivl_next_from_sorted_u64(a: &[RunU64], v: u64, found: &mut u64
 /// is one. For any other list, what is written is a member that is at most `v`. `O(log n)`, does
 /// not allocate.
 #[unsafe(no_mangle)]
-pub extern "C" fn ivl_previous_to_sorted_u64(a: &[RunU64], v: u64, found: &mut u64) -> bool
+pub extern "C" fn ivl_previous_to_sorted_u64(a: &[PairU64], v: u64, found: &mut u64) -> bool
     ensures member { IsTrue result → AtMost (pos v) (members_u64 a.now) (pos found.new) }
     ensures same { result ≡ false → found.new ≡ found.old }
     ensures in_order { IsInOrder (pairs_u64 a.now) → AnswersPrevious (pos v) (members_u64 a.now) (pos found.old) (pos found.new) result }
@@ -225,7 +230,7 @@ pub extern "C" fn ivl_previous_to_sorted_u64(a: &[RunU64], v: u64, found: &mut u
 /// list that is sorted, the same with a pair of the list that holds `v`. For any other list, what
 /// is written is a pair of the list that holds `v`. `O(log n)`, does not allocate.
 #[unsafe(no_mangle)]
-pub extern "C" fn ivl_run_at_sorted_u64(a: &[RunU64], v: u64, found: &mut RunU64) -> bool
+pub extern "C" fn ivl_run_at_sorted_u64(a: &[PairU64], v: u64, found: &mut PairU64) -> bool
     ensures member { IsTrue result → IsBetween (pair_u64 found.new) (pos v) × IsSubset (IsBetween (pair_u64 found.new)) (members_u64 a.now) }
     ensures same { result ≡ false → pair_u64 found.new ≡ pair_u64 found.old }
     ensures in_order { IsInOrder (pairs_u64 a.now) → (IsTrue result ↔ members_u64 a.now (pos v)) }
@@ -239,9 +244,9 @@ pub extern "C" fn ivl_run_at_sorted_u64(a: &[RunU64], v: u64, found: &mut RunU64
 #[unsafe(no_mangle)]
 pub extern "C" fn ivl_first_fit_u64(
     alloc: Global,
-    a: &[RunU64],
+    a: &[PairU64],
     count: u64,
-    found: &mut RunU64,
+    found: &mut PairU64,
 ) -> i64
     ensures { AnswersFit whole_u64 count (members_u64 a.now) (pair_u64 found.old) (pair_u64 found.new) result }
 {
@@ -250,7 +255,7 @@ pub extern "C" fn ivl_first_fit_u64(
 
 /// Writes the number of members below `v`, and returns 0. `O(n log n)`.
 #[unsafe(no_mangle)]
-pub extern "C" fn ivl_rank_u64(alloc: Global, a: &[RunU64], v: u64, found: &mut u64) -> i64
+pub extern "C" fn ivl_rank_u64(alloc: Global, a: &[PairU64], v: u64, found: &mut u64) -> i64
     ensures { AnswersRank whole_u64 (pos v) (members_u64 a.now) found.old found.new result }
 {
     rank(alloc, a, v, found)
@@ -259,7 +264,7 @@ pub extern "C" fn ivl_rank_u64(alloc: Global, a: &[RunU64], v: u64, found: &mut 
 /// Writes the member with exactly `i` members below it and returns 1, or returns 0 if there is none.
 /// `O(n log n)`.
 #[unsafe(no_mangle)]
-pub extern "C" fn ivl_nth_u64(alloc: Global, a: &[RunU64], i: u64, found: &mut u64) -> i64
+pub extern "C" fn ivl_nth_u64(alloc: Global, a: &[PairU64], i: u64, found: &mut u64) -> i64
     ensures { AnswersNth whole_u64 i (members_u64 a.now) (pos found.old) (pos found.new) result }
 {
     nth(alloc, a, i, found)
@@ -270,7 +275,7 @@ pub extern "C" fn ivl_nth_u64(alloc: Global, a: &[RunU64], i: u64, found: &mut u
 #[unsafe(no_mangle)]
 pub extern "C" fn ivl_insert_u64(
     alloc: Global,
-    runs: &mut [RunU64],
+    runs: &mut [PairU64],
     n: usize,
     lower: u64,
     upper: u64,
@@ -278,7 +283,7 @@ pub extern "C" fn ivl_insert_u64(
     ensures { AnswersSet whole_u64 (Union (Covers (take n (pairs_u64 runs.old))) (IsBetween (pos lower, pos upper)))
         (Union (Covers (take n (pairs_u64 runs.old))) (IsBetween (pos lower, pos upper))) (pairs_u64 runs.old) (pairs_u64 runs.new) result }
 {
-    edit(alloc, Editing::Insert, runs, n, RunU64 { lower, upper })
+    edit(alloc, Editing::Insert, runs, n, PairU64 { lower, upper })
 }
 
 /// Removes the numbers from `lower` to `upper` from the first `n` pairs of a buffer, and writes the
@@ -286,7 +291,7 @@ pub extern "C" fn ivl_insert_u64(
 #[unsafe(no_mangle)]
 pub extern "C" fn ivl_remove_u64(
     alloc: Global,
-    runs: &mut [RunU64],
+    runs: &mut [PairU64],
     n: usize,
     lower: u64,
     upper: u64,
@@ -294,5 +299,5 @@ pub extern "C" fn ivl_remove_u64(
     ensures { AnswersSet whole_u64 (Union (Covers (take n (pairs_u64 runs.old))) (IsBetween (pos lower, pos upper)))
         (Without (Covers (take n (pairs_u64 runs.old))) (IsBetween (pos lower, pos upper))) (pairs_u64 runs.old) (pairs_u64 runs.new) result }
 {
-    edit(alloc, Editing::Remove, runs, n, RunU64 { lower, upper })
+    edit(alloc, Editing::Remove, runs, n, PairU64 { lower, upper })
 }

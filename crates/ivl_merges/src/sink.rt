@@ -25,14 +25,14 @@ pub trait Sink<R: Pair> {
     /// Only `push_filled` has added to the list.
     ghost repeats: { Self → Type 0 };
 
-    /// Adds a run.
+    /// AddsAtEnd a run.
     fn push(&mut self, run: R)
         requires { count self.old < room self.old }
         ensures list { (start : Self) → AddsAtEnd (R.pair run) (holds start self.old) (holds start self.new) }
         ensures count { count self.new ≡ count self.old + 1 }
         ensures room { room self.new ≡ room self.old };
 
-    /// Adds a run, in the place of the last one if a condition holds.
+    /// AddsAtEnd a run, in the place of the last one if a condition holds.
     fn push_over(&mut self, is_over: bool, run: R)
         requires room { count self.old < room self.old }
         requires last { from_bool is_over ≤ count self.old }
@@ -40,7 +40,7 @@ pub trait Sink<R: Pair> {
         ensures count { count self.new + from_bool is_over ≡ count self.old + 1 }
         ensures room { room self.new ≡ room self.old };
 
-    /// Adds a run unless it is crossed.
+    /// AddsAtEnd a run unless it is crossed.
     fn push_filled(&mut self, run: R)
         requires room { count self.old < room self.old }
         requires repeats { repeats self.old }
@@ -124,11 +124,17 @@ impl<'a, R: Pair> Places<'a, R> {
         }
     }
 
-    /// Returns the number of all runs.
-    pub fn count(&self) -> usize
-        ensures { result ≡ self.now.count }
+    /// Gives the slice back, and returns the number of all runs.
+    pub fn count(self) -> usize
+        ensures count { result ≡ self.entry.count }
+        ensures left { self.exit.0.now ≡ self.entry.out.now }
     {
-        self.count
+        let Places {
+            out: _,
+            count,
+            last: _,
+        } = self;
+        count
     }
 }
 

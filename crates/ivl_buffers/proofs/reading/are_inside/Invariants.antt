@@ -4,4 +4,4 @@ use Rattle.ivl_laws.specs.Runs.{Covers}
 use Rattle.ivl_buffers.proofs.reading.are_inside.Given as goal
 
 abbrev pub invariant-loop-run : goal.invariant-loop-run
-invariant-loop-run g l = IsSubset (Covers (map g.R.Run.pair (take l.run-index l.runs))) (IsBetween g.R.Bound.Width.whole)
+invariant-loop-run g l = IsSubset (Covers (map g.R.Pair.pair (take l.run-index l.runs))) (IsBetween g.R.Bound.Width.whole)

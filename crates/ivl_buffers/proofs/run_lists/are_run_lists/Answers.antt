@@ -6,8 +6,8 @@ use Rattle.ivl_buffers.proofs.run_lists.are_run_lists.Goals as goal
 pub returns : goal.returns
 returns g c =
     let whole = g.R.Bound.Width.whole in
-    let A : List (ℤ × ℤ) = map g.R.Run.pair c.args.a.now in
-    let B : List (ℤ × ℤ) = map g.R.Run.pair c.args.b.now in (
+    let A : List (ℤ × ℤ) = map g.R.Pair.pair c.args.a.now in
+    let B : List (ℤ × ℤ) = map g.R.Pair.pair c.args.b.now in (
       (λ t.
           let all = and_parts _ _ t in
           let ends = and_parts _ _ all.0 in

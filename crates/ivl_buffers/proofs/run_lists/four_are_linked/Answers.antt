@@ -5,7 +5,7 @@ use Rattle.ivl_buffers.proofs.run_lists.four_are_linked.Goals as goal
 
 pub returns : goal.returns
 returns g c =
-    let pair = g.R.Run.pair in
+    let pair = g.R.Pair.pair in
     let whole = g.R.Bound.Width.whole in
     let i = c.loop-i.i in
     let past = c.loop-i-test.false in

@@ -6,7 +6,7 @@ use Rattle.ivl_buffers.proofs.run_lists.has_ends.Goals as goal
 
 pub returns-then-le : goal.returns-then-le
 returns-then-le g c =
-    let pair = g.R.Run.pair in
+    let pair = g.R.Pair.pair in
     let whole = g.R.Bound.Width.whole in
     let L = c.args.runs.now in
     let some : 0 < length L = some_from (length L) c.is_empty.result c.is_empty.ensures c.if-is_empty.false in

@@ -6,7 +6,7 @@ use Rattle.ivl_buffers.proofs.run_lists.is_run_list.Goals as goal
 pub returns : goal.returns
 returns g c =
     let whole = g.R.Bound.Width.whole in
-    let L : List (ℤ × ℤ) = map g.R.Run.pair c.args.runs.now in (
+    let L : List (ℤ × ℤ) = map g.R.Pair.pair c.args.runs.now in (
       (λ t.
           let both = and_parts _ _ t in
           let ends = c.has_ends.ensures.0 both.0 in

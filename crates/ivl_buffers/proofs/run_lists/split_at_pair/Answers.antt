@@ -6,7 +6,7 @@ use Rattle.ivl_buffers.proofs.run_lists.split_at_pair.Goals as goal
 
 pub returns-clause-linked : goal.returns-clause-linked
 returns-clause-linked g c =
-    let pair = g.R.Run.pair in
+    let pair = g.R.Pair.pair in
     let whole = g.R.Bound.Width.whole in
     let L = c.args.runs.now in
     let i = c.args.i in

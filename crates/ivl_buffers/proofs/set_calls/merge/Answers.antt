@@ -9,14 +9,14 @@ use Rattle.ivl_buffers.proofs.set_calls.merge.Goals as goal
 
 pub returns-then-a-b : goal.returns-then-a-b
 returns-then-a-b g c =
-    let same = length-map c.args.out.now g.R.Run.pair in
+    let same = length-map c.args.out.now g.R.Pair.pair in
     let h = c.if-a-b.true in
     let most = c.walk.ensures.at_most in
     laid_is_written _ _ _ c.walk.result _ (to_z_pos w64 c.walk.result (let few = c.requires.counted in omega (arith, few, most))) (omega (arith, same, h, most)) c.walk.ensures.runs
 
 pub returns : goal.returns
 returns g c =
-    let pair = g.R.Run.pair in
+    let pair = g.R.Pair.pair in
     let S = MadeOfTwo c.args.making (Covers (map pair c.args.a.now)) (Covers (map pair c.args.b.now)) in
     let old = same_room pair S _ c.walk-count.new.out c.args.out.now c.walk-count.result refl c.walk-count.ensures.runs in
     let same = length-map c.args.out.now pair in

@@ -9,14 +9,14 @@ use Rattle.ivl_buffers.proofs.set_calls.walk_rest.Goals as goal
 
 pub returns-then-a-out : goal.returns-then-a-out
 returns-then-a-out g c =
-    let same = length-map c.args.out.now g.R.Run.pair in
+    let same = length-map c.args.out.now g.R.Pair.pair in
     let h = c.if-a-out.true in
     let most = c.complement.ensures.at_most in
     laid_is_written _ _ _ c.complement.result _ (to_z_pos w64 c.complement.result (let few = c.requires.counted in omega (arith, few, most))) (omega (arith, same, h, most)) c.complement.ensures.runs
 
 pub returns : goal.returns
 returns g c =
-    let pair = g.R.Run.pair in
+    let pair = g.R.Pair.pair in
     let S = Complement g.R.Bound.Width.whole (Covers (map pair c.args.a.now)) in
     let old = same_room pair S _ c.complement-total.new.out c.args.out.now c.complement-total.result refl c.complement-total.ensures.runs in
     let same = length-map c.args.out.now pair in

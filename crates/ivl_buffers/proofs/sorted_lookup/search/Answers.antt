@@ -25,17 +25,17 @@ search-preserved-then-lt g c =
     let t = c.search-test.true in
     let less : i < length L = omega (arith, t, inv.at_most) in
     let P : ℤ → Type 0 = λ z. z <ℤ v in
-    let b : (g.R.Run.pair d).1 <ℤ v = subst P c.upper.ensures ((lt_number g.met.R.Bound.Width.ordered _ _ _ c.lt.ensures).0 c.if-lt.true) in
-    let R : ℕ → Type 0 = λ k. EndBelow v (take k (map g.R.Run.pair L)) in
-    let Q : ℕ → Type 0 = λ k. IsPast g.R.Run.pair v L k in
-    let S : ℕ → Type 0 = λ k. IsSeen g.R.Run.pair v L k c.search.is_in in
+    let b : (g.R.Pair.pair d).1 <ℤ v = subst P c.upper.ensures ((lt_number g.met.R.Bound.Width.ordered _ _ _ c.lt.ensures).0 c.if-lt.true) in
+    let R : ℕ → Type 0 = λ k. EndBelow v (take k (map g.R.Pair.pair L)) in
+    let Q : ℕ → Type 0 = λ k. IsPast g.R.Pair.pair v L k in
+    let S : ℕ → Type 0 = λ k. IsSeen g.R.Pair.pair v L k c.search.is_in in
     let more : suc i ≡ c.search.low + half = omega (arith, t) in
     let still : c.search.low + c.search.left ≡ c.search.low + half + (c.search.left - half) = omega (arith, t) in
     record {
       at_most = omega (arith, t, inv.at_most);
-      past = subst Q more (past_next g.R.Run.pair L v i d less c.index-runs-low.is b);
+      past = subst Q more (past_next g.R.Pair.pair L v i d less c.index-runs-low.is b);
       seen = subst S still inv.seen;
-      below = λ o. subst R more (below_to g.R.Run.pair L i d v less c.index-runs-low.is b o);
+      below = λ o. subst R more (below_to g.R.Pair.pair L i d v less c.index-runs-low.is b o);
     }
 
 pub search-preserved : goal.search-preserved
@@ -58,7 +58,7 @@ search-preserved g c =
         i,
         omega (arith, t),
         omega (arith, t),
-        reached g.R.Run.pair L v i d _ _ less c.index-runs-low.is c.lower.ensures (le_number g.met.R.Bound.Width.ordered _ _ _ c.le-is_in.ensures) (subst P c.upper.ensures reaches),
+        reached g.R.Pair.pair L v i d _ _ less c.index-runs-low.is c.lower.ensures (le_number g.met.R.Bound.Width.ordered _ _ _ c.le-is_in.ensures) (subst P c.upper.ensures reaches),
       );
       below = inv.below;
     }
@@ -68,7 +68,7 @@ returns-clause-has g c =
     let inv = c.search.invariant in
     let ended = c.search-test.false in
     let all : c.search.low + c.search.left ≡ c.search.low = omega (arith, ended) in
-    (place_found g.R.Run.pair c.args.runs.now _ c.search.low c.search.is_in inv.past (subst (λ (k : ℕ). IsSeen g.R.Run.pair (g.R.Bound.Width.value c.args.v) c.args.runs.now k c.search.is_in) all inv.seen)).0
+    (place_found g.R.Pair.pair c.args.runs.now _ c.search.low c.search.is_in inv.past (subst (λ (k : ℕ). IsSeen g.R.Pair.pair (g.R.Bound.Width.value c.args.v) c.args.runs.now k c.search.is_in) all inv.seen)).0
 
 pub returns-clause-below : goal.returns-clause-below
 returns-clause-below g c = c.search.invariant.below
@@ -78,4 +78,4 @@ returns-clause-from g c =
     let inv = c.search.invariant in
     let ended = c.search-test.false in
     let all : c.search.low + c.search.left ≡ c.search.low = omega (arith, ended) in
-    (place_found g.R.Run.pair c.args.runs.now _ c.search.low c.search.is_in inv.past (subst (λ (k : ℕ). IsSeen g.R.Run.pair (g.R.Bound.Width.value c.args.v) c.args.runs.now k c.search.is_in) all inv.seen)).1
+    (place_found g.R.Pair.pair c.args.runs.now _ c.search.low c.search.is_in inv.past (subst (λ (k : ℕ). IsSeen g.R.Pair.pair (g.R.Bound.Width.value c.args.v) c.args.runs.now k c.search.is_in) all inv.seen)).1

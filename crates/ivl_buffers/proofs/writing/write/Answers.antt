@@ -12,6 +12,9 @@ loop-i-preserved g c =
       inv.0,
       inv.1,
       length-set c.loop-i.out c.loop-i.i c.of.result ∙ inv.2,
-      wrote g.R.Run.pair c.loop-i.out c.args.out.now c.runs-runs.result.now c.loop-i.i c.index-runs-i.result c.of.result _ _ c.loop-i-test.true (subst P (sym inv.0) c.requires)
+      wrote g.R.Pair.pair c.loop-i.out c.args.out.now c.runs-runs.result.now c.loop-i.i c.index-runs-i.result c.of.result _ _ c.loop-i-test.true (subst P (sym inv.0) c.requires)
           c.index-runs-i.is c.of.ensures c.lower.ensures.value c.upper.ensures.value inv.3,
     )
+
+pub of-requires : goal.of-requires
+of-requires g c = ((c.in_whole.ensures _ c.lower.ensures.member).0, (c.in_whole.ensures _ c.upper.ensures.member).1)

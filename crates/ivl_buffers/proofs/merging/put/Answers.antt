@@ -1,5 +1,0 @@
-use Rattle.std.proofs.lemmas.List.{map-set}
-use Rattle.ivl_buffers.proofs.merging.put.Goals as goal
-
-pub returns-then-place-out : goal.returns-then-place-out
-returns-then-place-out g c = map-set g.R.Run.pair c.args.out.now c.args.place c.args.run
