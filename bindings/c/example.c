@@ -13,7 +13,7 @@ static void expect(int is_so, const char *what) {
     }
 }
 
-static void print(const ivl_run_i64 *runs, int64_t count) {
+static void print(const ivl_pair_i64 *runs, int64_t count) {
     for (int64_t i = 0; i < count; i++)
         printf("[%" PRId64 "..%" PRId64 "]", runs[i].lower, runs[i].upper);
     printf("\n");
@@ -21,11 +21,11 @@ static void print(const ivl_run_i64 *runs, int64_t count) {
 
 static void signed_numbers(void) {
     /* Out of order, and with a crossed pair, which has no member. */
-    const ivl_run_i64 a[] = {{6, 10}, {1, 2}, {9, 4}};
-    const ivl_run_i64 b[] = {{3, 5}, {7, 7}};
-    const ivl_run_i64 low[] = {{INT64_MIN, 0}};
-    const ivl_run_i64 all[] = {{-INT64_MAX, INT64_MAX}};
-    ivl_run_i64 out[4] = {{0, 0}, {77, 77}, {0, 0}, {0, 0}};
+    const ivl_pair_i64 a[] = {{6, 10}, {1, 2}, {9, 4}};
+    const ivl_pair_i64 b[] = {{3, 5}, {7, 7}};
+    const ivl_pair_i64 low[] = {{INT64_MIN, 0}};
+    const ivl_pair_i64 all[] = {{-INT64_MAX, INT64_MAX}};
+    ivl_pair_i64 out[4] = {{0, 0}, {77, 77}, {0, 0}, {0, 0}};
     uint64_t size = 5;
 
     expect(ivl_union_i64(a, 3, b, 2, out, 4) == 1, "the union is one run");
@@ -71,8 +71,8 @@ static void signed_numbers(void) {
 
 /* Edits of a list in its own buffer. */
 static void edits(void) {
-    ivl_run_i64 runs[3] = {{1, 2}, {8, 9}, {77, 77}};
-    ivl_run_u64 ports[2] = {{5, 9}, {8, 12}};
+    ivl_pair_i64 runs[3] = {{1, 2}, {8, 9}, {77, 77}};
+    ivl_pair_u64 ports[2] = {{5, 9}, {8, 12}};
 
     expect(ivl_insert_i64(runs, 3, 2, 3, 5) == 2 && runs[0].upper == 5 && runs[1].lower == 8, "the first run is longer");
     expect(runs[2].lower == 77, "the places after the runs stay");
@@ -88,11 +88,11 @@ static void edits(void) {
 }
 
 static void unsigned_numbers(void) {
-    const ivl_run_u64 a[] = {{5, 9}, {8, 12}};
-    const ivl_run_u64 all[] = {{0, UINT64_MAX - 1}};
-    const ivl_run_u64 high[] = {{0, UINT64_MAX}};
-    const ivl_run_u64 crossed[] = {{UINT64_MAX, 3}};
-    ivl_run_u64 out[2];
+    const ivl_pair_u64 a[] = {{5, 9}, {8, 12}};
+    const ivl_pair_u64 all[] = {{0, UINT64_MAX - 1}};
+    const ivl_pair_u64 high[] = {{0, UINT64_MAX}};
+    const ivl_pair_u64 crossed[] = {{UINT64_MAX, 3}};
+    ivl_pair_u64 out[2];
 
     expect(ivl_normalize_u64(a, 2, out, 2) == 1, "one run");
     expect(out[0].lower == 5 && out[0].upper == 12, "from 5 to 12");
@@ -119,8 +119,8 @@ static void unsigned_numbers(void) {
 
 /* A pointer with a count may be null if the count is 0. */
 static void null_pointers(void) {
-    const ivl_run_i64 a[] = {{6, 10}};
-    ivl_run_i64 out[1] = {{0, 0}};
+    const ivl_pair_i64 a[] = {{6, 10}};
+    ivl_pair_i64 out[1] = {{0, 0}};
     int64_t found = 5;
 
     expect(ivl_union_i64(NULL, 0, a, 1, out, 1) == 1 && out[0].lower == 6, "a list of no pairs may have no address");
@@ -132,8 +132,8 @@ static void null_pointers(void) {
 
 #ifdef IVL_CHECKED
 static void overlapping_arrays(void) {
-    ivl_run_i64 a[] = {{6, 10}, {1, 2}, {77, 77}};
-    ivl_run_i64 out[2];
+    ivl_pair_i64 a[] = {{6, 10}, {1, 2}, {77, 77}};
+    ivl_pair_i64 out[2];
     uint64_t sizes[] = {5, 9};
 
     expect(ivl_union_i64(a, 2, a, 2, a + 1, 2) == IVL_OVERLAP && a[1].lower == 1, "the buffer overlaps a list");
@@ -141,7 +141,7 @@ static void overlapping_arrays(void) {
     expect(ivl_normalize_i64(a, 2, a + 2, 1) == 2 && ivl_union_i64(a, 2, a, 2, out, 2) == 2, "the lists may be one");
     expect(ivl_rank_i64(a, 2, 5, (uint64_t *)a) == IVL_OVERLAP && ivl_nth_i64(a, 2, 0, &a[1].upper) == IVL_OVERLAP, "so does a number");
     expect(ivl_first_fit_i64(a, 2, 2, a + 1) == IVL_OVERLAP && ivl_first_fit_i64(a, 2, 2, a + 2) == 1, "so does a run");
-    expect(ivl_size_u64((const ivl_run_u64 *)sizes, 1, sizes + 1) == IVL_OVERLAP && sizes[1] == 9, "so does the size");
+    expect(ivl_size_u64((const ivl_pair_u64 *)sizes, 1, sizes + 1) == IVL_OVERLAP && sizes[1] == 9, "so does the size");
 }
 #endif
 

@@ -52,13 +52,13 @@ extern "C" {
 typedef struct {
     int64_t lower;
     int64_t upper;
-} ivl_run_i64;
+} ivl_pair_i64;
 
 /* Make a set of one list. O(n log n).
    normalize: its members; complement: the other numbers of the range, O(n) and without an allocation if the list is
    one of runs, as for union. */
-int64_t ivl_normalize_i64(const ivl_run_i64 *a, size_t n, ivl_run_i64 *IVL_RESTRICT out, size_t room);
-int64_t ivl_complement_i64(const ivl_run_i64 *a, size_t n, ivl_run_i64 *IVL_RESTRICT out, size_t room);
+int64_t ivl_normalize_i64(const ivl_pair_i64 *a, size_t n, ivl_pair_i64 *IVL_RESTRICT out, size_t room);
+int64_t ivl_complement_i64(const ivl_pair_i64 *a, size_t n, ivl_pair_i64 *IVL_RESTRICT out, size_t room);
 
 /* Make a set of two lists. O(n log n + m log m).
    union: the members of either; intersection: of both; difference: of `a` and not of `b`;
@@ -66,83 +66,83 @@ int64_t ivl_complement_i64(const ivl_run_i64 *a, size_t n, ivl_run_i64 *IVL_REST
    They are O(n + m) and do not allocate if both lists are lists of runs: no pair is crossed, the
    pairs ascend with at least one number missing between neighbours, and all are in the range, as in every list
    that a call has written. If `room` is less than n + m, they first count the runs of the answer. */
-int64_t ivl_union_i64(const ivl_run_i64 *a, size_t n, const ivl_run_i64 *b, size_t m, ivl_run_i64 *IVL_RESTRICT out, size_t room);
-int64_t ivl_intersection_i64(const ivl_run_i64 *a, size_t n, const ivl_run_i64 *b, size_t m, ivl_run_i64 *IVL_RESTRICT out, size_t room);
-int64_t ivl_difference_i64(const ivl_run_i64 *a, size_t n, const ivl_run_i64 *b, size_t m, ivl_run_i64 *IVL_RESTRICT out, size_t room);
-int64_t ivl_symmetric_difference_i64(const ivl_run_i64 *a, size_t n, const ivl_run_i64 *b, size_t m, ivl_run_i64 *IVL_RESTRICT out, size_t room);
+int64_t ivl_union_i64(const ivl_pair_i64 *a, size_t n, const ivl_pair_i64 *b, size_t m, ivl_pair_i64 *IVL_RESTRICT out, size_t room);
+int64_t ivl_intersection_i64(const ivl_pair_i64 *a, size_t n, const ivl_pair_i64 *b, size_t m, ivl_pair_i64 *IVL_RESTRICT out, size_t room);
+int64_t ivl_difference_i64(const ivl_pair_i64 *a, size_t n, const ivl_pair_i64 *b, size_t m, ivl_pair_i64 *IVL_RESTRICT out, size_t room);
+int64_t ivl_symmetric_difference_i64(const ivl_pair_i64 *a, size_t n, const ivl_pair_i64 *b, size_t m, ivl_pair_i64 *IVL_RESTRICT out, size_t room);
 
 /* Make the set of the sums or differences of a member of `a` and one of `b` that are in the range.
    O(n m log (n m)). */
-int64_t ivl_sums_i64(const ivl_run_i64 *a, size_t n, const ivl_run_i64 *b, size_t m, ivl_run_i64 *IVL_RESTRICT out, size_t room);
-int64_t ivl_differences_i64(const ivl_run_i64 *a, size_t n, const ivl_run_i64 *b, size_t m, ivl_run_i64 *IVL_RESTRICT out, size_t room);
+int64_t ivl_sums_i64(const ivl_pair_i64 *a, size_t n, const ivl_pair_i64 *b, size_t m, ivl_pair_i64 *IVL_RESTRICT out, size_t room);
+int64_t ivl_differences_i64(const ivl_pair_i64 *a, size_t n, const ivl_pair_i64 *b, size_t m, ivl_pair_i64 *IVL_RESTRICT out, size_t room);
 
 /* Makes the set that holds, for each pair of runs, the numbers from their least to their greatest product:
    {[1..2]} times {[10..10]} is {[10..20]}. IVL_PRODUCT_OUT_OF_RANGE if some product is outside the range.
    O(n m log (n m)). */
-int64_t ivl_products_i64(const ivl_run_i64 *a, size_t n, const ivl_run_i64 *b, size_t m, ivl_run_i64 *IVL_RESTRICT out, size_t room);
+int64_t ivl_products_i64(const ivl_pair_i64 *a, size_t n, const ivl_pair_i64 *b, size_t m, ivl_pair_i64 *IVL_RESTRICT out, size_t room);
 
 /* Compare two lists: 1 for yes, 0 for no, or an error code. O(n log n + m log m); O(n + m), and without an allocation,
    if both lists are lists of runs, as for union.
    is_subset: each member of `a` is one of `b`; overlap: some number is a member of both;
    equal: the members are the same. */
-int64_t ivl_is_subset_i64(const ivl_run_i64 *a, size_t n, const ivl_run_i64 *b, size_t m);
-int64_t ivl_overlap_i64(const ivl_run_i64 *a, size_t n, const ivl_run_i64 *b, size_t m);
-int64_t ivl_equal_i64(const ivl_run_i64 *a, size_t n, const ivl_run_i64 *b, size_t m);
+int64_t ivl_is_subset_i64(const ivl_pair_i64 *a, size_t n, const ivl_pair_i64 *b, size_t m);
+int64_t ivl_overlap_i64(const ivl_pair_i64 *a, size_t n, const ivl_pair_i64 *b, size_t m);
+int64_t ivl_equal_i64(const ivl_pair_i64 *a, size_t n, const ivl_pair_i64 *b, size_t m);
 
 /* Writes the number of members and returns 0, or returns an error code and writes nothing.
    O(n log n). */
-int64_t ivl_size_i64(const ivl_run_i64 *a, size_t n, uint64_t *IVL_RESTRICT size);
+int64_t ivl_size_i64(const ivl_pair_i64 *a, size_t n, uint64_t *IVL_RESTRICT size);
 
 /* Returns true exactly when `v` is a member. The list may be in any order, and `v` may be outside the range.
    O(n), does not allocate, has no error code. */
-bool ivl_contains_i64(const ivl_run_i64 *a, size_t n, int64_t v);
+bool ivl_contains_i64(const ivl_pair_i64 *a, size_t n, int64_t v);
 
 /* The same by binary search, for a sorted list: no pair is crossed, and neither the lower nor the upper bounds
    descend. Every list that a call has written is sorted. For any other list, true still means that `v` is a
    member, and false means nothing. O(log n), does not allocate, has no error code. */
-bool ivl_contains_sorted_i64(const ivl_run_i64 *a, size_t n, int64_t v);
+bool ivl_contains_sorted_i64(const ivl_pair_i64 *a, size_t n, int64_t v);
 
 /* Writes the least member that is at least `v` and returns true, or writes nothing and returns false if there is
    none. The list may be in any order, and `v` may be outside the range. O(n), does not allocate, has no error
    code. */
-bool ivl_next_from_i64(const ivl_run_i64 *a, size_t n, int64_t v, int64_t *IVL_RESTRICT found);
+bool ivl_next_from_i64(const ivl_pair_i64 *a, size_t n, int64_t v, int64_t *IVL_RESTRICT found);
 
 /* The same by binary search, for a list that is sorted as for contains_sorted. For any other list, a number that
    is written is still a member that is at least `v`, but perhaps not the least one, and false means only that
    nothing is written. O(log n), does not allocate, has no error code. */
-bool ivl_next_from_sorted_i64(const ivl_run_i64 *a, size_t n, int64_t v, int64_t *IVL_RESTRICT found);
+bool ivl_next_from_sorted_i64(const ivl_pair_i64 *a, size_t n, int64_t v, int64_t *IVL_RESTRICT found);
 
 /* Writes the greatest member that is at most `v` and returns true, or writes nothing and returns false if there is
    none. Binary search in a list that is sorted as for contains_sorted; `v` may be outside the range. For any other
    list, a number that is written is still a member that is at most `v`, but perhaps not the greatest one, and false
    means only that nothing is written. O(log n), does not allocate, has no error code. */
-bool ivl_previous_to_sorted_i64(const ivl_run_i64 *a, size_t n, int64_t v, int64_t *IVL_RESTRICT found);
+bool ivl_previous_to_sorted_i64(const ivl_pair_i64 *a, size_t n, int64_t v, int64_t *IVL_RESTRICT found);
 
 /* Writes the run that holds `v`, the longest interval of members with `v` in it, and returns true, or writes nothing
    and returns false if `v` is no member. Binary search in a list of runs. In a list that is only sorted, the run that
    is written is a pair of the list that holds `v`, and perhaps not the longest; for any other list this holds of a pair
    that is written, and false means only that nothing is written. O(log n), does not allocate, has no error code. */
-bool ivl_run_at_sorted_i64(const ivl_run_i64 *a, size_t n, int64_t v, ivl_run_i64 *IVL_RESTRICT found);
+bool ivl_run_at_sorted_i64(const ivl_pair_i64 *a, size_t n, int64_t v, ivl_pair_i64 *IVL_RESTRICT found);
 
 /* Writes the number of members below `v` and returns 0, or returns an error code and writes nothing. `v` may be outside
    the range. O(n log n). */
-int64_t ivl_rank_i64(const ivl_run_i64 *a, size_t n, int64_t v, uint64_t *IVL_RESTRICT found);
+int64_t ivl_rank_i64(const ivl_pair_i64 *a, size_t n, int64_t v, uint64_t *IVL_RESTRICT found);
 
 /* Writes the member with exactly `i` members below it and returns 1. Otherwise writes nothing, and returns 0 if there
    are no more than `i` members, or an error code. O(n log n). */
-int64_t ivl_nth_i64(const ivl_run_i64 *a, size_t n, uint64_t i, int64_t *IVL_RESTRICT found);
+int64_t ivl_nth_i64(const ivl_pair_i64 *a, size_t n, uint64_t i, int64_t *IVL_RESTRICT found);
 
 /* Edit a list in its own buffer, which has room for `room` pairs. The list is the first `n` of them, or all if `n` is
    greater. insert adds the numbers from `lower` to `upper` to its members, remove removes them; if `lower` is above
    `upper` there are none. As a call that makes a set does, they return the number of runs of the result, and write
    these to the start of the buffer if it has room for all. Numbers outside the range are IVL_OUT_OF_RANGE, for remove
    too. O(n log n). */
-int64_t ivl_insert_i64(ivl_run_i64 *runs, size_t room, size_t n, int64_t lower, int64_t upper);
-int64_t ivl_remove_i64(ivl_run_i64 *runs, size_t room, size_t n, int64_t lower, int64_t upper);
+int64_t ivl_insert_i64(ivl_pair_i64 *runs, size_t room, size_t n, int64_t lower, int64_t upper);
+int64_t ivl_remove_i64(ivl_pair_i64 *runs, size_t room, size_t n, int64_t lower, int64_t upper);
 
 /* Writes the lowest `count` consecutive members as one run and returns 1. Otherwise writes nothing, and returns 0
    if there is no such run or `count` is 0, or an error code. O(n log n). */
-int64_t ivl_first_fit_i64(const ivl_run_i64 *a, size_t n, uint64_t count, ivl_run_i64 *IVL_RESTRICT found);
+int64_t ivl_first_fit_i64(const ivl_pair_i64 *a, size_t n, uint64_t count, ivl_pair_i64 *IVL_RESTRICT found);
 
 /* ---- uint64_t: the members of a set lie from 0 to UINT64_MAX - 1 */
 
@@ -150,13 +150,13 @@ int64_t ivl_first_fit_i64(const ivl_run_i64 *a, size_t n, uint64_t count, ivl_ru
 typedef struct {
     uint64_t lower;
     uint64_t upper;
-} ivl_run_u64;
+} ivl_pair_u64;
 
 /* Make a set of one list. O(n log n).
    normalize: its members; complement: the other numbers of the range, O(n) and without an allocation if the list is
    one of runs, as for union. */
-int64_t ivl_normalize_u64(const ivl_run_u64 *a, size_t n, ivl_run_u64 *IVL_RESTRICT out, size_t room);
-int64_t ivl_complement_u64(const ivl_run_u64 *a, size_t n, ivl_run_u64 *IVL_RESTRICT out, size_t room);
+int64_t ivl_normalize_u64(const ivl_pair_u64 *a, size_t n, ivl_pair_u64 *IVL_RESTRICT out, size_t room);
+int64_t ivl_complement_u64(const ivl_pair_u64 *a, size_t n, ivl_pair_u64 *IVL_RESTRICT out, size_t room);
 
 /* Make a set of two lists. O(n log n + m log m).
    union: the members of either; intersection: of both; difference: of `a` and not of `b`;
@@ -164,83 +164,83 @@ int64_t ivl_complement_u64(const ivl_run_u64 *a, size_t n, ivl_run_u64 *IVL_REST
    They are O(n + m) and do not allocate if both lists are lists of runs: no pair is crossed, the
    pairs ascend with at least one number missing between neighbours, and all are in the range, as in every list
    that a call has written. If `room` is less than n + m, they first count the runs of the answer. */
-int64_t ivl_union_u64(const ivl_run_u64 *a, size_t n, const ivl_run_u64 *b, size_t m, ivl_run_u64 *IVL_RESTRICT out, size_t room);
-int64_t ivl_intersection_u64(const ivl_run_u64 *a, size_t n, const ivl_run_u64 *b, size_t m, ivl_run_u64 *IVL_RESTRICT out, size_t room);
-int64_t ivl_difference_u64(const ivl_run_u64 *a, size_t n, const ivl_run_u64 *b, size_t m, ivl_run_u64 *IVL_RESTRICT out, size_t room);
-int64_t ivl_symmetric_difference_u64(const ivl_run_u64 *a, size_t n, const ivl_run_u64 *b, size_t m, ivl_run_u64 *IVL_RESTRICT out, size_t room);
+int64_t ivl_union_u64(const ivl_pair_u64 *a, size_t n, const ivl_pair_u64 *b, size_t m, ivl_pair_u64 *IVL_RESTRICT out, size_t room);
+int64_t ivl_intersection_u64(const ivl_pair_u64 *a, size_t n, const ivl_pair_u64 *b, size_t m, ivl_pair_u64 *IVL_RESTRICT out, size_t room);
+int64_t ivl_difference_u64(const ivl_pair_u64 *a, size_t n, const ivl_pair_u64 *b, size_t m, ivl_pair_u64 *IVL_RESTRICT out, size_t room);
+int64_t ivl_symmetric_difference_u64(const ivl_pair_u64 *a, size_t n, const ivl_pair_u64 *b, size_t m, ivl_pair_u64 *IVL_RESTRICT out, size_t room);
 
 /* Make the set of the sums or differences of a member of `a` and one of `b` that are in the range.
    O(n m log (n m)). */
-int64_t ivl_sums_u64(const ivl_run_u64 *a, size_t n, const ivl_run_u64 *b, size_t m, ivl_run_u64 *IVL_RESTRICT out, size_t room);
-int64_t ivl_differences_u64(const ivl_run_u64 *a, size_t n, const ivl_run_u64 *b, size_t m, ivl_run_u64 *IVL_RESTRICT out, size_t room);
+int64_t ivl_sums_u64(const ivl_pair_u64 *a, size_t n, const ivl_pair_u64 *b, size_t m, ivl_pair_u64 *IVL_RESTRICT out, size_t room);
+int64_t ivl_differences_u64(const ivl_pair_u64 *a, size_t n, const ivl_pair_u64 *b, size_t m, ivl_pair_u64 *IVL_RESTRICT out, size_t room);
 
 /* Makes the set that holds, for each pair of runs, the numbers from their least to their greatest product:
    {[1..2]} times {[10..10]} is {[10..20]}. IVL_PRODUCT_OUT_OF_RANGE if some product is outside the range.
    O(n m log (n m)). */
-int64_t ivl_products_u64(const ivl_run_u64 *a, size_t n, const ivl_run_u64 *b, size_t m, ivl_run_u64 *IVL_RESTRICT out, size_t room);
+int64_t ivl_products_u64(const ivl_pair_u64 *a, size_t n, const ivl_pair_u64 *b, size_t m, ivl_pair_u64 *IVL_RESTRICT out, size_t room);
 
 /* Compare two lists: 1 for yes, 0 for no, or an error code. O(n log n + m log m); O(n + m), and without an allocation,
    if both lists are lists of runs, as for union.
    is_subset: each member of `a` is one of `b`; overlap: some number is a member of both;
    equal: the members are the same. */
-int64_t ivl_is_subset_u64(const ivl_run_u64 *a, size_t n, const ivl_run_u64 *b, size_t m);
-int64_t ivl_overlap_u64(const ivl_run_u64 *a, size_t n, const ivl_run_u64 *b, size_t m);
-int64_t ivl_equal_u64(const ivl_run_u64 *a, size_t n, const ivl_run_u64 *b, size_t m);
+int64_t ivl_is_subset_u64(const ivl_pair_u64 *a, size_t n, const ivl_pair_u64 *b, size_t m);
+int64_t ivl_overlap_u64(const ivl_pair_u64 *a, size_t n, const ivl_pair_u64 *b, size_t m);
+int64_t ivl_equal_u64(const ivl_pair_u64 *a, size_t n, const ivl_pair_u64 *b, size_t m);
 
 /* Writes the number of members and returns 0, or returns an error code and writes nothing.
    O(n log n). */
-int64_t ivl_size_u64(const ivl_run_u64 *a, size_t n, uint64_t *IVL_RESTRICT size);
+int64_t ivl_size_u64(const ivl_pair_u64 *a, size_t n, uint64_t *IVL_RESTRICT size);
 
 /* Returns true exactly when `v` is a member. The list may be in any order, and `v` may be outside the range.
    O(n), does not allocate, has no error code. */
-bool ivl_contains_u64(const ivl_run_u64 *a, size_t n, uint64_t v);
+bool ivl_contains_u64(const ivl_pair_u64 *a, size_t n, uint64_t v);
 
 /* The same by binary search, for a sorted list: no pair is crossed, and neither the lower nor the upper bounds
    descend. Every list that a call has written is sorted. For any other list, true still means that `v` is a
    member, and false means nothing. O(log n), does not allocate, has no error code. */
-bool ivl_contains_sorted_u64(const ivl_run_u64 *a, size_t n, uint64_t v);
+bool ivl_contains_sorted_u64(const ivl_pair_u64 *a, size_t n, uint64_t v);
 
 /* Writes the least member that is at least `v` and returns true, or writes nothing and returns false if there is
    none. The list may be in any order, and `v` may be outside the range. O(n), does not allocate, has no error
    code. */
-bool ivl_next_from_u64(const ivl_run_u64 *a, size_t n, uint64_t v, uint64_t *IVL_RESTRICT found);
+bool ivl_next_from_u64(const ivl_pair_u64 *a, size_t n, uint64_t v, uint64_t *IVL_RESTRICT found);
 
 /* The same by binary search, for a list that is sorted as for contains_sorted. For any other list, a number that
    is written is still a member that is at least `v`, but perhaps not the least one, and false means only that
    nothing is written. O(log n), does not allocate, has no error code. */
-bool ivl_next_from_sorted_u64(const ivl_run_u64 *a, size_t n, uint64_t v, uint64_t *IVL_RESTRICT found);
+bool ivl_next_from_sorted_u64(const ivl_pair_u64 *a, size_t n, uint64_t v, uint64_t *IVL_RESTRICT found);
 
 /* Writes the greatest member that is at most `v` and returns true, or writes nothing and returns false if there is
    none. Binary search in a list that is sorted as for contains_sorted; `v` may be outside the range. For any other
    list, a number that is written is still a member that is at most `v`, but perhaps not the greatest one, and false
    means only that nothing is written. O(log n), does not allocate, has no error code. */
-bool ivl_previous_to_sorted_u64(const ivl_run_u64 *a, size_t n, uint64_t v, uint64_t *IVL_RESTRICT found);
+bool ivl_previous_to_sorted_u64(const ivl_pair_u64 *a, size_t n, uint64_t v, uint64_t *IVL_RESTRICT found);
 
 /* Writes the run that holds `v`, the longest interval of members with `v` in it, and returns true, or writes nothing
    and returns false if `v` is no member. Binary search in a list of runs. In a list that is only sorted, the run that
    is written is a pair of the list that holds `v`, and perhaps not the longest; for any other list this holds of a pair
    that is written, and false means only that nothing is written. O(log n), does not allocate, has no error code. */
-bool ivl_run_at_sorted_u64(const ivl_run_u64 *a, size_t n, uint64_t v, ivl_run_u64 *IVL_RESTRICT found);
+bool ivl_run_at_sorted_u64(const ivl_pair_u64 *a, size_t n, uint64_t v, ivl_pair_u64 *IVL_RESTRICT found);
 
 /* Writes the number of members below `v` and returns 0, or returns an error code and writes nothing. `v` may be outside
    the range. O(n log n). */
-int64_t ivl_rank_u64(const ivl_run_u64 *a, size_t n, uint64_t v, uint64_t *IVL_RESTRICT found);
+int64_t ivl_rank_u64(const ivl_pair_u64 *a, size_t n, uint64_t v, uint64_t *IVL_RESTRICT found);
 
 /* Writes the member with exactly `i` members below it and returns 1. Otherwise writes nothing, and returns 0 if there
    are no more than `i` members, or an error code. O(n log n). */
-int64_t ivl_nth_u64(const ivl_run_u64 *a, size_t n, uint64_t i, uint64_t *IVL_RESTRICT found);
+int64_t ivl_nth_u64(const ivl_pair_u64 *a, size_t n, uint64_t i, uint64_t *IVL_RESTRICT found);
 
 /* Edit a list in its own buffer, which has room for `room` pairs. The list is the first `n` of them, or all if `n` is
    greater. insert adds the numbers from `lower` to `upper` to its members, remove removes them; if `lower` is above
    `upper` there are none. As a call that makes a set does, they return the number of runs of the result, and write
    these to the start of the buffer if it has room for all. Numbers outside the range are IVL_OUT_OF_RANGE, for remove
    too. O(n log n). */
-int64_t ivl_insert_u64(ivl_run_u64 *runs, size_t room, size_t n, uint64_t lower, uint64_t upper);
-int64_t ivl_remove_u64(ivl_run_u64 *runs, size_t room, size_t n, uint64_t lower, uint64_t upper);
+int64_t ivl_insert_u64(ivl_pair_u64 *runs, size_t room, size_t n, uint64_t lower, uint64_t upper);
+int64_t ivl_remove_u64(ivl_pair_u64 *runs, size_t room, size_t n, uint64_t lower, uint64_t upper);
 
 /* Writes the lowest `count` consecutive members as one run and returns 1. Otherwise writes nothing, and returns 0
    if there is no such run or `count` is 0, or an error code. O(n log n). */
-int64_t ivl_first_fit_u64(const ivl_run_u64 *a, size_t n, uint64_t count, ivl_run_u64 *IVL_RESTRICT found);
+int64_t ivl_first_fit_u64(const ivl_pair_u64 *a, size_t n, uint64_t count, ivl_pair_u64 *IVL_RESTRICT found);
 
 #ifdef IVL_CHECKED
 /* Whether two arrays of so many bytes have one in common. */
@@ -250,32 +250,32 @@ static inline bool ivl_has_common(const void *x, size_t x_size, const void *y, s
 }
 
 #define IVL_CHECKED_ONE(name, type)                                                                                         \
-    static inline int64_t ivl_checked_##name##_##type(const ivl_run_##type *a, size_t n, ivl_run_##type *out, size_t room) { \
+    static inline int64_t ivl_checked_##name##_##type(const ivl_pair_##type *a, size_t n, ivl_pair_##type *out, size_t room) { \
         if (ivl_has_common(out, room * sizeof *out, a, n * sizeof *a))                                                      \
             return IVL_OVERLAP;                                                                                             \
         return ivl_##name##_##type(a, n, out, room);                                                                        \
     }
 #define IVL_CHECKED_TWO(name, type)                                                                                         \
-    static inline int64_t ivl_checked_##name##_##type(const ivl_run_##type *a, size_t n, const ivl_run_##type *b, size_t m,  \
-                                                      ivl_run_##type *out, size_t room) {                                   \
+    static inline int64_t ivl_checked_##name##_##type(const ivl_pair_##type *a, size_t n, const ivl_pair_##type *b, size_t m,  \
+                                                      ivl_pair_##type *out, size_t room) {                                   \
         if (ivl_has_common(out, room * sizeof *out, a, n * sizeof *a) ||                                                    \
             ivl_has_common(out, room * sizeof *out, b, m * sizeof *b))                                                      \
             return IVL_OVERLAP;                                                                                             \
         return ivl_##name##_##type(a, n, b, m, out, room);                                                                  \
     }
 #define IVL_CHECKED_SIZE(type)                                                                                              \
-    static inline int64_t ivl_checked_size_##type(const ivl_run_##type *a, size_t n, uint64_t *size) {                      \
+    static inline int64_t ivl_checked_size_##type(const ivl_pair_##type *a, size_t n, uint64_t *size) {                      \
         return ivl_has_common(size, sizeof *size, a, n * sizeof *a) ? IVL_OVERLAP : ivl_size_##type(a, n, size);            \
     }
 #define IVL_CHECKED_FIT(type)                                                                                               \
-    static inline int64_t ivl_checked_first_fit_##type(const ivl_run_##type *a, size_t n, uint64_t count,                   \
-                                                       ivl_run_##type *found) {                                             \
+    static inline int64_t ivl_checked_first_fit_##type(const ivl_pair_##type *a, size_t n, uint64_t count,                   \
+                                                       ivl_pair_##type *found) {                                             \
         if (ivl_has_common(found, sizeof *found, a, n * sizeof *a))                                                         \
             return IVL_OVERLAP;                                                                                             \
         return ivl_first_fit_##type(a, n, count, found);                                                                    \
     }
 #define IVL_CHECKED_FOUND(name, type, by, written)                                                                          \
-    static inline int64_t ivl_checked_##name##_##type(const ivl_run_##type *a, size_t n, by key, written *found) {          \
+    static inline int64_t ivl_checked_##name##_##type(const ivl_pair_##type *a, size_t n, by key, written *found) {          \
         return ivl_has_common(found, sizeof *found, a, n * sizeof *a) ? IVL_OVERLAP : ivl_##name##_##type(a, n, key, found); \
     }
 #define IVL_CHECKED_ALL(type, number)                                                                                       \

@@ -28,7 +28,7 @@ template <class T> struct calls;
 
 #define IVL_CALLS(type, name)                                                                                                    \
     template <> struct calls<type> {                                                                                             \
-        using run = ivl_run_##name;                                                                                              \
+        using run = ivl_pair_##name;                                                                                              \
         static constexpr auto normalize = ivl_normalize_##name;                                                                  \
         static constexpr auto complement = ivl_complement_##name;                                                                \
         static constexpr auto unite = ivl_union_##name;                                                                          \

@@ -8,7 +8,7 @@
 
 enum { ROOM = 16 };
 
-typedef int64_t call(const ivl_run_i64 *a, size_t n, const ivl_run_i64 *b, size_t m, ivl_run_i64 *out, size_t room);
+typedef int64_t call(const ivl_pair_i64 *a, size_t n, const ivl_pair_i64 *b, size_t m, ivl_pair_i64 *out, size_t room);
 
 void *__real_malloc(size_t size);
 void *__real_calloc(size_t count, size_t size);
@@ -37,32 +37,32 @@ void *__wrap_realloc(void *block, size_t size) {
 }
 
 /* The calls of another shape, in that of the others. */
-static int64_t normalize(const ivl_run_i64 *a, size_t n, const ivl_run_i64 *b, size_t m, ivl_run_i64 *out, size_t room) {
+static int64_t normalize(const ivl_pair_i64 *a, size_t n, const ivl_pair_i64 *b, size_t m, ivl_pair_i64 *out, size_t room) {
     (void)b, (void)m;
     return ivl_normalize_i64(a, n, out, room);
 }
 
-static int64_t complement(const ivl_run_i64 *a, size_t n, const ivl_run_i64 *b, size_t m, ivl_run_i64 *out, size_t room) {
+static int64_t complement(const ivl_pair_i64 *a, size_t n, const ivl_pair_i64 *b, size_t m, ivl_pair_i64 *out, size_t room) {
     (void)b, (void)m;
     return ivl_complement_i64(a, n, out, room);
 }
 
-static int64_t is_subset(const ivl_run_i64 *a, size_t n, const ivl_run_i64 *b, size_t m, ivl_run_i64 *out, size_t room) {
+static int64_t is_subset(const ivl_pair_i64 *a, size_t n, const ivl_pair_i64 *b, size_t m, ivl_pair_i64 *out, size_t room) {
     (void)out, (void)room;
     return ivl_is_subset_i64(a, n, b, m);
 }
 
-static int64_t overlap(const ivl_run_i64 *a, size_t n, const ivl_run_i64 *b, size_t m, ivl_run_i64 *out, size_t room) {
+static int64_t overlap(const ivl_pair_i64 *a, size_t n, const ivl_pair_i64 *b, size_t m, ivl_pair_i64 *out, size_t room) {
     (void)out, (void)room;
     return ivl_overlap_i64(a, n, b, m);
 }
 
-static int64_t equal(const ivl_run_i64 *a, size_t n, const ivl_run_i64 *b, size_t m, ivl_run_i64 *out, size_t room) {
+static int64_t equal(const ivl_pair_i64 *a, size_t n, const ivl_pair_i64 *b, size_t m, ivl_pair_i64 *out, size_t room) {
     (void)out, (void)room;
     return ivl_equal_i64(a, n, b, m);
 }
 
-static int64_t size_of(const ivl_run_i64 *a, size_t n, const ivl_run_i64 *b, size_t m, ivl_run_i64 *out, size_t room) {
+static int64_t size_of(const ivl_pair_i64 *a, size_t n, const ivl_pair_i64 *b, size_t m, ivl_pair_i64 *out, size_t room) {
     (void)b, (void)m, (void)room;
     uint64_t size = (uint64_t)out[0].lower;
     int64_t told = ivl_size_i64(a, n, &size);
@@ -70,12 +70,12 @@ static int64_t size_of(const ivl_run_i64 *a, size_t n, const ivl_run_i64 *b, siz
     return told;
 }
 
-static int64_t first_fit(const ivl_run_i64 *a, size_t n, const ivl_run_i64 *b, size_t m, ivl_run_i64 *out, size_t room) {
+static int64_t first_fit(const ivl_pair_i64 *a, size_t n, const ivl_pair_i64 *b, size_t m, ivl_pair_i64 *out, size_t room) {
     (void)b, (void)m, (void)room;
     return ivl_first_fit_i64(a, n, 2, out);
 }
 
-static int64_t rank(const ivl_run_i64 *a, size_t n, const ivl_run_i64 *b, size_t m, ivl_run_i64 *out, size_t room) {
+static int64_t rank(const ivl_pair_i64 *a, size_t n, const ivl_pair_i64 *b, size_t m, ivl_pair_i64 *out, size_t room) {
     (void)b, (void)m, (void)room;
     uint64_t found = (uint64_t)out[0].lower;
     int64_t told = ivl_rank_i64(a, n, 40, &found);
@@ -83,14 +83,14 @@ static int64_t rank(const ivl_run_i64 *a, size_t n, const ivl_run_i64 *b, size_t
     return told;
 }
 
-static int64_t nth(const ivl_run_i64 *a, size_t n, const ivl_run_i64 *b, size_t m, ivl_run_i64 *out, size_t room) {
+static int64_t nth(const ivl_pair_i64 *a, size_t n, const ivl_pair_i64 *b, size_t m, ivl_pair_i64 *out, size_t room) {
     (void)b, (void)m, (void)room;
     return ivl_nth_i64(a, n, 3, &out[0].lower);
 }
 
 /* The list in the buffer is changed only by a call that answers; what it had is put back for the comparison. */
-static int64_t edited(int64_t edit(ivl_run_i64 *, size_t, size_t, int64_t, int64_t), const ivl_run_i64 *a, size_t n, ivl_run_i64 *out) {
-    ivl_run_i64 runs[ROOM];
+static int64_t edited(int64_t edit(ivl_pair_i64 *, size_t, size_t, int64_t, int64_t), const ivl_pair_i64 *a, size_t n, ivl_pair_i64 *out) {
+    ivl_pair_i64 runs[ROOM];
     memcpy(runs, out, sizeof runs);
     memcpy(runs, a, n * sizeof *a);
     int64_t told = edit(runs, ROOM, n, 33, 34);
@@ -101,12 +101,12 @@ static int64_t edited(int64_t edit(ivl_run_i64 *, size_t, size_t, int64_t, int64
     return told;
 }
 
-static int64_t insert(const ivl_run_i64 *a, size_t n, const ivl_run_i64 *b, size_t m, ivl_run_i64 *out, size_t room) {
+static int64_t insert(const ivl_pair_i64 *a, size_t n, const ivl_pair_i64 *b, size_t m, ivl_pair_i64 *out, size_t room) {
     (void)b, (void)m, (void)room;
     return edited(ivl_insert_i64, a, n, out);
 }
 
-static int64_t remove_run(const ivl_run_i64 *a, size_t n, const ivl_run_i64 *b, size_t m, ivl_run_i64 *out, size_t room) {
+static int64_t remove_run(const ivl_pair_i64 *a, size_t n, const ivl_pair_i64 *b, size_t m, ivl_pair_i64 *out, size_t room) {
     (void)b, (void)m, (void)room;
     return edited(ivl_remove_i64, a, n, out);
 }
@@ -123,12 +123,12 @@ static const struct {
 };
 
 /* No list is in order, so that each has to be sorted. */
-static const ivl_run_i64 first[] = {{60, 70}, {1, 2}, {9, 4}, {31, 35}};
-static const ivl_run_i64 second[] = {{33, 65}, {7, 7}, {2, 3}};
+static const ivl_pair_i64 first[] = {{60, 70}, {1, 2}, {9, 4}, {31, 35}};
+static const ivl_pair_i64 second[] = {{33, 65}, {7, 7}, {2, 3}};
 
 /* Makes the call with one request refused after so many that are met: whether one was refused. */
-static int refuse_one(call *made, int before, int64_t right, const ivl_run_i64 *answer, int *failures) {
-    ivl_run_i64 out[ROOM], untouched[ROOM];
+static int refuse_one(call *made, int before, int64_t right, const ivl_pair_i64 *answer, int *failures) {
+    ivl_pair_i64 out[ROOM], untouched[ROOM];
     memset(out, 0x55, sizeof out);
     memset(untouched, 0x55, sizeof untouched);
 
@@ -145,7 +145,7 @@ static int refuse_one(call *made, int before, int64_t right, const ivl_run_i64 *
 }
 
 static int refuse_each(call *made, const char *name) {
-    ivl_run_i64 answer[ROOM];
+    ivl_pair_i64 answer[ROOM];
     int failures = 0, refused = 0;
 
     memset(answer, 0x55, sizeof answer);
@@ -161,11 +161,11 @@ static int refuse_each(call *made, const char *name) {
 
 /* Lists of runs, for which the first eight of the calls make no request, whatever the room. */
 enum { WALKS = 8 };
-static const ivl_run_i64 runs[] = {{1, 2}, {31, 35}, {60, 70}};
-static const ivl_run_i64 others[] = {{2, 3}, {7, 7}, {33, 65}};
+static const ivl_pair_i64 runs[] = {{1, 2}, {31, 35}, {60, 70}};
+static const ivl_pair_i64 others[] = {{2, 3}, {7, 7}, {33, 65}};
 
 static int refuse_all(call *made, const char *name, size_t room) {
-    ivl_run_i64 out[ROOM];
+    ivl_pair_i64 out[ROOM];
 
     before_refusal = 0;
     int64_t told = made(runs, 3, others, 3, out, room);

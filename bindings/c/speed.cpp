@@ -14,7 +14,7 @@
 #endif
 #endif
 
-using List = std::vector<ivl_run_i64>;
+using List = std::vector<ivl_pair_i64>;
 
 static volatile std::size_t kept; // so that no answer is left out
 
@@ -70,7 +70,7 @@ template <class Call> static double nanoseconds(Call call) {
     return least;
 }
 
-using Call = std::int64_t (*)(const ivl_run_i64 *, std::size_t, const ivl_run_i64 *, std::size_t, ivl_run_i64 *, std::size_t);
+using Call = std::int64_t (*)(const ivl_pair_i64 *, std::size_t, const ivl_pair_i64 *, std::size_t, ivl_pair_i64 *, std::size_t);
 
 static double of_c(Call call, const List &a, const List &b) {
     List out(a.size() + b.size());
@@ -92,7 +92,7 @@ using Set = boost::icl::interval_set<std::int64_t>;
 
 static Set set_of(const List &list) {
     Set set;
-    for (const ivl_run_i64 &run : list)
+    for (const ivl_pair_i64 &run : list)
         set.add(Set::interval_type::closed(run.lower, run.upper));
     return set;
 }

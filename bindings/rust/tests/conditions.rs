@@ -251,10 +251,10 @@ fn debug_builds_test_the_conditions_of_pages_maps_and_searches() {
 #[test]
 #[cfg(all(debug_assertions, target_pointer_width = "64"))]
 fn debug_builds_test_lists_of_runs() {
-    use intervallum::proved::ivl_buffers::run::RunI64;
+    use intervallum::proved::ivl_buffers::pair::PairI64;
     use intervallum::proved::ivl_buffers::{merging, reading, run_lists};
 
-    let pair = |lower, upper| RunI64 { lower, upper };
+    let pair = |lower, upper| PairI64 { lower, upper };
     let (sorted, unsorted, touching) = ([pair(1, 2), pair(5, 6)], [pair(5, 6), pair(1, 3)], [pair(1, 2), pair(3, 4)]);
     let out = || [pair(0, 0); 8];
     panics! {

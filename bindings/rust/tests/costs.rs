@@ -5,7 +5,7 @@
 
 use intervallum::proved::Global;
 use intervallum::proved::ivl_buffers::comparisons::{Asking, ask};
-use intervallum::proved::ivl_buffers::run::{RunI64, RunU64};
+use intervallum::proved::ivl_buffers::pair::{PairI64, PairU64};
 use intervallum::proved::ivl_buffers::set_calls::{OfOne, OfTwo, of_one, of_two};
 use intervallum::proved::ivl_buffers::{beside, lookup, reading, run_lists, sorted_lookup};
 use intervallum::proved::ivl_paged::PagedSet;
@@ -22,15 +22,15 @@ static ALLOCATOR: Watched = Watched;
 const RUNS: usize = 10_000;
 
 /// Lists of runs, well above each constant in the code.
-fn lists() -> (Vec<RunI64>, Vec<RunI64>) {
-    let of = |from: i64| (0..RUNS as i64).map(|i| RunI64 { lower: from + 5 * i, upper: from + 5 * i + 2 }).collect();
+fn lists() -> (Vec<PairI64>, Vec<PairI64>) {
+    let of = |from: i64| (0..RUNS as i64).map(|i| PairI64 { lower: from + 5 * i, upper: from + 5 * i + 2 }).collect();
     (of(0), of(1))
 }
 
 #[test]
 fn calls_on_lists_do_not_allocate() {
     let (a, b) = lists();
-    let mut out = vec![RunI64 { lower: 0, upper: 0 }; 2 * RUNS + 2];
+    let mut out = vec![PairI64 { lower: 0, upper: 0 }; 2 * RUNS + 2];
     let (mut found, mut run) = (0, a[0]);
     let ((), told) = cost(|| {
         for asking in [Asking::Within, Asking::Meets, Asking::Alike] {
@@ -52,7 +52,7 @@ fn calls_on_lists_do_not_allocate() {
     });
     assert_eq!(told.allocations, 0);
     // nothing is found, and lists that are empty
-    let none: [RunU64; 0] = [];
+    let none: [PairU64; 0] = [];
     let ((), told) = cost(|| {
         assert_eq!(ask(Global, Asking::Within, &none, &none), 1);
         assert_eq!(of_two(Global, OfTwo::Either, &none, &none, &mut []), 0);

@@ -134,12 +134,12 @@ fn networks_of_many_constraints() {
 #[test]
 #[cfg(target_pointer_width = "64")]
 fn a_fit_is_found_or_not_in_a_long_list() {
-    use intervallum::proved::ivl_buffers::{lookup, run::RunI64};
+    use intervallum::proved::ivl_buffers::{lookup, run::PairI64};
 
-    let list: Vec<RunI64> = (0..20_000).map(|i| RunI64 { lower: 10 * i, upper: 10 * i + 3 }).collect();
+    let list: Vec<PairI64> = (0..20_000).map(|i| PairI64 { lower: 10 * i, upper: 10 * i + 3 }).collect();
     let mut found = list[0];
     assert_eq!(lookup::first_fit(Global, &list, 4, &mut found), 1);
     assert_eq!((found.lower, found.upper), (0, 3));
     assert_eq!(lookup::first_fit(Global, &list, 5, &mut found), 0);
-    assert_eq!(lookup::first_fit(Global, &[] as &[RunI64], 1, &mut found), 0);
+    assert_eq!(lookup::first_fit(Global, &[] as &[PairI64], 1, &mut found), 0);
 }

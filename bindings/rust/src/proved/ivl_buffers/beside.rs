@@ -4,7 +4,7 @@
 
 #[allow(unused_imports)]
 use crate::rattle::prelude::*;
-use crate::proved::ivl_buffers::run::Run;
+use crate::proved::ivl_buffers::pair::Pair;
 use crate::proved::ivl_buffers::sorted_lookup::{pair_at, search};
 
 /// Writes a member that is at most `v`, and the greatest one if the list is sorted. Returns whether
@@ -20,7 +20,7 @@ use crate::proved::ivl_buffers::sorted_lookup::{pair_at, search};
 /// ```
 ///
 /// Words: [`AtMost`](crate::definitions#AtMost), [`Covers`](crate::definitions#Covers), [`IsInOrder`](crate::definitions#IsInOrder), [`AnswersPrevious`](crate::definitions#AnswersPrevious).
-pub fn previous_to<R: Run>(runs: &[R], v: R::Bound, found: &mut R::Bound) -> bool {
+pub fn previous_to<R: Pair>(runs: &[R], v: R::Bound, found: &mut R::Bound) -> bool {
     match greatest_to(runs, v) {
         Some(greatest) => {
             *found = greatest;
@@ -31,7 +31,7 @@ pub fn previous_to<R: Run>(runs: &[R], v: R::Bound, found: &mut R::Bound) -> boo
 }
 
 /// A member that is at most `v`, and the greatest one if the list is sorted.
-fn greatest_to<R: Run>(runs: &[R], v: R::Bound) -> Option<R::Bound> {
+fn greatest_to<R: Pair>(runs: &[R], v: R::Bound) -> Option<R::Bound> {
     let (place, is_in) = search(runs, v);
     if is_in {
         return Some(v);
@@ -43,7 +43,7 @@ fn greatest_to<R: Run>(runs: &[R], v: R::Bound) -> Option<R::Bound> {
 }
 
 /// The greatest number of a pair that is at most `v`.
-fn greatest_in<R: Run>(run: R, v: R::Bound) -> Option<R::Bound> {
+fn greatest_in<R: Pair>(run: R, v: R::Bound) -> Option<R::Bound> {
     let upper = run.upper();
     let end = if v < upper { v } else { upper };
     if run.lower() <= end { Some(end) } else { None }
@@ -64,7 +64,7 @@ fn greatest_in<R: Run>(run: R, v: R::Bound) -> Option<R::Bound> {
 /// ```
 ///
 /// Words: [`IsBetween`](crate::definitions#IsBetween), [`IsSubset`](crate::definitions#IsSubset), [`Covers`](crate::definitions#Covers), [`IsInOrder`](crate::definitions#IsInOrder), [`IsMaximal`](crate::definitions#IsMaximal), [`AnswersRun`](crate::definitions#AnswersRun).
-pub fn run_at<R: Run>(runs: &[R], v: R::Bound, found: &mut R) -> bool {
+pub fn run_at<R: Pair>(runs: &[R], v: R::Bound, found: &mut R) -> bool {
     match pair_with(runs, v) {
         Some(run) => {
             *found = run;
@@ -75,7 +75,7 @@ pub fn run_at<R: Run>(runs: &[R], v: R::Bound, found: &mut R) -> bool {
 }
 
 /// A pair of the list that has `v`, and the run that holds it if the list is one of runs.
-fn pair_with<R: Run>(runs: &[R], v: R::Bound) -> Option<R> {
+fn pair_with<R: Pair>(runs: &[R], v: R::Bound) -> Option<R> {
     let (place, is_in) = search(runs, v);
     if is_in { pair_at(runs, place) } else { None }
 }

@@ -4,8 +4,8 @@
 #[allow(unused_imports)]
 use crate::rattle::prelude::*;
 use crate::proved::ivl_buffers::merging::{difference, intersection};
+use crate::proved::ivl_buffers::pair::Pair;
 use crate::proved::ivl_buffers::reading::{are_inside, set_of};
-use crate::proved::ivl_buffers::run::Run;
 use crate::proved::ivl_buffers::run_lists::can_walk_both;
 use crate::proved::ivl_buffers::writing::{OUT_OF_MEMORY, OUT_OF_RANGE};
 use crate::proved::intervallum::ops::{Cardinality, Overlap, Subset};
@@ -33,7 +33,7 @@ pub enum Asking {
 /// ```
 ///
 /// Words: [`AnswersQuestion`](crate::definitions#AnswersQuestion), [`Union`](crate::definitions#Union), [`Covers`](crate::definitions#Covers), [`HoldsOf`](crate::definitions#HoldsOf).
-pub fn ask<R: Run>(alloc: Global, asking: Asking, a: &[R], b: &[R]) -> i64 {
+pub fn ask<R: Pair>(alloc: Global, asking: Asking, a: &[R], b: &[R]) -> i64 {
     if can_walk_both(a, b) {
         return if holds(asking, a, b) { 1 } else { 0 };
     }
@@ -48,7 +48,7 @@ pub fn ask<R: Run>(alloc: Global, asking: Asking, a: &[R], b: &[R]) -> i64 {
 }
 
 /// What is asked of two lists of runs.
-fn holds<R: Run>(asking: Asking, a: &[R], b: &[R]) -> bool {
+fn holds<R: Pair>(asking: Asking, a: &[R], b: &[R]) -> bool {
     match asking {
         Asking::Within => is_within(a, b),
         Asking::Meets => meets(a, b),
@@ -57,16 +57,16 @@ fn holds<R: Run>(asking: Asking, a: &[R], b: &[R]) -> bool {
 }
 
 /// True exactly when the difference of two lists of runs, which is only counted, has no run.
-fn is_within<R: Run>(a: &[R], b: &[R]) -> bool {
+fn is_within<R: Pair>(a: &[R], b: &[R]) -> bool {
     difference(a, b, &mut []) == 0
 }
 
 /// True exactly when the intersection of two lists of runs, which is only counted, has a run.
-fn meets<R: Run>(a: &[R], b: &[R]) -> bool {
+fn meets<R: Pair>(a: &[R], b: &[R]) -> bool {
     intersection(a, b, &mut []) > 0
 }
 
-fn asked<R: Run>(alloc: Global, asking: Asking, a: &[R], b: &[R]) -> Result<bool, AllocError> {
+fn asked<R: Pair>(alloc: Global, asking: Asking, a: &[R], b: &[R]) -> Result<bool, AllocError> {
     let left = set_of(alloc, a)?;
     let right = set_of(alloc, b)?;
     Ok(match asking {
@@ -86,7 +86,7 @@ fn asked<R: Run>(alloc: Global, asking: Asking, a: &[R], b: &[R]) -> Result<bool
 /// ```
 ///
 /// Words: [`AnswersSize`](crate::definitions#AnswersSize), [`Covers`](crate::definitions#Covers).
-pub fn count<R: Run>(alloc: Global, a: &[R], size: &mut <R::Bound as Width>::Output) -> i64 {
+pub fn count<R: Pair>(alloc: Global, a: &[R], size: &mut <R::Bound as Width>::Output) -> i64 {
     if !are_inside(a) {
         return OUT_OF_RANGE;
     }

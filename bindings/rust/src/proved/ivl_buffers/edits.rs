@@ -3,8 +3,8 @@
 
 #[allow(unused_imports)]
 use crate::rattle::prelude::*;
+use crate::proved::ivl_buffers::pair::Pair;
 use crate::proved::ivl_buffers::reading::{are_inside, interval_of, is_inside, set_of};
-use crate::proved::ivl_buffers::run::Run;
 use crate::proved::ivl_buffers::writing::{OUT_OF_RANGE, tell};
 use crate::proved::intervallum::interval_set::IntervalSet;
 use crate::rattle::std::alloc::{AllocError, Global};
@@ -18,7 +18,7 @@ pub enum Editing {
     Remove,
 }
 
-/// Adds or removes a run. The list is the first `n` pairs of the buffer, and what is made of it is
+/// AddsAtEnd or removes a run. The list is the first `n` pairs of the buffer, and what is made of it is
 /// written to the same buffer. Returns the number of runs or an error code.
 ///
 /// # Proved
@@ -30,7 +30,7 @@ pub enum Editing {
 /// ```
 ///
 /// Words: [`AnswersSet`](crate::definitions#AnswersSet), [`Union`](crate::definitions#Union), [`Covers`](crate::definitions#Covers), [`IsBetween`](crate::definitions#IsBetween), [`EditedBy`](crate::definitions#EditedBy).
-pub fn edit<R: Run>(alloc: Global, editing: Editing, buffer: &mut [R], n: usize, run: R) -> i64 {
+pub fn edit<R: Pair>(alloc: Global, editing: Editing, buffer: &mut [R], n: usize, run: R) -> i64 {
     let list = first_of(buffer, n);
     if !are_inside(list) || !is_inside(run) {
         return OUT_OF_RANGE;
@@ -40,7 +40,7 @@ pub fn edit<R: Run>(alloc: Global, editing: Editing, buffer: &mut [R], n: usize,
 }
 
 /// The first `n` pairs, or all if there are no more.
-fn first_of<R: Run>(buffer: &[R], n: usize) -> &[R] {
+fn first_of<R: Pair>(buffer: &[R], n: usize) -> &[R] {
     if n < buffer.len() {
         &buffer[..n]
     } else {
@@ -49,7 +49,7 @@ fn first_of<R: Run>(buffer: &[R], n: usize) -> &[R] {
 }
 
 /// The set of the list with the numbers of the run, or without them.
-fn edited<R: Run>(
+fn edited<R: Pair>(
     alloc: Global,
     editing: Editing,
     list: &[R],
@@ -62,13 +62,16 @@ fn edited<R: Run>(
     }
 }
 
-fn inserted<R: Run>(set: IntervalSet<R::Bound>, run: R) -> Result<IntervalSet<R::Bound>, AllocError> {
+fn inserted<R: Pair>(
+    set: IntervalSet<R::Bound>,
+    run: R,
+) -> Result<IntervalSet<R::Bound>, AllocError> {
     let mut set = set;
     set.insert_interval(interval_of(run))?;
     Ok(set)
 }
 
-fn removed<R: Run>(set: IntervalSet<R::Bound>, run: R) -> Result<IntervalSet<R::Bound>, AllocError> {
+fn removed<R: Pair>(set: IntervalSet<R::Bound>, run: R) -> Result<IntervalSet<R::Bound>, AllocError> {
     let mut set = set;
     set.remove_interval(interval_of(run))?;
     Ok(set)

@@ -3,8 +3,8 @@
 
 #[allow(unused_imports)]
 use crate::rattle::prelude::*;
+use crate::proved::ivl_buffers::pair::Pair;
 use crate::proved::ivl_buffers::reading::{are_inside, set_of};
-use crate::proved::ivl_buffers::run::Run;
 use crate::proved::ivl_buffers::writing::{OUT_OF_MEMORY, OUT_OF_RANGE};
 use crate::proved::intervallum::interval::Interval;
 use crate::proved::intervallum::ops::Bounded;
@@ -21,7 +21,7 @@ use crate::rattle::std::alloc::{AllocError, Global};
 /// ```
 ///
 /// Words: [`AnswersNext`](crate::definitions#AnswersNext), [`Covers`](crate::definitions#Covers).
-pub fn next_from<R: Run>(runs: &[R], v: R::Bound, found: &mut R::Bound) -> bool {
+pub fn next_from<R: Pair>(runs: &[R], v: R::Bound, found: &mut R::Bound) -> bool {
     match least_from(runs, v) {
         Some(least) => {
             *found = least;
@@ -32,7 +32,7 @@ pub fn next_from<R: Run>(runs: &[R], v: R::Bound, found: &mut R::Bound) -> bool 
 }
 
 /// The least number in some pair of the list that is at least `v`.
-fn least_from<R: Run>(runs: &[R], v: R::Bound) -> Option<R::Bound> {
+fn least_from<R: Pair>(runs: &[R], v: R::Bound) -> Option<R::Bound> {
     let mut least = None;
     for run in runs {
         least = lesser(least, least_in(*run, v));
@@ -49,7 +49,7 @@ fn least_from<R: Run>(runs: &[R], v: R::Bound) -> Option<R::Bound> {
 /// ```
 ///
 /// Words: [`IsNextIn`](crate::definitions#IsNextIn), [`IsBetween`](crate::definitions#IsBetween).
-pub fn least_in<R: Run>(run: R, v: R::Bound) -> Option<R::Bound> {
+pub fn least_in<R: Pair>(run: R, v: R::Bound) -> Option<R::Bound> {
     let lower = run.lower();
     let start = if lower < v { v } else { lower };
     if start <= run.upper() {
@@ -78,7 +78,7 @@ fn lesser<B: Width>(a: Option<B>, b: Option<B>) -> Option<B> {
 /// ```
 ///
 /// Words: [`AnswersFit`](crate::definitions#AnswersFit), [`Covers`](crate::definitions#Covers).
-pub fn first_fit<R: Run>(
+pub fn first_fit<R: Pair>(
     alloc: Global,
     a: &[R],
     count: <R::Bound as Width>::Output,
@@ -89,7 +89,9 @@ pub fn first_fit<R: Run>(
     }
     match lowest_fit(alloc, a, count) {
         Ok(Some(run)) => {
-            *found = R::of(run.lower(), run.upper());
+            // for the prover: its bounds are in the range
+            run.in_whole();
+            *found = R::of(Bounded::lower(&run), Bounded::upper(&run));
             1
         }
         Ok(None) => 0,
@@ -98,7 +100,7 @@ pub fn first_fit<R: Run>(
 }
 
 /// The lowest `count` consecutive members; `None` if there are none or `count` is 0.
-fn lowest_fit<R: Run>(
+fn lowest_fit<R: Pair>(
     alloc: Global,
     a: &[R],
     count: <R::Bound as Width>::Output,

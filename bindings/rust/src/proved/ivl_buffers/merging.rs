@@ -3,23 +3,15 @@
 //!
 //! A walk writes the runs of its answer to the first places of the buffer, as many as there are
 //! places, and returns the number of all of them. It is linear in the runs of both lists, and does
-//! not allocate. In the loops of `union` and `intersection` no branch hangs on the values: what a
-//! comparison tells is added to a place as 0 or 1, or chooses by a conditional move. The loop of
-//! `symmetric_difference` has one such branch at most, in `put_if`. No caller takes in a walk over two
-//! lists, so that its loop has all registers to itself.
+//! not allocate.
 
 #[allow(unused_imports)]
 use crate::rattle::prelude::*;
-use crate::proved::ivl_buffers::run::Run;
-use crate::proved::ivl_buffers::run_lists::{leaves_free, one_if};
-use crate::proved::ivl_buffers::sorted_lookup::pair_at;
-use crate::proved::intervallum::interval::Interval;
-use crate::proved::intervallum::ops::Whole;
-use crate::proved::intervallum::width::Width;
-use crate::rattle::std::hint::select_unpredictable;
+use crate::proved::ivl_buffers::pair::Pair;
+use crate::proved::ivl_merges::merges;
+use crate::proved::ivl_merges::sink::Places;
 
 /// Writes the members of both run lists.
-#[inline(never)]
 ///
 /// # Proved
 ///
@@ -33,28 +25,14 @@ use crate::rattle::std::hint::select_unpredictable;
 /// ```
 ///
 /// Words: [`IsRunListIn`](crate::definitions#IsRunListIn), [`IsLaid`](crate::definitions#IsLaid), [`Intersection`](crate::definitions#Intersection), [`Covers`](crate::definitions#Covers).
-pub fn intersection<R: Run>(a: &[R], b: &[R], out: &mut [R]) -> usize {
+pub fn intersection<R: Pair>(a: &[R], b: &[R], out: &mut [R]) -> usize {
     debug_assert!({ #[allow(unused_imports)] use crate::proved::ivl_interval::ops::*; crate::proved::ivl_buffers::run_lists::is_run_list(a) && crate::proved::ivl_buffers::run_lists::is_run_list(b) }, "{}", "the condition of `intersection` is broken: crate::proved::ivl_buffers::run_lists::is_run_list(a) && crate::proved::ivl_buffers::run_lists::is_run_list(b)");
-    let mut count = 0;
-    let mut i = 0;
-    let mut j = 0;
-    let mut heads = pair_at(a, 0).zip(pair_at(b, 0));
-    let mut last = first_or_any(out);
-    'walk: while let Some(runs) = heads {
-        let (run, other) = runs;
-        let start = run.lower().max(other.lower());
-        let end = run.upper().min(other.upper());
-        count = lay_or_repeat(out, count, &mut last, R::of(start, end));
-        let ends_first = run.upper() <= other.upper();
-        heads = next_heads(a, i, b, j, runs, ends_first);
-        i += usize::from(ends_first);
-        j += usize::from(!ends_first);
-    }
-    count
+    let mut made = Places::new(out);
+    merges::intersection(a, b, &mut made);
+    made.count()
 }
 
 /// Writes the members of the first run list that are not in the second.
-#[inline(never)]
 ///
 /// # Proved
 ///
@@ -68,31 +46,11 @@ pub fn intersection<R: Run>(a: &[R], b: &[R], out: &mut [R]) -> usize {
 /// ```
 ///
 /// Words: [`IsRunListIn`](crate::definitions#IsRunListIn), [`IsLaid`](crate::definitions#IsLaid), [`Without`](crate::definitions#Without), [`Covers`](crate::definitions#Covers).
-pub fn difference<R: Run>(a: &[R], b: &[R], out: &mut [R]) -> usize {
+pub fn difference<R: Pair>(a: &[R], b: &[R], out: &mut [R]) -> usize {
     debug_assert!({ #[allow(unused_imports)] use crate::proved::ivl_interval::ops::*; crate::proved::ivl_buffers::run_lists::is_run_list(a) && crate::proved::ivl_buffers::run_lists::is_run_list(b) }, "{}", "the condition of `difference` is broken: crate::proved::ivl_buffers::run_lists::is_run_list(a) && crate::proved::ivl_buffers::run_lists::is_run_list(b)");
-    let mut count = 0;
-    let mut i = 0;
-    let mut j = 0;
-    let mut held = pair_at(a, 0);
-    'walk: while let Some(run) = held {
-        if j < b.len() {
-            let other = b[j];
-            count = lay_below(out, count, run, other);
-            if other.upper() < run.upper() {
-                held = Some(above(run, other));
-                j += 1;
-            } else {
-                i += 1;
-                held = pair_at(a, i);
-            }
-        } else {
-            put(out, count, run);
-            count += 1;
-            i += 1;
-            held = pair_at(a, i);
-        }
-    }
-    count
+    let mut made = Places::new(out);
+    merges::difference(a, b, &mut made);
+    made.count()
 }
 
 /// Writes the numbers of the range that are in no run of the list.
@@ -107,23 +65,14 @@ pub fn difference<R: Run>(a: &[R], b: &[R], out: &mut [R]) -> usize {
 /// ```
 ///
 /// Words: [`IsRunListIn`](crate::definitions#IsRunListIn), [`IsLaid`](crate::definitions#IsLaid), [`Complement`](crate::definitions#Complement), [`Covers`](crate::definitions#Covers).
-pub fn complement<R: Run>(runs: &[R], out: &mut [R]) -> usize {
+pub fn complement<R: Pair>(runs: &[R], out: &mut [R]) -> usize {
     debug_assert!({ #[allow(unused_imports)] use crate::proved::ivl_interval::ops::*; crate::proved::ivl_buffers::run_lists::is_run_list(runs) }, "{}", "the condition of `complement` is broken: crate::proved::ivl_buffers::run_lists::is_run_list(runs)");
-    let whole = Interval::<R::Bound>::whole();
-    let mut left = R::of(whole.lower_bound(), whole.upper_bound());
-    let mut count = 0;
-    for run in runs {
-        count = lay_below(out, count, left, *run);
-        if left.upper() <= run.upper() {
-            return count;
-        }
-        left = above(left, *run);
-    }
-    lay(out, count, left)
+    let mut made = Places::new(out);
+    merges::complement(runs, &mut made);
+    made.count()
 }
 
 /// Writes the members of either run list.
-#[inline(never)]
 ///
 /// # Proved
 ///
@@ -137,28 +86,14 @@ pub fn complement<R: Run>(runs: &[R], out: &mut [R]) -> usize {
 /// ```
 ///
 /// Words: [`IsRunListIn`](crate::definitions#IsRunListIn), [`IsLaid`](crate::definitions#IsLaid), [`Union`](crate::definitions#Union), [`Covers`](crate::definitions#Covers).
-pub fn union<R: Run>(a: &[R], b: &[R], out: &mut [R]) -> usize {
+pub fn union<R: Pair>(a: &[R], b: &[R], out: &mut [R]) -> usize {
     debug_assert!({ #[allow(unused_imports)] use crate::proved::ivl_interval::ops::*; crate::proved::ivl_buffers::run_lists::is_run_list(a) && crate::proved::ivl_buffers::run_lists::is_run_list(b) }, "{}", "the condition of `union` is broken: crate::proved::ivl_buffers::run_lists::is_run_list(a) && crate::proved::ivl_buffers::run_lists::is_run_list(b)");
-    let mut count = 0;
-    let mut i = 0;
-    let mut j = 0;
-    let Some(mut held) = take_first(a, &mut i, b, &mut j) else {
-        return 0;
-    };
-    'walk: while let Some(run) = take_first(a, &mut i, b, &mut j) {
-        let is_gap = leaves_free(held, run);
-        // written over by the next step unless a gap follows, and for good at the end
-        put(out, count, held);
-        count += usize::from(is_gap);
-        let lower = select_unpredictable(is_gap, run.lower(), held.lower());
-        held = R::of(lower, held.upper().max(run.upper()));
-    }
-    put(out, count, held);
-    count + 1
+    let mut made = Places::new(out);
+    merges::union(a, b, &mut made);
+    made.count()
 }
 
 /// Writes the members of exactly one of the two run lists.
-#[inline(never)]
 ///
 /// # Proved
 ///
@@ -172,159 +107,9 @@ pub fn union<R: Run>(a: &[R], b: &[R], out: &mut [R]) -> usize {
 /// ```
 ///
 /// Words: [`IsRunListIn`](crate::definitions#IsRunListIn), [`IsLaid`](crate::definitions#IsLaid), [`SymmetricDifference`](crate::definitions#SymmetricDifference), [`Covers`](crate::definitions#Covers).
-pub fn symmetric_difference<R: Run>(a: &[R], b: &[R], out: &mut [R]) -> usize {
+pub fn symmetric_difference<R: Pair>(a: &[R], b: &[R], out: &mut [R]) -> usize {
     debug_assert!({ #[allow(unused_imports)] use crate::proved::ivl_interval::ops::*; crate::proved::ivl_buffers::run_lists::is_run_list(a) && crate::proved::ivl_buffers::run_lists::is_run_list(b) }, "{}", "the condition of `symmetric_difference` is broken: crate::proved::ivl_buffers::run_lists::is_run_list(a) && crate::proved::ivl_buffers::run_lists::is_run_list(b)");
-    let (mut i, mut j, mut count) = (0, 0, 0);
-    // all below it is done
-    let mut from = R::Bound::min_value();
-    // where the last run starts, and whether the next one goes on with it
-    let mut start = from;
-    let mut is_joined = false;
-    'walk: while i < a.len() && j < b.len() {
-        let (run, other) = (a[i], b[j]);
-        let (u, v) = (run.upper(), other.upper());
-        let x = run.lower().max(from);
-        let y = other.lower().max(from);
-        let upper = select_unpredictable(x <= y, u, v);
-        let next = x.max(y);
-        let is_filled = x != y;
-        start = select_unpredictable(is_joined, start, x.min(y));
-        let end = upper.min(next.sub_in_range(one_if(is_filled)));
-        count -= usize::from(is_joined);
-        put_if(out, count, R::of(start, end), is_filled);
-        count += usize::from(is_filled);
-        let is_left = u != v;
-        i += usize::from(u <= v);
-        j += usize::from(v <= u);
-        from = u.min(v).add_in_range(one_if(is_left));
-        is_joined = is_left & (next == from);
-    }
-    let Some((head, more)) = left_of(a, i, b, j).split_first() else {
-        return count;
-    };
-    let lower = select_unpredictable(is_joined, start, head.lower().max(from));
-    count -= usize::from(is_joined);
-    put(out, count, R::of(lower, head.upper()));
-    append(out, count + 1, more)
-}
-
-/// The pairs that are left of one of two lists, of which the other has none left.
-fn left_of<'a, R: Run>(a: &'a [R], i: usize, b: &'a [R], j: usize) -> &'a [R] {
-    if i < a.len() { &a[i..] } else { &b[j..] }
-}
-
-/// Writes pairs from a place of the buffer on, as many as there are places. Returns the place after
-/// them.
-fn append<R: Run>(out: &mut [R], place: usize, runs: &[R]) -> usize {
-    let mut end = place;
-    for run in runs {
-        put(out, end, *run);
-        end += 1;
-    }
-    end
-}
-
-/// Takes the pair that starts first of those at two places, if there is one, and advances its
-/// place.
-fn take_first<R: Run>(a: &[R], i: &mut usize, b: &[R], j: &mut usize) -> Option<R> {
-    match (pair_at(a, *i), pair_at(b, *j)) {
-        (Some(run), Some(other)) => {
-            let is_first = run.lower() <= other.lower();
-            *i += usize::from(is_first);
-            *j += usize::from(!is_first);
-            Some(select_unpredictable(is_first, run, other))
-        }
-        (Some(run), None) => {
-            *i += 1;
-            Some(run)
-        }
-        (None, Some(other)) => {
-            *j += 1;
-            Some(other)
-        }
-        (None, None) => None,
-    }
-}
-
-/// The pairs at two places of two lists, once one of the places has advanced, from those that stand
-/// there before: both next pairs are read before it is known which place advances.
-fn next_heads<R: Run>(
-    a: &[R],
-    i: usize,
-    b: &[R],
-    j: usize,
-    heads: (R, R),
-    ends_first: bool,
-) -> Option<(R, R)> {
-    let (run, other) = heads;
-    if i + 1 < a.len() && j + 1 < b.len() {
-        let next = select_unpredictable(ends_first, a[i + 1], run);
-        let more = select_unpredictable(ends_first, other, b[j + 1]);
-        return Some((next, more));
-    }
-    pair_at(a, i + usize::from(ends_first)).zip(pair_at(b, j + usize::from(!ends_first)))
-}
-
-/// The part of a run above another one that ends below its end.
-fn above<R: Run>(run: R, other: R) -> R {
-    let next = other.upper().add_in_range(R::Bound::one());
-    R::of(run.lower().max(next), run.upper())
-}
-
-/// Writes the part of a run below the start of another one, if there is any. Returns the new number
-/// of runs.
-fn lay_below<R: Run>(out: &mut [R], count: usize, run: R, other: R) -> usize {
-    let (start, next) = (run.lower(), other.lower());
-    if next <= start {
-        return count;
-    }
-    let end = run.upper().min(next.sub_in_range(R::Bound::one()));
-    put(out, count, R::of(start, end));
-    count + 1
-}
-
-/// Writes a pair unless it is crossed. Returns the new number of runs.
-fn lay<R: Run>(out: &mut [R], count: usize, run: R) -> usize {
-    if run.upper() < run.lower() {
-        return count;
-    }
-    put(out, count, run);
-    count + 1
-}
-
-/// The pair at the first place of the buffer, or any pair if it has no place.
-fn first_or_any<R: Run>(out: &[R]) -> R {
-    if out.is_empty() {
-        let any = R::Bound::min_value();
-        return R::of(any, any);
-    }
-    out[0]
-}
-
-/// Writes a pair, or the last one once more where it stands if the pair is crossed: so each step of
-/// a loop writes, and none reads the buffer, which would wait for what the step before has written.
-/// Before the first run the last one is what stands at the first place. Returns the new number of
-/// runs.
-fn lay_or_repeat<R: Run>(out: &mut [R], count: usize, last: &mut R, run: R) -> usize {
-    let is_filled = run.lower() <= run.upper();
-    *last = select_unpredictable(is_filled, run, *last);
-    let told = count + usize::from(is_filled);
-    put(out, told.saturating_sub(1), *last);
-    told
-}
-
-/// Writes a pair at a place of the buffer, if a condition holds and there is such a place. A compiler
-/// may choose by a jump, since what stands there is read: this serves where the condition nearly
-/// always holds.
-fn put_if<R: Run>(out: &mut [R], place: usize, run: R, condition: bool) {
-    if place < out.len() {
-        out[place] = select_unpredictable(condition, run, out[place]);
-    }
-}
-
-/// Writes a pair at a place of the buffer, if there is such a place.
-fn put<R: Run>(out: &mut [R], place: usize, run: R) {
-    if place < out.len() {
-        out[place] = run;
-    }
+    let mut made = Places::new(out);
+    merges::symmetric_difference(a, b, &mut made);
+    made.count()
 }

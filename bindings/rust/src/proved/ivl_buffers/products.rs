@@ -3,8 +3,8 @@
 
 #[allow(unused_imports)]
 use crate::rattle::prelude::*;
+use crate::proved::ivl_buffers::pair::Pair;
 use crate::proved::ivl_buffers::reading::{are_inside, set_of};
-use crate::proved::ivl_buffers::run::Run;
 use crate::proved::ivl_buffers::writing::{OUT_OF_MEMORY, OUT_OF_RANGE, PRODUCT_OUT_OF_RANGE, tell};
 use crate::proved::intervallum::interval_set::IntervalSet;
 use crate::proved::intervallum::ops::Fits;
@@ -20,7 +20,7 @@ use crate::rattle::std::alloc::{AllocError, Global};
 /// ```
 ///
 /// Words: [`AnswersProducts`](crate::definitions#AnswersProducts), [`Covers`](crate::definitions#Covers).
-pub fn products<R: Run>(alloc: Global, a: &[R], b: &[R], out: &mut [R]) -> i64 {
+pub fn products<R: Pair>(alloc: Global, a: &[R], b: &[R], out: &mut [R]) -> i64 {
     if !are_inside(a) || !are_inside(b) {
         return OUT_OF_RANGE;
     }
@@ -32,7 +32,7 @@ pub fn products<R: Run>(alloc: Global, a: &[R], b: &[R], out: &mut [R]) -> i64 {
 }
 
 /// The set of the products; `None` if some product is outside the range.
-fn multiplied<R: Run>(
+fn multiplied<R: Pair>(
     alloc: Global,
     a: &[R],
     b: &[R],

@@ -3,8 +3,8 @@
 
 #[allow(unused_imports)]
 use crate::rattle::prelude::*;
+use crate::proved::ivl_buffers::pair::Pair;
 use crate::proved::ivl_buffers::reading::{are_inside, set_of};
-use crate::proved::ivl_buffers::run::Run;
 use crate::proved::ivl_buffers::writing::{OUT_OF_MEMORY, OUT_OF_RANGE};
 use crate::proved::intervallum::width::Width;
 use crate::rattle::std::alloc::{AllocError, Global};
@@ -19,7 +19,7 @@ use crate::rattle::std::alloc::{AllocError, Global};
 /// ```
 ///
 /// Words: [`AnswersRank`](crate::definitions#AnswersRank), [`Covers`](crate::definitions#Covers).
-pub fn rank<R: Run>(
+pub fn rank<R: Pair>(
     alloc: Global,
     a: &[R],
     v: R::Bound,
@@ -38,7 +38,7 @@ pub fn rank<R: Run>(
 }
 
 /// The number of members below `v`.
-fn rank_of<R: Run>(
+fn rank_of<R: Pair>(
     alloc: Global,
     a: &[R],
     v: R::Bound,
@@ -58,7 +58,7 @@ fn rank_of<R: Run>(
 /// ```
 ///
 /// Words: [`AnswersNth`](crate::definitions#AnswersNth), [`Covers`](crate::definitions#Covers).
-pub fn nth<R: Run>(
+pub fn nth<R: Pair>(
     alloc: Global,
     a: &[R],
     i: <R::Bound as Width>::Output,
@@ -78,7 +78,7 @@ pub fn nth<R: Run>(
 }
 
 /// The member with exactly `i` members below it.
-fn member_at<R: Run>(
+fn member_at<R: Pair>(
     alloc: Global,
     a: &[R],
     i: <R::Bound as Width>::Output,

@@ -3,7 +3,7 @@
 
 #[allow(unused_imports)]
 use crate::rattle::prelude::*;
-use crate::proved::ivl_buffers::run::Run;
+use crate::proved::ivl_buffers::pair::Pair;
 use crate::proved::intervallum::interval::Interval;
 use crate::proved::intervallum::interval_set::IntervalSet;
 use crate::proved::intervallum::ops::Range;
@@ -20,7 +20,7 @@ use crate::rattle::std::alloc::{AllocError, Global};
 /// ```
 ///
 /// Words: [`IsSubset`](crate::definitions#IsSubset), [`Covers`](crate::definitions#Covers), [`IsBetween`](crate::definitions#IsBetween).
-pub fn are_inside<R: Run>(runs: &[R]) -> bool {
+pub fn are_inside<R: Pair>(runs: &[R]) -> bool {
     for run in runs {
         if !is_inside(*run) {
             return false;
@@ -30,12 +30,12 @@ pub fn are_inside<R: Run>(runs: &[R]) -> bool {
 }
 
 /// True exactly when each member of the pair is in the range.
-pub(crate) fn is_inside<R: Run>(run: R) -> bool {
+pub(crate) fn is_inside<R: Pair>(run: R) -> bool {
     is_crossed(run) || Interval::in_range(run.lower(), run.upper())
 }
 
 /// True exactly when the pair is crossed.
-fn is_crossed<R: Run>(run: R) -> bool {
+fn is_crossed<R: Pair>(run: R) -> bool {
     run.upper() < run.lower()
 }
 
@@ -49,7 +49,7 @@ fn is_crossed<R: Run>(run: R) -> bool {
 /// ```
 ///
 /// Words: [`IsSubset`](crate::definitions#IsSubset), [`Covers`](crate::definitions#Covers), [`IsBetween`](crate::definitions#IsBetween), [`IsRunsOf`](crate::definitions#IsRunsOf).
-pub fn set_of<R: Run>(alloc: Global, runs: &[R]) -> Result<IntervalSet<R::Bound>, AllocError> {
+pub fn set_of<R: Pair>(alloc: Global, runs: &[R]) -> Result<IntervalSet<R::Bound>, AllocError> {
     debug_assert!({ #[allow(unused_imports)] use crate::proved::ivl_interval::ops::*; are_inside(runs) }, "{}", "the condition of `set_of` is broken: are_inside(runs)");
     let mut list = Vec::with_capacity(alloc, runs.len())?;
     for run in runs {
@@ -59,7 +59,7 @@ pub fn set_of<R: Run>(alloc: Global, runs: &[R]) -> Result<IntervalSet<R::Bound>
 }
 
 /// The interval with the members of the pair.
-pub(crate) fn interval_of<R: Run>(run: R) -> Interval<R::Bound> {
+pub(crate) fn interval_of<R: Pair>(run: R) -> Interval<R::Bound> {
     if is_crossed(run) {
         Interval::new(R::Bound::one(), R::Bound::zero())
     } else {
@@ -76,7 +76,7 @@ pub(crate) fn interval_of<R: Run>(run: R) -> Interval<R::Bound> {
 /// ```
 ///
 /// Words: [`Covers`](crate::definitions#Covers).
-pub fn contains<R: Run>(runs: &[R], v: R::Bound) -> bool {
+pub fn contains<R: Pair>(runs: &[R], v: R::Bound) -> bool {
     for run in runs {
         if has(*run, v) {
             return true;
@@ -86,6 +86,6 @@ pub fn contains<R: Run>(runs: &[R], v: R::Bound) -> bool {
 }
 
 /// True exactly when the pair has the number.
-fn has<R: Run>(run: R, v: R::Bound) -> bool {
+fn has<R: Pair>(run: R, v: R::Bound) -> bool {
     run.lower() <= v && v <= run.upper()
 }

@@ -3,11 +3,11 @@
 
 #[allow(unused_imports)]
 use crate::rattle::prelude::*;
-use crate::proved::ivl_buffers::run::Run;
+use crate::proved::ivl_buffers::pair::Pair;
 use crate::proved::intervallum::interval::Interval;
 use crate::proved::intervallum::ops::Range;
 use crate::proved::intervallum::width::Width;
-use crate::rattle::std::hint::select_unpredictable;
+use crate::proved::ivl_merges::merges::one_if;
 
 /// Returns true exactly when no pair is crossed, the pairs ascend with at least one number missing
 /// between neighbours, and all are in the range. `O(n)`, does not allocate.
@@ -19,7 +19,7 @@ use crate::rattle::std::hint::select_unpredictable;
 /// ```
 ///
 /// Words: [`IsRunListIn`](crate::definitions#IsRunListIn).
-pub fn is_run_list<R: Run>(runs: &[R]) -> bool {
+pub fn is_run_list<R: Pair>(runs: &[R]) -> bool {
     has_ends(runs) & are_linked(runs)
 }
 
@@ -27,23 +27,23 @@ pub fn is_run_list<R: Run>(runs: &[R]) -> bool {
 const MOST_RUNS: usize = 1 << 61;
 
 /// Returns true only if the pairs are a list of runs, and their number leaves room to count with.
-pub(crate) fn can_walk<R: Run>(runs: &[R]) -> bool {
+pub(crate) fn can_walk<R: Pair>(runs: &[R]) -> bool {
     runs.len() <= MOST_RUNS && is_run_list(runs)
 }
 
 /// Returns true only if both are lists of runs, and their numbers leave room to count with.
-pub(crate) fn can_walk_both<R: Run>(a: &[R], b: &[R]) -> bool {
+pub(crate) fn can_walk_both<R: Pair>(a: &[R], b: &[R]) -> bool {
     a.len() <= MOST_RUNS && b.len() <= MOST_RUNS && are_run_lists(a, b)
 }
 
 /// True exactly when both are lists of runs.
-fn are_run_lists<R: Run>(a: &[R], b: &[R]) -> bool {
+fn are_run_lists<R: Pair>(a: &[R], b: &[R]) -> bool {
     has_ends(a) & has_ends(b) & are_both_linked(a, b)
 }
 
 /// True exactly when the first pair, if there is one, does not start below the range, and the last
 /// one is a run in the range.
-fn has_ends<R: Run>(runs: &[R]) -> bool {
+fn has_ends<R: Pair>(runs: &[R]) -> bool {
     if runs.is_empty() {
         return true;
     }
@@ -52,7 +52,7 @@ fn has_ends<R: Run>(runs: &[R]) -> bool {
 }
 
 /// True exactly when the pair is not crossed and its bounds are in the range.
-fn is_run<R: Run>(run: R) -> bool {
+fn is_run<R: Pair>(run: R) -> bool {
     run.lower() <= run.upper() && Interval::in_range(run.lower(), run.upper())
 }
 
@@ -60,7 +60,7 @@ fn is_run<R: Run>(run: R) -> bool {
 const FEWEST_IN_PARTS: usize = 64;
 
 /// True exactly when each pair of both lists but their last is linked to the next.
-fn are_both_linked<R: Run>(a: &[R], b: &[R]) -> bool {
+fn are_both_linked<R: Pair>(a: &[R], b: &[R]) -> bool {
     let count = a.len().min(b.len());
     if count < FEWEST_IN_PARTS {
         return are_linked(a) & are_linked(b);
@@ -74,7 +74,7 @@ fn are_both_linked<R: Run>(a: &[R], b: &[R]) -> bool {
 }
 
 /// True exactly when each pair but the last is linked to the next.
-fn are_linked<R: Run>(runs: &[R]) -> bool {
+fn are_linked<R: Pair>(runs: &[R]) -> bool {
     if runs.len() < FEWEST_IN_PARTS {
         return are_linked_in_turn(runs);
     }
@@ -87,14 +87,14 @@ fn are_linked<R: Run>(runs: &[R]) -> bool {
 }
 
 /// The pairs up to the one at a place, and those from it on: it is in both.
-fn split_at_pair<R: Run>(runs: &[R], i: usize) -> (&[R], &[R]) {
+fn split_at_pair<R: Pair>(runs: &[R], i: usize) -> (&[R], &[R]) {
     (&runs[..i + 1], &runs[i..])
 }
 
 /// True exactly when each pair but the last of each of four parts, which are equally long, is linked to
 /// the next. The four are read side by side: so none waits for the memory of another, and no branch
 /// hangs on the values.
-fn four_are_linked<R: Run>(first: &[R], second: &[R], third: &[R], fourth: &[R]) -> bool {
+fn four_are_linked<R: Pair>(first: &[R], second: &[R], third: &[R], fourth: &[R]) -> bool {
     let (more, others, rest) = (
         as_long_as(second, first),
         as_long_as(third, first),
@@ -111,12 +111,12 @@ fn four_are_linked<R: Run>(first: &[R], second: &[R], third: &[R], fourth: &[R])
 }
 
 /// The same pairs, as many as another list has: a compiler that knows it need not test each index.
-fn as_long_as<'a, R: Run>(runs: &'a [R], other: &[R]) -> &'a [R] {
+fn as_long_as<'a, R: Pair>(runs: &'a [R], other: &[R]) -> &'a [R] {
     &runs[..other.len()]
 }
 
 /// As `are_linked`, from the first pair on.
-fn are_linked_in_turn<R: Run>(runs: &[R]) -> bool {
+fn are_linked_in_turn<R: Pair>(runs: &[R]) -> bool {
     if runs.is_empty() {
         return true;
     }
@@ -130,19 +130,19 @@ fn are_linked_in_turn<R: Run>(runs: &[R]) -> bool {
 
 /// True exactly when the pair at a place is linked to the next: whether it is and those after it are
 /// linked decides of those from it on.
-fn is_linked_at<R: Run>(runs: &[R], i: usize) -> bool {
+fn is_linked_at<R: Pair>(runs: &[R], i: usize) -> bool {
     is_linked(runs[i], runs[i + 1])
 }
 
 /// True exactly when a pair is not crossed, and the number above it is in the range and below another
 /// pair.
-fn is_linked<R: Run>(run: R, next: R) -> bool {
+fn is_linked<R: Pair>(run: R, next: R) -> bool {
     let is_open = run.lower() <= run.upper();
     is_open & is_below(run, next)
 }
 
 /// True exactly when the number above a pair is in the range and below another pair.
-fn is_below<R: Run>(run: R, next: R) -> bool {
+fn is_below<R: Pair>(run: R, next: R) -> bool {
     match run.upper().checked_add(R::Bound::one()) {
         Some(above) => above < next.lower(),
         None => false,
@@ -160,13 +160,8 @@ fn is_below<R: Run>(run: R, next: R) -> bool {
 /// ```
 ///
 /// Words: [`IsRunIn`](crate::definitions#IsRunIn).
-pub fn leaves_free<R: Run>(last: R, run: R) -> bool {
+pub fn leaves_free<R: Pair>(last: R, run: R) -> bool {
     debug_assert!({ #[allow(unused_imports)] use crate::proved::ivl_interval::ops::*; is_run_list(&[last]) && is_run_list(&[run]) }, "{}", "the condition of `leaves_free` is broken: is_run_list(&[last]) && is_run_list(&[run])");
     let (end, start) = (last.upper(), run.lower());
     end.add_in_range(one_if(end < start)) < start
-}
-
-/// One if a condition holds, and zero if not.
-pub(crate) fn one_if<B: Width>(condition: bool) -> B {
-    select_unpredictable(condition, B::one(), B::zero())
 }

@@ -4,8 +4,8 @@
 #[allow(unused_imports)]
 use crate::rattle::prelude::*;
 use crate::proved::ivl_buffers::merging::{complement, difference, intersection, symmetric_difference, union};
+use crate::proved::ivl_buffers::pair::Pair;
 use crate::proved::ivl_buffers::reading::{are_inside, set_of};
-use crate::proved::ivl_buffers::run::Run;
 use crate::proved::ivl_buffers::run_lists::{can_walk, can_walk_both};
 use crate::proved::ivl_buffers::writing::{OUT_OF_RANGE, tell};
 use crate::proved::intervallum::interval_set::IntervalSet;
@@ -44,21 +44,21 @@ pub enum OfTwo {
 /// ```
 ///
 /// Words: [`AnswersSet`](crate::definitions#AnswersSet), [`Covers`](crate::definitions#Covers), [`MadeOfOne`](crate::definitions#MadeOfOne).
-pub fn of_one<R: Run>(alloc: Global, making: OfOne, a: &[R], out: &mut [R]) -> i64 {
+pub fn of_one<R: Pair>(alloc: Global, making: OfOne, a: &[R], out: &mut [R]) -> i64 {
     match making {
         OfOne::Same => normalized(alloc, a, out),
         OfOne::Rest => rest(alloc, a, out),
     }
 }
 
-fn normalized<R: Run>(alloc: Global, a: &[R], out: &mut [R]) -> i64 {
+fn normalized<R: Pair>(alloc: Global, a: &[R], out: &mut [R]) -> i64 {
     if !are_inside(a) {
         return OUT_OF_RANGE;
     }
     tell(set_of(alloc, a), out)
 }
 
-fn rest<R: Run>(alloc: Global, a: &[R], out: &mut [R]) -> i64 {
+fn rest<R: Pair>(alloc: Global, a: &[R], out: &mut [R]) -> i64 {
     if can_walk(a) {
         return walk_rest(a, out);
     }
@@ -69,14 +69,14 @@ fn rest<R: Run>(alloc: Global, a: &[R], out: &mut [R]) -> i64 {
 }
 
 /// The complement of the members of a list.
-fn rest_of<R: Run>(alloc: Global, a: &[R]) -> Result<IntervalSet<R::Bound>, AllocError> {
+fn rest_of<R: Pair>(alloc: Global, a: &[R]) -> Result<IntervalSet<R::Bound>, AllocError> {
     let set = set_of(alloc, a)?;
     set.complement()
 }
 
 /// Writes the complement of a run list, and returns its number of runs. If there may be too little
 /// room, counts them first.
-fn walk_rest<R: Run>(a: &[R], out: &mut [R]) -> i64 {
+fn walk_rest<R: Pair>(a: &[R], out: &mut [R]) -> i64 {
     if a.len() < out.len() {
         return complement(a, out) as i64;
     }
@@ -97,7 +97,7 @@ fn walk_rest<R: Run>(a: &[R], out: &mut [R]) -> i64 {
 /// ```
 ///
 /// Words: [`AnswersSet`](crate::definitions#AnswersSet), [`Union`](crate::definitions#Union), [`Covers`](crate::definitions#Covers), [`MadeOfTwo`](crate::definitions#MadeOfTwo).
-pub fn of_two<R: Run>(alloc: Global, making: OfTwo, a: &[R], b: &[R], out: &mut [R]) -> i64 {
+pub fn of_two<R: Pair>(alloc: Global, making: OfTwo, a: &[R], b: &[R], out: &mut [R]) -> i64 {
     if can_walk_both(a, b) {
         return merge(making, a, b, out);
     }
@@ -107,7 +107,7 @@ pub fn of_two<R: Run>(alloc: Global, making: OfTwo, a: &[R], b: &[R], out: &mut 
     tell(made_of_two(alloc, making, a, b), out)
 }
 
-fn made_of_two<R: Run>(
+fn made_of_two<R: Pair>(
     alloc: Global,
     making: OfTwo,
     a: &[R],
@@ -125,7 +125,7 @@ fn made_of_two<R: Run>(
 
 /// Writes what is made of two run lists, and returns its number of runs. If there may be too little
 /// room, counts them first.
-fn merge<R: Run>(making: OfTwo, a: &[R], b: &[R], out: &mut [R]) -> i64 {
+fn merge<R: Pair>(making: OfTwo, a: &[R], b: &[R], out: &mut [R]) -> i64 {
     if a.len() + b.len() <= out.len() {
         return walk(making, a, b, out) as i64;
     }
@@ -138,7 +138,7 @@ fn merge<R: Run>(making: OfTwo, a: &[R], b: &[R], out: &mut [R]) -> i64 {
 
 /// Writes as many runs of what is made of two run lists as there is room for, and returns the
 /// number of all of them.
-fn walk<R: Run>(making: OfTwo, a: &[R], b: &[R], out: &mut [R]) -> usize {
+fn walk<R: Pair>(making: OfTwo, a: &[R], b: &[R], out: &mut [R]) -> usize {
     match making {
         OfTwo::Either => union(a, b, out),
         OfTwo::Both => intersection(a, b, out),

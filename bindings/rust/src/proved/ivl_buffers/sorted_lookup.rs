@@ -4,7 +4,8 @@
 #[allow(unused_imports)]
 use crate::rattle::prelude::*;
 use crate::proved::ivl_buffers::lookup::least_in;
-use crate::proved::ivl_buffers::run::Run;
+use crate::proved::ivl_buffers::pair::Pair;
+pub use crate::proved::ivl_merges::merges::pair_at;
 
 /// Returns true only if some pair of the list has the number, and exactly then if the list is
 /// sorted. `O(log n)`, does not allocate.
@@ -17,7 +18,7 @@ use crate::proved::ivl_buffers::run::Run;
 /// ```
 ///
 /// Words: [`Covers`](crate::definitions#Covers), [`IsInOrder`](crate::definitions#IsInOrder).
-pub fn contains<R: Run>(runs: &[R], v: R::Bound) -> bool {
+pub fn contains<R: Pair>(runs: &[R], v: R::Bound) -> bool {
     let (_, is_in) = search(runs, v);
     is_in
 }
@@ -35,7 +36,7 @@ pub fn contains<R: Run>(runs: &[R], v: R::Bound) -> bool {
 /// ```
 ///
 /// Words: [`AtLeast`](crate::definitions#AtLeast), [`Covers`](crate::definitions#Covers), [`IsInOrder`](crate::definitions#IsInOrder), [`AnswersNext`](crate::definitions#AnswersNext).
-pub fn next_from<R: Run>(runs: &[R], v: R::Bound, found: &mut R::Bound) -> bool {
+pub fn next_from<R: Pair>(runs: &[R], v: R::Bound, found: &mut R::Bound) -> bool {
     match least_from(runs, v) {
         Some(least) => {
             *found = least;
@@ -46,13 +47,13 @@ pub fn next_from<R: Run>(runs: &[R], v: R::Bound, found: &mut R::Bound) -> bool 
 }
 
 /// A member that is at least `v`, and the least one if the list is sorted.
-fn least_from<R: Run>(runs: &[R], v: R::Bound) -> Option<R::Bound> {
+fn least_from<R: Pair>(runs: &[R], v: R::Bound) -> Option<R::Bound> {
     let run = first_from(runs, v)?;
     least_in(run, v)
 }
 
 /// A pair of the list, and the first that ends at `v` or above if the list is sorted.
-fn first_from<R: Run>(runs: &[R], v: R::Bound) -> Option<R> {
+fn first_from<R: Pair>(runs: &[R], v: R::Bound) -> Option<R> {
     let (place, _) = search(runs, v);
     pair_at(runs, place)
 }
@@ -61,7 +62,7 @@ fn first_from<R: Run>(runs: &[R], v: R::Bound) -> Option<R> {
 /// sorted; and whether the pair at that place has `v`. No caller takes it in: where one drops half of
 /// the answer, the loop for the other half gets a jump that hangs on the values.
 #[inline(never)]
-pub(crate) fn search<R: Run>(runs: &[R], v: R::Bound) -> (usize, bool) {
+pub(crate) fn search<R: Pair>(runs: &[R], v: R::Bound) -> (usize, bool) {
     let mut low = 0;
     // how many are left does not depend on what is seen, so the next look need not wait for it; both
     // bounds are read at each, so that no branch chooses the half: a processor would guess it wrong
@@ -80,15 +81,4 @@ pub(crate) fn search<R: Run>(runs: &[R], v: R::Bound) -> (usize, bool) {
         }
     }
     (low, is_in)
-}
-
-/// Returns the pair at a place, if there is one.
-///
-/// # Proved
-///
-/// ```text
-/// ensures { result ≡ slice_get runs.now i }
-/// ```
-pub fn pair_at<R: Run>(runs: &[R], i: usize) -> Option<R> {
-    runs.get(i).copied()
 }

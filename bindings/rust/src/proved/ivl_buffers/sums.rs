@@ -3,8 +3,8 @@
 
 #[allow(unused_imports)]
 use crate::rattle::prelude::*;
+use crate::proved::ivl_buffers::pair::Pair;
 use crate::proved::ivl_buffers::reading::{are_inside, set_of};
-use crate::proved::ivl_buffers::run::Run;
 use crate::proved::ivl_buffers::writing::{OUT_OF_RANGE, tell};
 use crate::proved::intervallum::interval_set::IntervalSet;
 use crate::proved::intervallum::width::Width;
@@ -30,14 +30,14 @@ pub enum Adding {
 /// ```
 ///
 /// Words: [`AnswersSet`](crate::definitions#AnswersSet), [`Union`](crate::definitions#Union), [`Covers`](crate::definitions#Covers), [`AddedBy`](crate::definitions#AddedBy).
-pub fn of_members<R: Run>(alloc: Global, adding: Adding, a: &[R], b: &[R], out: &mut [R]) -> i64 {
+pub fn of_members<R: Pair>(alloc: Global, adding: Adding, a: &[R], b: &[R], out: &mut [R]) -> i64 {
     if !are_inside(a) || !are_inside(b) {
         return OUT_OF_RANGE;
     }
     tell(added(alloc, adding, a, b), out)
 }
 
-fn added<R: Run>(
+fn added<R: Pair>(
     alloc: Global,
     adding: Adding,
     a: &[R],

@@ -3,7 +3,7 @@
 
 #[allow(unused_imports)]
 use crate::rattle::prelude::*;
-use crate::proved::ivl_buffers::run::Run;
+use crate::proved::ivl_buffers::pair::Pair;
 use crate::proved::intervallum::interval_set::IntervalSet;
 use crate::proved::intervallum::ops::{Bounded, IsEmpty};
 use crate::rattle::std::alloc::AllocError;
@@ -28,7 +28,7 @@ pub const PRODUCT_OUT_OF_RANGE: i64 = -3;
 /// ```
 ///
 /// Words: [`Refuses`](crate::definitions#Refuses), [`out_of_memory`](crate::definitions#out_of_memory), [`written`](crate::definitions#written).
-pub fn tell<R: Run>(made: Result<IntervalSet<R::Bound>, AllocError>, out: &mut [R]) -> i64 {
+pub fn tell<R: Pair>(made: Result<IntervalSet<R::Bound>, AllocError>, out: &mut [R]) -> i64 {
     let Ok(set) = made else {
         return OUT_OF_MEMORY;
     };
@@ -42,10 +42,12 @@ pub fn tell<R: Run>(made: Result<IntervalSet<R::Bound>, AllocError>, out: &mut [
 }
 
 /// Writes the runs of a set to the first places of the buffer.
-fn write<R: Run>(set: &IntervalSet<R::Bound>, out: &mut [R]) {
+fn write<R: Pair>(set: &IntervalSet<R::Bound>, out: &mut [R]) {
     let runs = set.runs();
     for i in 0..runs.len() {
         let run = runs[i];
-        out[i] = R::of(run.lower(), run.upper());
+        // for the prover: its bounds are in the range
+        run.in_whole();
+        out[i] = R::of(Bounded::lower(&run), Bounded::upper(&run));
     }
 }

@@ -20,7 +20,7 @@ use crate::rattle::std::hint::select_unpredictable;
 /// repeats: { Self → Type 0 }
 /// ```
 pub trait Sink<R: Pair> {
-    /// Adds a run.
+    /// AddsAtEnd a run.
     ///
     /// # Proved
     ///
@@ -34,7 +34,7 @@ pub trait Sink<R: Pair> {
     /// Words: [`AddsAtEnd`](crate::definitions#AddsAtEnd).
     fn push(&mut self, run: R);
 
-    /// Adds a run, in the place of the last one if a condition holds.
+    /// AddsAtEnd a run, in the place of the last one if a condition holds.
     ///
     /// # Proved
     ///
@@ -49,7 +49,7 @@ pub trait Sink<R: Pair> {
     /// Words: [`AddsOver`](crate::definitions#AddsOver).
     fn push_over(&mut self, is_over: bool, run: R);
 
-    /// Adds a run unless it is crossed.
+    /// AddsAtEnd a run unless it is crossed.
     ///
     /// # Proved
     ///
@@ -157,15 +157,21 @@ impl<'a, R: Pair> Places<'a, R> {
         }
     }
 
-    /// Returns the number of all runs.
+    /// Gives the slice back, and returns the number of all runs.
     ///
     /// # Proved
     ///
     /// ```text
-    /// ensures { result ≡ self.now.count }
+    /// ensures count { result ≡ self.entry.count }
+    /// ensures left { self.exit.0.now ≡ self.entry.out.now }
     /// ```
-    pub fn count(&self) -> usize {
-        self.count
+    pub fn count(self) -> usize {
+        let Places {
+            out: _,
+            count,
+            last: _,
+        } = self;
+        count
     }
 }
 
