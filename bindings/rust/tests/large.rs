@@ -134,7 +134,7 @@ fn networks_of_many_constraints() {
 #[test]
 #[cfg(target_pointer_width = "64")]
 fn a_fit_is_found_or_not_in_a_long_list() {
-    use intervallum::proved::ivl_buffers::{lookup, run::PairI64};
+    use intervallum::proved::ivl_buffers::{lookup, pair::PairI64};
 
     let list: Vec<PairI64> = (0..20_000).map(|i| PairI64 { lower: 10 * i, upper: 10 * i + 3 }).collect();
     let mut found = list[0];

@@ -39,7 +39,8 @@ use crate::rattle::std::alloc::AllocError;
 ///     // x != y, where y is 4
 ///     let mut domains = Vec::from_array(alloc, [ IntervalSet::new(alloc, 0, 9)?, IntervalSet::new(alloc, 4, 4)?])?;
 ///     assert!(narrow(&mut domains, &Rule::Differs { x: 0, y: 1, by: 0 })?);
-///     assert!(domains[0] == IntervalSet::from_entries(alloc, Vec::from_array(alloc, [ Interval::new(0, 3), Interval::new(5, 9)])?)?);
+///     let others = IntervalSet::new(alloc, 0, 3)?.union(&IntervalSet::new(alloc, 5, 9)?)?;
+///     assert!(domains[0] == others);
 ///     assert!(!narrow(&mut domains, &Rule::Differs { x: 0, y: 1, by: 0 })?);
 ///     Ok(())
 /// }
