@@ -126,7 +126,7 @@ fn edits_that_need_no_memory_are_not_refused() {
 /// A question that asks for memory, and whether its answer is right.
 type Question = fn(&Map, &IntervalSet<i64>) -> Result<bool, AllocError>;
 
-const QUESTIONS: [(&str, Question); 9] = [
+const QUESTIONS: [(&str, Question); 10] = [
     ("try_clone", |map, _| Ok(map.try_clone()? == *map)),
     ("keys", |map, _| Ok(map.keys()?.interval_count() == 10)),
     ("numbers_with", |map, _| Ok(map.numbers_with(|value| *value.0 > 4)?.interval_count() == 5)),
@@ -135,6 +135,10 @@ const QUESTIONS: [(&str, Question); 9] = [
     ("cut_to", |map, _| Ok(map.cut_to(Interval::new(3, 16))?.interval_count() == 3)),
     ("restrict_to", |map, set| Ok(map.restrict_to(set)?.interval_count() == 6)),
     ("without", |map, set| Ok(map.without(set)?.interval_count() == 10)),
+    ("merge", |map, _| {
+        let sum = |v: &Boxed, w: &Boxed| Ok(Boxed(ProvedBox::new(Global, *v.0 + *w.0)?));
+        Ok(map.merge(&map.cut_to(Interval::new(3, 16))?, sum)?.interval_count() == 11)
+    }),
     ("of, from_entries", |_, _| {
         let (one, list) =
             (Map::of(Global, Interval::new(1, 5), Boxed(ProvedBox::new(Global, 1)?))?, ProvedVec::new(Global));

@@ -1,12 +1,10 @@
 //! Maps from maps.
 use super::IntervalMap;
-use super::below::{Entry, Held};
-use crate::proved::ops::{Bounded as _, Range as _};
-use crate::proved::{Interval, width::Width};
+use super::below::Held;
+use crate::proved::width::Width;
 use crate::set::conditions::{contract, memory};
-use crate::set::iterators::{after, before};
 use crate::set::{AnySet, Piece};
-use alloc::vec::Vec;
+use core::cell::RefCell;
 
 /// Maps from a map, and from two.
 impl<T: Width, V: Clone + Eq> IntervalMap<T, V> {
@@ -58,60 +56,12 @@ impl<T: Width, V: Clone + Eq> IntervalMap<T, V> {
     /// let sums = a.merge(&b, |x, y| x + y);
     /// assert_eq!(sums.iter().collect::<Vec<_>>(), [(1..=3, &10), (4..=5, &13), (6..=9, &3)]);
     /// ```
-    #[doc = contract!(over IntervalMap "entries")]
+    #[doc = contract!(IntervalMap "merge")]
     #[must_use]
-    pub fn merge(&self, other: &Self, mut both: impl FnMut(&V, &V) -> V) -> Self {
-        let (mut a, mut b) = (Rest::of(self.entries()), Rest::of(other.entries()));
-        let mut merged = Vec::new();
-        while let Some((part, values)) = next_part(&mut a, &mut b) {
-            let value = match values {
-                (Some(v), Some(w)) => both(v, w),
-                (Some(v), None) | (None, Some(v)) => v.clone(),
-                (None, None) => continue,
-            };
-            merged.push((part, Held(value)));
-        }
-        Self::of_list(merged)
+    pub fn merge(&self, other: &Self, both: impl FnMut(&V, &V) -> V) -> Self {
+        // the proved map asks a function that changes nothing
+        let both = RefCell::new(both);
+        let made = |v: &Held<V>, w: &Held<V>| Ok(Held((both.borrow_mut())(&v.0, &w.0)));
+        Self(Some(memory(self.asked(|map| other.asked(|other| map.merge(other, made))))))
     }
-}
-
-/// What is left of the entries of a map: of the first one, the numbers from `lower` on.
-struct Rest<'a, T: Width, V> {
-    entries: &'a [Entry<T, V>],
-    lower: Option<T>,
-}
-
-impl<'a, T: Width, V> Rest<'a, T, V> {
-    fn of(entries: &'a [Entry<T, V>]) -> Self {
-        Self { entries, lower: entries.first().map(|(run, _)| run.lower()) }
-    }
-
-    /// The bounds of what is left of the first entry, and its value.
-    fn first(&self) -> Option<(T, T, &'a V)> {
-        let (run, held) = self.entries.first()?;
-        Some((self.lower?, run.upper(), &held.0))
-    }
-
-    /// Takes the numbers up to one of the first entry.
-    fn take_up_to(&mut self, upper: T) {
-        match self.entries {
-            [(run, _), ..] if upper < run.upper() => self.lower = Some(after(upper)),
-            [_, rest @ ..] => *self = Self::of(rest),
-            [] => {}
-        }
-    }
-}
-
-/// What two maps have at some consecutive numbers.
-type Part<'a, T, V> = (Interval<T>, (Option<&'a V>, Option<&'a V>));
-
-/// Takes the lowest numbers that are left of two maps, as many as have the same values in each.
-fn next_part<'a, T: Width, V>(a: &mut Rest<'a, T, V>, b: &mut Rest<'a, T, V>) -> Option<Part<'a, T, V>> {
-    let firsts = [a.first(), b.first()];
-    let lower = firsts.iter().flatten().map(|first| first.0).min()?;
-    let end = |first: &(T, T, &V)| if first.0 > lower { before(first.0) } else { first.1 };
-    let upper = firsts.iter().flatten().map(end).min()?;
-    let [v, w] = firsts.map(|first| first.filter(|first| first.0 == lower).map(|first| first.2));
-    [(v, a), (w, b)].into_iter().filter(|(value, _)| value.is_some()).for_each(|(_, rest)| rest.take_up_to(upper));
-    Some((Interval::new(lower, upper), (v, w)))
 }

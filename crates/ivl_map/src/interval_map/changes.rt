@@ -1,12 +1,13 @@
 //! Changes that depend on what the map has.
 ghost use Rattle.std.specs.Prelude.{◌≡◌, Ok, IfNone, IfOk, IfSome, OnErr, OnOk};
-ghost use Rattle.std.specs.Fn.{FnReturnsAt};
+ghost use Rattle.std.specs.Fn.{FnReturnsAt, FnReturnsAtPair};
 ghost use Rattle.ivl_laws.specs.Sets.{HasNone, Intersection, IsBetween};
 ghost use Rattle.ivl_map.specs.Entries.{HasAt, HasValue, IsEntriesOf, Written};
-ghost use Rattle.ivl_map.specs.Changes.{IsUpdated};
+ghost use Rattle.ivl_map.specs.Changes.{IsMergeOf, IsUpdated};
 ghost use Rattle.ivl_map.specs.Lookups.{IsFirstRunOf};
 
 use super::IntervalMap;
+use crate::merge::merged;
 use crate::updates::updated;
 use crate::value::MapValue;
 use crate::writes::put_if_free;
@@ -84,5 +85,36 @@ impl<B: Width, V: MapValue> IntervalMap<B, V> {
         let entries = updated(self.allocator(), &self.entries, interval, change)?;
         self.entries = entries;
         Ok(())
+    }
+
+    /// Returns the map of what either of two maps has: a number that has a value in one of them alone
+    /// keeps it, and one that has a value in both gets what `both` returns for the two, that of this map
+    /// first. `both` is called once for each two entries that have a number in common, in ascending order.
+    ///
+    /// `O(n + m)`, if the other map has `m` entries: walks both once, and copies the value of an entry
+    /// for each part of it that the other map has not. Reserves `n + m` entries.
+    ///
+    /// # Errors
+    ///
+    /// Fails only if `both`, an allocation or the copy of a value fails.
+    ///
+    /// ```
+    /// let a = IntervalMap::of(alloc, Interval::new(1i32, 5), 10u32)?;
+    /// let b = IntervalMap::of(alloc, Interval::new(4, 9), 3)?;
+    /// let sums = a.merge(&b, |x, y| Ok(x.saturating_add(*y)))?;
+    /// assert!(rt; sums.get(&3) == Some(&10) && sums.get(&4) == Some(&13) && sums.get(&6) == Some(&3));
+    /// ```
+    pub fn merge<F: Fn(&V, &V) -> Result<V, AllocError>>(
+        &self,
+        other: &Self,
+        both: F,
+    ) -> Result<Self, AllocError>
+        requires { F.IsAlwaysCallable both }
+        ensures { IfOk result (λ M. IsMergeOf V.eq (λ v w x. FnReturnsAtPair F.Fn both v w (Ok x)) self.now other.now M) }
+    {
+        self.in_order();
+        other.in_order();
+        let entries = merged(self.allocator(), &self.entries, &other.entries, both)?;
+        Ok(IntervalMap { entries })
     }
 }
