@@ -22,6 +22,7 @@ use crate::rattle::prelude::*;
 
 mod edits;
 pub mod interval_map;
+mod merge;
 mod search;
 mod updates;
 pub mod value;

@@ -4,6 +4,7 @@
 #[allow(unused_imports)]
 use crate::rattle::prelude::*;
 use super::IntervalMap;
+use crate::proved::ivl_map::merge::merged;
 use crate::proved::ivl_map::updates::updated;
 use crate::proved::ivl_map::value::MapValue;
 use crate::proved::ivl_map::writes::put_if_free;
@@ -105,5 +106,48 @@ impl<B: Width, V: MapValue> IntervalMap<B, V> {
         let entries = updated(self.allocator(), &self.entries, interval, change)?;
         self.entries = entries;
         Ok(())
+    }
+
+    /// Returns the map of what either of two maps has: a number that has a value in one of them alone
+    /// keeps it, and one that has a value in both gets what `both` returns for the two, that of this map
+    /// first. `both` is called once for each two entries that have a number in common, in ascending order.
+    ///
+    /// `O(n + m)`, if the other map has `m` entries: walks both once, and copies the value of an entry
+    /// for each part of it that the other map has not. Reserves `n + m` entries.
+    ///
+    /// # Errors
+    ///
+    /// Fails only if `both`, an allocation or the copy of a value fails.
+    ///
+    /// ```
+    /// use intervallum::proved::examples::*;
+    ///
+    /// fn main() -> Result<(), std::boxed::Box<dyn std::error::Error>> {
+    ///     let alloc = Global;
+    ///     let a = IntervalMap::of(alloc, Interval::new(1i32, 5), 10u32)?;
+    ///     let b = IntervalMap::of(alloc, Interval::new(4, 9), 3)?;
+    ///     let sums = a.merge(&b, |x, y| Ok(x.saturating_add(*y)))?;
+    ///     assert!(sums.get(&3) == Some(&10) && sums.get(&4) == Some(&13) && sums.get(&6) == Some(&3));
+    ///     Ok(())
+    /// }
+    /// ```
+    ///
+    /// # Proved
+    ///
+    /// ```text
+    /// requires { F.IsAlwaysCallable both }
+    /// ensures { IfOk result (λ M. IsMergeOf V.eq (λ v w x. FnReturnsAtPair F.Fn both v w (Ok x)) self.now other.now M) }
+    /// ```
+    ///
+    /// Words: [`IsMergeOf`](crate::definitions#IsMergeOf).
+    pub fn merge<F: Fn(&V, &V) -> Result<V, AllocError>>(
+        &self,
+        other: &Self,
+        both: F,
+    ) -> Result<Self, AllocError> {
+        self.in_order();
+        other.in_order();
+        let entries = merged(self.allocator(), &self.entries, &other.entries, both)?;
+        Ok(IntervalMap { entries })
     }
 }
