@@ -1,4 +1,4 @@
--- Examples of rounds of narrowings, of marks, and of what is left of a set.
+-- Examples of rounds of narrowings, of flags, and of what is left of a set.
 use Rattle.std.proofs.Common.{◌≡◌, ℕ, zero, suc, ◌<◌, inl, refl, arith, List, [], ◌∷◌, true, false}
 use Rattle.std.specs.Prelude.{ℤ, pos, ◌+ℤ◌, ◌-ℤ◌, Some, None, slice_index_or, take}
 use Rattle.std.proofs.lemmas.Bool.{false≢true}
@@ -159,11 +159,11 @@ zeros_lose_none l = apart (l 0 (omega arith))
 
 -- ---- any_lost
 
-no_mark_is_none : any_lost (record { x = false; y = false; z = false }) ≡ false
-no_mark_is_none = refl
+no_flag_is_none : any_lost (record { x = false; y = false; z = false }) ≡ false
+no_flag_is_none = refl
 
-the_first_mark_is_enough : any_lost (record { x = true; y = false; z = false }) ≡ true
-the_first_mark_is_enough = refl
+the_first_flag_is_enough : any_lost (record { x = true; y = false; z = false }) ≡ true
+the_first_flag_is_enough = refl
 
 -- ---- AreSettled
 
@@ -177,33 +177,33 @@ zeros_are_settled = record { one_each = refl; fixed = here }
     here zero d lt e = zeros_are_fixed the_sum
     here (suc k) d lt e = absurd (omega arith)
 
-a_mark_too_few_is_not : (sets : ℕ → ℤ → Type 0) → ¬ (AreSettled (the_sum ∷ []) [] sets)
-a_mark_too_few_is_not sets s = let e = s.one_each in omega arith
+a_flag_too_few_is_not : (sets : ℕ → ℤ → Type 0) → ¬ (AreSettled (the_sum ∷ []) [] sets)
+a_flag_too_few_is_not sets s = let e = s.one_each in omega arith
 
-ones_may_not_be_marked : ¬ (AreSettled (the_sum ∷ []) (true ∷ []) ones)
-ones_may_not_be_marked s = ones_are_not_fixed (s.fixed 0 the_sum (omega arith) refl)
+ones_may_not_be_settled : ¬ (AreSettled (the_sum ∷ []) (true ∷ []) ones)
+ones_may_not_be_settled s = ones_are_not_fixed (s.fixed 0 the_sum (omega arith) refl)
 
 -- ---- AreCleared
 
-where_nothing_changed_marks_may_stay : AreCleared false (the_sum ∷ []) 0 (true ∷ []) (true ∷ [])
-where_nothing_changed_marks_may_stay = record { same_count = refl; kept = (λ _. refl); only_cleared = (λ k e. e); apart = (λ e. absurd (false≢true e)) }
+where_nothing_changed_flags_may_stay : AreCleared false (the_sum ∷ []) 0 (true ∷ []) (true ∷ [])
+where_nothing_changed_flags_may_stay = record { same_count = refl; kept = (λ _. refl); only_cleared = (λ k e. e); apart = (λ e. absurd (false≢true e)) }
 
-a_mark_may_not_be_set : ¬ (AreCleared false (the_sum ∷ []) 0 (false ∷ []) (true ∷ []))
-a_mark_may_not_be_set a = false≢true (a.only_cleared 0 refl)
+a_flag_may_not_be_set : ¬ (AreCleared false (the_sum ∷ []) 0 (false ∷ []) (true ∷ []))
+a_flag_may_not_be_set a = false≢true (a.only_cleared 0 refl)
 
-a_mark_may_not_stay_where_x_changed : ¬ (AreCleared true (the_sum ∷ []) 0 (true ∷ []) (true ∷ []))
-a_mark_may_not_stay_where_x_changed a = a.apart refl 0 the_sum (omega arith) refl (inl refl)
+a_flag_may_not_stay_where_x_changed : ¬ (AreCleared true (the_sum ∷ []) 0 (true ∷ []) (true ∷ []))
+a_flag_may_not_stay_where_x_changed a = a.apart refl 0 the_sum (omega arith) refl (inl refl)
 
 -- ---- AreLost
 
 nothing_lost_of_zeros : AreLost the_sum (record { x = false; y = false; z = false }) zeros zeros
 nothing_lost_of_zeros = record { some = ((λ e. absurd (false≢true e)), (λ l. absurd (l.gone l.was))); others = (λ i _ _ _ v h. h) }
 
-a_loss_is_marked : ¬ (AreLost the_sum (record { x = false; y = false; z = false }) ones none)
-a_loss_is_marked l = false≢true (l.some.1 (record { variable = 0; member = pos 1; was = refl; gone = (λ h. h) }))
+a_loss_is_flagged : ¬ (AreLost the_sum (record { x = false; y = false; z = false }) ones none)
+a_loss_is_flagged l = false≢true (l.some.1 (record { variable = 0; member = pos 1; was = refl; gone = (λ h. h) }))
 
-no_mark_without_a_loss : ¬ (AreLost the_sum (record { x = true; y = false; z = false }) ones ones)
-no_mark_without_a_loss l = apart (l.some.0 refl)
+no_flag_without_a_loss : ¬ (AreLost the_sum (record { x = true; y = false; z = false }) ones ones)
+no_flag_without_a_loss l = apart (l.some.0 refl)
   where
     apart : LostMember ones ones → ⊥
     apart m = m.gone m.was

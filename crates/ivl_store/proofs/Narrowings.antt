@@ -95,10 +95,10 @@ pub narrowings_greatest : (constraints : List Constraint) (count : ℕ) (before 
 narrowings_greatest constraints count before after n distinct fixed =
     fixed_greatest constraints before after (narrowings_keep constraints count before after n) distinct fixed
 
--- where each constraint is marked, each is fixed
-pub all_fixed : (constraints : List Constraint) (marks : List Bool) (sets : ℕ → ℤ → Type 0) → AreSettled constraints marks sets
-    → ((k : ℕ) → k < length marks → get_or marks k false ≡ true) → All (IsFixed sets) constraints
-all_fixed constraints marks sets s all k d lt = s.fixed k d lt (all k (let n = s.one_each in omega arith))
+-- where each constraint is settled, each is fixed
+pub all_fixed : (constraints : List Constraint) (flags : List Bool) (sets : ℕ → ℤ → Type 0) → AreSettled constraints flags sets
+    → ((k : ℕ) → k < length flags → get_or flags k false ≡ true) → All (IsFixed sets) constraints
+all_fixed constraints flags sets s all k d lt = s.fixed k d lt (all k (let n = s.one_each in omega arith))
 
 -- ---- from call to call
 
@@ -118,9 +118,9 @@ fixed_added c sets domain present f i v h = record {
     was {j} e lt = subst (λ L. Covers L v) (get_or-append sets (domain ∷ []) [] i (let u = lt in let w = e in omega arith)) h
 
 -- one more variable
-pub sound_added : (sets : List (List (ℤ × ℤ))) (domain : List (ℤ × ℤ)) (constraints : List Constraint) (marks : List Bool)
-    → IsSoundNetwork sets constraints marks → IsSoundNetwork (sets ++ domain ∷ []) constraints marks
-sound_added sets domain constraints marks s = record {
+pub sound_added : (sets : List (List (ℤ × ℤ))) (domain : List (ℤ × ℤ)) (constraints : List Constraint) (flags : List Bool)
+    → IsSoundNetwork sets constraints flags → IsSoundNetwork (sets ++ domain ∷ []) constraints flags
+sound_added sets domain constraints flags s = record {
   distinct = s.distinct;
   present = All-weaker (AllPresent (length sets)) (AllPresent (length (sets ++ domain ∷ []))) (λ c p.
       let n = length_push sets domain in ((let a = p.0 in omega arith), (let a = p.1 in omega arith), (let a = p.2 in omega arith))) constraints s.present;
@@ -131,25 +131,25 @@ sound_added sets domain constraints marks s = record {
 }
 
 -- one more constraint
-pub sound_pushed : (sets : List (List (ℤ × ℤ))) (constraints : List Constraint) (marks : List Bool) (c : Constraint) → AreDistinct c → AllPresent (length sets) c
-    → IsSoundNetwork sets constraints marks → IsSoundNetwork sets (constraints ++ c ∷ []) (marks ++ false ∷ [])
-sound_pushed sets constraints marks c distinct present s = record {
+pub sound_pushed : (sets : List (List (ℤ × ℤ))) (constraints : List Constraint) (flags : List Bool) (c : Constraint) → AreDistinct c → AllPresent (length sets) c
+    → IsSoundNetwork sets constraints flags → IsSoundNetwork sets (constraints ++ c ∷ []) (flags ++ false ∷ [])
+sound_pushed sets constraints flags c distinct present s = record {
   distinct = All-append AreDistinct constraints (c ∷ []) s.distinct (All-cons AreDistinct c [] distinct (All-nil AreDistinct));
   present = All-append (AllPresent (length sets)) constraints (c ∷ []) s.present (All-cons (AllPresent (length sets)) c [] present (All-nil (AllPresent (length sets))));
-  settled = settled_push constraints _ marks _ c (set_at sets) refl refl s.settled;
+  settled = settled_push constraints _ flags _ c (set_at sets) refl refl s.settled;
 }
 
 -- other domains, as many
-pub sound_moved : (old new : List (List (ℤ × ℤ))) (constraints : List Constraint) (marks marks' : List Bool) → length new ≡ length old
-    → AreSettled constraints marks' (set_at new) → IsSoundNetwork old constraints marks → IsSoundNetwork new constraints marks'
-sound_moved old new constraints marks marks' count settled s = record {
+pub sound_moved : (old new : List (List (ℤ × ℤ))) (constraints : List Constraint) (flags flags' : List Bool) → length new ≡ length old
+    → AreSettled constraints flags' (set_at new) → IsSoundNetwork old constraints flags → IsSoundNetwork new constraints flags'
+sound_moved old new constraints flags flags' count settled s = record {
   distinct = s.distinct;
   present = subst (λ n. All (AllPresent n) constraints) (sym count) s.present;
   settled = settled;
 }
 
 -- one more variable, or none where memory ran out
-pub sound_grown : (old new : List (List (ℤ × ℤ))) (domain : List (ℤ × ℤ)) (constraints : List Constraint) (marks : List Bool) {E : Type 0} (r : Result ℕ E)
-    → OnOk r (new ≡ old ++ domain ∷ []) → OnErr r (new ≡ old) → IsSoundNetwork old constraints marks → IsSoundNetwork new constraints marks
-sound_grown old new domain constraints marks (Ok i) e f s = subst (λ sets. IsSoundNetwork sets constraints marks) (sym e) (sound_added old domain constraints marks s)
-sound_grown old new domain constraints marks (Err x) e f s = subst (λ sets. IsSoundNetwork sets constraints marks) (sym f) s
+pub sound_grown : (old new : List (List (ℤ × ℤ))) (domain : List (ℤ × ℤ)) (constraints : List Constraint) (flags : List Bool) {E : Type 0} (r : Result ℕ E)
+    → OnOk r (new ≡ old ++ domain ∷ []) → OnErr r (new ≡ old) → IsSoundNetwork old constraints flags → IsSoundNetwork new constraints flags
+sound_grown old new domain constraints flags (Ok i) e f s = subst (λ sets. IsSoundNetwork sets constraints flags) (sym e) (sound_added old domain constraints flags s)
+sound_grown old new domain constraints flags (Err x) e f s = subst (λ sets. IsSoundNetwork sets constraints flags) (sym f) s

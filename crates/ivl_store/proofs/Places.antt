@@ -13,7 +13,7 @@ use Rattle.ivl_laws.proofs.Lengths.{decide_covers}
 use Rattle.ivl_laws.proofs.Widths.{total_width, IsCountOf-total_width}
 use Rattle.intervallum.proofs.Options.{or_none}
 use Rattle.ivl_store.specs.declared.store.constraint.Constraint.{Constraint}
-use Rattle.ivl_store.specs.declared.store.marks.Lost.{Lost}
+use Rattle.ivl_store.specs.declared.store.settled.Lost.{Lost}
 use Rattle.ivl_store.specs.Solutions.{AreDistinct, Names, HasSolutionAt, IsSolution, Supports, LiesWithin, LostMember}
 use Rattle.ivl_store.specs.Narrowing.{Narrowed, AllPresent, first_unknown, first_unknown_of}
 use Rattle.ivl_store.specs.NarrowedSets.{IsLeftOf, AreLeftAt, narrowed_at}
@@ -233,7 +233,7 @@ pub lost_at : (whole : ℤ × ℤ) (L : List (ℤ × ℤ)) (S : ℤ → Type 0) 
 lost_at whole L S None h e = absurd (false≢true e)
 lost_at whole L S (Some left) h e = lacks left L h.0.maximal (λ v m. ((h.2 v).0 m).0) h.3
 
--- the marks say what was lost
+-- the flags say what was lost
 pub lost_after : (whole : ℤ × ℤ) (c : Constraint) (old : List (List (ℤ × ℤ))) (x y z : Option (List (ℤ × ℤ))) (lost : Lost) → AllPresent (length old) c
     → AreLeftAt whole c old x y z → lost.x ≡ is_some x → lost.y ≡ is_some y → lost.z ≡ is_some z → AreLost c lost (set_at old) (set_at (after c old x y z))
 lost_after whole c old x y z lost p left mx my mz = record {

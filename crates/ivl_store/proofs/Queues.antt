@@ -1,4 +1,4 @@
--- The queue of the constraints without a mark.
+-- The queue of the constraints that are not settled.
 use Rattle.std.proofs.Common.{◌≡◌, ◌∙◌, ◌+◌, ◌-◌, ◌<◌, ◌≤◌, inl, inr, ℕ, suc, ap, arith, cond, eqb, get_or, length, List, [], ◌∷◌, ◌++◌, Bool, true, false, refl, set, subst, sym, take}
 use Rattle.std.specs.Prelude.{not}
 use Rattle.std.specs.Vec.{vec_capacity}
@@ -7,25 +7,25 @@ use Rattle.std.proofs.lemmas.Bool.{cases_eq, cases_lt, false≢true}
 use Rattle.std.proofs.lemmas.List.{get_or-set_other, get_or-set_same, get_or_default, get_or_push, length-set, length_push, take_all, take_more}
 use Rattle.std.proofs.lemmas.List.Sums.{count_by-le-length, sum_by-append, sum_by-set, sum_by_push}
 use Rattle.ivl_store.specs.declared.network.queue.Queue.{Queue}
-use Rattle.ivl_store.specs.Network.{unmarked_count}
+use Rattle.ivl_store.specs.Network.{unsettled_count}
 use Rattle.ivl_store.specs.Queue.{IsLastNaming, IsQueue, Removes, times_in, waits}
 use Rattle.ivl_store.specs.Settled.{AreCleared}
 use Rattle.ivl_store.specs.Solutions.{Names}
 use Rattle.ivl_store.specs.declared.store.constraint.Constraint.{Constraint}
 
--- ---- marks
+-- ---- flags
 
-unmarked-set : (marks : List Bool) (i : ℕ) (b d : Bool) → i < length marks → unmarked_count (set marks i b) + cond (not (get_or marks i d)) 1 0 ≡ unmarked_count marks + cond (not b) 1 0
-unmarked-set marks i b d lt = sum_by-set (λ (m : Bool). cond (not m) 1 0) marks i b d lt
+unsettled-set : (flags : List Bool) (i : ℕ) (b d : Bool) → i < length flags → unsettled_count (set flags i b) + cond (not (get_or flags i d)) 1 0 ≡ unsettled_count flags + cond (not b) 1 0
+unsettled-set flags i b d lt = sum_by-set (λ (m : Bool). cond (not m) 1 0) flags i b d lt
 
-waits-set_other : (marks : List Bool) (i k : ℕ) (b : Bool) → (k ≡ i → ⊥) → waits (set marks i b) k ≡ waits marks k
-waits-set_other marks i k b ne = ap (λ m. cond m 0 1) (get_or-set_other marks i k b true ne)
+waits-set_other : (flags : List Bool) (i k : ℕ) (b : Bool) → (k ≡ i → ⊥) → waits (set flags i b) k ≡ waits flags k
+waits-set_other flags i k b ne = ap (λ m. cond m 0 1) (get_or-set_other flags i k b true ne)
 
-waits-set_same : (marks : List Bool) (i : ℕ) (b : Bool) → i < length marks → waits (set marks i b) i ≡ cond b 0 1
-waits-set_same marks i b lt = ap (λ m. cond m 0 1) (get_or-set_same marks i b true lt)
+waits-set_same : (flags : List Bool) (i : ℕ) (b : Bool) → i < length flags → waits (set flags i b) i ≡ cond b 0 1
+waits-set_same flags i b lt = ap (λ m. cond m 0 1) (get_or-set_same flags i b true lt)
 
-waits_at : (marks : List Bool) (i : ℕ) (b d : Bool) → i < length marks → get_or marks i d ≡ b → waits marks i ≡ cond b 0 1
-waits_at marks i b d lt e = ap (λ m. cond m 0 1) (get_or_default marks i true d lt ∙ e)
+waits_at : (flags : List Bool) (i : ℕ) (b d : Bool) → i < length flags → get_or flags i d ≡ b → waits flags i ≡ cond b 0 1
+waits_at flags i b d lt e = ap (λ m. cond m 0 1) (get_or_default flags i true d lt ∙ e)
 
 -- ---- numbers in a list
 
@@ -55,30 +55,30 @@ count_none (j ∷ list) k none =
     sum_by-append (λ (i : ℕ). cond (eqb i k) 1 0) (j ∷ []) list
     ∙ (let a = one_other j k (λ e. none 0 (omega arith) e) in let b = count_none list k (λ i lt e. none (suc i) (omega (arith, lt)) e) in omega (arith, a, b))
 
--- ---- marks of the queue
+-- ---- flags of the queue
 
--- there is room for one more where a mark is set
+-- there is room for one more where a flag is set
 pub room_to_wait : (queue : Queue) (k : ℕ) (d : Bool) → IsQueue queue → k < length queue.settled.items → get_or queue.settled.items k d ≡ true
     → length queue.later.items < vec_capacity queue.later
 room_to_wait queue k d s lt e =
-    let a = subst (λ b. unmarked_count (set queue.settled.items k false) + cond (not b) 1 0 ≡ unmarked_count queue.settled.items + 1) e (unmarked-set queue.settled.items k false d lt) in
+    let a = subst (λ b. unsettled_count (set queue.settled.items k false) + cond (not b) 1 0 ≡ unsettled_count queue.settled.items + 1) e (unsettled-set queue.settled.items k false d lt) in
     let b = count_by-le-length not (set queue.settled.items k false) in
     let n = length-set queue.settled.items k false in
     let m = s.as_many in let r = s.room_later in omega (arith, a, b, n, m, r)
 
--- where nothing waits, each has a mark
+-- where nothing waits, each is settled
 pub none_waits : (queue : Queue) → IsQueue queue → queue.round.items ≡ [] → queue.later.items ≡ []
     → (k : ℕ) → k < length queue.settled.items → get_or queue.settled.items k false ≡ true
 none_waits queue s e f k lt =
     let o = s.once k in let a = ap (times_in k) e in let b = ap (times_in k) f in
     let z : waits queue.settled.items k ≡ 0 = omega (arith, o, a, b) in
-    is_marked (get_or queue.settled.items k false) (sym (waits_at queue.settled.items k (get_or queue.settled.items k false) false lt refl) ∙ z)
+    is_set (get_or queue.settled.items k false) (sym (waits_at queue.settled.items k (get_or queue.settled.items k false) false lt refl) ∙ z)
   where
-    is_marked : (b : Bool) → ◌≡◌ {A = ℕ} (cond b 0 1) 0 → b ≡ true
-    is_marked true h = refl
-    is_marked false h = absurd (omega (arith, h))
+    is_set : (b : Bool) → ◌≡◌ {A = ℕ} (cond b 0 1) 0 → b ≡ true
+    is_set true h = refl
+    is_set false h = absurd (omega (arith, h))
 
--- what waits has no mark
+-- what waits is not settled
 pub waiting : (queue : Queue) (front : List ℕ) (k : ℕ) → IsQueue queue → queue.round.items ≡ front ++ k ∷ []
     → (k < length queue.settled.items) × (get_or queue.settled.items k false ≡ false)
 waiting queue front k s e =
@@ -121,37 +121,37 @@ pushed queue queue' count s at e f g room room_later =
                 omega (arith, c, o, none, same))
           ]));
       as_many = (let a = ap length f in let b = ap length g in let l = length_push queue.later.items count in
-          let c : unmarked_count queue'.settled.items ≡ unmarked_count queue.settled.items + 1 = ap unmarked_count e ∙ sum_by_push (λ (b : Bool). cond (not b) 1 0) queue.settled.items false in
+          let c : unsettled_count queue'.settled.items ≡ unsettled_count queue.settled.items + 1 = ap unsettled_count e ∙ sum_by_push (λ (b : Bool). cond (not b) 1 0) queue.settled.items false in
           let m = s.as_many in omega (arith, a, b, l, c, m));
       room = (let l = ap length e in omega (arith, l, n, at, room));
       room_later = (let l = ap length e in omega (arith, l, n, at, room_later));
     }
   where
-    waits_before : (marks : List Bool) (k : ℕ) → (k ≡ length marks → ⊥) → waits (marks ++ false ∷ []) k ≡ waits marks k
-    waits_before marks k ne = ap (λ m. cond m 0 1) (elim (cases_lt k (length marks)) [
-      | inl lt ↦ get_or-append marks (false ∷ []) true k lt
-      | inr le ↦ get_or-eq_default (marks ++ false ∷ []) true (let n = length_push marks false in omega (arith, n, le, ne)) ∙ sym (get_or-eq_default marks true le)
+    waits_before : (flags : List Bool) (k : ℕ) → (k ≡ length flags → ⊥) → waits (flags ++ false ∷ []) k ≡ waits flags k
+    waits_before flags k ne = ap (λ m. cond m 0 1) (elim (cases_lt k (length flags)) [
+      | inl lt ↦ get_or-append flags (false ∷ []) true k lt
+      | inr le ↦ get_or-eq_default (flags ++ false ∷ []) true (let n = length_push flags false in omega (arith, n, le, ne)) ∙ sym (get_or-eq_default flags true le)
     ])
 
 -- the last constraint is dropped, and its number is removed where it waits
-pub popped : (queue queue' : Queue) (mark : Bool) (marks : List Bool) → IsQueue queue → queue.settled.items ≡ marks ++ mark ∷ [] → queue'.settled.items ≡ marks
-    → ((k : ℕ) → times_in k queue'.round.items + times_in k queue'.later.items + cond mark 0 (times_in k (length marks ∷ [])) ≡ times_in k queue.round.items + times_in k queue.later.items)
-    → length queue'.round.items + length queue'.later.items + cond mark 0 1 ≡ length queue.round.items + length queue.later.items
+pub popped : (queue queue' : Queue) (flag : Bool) (flags : List Bool) → IsQueue queue → queue.settled.items ≡ flags ++ flag ∷ [] → queue'.settled.items ≡ flags
+    → ((k : ℕ) → times_in k queue'.round.items + times_in k queue'.later.items + cond flag 0 (times_in k (length flags ∷ [])) ≡ times_in k queue.round.items + times_in k queue.later.items)
+    → length queue'.round.items + length queue'.later.items + cond flag 0 1 ≡ length queue.round.items + length queue.later.items
     → vec_capacity queue'.round ≡ vec_capacity queue.round → vec_capacity queue'.later ≡ vec_capacity queue.later → IsQueue queue'
-popped queue queue' mark marks s e f counts lengths room room_later =
-    let n = length_push marks mark in
+popped queue queue' flag flags s e f counts lengths room room_later =
+    let n = length_push flags flag in
     record {
-      once = (λ k. let c = counts k in let o = s.once k in ap (λ m. m) (elim (cases_eq k (length marks)) [
-        | inl here ↦ (let was : waits queue.settled.items k ≡ cond mark 0 1 = ap (λ l. waits l k) e ∙ ap (λ m. cond m 0 1) (get_or_push marks mark true k (sym here)) in
-            let now : waits queue'.settled.items k ≡ 0 = ap (λ l. waits l k) f ∙ ap (λ m. cond m 0 1) (get_or-eq_default marks true (omega (arith, here))) in
-            let one : times_in k (length marks ∷ []) ≡ 1 = ap (λ j. times_in k (j ∷ [])) (sym here) ∙ one_same k in
-            none_left mark _ (times_in k (length marks ∷ [])) one (c ∙ o ∙ was) ∙ sym now)
-        | inr ne ↦ (let none : times_in k (length marks ∷ []) ≡ 0 = one_other (length marks) k (λ h. ne (sym h)) in
-            let same : waits queue.settled.items k ≡ waits queue'.settled.items k = ap (λ l. waits l k) e ∙ waits_before marks k ne ∙ ap (λ l. waits l k) (sym f) in
-            as_before mark _ _ (times_in k (length marks ∷ [])) none (c ∙ o ∙ same))
+      once = (λ k. let c = counts k in let o = s.once k in ap (λ m. m) (elim (cases_eq k (length flags)) [
+        | inl here ↦ (let was : waits queue.settled.items k ≡ cond flag 0 1 = ap (λ l. waits l k) e ∙ ap (λ m. cond m 0 1) (get_or_push flags flag true k (sym here)) in
+            let now : waits queue'.settled.items k ≡ 0 = ap (λ l. waits l k) f ∙ ap (λ m. cond m 0 1) (get_or-eq_default flags true (omega (arith, here))) in
+            let one : times_in k (length flags ∷ []) ≡ 1 = ap (λ j. times_in k (j ∷ [])) (sym here) ∙ one_same k in
+            none_left flag _ (times_in k (length flags ∷ [])) one (c ∙ o ∙ was) ∙ sym now)
+        | inr ne ↦ (let none : times_in k (length flags ∷ []) ≡ 0 = one_other (length flags) k (λ h. ne (sym h)) in
+            let same : waits queue.settled.items k ≡ waits queue'.settled.items k = ap (λ l. waits l k) e ∙ waits_before flags k ne ∙ ap (λ l. waits l k) (sym f) in
+            as_before flag _ _ (times_in k (length flags ∷ [])) none (c ∙ o ∙ same))
       ]));
-      as_many = (let c : unmarked_count queue.settled.items ≡ unmarked_count marks + cond (not mark) 1 0 = ap unmarked_count e ∙ sum_by_push (λ (b : Bool). cond (not b) 1 0) marks mark in
-          fewer mark _ _ (lengths ∙ s.as_many ∙ c) ∙ ap unmarked_count (sym f));
+      as_many = (let c : unsettled_count queue.settled.items ≡ unsettled_count flags + cond (not flag) 1 0 = ap unsettled_count e ∙ sum_by_push (λ (b : Bool). cond (not b) 1 0) flags flag in
+          fewer flag _ _ (lengths ∙ s.as_many ∙ c) ∙ ap unsettled_count (sym f));
       room = (let a = ap length e in let b = ap length f in let r = s.room in omega (arith, a, b, n, r, room));
       room_later = (let a = ap length e in let b = ap length f in let r = s.room_later in omega (arith, a, b, n, r, room_later));
     }
@@ -168,23 +168,23 @@ popped queue queue' mark marks s e f counts lengths room room_later =
     fewer true m u h = omega (arith, h)
     fewer false m u h = omega (arith, h)
 
-    waits_before : (ms : List Bool) (k : ℕ) → (k ≡ length ms → ⊥) → waits (ms ++ mark ∷ []) k ≡ waits ms k
+    waits_before : (ms : List Bool) (k : ℕ) → (k ≡ length ms → ⊥) → waits (ms ++ flag ∷ []) k ≡ waits ms k
     waits_before ms k ne = ap (λ m. cond m 0 1) (elim (cases_lt k (length ms)) [
-      | inl lt ↦ get_or-append ms (mark ∷ []) true k lt
-      | inr le ↦ get_or-eq_default (ms ++ mark ∷ []) true (let n = length_push ms mark in omega (arith, n, le, ne)) ∙ sym (get_or-eq_default ms true le)
+      | inl lt ↦ get_or-append ms (flag ∷ []) true k lt
+      | inr le ↦ get_or-eq_default (ms ++ flag ∷ []) true (let n = length_push ms flag in omega (arith, n, le, ne)) ∙ sym (get_or-eq_default ms true le)
     ])
 
--- one that has a mark waits nowhere
-pub popped_marked : (queue queue' : Queue) (mark : Bool) → IsQueue queue → queue.settled.items ≡ queue'.settled.items ++ mark ∷ [] → mark ≡ true
+-- one that is settled waits nowhere
+pub popped_settled : (queue queue' : Queue) (flag : Bool) → IsQueue queue → queue.settled.items ≡ queue'.settled.items ++ flag ∷ [] → flag ≡ true
     → queue'.round.items ≡ queue.round.items → queue'.later.items ≡ queue.later.items
     → vec_capacity queue'.round ≡ vec_capacity queue.round → vec_capacity queue'.later ≡ vec_capacity queue.later → IsQueue queue'
-popped_marked queue queue' true s e m f g room room_later =
+popped_settled queue queue' true s e m f g room room_later =
     popped queue queue' true queue'.settled.items s e refl
     (λ k. let a = ap (times_in k) f in let b = ap (times_in k) g in omega (arith, a, b)) (let a = ap length f in let b = ap length g in omega (arith, a, b)) room room_later
-popped_marked queue queue' false s e m f g room room_later = absurd (false≢true m)
+popped_settled queue queue' false s e m f g room room_later = absurd (false≢true m)
 
 -- one that waits for the next round
-pub popped_later : (queue queue' : Queue) (mark : Bool) (k : ℕ) → IsQueue queue → queue.settled.items ≡ queue'.settled.items ++ mark ∷ [] → mark ≡ false → k ≡ length queue'.settled.items
+pub popped_later : (queue queue' : Queue) (flag : Bool) (k : ℕ) → IsQueue queue → queue.settled.items ≡ queue'.settled.items ++ flag ∷ [] → flag ≡ false → k ≡ length queue'.settled.items
     → queue'.round.items ≡ queue.round.items → Removes k queue.later.items queue'.later.items true
     → vec_capacity queue'.round ≡ vec_capacity queue.round → vec_capacity queue'.later ≡ vec_capacity queue.later → IsQueue queue'
 popped_later queue queue' true k s e m at f g room room_later = absurd (false≢true (sym m))
@@ -193,7 +193,7 @@ popped_later queue queue' false k s e m at f g room room_later =
     (λ j. let a = ap (times_in j) f in let b = g.0 j in let c = ap (λ i. times_in j (i ∷ [])) at in omega (arith, a, b, c)) (let a = ap length f in let b = g.1 in omega (arith, a, b)) room room_later
 
 -- one that waits in this round
-pub popped_round : (queue queue' : Queue) (mark : Bool) (k : ℕ) (removed : Bool) → IsQueue queue → queue.settled.items ≡ queue'.settled.items ++ mark ∷ [] → mark ≡ false
+pub popped_round : (queue queue' : Queue) (flag : Bool) (k : ℕ) (removed : Bool) → IsQueue queue → queue.settled.items ≡ queue'.settled.items ++ flag ∷ [] → flag ≡ false
     → k ≡ length queue'.settled.items → Removes k queue.later.items queue'.later.items false → Removes k queue.round.items queue'.round.items removed
     → vec_capacity queue'.round ≡ vec_capacity queue.round → vec_capacity queue'.later ≡ vec_capacity queue.later → IsQueue queue'
 popped_round queue queue' true k removed s e m at f g room room_later = absurd (false≢true (sym m))
@@ -204,7 +204,7 @@ popped_round queue queue' false k false s e m at f g room room_later =
     let w : waits queue.settled.items k ≡ 1 = ap (λ l. waits l k) e ∙ ap (λ b. cond {A = ℕ} b 0 1) (get_or_push queue'.settled.items false true k (sym at)) in
     let o = s.once k in let a = f.1 in let b = g.1 in absurd (omega (arith, w, o, a, b))
 
--- ---- constraints that lose their marks
+-- ---- constraints that lose their flags
 
 -- those that name the variable have none from this place on
 pub record WokenSoFar (constraints : List Constraint) (variable : ℕ) (before after : List Bool) (place : ℕ) : Type 0 where
@@ -214,9 +214,9 @@ pub record WokenSoFar (constraints : List Constraint) (variable : ℕ) (before a
   pub only_cleared : (k : ℕ) → get_or after k false ≡ true → get_or before k false ≡ true
   pub apart : (k : ℕ) (d : Constraint) → place ≤ k → k < length constraints → get_or after k false ≡ true → Names (get_or constraints k d) variable → ⊥
 
-pub none_woken : (constraints : List Constraint) (variable : ℕ) (marks : List Bool) (place : ℕ) → IsLastNaming constraints variable (length constraints) place
-    → WokenSoFar constraints variable marks marks place
-none_woken constraints variable marks place s = record {
+pub none_woken : (constraints : List Constraint) (variable : ℕ) (flags : List Bool) (place : ℕ) → IsLastNaming constraints variable (length constraints) place
+    → WokenSoFar constraints variable flags flags place
+none_woken constraints variable flags place s = record {
   low = s.low;
   names = s.names;
   same_count = refl;

@@ -17,50 +17,50 @@ use Rattle.ivl_store.specs.Trail.{Past, revert, reverted, past_at}
 use Rattle.ivl_store.proofs.Trails.{take_lt}
 
 -- what is left to be taken back of all changes, and what those that were taken back were made to
-pub record RevertedSoFar {B O : Type 0} (all left : List (Change B O)) (before now : Past) (start : ℕ) (marks : List Bool) : Type 0 where
+pub record RevertedSoFar {B O : Type 0} (all left : List (Change B O)) (before now : Past) (start : ℕ) (flags : List Bool) : Type 0 where
   pub rest : List (Change B O)
   pub all_are : all ≡ left ++ rest
   pub now_is : now ≡ reverted rest before
-  pub sound : IsSoundNetwork now.domains now.constraints marks
+  pub sound : IsSoundNetwork now.domains now.constraints flags
   pub low : start ≤ length left
 
-pub none_reverted : {B O : Type 0} (all : List (Change B O)) (now : Past) (start : ℕ) (marks : List Bool) → start ≤ length all
-    → IsSoundNetwork now.domains now.constraints marks → RevertedSoFar all all now now start marks
-none_reverted all now start marks low sound = record { rest = []; all_are = sym (append-nil all); now_is = refl; sound = sound; low = low }
+pub none_reverted : {B O : Type 0} (all : List (Change B O)) (now : Past) (start : ℕ) (flags : List Bool) → start ≤ length all
+    → IsSoundNetwork now.domains now.constraints flags → RevertedSoFar all all now now start flags
+none_reverted all now start flags low sound = record { rest = []; all_are = sym (append-nil all); now_is = refl; sound = sound; low = low }
 
 -- the change that is taken back next
-seam : {B O : Type 0} (all left left' : List (Change B O)) (change : Change B O) (before now : Past) (start : ℕ) (marks : List Bool)
-    → (s : RevertedSoFar all left before now start marks) → left ≡ left' ++ change ∷ [] → all ≡ left' ++ (change ∷ s.rest)
-seam all left left' change before now start marks s e = s.all_are ∙ ap (λ l. l ++ s.rest) e ∙ append_assoc left' (change ∷ []) s.rest
+seam : {B O : Type 0} (all left left' : List (Change B O)) (change : Change B O) (before now : Past) (start : ℕ) (flags : List Bool)
+    → (s : RevertedSoFar all left before now start flags) → left ≡ left' ++ change ∷ [] → all ≡ left' ++ (change ∷ s.rest)
+seam all left left' change before now start flags s e = s.all_are ∙ ap (λ l. l ++ s.rest) e ∙ append_assoc left' (change ∷ []) s.rest
 
-pub next_past : {B O : Type 0} (all left left' : List (Change B O)) (change : Change B O) (before now : Past) (start : ℕ) (marks : List Bool)
-    → RevertedSoFar all left before now start marks → left ≡ left' ++ change ∷ [] → past_at all before (length left') ≡ revert change now
-next_past all left left' change before now start marks s e =
-    ap (λ cs. reverted (drop (length left') cs) before) (seam all left left' change before now start marks s e)
+pub next_past : {B O : Type 0} (all left left' : List (Change B O)) (change : Change B O) (before now : Past) (start : ℕ) (flags : List Bool)
+    → RevertedSoFar all left before now start flags → left ≡ left' ++ change ∷ [] → past_at all before (length left') ≡ revert change now
+next_past all left left' change before now start flags s e =
+    ap (λ cs. reverted (drop (length left') cs) before) (seam all left left' change before now start flags s e)
     ∙ ap (λ cs. reverted cs before) (drop-append_seam left' (change ∷ s.rest))
     ∙ ap (revert change) (sym s.now_is)
 
-pub one_reverted : {B O : Type 0} (all left left' : List (Change B O)) (change : Change B O) (before now now' : Past) (start : ℕ) (marks marks' : List Bool)
-    → RevertedSoFar all left before now start marks → left ≡ left' ++ change ∷ [] → start < length left → now' ≡ revert change now
-    → IsSoundNetwork now'.domains now'.constraints marks' → RevertedSoFar all left' before now' start marks'
-one_reverted all left left' change before now now' start marks marks' s e lt back sound = record {
+pub one_reverted : {B O : Type 0} (all left left' : List (Change B O)) (change : Change B O) (before now now' : Past) (start : ℕ) (flags flags' : List Bool)
+    → RevertedSoFar all left before now start flags → left ≡ left' ++ change ∷ [] → start < length left → now' ≡ revert change now
+    → IsSoundNetwork now'.domains now'.constraints flags' → RevertedSoFar all left' before now' start flags'
+one_reverted all left left' change before now now' start flags flags' s e lt back sound = record {
   rest = change ∷ s.rest;
-  all_are = seam all left left' change before now start marks s e;
+  all_are = seam all left left' change before now start flags s e;
   now_is = back ∙ ap (revert change) s.now_is;
   sound = sound;
   low = (let n = length_push left' change in let l = ap length e in omega (arith, n, l, lt));
 }
 
 -- all since the start
-pub all_taken : {B O : Type 0} (all left : List (Change B O)) (before now : Past) (start : ℕ) (marks : List Bool)
-    → RevertedSoFar all left before now start marks → length left ≤ start → left ≡ take start all
-all_taken all left before now start marks s high =
+pub all_taken : {B O : Type 0} (all left : List (Change B O)) (before now : Past) (start : ℕ) (flags : List Bool)
+    → RevertedSoFar all left before now start flags → length left ≤ start → left ≡ take start all
+all_taken all left before now start flags s high =
     let e : start ≡ length left = (let l = s.low in omega (arith, l, high)) in
     rw (e, s.all_are) (sym (take-append_seam left s.rest))
 
-pub all_past : {B O : Type 0} (all left : List (Change B O)) (before now : Past) (start : ℕ) (marks : List Bool)
-    → RevertedSoFar all left before now start marks → length left ≤ start → now ≡ past_at all before start
-all_past all left before now start marks s high =
+pub all_past : {B O : Type 0} (all left : List (Change B O)) (before now : Past) (start : ℕ) (flags : List Bool)
+    → RevertedSoFar all left before now start flags → length left ≤ start → now ≡ past_at all before start
+all_past all left before now start flags s high =
     let e : start ≡ length left = (let l = s.low in omega (arith, l, high)) in
     s.now_is ∙ ap (λ cs. reverted cs before) (sym (drop-append_seam left s.rest))
     ∙ ap (λ cs. reverted (drop (length left) cs) before) (sym s.all_are) ∙ ap (λ k. past_at all before k) (sym e)
@@ -79,10 +79,10 @@ fixed_where_same c before after same f i v h = record {
     to : (j : ℕ) → Names c j → (w : ℤ) → before j w → after j w
     to j names w u = (same j names w).1 u
 
--- a set takes the place of a domain, and no constraint that names the variable is marked
-pub sound_replaced : (sets : List (List (ℤ × ℤ))) (constraints : List Constraint) (marks marks' : List Bool) (i : ℕ) (s : List (ℤ × ℤ))
-    → IsSoundNetwork sets constraints marks → AreCleared true constraints i marks marks' → IsSoundNetwork (set sets i s) constraints marks'
-sound_replaced sets constraints marks marks' i s n cleared = record {
+-- a set takes the place of a domain, and no constraint that names the variable is settled
+pub sound_replaced : (sets : List (List (ℤ × ℤ))) (constraints : List Constraint) (flags flags' : List Bool) (i : ℕ) (s : List (ℤ × ℤ))
+    → IsSoundNetwork sets constraints flags → AreCleared true constraints i flags flags' → IsSoundNetwork (set sets i s) constraints flags'
+sound_replaced sets constraints flags flags' i s n cleared = record {
   distinct = n.distinct;
   present = subst (λ count. All (AllPresent count) constraints) (sym (length-set sets i s)) n.present;
   settled = record {
@@ -96,9 +96,9 @@ sound_replaced sets constraints marks marks' i s n cleared = record {
 }
 
 -- the last variable is dropped, which no constraint names
-pub sound_without_variable : (sets : List (List (ℤ × ℤ))) (constraints : List Constraint) (marks : List Bool) (count : ℕ)
-    → IsSoundNetwork sets constraints marks → All (AllPresent (length (take count sets))) constraints → IsSoundNetwork (take count sets) constraints marks
-sound_without_variable sets constraints marks count n present = record {
+pub sound_without_variable : (sets : List (List (ℤ × ℤ))) (constraints : List Constraint) (flags : List Bool) (count : ℕ)
+    → IsSoundNetwork sets constraints flags → All (AllPresent (length (take count sets))) constraints → IsSoundNetwork (take count sets) constraints flags
+sound_without_variable sets constraints flags count n present = record {
   distinct = n.distinct;
   present = present;
   settled = record {
@@ -118,18 +118,18 @@ sound_without_variable sets constraints marks count n present = record {
       | inr (inr e) ↦ (let p = (present k d lt).2 in omega (arith, p, e))
     ]
 
--- the last constraints are dropped, and their marks
-pub sound_without_constraints : (sets : List (List (ℤ × ℤ))) (constraints : List Constraint) (marks : List Bool) (count : ℕ)
-    → IsSoundNetwork sets constraints marks → IsSoundNetwork sets (take count constraints) (take count marks)
-sound_without_constraints sets constraints marks count n = record {
+-- the last constraints are dropped, and their flags
+pub sound_without_constraints : (sets : List (List (ℤ × ℤ))) (constraints : List Constraint) (flags : List Bool) (count : ℕ)
+    → IsSoundNetwork sets constraints flags → IsSoundNetwork sets (take count constraints) (take count flags)
+sound_without_constraints sets constraints flags count n = record {
   distinct = (λ k d lt. let t = take_lt count k constraints lt in subst AreDistinct (sym (t.2 d)) (n.distinct k d t.0));
   present = (λ k d lt. let t = take_lt count k constraints lt in subst (AllPresent (length sets)) (sym (t.2 d)) (n.present k d t.0));
   settled = record {
-    one_each = length-take count marks ∙ ap (λ m. min count m) n.settled.one_each ∙ sym (length-take count constraints);
+    one_each = length-take count flags ∙ ap (λ m. min count m) n.settled.one_each ∙ sym (length-take count constraints);
     fixed = (λ k d lt m.
         let t = take_lt count k constraints lt in
-        let e : get_or (take count marks) k false ≡ get_or marks k false =
-        (take_lt count k marks (let a = length-take count marks in let b = length-take count constraints in let o = n.settled.one_each in omega (arith, a, b, o, lt))).2 false in
+        let e : get_or (take count flags) k false ≡ get_or flags k false =
+        (take_lt count k flags (let a = length-take count flags in let b = length-take count constraints in let o = n.settled.one_each in omega (arith, a, b, o, lt))).2 false in
         subst (IsFixed (set_at sets)) (sym (t.2 d)) (n.settled.fixed k d t.0 (sym e ∙ m)));
   };
 }

@@ -1,9 +1,9 @@
 -- What a network of constraints keeps, and what its calls do to that.
 --     NetworkState      the domain of each variable, the constraints so far, how many of these have to be looked at
 --         again, and what both lists were at each mark
---     unmarked_count marks      how many marks are not set
+--     unsettled_count flags      how many flags are not set
 --     work whole network      how many narrowings are left at most, of which each removes a member or leaves one constraint fewer to look at
---     IsSoundNetwork domains cs marks      the constraints name three different variables each, which have a domain; narrowing by a marked one changes nothing
+--     IsSoundNetwork domains cs flags      the constraints name three different variables each, which have a domain; narrowing by one whose flag is set changes nothing
 --     IsRequired c old new      the constraint is among the new ones, at the end, or where it was if it was among the
 --         old ones
 --     IsCutAt i S before after      variable i keeps its members that are in S, and the others keep all
@@ -25,16 +25,16 @@ pub record NetworkState : Type 0 where
   pub unsettled : ℕ
   pub marked : List Past
 
-abbrev pub unmarked_count : List Bool → ℕ
-unmarked_count marks = count_by not marks
+abbrev pub unsettled_count : List Bool → ℕ
+unsettled_count flags = count_by not flags
 
 abbrev pub work : ℤ × ℤ → NetworkState → ℕ
 work whole network = total whole network.domains * (length network.constraints + 1) + network.unsettled
 
-pub record IsSoundNetwork (domains : List (List (ℤ × ℤ))) (constraints : List Constraint) (marks : List Bool) : Type 0 where
+pub record IsSoundNetwork (domains : List (List (ℤ × ℤ))) (constraints : List Constraint) (flags : List Bool) : Type 0 where
   pub distinct : All AreDistinct constraints
   pub present : All (AllPresent (length domains)) constraints
-  pub settled : AreSettled constraints marks (set_at domains)
+  pub settled : AreSettled constraints flags (set_at domains)
 
 abbrev pub IsRequired : Constraint → List Constraint → List Constraint → Type 0
 IsRequired c old new = (Contains old c × (new ≡ old)) ⊎ ((¬ (Contains old c)) × (new ≡ old ++ c ∷ []))

@@ -2,10 +2,10 @@
 --     IsLastNaming cs i before place      place k + 1 where constraint k is the last of the first `before` that names variable i, and place 0 where none does
 --     AreLinks cs c before links      such places for x, y and z of a constraint
 --     IsIndex count cs index      for each of so many variables the last constraint that names it, and for each constraint those before it that name the same
---     waits marks k      1 if constraint k is there and has no mark, and else 0
+--     waits flags k      1 if constraint k is there and is not settled, and else 0
 --     times_in k list      how often the number stands in the list
 --     Removes k old new removed      the number was taken out of the list once, or it does not stand there and the list is the same
---     IsQueue queue      each constraint without a mark stands in the queue once, and nothing else does; there is room for all constraints
+--     IsQueue queue      each constraint that is not settled stands in the queue once, and nothing else does; there is room for all constraints
 use Rattle.std.specs.Prelude.{◌≡◌, ◌<◌, ◌≤◌, ◌+◌, ℕ, Bool, true, false, List, [], ◌∷◌, eqb, if◌then◌else◌, length, slice_index_or}
 use Rattle.std.specs.List.{count_by}
 use Rattle.std.specs.Vec.{vec_capacity}
@@ -13,7 +13,7 @@ use Rattle.ivl_store.specs.declared.network.index.Index.{Index}
 use Rattle.ivl_store.specs.declared.network.index.Links.{Links}
 use Rattle.ivl_store.specs.declared.network.queue.Queue.{Queue}
 use Rattle.ivl_store.specs.declared.store.constraint.Constraint.{Constraint}
-use Rattle.ivl_store.specs.Network.{unmarked_count}
+use Rattle.ivl_store.specs.Network.{unsettled_count}
 use Rattle.ivl_store.specs.Solutions.{Names}
 
 pub record IsLastNaming (constraints : List Constraint) (variable before place : ℕ) : Type 0 where
@@ -33,7 +33,7 @@ pub record IsIndex (count : ℕ) (constraints : List Constraint) (index : Index)
   pub links : (k : ℕ) (d : Constraint) (l : Links) → k < length constraints → AreLinks constraints (slice_index_or constraints k d) k (slice_index_or index.links.items k l)
 
 abbrev pub waits : List Bool → ℕ → ℕ
-waits marks k = if slice_index_or marks k true then 0 else 1
+waits flags k = if slice_index_or flags k true then 0 else 1
 
 abbrev pub times_in : ℕ → List ℕ → ℕ
 times_in k list = count_by (λ j. eqb j k) list
@@ -44,6 +44,6 @@ Removes k old new false = (new ≡ old) × (times_in k old ≡ 0)
 
 pub record IsQueue (queue : Queue) : Type 0 where
   pub once : (k : ℕ) → times_in k queue.round.items + times_in k queue.later.items ≡ waits queue.settled.items k
-  pub as_many : length queue.round.items + length queue.later.items ≡ unmarked_count queue.settled.items
+  pub as_many : length queue.round.items + length queue.later.items ≡ unsettled_count queue.settled.items
   pub room : length queue.settled.items ≤ vec_capacity queue.round
   pub room_later : length queue.settled.items ≤ vec_capacity queue.later

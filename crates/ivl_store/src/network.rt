@@ -86,13 +86,13 @@ pub struct Network<B: Width> {
 
 impl<B: Width> Model for Network<B> {
     ghost use Rattle.std.specs.Prelude.{length, map};
-    ghost use Rattle.ivl_store.specs.Network.{IsSoundNetwork, NetworkState, unmarked_count};
+    ghost use Rattle.ivl_store.specs.Network.{IsSoundNetwork, NetworkState, unsettled_count};
     ghost use Rattle.ivl_store.specs.Queue.{IsIndex, IsQueue};
     ghost use Rattle.ivl_store.specs.Trail.{IsSoundTrail, past_at};
 
     ghost Value = { NetworkState };
 
-    ghost view = { λ n. record { domains = n.store; constraints = n.constraints.items; unsettled = unmarked_count n.queue.settled.items; marked = map (past_at n.trail.items (record { domains = n.store; constraints = n.constraints.items })) n.marks.items } };
+    ghost view = { λ n. record { domains = n.store; constraints = n.constraints.items; unsettled = unsettled_count n.queue.settled.items; marked = map (past_at n.trail.items (record { domains = n.store; constraints = n.constraints.items })) n.marks.items } };
 
     ghost invariant = { λ n. IsSoundNetwork n.store n.constraints.items n.queue.settled.items × IsSoundTrail n.marks.items n.trail.items (record { domains = n.store; constraints = n.constraints.items }) × IsIndex (length n.store) n.constraints.items n.index × IsQueue n.queue };
 }
@@ -212,7 +212,7 @@ impl<B: Width> Network<B> {
         Ok(())
     }
 
-    /// Adds a constraint at the end, without a mark.
+    /// Adds a constraint at the end, not settled.
     fn push(&mut self, constraint: Constraint) -> Result<(), AllocError>
         requires distinct { AreDistinct constraint }
         requires present { AllPresent (length self.old.domains) constraint }
@@ -380,8 +380,7 @@ impl<B: Width> Network<B> {
         }
     }
 
-    /// Narrows by one constraint without a mark. Returns false, and changes nothing, if all are
-    /// marked.
+    /// Narrows by one constraint that is not settled. Returns false, and changes nothing, if all are.
     fn narrow_next(&mut self) -> Result<bool, AllocError>
         ensures constraints { self.new.constraints ≡ self.old.constraints }
         ensures marked { self.new.marked ≡ self.old.marked }
@@ -398,8 +397,8 @@ impl<B: Width> Network<B> {
         }
     }
 
-    /// Narrows by one constraint without a mark, if that counts for no more than is left. Changes
-    /// nothing if it counts for more, or if all are marked.
+    /// Narrows by one constraint that is not settled, if that counts for no more than is left. Changes
+    /// nothing if it counts for more, or if all are settled.
     fn narrow_within(&mut self, left: u64) -> Result<Step, AllocError>
         ensures constraints { self.new.constraints ≡ self.old.constraints }
         ensures marked { self.new.marked ≡ self.old.marked }
@@ -431,7 +430,7 @@ impl<B: Width> Network<B> {
         Ok(Step::Made(cost))
     }
 
-    /// Whether all constraints are marked.
+    /// Whether all constraints are settled.
     fn reached(&self) -> Settled
         ensures all { result ≡ Settled.All → All AreDistinct self.now.constraints × All (IsFixed (set_at self.now.domains)) self.now.constraints }
         ensures exactly { result ≡ Settled.All ↔ self.now.unsettled ≡ 0 }

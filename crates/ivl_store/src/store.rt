@@ -25,11 +25,11 @@ pub(crate) mod change;
 mod constraint;
 mod costs;
 pub mod laws;
-pub(crate) mod marks;
 pub mod narrowed_sets;
 mod narrowing;
 mod post;
 mod posting;
+pub(crate) mod settled;
 mod swapping;
 
 pub use constraint::{Constraint, StoreFault};

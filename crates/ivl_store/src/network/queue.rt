@@ -3,19 +3,19 @@ ghost use Rattle.std.specs.Prelude.{◌≡◌, ◌+◌, ◌-◌, ◌<◌, ◌≤
 ghost use Rattle.std.specs.Vec.{vec_capacity};
 ghost use Rattle.ivl_laws.specs.Families.{set_at};
 ghost use Rattle.ivl_store.specs.Narrowing.{Narrowed};
-ghost use Rattle.ivl_store.specs.Network.{unmarked_count};
+ghost use Rattle.ivl_store.specs.Network.{unsettled_count};
 ghost use Rattle.ivl_store.specs.Settled.{AreCleared, AreLost, AreSettled, any_lost};
 ghost use Rattle.ivl_store.specs.Solutions.{AreDistinct};
 ghost use Rattle.ivl_store.specs.Queue.{IsIndex, IsQueue, Removes};
 
 use super::index::Index;
 use crate::store::Constraint;
-use crate::store::marks::Lost;
+use crate::store::settled::Lost;
 use std::alloc::{AllocError, Global};
 use std::mem;
 
-/// A mark for each constraint, and a queue of those that have none: narrowing by a marked one would
-/// change nothing. The queue goes in rounds: a constraint that loses its mark waits for the next.
+/// Whether each constraint is settled, so that narrowing by it would change nothing, and a queue of
+/// those that are not. The queue goes in rounds: a constraint that gets unsettled waits for the next.
 #[derive(Drop)]
 pub(super) struct Queue {
     settled: Vec<bool>,
@@ -35,7 +35,7 @@ impl Queue {
         }
     }
 
-    /// Adds a constraint after the others, without a mark.
+    /// Adds a constraint after the others, not settled.
     pub(super) fn push(&mut self) -> Result<(), AllocError>
         requires { IsQueue self.old }
         ensures queue { IsQueue self.new }
@@ -56,21 +56,21 @@ impl Queue {
         ensures queue { IsQueue self.new }
         ensures left { self.new.settled.items ≡ take (length self.old.settled.items - 1) self.old.settled.items }
     {
-        if let Some(mark) = self.settled.pop() {
+        if let Some(is_settled) = self.settled.pop() {
             let k = self.settled.len();
-            if !mark && !remove(&mut self.later, k) {
+            if !is_settled && !remove(&mut self.later, k) {
                 remove(&mut self.round, k);
             }
         }
     }
 
-    /// Returns a constraint without a mark, the one that waits longest by rounds, or `None` if all
-    /// have one. It stays in the queue, as the last of the round.
+    /// Returns a constraint that is not settled, the one that waits longest by rounds, or `None` if all
+    /// are. It stays in the queue, as the last of the round.
     pub(super) fn first(&mut self) -> Option<usize>
         requires { IsQueue self.old }
         ensures queue { IsQueue self.new }
         ensures settled { self.new.settled.items ≡ self.old.settled.items }
-        ensures none { IsNone result ↔ unmarked_count self.old.settled.items ≡ 0 }
+        ensures none { IsNone result ↔ unsettled_count self.old.settled.items ≡ 0 }
         ensures first { MatchOption result ((k : ℕ) → k < length self.old.settled.items → slice_index_or self.old.settled.items k false ≡ true)
             (λ k. (k < length self.old.settled.items) × (slice_index_or self.old.settled.items k false ≡ false) × (front : List ℕ) × (self.new.round.items ≡ front ++ k ∷ [])) }
     {
@@ -94,17 +94,17 @@ impl Queue {
         }
     }
 
-    /// Whether each constraint has a mark.
+    /// Whether each constraint is settled.
     pub(super) fn is_empty(&self) -> bool
         requires { IsQueue self.now }
         ensures all { result ≡ true → (k : ℕ) → k < length self.now.settled.items → slice_index_or self.now.settled.items k false ≡ true }
-        ensures exactly { IsTrue result ↔ unmarked_count self.now.settled.items ≡ 0 }
+        ensures exactly { IsTrue result ↔ unsettled_count self.now.settled.items ≡ 0 }
     {
         self.round.is_empty() && self.later.is_empty()
     }
 
-    /// Updates the marks after narrowing by the first constraint, which is marked then. Those that
-    /// name a variable which lost a member lose their mark.
+    /// Updates the flags after narrowing by the first constraint, which is settled then. Those that
+    /// name a variable which lost a member are no longer.
     pub(super) fn settle(&mut self, i: usize, lost: Lost, constraints: &[Constraint], index: &Index)
         requires queue { IsQueue self.old }
         requires index { (count : ℕ) × IsIndex count constraints.now index.now }
@@ -115,7 +115,7 @@ impl Queue {
         requires first { (front : List ℕ) × (self.old.round.items ≡ front ++ i ∷ []) }
         ensures queue { IsQueue self.new }
         ensures count { length self.new.settled.items ≡ length constraints.now }
-        ensures marked { any_lost lost ≡ false → self.new.settled.items ≡ slice_set self.old.settled.items i true }
+        ensures alone { any_lost lost ≡ false → self.new.settled.items ≡ slice_set self.old.settled.items i true }
         ensures settled { (old new : List (List (ℤ × ℤ))) → HoldsAt (λ c. (j : ℕ) (v : ℤ) → set_at new j v ↔ Narrowed c (set_at old) j v) constraints.now i
             → HoldsAt (λ c. AreLost c lost (set_at old) (set_at new)) constraints.now i
             → AreSettled constraints.now self.old.settled.items (set_at old) → AreSettled constraints.now self.new.settled.items (set_at new) }
@@ -124,11 +124,11 @@ impl Queue {
         self.wake(lost.x, constraints, c.x, index);
         self.wake(lost.y, constraints, c.y, index);
         self.wake(lost.z, constraints, c.z, index);
-        self.mark_first(i);
+        self.settle_first(i);
     }
 
-    /// Marks the first constraint, which leaves the queue.
-    fn mark_first(&mut self, k: usize)
+    /// Settles the first constraint, which leaves the queue.
+    fn settle_first(&mut self, k: usize)
         requires queue { IsQueue self.old }
         requires in_list { k < length self.old.settled.items }
         requires unset { slice_index_or self.old.settled.items k false ≡ false }
@@ -140,7 +140,7 @@ impl Queue {
         self.settled[k] = true;
     }
 
-    /// Clears the mark of a constraint, which then waits for the next round.
+    /// Clears the flag of a constraint, which then waits for the next round.
     fn clear(&mut self, k: usize)
         requires queue { IsQueue self.old }
         requires in_list { k < length self.old.settled.items }
@@ -154,7 +154,7 @@ impl Queue {
         }
     }
 
-    /// Clears the marks of the constraints that name the variable, if it has changed.
+    /// Clears the flags of the constraints that name the variable, if it has changed.
     pub(super) fn wake(
         &mut self,
         changed: bool,

@@ -201,7 +201,7 @@ pub(super) fn revert_to<B: Width>(
     }
 }
 
-/// Takes a change back. Constraints that name a variable whose domain is replaced lose their mark.
+/// Takes a change back. Constraints that name a variable whose domain is replaced are no longer settled.
 fn take_back<B: Width>(
     change: Change<B>,
     store: &mut Store<B>,

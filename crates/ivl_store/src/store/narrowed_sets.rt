@@ -67,11 +67,11 @@ pub fn narrowed_by<B: Width>(
     ensures { IfOk result (IsLeftOf B.whole x.now (SumsBy op (Covers a.now) (Covers b.now))) }
 {
     let runs = x.iter().as_slice();
-    let left = a.iter().as_slice();
-    let right = b.iter().as_slice();
-    if runs.len() == 1 && left.len() == 1 && right.len() == 1 {
+    let first = a.iter().as_slice();
+    let second = b.iter().as_slice();
+    if runs.len() == 1 && first.len() == 1 && second.len() == 1 {
         let run = runs[0];
-        return narrowed_run(x, run, pair_in_window(left[0], right[0], op, run));
+        return narrowed_run(x, run, pair_in_window(first[0], second[0], op, run));
     }
     let left = results_in_set(x, a, b, op)?;
     // a subset, so the sizes decide

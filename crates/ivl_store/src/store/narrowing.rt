@@ -12,8 +12,8 @@ ghost use Rattle.ivl_store.specs.declared.store.constraint.Constraint.{Constrain
 
 use super::change::Change;
 use super::constraint::first_unknown_of;
-use super::marks::{Lost, move_marks, no_marks};
 use super::narrowed_sets::narrowed_sets;
+use super::settled::{Lost, none_settled, settle_after};
 use super::{Constraint, Store, StoreFault};
 use intervallum::width::Width;
 use std::alloc::AllocError;
@@ -98,7 +98,7 @@ impl<B: Width> Store<B> {
         Ok((lost, Change::Domains(*c, x, y, z)))
     }
 
-    /// Narrows by constraint `i`, unless it is marked as settled.
+    /// Narrows by constraint `i`, unless it is settled.
     fn narrow_next(
         &mut self,
         constraints: &[Constraint],
@@ -114,13 +114,13 @@ impl<B: Width> Store<B> {
         ensures lost { IfOk result (λ b. IsTrue b ↔ LostMember (set_at self.old) (set_at self.new)) }
         ensures fewer { IfOk result (λ b. IsTrue b → total B.whole self.new < total B.whole self.old) }
         ensures settled { OnOk result (AreSettled constraints.now settled.new.items (set_at self.new)) }
-        ensures kept_marks { OnErr result (settled.new ≡ settled.old) }
+        ensures kept_flags { OnErr result (settled.new ≡ settled.old) }
     {
         if settled[i] {
             return Ok(false);
         }
         let lost = self.narrow_known(&constraints[i])?;
-        move_marks(constraints, i, lost, settled);
+        settle_after(constraints, i, lost, settled);
         Ok(lost.any())
     }
 
@@ -159,7 +159,7 @@ impl<B: Width> Store<B> {
     /// ones in which every member is supported, whatever the order of the list.
     ///
     /// Costs what its narrowings cost, and a pass over the constraints for each domain that
-    /// changes. Reserves one mark per constraint. A constraint of three different variables whose
+    /// changes. Reserves one flag per constraint. A constraint of three different variables whose
     /// domains did not change since it narrowed them is skipped in `O(1)`.
     ///
     /// # Errors
@@ -212,7 +212,7 @@ impl<B: Width> Store<B> {
         if let Some(i) = first_unknown_of(constraints, self.domains.len()) {
             return Err(StoreFault::Variable(i));
         }
-        let mut settled = no_marks(self.alloc, constraints.len())?;
+        let mut settled = none_settled(self.alloc, constraints.len())?;
         for _ in 0..rounds {
             if !self.round(constraints, &mut settled)? {
                 return Ok(true);

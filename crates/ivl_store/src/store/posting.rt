@@ -11,9 +11,9 @@ ghost use Rattle.ivl_store.specs.Trail.{revert};
 ghost use Rattle.ivl_store.specs.declared.store.constraint.Constraint.{Constraint};
 
 use super::change::Change;
-use super::marks::clear_marks;
 use super::narrowed_sets::narrowed_to;
 use super::post::first_unknown_post;
+use super::settled::unsettle;
 use super::{Constraint, Post, Store, StoreFault};
 use intervallum::interval_set::IntervalSet;
 use intervallum::width::Width;
@@ -35,7 +35,7 @@ impl<B: Width> Store<B> {
     ///
     /// [`StoreFault::Variable`] for the first unknown index in list order, that of a cut included,
     /// before anything changes. [`StoreFault::Memory`] if allocation fails: the store is then as
-    /// the last completed cut or narrowing left it. Replies, constraints and marks are reserved
+    /// the last completed cut or narrowing left it. Replies, constraints and flags are reserved
     /// before the first cut.
     ///
     /// ```
@@ -139,7 +139,7 @@ impl<B: Width> Store<B> {
     {
         match post {
             Post::Restrict(i, allowed) => {
-                self.restrict_marked(*i, allowed, constraints, settled)?;
+                self.restrict_and_unsettle(*i, allowed, constraints, settled)?;
             }
             Post::Require(c) => {
                 constraints.push(*c)?;
@@ -149,9 +149,9 @@ impl<B: Width> Store<B> {
         Ok(())
     }
 
-    /// Keeps the members of one domain that are allowed, and clears the marks of the constraints
+    /// Keeps the members of one domain that are allowed, and clears the flags of the constraints
     /// that name the variable if it lost a member.
-    fn restrict_marked(
+    fn restrict_and_unsettle(
         &mut self,
         i: usize,
         allowed: &IntervalSet<B>,
@@ -164,10 +164,10 @@ impl<B: Width> Store<B> {
         ensures kept_count { length self.new ≡ length self.old }
         ensures cut { OnOk result ((j : ℕ) (v : ℤ) → set_at self.new j v ↔ (set_at self.old j v × (j ≡ i → Covers allowed.now v))) }
         ensures settled { OnOk result (AreSettled constraints.now settled.new.items (set_at self.new)) }
-        ensures kept_marks { OnErr result (settled.new ≡ settled.old) }
+        ensures kept_flags { OnErr result (settled.new ≡ settled.old) }
     {
         let lost = self.restrict(i, allowed)?;
-        clear_marks(lost, constraints, i, settled);
+        unsettle(lost, constraints, i, settled);
         Ok(())
     }
 

@@ -248,7 +248,7 @@ impl<B: Width> Network<B> {
         Ok(())
     }
 
-    /// Adds a constraint at the end, without a mark.
+    /// Adds a constraint at the end, not settled.
     fn push(&mut self, constraint: Constraint) -> Result<(), AllocError> {
         let is_kept = is_logging(&self.marks);
         reserve_change(&mut self.trail, is_kept)?;
@@ -431,8 +431,7 @@ impl<B: Width> Network<B> {
         }
     }
 
-    /// Narrows by one constraint without a mark. Returns false, and changes nothing, if all are
-    /// marked.
+    /// Narrows by one constraint that is not settled. Returns false, and changes nothing, if all are.
     fn narrow_next(&mut self) -> Result<bool, AllocError> {
         match self.narrow_within(u64::MAX)? {
             Step::Settled | Step::Costly => Ok(false),
@@ -440,8 +439,8 @@ impl<B: Width> Network<B> {
         }
     }
 
-    /// Narrows by one constraint without a mark, if that counts for no more than is left. Changes
-    /// nothing if it counts for more, or if all are marked.
+    /// Narrows by one constraint that is not settled, if that counts for no more than is left. Changes
+    /// nothing if it counts for more, or if all are settled.
     fn narrow_within(&mut self, left: u64) -> Result<Step, AllocError> {
         let Some(i) = self.queue.first() else {
             return Ok(Step::Settled);
@@ -461,7 +460,7 @@ impl<B: Width> Network<B> {
         Ok(Step::Made(cost))
     }
 
-    /// Whether all constraints are marked.
+    /// Whether all constraints are settled.
     fn reached(&self) -> Settled {
         if self.queue.is_empty() {
             Settled::All

@@ -31,11 +31,11 @@ pub(crate) mod change;
 mod constraint;
 mod costs;
 
-pub(crate) mod marks;
 pub mod narrowed_sets;
 mod narrowing;
 mod post;
 mod posting;
+pub(crate) mod settled;
 mod swapping;
 
 pub use constraint::{Constraint, StoreFault};

@@ -5,12 +5,12 @@
 use crate::rattle::prelude::*;
 use super::index::Index;
 use crate::proved::ivl_store::store::Constraint;
-use crate::proved::ivl_store::store::marks::Lost;
+use crate::proved::ivl_store::store::settled::Lost;
 use crate::rattle::std::alloc::{AllocError, Global};
 use crate::rattle::std::mem;
 
-/// A mark for each constraint, and a queue of those that have none: narrowing by a marked one would
-/// change nothing. The queue goes in rounds: a constraint that loses its mark waits for the next.
+/// Whether each constraint is settled, so that narrowing by it would change nothing, and a queue of
+/// those that are not. The queue goes in rounds: a constraint that gets unsettled waits for the next.
 pub(super) struct Queue {
     settled: Vec<bool>,
     round: Vec<usize>,
@@ -26,7 +26,7 @@ impl Queue {
         }
     }
 
-    /// Adds a constraint after the others, without a mark.
+    /// Adds a constraint after the others, not settled.
     pub(super) fn push(&mut self) -> Result<(), AllocError> {
         let count = self.settled.len();
         self.round.reserve(count - self.round.len() + 1)?;
@@ -38,16 +38,16 @@ impl Queue {
 
     /// Drops the last constraint, if there is one.
     pub(super) fn pop(&mut self) {
-        if let Some(mark) = self.settled.pop() {
+        if let Some(is_settled) = self.settled.pop() {
             let k = self.settled.len();
-            if !mark && !remove(&mut self.later, k) {
+            if !is_settled && !remove(&mut self.later, k) {
                 remove(&mut self.round, k);
             }
         }
     }
 
-    /// Returns a constraint without a mark, the one that waits longest by rounds, or `None` if all
-    /// have one. It stays in the queue, as the last of the round.
+    /// Returns a constraint that is not settled, the one that waits longest by rounds, or `None` if all
+    /// are. It stays in the queue, as the last of the round.
     pub(super) fn first(&mut self) -> Option<usize> {
         self.turn();
         let count = self.round.len();
@@ -64,28 +64,28 @@ impl Queue {
         }
     }
 
-    /// Whether each constraint has a mark.
+    /// Whether each constraint is settled.
     pub(super) fn is_empty(&self) -> bool {
         self.round.is_empty() && self.later.is_empty()
     }
 
-    /// Updates the marks after narrowing by the first constraint, which is marked then. Those that
-    /// name a variable which lost a member lose their mark.
+    /// Updates the flags after narrowing by the first constraint, which is settled then. Those that
+    /// name a variable which lost a member are no longer.
     pub(super) fn settle(&mut self, i: usize, lost: Lost, constraints: &[Constraint], index: &Index) {
         let c = constraints[i];
         self.wake(lost.x, constraints, c.x, index);
         self.wake(lost.y, constraints, c.y, index);
         self.wake(lost.z, constraints, c.z, index);
-        self.mark_first(i);
+        self.settle_first(i);
     }
 
-    /// Marks the first constraint, which leaves the queue.
-    fn mark_first(&mut self, k: usize) {
+    /// Settles the first constraint, which leaves the queue.
+    fn settle_first(&mut self, k: usize) {
         let _ = self.round.pop();
         self.settled[k] = true;
     }
 
-    /// Clears the mark of a constraint, which then waits for the next round.
+    /// Clears the flag of a constraint, which then waits for the next round.
     fn clear(&mut self, k: usize) {
         if self.settled[k] {
             self.settled[k] = false;
@@ -93,7 +93,7 @@ impl Queue {
         }
     }
 
-    /// Clears the marks of the constraints that name the variable, if it has changed.
+    /// Clears the flags of the constraints that name the variable, if it has changed.
     pub(super) fn wake(
         &mut self,
         changed: bool,

@@ -5,8 +5,8 @@
 use crate::rattle::prelude::*;
 use super::change::Change;
 use super::constraint::first_unknown_of;
-use super::marks::{Lost, move_marks, no_marks};
 use super::narrowed_sets::narrowed_sets;
+use super::settled::{Lost, none_settled, settle_after};
 use super::{Constraint, Store, StoreFault};
 use crate::proved::intervallum::width::Width;
 use crate::rattle::std::alloc::AllocError;
@@ -84,7 +84,7 @@ impl<B: Width> Store<B> {
         Ok((lost, Change::Domains(*c, x, y, z)))
     }
 
-    /// Narrows by constraint `i`, unless it is marked as settled.
+    /// Narrows by constraint `i`, unless it is settled.
     fn narrow_next(
         &mut self,
         constraints: &[Constraint],
@@ -95,7 +95,7 @@ impl<B: Width> Store<B> {
             return Ok(false);
         }
         let lost = self.narrow_known(&constraints[i])?;
-        move_marks(constraints, i, lost, settled);
+        settle_after(constraints, i, lost, settled);
         Ok(lost.any())
     }
 
@@ -123,7 +123,7 @@ impl<B: Width> Store<B> {
     /// ones in which every member is supported, whatever the order of the list.
     ///
     /// Costs what its narrowings cost, and a pass over the constraints for each domain that
-    /// changes. Reserves one mark per constraint. A constraint of three different variables whose
+    /// changes. Reserves one flag per constraint. A constraint of three different variables whose
     /// domains did not change since it narrowed them is skipped in `O(1)`.
     ///
     /// # Errors
@@ -176,7 +176,7 @@ impl<B: Width> Store<B> {
         if let Some(i) = first_unknown_of(constraints, self.domains.len()) {
             return Err(StoreFault::Variable(i));
         }
-        let mut settled = no_marks(self.alloc, constraints.len())?;
+        let mut settled = none_settled(self.alloc, constraints.len())?;
         for _ in 0..rounds {
             if !self.round(constraints, &mut settled)? {
                 return Ok(true);

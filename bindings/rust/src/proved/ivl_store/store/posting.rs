@@ -4,9 +4,9 @@
 #[allow(unused_imports)]
 use crate::rattle::prelude::*;
 use super::change::Change;
-use super::marks::clear_marks;
 use super::narrowed_sets::narrowed_to;
 use super::post::first_unknown_post;
+use super::settled::unsettle;
 use super::{Constraint, Post, Store, StoreFault};
 use crate::proved::intervallum::interval_set::IntervalSet;
 use crate::proved::intervallum::width::Width;
@@ -28,7 +28,7 @@ impl<B: Width> Store<B> {
     ///
     /// [`StoreFault::Variable`] for the first unknown index in list order, that of a cut included,
     /// before anything changes. [`StoreFault::Memory`] if allocation fails: the store is then as
-    /// the last completed cut or narrowing left it. Replies, constraints and marks are reserved
+    /// the last completed cut or narrowing left it. Replies, constraints and flags are reserved
     /// before the first cut.
     ///
     /// ```
@@ -110,7 +110,7 @@ impl<B: Width> Store<B> {
     ) -> Result<(), AllocError> {
         match post {
             Post::Restrict(i, allowed) => {
-                self.restrict_marked(*i, allowed, constraints, settled)?;
+                self.restrict_and_unsettle(*i, allowed, constraints, settled)?;
             }
             Post::Require(c) => {
                 constraints.push(*c)?;
@@ -120,9 +120,9 @@ impl<B: Width> Store<B> {
         Ok(())
     }
 
-    /// Keeps the members of one domain that are allowed, and clears the marks of the constraints
+    /// Keeps the members of one domain that are allowed, and clears the flags of the constraints
     /// that name the variable if it lost a member.
-    fn restrict_marked(
+    fn restrict_and_unsettle(
         &mut self,
         i: usize,
         allowed: &IntervalSet<B>,
@@ -130,7 +130,7 @@ impl<B: Width> Store<B> {
         settled: &mut Vec<bool>,
     ) -> Result<(), AllocError> {
         let lost = self.restrict(i, allowed)?;
-        clear_marks(lost, constraints, i, settled);
+        unsettle(lost, constraints, i, settled);
         Ok(())
     }
 

@@ -5,7 +5,7 @@ use Rattle.ivl_laws.specs.Families.{set_at}
 use Rattle.ivl_store.specs.declared.store.constraint.Constraint.{Constraint}
 use Rattle.ivl_store.specs.Costs.{AreCounted, cost_of}
 use Rattle.ivl_store.specs.Narrowing.{AllPresent, IsFixed, Narrowed}
-use Rattle.ivl_store.specs.Network.{AreNarrowings, IsSoundNetwork, NetworkState, unmarked_count, work}
+use Rattle.ivl_store.specs.Network.{AreNarrowings, IsSoundNetwork, NetworkState, unsettled_count, work}
 use Rattle.ivl_store.specs.Settled.{AreLost, AreSettled, any_lost}
 use Rattle.ivl_store.specs.Solutions.{AreDistinct}
 use Rattle.ivl_store.proofs.Costs.{counted_one}
@@ -30,10 +30,10 @@ returns-clause-narrowed g c = λ _ _.
 pub returns-clause-fewer : goal.returns-clause-fewer
 returns-clause-fewer g c = λ _ _.
     let inside = c.self.inside in
-    let marks = inside.queue.settled.items in
-    subst (λ (s : NetworkState). 1 + work g.B.Width.whole (record { domains = c.narrow_swapped.new.self; constraints = inside.constraints.items; unsettled = unmarked_count c.settle.new.self.settled.items; marked = [] }) ≤ work g.B.Width.whole s) c.self.view_is
-    (work_less g.B.Width.whole inside.store c.narrow_swapped.new.self (length inside.constraints.items) marks c.settle.new.self.settled.items c.in-Some.i (any_lost c.in_ok-lost.lost) c.in-Some.ensures.first.0 c.in-Some.ensures.first.1
-    (c.settle.ensures.count ∙ ap length c.deref-2.ensures.value) c.in_ok-lost.ensures.same (λ none. c.settle.ensures.marked none ∙ ap (λ (ms : List Bool). set ms c.in-Some.i true) c.first.ensures.settled)
+    let flags = inside.queue.settled.items in
+    subst (λ (s : NetworkState). 1 + work g.B.Width.whole (record { domains = c.narrow_swapped.new.self; constraints = inside.constraints.items; unsettled = unsettled_count c.settle.new.self.settled.items; marked = [] }) ≤ work g.B.Width.whole s) c.self.view_is
+    (work_less g.B.Width.whole inside.store c.narrow_swapped.new.self (length inside.constraints.items) flags c.settle.new.self.settled.items c.in-Some.i (any_lost c.in_ok-lost.lost) c.in-Some.ensures.first.0 c.in-Some.ensures.first.1
+    (c.settle.ensures.count ∙ ap length c.deref-2.ensures.value) c.in_ok-lost.ensures.same (λ none. c.settle.ensures.alone none ∙ ap (λ (ms : List Bool). set ms c.in-Some.i true) c.first.ensures.settled)
     (λ t. total_falls g.B.Width.whole inside.store c.narrow_swapped.new.self c.in_ok-lost.ensures.range c.narrow_swapped.ensures.kept_count (λ i v h. ((c.in_ok-lost.ensures.narrowed i v).0 h).kept)
     (c.in_ok-lost.ensures.lost.some.0 t)))
 
@@ -95,7 +95,7 @@ returns-then-cost-left-clause-costly g c = λ _.
     let lt : c.in-Some.i < length cs = (let a = c.in-Some.ensures.first.0 in let b = c.self.invariant.0.settled.one_each in omega (arith, a, b)) in
     let above = c.if-cost-left.true in
     let cost = c.cost_of-cost.ensures.cost in (
-      state_is _ _ _ _ _ _ _ _ refl refl (ap unmarked_count c.first.ensures.settled) refl ∙ c.self.view_is,
+      state_is _ _ _ _ _ _ _ _ refl refl (ap unsettled_count c.first.ensures.settled) refl ∙ c.self.view_is,
       c.index.result.now,
       subst (λ (s : NetworkState). Contains s.constraints c.index.result.now) c.self.view_is (c.in-Some.i, lt, sym c.index.ensures),
       subst (λ (s : NetworkState). c.args.left < cost_of c.index.result.now s.domains) c.self.view_is (omega (arith, above, cost)),
@@ -112,7 +112,7 @@ returns-in_default-clause-done g c = ((λ _. ap (λ (s : NetworkState). s.unsett
 
 pub returns-in_default-clause-none : goal.returns-in_default-clause-none
 returns-in_default-clause-none g c = λ _. (
-  state_is _ _ _ _ _ _ _ _ refl refl (ap unmarked_count c.first.ensures.settled) refl ∙ c.self.view_is,
+  state_is _ _ _ _ _ _ _ _ refl refl (ap unsettled_count c.first.ensures.settled) refl ∙ c.self.view_is,
   subst (λ (s : NetworkState). All AreDistinct s.constraints) c.self.view_is c.self.invariant.0.distinct,
   subst (λ (s : NetworkState). All (IsFixed (set_at s.domains)) s.constraints) c.self.view_is
       (all_fixed c.self.inside.constraints.items c.self.inside.queue.settled.items (set_at c.self.inside.store) c.self.invariant.0.settled c.in_default.ensures.first),

@@ -3,7 +3,7 @@ use Rattle.std.specs.Prelude.{not}
 use Rattle.std.proofs.lemmas.Bool.{false≢true}
 use Rattle.std.proofs.lemmas.List.Sums.{sum_by_push}
 use Rattle.ivl_store.specs.Narrowing.{AllPresent}
-use Rattle.ivl_store.specs.Network.{IsSoundNetwork, NetworkState, unmarked_count}
+use Rattle.ivl_store.specs.Network.{IsSoundNetwork, NetworkState, unsettled_count}
 use Rattle.ivl_store.specs.Queue.{IsIndex}
 use Rattle.ivl_store.specs.declared.store.change.Change.TheVariants.{Require}
 use Rattle.ivl_store.proofs.Logging.{logged_marks, logged_trail, state_is}
@@ -68,7 +68,7 @@ returns-clause-added g c =
     let added : c.push_reserved.new.self.items ≡ i.constraints.items ++ c.args.constraint ∷ [] = c.push_reserved.ensures.items ∙ ap (λ l. l ++ c.args.constraint ∷ []) c.reserve.ensures.items in
     state_is _ _ _ _ _ _ _ _ (ap (λ (s : NetworkState). s.domains) c.self.view_is)
     (added ∙ ap (λ (s : NetworkState). s.constraints ++ c.args.constraint ∷ []) c.self.view_is)
-    (ap unmarked_count c.in_ok-push.ensures.added ∙ sum_by_push (λ (b : Bool). cond (not b) 1 0) i.queue.settled.items false ∙ ap (λ (s : NetworkState). s.unsettled + 1) c.self.view_is)
+    (ap unsettled_count c.in_ok-push.ensures.added ∙ sum_by_push (λ (b : Bool). cond (not b) 1 0) i.queue.settled.items false ∙ ap (λ (s : NetworkState). s.unsettled + 1) c.self.view_is)
     (logged_marks i.marks.items i.trail.items c.reserve_change.new.trail.items c.log_change.new.trail.items _ _ _ _ _ c.self.invariant.1
     c.reserve_change.ensures.same c.log_change.ensures (reverts_constraint {B = g.row.B.Denot} {O = g.row.B-Output.Denot} Require i.store i.constraints.items c.push_reserved.new.self.items c.args.constraint refl added)
     (λ f. sym c.deref.ensures.value ∙ c.is_logging-is_kept.ensures f) (λ f. absurd (false≢true (sym f)))

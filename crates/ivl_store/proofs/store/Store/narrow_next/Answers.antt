@@ -12,9 +12,9 @@ use Rattle.ivl_store.proofs.store.Store.narrow_next.Goals as goal
 
 pub returns-then-index-clause-narrowed : goal.returns-then-index-clause-narrowed
 returns-then-index-clause-narrowed g c = λ d.
-    let marks = c.args.settled.now.items in let s = c.requires.settled in
+    let flags = c.args.settled.now.items in let s = c.requires.settled in
     fixed_narrowed _ (set_at c.args.self.now) (s.fixed c.args.i d c.requires.in_list
-    (sym (get_or_default marks c.args.i c.index.result.now false (let a = c.requires.in_list in let b = s.one_each in omega arith)) ∙ sym c.index.ensures ∙ c.if-index.true))
+    (sym (get_or_default flags c.args.i c.index.result.now false (let a = c.requires.in_list in let b = s.one_each in omega arith)) ∙ sym c.index.ensures ∙ c.if-index.true))
 
 pub returns-then-index-clause-lost : goal.returns-then-index-clause-lost
 returns-then-index-clause-lost g c = ((λ f. absurd (false≢true f)), (λ l. absurd (l.gone l.was)))
@@ -34,7 +34,7 @@ returns-clause-fewer g c = λ t.
 
 pub returns-clause-settled : goal.returns-clause-settled
 returns-clause-settled g c =
-    c.move_marks.ensures.settled c.args.self.now c.narrow_known.new.self
+    c.settle_after.ensures.settled c.args.self.now c.narrow_known.new.self
     (λ d. subst (λ k. (j : ℕ) (v : ℤ) → set_at c.narrow_known.new.self j v ↔ Narrowed k (set_at c.args.self.now) j v)
     (get_or_default c.args.constraints.now c.args.i _ d c.requires.in_list) c.in_ok-lost.ensures.narrowed)
     (λ d. subst (λ k. AreLost k c.in_ok-lost.lost (set_at c.args.self.now) (set_at c.narrow_known.new.self))

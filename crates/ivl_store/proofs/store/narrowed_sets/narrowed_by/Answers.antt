@@ -14,12 +14,12 @@ narrowed_run-requires-clause-one_run g c = one_run _ _ _ (c.as_slice-runs.ensure
 pub narrowed_run-requires-clause-within : goal.narrowed_run-requires-clause-within
 narrowed_run-requires-clause-within g c = λ z b. ((c.pair_in_window.ensures z).0 b).1
 
-pub returns-then-right-eq1 : goal.returns-then-right-eq1
-returns-then-right-eq1 g c =
+pub returns-then-second-eq1 : goal.returns-then-second-eq1
+returns-then-second-eq1 g c =
     let w = g.B.Width.whole in
     let x : c.args.x.now ≡ c.index-runs-0.result ∷ [] = one_run _ _ _ (c.as_slice-runs.ensures.value ∙ c.iter.ensures.rest) c.if-runs-eq1.true c.index-runs-0.is in
-    let a : c.args.a.now ≡ c.index-left-0.result ∷ [] = one_run _ _ _ (c.as_slice-left.ensures.value ∙ c.iter-2.ensures.rest) c.if-left-eq1.true c.index-left-0.is in
-    let b : c.args.b.now ≡ c.index-right-0.result ∷ [] = one_run _ _ _ (c.as_slice-right.ensures.value ∙ c.iter-3.ensures.rest) c.if-right-eq1.true c.index-right-0.is in
+    let a : c.args.a.now ≡ c.index-first-0.result ∷ [] = one_run _ _ _ (c.as_slice-first.ensures.value ∙ c.iter-2.ensures.rest) c.if-first-eq1.true c.index-first-0.is in
+    let b : c.args.b.now ≡ c.index-second-0.result ∷ [] = one_run _ _ _ (c.as_slice-second.ensures.value ∙ c.iter-3.ensures.rest) c.if-second-eq1.true c.index-second-0.is in
     let filled = (subst IsMaximal a c.iter-2.ensures.runs.maximal).0 in
     let filled' = (subst IsMaximal b c.iter-3.ensures.runs.maximal).0 in
     IfOk-weaker c.narrowed_run.result _ _

@@ -1,8 +1,8 @@
 use Rattle.std.proofs.Common.{arith, subst, sym, refl, ◌+◌, ◌∙◌, Vec, Bool, Global}
 use Rattle.std.proofs.lemmas.Bool.{false≢true}
 use Rattle.ivl_store.proofs.Settled.{ClearedSoFar, none_cleared, clear_one, keep_one}
-use Rattle.ivl_store.proofs.store.marks.clear_marks.Goals as goal
-use Rattle.ivl_store.proofs.store.marks.clear_marks.Goals.{then-names, else-names}
+use Rattle.ivl_store.proofs.store.settled.unsettle.Goals as goal
+use Rattle.ivl_store.proofs.store.settled.unsettle.Goals.{then-names, else-names}
 
 pub loop-k-init : goal.loop-k-init
 loop-k-init c = none_cleared c.args.constraints.now c.args.variable c.args.settled.now.items

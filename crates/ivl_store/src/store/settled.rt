@@ -1,4 +1,4 @@
-//! Marks, one per constraint: by a marked constraint, narrowing would change nothing.
+//! Which constraints are settled: narrowing by one would change nothing. There is a flag for each.
 ghost use Rattle.std.specs.Prelude.{◌≡◌, ◌↔◌, ◌<◌, ◌⊎◌, ℕ, ℤ, List, HoldsAt, IfOk, IsTrue, false, length, replicate, slice_set, true};
 ghost use Rattle.ivl_laws.specs.Families.{set_at};
 ghost use Rattle.ivl_store.specs.Narrowing.{Narrowed};
@@ -8,7 +8,7 @@ ghost use Rattle.ivl_store.specs.Solutions.{AreDistinct};
 use super::Constraint;
 use std::alloc::{AllocError, Global};
 
-/// Whether a member was lost at x, at y and at z; a variable in two places has the mark of its
+/// Whether a member was lost at x, at y and at z; a variable in two places has the flag of its
 /// last.
 #[derive(Clone, Copy)]
 pub(crate) struct Lost {
@@ -25,29 +25,34 @@ impl Lost {
     }
 }
 
-/// Returns a list of marks, none of them set.
-pub(super) fn no_marks(alloc: Global, count: usize) -> Result<Vec<bool>, AllocError>
-    ensures { IfOk result (λ marks. marks.items ≡ replicate count false) }
+/// Returns so many flags, none of them set.
+pub(super) fn none_settled(alloc: Global, count: usize) -> Result<Vec<bool>, AllocError>
+    ensures { IfOk result (λ flags. flags.items ≡ replicate count false) }
 {
     vec![in alloc; false; count]
 }
 
-/// Updates the marks after narrowing by constraint `i`. Constraints that name a variable which lost
-/// a member lose their mark; `i` itself is marked unless a member was lost and it has a variable
-/// twice.
-pub(super) fn move_marks(constraints: &[Constraint], i: usize, lost: Lost, settled: &mut Vec<bool>)
+/// Updates the flags after narrowing by constraint `i`. Constraints that name a variable which lost
+/// a member are no longer settled; `i` itself is settled unless a member was lost and it has a
+/// variable twice.
+pub(super) fn settle_after(
+    constraints: &[Constraint],
+    i: usize,
+    lost: Lost,
+    settled: &mut Vec<bool>,
+)
     requires in_list { i < length constraints.now }
     requires one_each { length settled.old.items ≡ length constraints.now }
     ensures count { length settled.new.items ≡ length constraints.now }
-    ensures marked { any_lost lost ≡ false → settled.new.items ≡ slice_set settled.old.items i true }
+    ensures alone { any_lost lost ≡ false → settled.new.items ≡ slice_set settled.old.items i true }
     ensures settled { (old new : List (List (ℤ × ℤ))) → HoldsAt (λ c. (j : ℕ) (v : ℤ) → set_at new j v ↔ Narrowed c (set_at old) j v) constraints.now i
         → HoldsAt (λ c. AreLost c lost (set_at old) (set_at new)) constraints.now i
         → AreSettled constraints.now settled.old.items (set_at old) → AreSettled constraints.now settled.new.items (set_at new) }
 {
     let c = constraints[i];
-    clear_marks(lost.x, constraints, c.x, settled);
-    clear_marks(lost.y, constraints, c.y, settled);
-    clear_marks(lost.z, constraints, c.z, settled);
+    unsettle(lost.x, constraints, c.x, settled);
+    unsettle(lost.y, constraints, c.y, settled);
+    unsettle(lost.z, constraints, c.z, settled);
     settled[i] = is_settled_after(&c, lost);
 }
 
@@ -59,8 +64,8 @@ fn is_settled_after(c: &Constraint, lost: Lost) -> bool
     !lost.any() || c.distinct()
 }
 
-/// Clears the marks of the constraints that name the variable, if it has changed.
-pub(super) fn clear_marks(
+/// Clears the flags of the constraints that name the variable, if it has changed.
+pub(super) fn unsettle(
     changed: bool,
     constraints: &[Constraint],
     variable: usize,
