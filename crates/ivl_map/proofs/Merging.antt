@@ -1,9 +1,9 @@
 -- A walk over two lists of entries, which makes one of both.
-use Rattle.std.proofs.Common.{◌≡◌, ◌⊎◌, ◌↔◌, ⊎_elim, inl, inr, ℕ, zero, suc, ◌-◌, ◌<◌, ◌≤◌, ℤ, ◌≤ℤ◌, ◌<ℤ◌, Bool, true, false, true≢false, IsTrue, List, [], ◌∷◌, length, get_or, take, drop, refl, sym, subst, ◌∙◌, arith}
+use Rattle.std.proofs.Common.{◌≡◌, ◌⊎◌, ◌↔◌, ⊎_elim, inl, inr, ℕ, zero, suc, ◌<◌, ◌≤◌, ℤ, ◌≤ℤ◌, ◌<ℤ◌, Bool, true, List, [], ◌∷◌, length, get_or, take, drop, refl, sym, subst, arith}
 use Rattle.std.proofs.lemmas.Int.{ints, by_lt_z}
-use Rattle.std.proofs.lemmas.List.{length-drop, take_all}
 use Rattle.std.specs.Cmp.{IsEquivalence}
 use Rattle.ivl_laws.specs.Sets.{Above, HasSome, Intersection, IsBetween, SameMembers}
+use Rattle.ivl_laws.proofs.Lengths.{decide_between}
 use Rattle.intervallum.proofs.Sweeping.{same_item}
 use Rattle.ivl_map.specs.Entries.{HasAt, HasValue, IsEntriesOf, IsEntryList, IsEntryListIn, AllEndBelow, OnlyAt, Written}
 use Rattle.ivl_map.specs.Lookups.{IsStoredAt}
@@ -11,18 +11,6 @@ use Rattle.ivl_map.specs.Changes.{IsMergeOf, WrittenPair}
 use Rattle.ivl_map.proofs.Lists.{has_at, has-drop, has_below, open_at, above_past}
 use Rattle.ivl_map.proofs.Overlaps.{all_below}
 use Rattle.ivl_map.proofs.Writing.{after_end, before_start, first_split, last_split}
-
--- a slice from a place on is what is left there
-pub rest_is : {X : Type 0} (xs : List X) (i : ℕ) → take (length xs - i) (drop i xs) ≡ drop i xs
-rest_is xs i = let e = length-drop i xs in take_all (length xs - i) (drop i xs) (omega (arith, e))
-
-pub not_below : (a b : ℤ) (r : Bool) → (IsTrue r ↔ (a <ℤ b)) → r ≡ false → b ≤ℤ a
-not_below a b r w e = by_lt_z a b (λ lt. absurd (true≢false (sym (w.1 lt) ∙ e))) (λ le. le)
-
-is_between : (p : ℤ × ℤ) (z : ℤ) → IsBetween p z ⊎ (¬ (IsBetween p z))
-is_between p z = by_lt_z z p.0
-    (λ lt. inr (λ b. let l = b.0 in omega (arith, ints, lt, l)))
-    (λ le. by_lt_z p.1 z (λ lt. inr (λ b. let u = b.1 in omega (arith, ints, lt, u))) (λ up. inl (le, up)))
 
 module _ {V : Type 0} (eq : V → V → Bool) where
   -- what the walk knows of the list E, beside the list D: it goes on at place i, and M has what stands in the list alone, but for
@@ -122,7 +110,7 @@ module _ {V : Type 0} (eq : V → V → Bool) (o : IsEquivalence eq) where
             (λ lt. part z v b lt t)
             (λ ge. absurd (none (met z (ge, omega (arith, ints, le, low_too))))))
             (λ r. kept z v ((s.alone z v none).1 (c, r)))
-            (is_between rest z)),
+            (decide_between rest z)),
       );
       left = λ z v c n.
           let r = (cut z).0 n in ⊎_elim
@@ -227,7 +215,7 @@ module _ {V : Type 0} (eq : V → V → Bool) (o : IsEquivalence eq) where
               let Q : V → Type 0 = λ a. Gives v a x in
               (x, subst Q (sym is_too) (subst P (sym is) (gives (z, (one.0, two.0)))), (w.values z x).1 (inr (inr (inl (one.0, two.0, o.refl x))))))
               (λ r. let c = l.both z v u r s t in (c.0, c.1, kept z c.0 c.2))
-              (is_between rest z);
+              (decide_between rest z);
           first = side_step whole E D M N i d p q rest next e m h same met filled_too cut low low_too is_end l.upward l.first a moved
               (λ z v c. ⊎_elim
               (λ t. inl t)
@@ -283,7 +271,7 @@ module _ {V : Type 0} (eq : V → V → Bool) (o : IsEquivalence eq) where
         both = λ z v u s t. let c = l.both z v u (none z u (stored_has D z u t)) s t in (c.0, c.1, (w.values z c.0).1 (inr c.2));
         first_alone = λ z v out. (
           (λ c. ⊎_elim (λ (t, r). has-drop eq E i z v t) (λ t. ((l.first.alone z v out).0 t).0) ((w.values z v).0 c)),
-          (λ c. ⊎_elim (λ r. (w.values z v).1 (inl (l.first.left z v c r, r))) (λ r. (w.values z v).1 (inr ((l.first.alone z v out).1 (c, r)))) (is_between rest z)),
+          (λ c. ⊎_elim (λ r. (w.values z v).1 (inl (l.first.left z v c r, r))) (λ r. (w.values z v).1 (inr ((l.first.alone z v out).1 (c, r)))) (decide_between rest z)),
         );
         second_alone = λ z v out. (
           (λ c. ⊎_elim (λ (t, r). absurd (out (v, has-drop eq E i z v t))) (λ t. ((l.second.alone z v out).0 t).0) ((w.values z v).0 c)),
@@ -317,7 +305,7 @@ module _ {V : Type 0} (eq : V → V → Bool) (o : IsEquivalence eq) where
   has_or_not (e ∷ E) z = ⊎_elim
       (λ b. inl (e.1, inl (b, o.refl e.1)))
       (λ out. ⊎_elim (λ k. inl (k.0, inr k.1)) (λ none. inr (λ k. ⊎_elim (λ t. out t.0) (λ c. none (k.0, c)) k.1)) (has_or_not E z))
-      (is_between e.0 z)
+      (decide_between e.0 z)
 
   pub merge_in : (Gives : V → V → V → Type 0) (whole : ℤ × ℤ) (E D N : List ((ℤ × ℤ) × V)) → IsEntryListIn whole eq E → IsEntryListIn whole eq D → IsMergeOf eq Gives E D N → IsEntryListIn whole eq N
   merge_in Gives whole E D N m n w = record {

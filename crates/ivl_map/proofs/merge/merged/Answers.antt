@@ -6,7 +6,9 @@ use Rattle.ivl_laws.proofs.Intervals.{some_is_not_crossed}
 use Rattle.ivl_laws.proofs.Orders.{lt_number}
 use Rattle.ivl_map.specs.Entries.{HasAt, IsEntriesOf, OnlyAt}
 use Rattle.ivl_map.proofs.Lists.{IsEntryList-drop, IsEntryList-take}
-use Rattle.ivl_map.proofs.Merging.{IsMerging, first_ends_merge, head_above, head_above_too, head_ends, head_filled, head_filled_too, merge_step, merging_begins, not_below, rest_above, rest_is, second_ends_merge}
+use Rattle.ivl_interval.proofs.Pairs.{not_below}
+use Rattle.intervallum.proofs.Slices.{from_place}
+use Rattle.ivl_map.proofs.Merging.{IsMerging, first_ends_merge, head_above, head_above_too, head_ends, head_filled, head_filled_too, merge_step, merging_begins, rest_above, second_ends_merge}
 use Rattle.ivl_map.proofs.merge.merged.Goals as goal
 use Rattle.ivl_map.proofs.merge.merged.Goals.{then-i-entries+in_ok-push_rest, else-i-entries+in_ok-push_rest-2}
 
@@ -275,9 +277,9 @@ returns g c =
       | then-i-entries+in_ok-push_rest w ↦
           let N = w.push_rest.new.made.items in
           let done : length D ≤ j = ⊎_elim (λ h. let less = w.if-i-entries.true in absurd (omega (arith, h, less))) (λ h. h) c.in_default.ensures in
-          rw (w.made-is) (first_ends_merge eq o G whole E D i j r M N done l (subst (Pushed N) (rest_is E i) w.in_ok-push_rest.ensures))
+          rw (w.made-is) (first_ends_merge eq o G whole E D i j r M N done l (subst (Pushed N) (from_place E i) w.in_ok-push_rest.ensures))
       | else-i-entries+in_ok-push_rest-2 w ↦
           let N = w.push_rest-else-i-entries.new.made.items in
           let done : length E ≤ i = let more = w.if-i-entries.false in omega (arith, more) in
-          rw (w.made-is) (second_ends_merge eq o G whole E D i j r M N done l (subst (Pushed N) (rest_is D j) w.in_ok-push_rest-2.ensures))
+          rw (w.made-is) (second_ends_merge eq o G whole E D i j r M N done l (subst (Pushed N) (from_place D j) w.in_ok-push_rest-2.ensures))
     ]
