@@ -20,7 +20,7 @@ pub enum Editing {
     Remove,
 }
 
-/// AddsAtEnd or removes a run. The list is the first `n` pairs of the buffer, and what is made of it is
+/// Adds or removes a run. The list is the first `n` pairs of the buffer, and what is made of it is
 /// written to the same buffer. Returns the number of runs or an error code.
 pub fn edit<R: Pair>(alloc: Global, editing: Editing, buffer: &mut [R], n: usize, run: R) -> i64
     ensures { AnswersSet R.Bound.whole (Union (Covers (take n (map R.pair buffer.old))) (IsBetween (R.pair run)))

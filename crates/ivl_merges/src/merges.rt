@@ -41,7 +41,7 @@ pub fn union<R: Pair, S: Sink<R>>(a: &[R], b: &[R], out: &mut S)
     }
 }
 
-/// AddsAtEnd a run that starts no lower than the last one, and returns the run that is then the last. The
+/// Adds a run that starts no lower than the last one, and returns the run that is then the last. The
 /// last run is written again unless the new one is apart from it, so that no branch hangs on their
 /// values.
 fn push_joined<R: Pair, S: Sink<R>>(out: &mut S, last: R, run: R) -> R
@@ -265,7 +265,7 @@ fn left_of<'a, R: Pair>(a: &'a [R], i: usize, b: &'a [R], j: usize) -> &'a [R]
     if i < a.len() { &a[i..] } else { &b[j..] }
 }
 
-/// AddsAtEnd runs, one by one.
+/// Adds runs, one by one.
 fn append<R: Pair, S: Sink<R>>(out: &mut S, runs: &[R])
     requires { S.count out.old + length runs.now ≤ S.room out.old }
     ensures { (start : S) (L : List (ℤ × ℤ)) → S.holds start out.old L → S.holds start out.new (L ++ map R.pair runs.now) }
@@ -311,7 +311,7 @@ fn above<R: Pair>(run: R, other: R) -> R
     R::of(run.lower().max(next), run.upper())
 }
 
-/// AddsAtEnd the part of a run below the start of another one, if there is any.
+/// Adds the part of a run below the start of another one, if there is any.
 fn push_below<R: Pair, S: Sink<R>>(out: &mut S, run: R, other: R)
     requires run { IsRunIn R.Bound.whole (R.pair run) }
     requires other { IsRunIn R.Bound.whole (R.pair other) }
@@ -328,7 +328,7 @@ fn push_below<R: Pair, S: Sink<R>>(out: &mut S, run: R, other: R)
     out.push(R::of(start, end));
 }
 
-/// AddsAtEnd the numbers of the range below a run, if there are any.
+/// Adds the numbers of the range below a run, if there are any.
 fn push_under<R: Pair, S: Sink<R>>(out: &mut S, run: R)
     requires run { IsRunIn R.Bound.whole (R.pair run) }
     requires room { S.count out.old < S.room out.old }
@@ -343,7 +343,7 @@ fn push_under<R: Pair, S: Sink<R>>(out: &mut S, run: R)
     out.push(R::of(low, start.sub_in_range(R::Bound::one())));
 }
 
-/// AddsAtEnd the numbers of the range above a number, if there are any.
+/// Adds the numbers of the range above a number, if there are any.
 fn push_past<R: Pair, S: Sink<R>>(out: &mut S, end: R::Bound)
     requires end { IsBetween R.Bound.whole (R.Bound.value end) }
     requires room { S.count out.old < S.room out.old }

@@ -25,14 +25,14 @@ pub trait Sink<R: Pair> {
     /// Only `push_filled` has added to the list.
     ghost repeats: { Self → Type 0 };
 
-    /// AddsAtEnd a run.
+    /// Adds a run.
     fn push(&mut self, run: R)
         requires { count self.old < room self.old }
         ensures list { (start : Self) → AddsAtEnd (R.pair run) (holds start self.old) (holds start self.new) }
         ensures count { count self.new ≡ count self.old + 1 }
         ensures room { room self.new ≡ room self.old };
 
-    /// AddsAtEnd a run, in the place of the last one if a condition holds.
+    /// Adds a run, in the place of the last one if a condition holds.
     fn push_over(&mut self, is_over: bool, run: R)
         requires room { count self.old < room self.old }
         requires last { from_bool is_over ≤ count self.old }
@@ -40,7 +40,7 @@ pub trait Sink<R: Pair> {
         ensures count { count self.new + from_bool is_over ≡ count self.old + 1 }
         ensures room { room self.new ≡ room self.old };
 
-    /// AddsAtEnd a run unless it is crossed.
+    /// Adds a run unless it is crossed.
     fn push_filled(&mut self, run: R)
         requires room { count self.old < room self.old }
         requires repeats { repeats self.old }

@@ -18,7 +18,7 @@ pub enum Editing {
     Remove,
 }
 
-/// AddsAtEnd or removes a run. The list is the first `n` pairs of the buffer, and what is made of it is
+/// Adds or removes a run. The list is the first `n` pairs of the buffer, and what is made of it is
 /// written to the same buffer. Returns the number of runs or an error code.
 ///
 /// # Proved

@@ -43,7 +43,7 @@ pub fn union<R: Pair, S: Sink<R>>(a: &[R], b: &[R], out: &mut S) {
     }
 }
 
-/// AddsAtEnd a run that starts no lower than the last one, and returns the run that is then the last. The
+/// Adds a run that starts no lower than the last one, and returns the run that is then the last. The
 /// last run is written again unless the new one is apart from it, so that no branch hangs on their
 /// values.
 fn push_joined<R: Pair, S: Sink<R>>(out: &mut S, last: R, run: R) -> R {
@@ -264,7 +264,7 @@ fn left_of<'a, R: Pair>(a: &'a [R], i: usize, b: &'a [R], j: usize) -> &'a [R] {
     if i < a.len() { &a[i..] } else { &b[j..] }
 }
 
-/// AddsAtEnd runs, one by one.
+/// Adds runs, one by one.
 fn append<R: Pair, S: Sink<R>>(out: &mut S, runs: &[R]) {
     for run in runs {
         out.push(*run);
@@ -296,7 +296,7 @@ fn above<R: Pair>(run: R, other: R) -> R {
     R::of(run.lower().max(next), run.upper())
 }
 
-/// AddsAtEnd the part of a run below the start of another one, if there is any.
+/// Adds the part of a run below the start of another one, if there is any.
 fn push_below<R: Pair, S: Sink<R>>(out: &mut S, run: R, other: R) {
     let (start, next) = (run.lower(), other.lower());
     if next <= start {
@@ -306,7 +306,7 @@ fn push_below<R: Pair, S: Sink<R>>(out: &mut S, run: R, other: R) {
     out.push(R::of(start, end));
 }
 
-/// AddsAtEnd the numbers of the range below a run, if there are any.
+/// Adds the numbers of the range below a run, if there are any.
 fn push_under<R: Pair, S: Sink<R>>(out: &mut S, run: R) {
     let (low, start) = (R::Bound::min_value(), run.lower());
     if start <= low {
@@ -315,7 +315,7 @@ fn push_under<R: Pair, S: Sink<R>>(out: &mut S, run: R) {
     out.push(R::of(low, start.sub_in_range(R::Bound::one())));
 }
 
-/// AddsAtEnd the numbers of the range above a number, if there are any.
+/// Adds the numbers of the range above a number, if there are any.
 fn push_past<R: Pair, S: Sink<R>>(out: &mut S, end: R::Bound) {
     let high = R::Bound::max_value();
     if high <= end {

@@ -20,7 +20,7 @@ use crate::rattle::std::hint::select_unpredictable;
 /// repeats: { Self → Type 0 }
 /// ```
 pub trait Sink<R: Pair> {
-    /// AddsAtEnd a run.
+    /// Adds a run.
     ///
     /// # Proved
     ///
@@ -34,7 +34,7 @@ pub trait Sink<R: Pair> {
     /// Words: [`AddsAtEnd`](crate::definitions#AddsAtEnd).
     fn push(&mut self, run: R);
 
-    /// AddsAtEnd a run, in the place of the last one if a condition holds.
+    /// Adds a run, in the place of the last one if a condition holds.
     ///
     /// # Proved
     ///
@@ -49,7 +49,7 @@ pub trait Sink<R: Pair> {
     /// Words: [`AddsOver`](crate::definitions#AddsOver).
     fn push_over(&mut self, is_over: bool, run: R);
 
-    /// AddsAtEnd a run unless it is crossed.
+    /// Adds a run unless it is crossed.
     ///
     /// # Proved
     ///
