@@ -228,6 +228,7 @@ fn debug_builds_test_the_arithmetic_of_bounds_and_sizes() {
 fn debug_builds_test_the_conditions_of_pages_maps_and_searches() {
     use intervallum::proved::ivl_map::IntervalMap;
     use intervallum::proved::ivl_paged::PagedSet;
+    use intervallum::proved::ivl_rules::rules::{Rule, narrowing::narrow};
     use intervallum::proved::ivl_search::search::{Limits, count, greatest, least, solutions};
     use intervallum::proved::ivl_store::store::Constraint;
 
@@ -241,6 +242,7 @@ fn debug_builds_test_the_conditions_of_pages_maps_and_searches() {
         paged().first_fit_from(3, 0) => "the condition of `first_fit_from` is broken: crate::proved::ivl_interval::width::SizeNumber::number(count) > 0";
         paged().take_first_fit(0) => "the condition of `take_first_fit` is broken: crate::proved::ivl_interval::width::SizeNumber::number(count) > 0";
         map().first_fit(Interval::new(1, 9), 0).is_ok() => "the condition of `first_fit` is broken: crate::proved::ivl_interval::width::SizeNumber::number(count) > 0";
+        narrow(&mut domains(), &Rule::Differs { x: 0, y: 1, by: 0 }) => "the condition of `narrow` is broken: rule.is_over_different() && rule.first_unknown(domains.len()).is_none()";
         solutions(Global, &domains(), &twice, limits()) => "the condition of `solutions` is broken: all_distinct(constraints)";
         count(Global, &domains(), &twice, limits()) => "the condition of `count` is broken: all_distinct(constraints)";
         least(Global, &domains(), &twice, 0, limits()) => "the condition of `least` is broken: all_distinct(constraints)";
