@@ -15,7 +15,8 @@
 //! | [`ivl_within`] | sums and differences that are cut to a window |
 //! | [`ivl_store`] | domains of variables, narrowed by constraints `x + y = z` |
 //! | [`ivl_rules`] | rules of two or three variables, `x + 3 <= y` or `x != y` among them, and what narrowing by one leaves |
-//! | [`ivl_search`] | the points that solve such constraints: all of them, or as many as limits allow |
+//! | [`ivl_network`] | domains and such rules that are added one by one, narrowed within a budget, and taken back by marks |
+//! | [`ivl_search`] | the points that solve such constraints or satisfy rules: all of them, or as many as limits allow |
 //! | [`ivl_expr`] | expressions over sets, for range analysis |
 //! | `ivl_buffers` | sets as lists of pairs in the caller's memory, which the library for C has; where `usize` has 64 bits |
 //! | `ivl_json` | JSON, with the feature `json` |
@@ -57,6 +58,7 @@ pub mod ivl_map;
 // the source imports a trait for whose methods Rust does not ask
 #[allow(unused_imports)]
 pub mod ivl_merges;
+pub mod ivl_network;
 pub mod ivl_paged;
 pub mod ivl_rules;
 pub mod ivl_search;
@@ -77,17 +79,21 @@ pub mod examples {
     #[cfg(feature = "json")]
     pub use super::ivl_json::{ItemFault, JsonFault, JsonForm};
     pub use super::ivl_map::{IntervalMap, MapValue};
+    pub use super::ivl_merges::merges;
+    pub use super::ivl_merges::sink::Places;
     pub use super::ivl_paged::PagedSet;
     pub use super::ivl_rules::rules::Rule;
     pub use super::ivl_rules::rules::narrowing::narrow;
+    pub use super::ivl_search::search::rules::all_different;
     pub use super::ivl_search::search::{
         Best, End, Found, Limits, SearchFault, all_distinct, count, greatest, least, solutions, try_solutions,
     };
     pub use super::ivl_store::network::{Network, Settled};
-    pub use super::ivl_store::store::narrowed_sets::narrowed_by;
-    pub use super::ivl_store::store::{Constraint, Post, Store, StoreFault};
+    pub use super::ivl_store::store::narrowed_sets::{narrowed_by, narrowed_to};
+    pub use super::ivl_store::store::{Constraint, Lost, Post, Store, StoreFault};
     pub use super::ivl_within::within::{
-        Combined, add_within, differences_in_window, pair_in_window, results_in_set, sub_within, sums_in_window,
+        Combined, add_within, differences_in_window, pair_in_window, results_in_set, results_unless_all, sub_within,
+        sums_in_window,
     };
     pub use super::kleene::SKleene;
     pub use super::prelude::*;

@@ -163,6 +163,8 @@ fn debug_builds_test_the_conditions_of_the_proved_face() {
         images(&set(), &set(), Op::Difference) => "the condition of `images` is broken: match op { Op::Sum => a.fits_add(b), Op::Difference => a.fits_sub(b), Op::Product => a.fits_mul(b) }";
         pair_in_window(run(), Interval::empty(), Combined::Sum, run()) => "the condition of `pair_in_window` is broken: !a.is_empty() && !b.is_empty() && !window.is_empty()";
         Network::<u8>::new(Global).require(Constraint { x: 0, y: 0, z: 0 }) => "the condition of `require` is broken: constraint.distinct()";
+        Store::<u8>::new(Global, vec![set()].into()).swap(1, None) => "the condition of `swap` is broken: i < self.domains.len()";
+        Store::<u8>::new(Global, vec![set()].into()).cost_of(&Constraint { x: 0, y: 1, z: 2 }) => "the condition of `cost_of` is broken: c.first_unknown(self.domains.len()).is_none()";
         Store::<u8>::new(Global, vec![set()].into()).post_all(&[Post::Require(Constraint { x: 0, y: 0, z: 0 })]) => "the condition of `post_all` is broken: posts.iter().all(|post| match post { Post::Require(c) => c.distinct(), Post::Restrict(..) => true })";
     }
 }
@@ -227,26 +229,33 @@ fn debug_builds_test_the_arithmetic_of_bounds_and_sizes() {
 #[cfg(debug_assertions)]
 fn debug_builds_test_the_conditions_of_pages_maps_and_searches() {
     use intervallum::proved::ivl_map::IntervalMap;
+    use intervallum::proved::ivl_network::network::Network;
     use intervallum::proved::ivl_paged::PagedSet;
     use intervallum::proved::ivl_rules::rules::{Rule, narrowing::narrow};
-    use intervallum::proved::ivl_search::search::{Limits, count, greatest, least, solutions};
+    use intervallum::proved::ivl_search::search::{Limits, count, greatest, least, rules, solutions};
     use intervallum::proved::ivl_store::store::Constraint;
 
     let paged = || PagedSet::of_set(&proved::IntervalSet::new(Global, 10u8, 20).unwrap()).unwrap();
     let map = || IntervalMap::of(Global, Interval::new(10u8, 20), 'a').unwrap();
     let domains = || [proved::IntervalSet::new(Global, 0, 9).unwrap()];
     let twice = [Constraint { x: 0, y: 0, z: 0 }];
+    let same = [Rule::Differs { x: 0, y: 0, by: 0 }];
     let limits = || Limits { solutions: 1, nodes: 9 };
     panics! {
         paged().first_fit(0) => "the condition of `first_fit` is broken: crate::proved::ivl_interval::width::SizeNumber::number(count) > 0";
         paged().first_fit_from(3, 0) => "the condition of `first_fit_from` is broken: crate::proved::ivl_interval::width::SizeNumber::number(count) > 0";
         paged().take_first_fit(0) => "the condition of `take_first_fit` is broken: crate::proved::ivl_interval::width::SizeNumber::number(count) > 0";
         map().first_fit(Interval::new(1, 9), 0).is_ok() => "the condition of `first_fit` is broken: crate::proved::ivl_interval::width::SizeNumber::number(count) > 0";
+        Network::<u8>::new(Global).require(Rule::Shifted { x: 1, y: 1, by: 0 }) => "the condition of `require` is broken: rule.is_over_different()";
         narrow(&mut domains(), &Rule::Differs { x: 0, y: 1, by: 0 }) => "the condition of `narrow` is broken: rule.is_over_different() && rule.first_unknown(domains.len()).is_none()";
         solutions(Global, &domains(), &twice, limits()) => "the condition of `solutions` is broken: all_distinct(constraints)";
         count(Global, &domains(), &twice, limits()) => "the condition of `count` is broken: all_distinct(constraints)";
         least(Global, &domains(), &twice, 0, limits()) => "the condition of `least` is broken: all_distinct(constraints)";
         greatest(Global, &domains(), &twice, 0, limits()) => "the condition of `greatest` is broken: all_distinct(constraints)";
+        rules::solutions(Global, &domains(), &same, limits()) => "the condition of `solutions` is broken: all_different(rules)";
+        rules::count(Global, &domains(), &same, limits()) => "the condition of `count` is broken: all_different(rules)";
+        rules::least(Global, &domains(), &same, 0, limits()) => "the condition of `least` is broken: all_different(rules)";
+        rules::greatest(Global, &domains(), &same, 0, limits()) => "the condition of `greatest` is broken: all_different(rules)";
     }
 }
 

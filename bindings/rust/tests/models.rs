@@ -1,14 +1,16 @@
-//! The two puzzles of docs/SOLVER.md, as they stand there.
+//! The models of docs/SOLVER.md, as they stand there.
 use intervallum::proved::Global;
 use intervallum::proved::interval_set::{IntervalSet, ToIntervalSet};
-use intervallum::proved::ivl_search::search::{End, Limits, solutions};
+use intervallum::proved::ivl_rules::rules::Rule;
+use intervallum::proved::ivl_search::search::rules::solutions;
+use intervallum::proved::ivl_search::search::{End, Limits};
 use intervallum::proved::ivl_store::store::Constraint;
 
-/// Variables with a domain each, and sums of them.
+/// Variables with a domain each, and rules between them.
 #[derive(Default)]
 struct Model {
     domains: Vec<IntervalSet<i64>>,
-    sums: Vec<Constraint>,
+    rules: Vec<Rule>,
 }
 
 impl Model {
@@ -18,19 +20,15 @@ impl Model {
     }
 
     fn sum(&mut self, x: usize, y: usize, z: usize) {
-        self.sums.push(Constraint { x, y, z });
+        self.rules.push(Rule::Sum(Constraint { x, y, z }));
     }
 
-    /// x and y are different: x + d = y, and d is not 0.
     fn differ(&mut self, x: usize, y: usize) {
-        let d = self.variable(&[(-99, -1), (1, 99)]);
-        self.sum(x, d, y);
+        self.rules.push(Rule::Differs { x, y, by: 0 });
     }
 
-    /// x is at most y: x + d = y, and d is not negative.
     fn at_most(&mut self, x: usize, y: usize) {
-        let d = self.variable(&[(0, 99)]);
-        self.sum(x, d, y);
+        self.rules.push(Rule::AtMost { x, y, by: 0 });
     }
 
     /// A variable that is x + y.
@@ -40,10 +38,10 @@ impl Model {
         z
     }
 
-    /// Twice x. A sum has three different variables, so x + 0 is a second one.
+    /// Twice x. A sum has three different variables, so a second one is equal to x.
     fn twice(&mut self, x: usize) -> usize {
-        let (zero, second) = (self.variable(&[(0, 0)]), self.variable(&[(0, 99)]));
-        self.sum(x, zero, second);
+        let second = self.variable(&[(0, 99)]);
+        self.rules.push(Rule::Shifted { x, y: second, by: 0 });
         self.plus(x, second)
     }
 
@@ -62,7 +60,7 @@ impl Model {
     /// The values of these variables in each solution, and whether these are all.
     fn solve(&self, variables: &[usize]) -> (Vec<Vec<i64>>, bool) {
         let limits = Limits { solutions: 1_000, nodes: 100_000 };
-        let found = solutions(Global, &self.domains, &self.sums, limits).expect("memory");
+        let found = solutions(Global, &self.domains, &self.rules, limits).expect("memory");
         let values = |point: &[i64]| variables.iter().map(|i| point[*i]).collect();
         (found.points.iter().map(|point| values(point)).collect(), found.end == End::All)
     }
@@ -88,6 +86,19 @@ fn send_and_more_are_money() {
     model.sum(last, zero, m);
     // 9567 + 1085 = 10652, and nothing else
     assert_eq!(model.solve(&letters), (vec![vec![9, 5, 6, 7, 1, 0, 8, 2]], true));
+}
+
+#[test]
+fn eight_queens() {
+    let mut model = Model::default();
+    let queens: Vec<usize> = (0..8).map(|_| model.variable(&[(0, 7)])).collect();
+    for y in 0..8 {
+        for x in 0..y {
+            let apart = (y - x) as i64;
+            model.rules.extend([0, apart, -apart].map(|by| Rule::Differs { x, y, by }));
+        }
+    }
+    assert_eq!(model.solve(&queens).0.len(), 92);
 }
 
 #[test]

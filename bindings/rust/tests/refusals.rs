@@ -1,13 +1,16 @@
 //! Each request for memory of the calls above sets is refused in turn: searches, networks, sums of many pairs of runs. The call
 //! tells it and leaves what it was given, or answers as with ample memory.
 use intervallum::proved::Global;
+use intervallum::proved::ivl_network;
 use intervallum::proved::ivl_rules::rules::Rule;
 use intervallum::proved::ivl_rules::rules::narrowing::narrow;
 use intervallum::proved::ivl_search::search::{Best, End, Limits, SearchFault, count, greatest, least, solutions};
 use intervallum::proved::ivl_store::network::{Network, Settled};
-use intervallum::proved::ivl_store::store::narrowed_sets::narrowed_by;
+use intervallum::proved::ivl_store::store::narrowed_sets::{narrowed_by, narrowed_to};
 use intervallum::proved::ivl_store::store::{Constraint, StoreFault};
-use intervallum::proved::ivl_within::within::{Combined, differences_in_window, results_in_set, sums_in_window};
+use intervallum::proved::ivl_within::within::{
+    Combined, differences_in_window, results_in_set, results_unless_all, sums_in_window,
+};
 use intervallum::proved::prelude::*;
 use intervallum::proved::{AllocError, Interval};
 
@@ -148,6 +151,62 @@ fn edits_of_a_network() {
     }
 }
 
+/// A network of each kind of rule, with a mark before the last, which narrows further than the others did.
+fn network_of_rules() -> ivl_network::network::Network<i64> {
+    let mut network = ivl_network::network::Network::new(Global);
+    for start in 0..5 {
+        let domain = [(start, start + 1), (start + 3, start + 5), (20 + start, 24)].to_interval_set(Global);
+        network.add_variable(domain.unwrap()).unwrap();
+    }
+    for rule in [Rule::Sum(SUMS[0]), Rule::Shifted { x: 0, y: 1, by: 1 }, Rule::Differs { x: 1, y: 2, by: 0 }] {
+        network.require(rule).unwrap();
+    }
+    assert_eq!(network.settle(1_000).unwrap(), ivl_network::network::Settled::All);
+    network.mark().unwrap();
+    network.require(Rule::AtMost { x: 3, y: 4, by: 2 }).unwrap();
+    network
+}
+
+#[test]
+fn a_network_of_rules_is_left_or_goes_on() {
+    use ivl_network::network::{Network, Settled};
+    let seen = |network: &Network<i64>| -> (Vec<Set>, Vec<Rule>) {
+        (network.domains().iter().map(|domain| domain.try_clone().unwrap()).collect(), network.rules().to_vec())
+    };
+    let before = seen(&network_of_rules());
+    type Edit = fn(&mut Network<i64>) -> Result<bool, StoreFault>;
+    let edits: [(&str, Edit); 2] = [
+        ("require", |network| network.require(Rule::AtMost { x: 4, y: 0, by: 0 }).map(|()| network.rules().len() == 5)),
+        ("restrict", |network| {
+            let odd = [(1, 1), (3, 3), (5, 5)].to_interval_set(Global).map_err(|_| StoreFault::Memory)?;
+            network.restrict(0, &odd).map(|()| network.domains()[0].is_subset(&odd))
+        }),
+    ];
+    for (name, edit) in edits {
+        let (refused, told) = each_refused(network_of_rules, edit, |network, made, _| match made {
+            Ok(is_right) => is_right,
+            Err(fault) => {
+                assert!(fault == StoreFault::Memory && seen(network) == before);
+                false
+            }
+        });
+        assert!(refused > 0 && told > 0, "{name}: {refused}, {told}");
+    }
+    let mut whole = network_of_rules();
+    assert_eq!(whole.settle(1_000).unwrap(), Settled::All);
+    let after = seen(&whole);
+    assert!(after.0 != before.0);
+    let settle = |network: &mut Network<i64>| network.settle(1_000);
+    let (refused, told) = each_refused(network_of_rules, settle, |network, made, _| {
+        let mut again = network.domains().iter().zip(&after.0);
+        // what was narrowed so far stays, and lost nothing
+        assert!(again.all(|(domain, end)| end.is_subset(domain)));
+        made.is_ok_and(|settled| settled == Settled::All && seen(network) == after)
+    });
+    assert!(refused > 1 && told > 1, "{refused}, {told}");
+    assert!(whole.undo_to(0) && seen(&whole).1.len() == 3);
+}
+
 #[test]
 fn a_network_that_settles_can_be_taken_back_and_goes_on() {
     let mut whole = network();
@@ -193,14 +252,41 @@ fn sums_of_many_pairs_of_runs() {
     }
 }
 
+/// So many runs, each a third of a step long.
+fn thirds(count: i64, step: i64) -> Set {
+    let pairs: Vec<(i64, i64)> = (0..count).map(|i| (step * i, step * i + step / 3)).collect();
+    pairs.as_slice().to_interval_set(Global).unwrap()
+}
+
+/// Sums in a set of few runs, in order: the operands stay, and where all members are sums nothing is allocated.
+#[test]
+fn sums_in_order() {
+    let operands = || (thirds(12, 7), thirds(3, 20), thirds(2, 5));
+    let (x, a, b) = operands();
+    let wanted = results_unless_all(&x, &a, &b, Combined::Sum).unwrap().unwrap();
+    assert!(wanted.interval_count() > 4 && wanted.is_subset(&x));
+    let (refused, told) = each_refused(
+        operands,
+        |(x, a, b)| results_unless_all(x, a, b, Combined::Sum),
+        |given, made, _| {
+            assert!(*given == operands());
+            made.is_ok_and(|set| set.is_some_and(|set| set == wanted))
+        },
+    );
+    assert!(refused > 1 && told > 1, "{refused}, {told}");
+    let all = || (thirds(2, 6), thirds(3, 6), thirds(2, 6));
+    let (refused, _) = each_refused(
+        all,
+        |(x, a, b)| results_unless_all(x, a, b, Combined::Sum),
+        |given, made, _| *given == all() && made.is_ok_and(|set| set.is_none()),
+    );
+    assert_eq!(refused, 0);
+}
+
 /// Sums cut to a window or to a set, by pairs and run by run: the operands stay.
 #[test]
 fn sums_in_windows() {
-    let of = |count: i64, step: i64| -> Set {
-        let pairs: Vec<(i64, i64)> = (0..count).map(|i| (step * i, step * i + step / 3)).collect();
-        pairs.as_slice().to_interval_set(Global).unwrap()
-    };
-    let operands = || (of(2, 50), of(20, 6), of(30, 9));
+    let operands = || (thirds(2, 50), thirds(40, 6), thirds(30, 9));
     let window = Interval::new(40, 60);
     type Call = fn(&Set, &Set, &Set) -> Result<Set, AllocError>;
     let calls: [(&str, Call); 3] = [
@@ -265,4 +351,13 @@ fn narrowing_by_rules() {
         },
     );
     assert!(refused > 1 && told > 1);
+    let (refused, told) = each_refused(
+        given,
+        |[x, a, _]| narrowed_to(x, a),
+        |domains, made, _| {
+            assert!(*domains == given());
+            made.is_ok_and(|left| left.is_some())
+        },
+    );
+    assert!(refused > 0 && told > 0);
 }

@@ -22,6 +22,13 @@ use std::hint::select_unpredictable;
 /// The caller must ensure that both lists are runs of sets in the range, from the left, with at least one
 /// number missing between neighbours, and that the sink is empty and has room for as many runs as the
 /// two lists have. `O(n + m)` runs, of which it adds at most `n + m`. Does not allocate.
+///
+/// ```
+/// let (a, b) = ([Interval::new(1, 5)], [Interval::new(4, 9)]);
+/// let mut runs = Vec::with_capacity(alloc, 2)?;
+/// merges::union(&a, &b, &mut runs);
+/// assert!(rt; runs.as_slice() == [Interval::new(1, 9)]);
+/// ```
 #[inline(never)]
 pub fn union<R: Pair, S: Sink<R>>(a: &[R], b: &[R], out: &mut S)
     requires first { IsRunListIn R.Bound.whole (map R.pair a.now) }
@@ -44,7 +51,19 @@ pub fn union<R: Pair, S: Sink<R>>(a: &[R], b: &[R], out: &mut S)
 /// Adds a run that starts no lower than the last one, and returns the run that is then the last. The
 /// last run is written again unless the new one is apart from it, so that no branch hangs on their
 /// values.
-fn push_joined<R: Pair, S: Sink<R>>(out: &mut S, last: R, run: R) -> R
+///
+/// The caller must ensure that neither run is empty, and that the sink has a run and room for one more.
+/// `O(1)`. Does not allocate.
+///
+/// ```
+/// let mut runs = Vec::with_capacity(alloc, 2)?;
+/// let first = Interval::new(1, 5);
+/// runs.push(first)?;
+/// assert!(rt; merges::push_joined(&mut runs, first, Interval::new(6, 9)) == Interval::new(1, 9));
+/// assert!(rt; runs.as_slice() == [Interval::new(1, 9)]);
+/// ```
+#[inline]
+pub fn push_joined<R: Pair, S: Sink<R>>(out: &mut S, last: R, run: R) -> R
     requires last { IsRunIn R.Bound.whole (R.pair last) }
     requires run { IsRunIn R.Bound.whole (R.pair run) }
     requires some { 0 < S.count out.old }
@@ -63,8 +82,16 @@ fn push_joined<R: Pair, S: Sink<R>>(out: &mut S, last: R, run: R) -> R
     next
 }
 
-/// True exactly when no number is missing between a run and one that starts no lower.
-fn joins<R: Pair>(last: R, run: R) -> bool
+/// Returns true exactly when no number is missing between a run and one that starts no lower.
+///
+/// The caller must ensure that neither is empty. `O(1)`. Does not allocate.
+///
+/// ```
+/// let run = Interval::new(1, 3);
+/// assert!(rt; merges::joins(run, Interval::new(4, 9)) && !merges::joins(run, Interval::new(5, 9)));
+/// ```
+#[inline]
+pub fn joins<R: Pair>(last: R, run: R) -> bool
     requires last { IsRunIn R.Bound.whole (R.pair last) }
     requires run { IsRunIn R.Bound.whole (R.pair run) }
     ensures { IsTrue result ↔ ((R.pair run).0 ≤ℤ ((R.pair last).1 +ℤ pos 1)) }
@@ -106,7 +133,11 @@ fn take_first<R: Pair>(a: &[R], i: &mut usize, b: &[R], j: &mut usize) -> Option
     }
 }
 
-/// Returns the pair at a place, if there is one.
+/// Returns the pair at a place, if there is one. `O(1)`. Does not allocate.
+///
+/// ```
+/// assert!(rt; merges::pair_at(&[Interval::new(1, 5)], 0) == Some(Interval::new(1, 5)));
+/// ```
 pub fn pair_at<R: Pair>(runs: &[R], i: usize) -> Option<R>
     ensures { result ≡ slice_get runs.now i }
 {
@@ -118,6 +149,13 @@ pub fn pair_at<R: Pair>(runs: &[R], i: usize) -> Option<R>
 /// The caller must ensure that both lists are runs of sets in the range, from the left, with at least one
 /// number missing between neighbours, and that the sink is empty and has room for as many runs as the
 /// two lists have. `O(n + m)` runs, of which it adds at most `n + m`. Does not allocate.
+///
+/// ```
+/// let (a, b) = ([Interval::new(1, 5)], [Interval::new(4, 9)]);
+/// let mut runs = Vec::with_capacity(alloc, 2)?;
+/// merges::intersection(&a, &b, &mut runs);
+/// assert!(rt; runs.as_slice() == [Interval::new(4, 5)]);
+/// ```
 #[inline(never)]
 pub fn intersection<R: Pair, S: Sink<R>>(a: &[R], b: &[R], out: &mut S)
     requires first { IsRunListIn R.Bound.whole (map R.pair a.now) }
@@ -147,6 +185,13 @@ pub fn intersection<R: Pair, S: Sink<R>>(a: &[R], b: &[R], out: &mut S)
 /// The caller must ensure that both lists are runs of sets in the range, from the left, with at least one
 /// number missing between neighbours, and that the sink is empty and has room for as many runs as the
 /// two lists have. `O(n + m)` runs, of which it adds at most `n + m`. Does not allocate.
+///
+/// ```
+/// let (a, b) = ([Interval::new(1, 5)], [Interval::new(4, 9)]);
+/// let mut runs = Vec::with_capacity(alloc, 2)?;
+/// merges::difference(&a, &b, &mut runs);
+/// assert!(rt; runs.as_slice() == [Interval::new(1, 3)]);
+/// ```
 #[inline(never)]
 pub fn difference<R: Pair, S: Sink<R>>(a: &[R], b: &[R], out: &mut S)
     requires first { IsRunListIn R.Bound.whole (map R.pair a.now) }
@@ -182,6 +227,12 @@ pub fn difference<R: Pair, S: Sink<R>>(a: &[R], b: &[R], out: &mut S)
 /// The caller must ensure that the list is the runs of a set in the range, from the left, with at least
 /// one number missing between neighbours, and that the sink is empty and has room for one run more than
 /// the list has. `O(n)` runs, of which it adds at most `n + 1`. Does not allocate.
+///
+/// ```
+/// let mut runs = Vec::with_capacity(alloc, 2)?;
+/// merges::complement(&[Interval::new(4u8, 9)], &mut runs);
+/// assert!(rt; runs.as_slice() == [Interval::new(0, 3), Interval::new(10, 254)]);
+/// ```
 // taken in by its caller, the loop keeps the number of runs in a register
 #[inline]
 pub fn complement<R: Pair, S: Sink<R>>(runs: &[R], out: &mut S)
@@ -210,6 +261,13 @@ pub fn complement<R: Pair, S: Sink<R>>(runs: &[R], out: &mut S)
 /// The caller must ensure that both lists are runs of sets in the range, from the left, with at least one
 /// number missing between neighbours, and that the sink is empty and has room for as many runs as the
 /// two lists have. `O(n + m)` runs, of which it adds at most `n + m`. Does not allocate.
+///
+/// ```
+/// let (a, b) = ([Interval::new(1, 5)], [Interval::new(4, 9)]);
+/// let mut runs = Vec::with_capacity(alloc, 2)?;
+/// merges::symmetric_difference(&a, &b, &mut runs);
+/// assert!(rt; runs.as_slice() == [Interval::new(1, 3), Interval::new(6, 9)]);
+/// ```
 #[inline(never)]
 pub fn symmetric_difference<R: Pair, S: Sink<R>>(a: &[R], b: &[R], out: &mut S)
     requires first { IsRunListIn R.Bound.whole (map R.pair a.now) }
@@ -357,6 +415,10 @@ fn push_past<R: Pair, S: Sink<R>>(out: &mut S, end: R::Bound)
 }
 
 /// Returns one if a condition holds, and zero if not.
+///
+/// ```
+/// assert!(rt; merges::one_if::<u8>(true) == 1 && merges::one_if::<u8>(false) == 0);
+/// ```
 pub fn one_if<B: Width>(condition: bool) -> B
     ensures { B.value result ≡ pos (from_bool condition) }
 {

@@ -100,6 +100,15 @@ impl<R: Pair> Sink<R> for Vec<R> {
 }
 
 /// The first places of a slice, as many as there are, and the number of all runs.
+///
+/// ```
+/// // both runs are counted, and the one that has a place is written
+/// let mut buffer = [Interval::new(0u8, 0)];
+/// let mut places = Places::new(&mut buffer);
+/// merges::complement(&[Interval::new(4, 9)], &mut places);
+/// assert!(rt; places.count() == 2);
+/// assert!(rt; buffer == [Interval::new(0, 3)]);
+/// ```
 #[derive(Drop)]
 pub struct Places<'a, R: Pair> {
     pub out: &'a mut [R],

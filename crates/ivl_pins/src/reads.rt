@@ -1,8 +1,7 @@
 //! Callers that query a set: neighbours of a value, room, runs, and operations with an interval.
 //! None of them needs a hand-written proof.
-ghost use Rattle.std.specs.Prelude.{◌≡◌, ◌↔◌, ◌⊎◌, ◌≤◌, [], ℕ, ℤ, IfOk, IfSome, IsTrue, MatchOption};
-ghost use Rattle.ivl_laws.specs.Counts.{IsCountOf};
-ghost use Rattle.ivl_laws.specs.Sets.{AtLeast, AtMost, Below, HasNone, HasSome, Intersection, IsBetween, IsSubset, Union, Without};
+ghost use Rattle.std.specs.Prelude.{◌≡◌, ◌↔◌, ◌⊎◌, [], ℤ, IfOk, IfSome, IsTrue, MatchOption};
+ghost use Rattle.ivl_laws.specs.Sets.{AtLeast, AtMost, HasSome, Intersection, IsBetween, IsSubset, Union, Without};
 ghost use Rattle.ivl_laws.specs.Runs.{Covers, IsRunsOf};
 ghost use Rattle.intervallum.specs.Neighbours.{IsGreatest, IsLeast, IsRunWith};
 ghost use Rattle.intervallum.specs.FirstFit.{FitsAt, IsFirstFit};
@@ -53,34 +52,6 @@ pub fn run_by_find<B: Width>(set: &IntervalSet<B>, value: B) -> Option<Interval<
     }
 }
 
-/// Returns the least member from a value on, or another value if there is none.
-pub fn next_or<B: Width>(set: &IntervalSet<B>, value: B, other: B) -> B
-    ensures { (HasNone (AtLeast (B.value value) (Covers set.now)) × (B.value result ≡ B.value other)) ⊎ IsLeast (B.value result) (AtLeast (B.value value) (Covers set.now)) }
-{
-    match set.next_from(value) {
-        Some(x) => x,
-        None => other,
-    }
-}
-
-/// Returns the greatest member up to a value, or another value if there is none.
-pub fn previous_or<B: Width>(set: &IntervalSet<B>, value: B, other: B) -> B
-    ensures { (HasNone (AtMost (B.value value) (Covers set.now)) × (B.value result ≡ B.value other)) ⊎ IsGreatest (B.value result) (AtMost (B.value value) (Covers set.now)) }
-{
-    match set.previous_to(value) {
-        Some(x) => x,
-        None => other,
-    }
-}
-
-/// Returns the run that holds a value, whose numbers are members, or `None` if the value is not a
-/// member.
-pub fn members_around<B: Width>(set: &IntervalSet<B>, value: B) -> Option<Interval<B>>
-    ensures { MatchOption result (¬ (Covers set.now (B.value value))) (λ run. IsSubset (IsBetween run) (Covers set.now) × IsBetween run (B.value value)) }
-{
-    set.run_at(value)
-}
-
 /// Returns the lowest `count` consecutive members, if `count` is tested to be above 0.
 pub fn fit_if_some<B: Width>(set: &IntervalSet<B>, count: B::Output) -> Option<Interval<B>>
     ensures { MatchOption result
@@ -89,24 +60,6 @@ pub fn fit_if_some<B: Width>(set: &IntervalSet<B>, count: B::Output) -> Option<I
 {
     if count.number() > 0 {
         set.first_fit(count)
-    } else {
-        None
-    }
-}
-
-/// Returns the lowest `count` consecutive members from a value on, if `count` is tested to be above
-/// 0.
-pub fn fit_from_if_some<B: Width>(
-    set: &IntervalSet<B>,
-    value: B,
-    count: B::Output,
-) -> Option<Interval<B>>
-    ensures { MatchOption result
-        ((B.Output.size count ≡ 0) ⊎ ((v : ℤ) → ¬ (FitsAt (B.Output.size count) (AtLeast (B.value value) (Covers set.now)) v)))
-        (IsFirstFit (B.Output.size count) (AtLeast (B.value value) (Covers set.now))) }
-{
-    if count.number() > 0 {
-        set.first_fit_from(value, count)
     } else {
         None
     }
@@ -182,22 +135,6 @@ pub fn without_interval<B: Width>(
     ensures { IfOk result (λ L. IsRunsOf L (Without (Covers set.now) (IsBetween interval.now))) }
 {
     set.difference(interval)
-}
-
-/// Returns the number of members below a value.
-pub fn count_below<B: Width>(set: &IntervalSet<B>, value: B) -> B::Output
-    ensures { IsCountOf (B.Output.size result) (Below (B.value value) (Covers set.now)) }
-{
-    set.rank(value)
-}
-
-/// Returns the member with so many others below it.
-pub fn member_by_number<B: Width>(set: &IntervalSet<B>, i: B::Output) -> Option<B>
-    ensures { MatchOption result
-        ((n : ℕ) → IsCountOf n (Covers set.now) → n ≤ B.Output.size i)
-        (λ x. Covers set.now (B.value x) × IsCountOf (B.Output.size i) (Below (B.value x) (Covers set.now))) }
-{
-    set.nth(i)
 }
 
 /// Returns the least number of the last run, by a walk over the runs: each of them has one.

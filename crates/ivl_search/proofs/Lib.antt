@@ -1,6 +1,7 @@
 pub mod Better
 pub mod Budget
 pub mod Cuts
+pub mod Faults
 pub mod Halves
 pub mod Opening
 pub mod Paths
@@ -9,3 +10,4 @@ pub mod Progress
 pub mod Requiring
 pub mod Rooms
 pub mod Spending
+pub mod Sums

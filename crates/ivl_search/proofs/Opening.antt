@@ -12,7 +12,7 @@ use Rattle.ivl_laws.proofs.Counts.{IsCountOf-same, count_is_unique}
 use Rattle.ivl_laws.proofs.Intervals.{width_of-filled}
 use Rattle.ivl_store.specs.Measure.{count_from}
 use Rattle.ivl_store.specs.Network.{IsCutAt}
-use Rattle.ivl_store.specs.Trail.{Past}
+use Rattle.ivl_network.specs.Trail.{RulesPast}
 use Rattle.ivl_store.proofs.Counting.{count_le, count_less}
 use Rattle.ivl_store.proofs.Counts.{total_is_sum}
 use Rattle.ivl_store.proofs.Totals.{total_falls}
@@ -48,13 +48,13 @@ filled_low wanted sets low variable value filled same member cut i lt = elim (sa
 ]
 
 -- both parts of a cut have points, and together those of the sets
-pub record IsOpened {B : Type 0} (value : B → ℤ) (wanted : Wanted) (whole : ℤ × ℤ) (cut : Cut B) (past : Past) (low : List (List (ℤ × ℤ))) : Type 0 where
+pub record IsOpened {B : Type 0} (value : B → ℤ) (wanted : Wanted) (whole : ℤ × ℤ) (cut : Cut B) (past : RulesPast) (low : List (List (ℤ × ℤ))) : Type 0 where
   pub some : 1 ≤ points_of whole low
   pub room : ℕ
   pub is : IsRoom value wanted whole cut past room
   pub sum : points_of whole low + room ≡ points_of whole past.domains
 
-pub opened : {B : Type 0} (value : B → ℤ) (wanted : Wanted) (whole : ℤ × ℤ) (cut : Cut B) (past : Past) (low : List (List (ℤ × ℤ))) → All (IsRunListIn whole) past.domains → All (IsRunListIn whole) low
+pub opened : {B : Type 0} (value : B → ℤ) (wanted : Wanted) (whole : ℤ × ℤ) (cut : Cut B) (past : RulesPast) (low : List (List (ℤ × ℤ))) → All (IsRunListIn whole) past.domains → All (IsRunListIn whole) low
     → ((i : ℕ) → i < length past.domains → HasSome (set_at past.domains i)) → cut.variable < length past.domains → set_at past.domains cut.variable (value cut.value)
     → HasSome (λ v. set_at past.domains cut.variable v × IsBetter wanted v (value cut.value)) → length low ≡ length past.domains
     → IsCutAt cut.variable (IsAsGood wanted (value cut.value)) (set_at past.domains) (set_at low) → IsOpened value wanted whole cut past low
@@ -168,12 +168,12 @@ better_points whole wanted sets good new variable half found runs lt same_good s
     not_better Greatest found b = omega (arith, ints)
 
 -- one more cut takes a node off what is needed
-pub record IsSpentOpen {B : Type 0} (value : B → ℤ) (wanted : Wanted) (whole : ℤ × ℤ) (m : ℕ) (cuts : List (Cut B)) (pasts : List Past) (need here unsettled : ℕ) (low : List (List (ℤ × ℤ))) : Type 0 where
+pub record IsSpentOpen {B : Type 0} (value : B → ℤ) (wanted : Wanted) (whole : ℤ × ℤ) (m : ℕ) (cuts : List (Cut B)) (pasts : List RulesPast) (need here unsettled : ℕ) (low : List (List (ℤ × ℤ))) : Type 0 where
   pub more : ℕ
   pub rooms : HasRoom value wanted whole (m / 500 + 1) cuts pasts more
   pub less : (more + nodes_here (m / 500 + 1) (points_of whole low) unsettled) + 1 ≤ need + here
 
-pub spent_open : {B : Type 0} (value : B → ℤ) (wanted : Wanted) (whole : ℤ × ℤ) (m : ℕ) (cuts : List (Cut B)) (pasts : List Past) (cut : Cut B) (past : Past) (need points u v : ℕ) (low : List (List (ℤ × ℤ)))
+pub spent_open : {B : Type 0} (value : B → ℤ) (wanted : Wanted) (whole : ℤ × ℤ) (m : ℕ) (cuts : List (Cut B)) (pasts : List RulesPast) (cut : Cut B) (past : RulesPast) (need points u v : ℕ) (low : List (List (ℤ × ℤ)))
     → HasRoom value wanted whole (m / 500 + 1) cuts pasts need → v ≤ m → points_of whole past.domains ≤ points → IsOpened value wanted whole cut past low
     → IsSpentOpen value wanted whole m (cuts ++ cut ∷ []) (pasts ++ past ∷ []) need (nodes_here (m / 500 + 1) points u) v low
 spent_open value wanted whole m cuts pasts cut past need points u v low rooms le more_points opened =

@@ -7,9 +7,8 @@ use Rattle.std.proofs.lemmas.List.{get_or_default, map_push}
 use Rattle.std.proofs.lemmas.List.Elements.{All-contains, Contains-push}
 use Rattle.ivl_laws.specs.Runs.{Covers}
 use Rattle.ivl_laws.specs.Sets.{HasNone}
-use Rattle.ivl_store.specs.declared.store.constraint.Constraint.{Constraint}
-use Rattle.ivl_store.specs.Narrowing.{first_unknown_of}
-use Rattle.ivl_search.specs.Points.{Solves, first_unknown_or}
+use Rattle.ivl_rules.specs.declared.rules.Rule.{Rule}
+use Rattle.ivl_search.specs.Points.{SolvesRules, first_unknown_of_rules, first_unknown_or_rules}
 use Rattle.ivl_search.proofs.Cuts.{none_solves}
 
 -- there is no last one only if there are none
@@ -28,9 +27,9 @@ if_none None P R Q h f = f h
 if_none (Some x) P R Q h f = tt
 
 -- no point gives an empty domain a member
-pub empty_solves : (constraints : List Constraint) (sets : List (List (ℤ × ℤ))) (variable : ℕ) (domain : List (ℤ × ℤ)) → variable < length sets
-    → domain ≡ get_or sets variable domain → HasNone (Covers domain) → (point : List ℤ) → Solves constraints sets point → ⊥
-empty_solves constraints sets variable domain lt is none = none_solves constraints sets (record {
+pub empty_solves : (rules : List Rule) (sets : List (List (ℤ × ℤ))) (variable : ℕ) (domain : List (ℤ × ℤ)) → variable < length sets
+    → domain ≡ get_or sets variable domain → HasNone (Covers domain) → (point : List ℤ) → SolvesRules rules sets point → ⊥
+empty_solves rules sets variable domain lt is none = none_solves rules sets (record {
   variable = variable;
   known = lt;
   empty = λ v h. none v (subst (λ s. Covers s v) (sym (is ∙ get_or_default sets variable domain [] lt)) h);
@@ -42,8 +41,8 @@ none_of_two None true v e = cc
 none_of_two (Some i) b v e = cc
 
 -- a variable that is not told as unknown is known
-pub known_variable : (variable count : ℕ) (constraints : List Constraint) → first_unknown_or variable count constraints ≡ None → variable < count
-known_variable variable count constraints e = leb-false count variable (none_of_two (first_unknown_of count constraints) (nat_le count variable) variable e)
+pub known_variable : (variable count : ℕ) (rules : List Rule) → first_unknown_or_rules variable count rules ≡ None → variable < count
+known_variable variable count rules e = leb-false count variable (none_of_two (first_unknown_of_rules count rules) (nat_le count variable) variable e)
 
 -- what holds of all points holds of the last
 pub all_of_last : {A : Type 0} (read : A → List ℤ) (last : Option A) (before items : List A) (points : List (List ℤ)) (P : List ℤ → Type 0)

@@ -1,13 +1,13 @@
 -- How many nodes a search still needs: for the domains, and for the other parts of its cuts.
 use Rattle.std.proofs.Common.{◌≡◌, ◌<◌, ◌≤◌, ◌+◌, ◌-◌, ◌*◌, ◌/◌, ◌∙◌, ℕ, zero, suc, ◌⊎◌, inl, inr, sym, subst, arith, refl, List, [], ◌∷◌, ◌++◌, length, max}
-use Rattle.ivl_store.specs.declared.store.constraint.Constraint.{Constraint}
+use Rattle.ivl_rules.specs.declared.rules.Rule.{Rule}
 use Rattle.std.specs.Prelude.{ℤ}
 use Rattle.std.proofs.Math.Nat.{mul-le-mul_left, mul-le-mul_right}
 use Rattle.ivl_laws.specs.Families.{set_at}
 use Rattle.ivl_store.specs.Measure.{total}
 use Rattle.ivl_store.specs.Network.{IsCutAt}
 use Rattle.ivl_store.specs.Solutions.{LiesWithin}
-use Rattle.ivl_store.specs.Trail.{Past}
+use Rattle.ivl_network.specs.Trail.{RulesPast}
 use Rattle.ivl_search.specs.declared.search.choice.Wanted.{Wanted}
 use Rattle.ivl_search.specs.declared.search.steps.Cut.{Cut}
 use Rattle.ivl_search.specs.Best.{IsBetter}
@@ -15,20 +15,20 @@ use Rattle.ivl_search.specs.Budget.{points_of}
 use Rattle.ivl_search.proofs.Budget.{points_le, points_less}
 
 -- the other part of a cut has so many points, and one at least
-pub record IsRoom {B : Type 0} (value : B → ℤ) (wanted : Wanted) (whole : ℤ × ℤ) (cut : Cut B) (past : Past) (room : ℕ) : Type 0 where
+pub record IsRoom {B : Type 0} (value : B → ℤ) (wanted : Wanted) (whole : ℤ × ℤ) (cut : Cut B) (past : RulesPast) (room : ℕ) : Type 0 where
   pub some : 1 ≤ room
   pub is : (high : List (List (ℤ × ℤ))) → length high ≡ length past.domains
       → IsCutAt cut.variable (λ v. IsBetter wanted v (value cut.value)) (set_at past.domains) (set_at high) → points_of whole high ≡ room
 
 -- the other parts of the cuts need n nodes, where the same members take k at most
-abbrev pub HasRoom : {B : Type 0} → (B → ℤ) → Wanted → ℤ × ℤ → ℕ → List (Cut B) → List Past → ℕ → Type 0
+abbrev pub HasRoom : {B : Type 0} → (B → ℤ) → Wanted → ℤ × ℤ → ℕ → List (Cut B) → List RulesPast → ℕ → Type 0
 HasRoom value wanted whole k [] [] n = n ≡ 0
 HasRoom value wanted whole k [] (past ∷ pasts) n = ⊥
 HasRoom value wanted whole k (cut ∷ cuts) [] n = ⊥
 HasRoom value wanted whole k (cut ∷ cuts) (past ∷ pasts) n =
     (room : ℕ) × (rest : ℕ) × IsRoom value wanted whole cut past room × HasRoom value wanted whole k cuts pasts rest × (n + k ≡ (room * k + room * k) + rest)
 
--- the domains with so many points, and so many constraints to look at, need no more than so many nodes, less two for each k
+-- the domains with so many points, and so many rules to look at, need no more than so many nodes, less two for each k
 abbrev pub nodes_here : ℕ → ℕ → ℕ → ℕ
 nodes_here k points unsettled = (max 1 points * k + max 1 points * k) + (unsettled / 500 + 1)
 
@@ -41,7 +41,7 @@ one_room zero k h = absurd (omega (arith, h))
 one_room (suc r) k h = let e : suc r * k ≡ r * k + k = grind arith in omega (arith, e)
 
 -- one more cut
-pub room_more : {B : Type 0} (value : B → ℤ) (wanted : Wanted) (whole : ℤ × ℤ) (k : ℕ) (cuts : List (Cut B)) (pasts : List Past) (cut : Cut B) (past : Past) (room n m : ℕ)
+pub room_more : {B : Type 0} (value : B → ℤ) (wanted : Wanted) (whole : ℤ × ℤ) (k : ℕ) (cuts : List (Cut B)) (pasts : List RulesPast) (cut : Cut B) (past : RulesPast) (room n m : ℕ)
     → HasRoom value wanted whole k cuts pasts n → IsRoom value wanted whole cut past room → m + k ≡ (room * k + room * k) + n
     → HasRoom value wanted whole k (cuts ++ cut ∷ []) (pasts ++ past ∷ []) m
 room_more value wanted whole k [] [] cut past room n m rooms is e = (room, 0, is, refl, subst (λ n. m + k ≡ (room * k + room * k) + n) rooms e)
@@ -58,14 +58,14 @@ room_more value wanted whole k (c ∷ cuts) (p ∷ pasts) cut past room n m room
     last a b k m n r rest e h f = omega arith
 
 -- one cut less
-pub record IsRoomPopped {B : Type 0} (value : B → ℤ) (wanted : Wanted) (whole : ℤ × ℤ) (k : ℕ) (cuts : List (Cut B)) (cut : Cut B) (before : List Past) (past : Past) (n : ℕ) : Type 0 where
+pub record IsRoomPopped {B : Type 0} (value : B → ℤ) (wanted : Wanted) (whole : ℤ × ℤ) (k : ℕ) (cuts : List (Cut B)) (cut : Cut B) (before : List RulesPast) (past : RulesPast) (n : ℕ) : Type 0 where
   pub room : ℕ
   pub rest : ℕ
   pub is : IsRoom value wanted whole cut past room
   pub others : HasRoom value wanted whole k cuts before rest
   pub sum : n + k ≡ (room * k + room * k) + rest
 
-pub room_popped : {B : Type 0} (value : B → ℤ) (wanted : Wanted) (whole : ℤ × ℤ) (k : ℕ) (cuts : List (Cut B)) (cut : Cut B) (before : List Past) (past : Past) (n : ℕ)
+pub room_popped : {B : Type 0} (value : B → ℤ) (wanted : Wanted) (whole : ℤ × ℤ) (k : ℕ) (cuts : List (Cut B)) (cut : Cut B) (before : List RulesPast) (past : RulesPast) (n : ℕ)
     → length cuts ≡ length before → HasRoom value wanted whole k (cuts ++ cut ∷ []) (before ++ past ∷ []) n → IsRoomPopped value wanted whole k cuts cut before past n
 room_popped value wanted whole k [] cut [] past n e rooms = record {
   room = rooms.0;
@@ -246,9 +246,9 @@ some_for_best k points one =
     last : (b t k : ℕ) → 1 ≤ k → k ≤ b → t ≡ b + b → 0 < t
     last b t k one w r = omega arith
 
--- more constraints need no fewer nodes
-pub more_constraints : (m n q : ℕ) → m ≤ n → q * (m / 500 + 1) ≤ q * (n / 500 + 1)
-more_constraints m n q le =
+-- more rules need no fewer nodes
+pub more_rules : (m n q : ℕ) → m ≤ n → q * (m / 500 + 1) ≤ q * (n / 500 + 1)
+more_rules m n q le =
     let d : m / 500 + 1 ≤ n / 500 + 1 = omega (arith, le) in
     mul-le-mul_left q d
 
@@ -257,22 +257,22 @@ pub one_spent : (nodes left more root before after : ℕ) → nodes + before ≤
 one_spent nodes left more root before after h e less = omega (arith, h, e, less)
 
 pub enough_more : (m n q nodes : ℕ) → m ≤ n → nodes < q * (m / 500 + 1) → nodes < q * (n / 500 + 1)
-enough_more m n q nodes le h = let more = more_constraints m n q le in omega (arith, h, more)
+enough_more m n q nodes le h = let more = more_rules m n q le in omega (arith, h, more)
 
--- the work that is left, for the same constraints
-pub same_work : (whole : ℤ × ℤ) (old new : List (List (ℤ × ℤ))) (before after cs : List Constraint) (u v : ℕ) → after ≡ before → before ≡ cs
+-- the work that is left, for the same rules
+pub same_work : (whole : ℤ × ℤ) (old new : List (List (ℤ × ℤ))) (before after cs : List Rule) (u v : ℕ) → after ≡ before → before ≡ cs
     → 500 + (total whole new * (length after + 1) + v) ≤ total whole old * (length before + 1) + u → 500 + (total whole new * (length cs + 1) + v) ≤ total whole old * (length cs + 1) + u
 same_work whole old new before after cs u v e f h =
-    subst (λ (k : List Constraint). 500 + (total whole new * (length k + 1) + v) ≤ total whole old * (length cs + 1) + u) (e ∙ f)
-    (subst (λ (k : List Constraint). 500 + (total whole new * (length after + 1) + v) ≤ total whole old * (length k + 1) + u) f h)
+    subst (λ (k : List Rule). 500 + (total whole new * (length k + 1) + v) ≤ total whole old * (length cs + 1) + u) (e ∙ f)
+    (subst (λ (k : List Rule). 500 + (total whole new * (length after + 1) + v) ≤ total whole old * (length k + 1) + u) f h)
 
 -- going back to the last cut
-pub record IsSpentBack {B : Type 0} (value : B → ℤ) (wanted : Wanted) (whole : ℤ × ℤ) (m : ℕ) (cuts : List (Cut B)) (before : List Past) (need here unsettled : ℕ) (high : List (List (ℤ × ℤ))) : Type 0 where
+pub record IsSpentBack {B : Type 0} (value : B → ℤ) (wanted : Wanted) (whole : ℤ × ℤ) (m : ℕ) (cuts : List (Cut B)) (before : List RulesPast) (need here unsettled : ℕ) (high : List (List (ℤ × ℤ))) : Type 0 where
   pub rest : ℕ
   pub rooms : HasRoom value wanted whole (m / 500 + 1) cuts before rest
   pub less : (rest + nodes_here (m / 500 + 1) (points_of whole high) unsettled) + 1 ≤ need + here
 
-pub spent_back : {B : Type 0} (value : B → ℤ) (wanted : Wanted) (whole : ℤ × ℤ) (m : ℕ) (all cuts : List (Cut B)) (cut : Cut B) (pasts before : List Past) (past : Past) (need points u v : ℕ) (high : List (List (ℤ × ℤ)))
+pub spent_back : {B : Type 0} (value : B → ℤ) (wanted : Wanted) (whole : ℤ × ℤ) (m : ℕ) (all cuts : List (Cut B)) (cut : Cut B) (pasts before : List RulesPast) (past : RulesPast) (need points u v : ℕ) (high : List (List (ℤ × ℤ)))
     → all ≡ cuts ++ cut ∷ [] → pasts ≡ before ++ past ∷ [] → length cuts ≡ length before → HasRoom value wanted whole (m / 500 + 1) all pasts need → v ≤ m
     → length high ≡ length past.domains → IsCutAt cut.variable (λ z. IsBetter wanted z (value cut.value)) (set_at past.domains) (set_at high)
     → IsSpentBack value wanted whole m cuts before need (nodes_here (m / 500 + 1) points u) v high
@@ -288,4 +288,4 @@ spent_back value wanted whole m all cuts cut pasts before past need points u v h
     }
 
 pub best_more : (m n q nodes : ℕ) → m ≤ n → nodes < q * (m / 500 + 1) + 1 → nodes < q * (n / 500 + 1) + 1
-best_more m n q nodes le h = let more = more_constraints m n q le in omega (arith, h, more)
+best_more m n q nodes le h = let more = more_rules m n q le in omega (arith, h, more)

@@ -4,7 +4,7 @@ use Rattle.std.specs.Prelude.{ℤ, All}
 use Rattle.ivl_laws.specs.Families.{set_at}
 use Rattle.ivl_laws.specs.Runs.{IsRunListIn}
 use Rattle.ivl_laws.specs.Sets.{HasSome}
-use Rattle.ivl_store.specs.declared.store.constraint.Constraint.{Constraint}
+use Rattle.ivl_rules.specs.declared.rules.Rule.{Rule}
 use Rattle.ivl_store.specs.Network.{IsCutAt}
 use Rattle.ivl_search.specs.declared.search.choice.Wanted.{Wanted}
 use Rattle.ivl_search.specs.Best.{IsAsGood, IsBetter}
@@ -30,7 +30,7 @@ some_good : (whole : ℤ × ℤ) (wanted : Wanted) (sets good : List (List (ℤ 
 some_good whole wanted sets good variable half h =
     points_some whole good h.runs_good (filled_low wanted sets good variable half h.filled h.same_count h.middle.member h.cut)
 
-one_each : (cs : List Constraint) → 1 ≤ nodes_each cs
+one_each : (cs : List Rule) → 1 ≤ nodes_each cs
 one_each cs = omega arith
 
 -- it has no more points than the domains
@@ -38,7 +38,7 @@ fewer_good : (whole : ℤ × ℤ) (wanted : Wanted) (sets good : List (List (ℤ
 fewer_good whole wanted sets good variable half h = points_le whole good sets h.same_count (λ i v m. ((h.cut i v).0 m).0)
 
 -- where a point is found in it, and what is better is left
-pub spent_better : (whole : ℤ × ℤ) (wanted : Wanted) (ks cs : List Constraint) (sets good new : List (List (ℤ × ℤ))) (variable : ℕ) (half found : ℤ) (all points nodes before left after : ℕ)
+pub spent_better : (whole : ℤ × ℤ) (wanted : Wanted) (ks cs : List Rule) (sets good new : List (List (ℤ × ℤ))) (variable : ℕ) (half found : ℤ) (all points nodes before left after : ℕ)
     → IsGoodHalf whole wanted sets good variable half → ks ≡ cs → left ≤ after + nodes_enough whole ks good
     → nodes + 2 * points * nodes_each cs ≤ before + 2 * max 1 all * nodes_each cs → left + 1 ≡ before → points_of whole sets ≤ points
     → length new ≡ length sets → IsCutAt variable (IsBetter wanted found) (set_at sets) (set_at new) → set_at sets variable found → IsAsGood wanted half found
@@ -49,7 +49,7 @@ spent_better whole wanted ks cs sets good new variable half found all points nod
     (better_points whole wanted sets good new variable half found h.runs h.known h.same_count same h.middle h.cut cut member as_good) le
 
 -- where there is none, and the other half is left
-pub spent_worse : (whole : ℤ × ℤ) (wanted : Wanted) (ks cs : List Constraint) (sets good new : List (List (ℤ × ℤ))) (variable : ℕ) (half : ℤ) (all points nodes before left after : ℕ)
+pub spent_worse : (whole : ℤ × ℤ) (wanted : Wanted) (ks cs : List Rule) (sets good new : List (List (ℤ × ℤ))) (variable : ℕ) (half : ℤ) (all points nodes before left after : ℕ)
     → IsGoodHalf whole wanted sets good variable half → ks ≡ cs → left ≤ after + nodes_enough whole ks good
     → nodes + 2 * points * nodes_each cs ≤ before + 2 * max 1 all * nodes_each cs → left + 1 ≡ before → points_of whole sets ≤ points
     → length new ≡ length sets → IsCutAt variable (λ v. IsBetter wanted v half) (set_at sets) (set_at new)
@@ -63,7 +63,7 @@ spent_worse whole wanted ks cs sets good new variable half all points nodes befo
     at_most a b c e = omega (arith, e)
 
 -- and where the search of it has used all
-pub spent_all : (whole : ℤ × ℤ) (wanted : Wanted) (ks cs : List Constraint) (sets good : List (List (ℤ × ℤ))) (variable : ℕ) (half : ℤ) (all points nodes before left : ℕ)
+pub spent_all : (whole : ℤ × ℤ) (wanted : Wanted) (ks cs : List Rule) (sets good : List (List (ℤ × ℤ))) (variable : ℕ) (half : ℤ) (all points nodes before left : ℕ)
     → IsGoodHalf whole wanted sets good variable half → ks ≡ cs → left < nodes_enough whole ks good
     → nodes + 2 * points * nodes_each cs ≤ before + 2 * max 1 all * nodes_each cs → left + 1 ≡ before → points_of whole sets ≤ points
     → nodes < 2 * max 1 all * nodes_each cs + 1

@@ -3,6 +3,8 @@
 --     SumHolds point c      the numbers of x and y add up to that of z
 --     Solves cs sets point      the point has one number for each set, a member of it, and each constraint of the
 --         list holds at it
+--     SolvesRules rules sets point      the point has one number for each set, a member of it, and satisfies each rule of
+--         the list
 --     EachOnce points      no point stands twice in the list
 --     IsLeastAt variable solves point, IsGreatestAt variable solves point      no solution gives the variable a
 --         smaller number than the point does; a greater one
@@ -10,12 +12,16 @@
 --     FallsTo, RisesTo variable solves n point      n solutions, each with a smaller number for the variable than the
 --         one before it, and the point is the last; with a greater one; `None` if n is 0
 --     first_unknown_or variable count cs      the first index of the constraints that is not below the count, or else the variable if it is not
+--     first_unknown_of_rules count rules      the first index of the rules, in list order, that is not below the count; `None` if there is none
+--     first_unknown_or_rules variable count rules      that index, or else the variable if it is not below the count
 --     Finds solves points end      the points are solutions, none of them twice, and all of them if the search ended with that
 use Rattle.std.specs.Prelude.{◌≡◌, ◌<◌, ℕ, zero, suc, ℤ, pos, ◌+ℤ◌, ◌≤ℤ◌, ◌<ℤ◌, List, [], ◌∷◌, All, Contains, IfSome, Option, None, Some, if◌then◌else◌, length, nat_le, slice_index_or}
 use Rattle.std.specs.Option.{option_or}
 use Rattle.ivl_laws.specs.Families.{set_at}
 use Rattle.ivl_store.specs.declared.store.constraint.Constraint.{Constraint}
-use Rattle.ivl_store.specs.Narrowing.{first_unknown_of}
+use Rattle.ivl_store.specs.Narrowing.{first_unknown, first_unknown_of}
+use Rattle.ivl_rules.specs.declared.rules.Rule.{Rule}
+use Rattle.ivl_rules.specs.Rules.{Satisfies, places}
 use Rattle.ivl_search.specs.declared.search.End.{End}
 use Rattle.ivl_search.specs.declared.search.End.TheVariants.{All as AllFound}
 
@@ -29,6 +35,11 @@ pub record Solves (constraints : List Constraint) (sets : List (List (ℤ × ℤ
   pub one_each : length point ≡ length sets
   pub members : (i : ℕ) → i < length sets → set_at sets i (coordinate point i)
   pub sums : All (SumHolds point) constraints
+
+pub record SolvesRules (rules : List Rule) (sets : List (List (ℤ × ℤ))) (point : List ℤ) : Type 0 where
+  pub one_each : length point ≡ length sets
+  pub members : (i : ℕ) → i < length sets → set_at sets i (coordinate point i)
+  pub satisfied : All (λ rule. Satisfies rule (coordinate point)) rules
 
 abbrev pub EachOnce : List (List ℤ) → Type 0
 EachOnce [] = Unit {0}
@@ -59,3 +70,10 @@ RisesTo variable solves n point = ImprovesTo (λ old new. old <ℤ new) variable
 
 abbrev pub first_unknown_or : ℕ → ℕ → List Constraint → Option ℕ
 first_unknown_or variable count constraints = option_or (first_unknown_of count constraints) (if nat_le count variable then Some variable else None)
+
+abbrev pub first_unknown_of_rules : ℕ → List Rule → Option ℕ
+first_unknown_of_rules count [] = None
+first_unknown_of_rules count (rule ∷ rules) = option_or (first_unknown count (places rule)) (first_unknown_of_rules count rules)
+
+abbrev pub first_unknown_or_rules : ℕ → ℕ → List Rule → Option ℕ
+first_unknown_or_rules variable count rules = option_or (first_unknown_of_rules count rules) (if nat_le count variable then Some variable else None)

@@ -1,4 +1,5 @@
-//! Searches for the points that solve constraints `x + y = z` over finite domains.
+//! Searches for the points that solve constraints `x + y = z` over finite domains. The module [`rules`]
+//! searches for those that satisfy rules of other kinds.
 //!
 //! A point gives each variable, named by its index from 0, a number of its domain; it is a solution
 //! if each constraint holds at it. [`solutions`] returns the solutions, none of them twice, and says
@@ -26,13 +27,12 @@ use thiserror::Error;
 mod choice;
 mod descent;
 mod optimum;
+pub mod rules;
 mod setup;
 mod steps;
+mod sums;
 
-use choice::Wanted;
-use descent::{Kept, search};
-use optimum::best_at;
-use setup::{first_unknown, network_of};
+use sums::{first_unknown, first_unknown_or, rules_of};
 
 /// How many narrowings one node takes at most. A caller with a budget of narrowings divides it by
 /// this number, to get [`Limits::nodes`].
@@ -83,8 +83,8 @@ pub struct Best<B> {
 /// Why a search failed.
 #[derive(Clone, Copy, Debug, PartialEq, Eq, Error)]
 pub enum SearchFault {
-    /// No domain has this index, which a constraint names. It is the first such index, constraint by
-    /// constraint, and within a constraint in the order `x`, `y`, `z`.
+    /// No domain has this index, which a constraint or a rule names. It is the first such index, one
+    /// after another, and within one in the order `x`, `y`, `z`.
     #[error("no variable {0}")]
     Variable(usize),
     /// An allocation failed.
@@ -150,18 +150,8 @@ pub fn solutions<B: Width>(
     if let Some(i) = first_unknown(constraints, domains.len()) {
         return Err(SearchFault::Variable(i));
     }
-    let mut network = network_of(alloc, domains, constraints)?;
-    let mut left = limits;
-    let points = Vec::new(alloc);
-    let mut found = Kept {
-        is_kept: true,
-        points,
-    };
-    let end = search(alloc, &mut network, Wanted::Least, &mut left, &mut found)?;
-    Ok(Found {
-        points: found.points,
-        end,
-    })
+    let rules = rules_of(alloc, constraints)?;
+    rules::solutions(alloc, domains, &rules, limits)
 }
 
 /// Searches as [`solutions`] does, without its condition: returns `None` if a constraint has a
@@ -245,14 +235,8 @@ pub fn count<B: Width>(
     if let Some(i) = first_unknown(constraints, domains.len()) {
         return Err(SearchFault::Variable(i));
     }
-    let mut network = network_of(alloc, domains, constraints)?;
-    let mut left = limits;
-    let mut found = Kept {
-        is_kept: false,
-        points: Vec::new(alloc),
-    };
-    let end = search(alloc, &mut network, Wanted::Least, &mut left, &mut found)?;
-    Ok((limits.solutions - left.solutions, end))
+    let rules = rules_of(alloc, constraints)?;
+    rules::count(alloc, domains, &rules, limits)
 }
 
 /// Returns a solution in which a variable has its least number: no solution gives it a smaller one.
@@ -307,7 +291,11 @@ pub fn least<B: Width>(
     ensures visited { IfOk result (λ best. best.end ≡ End.Solutions → limits.solutions ≤ limits.nodes) }
     ensures enough { IfOk result (λ best. best.end ≡ End.Nodes → limits.nodes < nodes_for_best B.whole constraints.now domains.now) }
 {
-    best_at(alloc, domains, constraints, variable, limits, Wanted::Least)
+    if let Some(i) = first_unknown_or(variable, domains.len(), constraints) {
+        return Err(SearchFault::Variable(i));
+    }
+    let rules = rules_of(alloc, constraints)?;
+    rules::least(alloc, domains, &rules, variable, limits)
 }
 
 /// Returns a solution in which a variable has its greatest number, as [`least`] does one with its
@@ -348,12 +336,9 @@ pub fn greatest<B: Width>(
     ensures visited { IfOk result (λ best. best.end ≡ End.Solutions → limits.solutions ≤ limits.nodes) }
     ensures enough { IfOk result (λ best. best.end ≡ End.Nodes → limits.nodes < nodes_for_best B.whole constraints.now domains.now) }
 {
-    best_at(
-        alloc,
-        domains,
-        constraints,
-        variable,
-        limits,
-        Wanted::Greatest,
-    )
+    if let Some(i) = first_unknown_or(variable, domains.len(), constraints) {
+        return Err(SearchFault::Variable(i));
+    }
+    let rules = rules_of(alloc, constraints)?;
+    rules::greatest(alloc, domains, &rules, variable, limits)
 }

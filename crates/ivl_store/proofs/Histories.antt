@@ -46,17 +46,17 @@ all_greatest constraints posted domains domains' k g = record {
 cut_off : (family : List (List (ℤ × ℤ))) (count i : ℕ) → i < count → get_or (take count family) i [] ≡ get_or family i []
 cut_off family count i lt = get_or-take count family i [] lt
 
-none_beyond : (family : List (List (ℤ × ℤ))) (count i : ℕ) (v : ℤ) → count ≤ i → set_at (take count family) i v → ⊥
+pub none_beyond : (family : List (List (ℤ × ℤ))) (count i : ℕ) (v : ℤ) → count ≤ i → set_at (take count family) i v → ⊥
 none_beyond family count i v le h =
     subst (λ L. Covers L v) (get_or-eq_default (take count family) [] (let m = length-take count family in let n = min-le_left count (length family) in omega arith)) h
 
-cut_within : (family : List (List (ℤ × ℤ))) (count : ℕ) → LiesWithin (set_at (take count family)) (set_at family)
+pub cut_within : (family : List (List (ℤ × ℤ))) (count : ℕ) → LiesWithin (set_at (take count family)) (set_at family)
 cut_within family count i v h = elim (cases_lt i count) [
   | inl lt ↦ subst (λ L. Covers L v) (cut_off family count i lt) h
   | inr le ↦ absurd (none_beyond family count i v le h)
 ]
 
-cut_has : (family : List (List (ℤ × ℤ))) (count i : ℕ) (v : ℤ) → i < count → set_at family i v → set_at (take count family) i v
+pub cut_has : (family : List (List (ℤ × ℤ))) (count i : ℕ) (v : ℤ) → i < count → set_at family i v → set_at (take count family) i v
 cut_has family count i v lt h = subst (λ L. Covers L v) (sym (cut_off family count i lt)) h
 
 -- and is supported where all constraints name these
@@ -77,7 +77,7 @@ cut_supported constraints count family present s k d lt i names v h =
     }
 
 -- a list with one more at the end
-at_rest : (sets others : List (List (ℤ × ℤ))) (domain : List (ℤ × ℤ)) (i : ℕ) → length sets ≡ length others → length sets ≤ i
+pub at_rest : (sets others : List (List (ℤ × ℤ))) (domain : List (ℤ × ℤ)) (i : ℕ) → length sets ≡ length others → length sets ≤ i
     → get_or (sets ++ domain ∷ []) i [] ≡ get_or (others ++ domain ∷ []) i []
 at_rest sets others domain i same le =
     get_or-append_right sets (domain ∷ []) (length others) i [] same (omega arith) ∙ sym (get_or-append_right others (domain ∷ []) (length others) i [] refl (omega arith))

@@ -69,15 +69,15 @@ was_not_newest cs c i n place not e s =
 -- ---- three places that are written
 
 -- what stands there then
-put : List ℕ → Constraint → ℕ → ℕ → ℕ → List ℕ
+unfoldable pub put : List ℕ → Constraint → ℕ → ℕ → ℕ → List ℕ
 put lasts c a b d = set (set (set lasts c.x a) c.y b) c.z d
 
-length-put : (lasts : List ℕ) (c : Constraint) (a b d : ℕ) → length (put lasts c a b d) ≡ length lasts
+pub length-put : (lasts : List ℕ) (c : Constraint) (a b d : ℕ) → length (put lasts c a b d) ≡ length lasts
 unfolding put
 length-put lasts c a b d = length-set (set (set lasts c.x a) c.y b) c.z d ∙ length-set (set lasts c.x a) c.y b ∙ length-set lasts c.x a
 
 -- a fact that holds of each of the three at its variable, and of what stood there at each other variable
-put_at : (lasts : List ℕ) (c : Constraint) (a b d : ℕ) (P : ℕ → ℕ → Type 0) → AllPresent (length lasts) c → P c.x a → P c.y b → P c.z d
+pub put_at : (lasts : List ℕ) (c : Constraint) (a b d : ℕ) (P : ℕ → ℕ → Type 0) → AllPresent (length lasts) c → P c.x a → P c.y b → P c.z d
     → ((i : ℕ) → (Names c i → ⊥) → P i (get_or lasts i 0)) → (i : ℕ) → P i (get_or (put lasts c a b d) i 0)
 unfolding put
 put_at lasts c a b d P p at_x at_y at_z other i =

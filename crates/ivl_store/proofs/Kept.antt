@@ -14,14 +14,14 @@ use Rattle.ivl_store.proofs.Trails.{SameAtMarks, same_where_unchanged}
 
 -- ---- lists that differ at one place
 
-set-take : {X : Type 0} (n : ℕ) (xs : List X) (i : ℕ) (x : X) → set (take n xs) i x ≡ take n (set xs i x)
+pub set-take : {X : Type 0} (n : ℕ) (xs : List X) (i : ℕ) (x : X) → set (take n xs) i x ≡ take n (set xs i x)
 set-take zero xs i x = refl
 set-take (suc n) [] i x = refl
 set-take (suc n) (y ∷ xs) zero x = refl
 set-take (suc n) (y ∷ xs) (suc i) x = ap (λ ys. y ∷ ys) (set-take n xs i x)
 
 -- they still do where one is replaced in both
-differ_still : (v : ℕ) (d d' : List (List (ℤ × ℤ))) (i : ℕ) (l : Option (List (ℤ × ℤ))) → set d v [] ≡ set d' v [] → set (narrowed_at d i l) v [] ≡ set (narrowed_at d' i l) v []
+pub differ_still : (v : ℕ) (d d' : List (List (ℤ × ℤ))) (i : ℕ) (l : Option (List (ℤ × ℤ))) → set d v [] ≡ set d' v [] → set (narrowed_at d i l) v [] ≡ set (narrowed_at d' i l) v []
 differ_still v d d' i None e = e
 differ_still v d d' i (Some s) e = elim (cases_eq i v) [
   | inl at ↦ ap (λ j. set (set d j s) v []) at ∙ set-set d v s [] ∙ e ∙ sym (set-set d' v s []) ∙ ap (λ j. set (set d' j s) v []) (sym at)
@@ -29,7 +29,7 @@ differ_still v d d' i (Some s) e = elim (cases_eq i v) [
 ]
 
 -- and no more where that one is
-differ_no_more : (v : ℕ) (d d' : List (List (ℤ × ℤ))) (i : ℕ) (l : Option (List (ℤ × ℤ))) → i ≡ v → IsSome l → set d v [] ≡ set d' v [] → narrowed_at d i l ≡ narrowed_at d' i l
+pub differ_no_more : (v : ℕ) (d d' : List (List (ℤ × ℤ))) (i : ℕ) (l : Option (List (ℤ × ℤ))) → i ≡ v → IsSome l → set d v [] ≡ set d' v [] → narrowed_at d i l ≡ narrowed_at d' i l
 differ_no_more v d d' i None at some e = absurd (false≢true some)
 differ_no_more v d d' i (Some s) at some e =
     ap (λ j. set d j s) at ∙ sym (set-set d v [] s) ∙ ap (λ xs. set xs v s) e ∙ set-set d' v [] s ∙ ap (λ j. set d' j s) (sym at)

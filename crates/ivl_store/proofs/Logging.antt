@@ -9,7 +9,7 @@ use Rattle.ivl_store.specs.Trail.{Past, revert, past_at, with_change, IsPresent,
 use Rattle.ivl_store.proofs.Trails.{SameAtMarks, marked_logged, marked_marked, marked_undone, sound_fewer, sound_logged, sound_marked, sound_undone}
 
 -- where no change is written down there is no mark, or nothing changed
-not_both : (is_kept is_change : Bool) (P Q : Type 0) → (is_kept ≡ false → P) → (is_change ≡ false → Q) → (is_kept && is_change) ≡ false → P ⊎ Q
+pub not_both : (is_kept is_change : Bool) (P Q : Type 0) → (is_kept ≡ false → P) → (is_change ≡ false → Q) → (is_kept && is_change) ≡ false → P ⊎ Q
 not_both false is_change P Q p q none = inl (p refl)
 not_both true is_change P Q p q none = inr (q none)
 

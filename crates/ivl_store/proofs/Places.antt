@@ -209,7 +209,7 @@ none_of false true d = inr refl
 none_of false false true = inr refl
 none_of false false false = inl (refl, refl, refl)
 
-is_none_of : (left : Option (List (ℤ × ℤ))) → is_some left ≡ false → left ≡ None
+pub is_none_of : (left : Option (List (ℤ × ℤ))) → is_some left ≡ false → left ≡ None
 is_none_of None e = refl
 is_none_of (Some s) e = absurd (cc)
 

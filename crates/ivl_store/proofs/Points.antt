@@ -9,14 +9,14 @@ use Rattle.ivl_laws.specs.Families.{set_at}
 use Rattle.ivl_store.specs.Solutions.{IsSolution, IsCommonSolution, Supports, SupportedBy, LiesWithin}
 
 -- the family with one more number in the set at a place
-put : ℕ → ℤ → List (List (ℤ × ℤ)) → List (List (ℤ × ℤ))
+pub put : ℕ → ℤ → List (List (ℤ × ℤ)) → List (List (ℤ × ℤ))
 put zero x [] = ((x, x) ∷ []) ∷ []
 put zero x (s ∷ sets) = ((x, x) ∷ s) ∷ sets
 put (suc i) x [] = [] ∷ put i x []
 put (suc i) x (s ∷ sets) = s ∷ put i x sets
 
 -- that set has the number
-put-has : (i : ℕ) (x : ℤ) (sets : List (List (ℤ × ℤ))) → set_at (put i x sets) i x
+pub put-has : (i : ℕ) (x : ℤ) (sets : List (List (ℤ × ℤ))) → set_at (put i x sets) i x
 unfolding put
 put-has zero x [] = let le : x ≤ℤ x = omega (arith, ints) in inl (le, le)
 put-has zero x (s ∷ sets) = let le : x ≤ℤ x = omega (arith, ints) in inl (le, le)
@@ -24,7 +24,7 @@ put-has (suc i) x [] = put-has i x []
 put-has (suc i) x (s ∷ sets) = put-has i x sets
 
 -- no set loses a number
-put-keeps : (i : ℕ) (x : ℤ) (sets : List (List (ℤ × ℤ))) → LiesWithin (set_at sets) (set_at (put i x sets))
+pub put-keeps : (i : ℕ) (x : ℤ) (sets : List (List (ℤ × ℤ))) → LiesWithin (set_at sets) (set_at (put i x sets))
 unfolding put
 put-keeps i x [] j v h = absurd h
 put-keeps zero x (s ∷ sets) zero v h = inr h
@@ -37,7 +37,7 @@ same_number : (x v : ℤ) → x ≤ℤ v → v ≤ℤ x → v ≡ x
 same_number x v a b = omega (arith, ints)
 
 -- no other number is put anywhere
-put-only : (i : ℕ) (x : ℤ) (sets : List (List (ℤ × ℤ))) (j : ℕ) (v : ℤ) → set_at (put i x sets) j v → ((j ≡ i) × (v ≡ x)) ⊎ set_at sets j v
+pub put-only : (i : ℕ) (x : ℤ) (sets : List (List (ℤ × ℤ))) (j : ℕ) (v : ℤ) → set_at (put i x sets) j v → ((j ≡ i) × (v ≡ x)) ⊎ set_at sets j v
 unfolding put
 put-only zero x [] zero v (inl h) = inl (refl, same_number x v h.0 h.1)
 put-only zero x [] zero v (inr h) = absurd h

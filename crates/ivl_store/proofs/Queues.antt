@@ -15,16 +15,16 @@ use Rattle.ivl_store.specs.declared.store.constraint.Constraint.{Constraint}
 
 -- ---- flags
 
-unsettled-set : (flags : List Bool) (i : ℕ) (b d : Bool) → i < length flags → unsettled_count (set flags i b) + cond (not (get_or flags i d)) 1 0 ≡ unsettled_count flags + cond (not b) 1 0
+pub unsettled-set : (flags : List Bool) (i : ℕ) (b d : Bool) → i < length flags → unsettled_count (set flags i b) + cond (not (get_or flags i d)) 1 0 ≡ unsettled_count flags + cond (not b) 1 0
 unsettled-set flags i b d lt = sum_by-set (λ (m : Bool). cond (not m) 1 0) flags i b d lt
 
-waits-set_other : (flags : List Bool) (i k : ℕ) (b : Bool) → (k ≡ i → ⊥) → waits (set flags i b) k ≡ waits flags k
+pub waits-set_other : (flags : List Bool) (i k : ℕ) (b : Bool) → (k ≡ i → ⊥) → waits (set flags i b) k ≡ waits flags k
 waits-set_other flags i k b ne = ap (λ m. cond m 0 1) (get_or-set_other flags i k b true ne)
 
-waits-set_same : (flags : List Bool) (i : ℕ) (b : Bool) → i < length flags → waits (set flags i b) i ≡ cond b 0 1
+pub waits-set_same : (flags : List Bool) (i : ℕ) (b : Bool) → i < length flags → waits (set flags i b) i ≡ cond b 0 1
 waits-set_same flags i b lt = ap (λ m. cond m 0 1) (get_or-set_same flags i b true lt)
 
-waits_at : (flags : List Bool) (i : ℕ) (b d : Bool) → i < length flags → get_or flags i d ≡ b → waits flags i ≡ cond b 0 1
+pub waits_at : (flags : List Bool) (i : ℕ) (b d : Bool) → i < length flags → get_or flags i d ≡ b → waits flags i ≡ cond b 0 1
 waits_at flags i b d lt e = ap (λ m. cond m 0 1) (get_or_default flags i true d lt ∙ e)
 
 -- ---- numbers in a list
@@ -35,17 +35,17 @@ eqb_same k = grind arith
 eqb_other : (j k : ℕ) → (j ≡ k → ⊥) → eqb j k ≡ false
 eqb_other j k ne = grind arith
 
-one_same : (k : ℕ) → times_in k (k ∷ []) ≡ 1
+pub one_same : (k : ℕ) → times_in k (k ∷ []) ≡ 1
 one_same k = subst (λ b. 0 + cond b 1 0 ≡ 1) (sym (eqb_same k)) (omega arith)
 
-one_other : (j k : ℕ) → (j ≡ k → ⊥) → times_in k (j ∷ []) ≡ 0
+pub one_other : (j k : ℕ) → (j ≡ k → ⊥) → times_in k (j ∷ []) ≡ 0
 one_other j k ne = subst (λ b. 0 + cond b 1 0 ≡ 0) (sym (eqb_other j k ne)) (omega arith)
 
-count_push : (list : List ℕ) (j k : ℕ) → times_in k (list ++ j ∷ []) ≡ times_in k list + times_in k (j ∷ [])
+pub count_push : (list : List ℕ) (j k : ℕ) → times_in k (list ++ j ∷ []) ≡ times_in k list + times_in k (j ∷ [])
 count_push list j k = sum_by-append (λ (i : ℕ). cond (eqb i k) 1 0) list (j ∷ [])
 
 -- a number that stands there stands there once at least
-count_some : (list : List ℕ) (k : ℕ) → times_in k (list ++ k ∷ []) ≡ times_in k list + 1
+pub count_some : (list : List ℕ) (k : ℕ) → times_in k (list ++ k ∷ []) ≡ times_in k list + 1
 count_some list k = count_push list k k ∙ ap (λ n. times_in k list + n) (one_same k)
 
 -- one that stands at no place does not

@@ -133,7 +133,7 @@ keep_one constraints variable before after k e so_far lt apart = record {
 }
 
 -- what is not true
-not_true : (b : Bool) → (b ≡ true → ⊥) → b ≡ false
+pub not_true : (b : Bool) → (b ≡ true → ⊥) → b ≡ false
 not_true true n = absurd (n refl)
 not_true false n = refl
 

@@ -32,7 +32,7 @@ past_before trail now start m le within =
     ∙ ap (λ cs. reverted cs now) (sym (drop-append-le m (take start trail) (drop start trail) (omega (arith, n))) ∙ ap (drop m) (take-append-drop start trail))
 
 -- two functions that agree on each mark
-map_agree : {X Y : Type 0} (f g : X → Y) (d : X) (xs : List X) → ((k : ℕ) → k < length xs → f (get_or xs k d) ≡ g (get_or xs k d)) → map f xs ≡ map g xs
+pub map_agree : {X Y : Type 0} (f g : X → Y) (d : X) (xs : List X) → ((k : ℕ) → k < length xs → f (get_or xs k d) ≡ g (get_or xs k d)) → map f xs ≡ map g xs
 map_agree f g d [] h = refl
 map_agree f g d (x ∷ xs) h = ap (λ y. y ∷ map f xs) (h 0 (omega arith)) ∙ ap (λ ys. g x ∷ ys) (map_agree f g d xs (λ k lt. h (suc k) (omega arith)))
 

@@ -37,6 +37,7 @@ use intervallum::interval_set::IntervalSet;
 use intervallum::ops::IsEmpty;
 use intervallum::width::Width;
 pub use post::Post;
+pub use settled::Lost;
 use std::alloc::{AllocError, Global};
 use std::marker::Model;
 

@@ -1,7 +1,9 @@
 //! What callers of the crates above sets can rely on, each as a function that learns it from the public contracts alone:
-//! [`paged`] those of `ivl_paged`, [`json`] those of `ivl_json`, [`expr`] those of `ivl_expr`.
+//! [`run_set`] those that both kinds of set have, [`paged`] those of `ivl_paged` alone,
+//! [`json`] those of `ivl_json`, [`expr`] those of `ivl_expr`.
 #![tactic(auto)]
 
 pub mod expr;
 pub mod json;
 pub mod paged;
+pub mod run_set;

@@ -1,5 +1,7 @@
 mod ExamplesWithin
 pub mod Clipping
+pub mod Fronts
 pub mod Lists
 pub mod Reaching
+pub mod Stretches
 pub mod Windows

@@ -15,7 +15,7 @@ use Rattle.ivl_within.proofs.Clipping.{part_of_sums}
 use Rattle.ivl_within.specs.declared.within.Combined.{Combined}
 use Rattle.ivl_within.specs.declared.within.Combined.TheVariants.{Sum, Difference}
 
-alone : (p : ℤ × ℤ) (x : ℤ) → Covers (p ∷ []) x → IsBetween p x
+pub alone : (p : ℤ × ℤ) (x : ℤ) → Covers (p ∷ []) x → IsBetween p x
 alone p x = ⊎_elim (λ b. b) (λ n. absurd n)
 
 -- the results of one run and each run of a list

@@ -5,6 +5,7 @@ ghost use Rattle.ivl_laws.specs.Runs.{Covers, IsMaximal, IsRunListIn, IsRunsOf};
 ghost use Rattle.ivl_within.specs.Within.{Clipped, SumsBy};
 
 mod by_runs;
+mod fronts;
 mod members;
 mod pairs;
 mod rows;
@@ -14,7 +15,7 @@ use intervallum::interval_set::IntervalSet;
 use intervallum::ops::{Fits, IsEmpty, Whole};
 use intervallum::sweep::coalesce;
 use intervallum::width::Width;
-pub use members::results_in_set;
+pub use members::{results_in_set, results_unless_all};
 pub use pairs::pair_in_window;
 use rows::push_rows;
 use std::alloc::{AllocError, Global};

@@ -4,12 +4,10 @@ ghost use Rattle.ivl_laws.specs.Runs.{AddsRun, Covers, IsMaximal, IsRunListIn, S
 ghost use Rattle.ivl_laws.specs.Counts.{IsCountOf};
 
 use super::IntervalSet;
-use super::run_lists::joins;
 use crate::interval::Interval;
-use crate::ops::{Bounded, Range};
 use crate::width::{SizeNumber, Width};
+use ivl_merges::merges::push_joined;
 use std::alloc::{AllocError, Global};
-use std::hint::select_unpredictable;
 
 impl<B: Width> IntervalSet<B> {
     /// The runs as a slice.
@@ -70,8 +68,7 @@ impl<B: Width> IntervalSet<B> {
 }
 
 /// Adds a run that starts no lower than the last one, in room that is reserved, and returns the run
-/// that is then the last. The last run is written again unless the new one is apart from it, so that
-/// no branch hangs on their values.
+/// that is then the last.
 pub(crate) fn add_reserved<B: Width>(
     runs: &mut Vec<Interval<B>>,
     last: Interval<B>,
@@ -87,12 +84,9 @@ pub(crate) fn add_reserved<B: Width>(
     ensures count { vec_len runs.new ≤ vec_len runs.old + 1 }
     ensures capacity { vec_capacity runs.new ≡ vec_capacity runs.old }
 {
-    let is_joined = joins(&last, &run);
-    let lower = select_unpredictable(is_joined, last.lower(), run.lower());
-    let next = Interval::new(lower, last.upper().max(run.upper()));
-    runs.truncate(runs.len() - usize::from(is_joined));
-    runs.push_reserved(next);
-    next
+    last.in_whole();
+    run.in_whole();
+    push_joined(runs, last, run)
 }
 
 /// A size and some more. The sum is a size again.

@@ -7,6 +7,7 @@ use super::builder::grown;
 use crate::interval::Interval;
 use crate::ops::{Bounded, Cardinality, IsEmpty};
 use crate::width::{SizeNumber, Width};
+use ivl_merges::merges::joins;
 
 /// How many runs of two lists are compared by one branch.
 const GROUP: usize = 4;
@@ -59,17 +60,6 @@ fn is_same<B: Width>(run: Interval<B>, other: Interval<B>) -> bool
     lower_is_same & upper_is_same
 }
 
-/// No number is missing between a run and one that starts no lower.
-pub(super) fn joins<B: Width>(last: &Interval<B>, run: &Interval<B>) -> bool
-    requires last { last.now.0 ≤ℤ last.now.1 }
-    requires run { run.now.0 ≤ℤ run.now.1 }
-    ensures { IsTrue result ↔ (run.now.0 ≤ℤ (last.now.1 +ℤ pos 1)) }
-{
-    let (end, start) = (last.upper(), run.lower());
-    // by one comparison: the width is one where the run starts no higher than the other ends
-    B::width(&end, &start.max(end)).number() <= 2
-}
-
 /// The intervals are a list of runs: none is empty, they ascend, and a number is missing between
 /// neighbours.
 pub(crate) fn are_runs<B: Width>(list: &[Interval<B>]) -> bool
@@ -84,10 +74,11 @@ pub(crate) fn are_runs<B: Width>(list: &[Interval<B>]) -> bool
     first.in_whole();
     let mut last = *first;
     for run in rest {
-        if run.is_empty() || joins(&last, run) {
+        run.in_whole();
+        last.in_whole();
+        if run.is_empty() || joins(last, *run) {
             return false;
         }
-        run.in_whole();
         last = *run;
     }
     true

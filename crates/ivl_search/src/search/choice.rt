@@ -2,8 +2,8 @@
 ghost use Rattle.std.specs.Prelude.{◌≡◌, ◌≢◌, ◌<◌, IfOk, IfSome, MatchOption, None, length, ℤ};
 ghost use Rattle.ivl_laws.specs.Families.{set_at};
 ghost use Rattle.ivl_laws.specs.Runs.{Covers};
-ghost use Rattle.ivl_laws.specs.Sets.{Above, AtLeast, AtMost, Below, HasNone, HasSome, Intersection, IsBetween, Only, SameMembers};
-ghost use Rattle.ivl_search.specs.Best.{IsAsGood, IsBetter};
+ghost use Rattle.ivl_laws.specs.Sets.{Above, Below, HasNone, HasSome, Intersection, IsBetween, Only, SameMembers};
+ghost use Rattle.ivl_search.specs.Best.{IsBetter, IsInPart};
 ghost use Rattle.ivl_search.specs.Halves.{HasTwo, IsMiddle};
 ghost use Rattle.ivl_search.specs.Nodes.{IsNodeOf};
 
@@ -19,6 +19,17 @@ pub(super) enum Wanted {
     Least,
     /// Greater ones.
     Greatest,
+}
+
+/// Which numbers of a variable are kept where its domain is cut at a value.
+#[derive(Clone, Copy, Debug)]
+pub(super) enum Part {
+    /// Those that are better than the value.
+    Better,
+    /// The value, and those that are better.
+    AsGood,
+    /// Those than which the value is better.
+    Worse,
 }
 
 /// What a search finds at domains.
@@ -65,6 +76,7 @@ fn better<B: Width>(best: Option<usize>, i: usize, domains: &[IntervalSet<B>]) -
     ensures none { result ≡ None → (best ≡ None) × ((x : ℤ) × SameMembers (set_at domains.now i) (Only x)) }
 {
     let domain = &domains[i];
+    // for the prover: its runs are maximal
     domain.in_whole();
     if domain.is_singleton() {
         return best;
@@ -87,6 +99,7 @@ fn cut_value<B: Width>(domain: &IntervalSet<B>, wanted: Wanted) -> Option<B>
     ensures worse { IfSome result (λ x. HasSome (λ v. Covers domain.now v × IsBetter wanted v (B.value x))) }
     ensures in_range { IfSome result (λ x. IsBetween B.whole (B.value x)) }
 {
+    // for the prover: its members are in the range
     domain.in_whole();
     let size = domain.size().number();
     if size > 64 {
@@ -124,65 +137,22 @@ pub(super) fn middle<B: Width>(domain: &IntervalSet<B>, wanted: Wanted) -> Optio
     }
 }
 
-/// The numbers that are better than a value.
-pub(super) fn better_than<B: Width>(
+/// The numbers of a part at a value.
+pub(super) fn part_of<B: Width>(
     alloc: Global,
     value: B,
     wanted: Wanted,
+    part: Part,
 ) -> Result<IntervalSet<B>, AllocError>
     requires { IsBetween B.whole (B.value value) }
-    ensures { IfOk result (λ L. SameMembers (Covers L) (Intersection (IsBetween B.whole) (IsBetter wanted (B.value value)))) }
+    ensures { IfOk result (λ L. SameMembers (Covers L) (Intersection (IsBetween B.whole) (IsInPart wanted part (B.value value)))) }
 {
-    match wanted {
-        Wanted::Least => below(alloc, value),
-        Wanted::Greatest => above(alloc, value),
+    match (wanted, part) {
+        (Wanted::Least, Part::Better) | (Wanted::Greatest, Part::Worse) => below(alloc, value),
+        (Wanted::Greatest, Part::Better) | (Wanted::Least, Part::Worse) => above(alloc, value),
+        (Wanted::Least, Part::AsGood) => IntervalSet::new(alloc, B::min_value(), value),
+        (Wanted::Greatest, Part::AsGood) => IntervalSet::new(alloc, value, B::max_value()),
     }
-}
-
-/// The value, and the numbers that are better.
-pub(super) fn as_good_as<B: Width>(
-    alloc: Global,
-    value: B,
-    wanted: Wanted,
-) -> Result<IntervalSet<B>, AllocError>
-    requires { IsBetween B.whole (B.value value) }
-    ensures { IfOk result (λ L. SameMembers (Covers L) (Intersection (IsBetween B.whole) (IsAsGood wanted (B.value value)))) }
-{
-    match wanted {
-        Wanted::Least => up_to(alloc, value),
-        Wanted::Greatest => from(alloc, value),
-    }
-}
-
-/// The numbers than which a value is better.
-pub(super) fn worse_than<B: Width>(
-    alloc: Global,
-    value: B,
-    wanted: Wanted,
-) -> Result<IntervalSet<B>, AllocError>
-    requires { IsBetween B.whole (B.value value) }
-    ensures { IfOk result (λ L. SameMembers (Covers L) (Intersection (IsBetween B.whole) (λ number. IsBetter wanted number (B.value value)))) }
-{
-    match wanted {
-        Wanted::Least => above(alloc, value),
-        Wanted::Greatest => below(alloc, value),
-    }
-}
-
-/// The numbers up to a value.
-fn up_to<B: Width>(alloc: Global, value: B) -> Result<IntervalSet<B>, AllocError>
-    requires { IsBetween B.whole (B.value value) }
-    ensures { IfOk result (λ L. SameMembers (Covers L) (AtMost (B.value value) (IsBetween B.whole))) }
-{
-    IntervalSet::new(alloc, B::min_value(), value)
-}
-
-/// The numbers from a value on.
-fn from<B: Width>(alloc: Global, value: B) -> Result<IntervalSet<B>, AllocError>
-    requires { IsBetween B.whole (B.value value) }
-    ensures { IfOk result (λ L. SameMembers (Covers L) (AtLeast (B.value value) (IsBetween B.whole))) }
-{
-    IntervalSet::new(alloc, value, B::max_value())
 }
 
 /// The numbers above a value.

@@ -2,12 +2,12 @@
 ghost use Rattle.std.specs.Prelude.{◌≡◌, ◌<◌, ◌≤◌, ◌+◌, ◌++◌, ◌∷◌, [], false, true, ℤ, List, All, HoldsAt, IfOk, OnOk, length, map, take};
 ghost use Rattle.ivl_laws.specs.Families.{set_at};
 ghost use Rattle.ivl_laws.specs.Sets.{IsBetween};
-ghost use Rattle.ivl_store.specs.Narrowing.{AllPresent};
 ghost use Rattle.ivl_store.specs.Network.{IsCutAt};
+ghost use Rattle.ivl_network.specs.Families.{ArePresent};
 ghost use Rattle.ivl_search.specs.Best.{IsBetter};
 ghost use Rattle.ivl_search.specs.Budget.{nodes_enough};
 ghost use Rattle.ivl_search.specs.Nodes.{AreSingle, IsOnlyPoint};
-ghost use Rattle.ivl_search.specs.Points.{Finds, Solves};
+ghost use Rattle.ivl_search.specs.Points.{Finds, SolvesRules};
 ghost use Rattle.ivl_search.specs.declared.search.steps.Cut.{Cut};
 
 use super::choice::{Node, Wanted};
@@ -15,7 +15,7 @@ use super::steps::{Cut, advance, enter, leave, point_of};
 use super::{End, Limits};
 use intervallum::interval_set::IntervalSet;
 use intervallum::width::Width;
-use ivl_store::network::Network;
+use ivl_network::network::Network;
 use std::alloc::{AllocError, Global};
 
 /// The points that a search found, if they are kept.
@@ -26,7 +26,7 @@ pub(super) struct Kept<B> {
 }
 
 /// Adds the solutions over the domains of the network to those found, and takes them and the nodes
-/// off what is left. The network keeps its constraints and marks; its domains are narrowed.
+/// off what is left. The network keeps its rules and marks; its domains are narrowed.
 pub(super) fn search<B: Width>(
     alloc: Global,
     network: &mut Network<B>,
@@ -34,21 +34,21 @@ pub(super) fn search<B: Width>(
     left: &mut Limits,
     found: &mut Kept<B>,
 ) -> Result<End, AllocError>
-    requires { All (AllPresent (length network.old.domains)) network.old.constraints }
-    ensures constraints { OnOk result (network.new.constraints ≡ network.old.constraints) }
+    requires { All (ArePresent (length network.old.domains)) network.old.rules }
+    ensures rules { OnOk result (network.new.rules ≡ network.old.rules) }
     ensures marked { OnOk result (network.new.marked ≡ network.old.marked) }
     ensures is_kept { OnOk result (found.new.is_kept ≡ found.old.is_kept) }
-    ensures spent { OnOk result (left.old.nodes ≤ left.new.nodes + nodes_enough B.whole network.old.constraints network.old.domains) }
-    ensures enough { IfOk result (λ end. end ≡ End.Nodes → (left.new.nodes ≡ 0) × (left.old.nodes < nodes_enough B.whole network.old.constraints network.old.domains)) }
+    ensures spent { OnOk result (left.old.nodes ≤ left.new.nodes + nodes_enough B.whole network.old.rules network.old.domains) }
+    ensures enough { IfOk result (λ end. end ≡ End.Nodes → (left.new.nodes ≡ 0) × (left.old.nodes < nodes_enough B.whole network.old.rules network.old.domains)) }
     ensures nodes { OnOk result (left.new.nodes ≤ left.old.nodes) }
     ensures full { IfOk result (λ end. end ≡ End.Solutions → left.new.solutions ≡ 0) }
     ensures visited { OnOk result (left.old.solutions + left.new.nodes ≤ left.new.solutions + left.old.nodes) }
-    ensures finds { IfOk result (λ end. (more : List (List ℤ)) × Finds (Solves network.old.constraints network.old.domains) more end
+    ensures finds { IfOk result (λ end. (more : List (List ℤ)) × Finds (SolvesRules network.old.rules network.old.domains) more end
         × (found.old.is_kept ≡ true → map (λ point. map B.value point.items) found.new.points.items ≡ map (λ point. map B.value point.items) found.old.points.items ++ more)
         × (length more + left.new.solutions ≡ left.old.solutions)) }
 {
-    // No more constraints have to be looked at than there are.
-    network.constraints();
+    // for the prover: no more rules are unsettled than there are
+    network.rules();
     let mut path = Vec::new(alloc);
     while left.nodes > 0 {
         if left.solutions == 0 {
@@ -89,9 +89,9 @@ fn go_back<B: Width>(
     requires known { All (λ cut. cut.mark < length network.old.marked) path.old.items }
     ensures none { IfOk result (λ b. b ≡ false → (path.old.items ≡ []) × (network.new ≡ network.old)) }
     ensures back { IfOk result (λ b. b ≡ true → (cut : Cut B) × (path.old.items ≡ path.new.items ++ cut ∷ []) × (network.new.marked ≡ take cut.mark network.old.marked)
-        × HoldsAt (λ past. (network.new.constraints ≡ past.constraints) × (length network.new.domains ≡ length past.domains)
+        × HoldsAt (λ past. (network.new.rules ≡ past.rules) × (length network.new.domains ≡ length past.domains)
         × IsCutAt cut.variable (λ v. IsBetter wanted v (B.value cut.value)) (set_at past.domains) (set_at network.new.domains)) network.old.marked cut.mark) }
-    ensures unsettled { IfOk result (λ b. b ≡ true → network.new.unsettled ≤ length network.new.constraints) }
+    ensures unsettled { IfOk result (λ b. b ≡ true → network.new.unsettled ≤ length network.new.rules) }
 {
     match path.pop() {
         Some(cut) => {
@@ -104,7 +104,7 @@ fn go_back<B: Width>(
 
 /// Drops the marks of a path.
 fn drop_path<B: Width>(network: &mut Network<B>, path: &[Cut<B>])
-    ensures constraints { network.new.constraints ≡ network.old.constraints }
+    ensures rules { network.new.rules ≡ network.old.rules }
     ensures none { path.now ≡ [] → network.new ≡ network.old }
     ensures marked { (cut : Cut B) (rest : List (Cut B)) → path.now ≡ cut ∷ rest → network.new.marked ≡ take cut.mark network.old.marked }
 {

@@ -4,49 +4,50 @@ ghost use Rattle.std.specs.Prelude.{◌≡◌, ◌↔◌, ◌<◌, ◌≤◌, �
 ghost use Rattle.ivl_laws.specs.Families.{set_at};
 ghost use Rattle.ivl_laws.specs.Runs.{Covers, IsRunListIn};
 ghost use Rattle.ivl_laws.specs.Sets.{Intersection, IsBetween, SameMembers};
-ghost use Rattle.ivl_store.specs.Narrowing.{AllPresent};
 ghost use Rattle.ivl_store.specs.Network.{IsCutAt};
-ghost use Rattle.ivl_store.specs.Solutions.{AreDistinct, LiesWithin};
+ghost use Rattle.ivl_store.specs.Solutions.{LiesWithin};
+ghost use Rattle.ivl_rules.specs.Rules.{AreDifferent};
+ghost use Rattle.ivl_network.specs.Families.{ArePresent};
 ghost use Rattle.ivl_search.specs.Best.{IsAsGood, IsBestAt, IsBetter};
 ghost use Rattle.ivl_search.specs.Budget.{nodes_enough, nodes_for_best};
 ghost use Rattle.ivl_search.specs.Halves.{IsMiddle};
 ghost use Rattle.ivl_search.specs.Nodes.{AreFilled};
-ghost use Rattle.ivl_search.specs.Points.{ImprovesTo, Solves, coordinate, first_unknown_or};
+ghost use Rattle.ivl_search.specs.Points.{ImprovesTo, SolvesRules, coordinate, first_unknown_or_rules};
 
-use super::choice::{Node, Wanted, as_good_as, better_than, middle, worse_than};
+use super::choice::{Node, Part, Wanted, middle};
 use super::descent::{Kept, search};
 use super::setup::{first_unknown_or, network_of};
-use super::steps::{advance, restrict};
+use super::steps::{advance, enter, keep_part};
 use super::{Best, End, Limits, SearchFault};
 use intervallum::interval_set::IntervalSet;
 use intervallum::width::Width;
-use ivl_store::network::Network;
-use ivl_store::store::Constraint;
+use ivl_network::network::Network;
+use ivl_rules::rules::Rule;
 use std::alloc::{AllocError, Global};
 
 /// Returns the best solution over the domains.
 pub(super) fn best_at<B: Width>(
     alloc: Global,
     domains: &[IntervalSet<B>],
-    constraints: &[Constraint],
+    rules: &[Rule],
     variable: usize,
     limits: Limits,
     wanted: Wanted,
 ) -> Result<Best<B>, SearchFault>
-    requires { All AreDistinct constraints.now }
-    ensures unknown { (i : ℕ) → (result ≡ Err (SearchFault.Variable i)) ↔ (first_unknown_or variable (length domains.now) constraints.now ≡ Some i) }
-    ensures sound { IfOk result (λ best. IfSome best.point (λ point. Solves constraints.now domains.now (map B.value point.items))) }
-    ensures best { IfOk result (λ best. best.end ≡ End.All → IfSome best.point (λ point. IsBestAt wanted variable (Solves constraints.now domains.now) (map B.value point.items))) }
-    ensures none { IfOk result (λ best. best.end ≡ End.All → IfNone best.point ((point : List ℤ) → ¬ (Solves constraints.now domains.now point))) }
+    requires { All AreDifferent rules.now }
+    ensures unknown { (i : ℕ) → (result ≡ Err (SearchFault.Variable i)) ↔ (first_unknown_or_rules variable (length domains.now) rules.now ≡ Some i) }
+    ensures sound { IfOk result (λ best. IfSome best.point (λ point. SolvesRules rules.now domains.now (map B.value point.items))) }
+    ensures best { IfOk result (λ best. best.end ≡ End.All → IfSome best.point (λ point. IsBestAt wanted variable (SolvesRules rules.now domains.now) (map B.value point.items))) }
+    ensures none { IfOk result (λ best. best.end ≡ End.All → IfNone best.point ((point : List ℤ) → ¬ (SolvesRules rules.now domains.now point))) }
     ensures bounded { IfOk result (λ best. IfSome best.point (λ _. (1 ≤ limits.solutions) × (1 ≤ limits.nodes))) }
-    ensures full { IfOk result (λ best. best.end ≡ End.Solutions → ImprovesTo (λ old new. IsBetter wanted old new) variable (Solves constraints.now domains.now) limits.solutions (option_map (λ point. map B.value point.items) best.point)) }
+    ensures full { IfOk result (λ best. best.end ≡ End.Solutions → ImprovesTo (λ old new. IsBetter wanted old new) variable (SolvesRules rules.now domains.now) limits.solutions (option_map (λ point. map B.value point.items) best.point)) }
     ensures visited { IfOk result (λ best. best.end ≡ End.Solutions → limits.solutions ≤ limits.nodes) }
-    ensures enough { IfOk result (λ best. best.end ≡ End.Nodes → limits.nodes < nodes_for_best B.whole constraints.now domains.now) }
+    ensures enough { IfOk result (λ best. best.end ≡ End.Nodes → limits.nodes < nodes_for_best B.whole rules.now domains.now) }
 {
-    if let Some(i) = first_unknown_or(variable, domains.len(), constraints) {
+    if let Some(i) = first_unknown_or(variable, domains.len(), rules) {
         return Err(SearchFault::Variable(i));
     }
-    let mut network = network_of(alloc, domains, constraints)?;
+    let mut network = network_of(alloc, domains, rules)?;
     let best = best_of(alloc, &mut network, variable, limits, wanted)?;
     Ok(best)
 }
@@ -60,14 +61,14 @@ fn best_of<B: Width>(
     wanted: Wanted,
 ) -> Result<Best<B>, AllocError>
     requires known { variable < length network.old.domains }
-    requires present { All (AllPresent (length network.old.domains)) network.old.constraints }
-    ensures sound { IfOk result (λ best. IfSome best.point (λ point. Solves network.old.constraints network.old.domains (map B.value point.items))) }
-    ensures best { IfOk result (λ best. best.end ≡ End.All → IfSome best.point (λ point. IsBestAt wanted variable (Solves network.old.constraints network.old.domains) (map B.value point.items))) }
-    ensures none { IfOk result (λ best. best.end ≡ End.All → IfNone best.point ((point : List ℤ) → ¬ (Solves network.old.constraints network.old.domains point))) }
+    requires present { All (ArePresent (length network.old.domains)) network.old.rules }
+    ensures sound { IfOk result (λ best. IfSome best.point (λ point. SolvesRules network.old.rules network.old.domains (map B.value point.items))) }
+    ensures best { IfOk result (λ best. best.end ≡ End.All → IfSome best.point (λ point. IsBestAt wanted variable (SolvesRules network.old.rules network.old.domains) (map B.value point.items))) }
+    ensures none { IfOk result (λ best. best.end ≡ End.All → IfNone best.point ((point : List ℤ) → ¬ (SolvesRules network.old.rules network.old.domains point))) }
     ensures bounded { IfOk result (λ best. IfSome best.point (λ _. (1 ≤ limits.solutions) × (1 ≤ limits.nodes))) }
-    ensures full { IfOk result (λ best. best.end ≡ End.Solutions → ImprovesTo (λ old new. IsBetter wanted old new) variable (Solves network.old.constraints network.old.domains) limits.solutions (option_map (λ point. map B.value point.items) best.point)) }
+    ensures full { IfOk result (λ best. best.end ≡ End.Solutions → ImprovesTo (λ old new. IsBetter wanted old new) variable (SolvesRules network.old.rules network.old.domains) limits.solutions (option_map (λ point. map B.value point.items) best.point)) }
     ensures visited { IfOk result (λ best. best.end ≡ End.Solutions → limits.solutions ≤ limits.nodes) }
-    ensures enough { IfOk result (λ best. best.end ≡ End.Nodes → limits.nodes < nodes_for_best B.whole network.old.constraints network.old.domains) }
+    ensures enough { IfOk result (λ best. best.end ≡ End.Nodes → limits.nodes < nodes_for_best B.whole network.old.rules network.old.domains) }
 {
     let mut left = limits;
     let mut best = None;
@@ -89,12 +90,14 @@ fn best_of<B: Width>(
         let Best { point, end } = one_solution(alloc, network, variable, half, wanted, nodes)?;
         match point {
             Some(point) => {
-                network.domains();
-                keep_better(alloc, network, variable, point[variable], wanted)?;
+                let value = point[variable];
+                keep_part(alloc, network, variable, value, wanted, Part::Better)?;
                 left.solutions -= 1;
                 best = Some(point);
             }
-            None if end == End::All => keep_worse(alloc, network, variable, half, wanted)?,
+            None if end == End::All => {
+                keep_part(alloc, network, variable, half, wanted, Part::Worse)?;
+            }
             None => return Ok(Best { point: best, end }),
         }
     }
@@ -112,12 +115,12 @@ fn narrowed_middle<B: Width>(
     wanted: Wanted,
 ) -> Result<Option<B>, AllocError>
     requires known { variable < length network.old.domains }
-    requires present { All (AllPresent (length network.old.domains)) network.old.constraints }
-    ensures constraints { network.new.constraints ≡ network.old.constraints }
+    requires present { All (ArePresent (length network.old.domains)) network.old.rules }
+    ensures rules { network.new.rules ≡ network.old.rules }
     ensures kept_count { length network.new.domains ≡ length network.old.domains }
     ensures within { LiesWithin (set_at network.new.domains) (set_at network.old.domains) }
-    ensures same { (point : List ℤ) → Solves network.old.constraints network.old.domains point ↔ Solves network.old.constraints network.new.domains point }
-    ensures none { IfOk result (λ half. IfNone half ((point : List ℤ) → ¬ (Solves network.old.constraints network.new.domains point))) }
+    ensures same { (point : List ℤ) → SolvesRules network.old.rules network.old.domains point ↔ SolvesRules network.old.rules network.new.domains point }
+    ensures none { IfOk result (λ half. IfNone half ((point : List ℤ) → ¬ (SolvesRules network.old.rules network.new.domains point))) }
     ensures in_range { IfOk result (λ half. IfSome half (λ value. IsBetween B.whole (B.value value))) }
     ensures filled { IfOk result (λ half. IfSome half (λ value. AreFilled network.new.domains)) }
     ensures middle { IfOk result (λ half. IfSome half (λ value. IsMiddle wanted (set_at network.new.domains variable) (B.value value))) }
@@ -141,21 +144,20 @@ fn one_solution<B: Width>(
 ) -> Result<Best<B>, AllocError>
     requires in_range { IsBetween B.whole (B.value value) }
     requires known { variable < length network.old.domains }
-    requires present { All (AllPresent (length network.old.domains)) network.old.constraints }
+    requires present { All (ArePresent (length network.old.domains)) network.old.rules }
     ensures domains { OnOk result (network.new.domains ≡ network.old.domains) }
-    ensures constraints { OnOk result (network.new.constraints ≡ network.old.constraints) }
+    ensures rules { OnOk result (network.new.rules ≡ network.old.rules) }
     ensures nodes { OnOk result (nodes.new ≤ nodes.old) }
-    ensures sound { IfOk result (λ one. IfSome one.point (λ point. Solves network.old.constraints network.old.domains (map B.value point.items))) }
-    ensures none { IfOk result (λ one. one.end ≡ End.All → IfNone one.point ((point : List ℤ) → Solves network.old.constraints network.old.domains point → IsBetter wanted (coordinate point variable) (B.value value))) }
+    ensures sound { IfOk result (λ one. IfSome one.point (λ point. SolvesRules network.old.rules network.old.domains (map B.value point.items))) }
+    ensures none { IfOk result (λ one. one.end ≡ End.All → IfNone one.point ((point : List ℤ) → SolvesRules network.old.rules network.old.domains point → IsBetter wanted (coordinate point variable) (B.value value))) }
     ensures full { IfOk result (λ one. one.end ≡ End.Solutions → IfNone one.point ⊥) }
     ensures as_good { IfOk result (λ one. IfSome one.point (λ point. IsAsGood wanted (B.value value) (coordinate (map B.value point.items) variable))) }
     ensures half { IfOk result (λ one. (good : List (List (ℤ × ℤ))) × (length good ≡ length network.old.domains) × All (IsRunListIn B.whole) good
         × IsCutAt variable (IsAsGood wanted (B.value value)) (set_at network.old.domains) (set_at good)
-        × (nodes.old ≤ nodes.new + nodes_enough B.whole network.old.constraints good)
-        × (one.end ≡ End.Nodes → (nodes.new ≡ 0) × (nodes.old < nodes_enough B.whole network.old.constraints good))) }
+        × (nodes.old ≤ nodes.new + nodes_enough B.whole network.old.rules good)
+        × (one.end ≡ End.Nodes → (nodes.new ≡ 0) × (nodes.old < nodes_enough B.whole network.old.rules good))) }
 {
-    let mark = network.mark()?;
-    keep_as_good(alloc, network, variable, value, wanted)?;
+    let cut = enter(alloc, network, variable, value, wanted)?;
     let mut left = Limits {
         solutions: 1,
         nodes: *nodes,
@@ -165,67 +167,8 @@ fn one_solution<B: Width>(
         points: Vec::new(alloc),
     };
     let end = search(alloc, network, wanted, &mut left, &mut found)?;
-    network.undo_to(mark);
+    network.undo_to(cut.mark);
     *nodes = left.nodes;
     let point = found.points.pop();
     Ok(Best { point, end })
-}
-
-/// Cuts a domain to its members that are better than a value.
-fn keep_better<B: Width>(
-    alloc: Global,
-    network: &mut Network<B>,
-    variable: usize,
-    value: B,
-    wanted: Wanted,
-) -> Result<(), AllocError>
-    requires { IsBetween B.whole (B.value value) }
-    ensures constraints { OnOk result (network.new.constraints ≡ network.old.constraints) }
-    ensures kept_count { OnOk result (length network.new.domains ≡ length network.old.domains) }
-    ensures cut { OnOk result (IsCutAt variable (IsBetter wanted (B.value value)) (set_at network.old.domains) (set_at network.new.domains)) }
-{
-    let allowed = better_than(alloc, value, wanted)?;
-    network.domains();
-    restrict(network, variable, &allowed)?;
-    Ok(())
-}
-
-/// Cuts a domain to its members that are as good as a value.
-fn keep_as_good<B: Width>(
-    alloc: Global,
-    network: &mut Network<B>,
-    variable: usize,
-    value: B,
-    wanted: Wanted,
-) -> Result<(), AllocError>
-    requires { IsBetween B.whole (B.value value) }
-    ensures constraints { OnOk result (network.new.constraints ≡ network.old.constraints) }
-    ensures marked { OnOk result (network.new.marked ≡ network.old.marked) }
-    ensures kept_count { OnOk result (length network.new.domains ≡ length network.old.domains) }
-    ensures cut { OnOk result (IsCutAt variable (IsAsGood wanted (B.value value)) (set_at network.old.domains) (set_at network.new.domains)) }
-    ensures runs { OnOk result (All (IsRunListIn B.whole) network.new.domains) }
-{
-    let allowed = as_good_as(alloc, value, wanted)?;
-    network.domains();
-    restrict(network, variable, &allowed)?;
-    Ok(())
-}
-
-/// Cuts a domain to its members that are worse than a value.
-fn keep_worse<B: Width>(
-    alloc: Global,
-    network: &mut Network<B>,
-    variable: usize,
-    value: B,
-    wanted: Wanted,
-) -> Result<(), AllocError>
-    requires { IsBetween B.whole (B.value value) }
-    ensures constraints { OnOk result (network.new.constraints ≡ network.old.constraints) }
-    ensures kept_count { OnOk result (length network.new.domains ≡ length network.old.domains) }
-    ensures cut { OnOk result (IsCutAt variable (λ number. IsBetter wanted number (B.value value)) (set_at network.old.domains) (set_at network.new.domains)) }
-{
-    let allowed = worse_than(alloc, value, wanted)?;
-    network.domains();
-    restrict(network, variable, &allowed)?;
-    Ok(())
 }

@@ -1,21 +1,22 @@
-//! The network of the domains and the constraints.
+//! The network of the domains and the rules.
 ghost use Rattle.std.specs.Prelude.{◌≡◌, ◌↔◌, ◌⊎◌, ◌≤◌, ◌+◌, ◌++◌, [], ℤ, List, All, Contains, IfOk, None, OnOk, length};
-ghost use Rattle.ivl_store.specs.Narrowing.{AllPresent, first_unknown as first_unknown_in, first_unknown_of};
-ghost use Rattle.ivl_store.specs.Solutions.{AreDistinct};
-ghost use Rattle.ivl_search.specs.Points.{Solves, first_unknown_or};
+ghost use Rattle.ivl_rules.specs.declared.rules.Rule.{Rule};
+ghost use Rattle.ivl_rules.specs.Rules.{AreDifferent};
+ghost use Rattle.ivl_network.specs.Families.{ArePresent};
+ghost use Rattle.ivl_search.specs.Points.{SolvesRules, first_unknown_of_rules, first_unknown_or_rules};
 
 use intervallum::interval_set::IntervalSet;
 use intervallum::width::Width;
-use ivl_store::network::Network;
-use ivl_store::store::Constraint;
+use ivl_network::network::Network;
+use ivl_rules::rules::Rule;
 use std::alloc::{AllocError, Global};
 
-/// Returns the first index of the constraints that is not below `count`, or `None` if all are.
-pub(super) fn first_unknown(constraints: &[Constraint], count: usize) -> Option<usize>
-    ensures { result ≡ first_unknown_of count constraints.now }
+/// Returns the first index of the rules that is not below `count`, or `None` if all are.
+pub(super) fn first_unknown(rules: &[Rule], count: usize) -> Option<usize>
+    ensures { result ≡ first_unknown_of_rules count rules.now }
 {
-    for constraint in constraints {
-        if let Some(i) = unknown_in(constraint, count) {
+    for rule in rules {
+        if let Some(i) = rule.first_unknown(count) {
             return Some(i);
         }
     }
@@ -23,50 +24,33 @@ pub(super) fn first_unknown(constraints: &[Constraint], count: usize) -> Option<
 }
 
 /// Returns the first such index, or else the variable if it is not below `count`.
-pub(super) fn first_unknown_or(
-    variable: usize,
-    count: usize,
-    constraints: &[Constraint],
-) -> Option<usize>
-    ensures { result ≡ first_unknown_or variable count constraints.now }
+pub(super) fn first_unknown_or(variable: usize, count: usize, rules: &[Rule]) -> Option<usize>
+    ensures { result ≡ first_unknown_or_rules variable count rules.now }
 {
-    match first_unknown(constraints, count) {
+    match first_unknown(rules, count) {
         None if variable >= count => Some(variable),
         unknown => unknown,
     }
 }
 
-fn unknown_in(constraint: &Constraint, count: usize) -> Option<usize>
-    ensures { result ≡ first_unknown_in count constraint.now }
-{
-    if constraint.x >= count {
-        Some(constraint.x)
-    } else if constraint.y >= count {
-        Some(constraint.y)
-    } else if constraint.z >= count {
-        Some(constraint.z)
-    } else {
-        None
-    }
-}
-
-/// Returns a network of copies of the domains, with the constraints.
+/// Returns a network of copies of the domains, with the rules.
 pub(super) fn network_of<B: Width>(
     alloc: Global,
     domains: &[IntervalSet<B>],
-    constraints: &[Constraint],
+    rules: &[Rule],
 ) -> Result<Network<B>, AllocError>
-    requires distinct { All AreDistinct constraints.now }
+    requires { All AreDifferent rules.now }
     ensures marked { IfOk result (λ network. network.marked ≡ []) }
     ensures domains { IfOk result (λ network. network.domains ≡ domains.now) }
-    ensures present { IfOk result (λ network. All (AllPresent (length network.domains)) network.constraints) }
-    ensures no_more { IfOk result (λ network. length network.constraints ≤ length constraints.now) }
-    ensures solutions { IfOk result (λ network. (point : List ℤ) → Solves constraints.now domains.now point ↔ Solves network.constraints domains.now point) }
+    ensures present { IfOk result (λ network. All (ArePresent (length network.domains)) network.rules) }
+    ensures no_more { IfOk result (λ network. length network.rules ≤ length rules.now) }
+    ensures solutions { IfOk result (λ network. (point : List ℤ) → SolvesRules rules.now domains.now point ↔ SolvesRules network.rules domains.now point) }
 {
     let mut network = Network::new(alloc);
     add_variables(&mut network, domains)?;
-    require_all(&mut network, constraints)?;
-    network.constraints();
+    require_all(&mut network, rules)?;
+    // for the prover: the rules name variables of the network
+    network.rules();
     Ok(network)
 }
 
@@ -76,7 +60,7 @@ fn add_variables<B: Width>(
     domains: &[IntervalSet<B>],
 ) -> Result<(), AllocError>
     ensures domains { OnOk result (network.new.domains ≡ network.old.domains ++ domains.now) }
-    ensures constraints { network.new.constraints ≡ network.old.constraints }
+    ensures rules { network.new.rules ≡ network.old.rules }
     ensures marked { network.new.marked ≡ network.old.marked }
 {
     for domain in domains {
@@ -85,19 +69,16 @@ fn add_variables<B: Width>(
     Ok(())
 }
 
-/// Requires each of the constraints.
-fn require_all<B: Width>(
-    network: &mut Network<B>,
-    constraints: &[Constraint],
-) -> Result<(), AllocError>
-    requires { All AreDistinct constraints.now }
+/// Requires each of the rules.
+fn require_all<B: Width>(network: &mut Network<B>, rules: &[Rule]) -> Result<(), AllocError>
+    requires { All AreDifferent rules.now }
     ensures domains { network.new.domains ≡ network.old.domains }
     ensures marked { network.new.marked ≡ network.old.marked }
-    ensures no_more { OnOk result (length network.new.constraints ≤ length network.old.constraints + length constraints.now) }
-    ensures required { OnOk result ((c : Constraint) → Contains network.new.constraints c ↔ (Contains network.old.constraints c ⊎ Contains constraints.now c)) }
+    ensures no_more { OnOk result (length network.new.rules ≤ length network.old.rules + length rules.now) }
+    ensures required { OnOk result ((c : Rule) → Contains network.new.rules c ↔ (Contains network.old.rules c ⊎ Contains rules.now c)) }
 {
-    for constraint in constraints {
-        match network.require(*constraint) {
+    for rule in rules {
+        match network.require(*rule) {
             Ok(()) => {}
             Err(_) => return Err(AllocError),
         }

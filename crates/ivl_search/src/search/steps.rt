@@ -4,19 +4,20 @@ ghost use Rattle.std.specs.Prelude.{◌≡◌, ◌↔◌, ◌<◌, ◌≤◌, �
 ghost use Rattle.ivl_laws.specs.Families.{set_at};
 ghost use Rattle.ivl_laws.specs.Runs.{Covers, IsRunListIn};
 ghost use Rattle.ivl_laws.specs.Sets.{IsBetween};
-ghost use Rattle.ivl_store.specs.Narrowing.{AllPresent};
-ghost use Rattle.ivl_store.specs.Network.{IsCutAt, work};
-ghost use Rattle.ivl_store.specs.Solutions.{LiesWithin, SupportedBy};
-ghost use Rattle.ivl_search.specs.Best.{IsAsGood, IsBetter};
+ghost use Rattle.ivl_store.specs.Network.{IsCutAt};
+ghost use Rattle.ivl_store.specs.Solutions.{LiesWithin};
+ghost use Rattle.ivl_network.specs.Families.{AllSupport, ArePresent};
+ghost use Rattle.ivl_network.specs.Network.{work_of_rules};
+ghost use Rattle.ivl_search.specs.Best.{IsAsGood, IsBetter, IsInPart};
 ghost use Rattle.ivl_search.specs.Nodes.{AreSingle, IsNodeOf, IsOnlyPoint};
-ghost use Rattle.ivl_search.specs.Points.{Solves};
+ghost use Rattle.ivl_search.specs.Points.{SolvesRules};
 
 use super::NARROWINGS_PER_NODE;
-use super::choice::{Node, Wanted, as_good_as, node_of, worse_than};
+use super::choice::{Node, Part, Wanted, node_of, part_of};
 use intervallum::interval_set::IntervalSet;
 use intervallum::ops::Bounded;
 use intervallum::width::Width;
-use ivl_store::network::{Network, Settled};
+use ivl_network::network::{Network, Settled};
 use std::alloc::{AllocError, Global};
 
 /// Narrows the domains, and says what to do with them.
@@ -24,21 +25,22 @@ pub(super) fn advance<B: Width>(
     network: &mut Network<B>,
     wanted: Wanted,
 ) -> Result<Node<B>, AllocError>
-    requires { All (AllPresent (length network.old.domains)) network.old.constraints }
-    ensures constraints { network.new.constraints ≡ network.old.constraints }
+    requires { All (ArePresent (length network.old.domains)) network.old.rules }
+    ensures rules { network.new.rules ≡ network.old.rules }
     ensures marked { network.new.marked ≡ network.old.marked }
     ensures kept_count { length network.new.domains ≡ length network.old.domains }
     ensures within { LiesWithin (set_at network.new.domains) (set_at network.old.domains) }
-    ensures same { (point : List ℤ) → Solves network.old.constraints network.old.domains point ↔ Solves network.old.constraints network.new.domains point }
+    ensures same { (point : List ℤ) → SolvesRules network.old.rules network.old.domains point ↔ SolvesRules network.old.rules network.new.domains point }
     ensures node { IfOk result (IsNodeOf B.value wanted B.whole network.new.domains) }
-    ensures supported { IfOk result (λ node. node ≡ Node.Leaf → SupportedBy network.old.constraints (set_at network.new.domains)) }
-    ensures fewer { IfOk result (λ node. node ≡ Node.Unsettled → 500 + work B.whole network.new ≤ work B.whole network.old) }
+    ensures supported { IfOk result (λ node. node ≡ Node.Leaf → AllSupport network.old.rules (set_at network.new.domains)) }
+    ensures fewer { IfOk result (λ node. node ≡ Node.Unsettled → 500 + work_of_rules B.whole network.new ≤ work_of_rules B.whole network.old) }
     ensures runs { All (IsRunListIn B.whole) network.new.domains }
-    ensures unsettled { (network.old.unsettled ≤ length network.old.constraints) × (network.new.unsettled ≤ length network.old.constraints) }
+    ensures unsettled { (network.old.unsettled ≤ length network.old.rules) × (network.new.unsettled ≤ length network.old.rules) }
 {
-    network.constraints();
+    // for the prover: no more rules are unsettled than there are, before and after
+    network.rules();
     let settled = network.settle(NARROWINGS_PER_NODE);
-    network.constraints();
+    network.rules();
     let domains = network.domains();
     match settled {
         Ok(Settled::All) => Ok(node_of(domains, wanted)),
@@ -72,17 +74,15 @@ pub(super) fn enter<B: Width>(
 ) -> Result<Cut<B>, AllocError>
     requires { IsBetween B.whole (B.value value) }
     ensures place { IfOk result (λ cut. cut ≡ record { mark = length network.old.marked; variable = variable; value = value }) }
-    ensures constraints { OnOk result (network.new.constraints ≡ network.old.constraints) }
-    ensures marked { OnOk result (network.new.marked ≡ network.old.marked ++ (record { domains = network.old.domains; constraints = network.old.constraints }) ∷ []) }
+    ensures rules { OnOk result (network.new.rules ≡ network.old.rules) }
+    ensures marked { OnOk result (network.new.marked ≡ network.old.marked ++ (record { domains = network.old.domains; rules = network.old.rules }) ∷ []) }
     ensures kept_count { OnOk result (length network.new.domains ≡ length network.old.domains) }
     ensures cut { OnOk result (IsCutAt variable (IsAsGood wanted (B.value value)) (set_at network.old.domains) (set_at network.new.domains)) }
     ensures runs { OnOk result (All (IsRunListIn B.whole) network.new.domains) }
-    ensures unsettled { OnOk result (network.new.unsettled ≤ length network.new.constraints) }
+    ensures unsettled { OnOk result (network.new.unsettled ≤ length network.new.rules) }
 {
-    let good = as_good_as(alloc, value, wanted)?;
-    network.domains();
     let mark = network.mark()?;
-    restrict(network, variable, &good)?;
+    keep_part(alloc, network, variable, value, wanted, Part::AsGood)?;
     Ok(Cut {
         mark,
         variable,
@@ -100,34 +100,39 @@ pub(super) fn leave<B: Width>(
     requires in_range { IsBetween B.whole (B.value cut.value) }
     requires known { cut.mark < length network.old.marked }
     ensures marked { OnOk result (network.new.marked ≡ take cut.mark network.old.marked) }
-    ensures cut { OnOk result (HoldsAt (λ past. (network.new.constraints ≡ past.constraints) × (length network.new.domains ≡ length past.domains)
+    ensures cut { OnOk result (HoldsAt (λ past. (network.new.rules ≡ past.rules) × (length network.new.domains ≡ length past.domains)
         × IsCutAt cut.variable (λ v. IsBetter wanted v (B.value cut.value)) (set_at past.domains) (set_at network.new.domains)) network.old.marked cut.mark) }
-    ensures unsettled { OnOk result (network.new.unsettled ≤ length network.new.constraints) }
+    ensures unsettled { OnOk result (network.new.unsettled ≤ length network.new.rules) }
 {
-    let worse = worse_than(alloc, cut.value, wanted)?;
     network.undo_to(cut.mark);
-    network.domains();
-    restrict(network, cut.variable, &worse)?;
+    keep_part(alloc, network, cut.variable, cut.value, wanted, Part::Worse)?;
     Ok(())
 }
 
-/// Cuts a domain to its members in a set.
-pub(super) fn restrict<B: Width>(
+/// Cuts a domain to its members in a part at a value.
+pub(super) fn keep_part<B: Width>(
+    alloc: Global,
     network: &mut Network<B>,
     variable: usize,
-    allowed: &IntervalSet<B>,
+    value: B,
+    wanted: Wanted,
+    part: Part,
 ) -> Result<(), AllocError>
-    ensures constraints { network.new.constraints ≡ network.old.constraints }
-    ensures marked { network.new.marked ≡ network.old.marked }
-    ensures kept_count { length network.new.domains ≡ length network.old.domains }
-    ensures cut { OnOk result (IsCutAt variable (Covers allowed.now) (set_at network.old.domains) (set_at network.new.domains)) }
-    ensures runs { All (IsRunListIn B.whole) network.new.domains }
-    ensures unsettled { network.new.unsettled ≤ length network.new.constraints }
+    requires { IsBetween B.whole (B.value value) }
+    ensures rules { OnOk result (network.new.rules ≡ network.old.rules) }
+    ensures marked { OnOk result (network.new.marked ≡ network.old.marked) }
+    ensures kept_count { OnOk result (length network.new.domains ≡ length network.old.domains) }
+    ensures cut { OnOk result (IsCutAt variable (IsInPart wanted part (B.value value)) (set_at network.old.domains) (set_at network.new.domains)) }
+    ensures runs { OnOk result (All (IsRunListIn B.whole) network.new.domains) }
+    ensures unsettled { OnOk result (network.new.unsettled ≤ length network.new.rules) }
 {
-    let cut = network.restrict(variable, allowed);
-    // What holds of every network.
+    let allowed = part_of(alloc, value, wanted, part)?;
+    // for the prover: the domains are lists of runs within the range
     network.domains();
-    network.constraints();
+    let cut = network.restrict(variable, &allowed);
+    // for the prover: so are they now, and no more rules are unsettled than there are
+    network.domains();
+    network.rules();
     match cut {
         Ok(()) => Ok(()),
         Err(_) => Err(AllocError),

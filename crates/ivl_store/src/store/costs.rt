@@ -8,8 +8,17 @@ use intervallum::width::Width;
 
 impl<B: Width> Store<B> {
     /// What narrowing by a constraint counts for: one, and one more for each 256 pairs of runs of two
-    /// of its domains.
-    pub(crate) fn cost_of(&self, c: &Constraint) -> u64
+    /// of its domains. `O(1)`, does not allocate.
+    ///
+    /// The caller must ensure that its variables have a domain. Check with
+    /// [`Constraint::first_unknown`].
+    ///
+    /// ```
+    /// let domain = IntervalSet::new(alloc, 0, 9)?;
+    /// let store: Store<i32> = Store::new(alloc, vec![in alloc; domain.try_clone()?, domain.try_clone()?, domain]?);
+    /// assert_eq!(rt; store.cost_of(&Constraint { x: 0, y: 1, z: 2 }), 1);
+    /// ```
+    pub fn cost_of(&self, c: &Constraint) -> u64
         requires { AllPresent (length self.now) c.now }
         ensures cost { result ≡ cost_of c.now self.now }
         ensures positive { 0 < result }

@@ -11,7 +11,7 @@ use intervallum::interval::Interval;
 use intervallum::interval_set::IntervalSet;
 use intervallum::ops::{Cardinality, Intersection};
 use intervallum::width::Width;
-use ivl_within::within::{Combined, pair_in_window, results_in_set};
+use ivl_within::within::{Combined, pair_in_window, results_unless_all};
 use std::alloc::AllocError;
 
 /// Returns what narrowing leaves at x, y and z, or `None` for a place that loses no member. A
@@ -46,7 +46,8 @@ pub(super) fn narrowed_sets<B: Width>(
 }
 
 /// Returns the members of `x` that are a sum, or a difference, of a member of `a` and one of `b`, or `None` if all
-/// are. `O(1)` if each is a single run; else costs what [`results_in_set`] costs.
+/// are. `O(1)` if each is a single run; else costs what [`results_unless_all`] costs, and if that finds that all
+/// are, does not allocate.
 ///
 /// # Errors
 ///
@@ -73,7 +74,9 @@ pub fn narrowed_by<B: Width>(
         let run = runs[0];
         return narrowed_run(x, run, pair_in_window(first[0], second[0], op, run));
     }
-    let left = results_in_set(x, a, b, op)?;
+    let Some(left) = results_unless_all(x, a, b, op)? else {
+        return Ok(None);
+    };
     // a subset, so the sizes decide
     Ok(if left.size() != x.size() {
         Some(left)
@@ -99,8 +102,17 @@ fn narrowed_run<B: Width>(
     Ok(Some(IntervalSet::of(x.allocator(), left)?))
 }
 
-/// Returns the members of `x` that are in another set, or `None` if all are.
-pub(super) fn narrowed_to<B: Width>(
+/// Returns the members of `x` that are in another set, or `None` if all are. Costs an intersection.
+///
+/// # Errors
+///
+/// Fails only if allocation fails.
+///
+/// ```
+/// let (x, allowed) = (IntervalSet::new(alloc, 0, 9)?, IntervalSet::new(alloc, 5, 20)?);
+/// assert!(rt; narrowed_to(&x, &allowed)? == Some(IntervalSet::new(alloc, 5, 9)?));
+/// ```
+pub fn narrowed_to<B: Width>(
     x: &IntervalSet<B>,
     allowed: &IntervalSet<B>,
 ) -> Result<Option<IntervalSet<B>>, AllocError>

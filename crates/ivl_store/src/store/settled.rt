@@ -11,14 +11,19 @@ use std::alloc::{AllocError, Global};
 /// Whether a member was lost at x, at y and at z; a variable in two places has the flag of its
 /// last.
 #[derive(Clone, Copy)]
-pub(crate) struct Lost {
-    pub(crate) x: bool,
-    pub(crate) y: bool,
-    pub(crate) z: bool,
+pub struct Lost {
+    pub x: bool,
+    pub y: bool,
+    pub z: bool,
 }
 
 impl Lost {
-    pub(crate) fn any(self) -> bool
+    /// Returns true exactly when a member was lost at one of the three.
+    ///
+    /// ```
+    /// assert!(rt; Lost { x: false, y: true, z: false }.any());
+    /// ```
+    pub fn any(self) -> bool
         ensures { result ≡ any_lost self }
     {
         self.x || self.y || self.z

@@ -11,8 +11,17 @@ use std::mem;
 
 impl<B: Width> Store<B> {
     /// Puts what is left in place of a domain. Returns the set that stood there; `None` if the
-    /// domain stays.
-    pub(super) fn swap(&mut self, i: usize, left: Option<IntervalSet<B>>) -> Option<IntervalSet<B>>
+    /// domain stays. `O(1)`, does not allocate.
+    ///
+    /// The caller must ensure that there is such a variable.
+    ///
+    /// ```
+    /// let mut store: Store<i32> = Store::new(alloc, vec![in alloc; IntervalSet::new(alloc, 0, 9)?]?);
+    /// let old = store.swap(0, Some(IntervalSet::new(alloc, 5, 6)?));
+    /// assert!(rt; old == Some(IntervalSet::new(alloc, 0, 9)?));
+    /// assert!(rt; store.domains()[0] == IntervalSet::new(alloc, 5, 6)?);
+    /// ```
+    pub fn swap(&mut self, i: usize, left: Option<IntervalSet<B>>) -> Option<IntervalSet<B>>
         requires known { i < length self.old }
         requires range { (s : List (ℤ × ℤ)) → left ≡ Some s → IsRunListIn B.whole s }
         ensures put { self.new ≡ narrowed_at self.old i left }
@@ -24,8 +33,15 @@ impl<B: Width> Store<B> {
         }
     }
 
-    /// Puts a set in place of a domain. Nothing changes if there is no such variable.
-    pub(crate) fn replace(&mut self, i: usize, set: IntervalSet<B>)
+    /// Puts a set in place of a domain. Nothing changes if there is no such variable. `O(1)`, does not
+    /// allocate.
+    ///
+    /// ```
+    /// let mut store: Store<i32> = Store::new(alloc, vec![in alloc; IntervalSet::new(alloc, 0, 9)?]?);
+    /// store.replace(0, IntervalSet::new(alloc, 5, 6)?);
+    /// assert!(rt; store.domains()[0] == IntervalSet::new(alloc, 5, 6)?);
+    /// ```
+    pub fn replace(&mut self, i: usize, set: IntervalSet<B>)
         ensures { self.new ≡ slice_set self.old i set }
     {
         set.in_whole();
@@ -47,8 +63,14 @@ impl<B: Width> Store<B> {
         mem::replace(&mut self.domains[i], set)
     }
 
-    /// Drops the last variable, if there is one.
-    pub(crate) fn drop_variable(&mut self)
+    /// Drops the last variable, if there is one. `O(1)`, does not allocate.
+    ///
+    /// ```
+    /// let mut store: Store<i32> = Store::new(alloc, vec![in alloc; IntervalSet::new(alloc, 0, 9)?]?);
+    /// store.drop_variable();
+    /// assert!(rt; store.domains().is_empty());
+    /// ```
+    pub fn drop_variable(&mut self)
         ensures { self.new ≡ take (length self.old - 1) self.old }
     {
         if let Some(domain) = self.domains.pop() {

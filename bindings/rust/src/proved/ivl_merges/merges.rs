@@ -18,6 +18,19 @@ use crate::rattle::std::hint::select_unpredictable;
 /// The caller must ensure that both lists are runs of sets in the range, from the left, with at least one
 /// number missing between neighbours, and that the sink is empty and has room for as many runs as the
 /// two lists have. `O(n + m)` runs, of which it adds at most `n + m`. Does not allocate.
+///
+/// ```
+/// use intervallum::proved::examples::*;
+///
+/// fn main() -> Result<(), std::boxed::Box<dyn std::error::Error>> {
+///     let alloc = Global;
+///     let (a, b) = ([Interval::new(1, 5)], [Interval::new(4, 9)]);
+///     let mut runs = Vec::with_capacity(alloc, 2)?;
+///     merges::union(&a, &b, &mut runs);
+///     assert!(runs.as_slice() == [Interval::new(1, 9)]);
+///     Ok(())
+/// }
+/// ```
 #[inline(never)]
 ///
 /// # Proved
@@ -46,7 +59,42 @@ pub fn union<R: Pair, S: Sink<R>>(a: &[R], b: &[R], out: &mut S) {
 /// Adds a run that starts no lower than the last one, and returns the run that is then the last. The
 /// last run is written again unless the new one is apart from it, so that no branch hangs on their
 /// values.
-fn push_joined<R: Pair, S: Sink<R>>(out: &mut S, last: R, run: R) -> R {
+///
+/// The caller must ensure that neither run is empty, and that the sink has a run and room for one more.
+/// `O(1)`. Does not allocate.
+///
+/// ```
+/// use intervallum::proved::examples::*;
+///
+/// fn main() -> Result<(), std::boxed::Box<dyn std::error::Error>> {
+///     let alloc = Global;
+///     let mut runs = Vec::with_capacity(alloc, 2)?;
+///     let first = Interval::new(1, 5);
+///     runs.push(first)?;
+///     assert!(merges::push_joined(&mut runs, first, Interval::new(6, 9)) == Interval::new(1, 9));
+///     assert!(runs.as_slice() == [Interval::new(1, 9)]);
+///     Ok(())
+/// }
+/// ```
+#[inline]
+///
+/// # Proved
+///
+/// ```text
+/// requires last { IsRunIn R.Bound.whole (R.pair last) }
+/// requires run { IsRunIn R.Bound.whole (R.pair run) }
+/// requires some { 0 < S.count out.old }
+/// requires room { S.count out.old < S.room out.old }
+/// ensures adds { (start : S) (L : List (ℤ × ℤ)) → S.holds start out.old L → IsMaximal L → StartsBy (R.pair run).0 L → Some (R.pair last) ≡ slice_get L (length L - 1)
+///     → (M : List (ℤ × ℤ)) × S.holds start out.new M × AddsRun L (R.pair run) M × (Some (R.pair result) ≡ slice_get M (length M - 1)) }
+/// ensures last { IsRunIn R.Bound.whole (R.pair result) }
+/// ensures some { 0 < S.count out.new }
+/// ensures count { S.count out.new ≤ S.count out.old + 1 }
+/// ensures room { S.room out.new ≡ S.room out.old }
+/// ```
+///
+/// Words: [`IsRunIn`](crate::definitions#IsRunIn), [`IsMaximal`](crate::definitions#IsMaximal), [`StartsBy`](crate::definitions#StartsBy), [`AddsRun`](crate::definitions#AddsRun).
+pub fn push_joined<R: Pair, S: Sink<R>>(out: &mut S, last: R, run: R) -> R {
     let is_joined = joins(last, run);
     let lower = select_unpredictable(is_joined, last.lower(), run.lower());
     let next = R::of(lower, last.upper().max(run.upper()));
@@ -54,8 +102,32 @@ fn push_joined<R: Pair, S: Sink<R>>(out: &mut S, last: R, run: R) -> R {
     next
 }
 
-/// True exactly when no number is missing between a run and one that starts no lower.
-fn joins<R: Pair>(last: R, run: R) -> bool {
+/// Returns true exactly when no number is missing between a run and one that starts no lower.
+///
+/// The caller must ensure that neither is empty. `O(1)`. Does not allocate.
+///
+/// ```
+/// use intervallum::proved::examples::*;
+///
+/// fn main() -> Result<(), std::boxed::Box<dyn std::error::Error>> {
+///     let alloc = Global;
+///     let run = Interval::new(1, 3);
+///     assert!(merges::joins(run, Interval::new(4, 9)) && !merges::joins(run, Interval::new(5, 9)));
+///     Ok(())
+/// }
+/// ```
+#[inline]
+///
+/// # Proved
+///
+/// ```text
+/// requires last { IsRunIn R.Bound.whole (R.pair last) }
+/// requires run { IsRunIn R.Bound.whole (R.pair run) }
+/// ensures { IsTrue result ↔ ((R.pair run).0 ≤ℤ ((R.pair last).1 +ℤ pos 1)) }
+/// ```
+///
+/// Words: [`IsRunIn`](crate::definitions#IsRunIn).
+pub fn joins<R: Pair>(last: R, run: R) -> bool {
     let (end, start) = (last.upper(), run.lower());
     // by one comparison: the width is one where the run starts no higher than the other ends
     R::Bound::width(&end, &start.max(end)).number() <= 2
@@ -83,7 +155,17 @@ fn take_first<R: Pair>(a: &[R], i: &mut usize, b: &[R], j: &mut usize) -> Option
     }
 }
 
-/// Returns the pair at a place, if there is one.
+/// Returns the pair at a place, if there is one. `O(1)`. Does not allocate.
+///
+/// ```
+/// use intervallum::proved::examples::*;
+///
+/// fn main() -> Result<(), std::boxed::Box<dyn std::error::Error>> {
+///     let alloc = Global;
+///     assert!(merges::pair_at(&[Interval::new(1, 5)], 0) == Some(Interval::new(1, 5)));
+///     Ok(())
+/// }
+/// ```
 ///
 /// # Proved
 ///
@@ -99,6 +181,19 @@ pub fn pair_at<R: Pair>(runs: &[R], i: usize) -> Option<R> {
 /// The caller must ensure that both lists are runs of sets in the range, from the left, with at least one
 /// number missing between neighbours, and that the sink is empty and has room for as many runs as the
 /// two lists have. `O(n + m)` runs, of which it adds at most `n + m`. Does not allocate.
+///
+/// ```
+/// use intervallum::proved::examples::*;
+///
+/// fn main() -> Result<(), std::boxed::Box<dyn std::error::Error>> {
+///     let alloc = Global;
+///     let (a, b) = ([Interval::new(1, 5)], [Interval::new(4, 9)]);
+///     let mut runs = Vec::with_capacity(alloc, 2)?;
+///     merges::intersection(&a, &b, &mut runs);
+///     assert!(runs.as_slice() == [Interval::new(4, 5)]);
+///     Ok(())
+/// }
+/// ```
 #[inline(never)]
 ///
 /// # Proved
@@ -134,6 +229,19 @@ pub fn intersection<R: Pair, S: Sink<R>>(a: &[R], b: &[R], out: &mut S) {
 /// The caller must ensure that both lists are runs of sets in the range, from the left, with at least one
 /// number missing between neighbours, and that the sink is empty and has room for as many runs as the
 /// two lists have. `O(n + m)` runs, of which it adds at most `n + m`. Does not allocate.
+///
+/// ```
+/// use intervallum::proved::examples::*;
+///
+/// fn main() -> Result<(), std::boxed::Box<dyn std::error::Error>> {
+///     let alloc = Global;
+///     let (a, b) = ([Interval::new(1, 5)], [Interval::new(4, 9)]);
+///     let mut runs = Vec::with_capacity(alloc, 2)?;
+///     merges::difference(&a, &b, &mut runs);
+///     assert!(runs.as_slice() == [Interval::new(1, 3)]);
+///     Ok(())
+/// }
+/// ```
 #[inline(never)]
 ///
 /// # Proved
@@ -175,6 +283,18 @@ pub fn difference<R: Pair, S: Sink<R>>(a: &[R], b: &[R], out: &mut S) {
 /// The caller must ensure that the list is the runs of a set in the range, from the left, with at least
 /// one number missing between neighbours, and that the sink is empty and has room for one run more than
 /// the list has. `O(n)` runs, of which it adds at most `n + 1`. Does not allocate.
+///
+/// ```
+/// use intervallum::proved::examples::*;
+///
+/// fn main() -> Result<(), std::boxed::Box<dyn std::error::Error>> {
+///     let alloc = Global;
+///     let mut runs = Vec::with_capacity(alloc, 2)?;
+///     merges::complement(&[Interval::new(4u8, 9)], &mut runs);
+///     assert!(runs.as_slice() == [Interval::new(0, 3), Interval::new(10, 254)]);
+///     Ok(())
+/// }
+/// ```
 // taken in by its caller, the loop keeps the number of runs in a register
 #[inline]
 ///
@@ -209,6 +329,19 @@ pub fn complement<R: Pair, S: Sink<R>>(runs: &[R], out: &mut S) {
 /// The caller must ensure that both lists are runs of sets in the range, from the left, with at least one
 /// number missing between neighbours, and that the sink is empty and has room for as many runs as the
 /// two lists have. `O(n + m)` runs, of which it adds at most `n + m`. Does not allocate.
+///
+/// ```
+/// use intervallum::proved::examples::*;
+///
+/// fn main() -> Result<(), std::boxed::Box<dyn std::error::Error>> {
+///     let alloc = Global;
+///     let (a, b) = ([Interval::new(1, 5)], [Interval::new(4, 9)]);
+///     let mut runs = Vec::with_capacity(alloc, 2)?;
+///     merges::symmetric_difference(&a, &b, &mut runs);
+///     assert!(runs.as_slice() == [Interval::new(1, 3), Interval::new(6, 9)]);
+///     Ok(())
+/// }
+/// ```
 #[inline(never)]
 ///
 /// # Proved
@@ -325,6 +458,16 @@ fn push_past<R: Pair, S: Sink<R>>(out: &mut S, end: R::Bound) {
 }
 
 /// Returns one if a condition holds, and zero if not.
+///
+/// ```
+/// use intervallum::proved::examples::*;
+///
+/// fn main() -> Result<(), std::boxed::Box<dyn std::error::Error>> {
+///     let alloc = Global;
+///     assert!(merges::one_if::<u8>(true) == 1 && merges::one_if::<u8>(false) == 0);
+///     Ok(())
+/// }
+/// ```
 ///
 /// # Proved
 ///

@@ -128,6 +128,21 @@ impl<R: Pair> Sink<R> for Vec<R> {
 }
 
 /// The first places of a slice, as many as there are, and the number of all runs.
+///
+/// ```
+/// use intervallum::proved::examples::*;
+///
+/// fn main() -> Result<(), std::boxed::Box<dyn std::error::Error>> {
+///     let alloc = Global;
+///     // both runs are counted, and the one that has a place is written
+///     let mut buffer = [Interval::new(0u8, 0)];
+///     let mut places = Places::new(&mut buffer);
+///     merges::complement(&[Interval::new(4, 9)], &mut places);
+///     assert!(places.count() == 2);
+///     assert!(buffer == [Interval::new(0, 3)]);
+///     Ok(())
+/// }
+/// ```
 pub struct Places<'a, R: Pair> {
     pub out: &'a mut [R],
     pub count: usize,

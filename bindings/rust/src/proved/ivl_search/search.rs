@@ -1,5 +1,6 @@
 // Written by bindings/rust/extract from crates/ivl_search/src/search.rt.
-//! Searches for the points that solve constraints `x + y = z` over finite domains.
+//! Searches for the points that solve constraints `x + y = z` over finite domains. The module [`rules`]
+//! searches for those that satisfy rules of other kinds.
 //!
 //! A point gives each variable, named by its index from 0, a number of its domain; it is a solution
 //! if each constraint holds at it. [`solutions`] returns the solutions, none of them twice, and says
@@ -23,13 +24,12 @@ use crate::rattle::std::alloc::{AllocError, Global};
 mod choice;
 mod descent;
 mod optimum;
+pub mod rules;
 mod setup;
 mod steps;
+mod sums;
 
-use choice::Wanted;
-use descent::{Kept, search};
-use optimum::best_at;
-use setup::{first_unknown, network_of};
+use sums::{first_unknown, first_unknown_or, rules_of};
 
 /// How many narrowings one node takes at most. A caller with a budget of narrowings divides it by
 /// this number, to get [`Limits::nodes`].
@@ -80,8 +80,8 @@ pub struct Best<B> {
 /// Why a search failed.
 #[derive(Clone, Copy, Debug, PartialEq, Eq)]
 pub enum SearchFault {
-    /// No domain has this index, which a constraint names. It is the first such index, constraint by
-    /// constraint, and within a constraint in the order `x`, `y`, `z`.
+    /// No domain has this index, which a constraint or a rule names. It is the first such index, one
+    /// after another, and within one in the order `x`, `y`, `z`.
 
     Variable(usize),
     /// An allocation failed.
@@ -171,18 +171,8 @@ pub fn solutions<B: Width>(
     if let Some(i) = first_unknown(constraints, domains.len()) {
         return Err(SearchFault::Variable(i));
     }
-    let mut network = network_of(alloc, domains, constraints)?;
-    let mut left = limits;
-    let points = Vec::new(alloc);
-    let mut found = Kept {
-        is_kept: true,
-        points,
-    };
-    let end = search(alloc, &mut network, Wanted::Least, &mut left, &mut found)?;
-    Ok(Found {
-        points: found.points,
-        end,
-    })
+    let rules = rules_of(alloc, constraints)?;
+    rules::solutions(alloc, domains, &rules, limits)
 }
 
 /// Searches as [`solutions`] does, without its condition: returns `None` if a constraint has a
@@ -297,14 +287,8 @@ pub fn count<B: Width>(
     if let Some(i) = first_unknown(constraints, domains.len()) {
         return Err(SearchFault::Variable(i));
     }
-    let mut network = network_of(alloc, domains, constraints)?;
-    let mut left = limits;
-    let mut found = Kept {
-        is_kept: false,
-        points: Vec::new(alloc),
-    };
-    let end = search(alloc, &mut network, Wanted::Least, &mut left, &mut found)?;
-    Ok((limits.solutions - left.solutions, end))
+    let rules = rules_of(alloc, constraints)?;
+    rules::count(alloc, domains, &rules, limits)
 }
 
 /// Returns a solution in which a variable has its least number: no solution gives it a smaller one.
@@ -372,7 +356,11 @@ pub fn least<B: Width>(
     limits: Limits,
 ) -> Result<Best<B>, SearchFault> {
     debug_assert!({ #[allow(unused_imports)] use crate::proved::ivl_interval::ops::*; all_distinct(constraints) }, "{}", "the condition of `least` is broken: all_distinct(constraints)");
-    best_at(alloc, domains, constraints, variable, limits, Wanted::Least)
+    if let Some(i) = first_unknown_or(variable, domains.len(), constraints) {
+        return Err(SearchFault::Variable(i));
+    }
+    let rules = rules_of(alloc, constraints)?;
+    rules::least(alloc, domains, &rules, variable, limits)
 }
 
 /// Returns a solution in which a variable has its greatest number, as [`least`] does one with its
@@ -426,12 +414,9 @@ pub fn greatest<B: Width>(
     limits: Limits,
 ) -> Result<Best<B>, SearchFault> {
     debug_assert!({ #[allow(unused_imports)] use crate::proved::ivl_interval::ops::*; all_distinct(constraints) }, "{}", "the condition of `greatest` is broken: all_distinct(constraints)");
-    best_at(
-        alloc,
-        domains,
-        constraints,
-        variable,
-        limits,
-        Wanted::Greatest,
-    )
+    if let Some(i) = first_unknown_or(variable, domains.len(), constraints) {
+        return Err(SearchFault::Variable(i));
+    }
+    let rules = rules_of(alloc, constraints)?;
+    rules::greatest(alloc, domains, &rules, variable, limits)
 }

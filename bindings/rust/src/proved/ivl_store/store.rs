@@ -43,6 +43,7 @@ use crate::proved::intervallum::interval_set::IntervalSet;
 use crate::proved::intervallum::ops::IsEmpty;
 use crate::proved::intervallum::width::Width;
 pub use post::Post;
+pub use settled::Lost;
 use crate::rattle::std::alloc::{AllocError, Global};
 
 /// The domains of some variables: a set of numbers for each. A contract sees the list of their run

@@ -5,6 +5,7 @@
 use crate::rattle::prelude::*;
 
 mod by_runs;
+mod fronts;
 mod members;
 mod pairs;
 mod rows;
@@ -14,7 +15,7 @@ use crate::proved::intervallum::interval_set::IntervalSet;
 use crate::proved::intervallum::ops::{Fits, IsEmpty, Whole};
 use crate::proved::intervallum::sweep::coalesce;
 use crate::proved::intervallum::width::Width;
-pub use members::results_in_set;
+pub use members::{results_in_set, results_unless_all};
 pub use pairs::pair_in_window;
 use rows::push_rows;
 use crate::rattle::std::alloc::{AllocError, Global};

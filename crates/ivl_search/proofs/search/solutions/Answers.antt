@@ -1,21 +1,33 @@
-use Rattle.std.proofs.Common.{◌<◌, ◌+◌, ◌-◌, ◌*◌, ◌/◌, ◌++◌, List, length, map, max}
-use Rattle.std.specs.Prelude.{ℤ, Contains}
-use Rattle.ivl_search.specs.Budget.{points_of}
-use Rattle.ivl_search.specs.Points.{Solves}
-use Rattle.ivl_search.proofs.Rooms.{enough_more}
-use Rattle.std.proofs.Common.{ap, refl, subst, sym, ◌∙◌}
+use Rattle.std.proofs.Common.{◌≡◌, ◌↔◌, ◌<◌, ◌∙◌, length, subst}
+use Rattle.std.specs.Prelude.{Err, Some}
+use Rattle.std.proofs.lemmas.List.Elements.{All-weaker}
+use Rattle.std.proofs.lemmas.Result.{IfOk-weaker}
+use Rattle.ivl_search.specs.declared.search.SearchFault.TheVariants.{Variable}
+use Rattle.ivl_search.specs.Points.{Solves, SolvesRules}
+use Rattle.ivl_search.proofs.Sums.{sums_different, sums_enough, sums_solve, sums_unknown}
 use Rattle.ivl_search.proofs.search.solutions.Goals as goal
 
+pub solutions-requires : goal.solutions-requires
+solutions-requires g c = sums_different c.args.constraints.now c.deref.result.now (c.deref.ensures.value ∙ c.in_ok-rules.ensures) c.requires
+
+pub returns-clause-unknown : goal.returns-clause-unknown
+returns-clause-unknown g c = λ i.
+    subst (λ o. (c.solutions.result ≡ Err (Variable i)) ↔ (o ≡ Some i)) (sums_unknown c.args.constraints.now c.deref.result.now (length c.args.domains.now) (c.deref.ensures.value ∙ c.in_ok-rules.ensures)) (c.solutions.ensures.unknown i)
+
+pub returns-clause-sound : goal.returns-clause-sound
+returns-clause-sound g c =
+    IfOk-weaker c.solutions.result _ _
+    (λ found. All-weaker (SolvesRules c.deref.result.now c.args.domains.now) (Solves c.args.constraints.now c.args.domains.now) (λ point s. (sums_solve c.args.constraints.now c.deref.result.now c.args.domains.now (c.deref.ensures.value ∙ c.in_ok-rules.ensures) point).1 s) _)
+    c.solutions.ensures.sound
+
 pub returns-clause-complete : goal.returns-clause-complete
-returns-clause-complete g c = λ e point s.
-    let f = c.in_ok-end.ensures.finds in
-    let net = c.in_ok-network.network in
-    let solved : Solves net.constraints net.domains point = subst (λ D. Solves net.constraints D point) (sym c.in_ok-network.ensures.domains) ((c.in_ok-network.ensures.solutions point).0 s) in
-    subst (λ points. Contains points point) (sym (f.2 refl ∙ ap (λ xs. map (λ p. map g.B.Width.value p.items) xs ++ f.0) c.new-points.ensures.items)) (f.1.complete e point solved)
+returns-clause-complete g c =
+    IfOk-weaker c.solutions.result _ _
+    (λ found told e point s. told e point ((sums_solve c.args.constraints.now c.deref.result.now c.args.domains.now (c.deref.ensures.value ∙ c.in_ok-rules.ensures) point).0 s))
+    c.solutions.ensures.complete
 
 pub returns-clause-enough : goal.returns-clause-enough
-returns-clause-enough g c = λ e.
-    let net = c.in_ok-network.network in
-    let points = λ (D : List (List (ℤ × ℤ))). 2 * max 1 (points_of g.B.Width.whole D) - 1 in
-    enough_more (length net.constraints) (length c.args.constraints.now) (points c.args.domains.now) c.args.limits.nodes c.in_ok-network.ensures.no_more
-    (subst (λ D. c.args.limits.nodes < points D * (length net.constraints / 500 + 1)) c.in_ok-network.ensures.domains (c.in_ok-end.ensures.enough e).1)
+returns-clause-enough g c =
+    IfOk-weaker c.solutions.result _ _
+    (λ found told e. subst (λ n. c.args.limits.nodes < n) (sums_enough g.B.Width.whole c.args.constraints.now c.deref.result.now c.args.domains.now (c.deref.ensures.value ∙ c.in_ok-rules.ensures)) (told e))
+    c.solutions.ensures.enough

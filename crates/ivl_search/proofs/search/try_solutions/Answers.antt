@@ -1,13 +1,5 @@
-use Rattle.std.proofs.Common.{◌≡◌, ◌↔◌, Result, Ok, Err}
+use Rattle.ivl_search.proofs.Faults.{answered, passed}
 use Rattle.ivl_search.proofs.search.try_solutions.Goals as goal
-
--- a fault that is passed on is told exactly where it was
-passed : {A B E : Type 0} (r : Result A E) (x y : E) → r ≡ Err x → (r ≡ Err y) ↔ (◌≡◌ {A = Result B E} (Err x) (Err y))
-passed r x y is = ((λ e. cc), (λ e. cc))
-
--- and none where there is an answer
-answered : {A B E : Type 0} (r : Result A E) (a : A) (b : B) (y : E) → r ≡ Ok a → (r ≡ Err y) ↔ (◌≡◌ {A = Result B E} (Ok b) (Err y))
-answered r a b y is = ((λ e. cc), (λ e. cc))
 
 pub returns-in-Ok-clause-unknown : goal.returns-in-Ok-clause-unknown
 returns-in-Ok-clause-unknown g c = λ i.

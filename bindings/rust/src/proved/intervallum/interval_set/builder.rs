@@ -4,12 +4,10 @@
 #[allow(unused_imports)]
 use crate::rattle::prelude::*;
 use super::IntervalSet;
-use super::run_lists::joins;
 use crate::proved::intervallum::interval::Interval;
-use crate::proved::intervallum::ops::{Bounded, Range};
 use crate::proved::intervallum::width::{SizeNumber, Width};
+use crate::proved::ivl_merges::merges::push_joined;
 use crate::rattle::std::alloc::{AllocError, Global};
-use crate::rattle::std::hint::select_unpredictable;
 
 impl<B: Width> IntervalSet<B> {
     /// The runs as a slice.
@@ -63,19 +61,15 @@ impl<B: Width> IntervalSet<B> {
 }
 
 /// Adds a run that starts no lower than the last one, in room that is reserved, and returns the run
-/// that is then the last. The last run is written again unless the new one is apart from it, so that
-/// no branch hangs on their values.
+/// that is then the last.
 pub(crate) fn add_reserved<B: Width>(
     runs: &mut Vec<Interval<B>>,
     last: Interval<B>,
     run: Interval<B>,
 ) -> Interval<B> {
-    let is_joined = joins(&last, &run);
-    let lower = select_unpredictable(is_joined, last.lower(), run.lower());
-    let next = Interval::new(lower, last.upper().max(run.upper()));
-    runs.truncate(runs.len() - usize::from(is_joined));
-    runs.push_reserved(next);
-    next
+    last.in_whole();
+    run.in_whole();
+    push_joined(runs, last, run)
 }
 
 /// A size and some more. The sum is a size again.

@@ -7,6 +7,7 @@ use super::builder::grown;
 use crate::proved::intervallum::interval::Interval;
 use crate::proved::intervallum::ops::{Bounded, Cardinality, IsEmpty};
 use crate::proved::intervallum::width::{SizeNumber, Width};
+use crate::proved::ivl_merges::merges::joins;
 
 /// How many runs of two lists are compared by one branch.
 const GROUP: usize = 4;
@@ -46,13 +47,6 @@ fn is_same<B: Width>(run: Interval<B>, other: Interval<B>) -> bool {
     lower_is_same & upper_is_same
 }
 
-/// No number is missing between a run and one that starts no lower.
-pub(super) fn joins<B: Width>(last: &Interval<B>, run: &Interval<B>) -> bool {
-    let (end, start) = (last.upper(), run.lower());
-    // by one comparison: the width is one where the run starts no higher than the other ends
-    B::width(&end, &start.max(end)).number() <= 2
-}
-
 /// The intervals are a list of runs: none is empty, they ascend, and a number is missing between
 /// neighbours.
 pub(crate) fn are_runs<B: Width>(list: &[Interval<B>]) -> bool {
@@ -65,10 +59,11 @@ pub(crate) fn are_runs<B: Width>(list: &[Interval<B>]) -> bool {
     first.in_whole();
     let mut last = *first;
     for run in rest {
-        if run.is_empty() || joins(&last, run) {
+        run.in_whole();
+        last.in_whole();
+        if run.is_empty() || joins(last, *run) {
             return false;
         }
-        run.in_whole();
         last = *run;
     }
     true

@@ -17,6 +17,17 @@ pub(super) enum Wanted {
     Greatest,
 }
 
+/// Which numbers of a variable are kept where its domain is cut at a value.
+#[derive(Clone, Copy, Debug)]
+pub(super) enum Part {
+    /// Those that are better than the value.
+    Better,
+    /// The value, and those that are better.
+    AsGood,
+    /// Those than which the value is better.
+    Worse,
+}
+
 /// What a search finds at domains.
 #[derive(Clone, Copy, Debug)]
 pub(super) enum Node<B> {
@@ -52,6 +63,7 @@ pub(super) fn node_of<B: Width>(domains: &[IntervalSet<B>], wanted: Wanted) -> N
 /// before it.
 fn better<B: Width>(best: Option<usize>, i: usize, domains: &[IntervalSet<B>]) -> Option<usize> {
     let domain = &domains[i];
+    // for the prover: its runs are maximal
     domain.in_whole();
     if domain.is_singleton() {
         return best;
@@ -69,6 +81,7 @@ fn better<B: Width>(best: Option<usize>, i: usize, domains: &[IntervalSet<B>]) -
 /// The member that is searched first together with the better ones, if there are others: the best
 /// member, or one in the middle of more than 64.
 fn cut_value<B: Width>(domain: &IntervalSet<B>, wanted: Wanted) -> Option<B> {
+    // for the prover: its members are in the range
     domain.in_whole();
     let size = domain.size().number();
     if size > 64 {
@@ -99,50 +112,19 @@ pub(super) fn middle<B: Width>(domain: &IntervalSet<B>, wanted: Wanted) -> Optio
     }
 }
 
-/// The numbers that are better than a value.
-pub(super) fn better_than<B: Width>(
+/// The numbers of a part at a value.
+pub(super) fn part_of<B: Width>(
     alloc: Global,
     value: B,
     wanted: Wanted,
+    part: Part,
 ) -> Result<IntervalSet<B>, AllocError> {
-    match wanted {
-        Wanted::Least => below(alloc, value),
-        Wanted::Greatest => above(alloc, value),
+    match (wanted, part) {
+        (Wanted::Least, Part::Better) | (Wanted::Greatest, Part::Worse) => below(alloc, value),
+        (Wanted::Greatest, Part::Better) | (Wanted::Least, Part::Worse) => above(alloc, value),
+        (Wanted::Least, Part::AsGood) => IntervalSet::new(alloc, B::min_value(), value),
+        (Wanted::Greatest, Part::AsGood) => IntervalSet::new(alloc, value, B::max_value()),
     }
-}
-
-/// The value, and the numbers that are better.
-pub(super) fn as_good_as<B: Width>(
-    alloc: Global,
-    value: B,
-    wanted: Wanted,
-) -> Result<IntervalSet<B>, AllocError> {
-    match wanted {
-        Wanted::Least => up_to(alloc, value),
-        Wanted::Greatest => from(alloc, value),
-    }
-}
-
-/// The numbers than which a value is better.
-pub(super) fn worse_than<B: Width>(
-    alloc: Global,
-    value: B,
-    wanted: Wanted,
-) -> Result<IntervalSet<B>, AllocError> {
-    match wanted {
-        Wanted::Least => above(alloc, value),
-        Wanted::Greatest => below(alloc, value),
-    }
-}
-
-/// The numbers up to a value.
-fn up_to<B: Width>(alloc: Global, value: B) -> Result<IntervalSet<B>, AllocError> {
-    IntervalSet::new(alloc, B::min_value(), value)
-}
-
-/// The numbers from a value on.
-fn from<B: Width>(alloc: Global, value: B) -> Result<IntervalSet<B>, AllocError> {
-    IntervalSet::new(alloc, value, B::max_value())
 }
 
 /// The numbers above a value.

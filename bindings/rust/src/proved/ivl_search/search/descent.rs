@@ -8,7 +8,7 @@ use super::steps::{Cut, advance, enter, leave, point_of};
 use super::{End, Limits};
 use crate::proved::intervallum::interval_set::IntervalSet;
 use crate::proved::intervallum::width::Width;
-use crate::proved::ivl_store::network::Network;
+use crate::proved::ivl_network::network::Network;
 use crate::rattle::std::alloc::{AllocError, Global};
 
 /// The points that a search found, if they are kept.
@@ -18,7 +18,7 @@ pub(super) struct Kept<B> {
 }
 
 /// Adds the solutions over the domains of the network to those found, and takes them and the nodes
-/// off what is left. The network keeps its constraints and marks; its domains are narrowed.
+/// off what is left. The network keeps its rules and marks; its domains are narrowed.
 pub(super) fn search<B: Width>(
     alloc: Global,
     network: &mut Network<B>,
@@ -26,8 +26,8 @@ pub(super) fn search<B: Width>(
     left: &mut Limits,
     found: &mut Kept<B>,
 ) -> Result<End, AllocError> {
-    // No more constraints have to be looked at than there are.
-    network.constraints();
+    // for the prover: no more rules are unsettled than there are
+    network.rules();
     let mut path = Vec::new(alloc);
     while left.nodes > 0 {
         if left.solutions == 0 {

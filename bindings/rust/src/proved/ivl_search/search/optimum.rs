@@ -4,30 +4,30 @@
 
 #[allow(unused_imports)]
 use crate::rattle::prelude::*;
-use super::choice::{Node, Wanted, as_good_as, better_than, middle, worse_than};
+use super::choice::{Node, Part, Wanted, middle};
 use super::descent::{Kept, search};
 use super::setup::{first_unknown_or, network_of};
-use super::steps::{advance, restrict};
+use super::steps::{advance, enter, keep_part};
 use super::{Best, End, Limits, SearchFault};
 use crate::proved::intervallum::interval_set::IntervalSet;
 use crate::proved::intervallum::width::Width;
-use crate::proved::ivl_store::network::Network;
-use crate::proved::ivl_store::store::Constraint;
+use crate::proved::ivl_network::network::Network;
+use crate::proved::ivl_rules::rules::Rule;
 use crate::rattle::std::alloc::{AllocError, Global};
 
 /// Returns the best solution over the domains.
 pub(super) fn best_at<B: Width>(
     alloc: Global,
     domains: &[IntervalSet<B>],
-    constraints: &[Constraint],
+    rules: &[Rule],
     variable: usize,
     limits: Limits,
     wanted: Wanted,
 ) -> Result<Best<B>, SearchFault> {
-    if let Some(i) = first_unknown_or(variable, domains.len(), constraints) {
+    if let Some(i) = first_unknown_or(variable, domains.len(), rules) {
         return Err(SearchFault::Variable(i));
     }
-    let mut network = network_of(alloc, domains, constraints)?;
+    let mut network = network_of(alloc, domains, rules)?;
     let best = best_of(alloc, &mut network, variable, limits, wanted)?;
     Ok(best)
 }
@@ -60,12 +60,14 @@ fn best_of<B: Width>(
         let Best { point, end } = one_solution(alloc, network, variable, half, wanted, nodes)?;
         match point {
             Some(point) => {
-                network.domains();
-                keep_better(alloc, network, variable, point[variable], wanted)?;
+                let value = point[variable];
+                keep_part(alloc, network, variable, value, wanted, Part::Better)?;
                 left.solutions -= 1;
                 best = Some(point);
             }
-            None if end == End::All => keep_worse(alloc, network, variable, half, wanted)?,
+            None if end == End::All => {
+                keep_part(alloc, network, variable, half, wanted, Part::Worse)?;
+            }
             None => return Ok(Best { point: best, end }),
         }
     }
@@ -98,8 +100,7 @@ fn one_solution<B: Width>(
     wanted: Wanted,
     nodes: &mut u64,
 ) -> Result<Best<B>, AllocError> {
-    let mark = network.mark()?;
-    keep_as_good(alloc, network, variable, value, wanted)?;
+    let cut = enter(alloc, network, variable, value, wanted)?;
     let mut left = Limits {
         solutions: 1,
         nodes: *nodes,
@@ -109,50 +110,8 @@ fn one_solution<B: Width>(
         points: Vec::new(alloc),
     };
     let end = search(alloc, network, wanted, &mut left, &mut found)?;
-    network.undo_to(mark);
+    network.undo_to(cut.mark);
     *nodes = left.nodes;
     let point = found.points.pop();
     Ok(Best { point, end })
-}
-
-/// Cuts a domain to its members that are better than a value.
-fn keep_better<B: Width>(
-    alloc: Global,
-    network: &mut Network<B>,
-    variable: usize,
-    value: B,
-    wanted: Wanted,
-) -> Result<(), AllocError> {
-    let allowed = better_than(alloc, value, wanted)?;
-    network.domains();
-    restrict(network, variable, &allowed)?;
-    Ok(())
-}
-
-/// Cuts a domain to its members that are as good as a value.
-fn keep_as_good<B: Width>(
-    alloc: Global,
-    network: &mut Network<B>,
-    variable: usize,
-    value: B,
-    wanted: Wanted,
-) -> Result<(), AllocError> {
-    let allowed = as_good_as(alloc, value, wanted)?;
-    network.domains();
-    restrict(network, variable, &allowed)?;
-    Ok(())
-}
-
-/// Cuts a domain to its members that are worse than a value.
-fn keep_worse<B: Width>(
-    alloc: Global,
-    network: &mut Network<B>,
-    variable: usize,
-    value: B,
-    wanted: Wanted,
-) -> Result<(), AllocError> {
-    let allowed = worse_than(alloc, value, wanted)?;
-    network.domains();
-    restrict(network, variable, &allowed)?;
-    Ok(())
 }

@@ -1,18 +1,18 @@
 // Written by bindings/rust/extract from crates/ivl_search/src/search/setup.rt.
-//! The network of the domains and the constraints.
+//! The network of the domains and the rules.
 
 #[allow(unused_imports)]
 use crate::rattle::prelude::*;
 use crate::proved::intervallum::interval_set::IntervalSet;
 use crate::proved::intervallum::width::Width;
-use crate::proved::ivl_store::network::Network;
-use crate::proved::ivl_store::store::Constraint;
+use crate::proved::ivl_network::network::Network;
+use crate::proved::ivl_rules::rules::Rule;
 use crate::rattle::std::alloc::{AllocError, Global};
 
-/// Returns the first index of the constraints that is not below `count`, or `None` if all are.
-pub(super) fn first_unknown(constraints: &[Constraint], count: usize) -> Option<usize> {
-    for constraint in constraints {
-        if let Some(i) = unknown_in(constraint, count) {
+/// Returns the first index of the rules that is not below `count`, or `None` if all are.
+pub(super) fn first_unknown(rules: &[Rule], count: usize) -> Option<usize> {
+    for rule in rules {
+        if let Some(i) = rule.first_unknown(count) {
             return Some(i);
         }
     }
@@ -20,39 +20,24 @@ pub(super) fn first_unknown(constraints: &[Constraint], count: usize) -> Option<
 }
 
 /// Returns the first such index, or else the variable if it is not below `count`.
-pub(super) fn first_unknown_or(
-    variable: usize,
-    count: usize,
-    constraints: &[Constraint],
-) -> Option<usize> {
-    match first_unknown(constraints, count) {
+pub(super) fn first_unknown_or(variable: usize, count: usize, rules: &[Rule]) -> Option<usize> {
+    match first_unknown(rules, count) {
         None if variable >= count => Some(variable),
         unknown => unknown,
     }
 }
 
-fn unknown_in(constraint: &Constraint, count: usize) -> Option<usize> {
-    if constraint.x >= count {
-        Some(constraint.x)
-    } else if constraint.y >= count {
-        Some(constraint.y)
-    } else if constraint.z >= count {
-        Some(constraint.z)
-    } else {
-        None
-    }
-}
-
-/// Returns a network of copies of the domains, with the constraints.
+/// Returns a network of copies of the domains, with the rules.
 pub(super) fn network_of<B: Width>(
     alloc: Global,
     domains: &[IntervalSet<B>],
-    constraints: &[Constraint],
+    rules: &[Rule],
 ) -> Result<Network<B>, AllocError> {
     let mut network = Network::new(alloc);
     add_variables(&mut network, domains)?;
-    require_all(&mut network, constraints)?;
-    network.constraints();
+    require_all(&mut network, rules)?;
+    // for the prover: the rules name variables of the network
+    network.rules();
     Ok(network)
 }
 
@@ -67,13 +52,10 @@ fn add_variables<B: Width>(
     Ok(())
 }
 
-/// Requires each of the constraints.
-fn require_all<B: Width>(
-    network: &mut Network<B>,
-    constraints: &[Constraint],
-) -> Result<(), AllocError> {
-    for constraint in constraints {
-        match network.require(*constraint) {
+/// Requires each of the rules.
+fn require_all<B: Width>(network: &mut Network<B>, rules: &[Rule]) -> Result<(), AllocError> {
+    for rule in rules {
+        match network.require(*rule) {
             Ok(()) => {}
             Err(_) => return Err(AllocError),
         }

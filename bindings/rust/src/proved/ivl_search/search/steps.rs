@@ -5,11 +5,11 @@
 #[allow(unused_imports)]
 use crate::rattle::prelude::*;
 use super::NARROWINGS_PER_NODE;
-use super::choice::{Node, Wanted, as_good_as, node_of, worse_than};
+use super::choice::{Node, Part, Wanted, node_of, part_of};
 use crate::proved::intervallum::interval_set::IntervalSet;
 use crate::proved::intervallum::ops::Bounded;
 use crate::proved::intervallum::width::Width;
-use crate::proved::ivl_store::network::{Network, Settled};
+use crate::proved::ivl_network::network::{Network, Settled};
 use crate::rattle::std::alloc::{AllocError, Global};
 
 /// Narrows the domains, and says what to do with them.
@@ -17,9 +17,10 @@ pub(super) fn advance<B: Width>(
     network: &mut Network<B>,
     wanted: Wanted,
 ) -> Result<Node<B>, AllocError> {
-    network.constraints();
+    // for the prover: no more rules are unsettled than there are, before and after
+    network.rules();
     let settled = network.settle(NARROWINGS_PER_NODE);
-    network.constraints();
+    network.rules();
     let domains = network.domains();
     match settled {
         Ok(Settled::All) => Ok(node_of(domains, wanted)),
@@ -51,10 +52,8 @@ pub(super) fn enter<B: Width>(
     value: B,
     wanted: Wanted,
 ) -> Result<Cut<B>, AllocError> {
-    let good = as_good_as(alloc, value, wanted)?;
-    network.domains();
     let mark = network.mark()?;
-    restrict(network, variable, &good)?;
+    keep_part(alloc, network, variable, value, wanted, Part::AsGood)?;
     Ok(Cut {
         mark,
         variable,
@@ -69,23 +68,27 @@ pub(super) fn leave<B: Width>(
     cut: Cut<B>,
     wanted: Wanted,
 ) -> Result<(), AllocError> {
-    let worse = worse_than(alloc, cut.value, wanted)?;
     network.undo_to(cut.mark);
-    network.domains();
-    restrict(network, cut.variable, &worse)?;
+    keep_part(alloc, network, cut.variable, cut.value, wanted, Part::Worse)?;
     Ok(())
 }
 
-/// Cuts a domain to its members in a set.
-pub(super) fn restrict<B: Width>(
+/// Cuts a domain to its members in a part at a value.
+pub(super) fn keep_part<B: Width>(
+    alloc: Global,
     network: &mut Network<B>,
     variable: usize,
-    allowed: &IntervalSet<B>,
+    value: B,
+    wanted: Wanted,
+    part: Part,
 ) -> Result<(), AllocError> {
-    let cut = network.restrict(variable, allowed);
-    // What holds of every network.
+    let allowed = part_of(alloc, value, wanted, part)?;
+    // for the prover: the domains are lists of runs within the range
     network.domains();
-    network.constraints();
+    let cut = network.restrict(variable, &allowed);
+    // for the prover: so are they now, and no more rules are unsettled than there are
+    network.domains();
+    network.rules();
     match cut {
         Ok(()) => Ok(()),
         Err(_) => Err(AllocError),

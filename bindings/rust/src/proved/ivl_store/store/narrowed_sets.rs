@@ -8,7 +8,7 @@ use crate::proved::intervallum::interval::Interval;
 use crate::proved::intervallum::interval_set::IntervalSet;
 use crate::proved::intervallum::ops::{Cardinality, Intersection};
 use crate::proved::intervallum::width::Width;
-use crate::proved::ivl_within::within::{Combined, pair_in_window, results_in_set};
+use crate::proved::ivl_within::within::{Combined, pair_in_window, results_unless_all};
 use crate::rattle::std::alloc::AllocError;
 
 /// Returns what narrowing leaves at x, y and z, or `None` for a place that loses no member. A
@@ -40,7 +40,8 @@ pub(super) fn narrowed_sets<B: Width>(
 }
 
 /// Returns the members of `x` that are a sum, or a difference, of a member of `a` and one of `b`, or `None` if all
-/// are. `O(1)` if each is a single run; else costs what [`results_in_set`] costs.
+/// are. `O(1)` if each is a single run; else costs what [`results_unless_all`] costs, and if that finds that all
+/// are, does not allocate.
 ///
 /// # Errors
 ///
@@ -79,7 +80,9 @@ pub fn narrowed_by<B: Width>(
         let run = runs[0];
         return narrowed_run(x, run, pair_in_window(first[0], second[0], op, run));
     }
-    let left = results_in_set(x, a, b, op)?;
+    let Some(left) = results_unless_all(x, a, b, op)? else {
+        return Ok(None);
+    };
     // a subset, so the sizes decide
     Ok(if left.size() != x.size() {
         Some(left)
@@ -101,8 +104,31 @@ fn narrowed_run<B: Width>(
     Ok(Some(IntervalSet::of(x.allocator(), left)?))
 }
 
-/// Returns the members of `x` that are in another set, or `None` if all are.
-pub(super) fn narrowed_to<B: Width>(
+/// Returns the members of `x` that are in another set, or `None` if all are. Costs an intersection.
+///
+/// # Errors
+///
+/// Fails only if allocation fails.
+///
+/// ```
+/// use intervallum::proved::examples::*;
+///
+/// fn main() -> Result<(), std::boxed::Box<dyn std::error::Error>> {
+///     let alloc = Global;
+///     let (x, allowed) = (IntervalSet::new(alloc, 0, 9)?, IntervalSet::new(alloc, 5, 20)?);
+///     assert!(narrowed_to(&x, &allowed)? == Some(IntervalSet::new(alloc, 5, 9)?));
+///     Ok(())
+/// }
+/// ```
+///
+/// # Proved
+///
+/// ```text
+/// ensures { IfOk result (IsLeftOf B.whole x.now (Covers allowed.now)) }
+/// ```
+///
+/// Words: [`IsLeftOf`](crate::definitions#IsLeftOf), [`Covers`](crate::definitions#Covers).
+pub fn narrowed_to<B: Width>(
     x: &IntervalSet<B>,
     allowed: &IntervalSet<B>,
 ) -> Result<Option<IntervalSet<B>>, AllocError> {

@@ -9,14 +9,33 @@ use crate::rattle::std::alloc::{AllocError, Global};
 /// Whether a member was lost at x, at y and at z; a variable in two places has the flag of its
 /// last.
 #[derive(Clone, Copy)]
-pub(crate) struct Lost {
-    pub(crate) x: bool,
-    pub(crate) y: bool,
-    pub(crate) z: bool,
+pub struct Lost {
+    pub x: bool,
+    pub y: bool,
+    pub z: bool,
 }
 
 impl Lost {
-    pub(crate) fn any(self) -> bool {
+    /// Returns true exactly when a member was lost at one of the three.
+    ///
+    /// ```
+    /// use intervallum::proved::examples::*;
+    ///
+    /// fn main() -> Result<(), std::boxed::Box<dyn std::error::Error>> {
+    ///     let alloc = Global;
+    ///     assert!(Lost { x: false, y: true, z: false }.any());
+    ///     Ok(())
+    /// }
+    /// ```
+    ///
+    /// # Proved
+    ///
+    /// ```text
+    /// ensures { result ≡ any_lost self }
+    /// ```
+    ///
+    /// Words: [`any_lost`](crate::definitions#any_lost).
+    pub fn any(self) -> bool {
         self.x || self.y || self.z
     }
 }

@@ -11,16 +11,62 @@ use crate::rattle::std::mem;
 
 impl<B: Width> Store<B> {
     /// Puts what is left in place of a domain. Returns the set that stood there; `None` if the
-    /// domain stays.
-    pub(super) fn swap(&mut self, i: usize, left: Option<IntervalSet<B>>) -> Option<IntervalSet<B>> {
+    /// domain stays. `O(1)`, does not allocate.
+    ///
+    /// The caller must ensure that there is such a variable.
+    ///
+    /// ```
+    /// use intervallum::proved::examples::*;
+    ///
+    /// fn main() -> Result<(), std::boxed::Box<dyn std::error::Error>> {
+    ///     let alloc = Global;
+    ///     let mut store: Store<i32> = Store::new(alloc, Vec::from_array(alloc, [ IntervalSet::new(alloc, 0, 9)?])?);
+    ///     let old = store.swap(0, Some(IntervalSet::new(alloc, 5, 6)?));
+    ///     assert!(old == Some(IntervalSet::new(alloc, 0, 9)?));
+    ///     assert!(store.domains()[0] == IntervalSet::new(alloc, 5, 6)?);
+    ///     Ok(())
+    /// }
+    /// ```
+    ///
+    /// # Proved
+    ///
+    /// ```text
+    /// requires known { i < length self.old }
+    /// requires range { (s : List (ℤ × ℤ)) → left ≡ Some s → IsRunListIn B.whole s }
+    /// ensures put { self.new ≡ narrowed_at self.old i left }
+    /// ensures back { narrowed_at self.new i result ≡ self.old }
+    /// ```
+    ///
+    /// Words: [`IsRunListIn`](crate::definitions#IsRunListIn), [`narrowed_at`](crate::definitions#narrowed_at).
+    pub fn swap(&mut self, i: usize, left: Option<IntervalSet<B>>) -> Option<IntervalSet<B>> {
+        debug_assert!({ #[allow(unused_imports)] use crate::proved::ivl_interval::ops::*; i < self.domains.len() }, "{}", "the condition of `swap` is broken: i < self.domains.len()");
         match left {
             Some(set) => Some(self.put(i, set)),
             None => None,
         }
     }
 
-    /// Puts a set in place of a domain. Nothing changes if there is no such variable.
-    pub(crate) fn replace(&mut self, i: usize, set: IntervalSet<B>) {
+    /// Puts a set in place of a domain. Nothing changes if there is no such variable. `O(1)`, does not
+    /// allocate.
+    ///
+    /// ```
+    /// use intervallum::proved::examples::*;
+    ///
+    /// fn main() -> Result<(), std::boxed::Box<dyn std::error::Error>> {
+    ///     let alloc = Global;
+    ///     let mut store: Store<i32> = Store::new(alloc, Vec::from_array(alloc, [ IntervalSet::new(alloc, 0, 9)?])?);
+    ///     store.replace(0, IntervalSet::new(alloc, 5, 6)?);
+    ///     assert!(store.domains()[0] == IntervalSet::new(alloc, 5, 6)?);
+    ///     Ok(())
+    /// }
+    /// ```
+    ///
+    /// # Proved
+    ///
+    /// ```text
+    /// ensures { self.new ≡ slice_set self.old i set }
+    /// ```
+    pub fn replace(&mut self, i: usize, set: IntervalSet<B>) {
         set.in_whole();
         if i < self.domains.len() {
             self.put(i, set);
@@ -35,8 +81,26 @@ impl<B: Width> Store<B> {
         mem::replace(&mut self.domains[i], set)
     }
 
-    /// Drops the last variable, if there is one.
-    pub(crate) fn drop_variable(&mut self) {
+    /// Drops the last variable, if there is one. `O(1)`, does not allocate.
+    ///
+    /// ```
+    /// use intervallum::proved::examples::*;
+    ///
+    /// fn main() -> Result<(), std::boxed::Box<dyn std::error::Error>> {
+    ///     let alloc = Global;
+    ///     let mut store: Store<i32> = Store::new(alloc, Vec::from_array(alloc, [ IntervalSet::new(alloc, 0, 9)?])?);
+    ///     store.drop_variable();
+    ///     assert!(store.domains().is_empty());
+    ///     Ok(())
+    /// }
+    /// ```
+    ///
+    /// # Proved
+    ///
+    /// ```text
+    /// ensures { self.new ≡ take (length self.old - 1) self.old }
+    /// ```
+    pub fn drop_variable(&mut self) {
         if let Some(domain) = self.domains.pop() {
             let was = one_if(domain.is_empty());
             self.empties -= was;

@@ -1,5 +1,5 @@
 use Rattle.ivl_laws.proofs.Adding.{untrue}
-use Rattle.ivl_laws.proofs.Intervals.{not_crossed}
+use Rattle.ivl_laws.proofs.Intervals.{not_crossed, within_is_in_range}
 use Rattle.intervallum.proofs.Listing.{first_is_read, next_is_read, all_are_read}
 use Rattle.intervallum.proofs.interval_set.run_lists.are_runs.Goals as goal
 
@@ -8,7 +8,7 @@ loop-run-init g c =
     first_is_read c.in-Some.first.now g.B.Width.whole _ _ c.in-Some.ensures.cases.0 (not_crossed _ (untrue _ c.if-is_empty.false c.is_empty.ensures.crossed)) c.in_whole.ensures
 
 pub joins-requires-clause-last : goal.joins-requires-clause-last
-joins-requires-clause-last g c = c.loop-run.invariant.runs.filled
+joins-requires-clause-last g c = (c.loop-run.invariant.runs.filled, within_is_in_range g.B.Width.whole c.loop-run.last c.loop-run.invariant.runs.filled c.in_whole-in-loop-run-2.ensures)
 
 pub loop-run-preserved : goal.loop-run-preserved
 loop-run-preserved g c =
@@ -19,4 +19,6 @@ pub returns : goal.returns
 returns g c = λ _. all_are_read _ g.B.Width.whole _ _ _ c.loop-run.invariant c.loop-run-test.false
 
 pub joins-requires-clause-run : goal.joins-requires-clause-run
-joins-requires-clause-run g c = not_crossed _ (untrue _ c.if-is_empty-2.false c.is_empty-in-loop-run.ensures.crossed)
+joins-requires-clause-run g c =
+    let filled = not_crossed _ (untrue _ c.if-is_empty-2.false c.is_empty-in-loop-run.ensures.crossed) in
+    (filled, within_is_in_range g.B.Width.whole c.run-item.result filled c.in_whole-in-loop-run.ensures)

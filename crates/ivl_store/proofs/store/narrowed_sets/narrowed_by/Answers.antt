@@ -1,7 +1,8 @@
-use Rattle.std.proofs.Common.{◌≡◌, ◌∷◌, [], ◌∙◌, subst}
+use Rattle.std.proofs.Common.{◌≡◌, ◌∷◌, [], ◌∙◌, ℤ, List, subst}
 use Rattle.std.proofs.lemmas.Result.{IfOk-weaker}
-use Rattle.ivl_laws.specs.Sets.{IsBetween}
-use Rattle.ivl_laws.specs.Runs.{Covers, IsMaximal}
+use Rattle.std.specs.Prelude.{MatchOption, Option}
+use Rattle.ivl_laws.specs.Sets.{Intersection, IsBetween, IsSubset}
+use Rattle.ivl_laws.specs.Runs.{Covers, IsMaximal, IsRunsOf}
 use Rattle.ivl_within.specs.Within.{SumsBy}
 use Rattle.intervallum.proofs.Equality.{differ_by_size, same_by_size}
 use Rattle.ivl_store.proofs.NarrowedSets.{keeps_all_within, keeps_some_within, left_same, one_run, runs_keep}
@@ -29,12 +30,14 @@ returns-then-second-eq1 g c =
 pub returns : goal.returns
 returns g c =
     let w = g.B.Width.whole in
-    let left = Covers c.in_ok-left.left in
+    let left = Covers c.in-Some.left in
     let x = Covers c.args.x.now in
+    let S = SumsBy c.args.op (Covers c.args.a.now) (Covers c.args.b.now) in
+    let made : IsRunsOf c.in-Some.left (Intersection x S) = subst (λ (o : Option (List (ℤ × ℤ))). MatchOption o (IsSubset x S) (λ L. IsRunsOf L (Intersection x S))) c.in-Some.is c.in_ok-left.ensures in
     elim c.if-ne.branch [
-      | then-ne b ↦ rw b.result-is (keeps_some_within w _ c.in_ok-left.left _ c.iter.ensures.runs c.in_ok-left.ensures
+      | then-ne b ↦ rw b.result-is (keeps_some_within w _ c.in-Some.left _ c.iter.ensures.runs made
           (differ_by_size g.met.B.Output.SizeNumber.ordered _ _ c.ne.result left x c.ne.ensures c.size.ensures c.size-2.ensures b.if-ne.true))
-      | else-ne b ↦ rw b.result-is (keeps_all_within w _ c.in_ok-left.left _ c.iter.ensures.runs c.in_ok-left.ensures
+      | else-ne b ↦ rw b.result-is (keeps_all_within w _ c.in-Some.left _ c.iter.ensures.runs made
           (same_by_size g.met.B.Output.SizeNumber.ordered _ _ c.ne.result left x c.ne.ensures c.size.ensures c.size-2.ensures b.if-ne.false
-          (λ z h. ((c.in_ok-left.ensures.members z).0 h).0)))
+          (λ z h. ((made.members z).0 h).0)))
     ]

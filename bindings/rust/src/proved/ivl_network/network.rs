@@ -1,0 +1,585 @@
+// Written by bindings/rust/extract from crates/ivl_network/src/network.rt.
+//! Domains and rules that are added one by one, and narrowing that stops when told.
+//!
+//! A [`Network`] keeps the rules that were required so far, and which of them have to be looked at again.
+//! [`Network::settle`] narrows the domains by these, until nothing changes or a budget is used up; another
+//! call goes on.
+//!
+//! ```
+//! use intervallum::proved::ivl_network::network::{Network, Settled};
+//! use intervallum::proved::examples::*;
+//!
+//! fn main() -> Result<(), std::boxed::Box<dyn std::error::Error>> {
+//!     let alloc = Global;
+//!     // x + 1 <= y and y + 1 <= x, for x and y from 0 to 9: no solution, and a member or two goes at a time
+//!     let mut network: Network<i32> = Network::new(alloc);
+//!     let x = network.add_variable(IntervalSet::new(alloc, 0, 9)?)?;
+//!     let y = network.add_variable(IntervalSet::new(alloc, 0, 9)?)?;
+//!     network.require(Rule::AtMost { x, y, by: 1 })?;
+//!     network.require(Rule::AtMost { x: y, y: x, by: 1 })?;
+//!     assert_eq!(network.settle(3)?, Settled::Unfinished);
+//!     assert_eq!(network.settle(100)?, Settled::All);
+//!     assert!(network.has_empty());
+//!     Ok(())
+//! }
+//! ```
+
+#[allow(unused_imports)]
+use crate::rattle::prelude::*;
+use crate::proved::intervallum::interval_set::IntervalSet;
+use crate::proved::intervallum::width::Width;
+use crate::proved::ivl_rules::rules::Rule;
+use crate::proved::ivl_store::store::{Store, StoreFault};
+use crate::rattle::std::alloc::{AllocError, Global};
+
+mod change;
+mod index;
+
+mod narrowing;
+mod queue;
+mod trail;
+
+use change::Change;
+use index::Index;
+use narrowing::{cost_of_rule, narrow_swapped, restrict_swapped};
+use queue::Queue;
+use trail::{
+    clear_unmarked, is_logging, is_unkept, log_change, log_cut, reserve_change, revert_to,
+};
+
+/// What [`Network::settle`] reached.
+#[derive(Clone, Copy, Debug, PartialEq, Eq)]
+pub enum Settled {
+    /// No rule narrows a domain any further.
+    All,
+    /// The budget is used up, and some rule may narrow a domain further.
+    Unfinished,
+}
+
+/// What one step of narrowing did.
+enum Step {
+    /// Nothing: no rule has to be looked at.
+    Settled,
+    /// Nothing: the next narrowing counts for more than is left.
+    Costly,
+    /// A narrowing, which counts for so much.
+    Made(u64),
+}
+
+/// Variables with a domain each, and the rules between them so far. A contract sees the two lists, and
+/// how many rules have to be looked at again.
+///
+/// Variables are named by their indexes from 0. Domains only lose members. A call that fails with
+/// [`StoreFault::Variable`] leaves the network unchanged.
+pub struct Network<B: Width> {
+    store: Store<B>,
+    rules: Vec<Rule>,
+    // Which rules name each variable.
+    index: Index,
+    // Which rules have to be looked at.
+    queue: Queue,
+    // What takes back each change since the first mark.
+    trail: Vec<Change<B>>,
+    // For each variable a place of the trail, one more than that at which its domain was kept last.
+    places: Vec<usize>,
+    // The places of the trail at which there is a mark.
+    marks: Vec<usize>,
+}
+
+impl<B: Width> Network<B> {
+    /// Creates a network without variables. Does not allocate.
+    ///
+    /// ```
+    /// use intervallum::proved::ivl_network::network::{Network, Settled};
+    /// use intervallum::proved::examples::*;
+    ///
+    /// fn main() -> Result<(), std::boxed::Box<dyn std::error::Error>> {
+    ///     let alloc = Global;
+    ///     let network: Network<i32> = Network::new(alloc);
+    ///     assert!(network.domains().is_empty() && network.rules().is_empty());
+    ///     Ok(())
+    /// }
+    /// ```
+    ///
+    /// # Proved
+    ///
+    /// ```text
+    /// ensures { result ≡ record { domains = []; rules = []; unsettled = 0; marked = [] } }
+    /// ```
+    pub fn new(alloc: Global) -> Network<B> {
+        Network {
+            store: Store::new(alloc, Vec::new(alloc)),
+            rules: Vec::new(alloc),
+            index: Index::new(alloc),
+            queue: Queue::new(alloc),
+            trail: Vec::new(alloc),
+            places: Vec::new(alloc),
+            marks: Vec::new(alloc),
+        }
+    }
+
+    /// Returns the domains, in the order of the variables. `O(1)`, does not allocate.
+    ///
+    /// # Proved
+    ///
+    /// ```text
+    /// ensures same { result.now ≡ self.now.domains }
+    /// ensures runs { All (IsRunListIn B.whole) self.now.domains }
+    /// ```
+    ///
+    /// Words: [`IsRunListIn`](crate::definitions#IsRunListIn).
+    pub fn domains(&self) -> &[IntervalSet<B>] {
+        self.store.domains()
+    }
+
+    /// Returns the rules so far, in the order in which they were first required. `O(1)`, does not
+    /// allocate.
+    ///
+    /// # Proved
+    ///
+    /// ```text
+    /// ensures same { result.now ≡ self.now.rules }
+    /// ensures different { All AreDifferent self.now.rules }
+    /// ensures unsettled { self.now.unsettled ≤ length self.now.rules }
+    /// ensures present { All (ArePresent (length self.now.domains)) self.now.rules }
+    /// ```
+    ///
+    /// Words: [`AreDifferent`](crate::definitions#AreDifferent), [`ArePresent`](crate::definitions#ArePresent).
+    pub fn rules(&self) -> &[Rule] {
+        self.rules.as_slice()
+    }
+
+    /// Returns true exactly when some domain is empty: then no point solves the rules. `O(1)`,
+    /// does not allocate.
+    ///
+    /// # Proved
+    ///
+    /// ```text
+    /// ensures empty { IsTrue result ↔ Any (λ L. L ≡ []) self.now.domains }
+    /// ensures variable { IsTrue result ↔ HasEmpty (length self.now.domains) (set_at self.now.domains) }
+    /// ```
+    ///
+    /// Words: [`HasEmpty`](crate::definitions#HasEmpty), [`set_at`](crate::definitions#set_at).
+    pub fn has_empty(&self) -> bool {
+        self.store.has_empty()
+    }
+
+    /// Adds a variable with this domain after the others, and returns its index. Amortized `O(1)`.
+    ///
+    /// # Errors
+    ///
+    /// Fails only if allocation fails. The network is unchanged after an error.
+    ///
+    /// ```
+    /// use intervallum::proved::ivl_network::network::{Network, Settled};
+    /// use intervallum::proved::examples::*;
+    ///
+    /// fn main() -> Result<(), std::boxed::Box<dyn std::error::Error>> {
+    ///     let alloc = Global;
+    ///     let mut network: Network<i32> = Network::new(alloc);
+    ///     assert_eq!(network.add_variable(IntervalSet::new(alloc, 3, 4)?)?, 0);
+    ///     assert!(network.domains()[0] == IntervalSet::new(alloc, 3, 4)?);
+    ///     Ok(())
+    /// }
+    /// ```
+    ///
+    /// # Proved
+    ///
+    /// ```text
+    /// ensures index { IfOk result (λ i. i ≡ length self.old.domains) }
+    /// ensures added { OnOk result (self.new ≡ record { domains = self.old.domains ++ domain ∷ []; rules = self.old.rules; unsettled = self.old.unsettled; marked = self.old.marked }) }
+    /// ensures err { OnErr result (self.new ≡ self.old) }
+    /// ```
+    pub fn add_variable(&mut self, domain: IntervalSet<B>) -> Result<usize, AllocError> {
+        let is_kept = is_logging(&self.marks);
+        reserve_change(&mut self.trail, is_kept)?;
+        self.places.reserve(1)?;
+        self.index.reserve_variable()?;
+        let index = self.store.add_variable(domain)?;
+        self.index.push_variable();
+        self.places.push_reserved(0);
+        log_change(&mut self.trail, is_kept, true, Change::Variable);
+        Ok(index)
+    }
+
+    /// Requires that a rule holds, together with those required before it. One that was required
+    /// before changes nothing. No domain is narrowed before [`Network::settle`].
+    ///
+    /// The caller must ensure that the rule names each of its variables once. Check with
+    /// [`Rule::is_over_different`].
+    ///
+    /// Linear in the rules that name its last variable, which are compared with it.
+    ///
+    /// # Errors
+    ///
+    /// [`StoreFault::Variable`] for an unknown index, and [`StoreFault::Memory`] if allocation
+    /// fails. The network is then unchanged.
+    ///
+    /// ```
+    /// use intervallum::proved::ivl_network::network::{Network, Settled};
+    /// use intervallum::proved::examples::*;
+    ///
+    /// fn main() -> Result<(), std::boxed::Box<dyn std::error::Error>> {
+    ///     let alloc = Global;
+    ///     let mut network: Network<i32> = Network::new(alloc);
+    ///     let x = network.add_variable(IntervalSet::new(alloc, 0, 9)?)?;
+    ///     let y = network.add_variable(IntervalSet::new(alloc, 0, 9)?)?;
+    ///     let z = network.add_variable(IntervalSet::new(alloc, 0, 9)?)?;
+    ///     network.require(Rule::Sum(Constraint { x, y, z }))?;
+    ///     network.require(Rule::Differs { x, y, by: 0 })?;
+    ///     network.require(Rule::Differs { x, y, by: 0 })?;
+    ///     assert_eq!(network.rules().len(), 2);
+    ///     Ok(())
+    /// }
+    /// ```
+    ///
+    /// # Proved
+    ///
+    /// ```text
+    /// requires { AreDifferent rule }
+    /// ensures unknown { (i : ℕ) → (result ≡ Err (StoreFault.Variable i)) ↔ (first_unknown (length self.old.domains) (places_of rule) ≡ Some i) }
+    /// ensures domains { self.new.domains ≡ self.old.domains }
+    /// ensures marked { self.new.marked ≡ self.old.marked }
+    /// ensures required { OnOk result (IsRuleRequired rule self.old.rules self.new.rules) }
+    /// ensures refused { OnErr result (self.new ≡ self.old) }
+    /// ```
+    ///
+    /// Words: [`AreDifferent`](crate::definitions#AreDifferent), [`first_unknown`](crate::definitions#first_unknown), [`places_of`](crate::definitions#places), [`IsRuleRequired`](crate::definitions#IsRuleRequired).
+    pub fn require(&mut self, rule: Rule) -> Result<(), StoreFault> {
+        debug_assert!({ #[allow(unused_imports)] use crate::proved::ivl_interval::ops::*; rule.is_over_different() }, "{}", "the condition of `require` is broken: rule.is_over_different()");
+        if let Some(i) = rule.first_unknown(self.store.domains().len()) {
+            return Err(StoreFault::Variable(i));
+        }
+        if !self.index.has(&self.rules, &rule) {
+            self.push(rule)?;
+        }
+        Ok(())
+    }
+
+    /// Adds a rule at the end, not settled.
+    fn push(&mut self, rule: Rule) -> Result<(), AllocError> {
+        let is_kept = is_logging(&self.marks);
+        reserve_change(&mut self.trail, is_kept)?;
+        self.index.reserve_rule()?;
+        self.rules.reserve(1)?;
+        self.queue.push()?;
+        self.index.push_rule(&rule);
+        self.rules.push_reserved(rule);
+        log_change(&mut self.trail, is_kept, true, Change::Require);
+        Ok(())
+    }
+
+    /// Cuts a domain to its members in this set. Other domains are not narrowed before
+    /// [`Network::settle`]. Costs an intersection and a pass over the rules that name the variable.
+    ///
+    /// # Errors
+    ///
+    /// [`StoreFault::Variable`] for an unknown index, and [`StoreFault::Memory`] if allocation
+    /// fails. The network is then unchanged.
+    ///
+    /// ```
+    /// use intervallum::proved::ivl_network::network::{Network, Settled};
+    /// use intervallum::proved::examples::*;
+    ///
+    /// fn main() -> Result<(), std::boxed::Box<dyn std::error::Error>> {
+    ///     let alloc = Global;
+    ///     let mut network: Network<i32> = Network::new(alloc);
+    ///     network.add_variable(IntervalSet::new(alloc, 0, 9)?)?;
+    ///     network.restrict(0, &IntervalSet::new(alloc, 5, 20)?)?;
+    ///     assert!(network.domains()[0] == IntervalSet::new(alloc, 5, 9)?);
+    ///     Ok(())
+    /// }
+    /// ```
+    ///
+    /// # Proved
+    ///
+    /// ```text
+    /// ensures unknown { (i : ℕ) → (result ≡ Err (StoreFault.Variable i)) ↔ ((i ≡ variable) × (length self.old.domains ≤ variable)) }
+    /// ensures rules { self.new.rules ≡ self.old.rules }
+    /// ensures marked { self.new.marked ≡ self.old.marked }
+    /// ensures kept_count { length self.new.domains ≡ length self.old.domains }
+    /// ensures cut { OnOk result (IsCutAt variable (Covers allowed.now) (set_at self.old.domains) (set_at self.new.domains)) }
+    /// ensures refused { OnErr result (self.new ≡ self.old) }
+    /// ```
+    ///
+    /// Words: [`IsCutAt`](crate::definitions#IsCutAt), [`Covers`](crate::definitions#Covers), [`set_at`](crate::definitions#set_at).
+    pub fn restrict(&mut self, variable: usize, allowed: &IntervalSet<B>) -> Result<(), StoreFault> {
+        if variable >= self.store.domains().len() {
+            return Err(StoreFault::Variable(variable));
+        }
+        let is_kept = is_logging(&self.marks);
+        reserve_change(&mut self.trail, is_kept)?;
+        let (lost, change) = restrict_swapped(&mut self.store, variable, allowed)?;
+        self.queue.wake(lost, &self.rules, variable, &self.index);
+        let is_new = is_unkept(lost, &self.trail, &self.marks, &self.places, &change);
+        log_cut(&mut self.trail, &mut self.places, is_kept, is_new, change);
+        Ok(())
+    }
+
+    /// Narrows the domains by the rules until nothing changes, or `budget` narrowings are made. Returns
+    /// [`Settled::All`] exactly if no rule is left that has to be looked at.
+    ///
+    /// Domains lose no member that is in a common solution of the rules. After [`Settled::All`] they are
+    /// the greatest ones, within those before the call, in which each rule supports every member. After
+    /// [`Settled::Unfinished`] another call goes on.
+    ///
+    /// A rule whose domains did not change since it narrowed them is not counted: each narrowing that
+    /// counts removes a member, or leaves one rule fewer to look at. The rules are looked at in rounds,
+    /// and one that has to be looked at again waits for the next. `O(1)` for a rule beside its narrowing,
+    /// and for each domain that changes a pass over the rules that name its variable. Rules in a circle
+    /// may take a member or two at a time, and then need as many narrowings as there are members: the
+    /// budget is what stops them.
+    ///
+    /// # Errors
+    ///
+    /// Fails only if allocation fails, with [`StoreFault::Memory`]. The network is then as the last
+    /// completed narrowing left it, and another call goes on.
+    ///
+    /// ```
+    /// use intervallum::proved::ivl_network::network::{Network, Settled};
+    /// use intervallum::proved::examples::*;
+    ///
+    /// fn main() -> Result<(), std::boxed::Box<dyn std::error::Error>> {
+    ///     let alloc = Global;
+    ///     // x + 1 <= y and y + 1 <= x, for x and y from 0 to 999
+    ///     let mut network: Network<i32> = Network::new(alloc);
+    ///     let x = network.add_variable(IntervalSet::new(alloc, 0, 999)?)?;
+    ///     let y = network.add_variable(IntervalSet::new(alloc, 0, 999)?)?;
+    ///     network.require(Rule::AtMost { x, y, by: 1 })?;
+    ///     network.require(Rule::AtMost { x: y, y: x, by: 1 })?;
+    ///     assert_eq!(network.settle(2)?, Settled::Unfinished);
+    ///     assert!(!network.has_empty());
+    ///     assert_eq!(network.settle(10_000)?, Settled::All);
+    ///     assert!(network.has_empty());
+    ///     Ok(())
+    /// }
+    /// ```
+    ///
+    /// # Proved
+    ///
+    /// ```text
+    /// ensures memory { IfErr result (λ fault. fault ≡ StoreFault.Memory) }
+    /// ensures rules { self.new.rules ≡ self.old.rules }
+    /// ensures marked { self.new.marked ≡ self.old.marked }
+    /// ensures kept_count { length self.new.domains ≡ length self.old.domains }
+    /// ensures keeps { KeepsUnder self.old.rules self.old.domains self.new.domains }
+    /// ensures solutions { (point : ℕ → ℤ) → IsCommonPoint self.old.rules (set_at self.old.domains) point → IsCommonPoint self.old.rules (set_at self.new.domains) point }
+    /// ensures greatest { IfOk result (λ s. s ≡ Settled.All → IsGreatestUnder self.old.rules (set_at self.old.domains) (set_at self.new.domains)) }
+    /// ensures made { IfOk result (λ s. (count : ℕ) × (count ≤ budget) × (s ≡ Settled.Unfinished → count ≡ budget)
+    ///     × AreRuleNarrowings self.old.rules count (set_at self.old.domains) (set_at self.new.domains)) }
+    /// ensures made_before { OnErr result ((count : ℕ) × (count < budget) × AreRuleNarrowings self.old.rules count (set_at self.old.domains) (set_at self.new.domains)) }
+    /// ensures fewer { IfOk result (λ s. s ≡ Settled.Unfinished → budget + work_of_rules B.whole self.new ≤ work_of_rules B.whole self.old) }
+    /// ensures exactly { IfOk result (λ s. s ≡ Settled.All ↔ self.new.unsettled ≡ 0) }
+    /// ensures enough { IfOk result (λ s. work_of_rules B.whole self.old ≤ budget → s ≡ Settled.All) }
+    /// ```
+    ///
+    /// Words: [`KeepsUnder`](crate::definitions#KeepsUnder), [`IsCommonPoint`](crate::definitions#IsCommonPoint), [`set_at`](crate::definitions#set_at), [`IsGreatestUnder`](crate::definitions#IsGreatestUnder), [`AreRuleNarrowings`](crate::definitions#AreRuleNarrowings), [`work_of_rules`](crate::definitions#work_of_rules).
+    pub fn settle(&mut self, budget: u64) -> Result<Settled, StoreFault> {
+        for _ in 0..budget {
+            if !self.narrow_next()? {
+                return Ok(Settled::All);
+            }
+        }
+        Ok(self.reached())
+    }
+
+    /// Narrows the domains as [`Network::settle`] does, by narrowings that count for what they look at:
+    /// a sum counts for one, and for one more for each 256 pairs of runs of two of its three domains; a
+    /// rule of two variables for one, and for one more for each 256 runs of its domains. One that counts
+    /// for more than is left of the budget is not begun. Returns [`Settled::All`] exactly if no rule is
+    /// left that has to be looked at.
+    ///
+    /// After [`Settled::Unfinished`] another call goes on, if its budget covers the next narrowing.
+    ///
+    /// # Errors
+    ///
+    /// Those of [`Network::settle`].
+    ///
+    /// ```
+    /// use intervallum::proved::ivl_network::network::{Network, Settled};
+    /// use intervallum::proved::examples::*;
+    ///
+    /// fn main() -> Result<(), std::boxed::Box<dyn std::error::Error>> {
+    ///     let alloc = Global;
+    ///     // x + y = z over ten runs each: three times a hundred pairs, so the narrowing counts for two
+    ///     let evens: IntervalSet<i32> = [(0, 0), (2, 2), (4, 4), (6, 6), (8, 8), (10, 10), (12, 12), (14, 14), (16, 16), (18, 18)]
+    ///         .to_interval_set(alloc)?;
+    ///     let mut network: Network<i32> = Network::new(alloc);
+    ///     let x = network.add_variable(evens.try_clone()?)?;
+    ///     let y = network.add_variable(evens.try_clone()?)?;
+    ///     let z = network.add_variable(evens)?;
+    ///     network.require(Rule::Sum(Constraint { x, y, z }))?;
+    ///     assert_eq!(network.settle_within(1)?, Settled::Unfinished);
+    ///     assert_eq!(network.settle_within(2)?, Settled::All);
+    ///     Ok(())
+    /// }
+    /// ```
+    ///
+    /// # Proved
+    ///
+    /// ```text
+    /// ensures memory { IfErr result (λ fault. fault ≡ StoreFault.Memory) }
+    /// ensures rules { self.new.rules ≡ self.old.rules }
+    /// ensures marked { self.new.marked ≡ self.old.marked }
+    /// ensures kept_count { length self.new.domains ≡ length self.old.domains }
+    /// ensures keeps { KeepsUnder self.old.rules self.old.domains self.new.domains }
+    /// ensures solutions { (point : ℕ → ℤ) → IsCommonPoint self.old.rules (set_at self.old.domains) point → IsCommonPoint self.old.rules (set_at self.new.domains) point }
+    /// ensures greatest { IfOk result (λ s. s ≡ Settled.All → IsGreatestUnder self.old.rules (set_at self.old.domains) (set_at self.new.domains)) }
+    /// ensures exactly { IfOk result (λ s. s ≡ Settled.All ↔ self.new.unsettled ≡ 0) }
+    /// ensures made { IfOk result (λ s. (by : List Rule) × (cost : ℕ) × AreRulesCounted self.old.rules by cost self.old.domains self.new.domains × (cost ≤ budget)
+    ///     × (s ≡ Settled.Unfinished → (next : Rule) × Contains self.old.rules next × (budget < cost + cost_of next self.new.domains))
+    ///     × (length by + work_of_rules B.whole self.new ≤ work_of_rules B.whole self.old)) }
+    /// ```
+    ///
+    /// Words: [`KeepsUnder`](crate::definitions#KeepsUnder), [`IsCommonPoint`](crate::definitions#IsCommonPoint), [`set_at`](crate::definitions#set_at), [`IsGreatestUnder`](crate::definitions#IsGreatestUnder), [`AreRulesCounted`](crate::definitions#AreRulesCounted), [`cost_of`](crate::definitions#cost_of_rule), [`work_of_rules`](crate::definitions#work_of_rules).
+    pub fn settle_within(&mut self, budget: u64) -> Result<Settled, StoreFault> {
+        let mut left = budget;
+        loop {
+            match self.narrow_within(left)? {
+                Step::Settled => return Ok(Settled::All),
+                Step::Costly => return Ok(Settled::Unfinished),
+                Step::Made(cost) => left -= cost,
+            }
+        }
+    }
+
+    /// Narrows by one rule that is not settled. Returns false, and changes nothing, if all are.
+    fn narrow_next(&mut self) -> Result<bool, AllocError> {
+        match self.narrow_within(u64::MAX)? {
+            Step::Settled | Step::Costly => Ok(false),
+            Step::Made(_) => Ok(true),
+        }
+    }
+
+    /// Narrows by one rule that is not settled, if that counts for no more than is left. Changes nothing
+    /// if it counts for more, or if all are settled.
+    fn narrow_within(&mut self, left: u64) -> Result<Step, AllocError> {
+        let Some(i) = self.queue.first() else {
+            return Ok(Step::Settled);
+        };
+        let rule = self.rules[i];
+        let cost = cost_of_rule(&self.store, &rule);
+        if cost > left {
+            return Ok(Step::Costly);
+        }
+        let is_kept = is_logging(&self.marks);
+        reserve_change(&mut self.trail, is_kept)?;
+        let (lost, change) = narrow_swapped(&mut self.store, &rule)?;
+        self.queue.settle(i, lost, &self.rules, &self.index);
+        let lost = lost.any();
+        let is_new = is_unkept(lost, &self.trail, &self.marks, &self.places, &change);
+        log_cut(&mut self.trail, &mut self.places, is_kept, is_new, change);
+        Ok(Step::Made(cost))
+    }
+
+    /// Whether all rules are settled.
+    fn reached(&self) -> Settled {
+        if self.queue.is_empty() {
+            Settled::All
+        } else {
+            Settled::Unfinished
+        }
+    }
+
+    /// Marks the network as it is, and returns the index of the mark. From the first mark on the
+    /// network keeps domains that are replaced, until the marks are undone or dropped: what a cut or a
+    /// narrowing replaces, if it replaces a domain for the first time since the last mark. `O(1)`
+    /// amortized; no domain is copied.
+    ///
+    /// # Errors
+    ///
+    /// Fails only if allocation fails. The network is unchanged after an error.
+    ///
+    /// ```
+    /// use intervallum::proved::ivl_network::network::{Network, Settled};
+    /// use intervallum::proved::examples::*;
+    ///
+    /// fn main() -> Result<(), std::boxed::Box<dyn std::error::Error>> {
+    ///     let alloc = Global;
+    ///     let mut network: Network<i32> = Network::new(alloc);
+    ///     let x = network.add_variable(IntervalSet::new(alloc, 0, 9)?)?;
+    ///     let mark = network.mark()?;
+    ///     network.restrict(x, &IntervalSet::new(alloc, 5, 20)?)?;
+    ///     network.add_variable(IntervalSet::new(alloc, 1, 1)?)?;
+    ///     assert!(network.undo_to(mark));
+    ///     assert!(network.domains().len() == 1 && network.domains()[0] == IntervalSet::new(alloc, 0, 9)?);
+    ///     assert!(!network.undo_to(mark));
+    ///     Ok(())
+    /// }
+    /// ```
+    ///
+    /// # Proved
+    ///
+    /// ```text
+    /// ensures index { IfOk result (λ mark. mark ≡ length self.old.marked) }
+    /// ensures marked { OnOk result (self.new ≡ record { domains = self.old.domains; rules = self.old.rules; unsettled = self.old.unsettled; marked = self.old.marked ++ (record { domains = self.old.domains; rules = self.old.rules }) ∷ [] }) }
+    /// ensures err { OnErr result (self.new ≡ self.old) }
+    /// ```
+    pub fn mark(&mut self) -> Result<usize, AllocError> {
+        let mark = self.marks.len();
+        self.marks.push(self.trail.len())?;
+        Ok(mark)
+    }
+
+    /// Takes back all changes since a mark: variables, rules and domains are what they were at
+    /// the mark. This mark and later ones are gone. Returns false, and changes nothing, if there is
+    /// no such mark.
+    ///
+    /// Linear in the changes, and for each domain that is put back a pass over the rules that
+    /// name its variable, which have to be looked at again. A rule that is dropped before it was
+    /// looked at costs a pass over those that wait. Does not allocate.
+    ///
+    /// # Proved
+    ///
+    /// ```text
+    /// ensures told { IsTrue result ↔ (mark < length self.old.marked) }
+    /// ensures none { result ≡ false → self.new ≡ self.old }
+    /// ensures undone { result ≡ true → HoldsAt (λ past. (self.new.domains ≡ past.domains) × (self.new.rules ≡ past.rules)) self.old.marked mark }
+    /// ensures marked { result ≡ true → self.new.marked ≡ take mark self.old.marked }
+    /// ```
+    pub fn undo_to(&mut self, mark: usize) -> bool {
+        if mark >= self.marks.len() {
+            return false;
+        }
+        let start = self.marks[mark];
+        revert_to(
+            &mut self.trail,
+            start,
+            &mut self.store,
+            &mut self.rules,
+            &mut self.index,
+            &mut self.queue,
+        );
+        self.marks.truncate(mark);
+        self.places.truncate(self.store.domains().len());
+        true
+    }
+
+    /// Drops a mark and later ones, if there are any. All changes stay. Without a mark, the network
+    /// keeps no domain that is replaced. Does not allocate.
+    ///
+    /// ```
+    /// use intervallum::proved::ivl_network::network::{Network, Settled};
+    /// use intervallum::proved::examples::*;
+    ///
+    /// fn main() -> Result<(), std::boxed::Box<dyn std::error::Error>> {
+    ///     let alloc = Global;
+    ///     let mut network: Network<i32> = Network::new(alloc);
+    ///     let mark = network.mark()?;
+    ///     network.add_variable(IntervalSet::new(alloc, 0, 9)?)?;
+    ///     network.drop_marks(mark);
+    ///     assert!(!network.undo_to(mark) && network.domains().len() == 1);
+    ///     Ok(())
+    /// }
+    /// ```
+    ///
+    /// # Proved
+    ///
+    /// ```text
+    /// ensures { self.new ≡ record { domains = self.old.domains; rules = self.old.rules; unsettled = self.old.unsettled; marked = take mark self.old.marked } }
+    /// ```
+    pub fn drop_marks(&mut self, mark: usize) {
+        self.marks.truncate(mark);
+        clear_unmarked(&self.marks, &mut self.trail);
+    }
+}

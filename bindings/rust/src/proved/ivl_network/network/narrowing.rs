@@ -1,0 +1,60 @@
+// Written by bindings/rust/extract from crates/ivl_network/src/network/narrowing.rt.
+//! Domains that are narrowed by a rule or cut, and what takes that back.
+
+#[allow(unused_imports)]
+use crate::rattle::prelude::*;
+use super::change::Change;
+use crate::proved::intervallum::interval_set::IntervalSet;
+use crate::proved::intervallum::width::Width;
+use crate::proved::ivl_rules::rules::Rule;
+use crate::proved::ivl_rules::rules::narrowing::narrowed_at_places;
+use crate::proved::ivl_store::store::narrowed_sets::narrowed_to;
+use crate::proved::ivl_store::store::{Lost, Store};
+use crate::rattle::std::alloc::AllocError;
+
+/// Narrows by a rule, and returns what takes it back.
+pub(super) fn narrow_swapped<B: Width>(
+    store: &mut Store<B>,
+    rule: &Rule,
+) -> Result<(Lost, Change<B>), AllocError> {
+    let (x, y, z) = narrowed_at_places(store.domains(), rule)?;
+    let lost = Lost {
+        x: x.is_some(),
+        y: y.is_some(),
+        z: z.is_some(),
+    };
+    let c = rule.places();
+    let x = store.swap(c.x, x);
+    let y = store.swap(c.y, y);
+    let z = store.swap(c.z, z);
+    Ok((lost, Change::Domains(c, x, y, z)))
+}
+
+/// Keeps the members of one domain that are allowed, and returns what takes it back. Returns false if
+/// all members stay.
+pub(super) fn restrict_swapped<B: Width>(
+    store: &mut Store<B>,
+    i: usize,
+    allowed: &IntervalSet<B>,
+) -> Result<(bool, Change<B>), AllocError> {
+    let left = narrowed_to(&store.domains()[i], allowed)?;
+    let lost = left.is_some();
+    let old = store.swap(i, left);
+    Ok((lost, Change::Domain(i, old)))
+}
+
+/// What narrowing by a rule counts for: a sum one, and one more for each 256 pairs of runs of two of its
+/// domains; a rule of two variables one, and one more for each 256 runs of its domains.
+pub(super) fn cost_of_rule<B: Width>(store: &Store<B>, rule: &Rule) -> u64 {
+    let c = rule.places();
+    if c.y == c.z {
+        return cost_of_two(store, c.x, c.y);
+    }
+    store.cost_of(&c)
+}
+
+fn cost_of_two<B: Width>(store: &Store<B>, x: usize, y: usize) -> u64 {
+    let of_x = store.domains()[x].interval_count();
+    let of_y = store.domains()[y].interval_count();
+    (of_x.saturating_add(of_y) / 256) as u64 + 1
+}

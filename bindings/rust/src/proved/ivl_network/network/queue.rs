@@ -1,0 +1,121 @@
+// Written by bindings/rust/extract from crates/ivl_network/src/network/queue.rt.
+//! The rules that have to be looked at again.
+
+#[allow(unused_imports)]
+use crate::rattle::prelude::*;
+use super::index::Index;
+use crate::proved::ivl_rules::rules::Rule;
+use crate::proved::ivl_store::store::Lost;
+use crate::rattle::std::alloc::{AllocError, Global};
+use crate::rattle::std::mem;
+
+/// Whether each rule is settled, so that narrowing by it would change nothing, and a queue of
+/// those that are not. The queue goes in rounds: a rule that gets unsettled waits for the next.
+pub(super) struct Queue {
+    settled: Vec<bool>,
+    round: Vec<usize>,
+    later: Vec<usize>,
+}
+
+impl Queue {
+    pub(super) fn new(alloc: Global) -> Queue {
+        Queue {
+            settled: Vec::new(alloc),
+            round: Vec::new(alloc),
+            later: Vec::new(alloc),
+        }
+    }
+
+    /// Adds a rule after the others, not settled.
+    pub(super) fn push(&mut self) -> Result<(), AllocError> {
+        let count = self.settled.len();
+        self.round.reserve(count - self.round.len() + 1)?;
+        self.later.reserve(count - self.later.len() + 1)?;
+        self.settled.push(false)?;
+        self.later.push_reserved(count);
+        Ok(())
+    }
+
+    /// Drops the last rule, if there is one.
+    pub(super) fn pop(&mut self) {
+        if let Some(is_settled) = self.settled.pop() {
+            let k = self.settled.len();
+            if !is_settled && !remove(&mut self.later, k) {
+                remove(&mut self.round, k);
+            }
+        }
+    }
+
+    /// Returns a rule that is not settled, the one that waits longest by rounds, or `None` if all
+    /// are. It stays in the queue, as the last of the round.
+    pub(super) fn first(&mut self) -> Option<usize> {
+        self.turn();
+        let count = self.round.len();
+        if count == 0 {
+            return None;
+        }
+        Some(self.round[count - 1])
+    }
+
+    /// Begins the next round, if this one has ended.
+    fn turn(&mut self) {
+        if self.round.is_empty() {
+            mem::swap(&mut self.round, &mut self.later);
+        }
+    }
+
+    /// Whether each rule is settled.
+    pub(super) fn is_empty(&self) -> bool {
+        self.round.is_empty() && self.later.is_empty()
+    }
+
+    /// Updates the flags after narrowing by the first rule, which is settled then. Those that
+    /// name a variable which lost a member are no longer.
+    pub(super) fn settle(&mut self, i: usize, lost: Lost, rules: &[Rule], index: &Index) {
+        let c = rules[i].places();
+        self.wake(lost.x, rules, c.x, index);
+        self.wake(lost.y, rules, c.y, index);
+        self.wake(lost.z, rules, c.z, index);
+        self.settle_first(i);
+    }
+
+    /// Settles the first rule, which leaves the queue.
+    fn settle_first(&mut self, k: usize) {
+        let _ = self.round.pop();
+        self.settled[k] = true;
+    }
+
+    /// Clears the flag of a rule, which then waits for the next round.
+    fn clear(&mut self, k: usize) {
+        if self.settled[k] {
+            self.settled[k] = false;
+            self.later.push_reserved(k);
+        }
+    }
+
+    /// Clears the flags of the rules that name the variable, if it has changed.
+    pub(super) fn wake(&mut self, changed: bool, rules: &[Rule], variable: usize, index: &Index) {
+        if !changed {
+            return;
+        }
+        let mut place = index.last(variable);
+        while place > 0 {
+            self.clear(place - 1);
+            place = index.last_before(rules, place - 1, variable);
+        }
+    }
+}
+
+/// Removes a number from a list, at the last place where it stands. Returns false, and changes
+/// nothing, if it does not stand there.
+fn remove(list: &mut Vec<usize>, k: usize) -> bool {
+    let mut place = list.len();
+    while place > 0 {
+        place -= 1;
+        if list[place] == k {
+            list.swap_remove(place);
+            return true;
+        }
+    }
+    false
+}

@@ -1,0 +1,15 @@
+mod ExamplesRules
+pub mod Budgets
+pub mod Costs
+pub mod Families
+pub mod Histories
+pub mod Indexes
+pub mod Kept
+pub mod Logging
+pub mod Losses
+pub mod Narrowings
+pub mod Points
+pub mod Queues
+pub mod Reverting
+pub mod Settled
+pub mod Trails

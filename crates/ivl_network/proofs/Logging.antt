@@ -1,0 +1,77 @@
+-- What the calls of a network leave of its trail and its marks.
+use Rattle.std.proofs.Common.{◌≡◌, ◌∙◌, ◌<◌, ◌⊎◌, inl, inr, ℕ, ap, arith, get_or, length, List, [], ◌∷◌, ◌++◌, Bool, false, refl, subst, sym, take}
+use Rattle.std.specs.Prelude.{ℤ, ◌&&◌, map}
+use Rattle.std.proofs.lemmas.List.{take-map}
+use Rattle.ivl_network.specs.declared.network.change.Change.{Change}
+use Rattle.ivl_rules.specs.declared.rules.Rule.{Rule}
+use Rattle.ivl_network.specs.Network.{RulesState}
+use Rattle.ivl_network.specs.Trail.{RulesPast, revert_rule, rules_past_at, with_rule_change, ArePresentIn, IsSoundRuleTrail}
+use Rattle.ivl_network.proofs.Trails.{SameAtMarks, marked_logged, marked_marked, marked_undone, sound_fewer, sound_logged, sound_marked, sound_undone}
+use Rattle.ivl_store.proofs.Logging.{not_both}
+
+-- ---- a change that is written down if there is a mark
+
+pub logged_trail : {B O : Type 0} (marks : List ℕ) (trail trail0 trail' : List (Change B O)) (change : Change B O) (now now' : RulesPast) (is_kept is_change : Bool)
+    → IsSoundRuleTrail marks trail now → ArePresentIn now' → trail0 ≡ trail → trail' ≡ with_rule_change (is_kept && is_change) trail0 change
+    → revert_rule change now' ≡ now → (is_kept ≡ false → marks ≡ []) → (is_change ≡ false → SameAtMarks marks trail now now') → IsSoundRuleTrail marks trail' now'
+logged_trail marks trail trail0 trail' change now now' is_kept is_change s p same e back unmarked unchanged =
+    subst (λ t. IsSoundRuleTrail marks t now') (sym (e ∙ ap (λ t. with_rule_change (is_kept && is_change) t change) same))
+    (sound_logged marks trail change now now' (is_kept && is_change) s p back (not_both is_kept is_change _ _ unmarked unchanged))
+
+pub logged_marks : {B O : Type 0} (marks : List ℕ) (trail trail0 trail' : List (Change B O)) (change : Change B O) (now now' : RulesPast) (is_kept is_change : Bool)
+    → IsSoundRuleTrail marks trail now → trail0 ≡ trail → trail' ≡ with_rule_change (is_kept && is_change) trail0 change
+    → revert_rule change now' ≡ now → (is_kept ≡ false → marks ≡ []) → (is_change ≡ false → SameAtMarks marks trail now now') → map (rules_past_at trail' now') marks ≡ map (rules_past_at trail now) marks
+logged_marks marks trail trail0 trail' change now now' is_kept is_change s same e back unmarked unchanged =
+    ap (λ t. map (rules_past_at t now') marks) (e ∙ ap (λ t. with_rule_change (is_kept && is_change) t change) same)
+    ∙ marked_logged marks trail change now now' (is_kept && is_change) s back (not_both is_kept is_change _ _ unmarked unchanged)
+
+-- ---- a mark
+
+pub more_marks : {B O : Type 0} (marks marks' : List ℕ) (trail : List (Change B O)) (now : RulesPast) (n : ℕ) → IsSoundRuleTrail marks trail now → ArePresentIn now
+    → n ≡ length trail → marks' ≡ marks ++ n ∷ [] → IsSoundRuleTrail marks' trail now
+more_marks marks marks' trail now n s p at e =
+    subst (λ ms. IsSoundRuleTrail ms trail now) (sym (e ∙ ap (λ k. marks ++ k ∷ []) at)) (sound_marked marks trail now s p)
+
+pub one_more_past : {B O : Type 0} (marks marks' : List ℕ) (trail : List (Change B O)) (now : RulesPast) (n : ℕ)
+    → n ≡ length trail → marks' ≡ marks ++ n ∷ [] → map (rules_past_at trail now) marks' ≡ map (rules_past_at trail now) marks ++ now ∷ []
+one_more_past marks marks' trail now n at e = ap (λ ms. map (rules_past_at trail now) ms) (e ∙ ap (λ k. marks ++ k ∷ []) at) ∙ marked_marked marks trail now
+
+-- ---- back to a mark
+
+pub undone_trail : {B O : Type 0} (marks marks' : List ℕ) (trail trail' : List (Change B O)) (now now' : RulesPast) (n start : ℕ) → IsSoundRuleTrail marks trail now
+    → n < length marks → start ≡ get_or marks n 0 → marks' ≡ take n marks → trail' ≡ take start trail → now' ≡ rules_past_at trail now start → IsSoundRuleTrail marks' trail' now'
+undone_trail marks marks' trail trail' now now' n start s lt at a b c =
+    subst (λ ms. IsSoundRuleTrail ms trail' now') (sym a) (subst (λ t. IsSoundRuleTrail (take n marks) t now') (sym b)
+    (subst (λ p. IsSoundRuleTrail (take n marks) (take start trail) p) (sym c) (sound_undone marks trail now n start s lt at)))
+
+pub undone_marks : {B O : Type 0} (marks marks' : List ℕ) (trail trail' : List (Change B O)) (now now' : RulesPast) (n start : ℕ) → IsSoundRuleTrail marks trail now
+    → n < length marks → start ≡ get_or marks n 0 → marks' ≡ take n marks → trail' ≡ take start trail → now' ≡ rules_past_at trail now start
+    → map (rules_past_at trail' now') marks' ≡ take n (map (rules_past_at trail now) marks)
+undone_marks marks marks' trail trail' now now' n start s lt at a b c =
+    ap (λ ms. map (rules_past_at trail' now') ms) a ∙ ap (λ t. map (rules_past_at t now') (take n marks)) b
+    ∙ ap (λ p. map (rules_past_at (take start trail) p) (take n marks)) c ∙ marked_undone marks trail now n start s lt at
+
+-- ---- marks are dropped, and the trail if none is left
+
+pub dropped_trail : {B O : Type 0} (marks marks' : List ℕ) (trail trail' : List (Change B O)) (now : RulesPast) (n : ℕ) → IsSoundRuleTrail marks trail now
+    → marks' ≡ take n marks → (marks' ≡ []) ⊎ (trail' ≡ trail) → IsSoundRuleTrail marks' trail' now
+dropped_trail marks marks' trail trail' now n s e (inl none) = subst (λ ms. IsSoundRuleTrail ms trail' now) (sym none) (record {
+  in_trail = (λ k lt. absurd (omega arith));
+  in_order = (λ j k le lt. absurd (omega arith));
+  present = (λ k m lt low high. absurd (omega arith));
+})
+dropped_trail marks marks' trail trail' now n s e (inr same) =
+    subst (λ ms. IsSoundRuleTrail ms trail' now) (sym e) (subst (λ t. IsSoundRuleTrail (take n marks) t now) (sym same) (sound_fewer marks trail now n s))
+
+pub dropped_marks : {B O : Type 0} (marks marks' : List ℕ) (trail trail' : List (Change B O)) (now : RulesPast) (n : ℕ)
+    → marks' ≡ take n marks → (marks' ≡ []) ⊎ (trail' ≡ trail) → map (rules_past_at trail' now) marks' ≡ take n (map (rules_past_at trail now) marks)
+dropped_marks marks marks' trail trail' now n e (inl none) =
+    ap (λ ms. map (rules_past_at trail' now) ms) none ∙ ap (λ ms. map (rules_past_at trail now) ms) (sym none ∙ e) ∙ sym (take-map (rules_past_at trail now) n marks)
+dropped_marks marks marks' trail trail' now n e (inr same) =
+    ap (λ t. map (rules_past_at t now) marks') same ∙ ap (λ ms. map (rules_past_at trail now) ms) e ∙ sym (take-map (rules_past_at trail now) n marks)
+
+-- ---- the states
+
+pub state_is : (d d' : List (List (ℤ × ℤ))) (c c' : List Rule) (u u' : ℕ) (m m' : List RulesPast) → d ≡ d' → c ≡ c' → u ≡ u' → m ≡ m'
+    → ◌≡◌ {A = RulesState} (record { domains = d; rules = c; unsettled = u; marked = m }) (record { domains = d'; rules = c'; unsettled = u'; marked = m' })
+state_is d d' c c' u u' m m' e f g h = rw (e, f, g, h) refl

@@ -1,0 +1,211 @@
+-- The queue of the rules that are not settled.
+use Rattle.std.proofs.Common.{◌≡◌, ◌∙◌, ◌+◌, ◌-◌, ◌<◌, ◌≤◌, inl, inr, ℕ, ap, arith, cond, get_or, length, List, [], ◌∷◌, ◌++◌, Bool, true, false, refl, set, subst, sym}
+use Rattle.std.specs.Prelude.{not}
+use Rattle.std.specs.Vec.{vec_capacity}
+use Rattle.std.proofs.Math.ListN.{get_or-append, get_or-eq_default}
+use Rattle.std.proofs.lemmas.Bool.{cases_eq, cases_lt, false≢true}
+use Rattle.std.proofs.lemmas.List.{get_or-set_other, get_or-set_same, get_or_push, length-set, length_push}
+use Rattle.std.proofs.lemmas.List.Sums.{count_by-le-length, sum_by_push}
+use Rattle.ivl_network.specs.declared.network.queue.Queue.{Queue}
+use Rattle.ivl_store.specs.Network.{unsettled_count}
+use Rattle.ivl_network.specs.Queue.{IsLastNamingRule, IsRuleQueue}
+use Rattle.ivl_store.specs.Queue.{Removes, times_in, waits}
+use Rattle.ivl_network.specs.Settled.{AreClearedRules}
+use Rattle.ivl_rules.specs.Rules.{NamesOf}
+use Rattle.ivl_rules.specs.declared.rules.Rule.{Rule}
+use Rattle.ivl_store.proofs.Queues.{count_push, count_some, one_other, one_same, unsettled-set, waits_at}
+
+-- ---- flags of the queue
+
+-- there is room for one more where a flag is set
+pub room_to_wait : (queue : Queue) (k : ℕ) (d : Bool) → IsRuleQueue queue → k < length queue.settled.items → get_or queue.settled.items k d ≡ true
+    → length queue.later.items < vec_capacity queue.later
+room_to_wait queue k d s lt e =
+    let a = subst (λ b. unsettled_count (set queue.settled.items k false) + cond (not b) 1 0 ≡ unsettled_count queue.settled.items + 1) e (unsettled-set queue.settled.items k false d lt) in
+    let b = count_by-le-length not (set queue.settled.items k false) in
+    let n = length-set queue.settled.items k false in
+    let m = s.as_many in let r = s.room_later in omega (arith, a, b, n, m, r)
+
+-- where nothing waits, each is settled
+pub none_waits : (queue : Queue) → IsRuleQueue queue → queue.round.items ≡ [] → queue.later.items ≡ []
+    → (k : ℕ) → k < length queue.settled.items → get_or queue.settled.items k false ≡ true
+none_waits queue s e f k lt =
+    let o = s.once k in let a = ap (times_in k) e in let b = ap (times_in k) f in
+    let z : waits queue.settled.items k ≡ 0 = omega (arith, o, a, b) in
+    is_set (get_or queue.settled.items k false) (sym (waits_at queue.settled.items k (get_or queue.settled.items k false) false lt refl) ∙ z)
+  where
+    is_set : (b : Bool) → ◌≡◌ {A = ℕ} (cond b 0 1) 0 → b ≡ true
+    is_set true h = refl
+    is_set false h = absurd (omega (arith, h))
+
+-- what waits is not settled
+pub waiting : (queue : Queue) (front : List ℕ) (k : ℕ) → IsRuleQueue queue → queue.round.items ≡ front ++ k ∷ []
+    → (k < length queue.settled.items) × (get_or queue.settled.items k false ≡ false)
+waiting queue front k s e =
+    let n = s.once k in let m = ap (times_in k) e ∙ count_some front k in
+    let some : 0 < waits queue.settled.items k = omega (arith, n, m) in
+    let lt : k < length queue.settled.items = elim (cases_lt k (length queue.settled.items)) [
+      | inl lt ↦ lt
+      | inr le ↦ absurd (let z : waits queue.settled.items k ≡ 0 = ap (λ m. cond m 0 1) (get_or-eq_default queue.settled.items true le) in omega (arith, z, some))
+    ] in
+    (lt, is_not (get_or queue.settled.items k false) (subst (λ n. 0 < n) (waits_at queue.settled.items k (get_or queue.settled.items k false) false lt refl) some))
+  where
+    is_not : (b : Bool) → 0 < cond {A = ℕ} b 0 1 → b ≡ false
+    is_not true h = absurd (omega (arith, h))
+    is_not false h = refl
+
+-- ---- one more rule, and one less
+
+pub pushed : (queue queue' : Queue) (count : ℕ) → IsRuleQueue queue → count ≡ length queue.settled.items → queue'.settled.items ≡ queue.settled.items ++ false ∷ []
+    → queue'.round.items ≡ queue.round.items → queue'.later.items ≡ queue.later.items ++ count ∷ [] → count + 1 ≤ vec_capacity queue'.round
+    → count + 1 ≤ vec_capacity queue'.later → IsRuleQueue queue'
+pushed queue queue' count s at e f g room room_later =
+    let n = length_push queue.settled.items false in
+    record {
+      once = (λ k. ap (λ l. times_in k l + times_in k queue'.later.items) f ∙ ap (λ l. times_in k queue.round.items + times_in k l) g
+          ∙ (let c = count_push queue.later.items count k in let o = s.once k in elim (cases_eq k count) [
+            | inl here ↦ (let one : times_in k (count ∷ []) ≡ 1 = ap (λ j. times_in k (j ∷ [])) (sym here) ∙ one_same k in
+                let was : waits queue.settled.items k ≡ 0 = ap (λ m. cond m 0 1) (get_or-eq_default queue.settled.items true (omega (arith, here, at))) in
+                let now : waits queue'.settled.items k ≡ 1 = ap (λ l. waits l k) e ∙ ap (λ m. cond m 0 1) (get_or_push queue.settled.items false true k (omega (arith, here, at))) in
+                omega (arith, c, o, one, was, now))
+            | inr ne ↦ (let none = one_other count k (λ h. ne (sym h)) in
+                let same : waits queue'.settled.items k ≡ waits queue.settled.items k = ap (λ l. waits l k) e ∙ waits_before queue.settled.items k (λ h. ne (h ∙ sym at)) in
+                omega (arith, c, o, none, same))
+          ]));
+      as_many = (let a = ap length f in let b = ap length g in let l = length_push queue.later.items count in
+          let c : unsettled_count queue'.settled.items ≡ unsettled_count queue.settled.items + 1 = ap unsettled_count e ∙ sum_by_push (λ (b : Bool). cond (not b) 1 0) queue.settled.items false in
+          let m = s.as_many in omega (arith, a, b, l, c, m));
+      room = (let l = ap length e in omega (arith, l, n, at, room));
+      room_later = (let l = ap length e in omega (arith, l, n, at, room_later));
+    }
+  where
+    waits_before : (flags : List Bool) (k : ℕ) → (k ≡ length flags → ⊥) → waits (flags ++ false ∷ []) k ≡ waits flags k
+    waits_before flags k ne = ap (λ m. cond m 0 1) (elim (cases_lt k (length flags)) [
+      | inl lt ↦ get_or-append flags (false ∷ []) true k lt
+      | inr le ↦ get_or-eq_default (flags ++ false ∷ []) true (let n = length_push flags false in omega (arith, n, le, ne)) ∙ sym (get_or-eq_default flags true le)
+    ])
+
+-- the last rule is dropped, and its number is removed where it waits
+pub popped : (queue queue' : Queue) (flag : Bool) (flags : List Bool) → IsRuleQueue queue → queue.settled.items ≡ flags ++ flag ∷ [] → queue'.settled.items ≡ flags
+    → ((k : ℕ) → times_in k queue'.round.items + times_in k queue'.later.items + cond flag 0 (times_in k (length flags ∷ [])) ≡ times_in k queue.round.items + times_in k queue.later.items)
+    → length queue'.round.items + length queue'.later.items + cond flag 0 1 ≡ length queue.round.items + length queue.later.items
+    → vec_capacity queue'.round ≡ vec_capacity queue.round → vec_capacity queue'.later ≡ vec_capacity queue.later → IsRuleQueue queue'
+popped queue queue' flag flags s e f counts lengths room room_later =
+    let n = length_push flags flag in
+    record {
+      once = (λ k. let c = counts k in let o = s.once k in ap (λ m. m) (elim (cases_eq k (length flags)) [
+        | inl here ↦ (let was : waits queue.settled.items k ≡ cond flag 0 1 = ap (λ l. waits l k) e ∙ ap (λ m. cond m 0 1) (get_or_push flags flag true k (sym here)) in
+            let now : waits queue'.settled.items k ≡ 0 = ap (λ l. waits l k) f ∙ ap (λ m. cond m 0 1) (get_or-eq_default flags true (omega (arith, here))) in
+            let one : times_in k (length flags ∷ []) ≡ 1 = ap (λ j. times_in k (j ∷ [])) (sym here) ∙ one_same k in
+            none_left flag _ (times_in k (length flags ∷ [])) one (c ∙ o ∙ was) ∙ sym now)
+        | inr ne ↦ (let none : times_in k (length flags ∷ []) ≡ 0 = one_other (length flags) k (λ h. ne (sym h)) in
+            let same : waits queue.settled.items k ≡ waits queue'.settled.items k = ap (λ l. waits l k) e ∙ waits_before flags k ne ∙ ap (λ l. waits l k) (sym f) in
+            as_before flag _ _ (times_in k (length flags ∷ [])) none (c ∙ o ∙ same))
+      ]));
+      as_many = (let c : unsettled_count queue.settled.items ≡ unsettled_count flags + cond (not flag) 1 0 = ap unsettled_count e ∙ sum_by_push (λ (b : Bool). cond (not b) 1 0) flags flag in
+          fewer flag _ _ (lengths ∙ s.as_many ∙ c) ∙ ap unsettled_count (sym f));
+      room = (let a = ap length e in let b = ap length f in let r = s.room in omega (arith, a, b, n, r, room));
+      room_later = (let a = ap length e in let b = ap length f in let r = s.room_later in omega (arith, a, b, n, r, room_later));
+    }
+  where
+    none_left : (b : Bool) (m one : ℕ) → one ≡ 1 → m + cond b 0 one ≡ cond b 0 1 → m ≡ 0
+    none_left true m one u h = omega (arith, h)
+    none_left false m one u h = omega (arith, h, u)
+
+    as_before : (b : Bool) (m w one : ℕ) → one ≡ 0 → m + cond b 0 one ≡ w → m ≡ w
+    as_before true m w one u h = omega (arith, h)
+    as_before false m w one u h = omega (arith, h, u)
+
+    fewer : (b : Bool) (m u : ℕ) → m + cond b 0 1 ≡ u + cond (not b) 1 0 → m ≡ u
+    fewer true m u h = omega (arith, h)
+    fewer false m u h = omega (arith, h)
+
+    waits_before : (ms : List Bool) (k : ℕ) → (k ≡ length ms → ⊥) → waits (ms ++ flag ∷ []) k ≡ waits ms k
+    waits_before ms k ne = ap (λ m. cond m 0 1) (elim (cases_lt k (length ms)) [
+      | inl lt ↦ get_or-append ms (flag ∷ []) true k lt
+      | inr le ↦ get_or-eq_default (ms ++ flag ∷ []) true (let n = length_push ms flag in omega (arith, n, le, ne)) ∙ sym (get_or-eq_default ms true le)
+    ])
+
+-- one that is settled waits nowhere
+pub popped_settled : (queue queue' : Queue) (flag : Bool) → IsRuleQueue queue → queue.settled.items ≡ queue'.settled.items ++ flag ∷ [] → flag ≡ true
+    → queue'.round.items ≡ queue.round.items → queue'.later.items ≡ queue.later.items
+    → vec_capacity queue'.round ≡ vec_capacity queue.round → vec_capacity queue'.later ≡ vec_capacity queue.later → IsRuleQueue queue'
+popped_settled queue queue' true s e m f g room room_later =
+    popped queue queue' true queue'.settled.items s e refl
+    (λ k. let a = ap (times_in k) f in let b = ap (times_in k) g in omega (arith, a, b)) (let a = ap length f in let b = ap length g in omega (arith, a, b)) room room_later
+popped_settled queue queue' false s e m f g room room_later = absurd (false≢true m)
+
+-- one that waits for the next round
+pub popped_later : (queue queue' : Queue) (flag : Bool) (k : ℕ) → IsRuleQueue queue → queue.settled.items ≡ queue'.settled.items ++ flag ∷ [] → flag ≡ false → k ≡ length queue'.settled.items
+    → queue'.round.items ≡ queue.round.items → Removes k queue.later.items queue'.later.items true
+    → vec_capacity queue'.round ≡ vec_capacity queue.round → vec_capacity queue'.later ≡ vec_capacity queue.later → IsRuleQueue queue'
+popped_later queue queue' true k s e m at f g room room_later = absurd (false≢true (sym m))
+popped_later queue queue' false k s e m at f g room room_later =
+    popped queue queue' false queue'.settled.items s e refl
+    (λ j. let a = ap (times_in j) f in let b = g.0 j in let c = ap (λ i. times_in j (i ∷ [])) at in omega (arith, a, b, c)) (let a = ap length f in let b = g.1 in omega (arith, a, b)) room room_later
+
+-- one that waits in this round
+pub popped_round : (queue queue' : Queue) (flag : Bool) (k : ℕ) (removed : Bool) → IsRuleQueue queue → queue.settled.items ≡ queue'.settled.items ++ flag ∷ [] → flag ≡ false
+    → k ≡ length queue'.settled.items → Removes k queue.later.items queue'.later.items false → Removes k queue.round.items queue'.round.items removed
+    → vec_capacity queue'.round ≡ vec_capacity queue.round → vec_capacity queue'.later ≡ vec_capacity queue.later → IsRuleQueue queue'
+popped_round queue queue' true k removed s e m at f g room room_later = absurd (false≢true (sym m))
+popped_round queue queue' false k true s e m at f g room room_later =
+    popped queue queue' false queue'.settled.items s e refl
+    (λ j. let a = ap (times_in j) f.0 in let b = g.0 j in let c = ap (λ i. times_in j (i ∷ [])) at in omega (arith, a, b, c)) (let a = ap length f.0 in let b = g.1 in omega (arith, a, b)) room room_later
+popped_round queue queue' false k false s e m at f g room room_later =
+    let w : waits queue.settled.items k ≡ 1 = ap (λ l. waits l k) e ∙ ap (λ b. cond {A = ℕ} b 0 1) (get_or_push queue'.settled.items false true k (sym at)) in
+    let o = s.once k in let a = f.1 in let b = g.1 in absurd (omega (arith, w, o, a, b))
+
+-- ---- rules that lose their flags
+
+-- those that name the variable have none from this place on
+pub record WokenSoFar (rules : List Rule) (variable : ℕ) (before after : List Bool) (place : ℕ) : Type 0 where
+  pub low : place ≤ length rules
+  pub names : (k : ℕ) (d : Rule) → k + 1 ≡ place → NamesOf (get_or rules k d) variable
+  pub same_count : length after ≡ length before
+  pub only_cleared : (k : ℕ) → get_or after k false ≡ true → get_or before k false ≡ true
+  pub apart : (k : ℕ) (d : Rule) → place ≤ k → k < length rules → get_or after k false ≡ true → NamesOf (get_or rules k d) variable → ⊥
+
+pub none_woken : (rules : List Rule) (variable : ℕ) (flags : List Bool) (place : ℕ) → IsLastNamingRule rules variable (length rules) place
+    → WokenSoFar rules variable flags flags place
+none_woken rules variable flags place s = record {
+  low = s.low;
+  names = s.names;
+  same_count = refl;
+  only_cleared = (λ k m. m);
+  apart = (λ k d from lt m. s.none k d from lt);
+}
+
+pub one_woken : (rules : List Rule) (variable : ℕ) (before after : List Bool) (place next : ℕ) → WokenSoFar rules variable before after place → 0 < place
+    → place - 1 < length after → IsLastNamingRule rules variable (place - 1) next → WokenSoFar rules variable before (set after (place - 1) false) next
+one_woken rules variable before after place next s pos within n = record {
+  low = (let a = n.low in let b = s.low in omega (arith, a, b));
+  names = n.names;
+  same_count = length-set after (place - 1) false ∙ s.same_count;
+  only_cleared = (λ k m. s.only_cleared k (was k m));
+  apart = (λ k d from lt m. elim (cases_lt k place) [
+    | inl below ↦ elim (cases_eq k (place - 1)) [
+      | inl e ↦ absurd (false≢true (sym (here k e) ∙ m))
+      | inr ne ↦ n.none k d from (omega (arith, below, ne))
+    ]
+    | inr ge ↦ s.apart k d ge lt (was k m)
+  ]);
+}
+  where
+    here : (k : ℕ) → k ≡ place - 1 → get_or (set after (place - 1) false) k false ≡ false
+    here k e = ap (λ i. get_or (set after (place - 1) false) i false) e ∙ get_or-set_same after (place - 1) false false within
+
+    was : (k : ℕ) → get_or (set after (place - 1) false) k false ≡ true → get_or after k false ≡ true
+    was k m = elim (cases_eq k (place - 1)) [
+      | inl e ↦ absurd (false≢true (sym (here k e) ∙ m))
+      | inr ne ↦ sym (get_or-set_other after (place - 1) k false false ne) ∙ m
+    ]
+
+pub all_woken : (rules : List Rule) (variable : ℕ) (before after : List Bool) (place : ℕ) (changed : Bool) → WokenSoFar rules variable before after place → place ≤ 0
+    → changed ≡ true → AreClearedRules changed rules variable before after
+all_woken rules variable before after place changed s end t = record {
+  same_count = s.same_count;
+  kept = (λ f. absurd (false≢true (sym f ∙ t)));
+  only_cleared = s.only_cleared;
+  apart = (λ _ k d lt m. s.apart k d (omega (arith, end)) lt m);
+}

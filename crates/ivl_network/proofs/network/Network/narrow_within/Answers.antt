@@ -1,0 +1,117 @@
+use Rattle.std.proofs.Common.{◌≡◌, ◌↔◌, ◌∙◌, ◌∷◌, ◌+◌, ◌<◌, ◌≤◌, Bool, List, ap, arith, [], length, refl, rules, set, subst, sym, true, ℕ}
+use Rattle.std.proofs.lemmas.List.{get_or_default}
+use Rattle.std.specs.Prelude.{ℤ, All, Contains}
+use Rattle.ivl_laws.specs.Families.{set_at}
+use Rattle.ivl_rules.specs.declared.rules.Rule.{Rule}
+use Rattle.ivl_network.specs.Costs.{AreRulesCounted, cost_of_rule}
+use Rattle.ivl_network.specs.Families.{ArePresent, IsFixedBy}
+use Rattle.ivl_rules.specs.Rules.{NarrowedBy, places}
+use Rattle.ivl_network.specs.Network.{AreRuleNarrowings, IsSoundRules, RulesState, work_of_rules}
+use Rattle.ivl_store.specs.Network.{unsettled_count}
+use Rattle.ivl_store.specs.Settled.{AreLost, any_lost}
+use Rattle.ivl_network.specs.Settled.{AreSettledRules}
+use Rattle.ivl_network.proofs.Costs.{counted_one}
+use Rattle.ivl_network.proofs.Indexes.{index_of_count}
+use Rattle.ivl_network.proofs.Kept.{same_at_marks}
+use Rattle.ivl_network.proofs.Logging.{logged_marks, logged_trail, state_is}
+use Rattle.ivl_network.proofs.Narrowings.{all_fixed, one_narrowing, sound_moved}
+use Rattle.ivl_store.proofs.Totals.{total_falls}
+use Rattle.ivl_store.proofs.Work.{work_less}
+use Rattle.ivl_network.proofs.network.Network.narrow_within.Goals as goal
+
+pub returns-clause-narrowed : goal.returns-clause-narrowed
+returns-clause-narrowed g c = λ _ _.
+    let cs = c.self.inside.rules.items in
+    let lt : c.in-Some.i < length cs = (let a = c.in-Some.ensures.first.0 in let b = c.self.invariant.0.settled.one_each in omega (arith, a, b)) in
+    let at = λ (d : Rule). get_or_default cs c.in-Some.i d c.index.result.now lt ∙ sym c.index.ensures in
+    let first = c.index.result.now in
+    subst (λ (s : RulesState). AreRuleNarrowings s.rules 1 (set_at s.domains) (set_at c.narrow_swapped.new.store)) c.self.view_is
+    (one_narrowing cs c.in-Some.i first (set_at c.self.inside.store) (set_at c.narrow_swapped.new.store) lt
+    (subst (λ k. (j : ℕ) (v : ℤ) → set_at c.narrow_swapped.new.store j v ↔ NarrowedBy k (set_at c.self.inside.store) j v) (sym (at first)) c.in_ok-lost.ensures.narrowed))
+
+pub returns-clause-fewer : goal.returns-clause-fewer
+returns-clause-fewer g c = λ _ _.
+    let inside = c.self.inside in
+    let flags = inside.queue.settled.items in
+    subst (λ (s : RulesState). 1 + work_of_rules g.B.Width.whole (record { domains = c.narrow_swapped.new.store; rules = inside.rules.items; unsettled = unsettled_count c.settle.new.self.settled.items; marked = [] }) ≤ work_of_rules g.B.Width.whole s) c.self.view_is
+    (work_less g.B.Width.whole inside.store c.narrow_swapped.new.store (length inside.rules.items) flags c.settle.new.self.settled.items c.in-Some.i (any_lost c.in_ok-lost.lost) c.in-Some.ensures.first.0 c.in-Some.ensures.first.1
+    (c.settle.ensures.count ∙ ap length c.deref-2.ensures.value) c.in_ok-lost.ensures.same (λ none. c.settle.ensures.alone none ∙ ap (λ (ms : List Bool). set ms c.in-Some.i true) c.first.ensures.settled)
+    (λ t. total_falls g.B.Width.whole inside.store c.narrow_swapped.new.store c.in_ok-lost.ensures.range c.narrow_swapped.ensures.kept_count (λ i v h. ((c.in_ok-lost.ensures.narrowed i v).0 h).kept)
+    (c.in_ok-lost.ensures.lost.some.0 t)))
+
+pub invariant_of-self-2 : goal.invariant_of-self-2
+invariant_of-self-2 g c =
+    let inside = c.self.inside in
+    let cs = inside.rules.items in
+    let lt : c.in-Some.i < length cs = (let a = c.in-Some.ensures.first.0 in let b = c.self.invariant.0.settled.one_each in omega (arith, a, b)) in
+    let at = λ (d : Rule). sym (get_or_default cs c.in-Some.i d c.index.result.now lt ∙ sym c.index.ensures) in
+    let moved = rw c.deref-2.ensures.value at c.settle.ensures.settled in
+    let sound : IsSoundRules c.narrow_swapped.new.store cs c.settle.new.self.settled.items = sound_moved inside.store c.narrow_swapped.new.store cs inside.queue.settled.items c.settle.new.self.settled.items c.narrow_swapped.ensures.kept_count
+    (moved inside.store c.narrow_swapped.new.store
+    (λ d. subst (λ k. (j : ℕ) (v : ℤ) → set_at c.narrow_swapped.new.store j v ↔ NarrowedBy k (set_at inside.store) j v) (at d) c.in_ok-lost.ensures.narrowed)
+    (λ d. subst (λ k. AreLost (places k) c.in_ok-lost.lost (set_at inside.store) (set_at c.narrow_swapped.new.store)) (at d) c.in_ok-lost.ensures.lost)
+    (subst (λ (ms : List Bool). AreSettledRules cs ms (set_at inside.store)) (sym c.first.ensures.settled) c.self.invariant.0.settled))
+    c.self.invariant.0 in (
+      sound,
+      logged_trail inside.marks.items inside.trail.items c.reserve_change.new.trail.items c.log_cut.new.trail.items c.in_ok-lost.change _ _ _ c.is_unkept-is_new.result c.self.invariant.1 sound.present
+          c.reserve_change.ensures.same c.log_cut.ensures (c.in_ok-lost.ensures.back cs)
+          (λ f. sym c.deref.ensures.value ∙ c.is_logging-is_kept.ensures f)
+          (λ f. same_at_marks inside.marks.items _ inside.trail.items _ c.in_ok-lost.change _ _ c.any-lost.result c.self.invariant.1 (c.in_ok-lost.ensures.back cs)
+          (λ none. ap (λ (sets : List (List (ℤ × ℤ))). record { domains = sets; rules = cs }) (c.in_ok-lost.ensures.same (sym c.any-lost.ensures ∙ none))) c.deref-4.ensures.value (c.deref-3.ensures.value ∙ c.reserve_change.ensures.same) (c.is_unkept-is_new.ensures f)),
+      index_of_count _ _ cs inside.index c.narrow_swapped.ensures.kept_count c.self.invariant.2,
+      c.settle.ensures.queue,
+    )
+
+pub returns-clause-marked : goal.returns-clause-marked
+returns-clause-marked g c =
+    let inside = c.self.inside in
+    let cs = inside.rules.items in
+    logged_marks inside.marks.items inside.trail.items c.reserve_change.new.trail.items c.log_cut.new.trail.items c.in_ok-lost.change _ _ _ c.is_unkept-is_new.result c.self.invariant.1
+    c.reserve_change.ensures.same c.log_cut.ensures (c.in_ok-lost.ensures.back cs)
+    (λ f. sym c.deref.ensures.value ∙ c.is_logging-is_kept.ensures f)
+    (λ f. same_at_marks inside.marks.items _ inside.trail.items _ c.in_ok-lost.change _ _ c.any-lost.result c.self.invariant.1 (c.in_ok-lost.ensures.back cs)
+    (λ none. ap (λ (sets : List (List (ℤ × ℤ))). record { domains = sets; rules = cs }) (c.in_ok-lost.ensures.same (sym c.any-lost.ensures ∙ none))) c.deref-4.ensures.value (c.deref-3.ensures.value ∙ c.reserve_change.ensures.same) (c.is_unkept-is_new.ensures f))
+    ∙ ap (λ (s : RulesState). s.marked) c.self.view_is
+
+pub returns-clause-counted : goal.returns-clause-counted
+returns-clause-counted g c = λ cost e.
+    let inside = c.self.inside in
+    let cs = inside.rules.items in
+    let lt : c.in-Some.i < length cs = (let a = c.in-Some.ensures.first.0 in let b = c.self.invariant.0.settled.one_each in omega (arith, a, b)) in
+    let is : c.cost_of_rule-cost.result ≡ cost = cc in
+    let positive = c.cost_of_rule-cost.ensures.positive in
+    let within = c.if-cost-left.false in
+    subst (λ (s : RulesState). (0 < cost) × (cost ≤ c.args.left) × (d : Rule) × AreRulesCounted s.rules (d ∷ []) cost s.domains c.narrow_swapped.new.store) c.self.view_is (
+      omega (arith, is, positive),
+      omega (arith, is, within),
+      c.index.result.now,
+      counted_one cs c.in-Some.i c.index.result.now cost inside.store c.narrow_swapped.new.store lt (sym c.index.ensures) c.in_ok-lost.ensures.narrowed (sym is ∙ c.cost_of_rule-cost.ensures.cost),
+    )
+
+pub returns-then-cost-left-clause-costly : goal.returns-then-cost-left-clause-costly
+returns-then-cost-left-clause-costly g c = λ _.
+    let cs = c.self.inside.rules.items in
+    let lt : c.in-Some.i < length cs = (let a = c.in-Some.ensures.first.0 in let b = c.self.invariant.0.settled.one_each in omega (arith, a, b)) in
+    let above = c.if-cost-left.true in
+    let cost = c.cost_of_rule-cost.ensures.cost in (
+      state_is _ _ _ _ _ _ _ _ refl refl (ap unsettled_count c.first.ensures.settled) refl ∙ c.self.view_is,
+      c.index.result.now,
+      subst (λ (s : RulesState). Contains s.rules c.index.result.now) c.self.view_is (c.in-Some.i, lt, sym c.index.ensures),
+      subst (λ (s : RulesState). c.args.left < cost_of_rule c.index.result.now s.domains) c.self.view_is (omega (arith, above, cost)),
+    )
+
+pub cost_of_rule-cost-requires : goal.cost_of_rule-cost-requires
+cost_of_rule-cost-requires g c =
+    let cs = c.self.inside.rules.items in
+    let lt : c.in-Some.i < length cs = (let a = c.in-Some.ensures.first.0 in let b = c.self.invariant.0.settled.one_each in omega (arith, a, b)) in
+    subst (ArePresent (length c.self.inside.store)) (sym c.index.ensures) (c.self.invariant.0.present c.in-Some.i c.index.result.now lt)
+
+pub returns-in_default-clause-done : goal.returns-in_default-clause-done
+returns-in_default-clause-done g c = ((λ _. ap (λ (s : RulesState). s.unsettled) (sym c.self.view_is) ∙ c.first.ensures.none.0 (search rules)), (λ _. refl))
+
+pub returns-in_default-clause-none : goal.returns-in_default-clause-none
+returns-in_default-clause-none g c = λ _. (
+  state_is _ _ _ _ _ _ _ _ refl refl (ap unsettled_count c.first.ensures.settled) refl ∙ c.self.view_is,
+  subst (λ (s : RulesState). All (IsFixedBy (set_at s.domains)) s.rules) c.self.view_is
+      (all_fixed c.self.inside.rules.items c.self.inside.queue.settled.items (set_at c.self.inside.store) c.self.invariant.0.settled c.in_default.ensures.first),
+)

@@ -1,0 +1,44 @@
+use Rattle.std.proofs.Common.{◌≡◌, ◌∙◌, ◌<◌, ap, arith, get_or, length, sym, take}
+use Rattle.std.proofs.lemmas.List.{get_or-map, get_or_default}
+use Rattle.ivl_network.specs.Network.{RulesState}
+use Rattle.ivl_network.specs.Trail.{RulesPast, rules_past_at}
+use Rattle.ivl_network.proofs.Logging.{undone_marks, undone_trail}
+use Rattle.ivl_network.proofs.network.Network.undo_to.Goals as goal
+
+pub revert_to-requires-clause-present : goal.revert_to-requires-clause-present
+revert_to-requires-clause-present g c = λ m low high.
+    let i = c.self.inside in
+    let lt : c.args.mark < length i.marks.items = (let t = c.if-mark-len.false in let e = c.len.ensures in omega (arith, t, e)) in
+    let at : c.index-start.result.now ≡ get_or i.marks.items c.args.mark 0 = c.index-start.ensures ∙ get_or_default i.marks.items c.args.mark c.index-start.result.now 0 lt in
+    c.self.invariant.1.present c.args.mark m lt (omega (arith, at, low)) high
+
+pub invariant_of-self : goal.invariant_of-self
+invariant_of-self g c =
+    let i = c.self.inside in
+    let lt : c.args.mark < length i.marks.items = (let t = c.if-mark-len.false in let e = c.len.ensures in omega (arith, t, e)) in (
+      c.revert_to.ensures.sound,
+      undone_trail i.marks.items c.truncate.new.self.items i.trail.items c.revert_to.new.trail.items _ _ c.args.mark c.index-start.result.now c.self.invariant.1 lt
+          (c.index-start.ensures ∙ get_or_default i.marks.items c.args.mark c.index-start.result.now 0 lt) c.truncate.ensures.items c.revert_to.ensures.trail c.revert_to.ensures.past,
+      c.revert_to.ensures.index,
+      c.revert_to.ensures.queue,
+    )
+
+pub returns-clause-marked : goal.returns-clause-marked
+returns-clause-marked g c = λ _.
+    let i = c.self.inside in
+    let lt : c.args.mark < length i.marks.items = (let t = c.if-mark-len.false in let e = c.len.ensures in omega (arith, t, e)) in
+    undone_marks i.marks.items c.truncate.new.self.items i.trail.items c.revert_to.new.trail.items _ _ c.args.mark c.index-start.result.now c.self.invariant.1 lt
+    (c.index-start.ensures ∙ get_or_default i.marks.items c.args.mark c.index-start.result.now 0 lt) c.truncate.ensures.items c.revert_to.ensures.trail c.revert_to.ensures.past
+    ∙ ap (λ (s : RulesState). take c.args.mark s.marked) c.self.view_is
+
+pub returns-clause-undone : goal.returns-clause-undone
+returns-clause-undone g c = λ _ d.
+    let i = c.self.inside in
+    let lt : c.args.mark < length i.marks.items = (let t = c.if-mark-len.false in let e = c.len.ensures in omega (arith, t, e)) in
+    let now : RulesPast = record { domains = i.store; rules = i.rules.items } in
+    let past : get_or c.args.self.now.marked c.args.mark d ≡ rules_past_at i.trail.items now c.index-start.result.now =
+    ap (λ (s : RulesState). get_or s.marked c.args.mark d) (sym c.self.view_is)
+    ∙ get_or-map (rules_past_at i.trail.items now) i.marks.items c.args.mark c.index-start.result.now d lt
+    ∙ ap (rules_past_at i.trail.items now) (sym c.index-start.ensures) in
+    let e = c.revert_to.ensures.past ∙ sym past in
+    (ap (λ (p : RulesPast). p.domains) e, ap (λ (p : RulesPast). p.rules) e)

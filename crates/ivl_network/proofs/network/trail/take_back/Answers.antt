@@ -1,0 +1,42 @@
+use Rattle.std.proofs.Common.{◌≡◌, ◌∙◌, ◌-◌, ap, arith, length, subst, sym, take}
+use Rattle.std.specs.Prelude.{All}
+use Rattle.std.proofs.lemmas.List.{length-take}
+use Rattle.ivl_network.specs.Families.{ArePresent}
+use Rattle.ivl_network.specs.Network.{IsSoundRules}
+use Rattle.ivl_network.specs.Queue.{IsRuleIndex}
+use Rattle.ivl_network.proofs.Indexes.{index_narrowed, index_of_count, present_last}
+use Rattle.ivl_network.proofs.Reverting.{sound_without_rules, sound_without_variable}
+use Rattle.ivl_network.proofs.network.trail.take_back.Goals as goal
+
+pub put_back-requires-in-Domains-3-clause-index : goal.put_back-requires-in-Domains-3-clause-index
+put_back-requires-in-Domains-3-clause-index g c =
+    rw c.deref-in-Domains-3.ensures.value (index_narrowed _ _ _ _ _ _ c.put_back-in-Domains-2.ensures.domains (index_narrowed _ _ _ _ _ _ c.put_back-in-Domains.ensures.domains c.requires.index))
+
+pub returns-in-Variable-clause-sound : goal.returns-in-Variable-clause-sound
+returns-in-Variable-clause-sound g c =
+    rw c.drop_variable.ensures (sound_without_variable c.args.store.now c.args.rules.now.items c.args.queue.now.settled.items _ c.requires.sound
+    (rw c.in-Variable.is at c.requires.present))
+
+pub returns-in-Variable-clause-index : goal.returns-in-Variable-clause-index
+returns-in-Variable-clause-index g c =
+    let n = length-take (length c.args.store.now - 1) c.args.store.now in
+    let e : length (take (length c.args.store.now - 1) c.args.store.now) ≡ length c.args.store.now - 1 = omega (arith, n) in
+    index_of_count _ _ c.args.rules.now.items c.pop_variable.new.self (ap length c.drop_variable.ensures ∙ e)
+    (c.pop_variable.ensures (length c.args.store.now) c.args.rules.now.items c.requires.index
+    (subst (λ m. All (ArePresent m) c.args.rules.now.items) e (rw c.in-Variable.is at c.requires.present)))
+
+pub pop_rule-requires : goal.pop_rule-requires
+pop_rule-requires g c = present_last (length c.args.store.now) c.args.rules.now.items c.pop.new.self.items _ c.args.index.now c.in-Some.ensures.items c.requires.sound.present c.requires.index
+
+pub returns-in-Some-clause-index : goal.returns-in-Some-clause-index
+returns-in-Some-clause-index g c =
+    c.pop_rule.ensures (length c.args.store.now) c.pop.new.self.items (subst (λ cs. IsRuleIndex (length c.args.store.now) cs c.args.index.now) c.in-Some.ensures.items c.requires.index)
+
+pub returns-in-Some-clause-sound : goal.returns-in-Some-clause-sound
+returns-in-Some-clause-sound g c =
+    let cs = c.args.rules.now.items in
+    let ms = c.args.queue.now.settled.items in
+    let e : c.pop.new.self.items ≡ take (length cs - 1) cs = c.in-Some.ensures.rest ∙ ap (λ n. take n cs) (let o = c.args.rules.now.ok.0 in omega (arith, o)) in
+    let f : c.pop-in-Some.new.self.settled.items ≡ take (length cs - 1) ms = c.pop-in-Some.ensures.left ∙ ap (λ n. take (n - 1) ms) c.requires.sound.settled.one_each in
+    subst (λ ds. IsSoundRules c.args.store.now ds c.pop-in-Some.new.self.settled.items) (sym e)
+    (subst (λ ns. IsSoundRules c.args.store.now (take (length cs - 1) cs) ns) (sym f) (sound_without_rules c.args.store.now cs ms (length cs - 1) c.requires.sound))

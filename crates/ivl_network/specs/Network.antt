@@ -1,0 +1,38 @@
+-- What a network of rules keeps, and what its calls do to that.
+--     RulesState      the domain of each variable, the rules so far, how many of these have to be looked at again, and what both lists were at each mark
+--     work_of_rules whole network      how many narrowings are left at most, of which each removes a member or leaves one rule fewer to look at
+--     IsSoundRules domains rules flags      the rules name different variables, which have a domain; narrowing by one whose flag is set changes nothing
+--     IsRuleRequired rule old new      the rule is among the new ones, at the end, or where it was if it was among the old ones
+--     AreRuleNarrowings rules count before after      so many narrowings, each by one of the rules, leave these members
+use Rattle.std.specs.Prelude.{◌≡◌, ◌⊎◌, ◌++◌, ◌∷◌, [], ◌+◌, ◌*◌, ℕ, ℤ, Bool, List, All, Contains, length}
+use Rattle.ivl_laws.specs.Families.{set_at}
+use Rattle.ivl_store.specs.Measure.{total}
+use Rattle.ivl_rules.specs.declared.rules.Rule.{Rule}
+use Rattle.ivl_rules.specs.Rules.{AreDifferent}
+use Rattle.ivl_network.specs.Families.{ArePresent}
+use Rattle.ivl_network.specs.Rounds.{IsLeftByRules}
+use Rattle.ivl_network.specs.Settled.{AreSettledRules}
+use Rattle.ivl_network.specs.Trail.{RulesPast}
+
+pub record RulesState : Type 0 where
+  pub domains : List (List (ℤ × ℤ))
+  pub rules : List Rule
+  pub unsettled : ℕ
+  pub marked : List RulesPast
+
+abbrev pub work_of_rules : ℤ × ℤ → RulesState → ℕ
+work_of_rules whole network = total whole network.domains * (length network.rules + 1) + network.unsettled
+
+pub record IsSoundRules (domains : List (List (ℤ × ℤ))) (rules : List Rule) (flags : List Bool) : Type 0 where
+  pub different : All AreDifferent rules
+  pub present : All (ArePresent (length domains)) rules
+  pub settled : AreSettledRules rules flags (set_at domains)
+
+abbrev pub IsRuleRequired : Rule → List Rule → List Rule → Type 0
+IsRuleRequired rule old new = (Contains old rule × (new ≡ old)) ⊎ ((¬ (Contains old rule)) × (new ≡ old ++ rule ∷ []))
+
+pub record AreRuleNarrowings (rules : List Rule) (count : ℕ) (before after : ℕ → ℤ → Type 0) : Type 0 where
+  pub by : List Rule
+  pub as_many : length by ≡ count
+  pub each : All (Contains rules) by
+  pub left : IsLeftByRules by before after

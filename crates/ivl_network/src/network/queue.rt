@@ -1,0 +1,192 @@
+//! The rules that have to be looked at again.
+ghost use Rattle.std.specs.Prelude.{◌≡◌, ◌+◌, ◌-◌, ◌<◌, ◌∷◌, ◌++◌, [], ℕ, ℤ, All, HoldsAt, IsNone, IsTrue, ◌↔◌, List, MatchOption, OnErr, OnOk, false, true, length, slice_index_or, slice_set, take};
+ghost use Rattle.std.specs.Vec.{vec_capacity};
+ghost use Rattle.ivl_laws.specs.Families.{set_at};
+ghost use Rattle.ivl_store.specs.Network.{unsettled_count};
+ghost use Rattle.ivl_store.specs.Queue.{Removes};
+ghost use Rattle.ivl_store.specs.Settled.{AreLost, any_lost};
+ghost use Rattle.ivl_rules.specs.Rules.{NarrowedBy, places as places_of};
+ghost use Rattle.ivl_network.specs.Queue.{IsRuleIndex, IsRuleQueue};
+ghost use Rattle.ivl_network.specs.Settled.{AreClearedRules, AreSettledRules};
+
+use super::index::Index;
+use ivl_rules::rules::Rule;
+use ivl_store::store::Lost;
+use std::alloc::{AllocError, Global};
+use std::mem;
+
+/// Whether each rule is settled, so that narrowing by it would change nothing, and a queue of
+/// those that are not. The queue goes in rounds: a rule that gets unsettled waits for the next.
+#[derive(Drop)]
+pub(super) struct Queue {
+    settled: Vec<bool>,
+    round: Vec<usize>,
+    later: Vec<usize>,
+}
+
+impl Queue {
+    pub(super) fn new(alloc: Global) -> Queue
+        ensures empty { result.settled.items ≡ [] }
+        ensures queue { IsRuleQueue result }
+    {
+        Queue {
+            settled: Vec::new(alloc),
+            round: Vec::new(alloc),
+            later: Vec::new(alloc),
+        }
+    }
+
+    /// Adds a rule after the others, not settled.
+    pub(super) fn push(&mut self) -> Result<(), AllocError>
+        requires { IsRuleQueue self.old }
+        ensures queue { IsRuleQueue self.new }
+        ensures added { OnOk result (self.new.settled.items ≡ self.old.settled.items ++ false ∷ []) }
+        ensures refused { OnErr result (self.new.settled.items ≡ self.old.settled.items) }
+    {
+        let count = self.settled.len();
+        self.round.reserve(count - self.round.len() + 1)?;
+        self.later.reserve(count - self.later.len() + 1)?;
+        self.settled.push(false)?;
+        self.later.push_reserved(count);
+        Ok(())
+    }
+
+    /// Drops the last rule, if there is one.
+    pub(super) fn pop(&mut self)
+        requires { IsRuleQueue self.old }
+        ensures queue { IsRuleQueue self.new }
+        ensures left { self.new.settled.items ≡ take (length self.old.settled.items - 1) self.old.settled.items }
+    {
+        if let Some(is_settled) = self.settled.pop() {
+            let k = self.settled.len();
+            if !is_settled && !remove(&mut self.later, k) {
+                remove(&mut self.round, k);
+            }
+        }
+    }
+
+    /// Returns a rule that is not settled, the one that waits longest by rounds, or `None` if all
+    /// are. It stays in the queue, as the last of the round.
+    pub(super) fn first(&mut self) -> Option<usize>
+        requires { IsRuleQueue self.old }
+        ensures queue { IsRuleQueue self.new }
+        ensures settled { self.new.settled.items ≡ self.old.settled.items }
+        ensures none { IsNone result ↔ unsettled_count self.old.settled.items ≡ 0 }
+        ensures first { MatchOption result ((k : ℕ) → k < length self.old.settled.items → slice_index_or self.old.settled.items k false ≡ true)
+            (λ k. (k < length self.old.settled.items) × (slice_index_or self.old.settled.items k false ≡ false) × (front : List ℕ) × (self.new.round.items ≡ front ++ k ∷ [])) }
+    {
+        self.turn();
+        let count = self.round.len();
+        if count == 0 {
+            return None;
+        }
+        Some(self.round[count - 1])
+    }
+
+    /// Begins the next round, if this one has ended.
+    fn turn(&mut self)
+        requires { IsRuleQueue self.old }
+        ensures queue { IsRuleQueue self.new }
+        ensures settled { self.new.settled.items ≡ self.old.settled.items }
+        ensures ended { self.new.round.items ≡ [] → self.new.later.items ≡ [] }
+    {
+        if self.round.is_empty() {
+            mem::swap(&mut self.round, &mut self.later);
+        }
+    }
+
+    /// Whether each rule is settled.
+    pub(super) fn is_empty(&self) -> bool
+        requires { IsRuleQueue self.now }
+        ensures all { result ≡ true → (k : ℕ) → k < length self.now.settled.items → slice_index_or self.now.settled.items k false ≡ true }
+        ensures exactly { IsTrue result ↔ unsettled_count self.now.settled.items ≡ 0 }
+    {
+        self.round.is_empty() && self.later.is_empty()
+    }
+
+    /// Updates the flags after narrowing by the first rule, which is settled then. Those that
+    /// name a variable which lost a member are no longer.
+    pub(super) fn settle(&mut self, i: usize, lost: Lost, rules: &[Rule], index: &Index)
+        requires queue { IsRuleQueue self.old }
+        requires index { (count : ℕ) × IsRuleIndex count rules.now index.now }
+        requires one_each { length self.old.settled.items ≡ length rules.now }
+        requires in_list { i < length rules.now }
+        requires unset { slice_index_or self.old.settled.items i false ≡ false }
+        requires first { (front : List ℕ) × (self.old.round.items ≡ front ++ i ∷ []) }
+        ensures queue { IsRuleQueue self.new }
+        ensures count { length self.new.settled.items ≡ length rules.now }
+        ensures alone { any_lost lost ≡ false → self.new.settled.items ≡ slice_set self.old.settled.items i true }
+        ensures settled { (old new : List (List (ℤ × ℤ))) → HoldsAt (λ c. (j : ℕ) (v : ℤ) → set_at new j v ↔ NarrowedBy c (set_at old) j v) rules.now i
+            → HoldsAt (λ c. AreLost (places_of c) lost (set_at old) (set_at new)) rules.now i
+            → AreSettledRules rules.now self.old.settled.items (set_at old) → AreSettledRules rules.now self.new.settled.items (set_at new) }
+    {
+        let c = rules[i].places();
+        self.wake(lost.x, rules, c.x, index);
+        self.wake(lost.y, rules, c.y, index);
+        self.wake(lost.z, rules, c.z, index);
+        self.settle_first(i);
+    }
+
+    /// Settles the first rule, which leaves the queue.
+    fn settle_first(&mut self, k: usize)
+        requires queue { IsRuleQueue self.old }
+        requires in_list { k < length self.old.settled.items }
+        requires unset { slice_index_or self.old.settled.items k false ≡ false }
+        requires first { (front : List ℕ) × (self.old.round.items ≡ front ++ k ∷ []) }
+        ensures queue { IsRuleQueue self.new }
+        ensures settled { self.new.settled.items ≡ slice_set self.old.settled.items k true }
+    {
+        let _ = self.round.pop();
+        self.settled[k] = true;
+    }
+
+    /// Clears the flag of a rule, which then waits for the next round.
+    fn clear(&mut self, k: usize)
+        requires queue { IsRuleQueue self.old }
+        requires in_list { k < length self.old.settled.items }
+        ensures queue { IsRuleQueue self.new }
+        ensures settled { self.new.settled.items ≡ slice_set self.old.settled.items k false }
+        ensures round { self.new.round.items ≡ self.old.round.items }
+    {
+        if self.settled[k] {
+            self.settled[k] = false;
+            self.later.push_reserved(k);
+        }
+    }
+
+    /// Clears the flags of the rules that name the variable, if it has changed.
+    pub(super) fn wake(&mut self, changed: bool, rules: &[Rule], variable: usize, index: &Index)
+        requires queue { IsRuleQueue self.old }
+        requires index { (count : ℕ) × IsRuleIndex count rules.now index.now }
+        requires one_each { length self.old.settled.items ≡ length rules.now }
+        ensures queue { IsRuleQueue self.new }
+        ensures cleared { AreClearedRules changed rules.now variable self.old.settled.items self.new.settled.items }
+        ensures round { self.new.round.items ≡ self.old.round.items }
+    {
+        if !changed {
+            return;
+        }
+        let mut place = index.last(variable);
+        while place > 0 {
+            self.clear(place - 1);
+            place = index.last_before(rules, place - 1, variable);
+        }
+    }
+}
+
+/// Removes a number from a list, at the last place where it stands. Returns false, and changes
+/// nothing, if it does not stand there.
+fn remove(list: &mut Vec<usize>, k: usize) -> bool
+    ensures removed { Removes k list.old.items list.new.items result }
+    ensures capacity { vec_capacity list.new ≡ vec_capacity list.old }
+{
+    let mut place = list.len();
+    while place > 0 {
+        place -= 1;
+        if list[place] == k {
+            list.swap_remove(place);
+            return true;
+        }
+    }
+    false
+}

@@ -1,9 +1,0 @@
-use Rattle.std.proofs.Common.{refl}
-use Rattle.ivl_search.specs.Best.{IsBetter}
-use Rattle.ivl_search.proofs.Cuts.{cut_in_range}
-use Rattle.ivl_search.proofs.search.optimum.keep_worse.Goals as goal
-
-pub returns-clause-cut : goal.returns-clause-cut
-returns-clause-cut g c =
-    cut_in_range g.B.Width.whole c.args.network.now.domains c.args.network.now.domains c.restrict.new.network.domains c.args.variable _ (λ v. IsBetter c.args.wanted v (g.B.Width.value c.args.value))
-    c.domains.ensures.runs c.in_ok-allowed.ensures refl c.in_ok-restrict.ensures.cut

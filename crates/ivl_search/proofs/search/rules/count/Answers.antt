@@ -1,0 +1,12 @@
+use Rattle.std.proofs.Common.{◌<◌, ◌+◌, ◌-◌, ◌*◌, ◌/◌, List, length, max, subst}
+use Rattle.std.specs.Prelude.{ℤ}
+use Rattle.ivl_search.specs.Budget.{points_of}
+use Rattle.ivl_search.proofs.Rooms.{enough_more}
+use Rattle.ivl_search.proofs.search.rules.count.Goals as goal
+
+pub returns-clause-enough : goal.returns-clause-enough
+returns-clause-enough g c = λ e.
+    let net = c.in_ok-network.network in
+    let points = λ (D : List (List (ℤ × ℤ))). 2 * max 1 (points_of g.B.Width.whole D) - 1 in
+    enough_more (length net.rules) (length c.args.rules.now) (points c.args.domains.now) c.args.limits.nodes c.in_ok-network.ensures.no_more
+    (subst (λ D. c.args.limits.nodes < points D * (length net.rules / 500 + 1)) c.in_ok-network.ensures.domains (c.in_ok-end.ensures.enough e).1)

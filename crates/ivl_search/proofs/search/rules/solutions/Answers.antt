@@ -1,0 +1,21 @@
+use Rattle.std.proofs.Common.{◌<◌, ◌+◌, ◌-◌, ◌*◌, ◌/◌, ◌++◌, List, length, map, max}
+use Rattle.std.specs.Prelude.{ℤ, Contains}
+use Rattle.ivl_search.specs.Budget.{points_of}
+use Rattle.ivl_search.specs.Points.{SolvesRules}
+use Rattle.ivl_search.proofs.Rooms.{enough_more}
+use Rattle.std.proofs.Common.{ap, refl, subst, sym, ◌∙◌}
+use Rattle.ivl_search.proofs.search.rules.solutions.Goals as goal
+
+pub returns-clause-complete : goal.returns-clause-complete
+returns-clause-complete g c = λ e point s.
+    let f = c.in_ok-end.ensures.finds in
+    let net = c.in_ok-network.network in
+    let solved : SolvesRules net.rules net.domains point = subst (λ D. SolvesRules net.rules D point) (sym c.in_ok-network.ensures.domains) ((c.in_ok-network.ensures.solutions point).0 s) in
+    subst (λ points. Contains points point) (sym (f.2 refl ∙ ap (λ xs. map (λ p. map g.B.Width.value p.items) xs ++ f.0) c.new-points.ensures.items)) (f.1.complete e point solved)
+
+pub returns-clause-enough : goal.returns-clause-enough
+returns-clause-enough g c = λ e.
+    let net = c.in_ok-network.network in
+    let points = λ (D : List (List (ℤ × ℤ))). 2 * max 1 (points_of g.B.Width.whole D) - 1 in
+    enough_more (length net.rules) (length c.args.rules.now) (points c.args.domains.now) c.args.limits.nodes c.in_ok-network.ensures.no_more
+    (subst (λ D. c.args.limits.nodes < points D * (length net.rules / 500 + 1)) c.in_ok-network.ensures.domains (c.in_ok-end.ensures.enough e).1)

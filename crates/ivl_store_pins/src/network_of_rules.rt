@@ -1,0 +1,126 @@
+//! What the calls of a network of rules mean.
+ghost use Rattle.std.specs.Prelude.{◌≡◌, ◌≢◌, ◌↔◌, ◌<◌, ◌≤◌, ◌+◌, ◌∷◌, [], ℕ, ℤ, List, All, Any, Contains, IfOk, IsTrue, OnErr, OnOk, length};
+ghost use Rattle.ivl_laws.specs.Families.{set_at};
+ghost use Rattle.ivl_laws.specs.Runs.{Covers};
+ghost use Rattle.ivl_rules.specs.declared.rules.Rule.{Rule};
+ghost use Rattle.ivl_rules.specs.Rules.{AreDifferent};
+ghost use Rattle.ivl_network.specs.Costs.{AreRulesCounted, cost_of_rule};
+ghost use Rattle.ivl_network.specs.Families.{IsCommonPoint, IsGreatestUnder};
+ghost use Rattle.ivl_network.specs.Network.{IsRuleRequired, work_of_rules};
+
+use intervallum::interval_set::IntervalSet;
+use intervallum::width::Width;
+use ivl_network::network::{Network, Settled};
+use ivl_rules::rules::Rule;
+use ivl_store::store::StoreFault;
+use std::alloc::{AllocError, Global};
+
+/// Returns a network with one domain, and no rule.
+pub fn network_of_one<B: Width>(
+    alloc: Global,
+    domain: IntervalSet<B>,
+) -> Result<Network<B>, AllocError>
+    ensures { IfOk result (λ network. network ≡ record { domains = domain ∷ []; rules = []; unsettled = 0; marked = [] }) }
+{
+    let mut network = Network::new(alloc);
+    network.add_variable(domain)?;
+    Ok(network)
+}
+
+/// Returns the numbers of domains and of rules, and whether a domain is empty.
+pub fn shape_of<B: Width>(network: &Network<B>) -> (usize, usize, bool)
+    ensures domains { result.0 ≡ length network.now.domains }
+    ensures rules { result.1 ≡ length network.now.rules }
+    ensures different { All AreDifferent network.now.rules }
+    ensures empty { IsTrue result.2 ↔ Any (λ L. L ≡ []) network.now.domains }
+{
+    (
+        network.domains().len(),
+        network.rules().len(),
+        network.has_empty(),
+    )
+}
+
+/// Requires a rule, if it is tested to name each variable once.
+pub fn required_if_different<B: Width>(
+    network: &mut Network<B>,
+    rule: Rule,
+) -> Result<bool, StoreFault>
+    ensures required { IfOk result (λ b. IsTrue b → IsRuleRequired rule network.old.rules network.new.rules) }
+    ensures different { IfOk result (λ b. IsTrue b ↔ AreDifferent rule) }
+    ensures domains { network.new.domains ≡ network.old.domains }
+    ensures refused { OnErr result (network.new ≡ network.old) }
+{
+    let is_different = rule.is_over_different();
+    if is_different {
+        network.require(rule)?;
+    }
+    Ok(is_different)
+}
+
+/// Cuts a domain to its members in a set. The other domains stay.
+pub fn cut_to<B: Width>(
+    network: &mut Network<B>,
+    variable: usize,
+    allowed: &IntervalSet<B>,
+) -> Result<(), StoreFault>
+    ensures cut { OnOk result ((v : ℤ) → set_at network.new.domains variable v ↔ (set_at network.old.domains variable v × Covers allowed.now v)) }
+    ensures others { OnOk result ((i : ℕ) → i ≢ variable → (v : ℤ) → set_at network.new.domains i v ↔ set_at network.old.domains i v) }
+    ensures rules { network.new.rules ≡ network.old.rules }
+    ensures refused { OnErr result (network.new ≡ network.old) }
+{
+    network.restrict(variable, allowed)
+}
+
+/// Narrows within a budget of narrowings, and returns whether all is narrowed, which it is where the
+/// budget covers the work.
+pub fn is_settled_by<B: Width>(network: &mut Network<B>, budget: u64) -> Result<bool, StoreFault>
+    ensures solutions { (point : ℕ → ℤ) → IsCommonPoint network.old.rules (set_at network.old.domains) point → IsCommonPoint network.old.rules (set_at network.new.domains) point }
+    ensures greatest { IfOk result (λ b. IsTrue b → IsGreatestUnder network.old.rules (set_at network.old.domains) (set_at network.new.domains)) }
+    ensures exactly { IfOk result (λ b. IsTrue b ↔ network.new.unsettled ≡ 0) }
+    ensures enough { IfOk result (λ b. work_of_rules B.whole network.old ≤ budget → IsTrue b) }
+{
+    let settled = network.settle(budget)?;
+    Ok(settled == Settled::All)
+}
+
+/// Narrows within a budget that counts what narrowings look at, and returns whether all is narrowed;
+/// if not, some rule's next narrowing counts for more than is left.
+pub fn is_settled_within<B: Width>(
+    network: &mut Network<B>,
+    budget: u64,
+) -> Result<bool, StoreFault>
+    ensures greatest { IfOk result (λ b. IsTrue b → IsGreatestUnder network.old.rules (set_at network.old.domains) (set_at network.new.domains)) }
+    ensures exactly { IfOk result (λ b. IsTrue b ↔ network.new.unsettled ≡ 0) }
+    ensures stopped { IfOk result (λ b. ¬ (IsTrue b) → (by : List Rule) × (cost : ℕ) × AreRulesCounted network.old.rules by cost network.old.domains network.new.domains
+        × (next : Rule) × Contains network.old.rules next × (budget < cost + cost_of_rule next network.new.domains)) }
+{
+    match network.settle_within(budget)? {
+        Settled::All => Ok(true),
+        Settled::Unfinished => Ok(false),
+    }
+}
+
+/// Marks a network, adds a domain, and takes it back: the domains and rules are as before.
+pub fn added_and_taken_back<B: Width>(
+    network: &mut Network<B>,
+    domain: IntervalSet<B>,
+) -> Result<bool, AllocError>
+    ensures told { IfOk result (λ is_back. IsTrue is_back) }
+    ensures domains { OnOk result (network.new.domains ≡ network.old.domains) }
+    ensures rules { OnOk result (network.new.rules ≡ network.old.rules) }
+    ensures marked { OnOk result (network.new.marked ≡ network.old.marked) }
+{
+    let mark = network.mark()?;
+    network.add_variable(domain)?;
+    Ok(network.undo_to(mark))
+}
+
+/// Marks a network and drops the mark: it is as before.
+pub fn marked_and_dropped<B: Width>(network: &mut Network<B>) -> Result<(), AllocError>
+    ensures { network.new ≡ network.old }
+{
+    let mark = network.mark()?;
+    network.drop_marks(mark);
+    Ok(())
+}
