@@ -12,4 +12,5 @@ pub mod Points
 pub mod Queues
 pub mod Reverting
 pub mod Settled
+pub mod Staying
 pub mod Trails

@@ -11,7 +11,7 @@ use Rattle.ivl_store.specs.Network.{unsettled_count}
 use Rattle.ivl_network.specs.Queue.{IsLastNamingRule, IsRuleQueue}
 use Rattle.ivl_store.specs.Queue.{Removes, times_in, waits}
 use Rattle.ivl_network.specs.Settled.{AreClearedRules}
-use Rattle.ivl_rules.specs.Rules.{NamesOf}
+use Rattle.ivl_rules.specs.Rules.{NamesOf, needs_singles}
 use Rattle.ivl_rules.specs.declared.rules.Rule.{Rule}
 use Rattle.ivl_store.proofs.Queues.{count_push, count_some, one_other, one_same, unsettled-set, waits_at}
 
@@ -158,52 +158,64 @@ popped_round queue queue' false k false s e m at f g room room_later =
 
 -- ---- rules that lose their flags
 
--- those that name the variable have none from this place on
-pub record WokenSoFar (rules : List Rule) (variable : ℕ) (before after : List Bool) (place : ℕ) : Type 0 where
+-- those that name the variable have none from this place on, but where they may stay
+pub record WokenSoFar (keeps_two : Bool) (rules : List Rule) (variable : ℕ) (before after : List Bool) (place : ℕ) : Type 0 where
   pub low : place ≤ length rules
   pub names : (k : ℕ) (d : Rule) → k + 1 ≡ place → NamesOf (get_or rules k d) variable
   pub same_count : length after ≡ length before
   pub only_cleared : (k : ℕ) → get_or after k false ≡ true → get_or before k false ≡ true
-  pub apart : (k : ℕ) (d : Rule) → place ≤ k → k < length rules → get_or after k false ≡ true → NamesOf (get_or rules k d) variable → ⊥
+  pub apart : (k : ℕ) (d : Rule) → place ≤ k → k < length rules → get_or after k false ≡ true → NamesOf (get_or rules k d) variable
+      → (keeps_two ≡ true) × (needs_singles (get_or rules k d) ≡ true)
 
-pub none_woken : (rules : List Rule) (variable : ℕ) (flags : List Bool) (place : ℕ) → IsLastNamingRule rules variable (length rules) place
-    → WokenSoFar rules variable flags flags place
-none_woken rules variable flags place s = record {
+pub none_woken : (keeps_two : Bool) (rules : List Rule) (variable : ℕ) (flags : List Bool) (place : ℕ) → IsLastNamingRule rules variable (length rules) place
+    → WokenSoFar keeps_two rules variable flags flags place
+none_woken keeps_two rules variable flags place s = record {
   low = s.low;
   names = s.names;
   same_count = refl;
   only_cleared = (λ k m. m);
-  apart = (λ k d from lt m. s.none k d from lt);
+  apart = (λ k d from lt m named. absurd (s.none k d from lt named));
 }
 
-pub one_woken : (rules : List Rule) (variable : ℕ) (before after : List Bool) (place next : ℕ) → WokenSoFar rules variable before after place → 0 < place
-    → place - 1 < length after → IsLastNamingRule rules variable (place - 1) next → WokenSoFar rules variable before (set after (place - 1) false) next
-one_woken rules variable before after place next s pos within n = record {
+-- a flag at this place that stays
+pub one_left : (keeps_two : Bool) (rules : List Rule) (variable : ℕ) (before after : List Bool) (place next : ℕ) → WokenSoFar keeps_two rules variable before after place → 0 < place
+    → ((d : Rule) → get_or after (place - 1) false ≡ true → (keeps_two ≡ true) × (needs_singles (get_or rules (place - 1) d) ≡ true))
+    → IsLastNamingRule rules variable (place - 1) next → WokenSoFar keeps_two rules variable before after next
+one_left keeps_two rules variable before after place next s pos stays n = record {
   low = (let a = n.low in let b = s.low in omega (arith, a, b));
   names = n.names;
-  same_count = length-set after (place - 1) false ∙ s.same_count;
-  only_cleared = (λ k m. s.only_cleared k (was k m));
-  apart = (λ k d from lt m. elim (cases_lt k place) [
+  same_count = s.same_count;
+  only_cleared = s.only_cleared;
+  apart = (λ k d from lt m named. elim (cases_lt k place) [
     | inl below ↦ elim (cases_eq k (place - 1)) [
-      | inl e ↦ absurd (false≢true (sym (here k e) ∙ m))
-      | inr ne ↦ n.none k d from (omega (arith, below, ne))
+      | inl e ↦ subst (λ j. (keeps_two ≡ true) × (needs_singles (get_or rules j d) ≡ true)) (sym e) (stays d (subst (λ j. get_or after j false ≡ true) e m))
+      | inr ne ↦ absurd (n.none k d from (omega (arith, below, ne)) named)
     ]
-    | inr ge ↦ s.apart k d ge lt (was k m)
+    | inr ge ↦ s.apart k d ge lt m named
   ]);
 }
-  where
-    here : (k : ℕ) → k ≡ place - 1 → get_or (set after (place - 1) false) k false ≡ false
-    here k e = ap (λ i. get_or (set after (place - 1) false) i false) e ∙ get_or-set_same after (place - 1) false false within
 
+-- a flag at this place that is cleared
+pub one_woken : (keeps_two : Bool) (rules : List Rule) (variable : ℕ) (before after : List Bool) (place next : ℕ) → WokenSoFar keeps_two rules variable before after place → 0 < place
+    → place - 1 < length after → IsLastNamingRule rules variable (place - 1) next → WokenSoFar keeps_two rules variable before (set after (place - 1) false) next
+one_woken keeps_two rules variable before after place next s pos within =
+    one_left keeps_two rules variable before (set after (place - 1) false) place next (record {
+      low = s.low;
+      names = s.names;
+      same_count = length-set after (place - 1) false ∙ s.same_count;
+      only_cleared = (λ k m. s.only_cleared k (was k m));
+      apart = (λ k d from lt m. s.apart k d from lt (was k m));
+    }) pos (λ d m. absurd (false≢true (sym (get_or-set_same after (place - 1) false false within) ∙ m)))
+  where
     was : (k : ℕ) → get_or (set after (place - 1) false) k false ≡ true → get_or after k false ≡ true
     was k m = elim (cases_eq k (place - 1)) [
-      | inl e ↦ absurd (false≢true (sym (here k e) ∙ m))
+      | inl e ↦ absurd (false≢true (sym (ap (λ i. get_or (set after (place - 1) false) i false) e ∙ get_or-set_same after (place - 1) false false within) ∙ m))
       | inr ne ↦ sym (get_or-set_other after (place - 1) k false false ne) ∙ m
     ]
 
-pub all_woken : (rules : List Rule) (variable : ℕ) (before after : List Bool) (place : ℕ) (changed : Bool) → WokenSoFar rules variable before after place → place ≤ 0
-    → changed ≡ true → AreClearedRules changed rules variable before after
-all_woken rules variable before after place changed s end t = record {
+pub all_woken : (keeps_two : Bool) (rules : List Rule) (variable : ℕ) (before after : List Bool) (place : ℕ) (changed : Bool)
+    → WokenSoFar keeps_two rules variable before after place → place ≤ 0 → changed ≡ true → AreClearedRules changed keeps_two rules variable before after
+all_woken keeps_two rules variable before after place changed s end t = record {
   same_count = s.same_count;
   kept = (λ f. absurd (false≢true (sym f ∙ t)));
   only_cleared = s.only_cleared;

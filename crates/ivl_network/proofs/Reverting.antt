@@ -1,6 +1,7 @@
 -- What taking a change back leaves of a network.
 use Rattle.std.proofs.Common.{◌≡◌, ◌↔◌, ◌∙◌, ◌-◌, ◌<◌, ◌≤◌, ℕ, ap, append_assoc, arith, drop, get_or, length, List, [], ◌∷◌, ◌++◌, Bool, true, false, refl, min, set, subst, sym, take}
 use Rattle.std.specs.Prelude.{ℤ, All}
+use Rattle.std.proofs.lemmas.Bool.{false≢true}
 use Rattle.std.proofs.Math.Seq.{drop-append_seam, take-append_seam}
 use Rattle.std.proofs.lemmas.List.{append-nil, get_or-set_other, length-set, length-take, length_push}
 use Rattle.ivl_laws.specs.Families.{set_at}
@@ -77,7 +78,7 @@ fixed_where_same rule before after same f i v h = record {
 
 -- a set takes the place of a domain, and no rule that names the variable is settled
 pub sound_replaced : (sets : List (List (ℤ × ℤ))) (rules : List Rule) (flags flags' : List Bool) (i : ℕ) (s : List (ℤ × ℤ))
-    → IsSoundRules sets rules flags → AreClearedRules true rules i flags flags' → IsSoundRules (set sets i s) rules flags'
+    → IsSoundRules sets rules flags → AreClearedRules true false rules i flags flags' → IsSoundRules (set sets i s) rules flags'
 sound_replaced sets rules flags flags' i s n cleared = record {
   different = n.different;
   present = subst (λ count. All (ArePresent count) rules) (sym (length-set sets i s)) n.present;
@@ -85,7 +86,7 @@ sound_replaced sets rules flags flags' i s n cleared = record {
     one_each = cleared.same_count ∙ n.settled.one_each;
     fixed = (λ k d lt m. fixed_where_same (get_or rules k d) (set_at sets) (set_at (set sets i s))
         (λ j names v.
-        let e = get_or-set_other sets i j s [] (λ at. cleared.apart refl k d lt m (subst (NamesOf (get_or rules k d)) at names)) in
+        let e = get_or-set_other sets i j s [] (λ at. false≢true ((cleared.apart refl k d lt m (subst (NamesOf (get_or rules k d)) at names)).0)) in
         (subst (λ L. Covers L v) e, subst (λ L. Covers L v) (sym e)))
         (n.settled.fixed k d lt (cleared.only_cleared k m)));
   };

@@ -1,5 +1,5 @@
 -- Rules that stay settled.
-use Rattle.std.proofs.Common.{◌≡◌, ◌↔◌, ℕ, ◌<◌, inl, inr, sym, subst, ◌∙◌, arith, List, [], ◌∷◌, ◌++◌, length, get_or, set, Bool, true, false}
+use Rattle.std.proofs.Common.{◌≡◌, ◌↔◌, ◌⊎◌, ℕ, ◌<◌, inl, inr, refl, sym, subst, ◌∙◌, arith, List, [], ◌∷◌, ◌++◌, length, get_or, set, Bool, true, false}
 use Rattle.std.specs.Prelude.{ℤ}
 use Rattle.std.proofs.Math.ListN.{get_or-append}
 use Rattle.std.proofs.lemmas.List.{get_or-set_other, get_or_push, length-set, length_push}
@@ -10,21 +10,21 @@ use Rattle.ivl_store.specs.declared.store.settled.Lost.{Lost}
 use Rattle.ivl_store.specs.Settled.{any_lost, AreLost}
 use Rattle.ivl_store.specs.Solutions.{LiesWithin}
 use Rattle.ivl_store.proofs.Places.{none_lost_at}
-use Rattle.ivl_store.proofs.Settled.{not_true}
 use Rattle.ivl_rules.specs.declared.rules.Rule.{Rule}
-use Rattle.ivl_rules.specs.Rules.{NamesOf, NarrowedBy, places}
-use Rattle.ivl_rules.proofs.Narrowings.{fixed_elsewhere, narrowed_fixed}
+use Rattle.ivl_rules.specs.Rules.{NamesOf, NarrowedBy, needs_singles, places}
+use Rattle.ivl_rules.proofs.Narrowings.{narrowed_fixed}
 use Rattle.ivl_network.specs.Families.{IsFixedBy}
-use Rattle.ivl_network.specs.Settled.{AreSettledRules, AreClearedRules}
+use Rattle.ivl_network.specs.Settled.{AreSettledRules, AreClearedRules, HasTwo}
+use Rattle.ivl_network.proofs.Staying.{StaysAt, fixed_where_it_stays}
 
--- flags that are left, where no set that a settled rule names has lost a member
+-- flags that are left, where no set that a settled rule names has lost a member, or it has two and the rule says that numbers differ
 settled_kept : (rules : List Rule) (flags flags' : List Bool) (before after : ℕ → ℤ → Type 0) → AreSettledRules rules flags before
     → length flags' ≡ length flags → ((k : ℕ) → get_or flags' k false ≡ true → get_or flags k false ≡ true) → LiesWithin after before
-    → ((k : ℕ) (d : Rule) → k < length rules → get_or flags' k false ≡ true → (i : ℕ) → NamesOf (get_or rules k d) i → (v : ℤ) → before i v → after i v)
+    → ((k : ℕ) (d : Rule) → k < length rules → get_or flags' k false ≡ true → (i : ℕ) → NamesOf (get_or rules k d) i → StaysAt (get_or rules k d) before after i)
     → AreSettledRules rules flags' after
 settled_kept rules flags flags' before after s count cleared w same = record {
   one_each = count ∙ s.one_each;
-  fixed = (λ k d lt m. fixed_elsewhere (get_or rules k d) before after w (same k d lt m) (s.fixed k d lt (cleared k m)));
+  fixed = (λ k d lt m. fixed_where_it_stays (get_or rules k d) before after w (same k d lt m) (s.fixed k d lt (cleared k m)));
 }
 
 -- a flag that is set where it may be
@@ -38,27 +38,40 @@ settled_set rules flags sets i s lt f = record {
   ]);
 }
 
--- where a settled rule names the variable, the variable has not changed
-unchanged_at : (rules : List Rule) (changed : Bool) (variable : ℕ) (before after : List Bool) → AreClearedRules changed rules variable before after
-    → (k : ℕ) (d : Rule) → k < length rules → get_or after k false ≡ true → (i : ℕ) → NamesOf (get_or rules k d) i → i ≡ variable → changed ≡ false
-unchanged_at rules changed variable before after a k d lt m i named e =
-    not_true changed (λ t. a.apart t k d lt m (subst (NamesOf (get_or rules k d)) e named))
+-- where a settled rule names the variable, the variable has not changed, or has two members and the rule says that numbers differ
+apart_at : (rules : List Rule) (changed keeps_two : Bool) (variable : ℕ) (before after : List Bool) (sets : ℕ → ℤ → Type 0)
+    → AreClearedRules changed keeps_two rules variable before after → (keeps_two ≡ true → HasTwo (sets variable))
+    → (k : ℕ) (d : Rule) → k < length rules → get_or after k false ≡ true → (j : ℕ) → NamesOf (get_or rules k d) j
+    → (j ≡ variable → changed ≡ false) ⊎ ((needs_singles (get_or rules k d) ≡ true) × HasTwo (sets j))
+apart_at rules false keeps_two variable before after sets a two k d lt m j named = inl (λ _. refl)
+apart_at rules true keeps_two variable before after sets a two k d lt m j named = elim (cases_eq j variable) [
+  | inl e ↦ (let f = a.apart refl k d lt m (subst (NamesOf (get_or rules k d)) e named) in inr (f.1, subst (λ i. HasTwo (sets i)) (sym e) (two f.0)))
+  | inr ne ↦ inl (λ e. absurd (ne e))
+]
 
 -- the flags once rule i was narrowed by: those of others at variables that have changed are cleared, and its own is set
-pub flags_moved : (rules : List Rule) (i : ℕ) (e : Rule) (lost : Lost) (m0 m1 m2 m3 : List Bool) → i < length rules
-    → AreClearedRules lost.x rules (places (get_or rules i e)).x m0 m1 → AreClearedRules lost.y rules (places (get_or rules i e)).y m1 m2
-    → AreClearedRules lost.z rules (places (get_or rules i e)).z m2 m3
-    → (old new : List (List (ℤ × ℤ))) → ((d : Rule) (j : ℕ) (v : ℤ) → set_at new j v ↔ NarrowedBy (get_or rules i d) (set_at old) j v)
+pub flags_moved : (rules : List Rule) (i : ℕ) (e : Rule) (lost two : Lost) (m0 m1 m2 m3 : List Bool) (old new : List (List (ℤ × ℤ))) → i < length rules
+    → AreClearedRules lost.x two.x rules (places (get_or rules i e)).x m0 m1 → AreClearedRules lost.y two.y rules (places (get_or rules i e)).y m1 m2
+    → AreClearedRules lost.z two.z rules (places (get_or rules i e)).z m2 m3
+    → (two.x ≡ true → HasTwo (set_at new (places (get_or rules i e)).x)) → (two.y ≡ true → HasTwo (set_at new (places (get_or rules i e)).y))
+    → (two.z ≡ true → HasTwo (set_at new (places (get_or rules i e)).z))
+    → ((d : Rule) (j : ℕ) (v : ℤ) → set_at new j v ↔ NarrowedBy (get_or rules i d) (set_at old) j v)
     → ((d : Rule) → AreLost (places (get_or rules i d)) lost (set_at old) (set_at new))
     → AreSettledRules rules m0 (set_at old) → AreSettledRules rules (set m3 i true) (set_at new)
-flags_moved rules i e lost m0 m1 m2 m3 lt ax ay az old new n l s =
+flags_moved rules i e lost two m0 m1 m2 m3 old new lt ax ay az tx ty tz n l s =
     settled_set rules m3 (set_at new) i
     (settled_kept rules m0 m3 (set_at old) (set_at new) s (az.same_count ∙ ay.same_count ∙ ax.same_count) (λ k m. ax.only_cleared k (m1_of k m))
     (λ j v h. ((n e j v).0 h).kept)
-    (λ k d h m j named v was. (l e).others j
-    (unchanged_at rules lost.x _ m0 m1 ax k d h (m1_of k m) j named)
-    (unchanged_at rules lost.y _ m1 m2 ay k d h (az.only_cleared k m) j named)
-    (unchanged_at rules lost.z _ m2 m3 az k d h m j named) v was))
+    (λ k d h m j named. elim (apart_at rules lost.x two.x _ m0 m1 (set_at new) ax tx k d h (m1_of k m) j named) [
+      | inr f ↦ inr f
+      | inl ux ↦ elim (apart_at rules lost.y two.y _ m1 m2 (set_at new) ay ty k d h (az.only_cleared k m) j named) [
+        | inr f ↦ inr f
+        | inl uy ↦ elim (apart_at rules lost.z two.z _ m2 m3 (set_at new) az tz k d h m j named) [
+          | inr f ↦ inr f
+          | inl uz ↦ inl ((l e).others j ux uy uz)
+        ]
+      ]
+    ]))
     lt
     (λ d. narrowed_fixed (get_or rules i d) (set_at old) (set_at new) (n d))
   where
@@ -66,23 +79,26 @@ flags_moved rules i e lost m0 m1 m2 m3 lt ax ay az old new n l s =
     m1_of k m = ay.only_cleared k (az.only_cleared k m)
 
 -- where nothing was lost, no flag was cleared
-pub only_one_moved : (rules : List Rule) (c : Constraint) (lost : Lost) (m0 m1 m2 m3 : List Bool)
-    → AreClearedRules lost.x rules c.x m0 m1 → AreClearedRules lost.y rules c.y m1 m2 → AreClearedRules lost.z rules c.z m2 m3 → any_lost lost ≡ false → m3 ≡ m0
-only_one_moved rules c lost m0 m1 m2 m3 ax ay az none =
+pub only_one_moved : (rules : List Rule) (c : Constraint) (lost two : Lost) (m0 m1 m2 m3 : List Bool)
+    → AreClearedRules lost.x two.x rules c.x m0 m1 → AreClearedRules lost.y two.y rules c.y m1 m2 → AreClearedRules lost.z two.z rules c.z m2 m3 → any_lost lost ≡ false → m3 ≡ m0
+only_one_moved rules c lost two m0 m1 m2 m3 ax ay az none =
     let n = none_lost_at lost none in
     az.kept n.2 ∙ ay.kept n.1 ∙ ax.kept n.0
 
 -- ---- from call to call
 
 -- the flags once a domain was cut
-pub settled_cut : (rules : List Rule) (flags flags' : List Bool) (i : ℕ) (lost : Bool) (old new : List (List (ℤ × ℤ)))
-    → AreSettledRules rules flags (set_at old) → AreClearedRules lost rules i flags flags' → (lost ≡ false → new ≡ old)
+pub settled_cut : (rules : List Rule) (flags flags' : List Bool) (i : ℕ) (lost keeps_two : Bool) (old new : List (List (ℤ × ℤ)))
+    → AreSettledRules rules flags (set_at old) → AreClearedRules lost keeps_two rules i flags flags' → (keeps_two ≡ true → HasTwo (set_at new i)) → (lost ≡ false → new ≡ old)
     → LiesWithin (set_at new) (set_at old) → ((j : ℕ) (v : ℤ) → (j ≡ i → ⊥) → set_at old j v → set_at new j v) → AreSettledRules rules flags' (set_at new)
-settled_cut rules flags flags' i lost old new s cleared same within apart =
+settled_cut rules flags flags' i lost keeps_two old new s cleared two same within apart =
     settled_kept rules flags flags' (set_at old) (set_at new) s cleared.same_count cleared.only_cleared within
-    (λ k d lt m j named v was. elim (cases_eq j i) [
-      | inl e ↦ subst (λ sets. set_at sets j v) (sym (same (unchanged_at rules lost i flags flags' cleared k d lt m j named e))) was
-      | inr ne ↦ apart j v ne was
+    (λ k d lt m j named. elim (apart_at rules lost keeps_two i flags flags' (set_at new) cleared two k d lt m j named) [
+      | inr f ↦ inr f
+      | inl u ↦ inl (λ v was. elim (cases_eq j i) [
+        | inl e ↦ subst (λ sets. set_at sets j v) (sym (same (u e))) was
+        | inr ne ↦ apart j v ne was
+      ])
     ])
 
 -- the flags with one more rule, which is not settled

@@ -1,18 +1,23 @@
 -- Which narrowings by rules need not be made again.
 --     AreSettledRules rules flags sets      one flag a rule, set only where narrowing by it changes nothing
---     AreClearedRules changed rules i before after      flags were only cleared, and none if nothing has changed; where variable i has
---         changed, none is left at a rule that names it
-use Rattle.std.specs.Prelude.{◌≡◌, ◌<◌, ℕ, ℤ, Bool, true, false, List, length, slice_index_or}
+--     HasTwo S      two different members
+--     AreClearedRules changed keeps_two rules i before after      flags were only cleared, and none if nothing has changed; where variable i
+--         has changed, none is left at a rule that names it, but for rules of numbers that differ if the variable keeps two
+use Rattle.std.specs.Prelude.{◌≡◌, ◌≢◌, ◌<◌, ℕ, ℤ, Bool, true, false, List, length, slice_index_or}
 use Rattle.ivl_rules.specs.declared.rules.Rule.{Rule}
-use Rattle.ivl_rules.specs.Rules.{NamesOf}
+use Rattle.ivl_rules.specs.Rules.{NamesOf, needs_singles}
 use Rattle.ivl_network.specs.Families.{IsFixedBy}
 
 pub record AreSettledRules (rules : List Rule) (flags : List Bool) (sets : ℕ → ℤ → Type 0) : Type 0 where
   pub one_each : length flags ≡ length rules
   pub fixed : (k : ℕ) (d : Rule) → k < length rules → slice_index_or flags k false ≡ true → IsFixedBy sets (slice_index_or rules k d)
 
-pub record AreClearedRules (changed : Bool) (rules : List Rule) (variable : ℕ) (before after : List Bool) : Type 0 where
+abbrev pub HasTwo : (ℤ → Type 0) → Type 0
+HasTwo S = (v : ℤ) × (w : ℤ) × S v × S w × (v ≢ w)
+
+pub record AreClearedRules (changed keeps_two : Bool) (rules : List Rule) (variable : ℕ) (before after : List Bool) : Type 0 where
   pub same_count : length after ≡ length before
   pub kept : changed ≡ false → after ≡ before
   pub only_cleared : (k : ℕ) → slice_index_or after k false ≡ true → slice_index_or before k false ≡ true
-  pub apart : changed ≡ true → (k : ℕ) (d : Rule) → k < length rules → slice_index_or after k false ≡ true → ¬ (NamesOf (slice_index_or rules k d) variable)
+  pub apart : changed ≡ true → (k : ℕ) (d : Rule) → k < length rules → slice_index_or after k false ≡ true
+      → NamesOf (slice_index_or rules k d) variable → (keeps_two ≡ true) × (needs_singles (slice_index_or rules k d) ≡ true)

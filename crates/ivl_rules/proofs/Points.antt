@@ -92,16 +92,25 @@ left_at_most whole x y by sets a b n left =
       says = (λ point. ((λ h. h), (λ h. h)));
     }) n left
 
+is_of_differing : (x y : ℕ) (by : ℤ) → IsOfTwo (Differs x y by) x y (IsNot by)
+is_of_differing x y by = record {
+  names = (λ i h. elim h [ inl e ↦ inl e | inr (inl e) ↦ inr e | inr (inr e) ↦ inr e ]);
+  names_x = inl refl;
+  names_y = inr (inl refl);
+  says = (λ point. ((λ h. h), (λ h. h)));
+}
+
 pub left_differing : (whole : ℤ × ℤ) (x y : ℕ) (by : ℤ) (sets : List (List (ℤ × ℤ))) (a b : Option (List (ℤ × ℤ))) → x ≢ y
     → AreLeftBy whole (IsNot by) (get_or sets x []) (get_or sets y []) a b
     → AreLeftAtPlaces whole (record { x = x; y = y; z = y }) (HasPointAt (Differs x y by) (set_at sets)) sets a b None
-left_differing whole x y by sets a b n left =
-    left_of_two whole (Differs x y by) x y (IsNot by) sets a b (record {
-      names = (λ i h. elim h [ inl e ↦ inl e | inr (inl e) ↦ inr e | inr (inr e) ↦ inr e ]);
-      names_x = inl refl;
-      names_y = inr (inl refl);
-      says = (λ point. ((λ h. h), (λ h. h)));
-    }) n left
+left_differing whole x y by sets a b n left = left_of_two whole (Differs x y by) x y (IsNot by) sets a b (is_of_differing x y by) n left
+
+-- a member of the first set differs from one of the second, and the other way round, where it stands in a point
+pub differing_first : (x y : ℕ) (by : ℤ) (sets : ℕ → ℤ → Type 0) → x ≢ y → (v : ℤ) → sets x v → ((b : ℤ) × sets y b × IsNot by v b) ↔ HasPointAt (Differs x y by) sets x v
+differing_first x y by sets n v m = at_first (Differs x y by) x y (IsNot by) sets (is_of_differing x y by) n v m
+
+pub differing_second : (x y : ℕ) (by : ℤ) (sets : ℕ → ℤ → Type 0) → x ≢ y → (v : ℤ) → sets y v → ((a : ℤ) × sets x a × IsNot by a v) ↔ HasPointAt (Differs x y by) sets y v
+differing_second x y by sets n v m = at_second (Differs x y by) x y (IsNot by) sets (is_of_differing x y by) n v m
 
 -- ---- a sum
 

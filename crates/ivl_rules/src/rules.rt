@@ -8,7 +8,7 @@
 //! it by sums: `x + x1 = x2` and `x2 + x = y`, where a `Shifted` by 0 holds `x1` equal to `x`.
 ghost use Rattle.std.specs.Prelude.{◌≡◌, ◌↔◌, IsTrue, None};
 ghost use Rattle.ivl_store.specs.Narrowing.{AllPresent, first_unknown as first_unknown_in};
-ghost use Rattle.ivl_rules.specs.Rules.{AreDifferent, NamesOf, places as places_of};
+ghost use Rattle.ivl_rules.specs.Rules.{AreDifferent, NamesOf, needs_singles, places as places_of};
 
 pub mod laws;
 pub mod narrowing;
@@ -61,6 +61,24 @@ impl Rule {
             Rule::Shifted { x, y, by: _ } => *x != *y,
             Rule::AtMost { x, y, by: _ } => *x != *y,
             Rule::Differs { x, y, by: _ } => *x != *y,
+        }
+    }
+
+    /// Returns true exactly for a rule that takes members only for a variable whose domain is a single number or
+    /// empty: `Differs`.
+    ///
+    /// ```
+    /// assert!(rt; Rule::Differs { x: 0, y: 1, by: 5 }.needs_single_numbers());
+    /// assert!(rt; !Rule::AtMost { x: 0, y: 1, by: 5 }.needs_single_numbers());
+    /// ```
+    pub fn needs_single_numbers(&self) -> bool
+        ensures { result ≡ needs_singles self.now }
+    {
+        match self {
+            Rule::Sum(_) => false,
+            Rule::Shifted { x: _, y: _, by: _ } => false,
+            Rule::AtMost { x: _, y: _, by: _ } => false,
+            Rule::Differs { x: _, y: _, by: _ } => true,
         }
     }
 

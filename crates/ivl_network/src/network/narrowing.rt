@@ -1,5 +1,5 @@
 //! Domains that are narrowed by a rule or cut, and what takes that back.
-ghost use Rattle.std.specs.Prelude.{◌≡◌, ◌↔◌, ◌<◌, ◌+◌, ◌-◌, ◌/◌, ◌^◌, [], ℕ, ℤ, List, All, IfOk, OnErr, OnOk, false, length, min, slice_index_or};
+ghost use Rattle.std.specs.Prelude.{◌≡◌, ◌↔◌, ◌<◌, ◌+◌, ◌-◌, ◌/◌, ◌^◌, [], ℕ, ℤ, List, All, IfOk, OnErr, OnOk, false, true, length, min, slice_index_or};
 ghost use Rattle.ivl_laws.specs.Families.{set_at};
 ghost use Rattle.ivl_laws.specs.Runs.{Covers, IsRunListIn};
 ghost use Rattle.ivl_store.specs.Settled.{AreLost, any_lost};
@@ -7,10 +7,12 @@ ghost use Rattle.ivl_rules.specs.declared.rules.Rule.{Rule};
 ghost use Rattle.ivl_rules.specs.Rules.{AreDifferent, NarrowedBy, places as places_of};
 ghost use Rattle.ivl_network.specs.Costs.{cost_of_rule as cost_of};
 ghost use Rattle.ivl_network.specs.Families.{ArePresent};
+ghost use Rattle.ivl_network.specs.Settled.{HasTwo};
 ghost use Rattle.ivl_network.specs.Trail.{revert_rule};
 
 use super::change::Change;
 use intervallum::interval_set::IntervalSet;
+use intervallum::ops::{Bounded, IsEmpty};
 use intervallum::width::Width;
 use ivl_rules::rules::Rule;
 use ivl_rules::rules::narrowing::narrowed_at_places;
@@ -87,4 +89,16 @@ fn cost_of_two<B: Width>(store: &Store<B>, x: usize, y: usize) -> u64
     let of_x = store.domains()[x].interval_count();
     let of_y = store.domains()[y].interval_count();
     (of_x.saturating_add(of_y) / 256) as u64 + 1
+}
+
+/// Whether the domain of a variable has two members.
+pub(super) fn has_two<B: Width>(store: &Store<B>, variable: usize) -> bool
+    requires { variable < length store.now }
+    ensures { result ≡ true → HasTwo (set_at store.now variable) }
+{
+    let domain = &store.domains()[variable];
+    if domain.is_empty() || domain.lower().number() == domain.upper().number() {
+        return false;
+    }
+    true
 }

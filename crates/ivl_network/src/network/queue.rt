@@ -6,12 +6,15 @@ ghost use Rattle.ivl_store.specs.Network.{unsettled_count};
 ghost use Rattle.ivl_store.specs.Queue.{Removes};
 ghost use Rattle.ivl_store.specs.Settled.{AreLost, any_lost};
 ghost use Rattle.ivl_rules.specs.Rules.{NarrowedBy, places as places_of};
+ghost use Rattle.ivl_network.specs.Families.{ArePresent};
 ghost use Rattle.ivl_network.specs.Queue.{IsRuleIndex, IsRuleQueue};
 ghost use Rattle.ivl_network.specs.Settled.{AreClearedRules, AreSettledRules};
 
 use super::index::Index;
+use super::narrowing::has_two;
+use intervallum::width::Width;
 use ivl_rules::rules::Rule;
-use ivl_store::store::Lost;
+use ivl_store::store::{Lost, Store};
 use std::alloc::{AllocError, Global};
 use std::mem;
 
@@ -104,10 +107,19 @@ impl Queue {
         self.round.is_empty() && self.later.is_empty()
     }
 
-    /// Updates the flags after narrowing by the first rule, which is settled then. Those that
-    /// name a variable which lost a member are no longer.
-    pub(super) fn settle(&mut self, i: usize, lost: Lost, rules: &[Rule], index: &Index)
+    /// Updates the flags after the first rule narrowed the store, which is settled then. Others that
+    /// name a variable which lost a member are no longer, but where they look at single numbers alone
+    /// and the variable has two.
+    pub(super) fn settle<B: Width>(
+        &mut self,
+        i: usize,
+        lost: Lost,
+        store: &Store<B>,
+        rules: &[Rule],
+        index: &Index,
+    )
         requires queue { IsRuleQueue self.old }
+        requires present { All (ArePresent (length store.now)) rules.now }
         requires index { (count : ℕ) × IsRuleIndex count rules.now index.now }
         requires one_each { length self.old.settled.items ≡ length rules.now }
         requires in_list { i < length rules.now }
@@ -116,14 +128,14 @@ impl Queue {
         ensures queue { IsRuleQueue self.new }
         ensures count { length self.new.settled.items ≡ length rules.now }
         ensures alone { any_lost lost ≡ false → self.new.settled.items ≡ slice_set self.old.settled.items i true }
-        ensures settled { (old new : List (List (ℤ × ℤ))) → HoldsAt (λ c. (j : ℕ) (v : ℤ) → set_at new j v ↔ NarrowedBy c (set_at old) j v) rules.now i
-            → HoldsAt (λ c. AreLost (places_of c) lost (set_at old) (set_at new)) rules.now i
-            → AreSettledRules rules.now self.old.settled.items (set_at old) → AreSettledRules rules.now self.new.settled.items (set_at new) }
+        ensures settled { (old : List (List (ℤ × ℤ))) → HoldsAt (λ c. (j : ℕ) (v : ℤ) → set_at store.now j v ↔ NarrowedBy c (set_at old) j v) rules.now i
+            → HoldsAt (λ c. AreLost (places_of c) lost (set_at old) (set_at store.now)) rules.now i
+            → AreSettledRules rules.now self.old.settled.items (set_at old) → AreSettledRules rules.now self.new.settled.items (set_at store.now) }
     {
         let c = rules[i].places();
-        self.wake(lost.x, rules, c.x, index);
-        self.wake(lost.y, rules, c.y, index);
-        self.wake(lost.z, rules, c.z, index);
+        self.wake(lost.x, has_two(store, c.x), c.x, rules, index);
+        self.wake(lost.y, has_two(store, c.y), c.y, rules, index);
+        self.wake(lost.z, has_two(store, c.z), c.z, rules, index);
         self.settle_first(i);
     }
 
@@ -154,13 +166,21 @@ impl Queue {
         }
     }
 
-    /// Clears the flags of the rules that name the variable, if it has changed.
-    pub(super) fn wake(&mut self, changed: bool, rules: &[Rule], variable: usize, index: &Index)
+    /// Clears the flags of the rules that name the variable, if it has changed. Where it only lost members
+    /// and has two, those that look at single numbers alone stay as they are.
+    pub(super) fn wake(
+        &mut self,
+        changed: bool,
+        keeps_two: bool,
+        variable: usize,
+        rules: &[Rule],
+        index: &Index,
+    )
         requires queue { IsRuleQueue self.old }
         requires index { (count : ℕ) × IsRuleIndex count rules.now index.now }
         requires one_each { length self.old.settled.items ≡ length rules.now }
         ensures queue { IsRuleQueue self.new }
-        ensures cleared { AreClearedRules changed rules.now variable self.old.settled.items self.new.settled.items }
+        ensures cleared { AreClearedRules changed keeps_two rules.now variable self.old.settled.items self.new.settled.items }
         ensures round { self.new.round.items ≡ self.old.round.items }
     {
         if !changed {
@@ -168,8 +188,11 @@ impl Queue {
         }
         let mut place = index.last(variable);
         while place > 0 {
-            self.clear(place - 1);
-            place = index.last_before(rules, place - 1, variable);
+            let k = place - 1;
+            if !(keeps_two && rules[k].needs_single_numbers()) {
+                self.clear(k);
+            }
+            place = index.last_before(rules, k, variable);
         }
     }
 }

@@ -47,7 +47,7 @@ invariant_of-self-2 g c =
     let at = λ (d : Rule). sym (get_or_default cs c.in-Some.i d c.index.result.now lt ∙ sym c.index.ensures) in
     let moved = rw c.deref-2.ensures.value at c.settle.ensures.settled in
     let sound : IsSoundRules c.narrow_swapped.new.store cs c.settle.new.self.settled.items = sound_moved inside.store c.narrow_swapped.new.store cs inside.queue.settled.items c.settle.new.self.settled.items c.narrow_swapped.ensures.kept_count
-    (moved inside.store c.narrow_swapped.new.store
+    (moved inside.store
     (λ d. subst (λ k. (j : ℕ) (v : ℤ) → set_at c.narrow_swapped.new.store j v ↔ NarrowedBy k (set_at inside.store) j v) (at d) c.in_ok-lost.ensures.narrowed)
     (λ d. subst (λ k. AreLost (places k) c.in_ok-lost.lost (set_at inside.store) (set_at c.narrow_swapped.new.store)) (at d) c.in_ok-lost.ensures.lost)
     (subst (λ (ms : List Bool). AreSettledRules cs ms (set_at inside.store)) (sym c.first.ensures.settled) c.self.invariant.0.settled))

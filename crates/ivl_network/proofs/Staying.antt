@@ -1,0 +1,75 @@
+-- Rules that stay settled where sets lose members.
+use Rattle.std.proofs.Common.{◌≡◌, ◌≢◌, ◌⊎◌, ℕ, inl, inr, refl, sym, ◌∙◌, subst, arith, Bool, true, false, IsTrue}
+use Rattle.std.specs.Prelude.{◌↔◌, ℤ, ◌+ℤ◌, ◌-ℤ◌}
+use Rattle.std.specs.Ordering.{int_eq}
+use Rattle.std.proofs.lemmas.Bool.{cases_eq, false≢true}
+use Rattle.std.proofs.lemmas.Int.{ints}
+use Rattle.ivl_laws.proofs.Orders.{int_eq_is}
+use Rattle.ivl_store.specs.Solutions.{LiesWithin}
+use Rattle.ivl_rules.specs.declared.rules.Rule.{Rule}
+use Rattle.ivl_rules.specs.declared.rules.Rule.TheVariants.{Sum, Shifted, AtMost, Differs}
+use Rattle.ivl_rules.specs.Rules.{HasPointAt, NamesOf, NarrowedBy, needs_singles}
+use Rattle.ivl_rules.proofs.Narrowings.{fixed_elsewhere}
+use Rattle.ivl_rules.proofs.Points.{differing_first, differing_second}
+use Rattle.ivl_network.specs.Families.{IsFixedBy}
+use Rattle.ivl_network.specs.Settled.{HasTwo}
+
+-- the set of a variable has lost no member, or it has two and the rule says that numbers differ
+abbrev pub StaysAt : Rule → (ℕ → ℤ → Type 0) → (ℕ → ℤ → Type 0) → ℕ → Type 0
+StaysAt rule before after i = ((v : ℤ) → before i v → after i v) ⊎ ((needs_singles rule ≡ true) × HasTwo (after i))
+
+-- of two members one is not this number
+other_member : (S : ℤ → Type 0) (n : ℤ) → HasTwo S → (w : ℤ) × S w × (w ≢ n)
+other_member S n (v, w, hv, hw, ne) = by_test (int_eq v n) (int_eq_is v n _ refl)
+  where
+    by_test : (r : Bool) → IsTrue r ↔ (v ≡ n) → (u : ℤ) × S u × (u ≢ n)
+    by_test true h = (w, hw, λ e. ne (h.0 refl ∙ sym e))
+    by_test false h = (v, hv, λ e. absurd (false≢true (h.1 e)))
+
+-- two variables that differ
+differing_stays : (x y : ℕ) (by : ℤ) (before after : ℕ → ℤ → Type 0) → LiesWithin after before
+    → ((i : ℕ) → NamesOf (Differs x y by) i → StaysAt (Differs x y by) before after i) → IsFixedBy before (Differs x y by) → IsFixedBy after (Differs x y by)
+differing_stays x y by before after w stays f i v h = record { kept = h; supported = (λ named. by_places (cases_eq x y) named) }
+  where
+    was : NamesOf (Differs x y by) i → HasPointAt (Differs x y by) before i v
+    was named = (f i v (w i v h)).supported named
+
+    by_first : x ≢ y → after x v → HasPointAt (Differs x y by) before x v → HasPointAt (Differs x y by) after x v
+    by_first ne m p = (differing_first x y by after ne v m).0 (elim (stays y (inr (inl refl))) [
+      | inl same ↦ (let b = (differing_first x y by before ne v (w x v m)).1 p in (b.0, same b.0 b.1, b.2))
+      | inr two ↦ (let b = other_member (after y) (v +ℤ by) two.1 in (b.0, b.1, λ e. b.2 (sym e)))
+    ])
+
+    by_second : x ≢ y → after y v → HasPointAt (Differs x y by) before y v → HasPointAt (Differs x y by) after y v
+    by_second ne m p = (differing_second x y by after ne v m).0 (elim (stays x (inl refl)) [
+      | inl same ↦ (let a = (differing_second x y by before ne v (w y v m)).1 p in (a.0, same a.0 a.1, a.2))
+      | inr two ↦ (let a = other_member (after x) (v -ℤ by) two.1 in let k = a.2 in (a.0, a.1, λ e. k (omega (arith, ints))))
+    ])
+
+    same_place : x ≡ y → (j : ℕ) → NamesOf (Differs x y by) j → j ≡ x
+    same_place e j (inl at) = at
+    same_place e j (inr (inl at)) = at ∙ sym e
+    same_place e j (inr (inr at)) = at ∙ sym e
+
+    by_places : (x ≡ y) ⊎ (x ≢ y) → NamesOf (Differs x y by) i → HasPointAt (Differs x y by) after i v
+    by_places (inl e) named = let p = was named in record {
+      point = p.point;
+      is_point = record {
+        inside = (λ j at. subst (λ k. after k (p.point k)) (sym (same_place e j at ∙ sym (same_place e i named))) (subst (after i) (sym p.at) h));
+        satisfies = p.is_point.satisfies;
+      };
+      at = p.at;
+    }
+    by_places (inr ne) (inl e) = subst (λ k. HasPointAt (Differs x y by) after k v) (sym e) (by_first ne (subst (λ k. after k v) e h) (subst (λ k. HasPointAt (Differs x y by) before k v) e (was (inl e))))
+    by_places (inr ne) (inr (inl e)) = subst (λ k. HasPointAt (Differs x y by) after k v) (sym e) (by_second ne (subst (λ k. after k v) e h) (subst (λ k. HasPointAt (Differs x y by) before k v) e (was (inr (inl e)))))
+    by_places (inr ne) (inr (inr e)) = subst (λ k. HasPointAt (Differs x y by) after k v) (sym e) (by_second ne (subst (λ k. after k v) e h) (subst (λ k. HasPointAt (Differs x y by) before k v) e (was (inr (inl e)))))
+
+-- so for each rule
+pub fixed_where_it_stays : (rule : Rule) (before after : ℕ → ℤ → Type 0) → LiesWithin after before
+    → ((i : ℕ) → NamesOf rule i → StaysAt rule before after i) → IsFixedBy before rule → IsFixedBy after rule
+fixed_where_it_stays (Sum c) before after w stays f = fixed_elsewhere (Sum c) before after w (λ i named. elim (stays i named) [ inl same ↦ same | inr two ↦ absurd (false≢true two.0) ]) f
+fixed_where_it_stays (Shifted x y by) before after w stays f =
+    fixed_elsewhere (Shifted x y by) before after w (λ i named. elim (stays i named) [ inl same ↦ same | inr two ↦ absurd (false≢true two.0) ]) f
+fixed_where_it_stays (AtMost x y by) before after w stays f =
+    fixed_elsewhere (AtMost x y by) before after w (λ i named. elim (stays i named) [ inl same ↦ same | inr two ↦ absurd (false≢true two.0) ]) f
+fixed_where_it_stays (Differs x y by) before after w stays f = differing_stays x y by before after w stays f
