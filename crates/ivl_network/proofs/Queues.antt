@@ -1,6 +1,6 @@
 -- The queue of the rules that are not settled.
-use Rattle.std.proofs.Common.{◌≡◌, ◌∙◌, ◌+◌, ◌-◌, ◌<◌, ◌≤◌, inl, inr, ℕ, ap, arith, cond, get_or, length, List, [], ◌∷◌, ◌++◌, Bool, true, false, refl, set, subst, sym}
-use Rattle.std.specs.Prelude.{not}
+use Rattle.std.proofs.Common.{◌≡◌, ◌∙◌, ◌+◌, ◌-◌, ◌<◌, ◌≤◌, ◌⊎◌, inl, inr, ℕ, ap, arith, cond, get_or, length, List, [], ◌∷◌, ◌++◌, Bool, true, false, refl, set, subst, sym}
+use Rattle.std.specs.Prelude.{ℤ, not}
 use Rattle.std.specs.Vec.{vec_capacity}
 use Rattle.std.proofs.Math.ListN.{get_or-append, get_or-eq_default}
 use Rattle.std.proofs.lemmas.Bool.{cases_eq, cases_lt, false≢true}
@@ -10,7 +10,8 @@ use Rattle.ivl_network.specs.declared.network.queue.Queue.{Queue}
 use Rattle.ivl_store.specs.Network.{unsettled_count}
 use Rattle.ivl_network.specs.Queue.{IsLastNamingRule, IsRuleQueue}
 use Rattle.ivl_store.specs.Queue.{Removes, times_in, waits}
-use Rattle.ivl_network.specs.Settled.{AreClearedRules}
+use Rattle.ivl_network.specs.Families.{IsFixedBy}
+use Rattle.ivl_network.specs.Settled.{AreClearedRules, HasTwo}
 use Rattle.ivl_rules.specs.Rules.{NamesOf, needs_singles}
 use Rattle.ivl_rules.specs.declared.rules.Rule.{Rule}
 use Rattle.ivl_store.proofs.Queues.{count_push, count_some, one_other, one_same, unsettled-set, waits_at}
@@ -158,18 +159,18 @@ popped_round queue queue' false k false s e m at f g room room_later =
 
 -- ---- rules that lose their flags
 
--- those that name the variable have none from this place on, but where they may stay
-pub record WokenSoFar (keeps_two : Bool) (rules : List Rule) (variable : ℕ) (before after : List Bool) (place : ℕ) : Type 0 where
+-- those that name the variable have none from this place on, but where they stay
+pub record WokenSoFar (rules : List Rule) (variable : ℕ) (Stays : Rule → Type 0) (before after : List Bool) (place : ℕ) : Type 0 where
   pub low : place ≤ length rules
   pub names : (k : ℕ) (d : Rule) → k + 1 ≡ place → NamesOf (get_or rules k d) variable
   pub same_count : length after ≡ length before
   pub only_cleared : (k : ℕ) → get_or after k false ≡ true → get_or before k false ≡ true
   pub apart : (k : ℕ) (d : Rule) → place ≤ k → k < length rules → get_or after k false ≡ true → NamesOf (get_or rules k d) variable
-      → (keeps_two ≡ true) × (needs_singles (get_or rules k d) ≡ true)
+      → Stays (get_or rules k d)
 
-pub none_woken : (keeps_two : Bool) (rules : List Rule) (variable : ℕ) (flags : List Bool) (place : ℕ) → IsLastNamingRule rules variable (length rules) place
-    → WokenSoFar keeps_two rules variable flags flags place
-none_woken keeps_two rules variable flags place s = record {
+pub none_woken : (rules : List Rule) (variable : ℕ) (Stays : Rule → Type 0) (flags : List Bool) (place : ℕ) → IsLastNamingRule rules variable (length rules) place
+    → WokenSoFar rules variable Stays flags flags place
+none_woken rules variable Stays flags place s = record {
   low = s.low;
   names = s.names;
   same_count = refl;
@@ -178,17 +179,17 @@ none_woken keeps_two rules variable flags place s = record {
 }
 
 -- a flag at this place that stays
-pub one_left : (keeps_two : Bool) (rules : List Rule) (variable : ℕ) (before after : List Bool) (place next : ℕ) → WokenSoFar keeps_two rules variable before after place → 0 < place
-    → ((d : Rule) → get_or after (place - 1) false ≡ true → (keeps_two ≡ true) × (needs_singles (get_or rules (place - 1) d) ≡ true))
-    → IsLastNamingRule rules variable (place - 1) next → WokenSoFar keeps_two rules variable before after next
-one_left keeps_two rules variable before after place next s pos stays n = record {
+pub one_left : (rules : List Rule) (variable : ℕ) (Stays : Rule → Type 0) (before after : List Bool) (place next : ℕ) → WokenSoFar rules variable Stays before after place → 0 < place
+    → ((d : Rule) → get_or after (place - 1) false ≡ true → Stays (get_or rules (place - 1) d))
+    → IsLastNamingRule rules variable (place - 1) next → WokenSoFar rules variable Stays before after next
+one_left rules variable Stays before after place next s pos stays n = record {
   low = (let a = n.low in let b = s.low in omega (arith, a, b));
   names = n.names;
   same_count = s.same_count;
   only_cleared = s.only_cleared;
   apart = (λ k d from lt m named. elim (cases_lt k place) [
     | inl below ↦ elim (cases_eq k (place - 1)) [
-      | inl e ↦ subst (λ j. (keeps_two ≡ true) × (needs_singles (get_or rules j d) ≡ true)) (sym e) (stays d (subst (λ j. get_or after j false ≡ true) e m))
+      | inl e ↦ subst (λ j. Stays (get_or rules j d)) (sym e) (stays d (subst (λ j. get_or after j false ≡ true) e m))
       | inr ne ↦ absurd (n.none k d from (omega (arith, below, ne)) named)
     ]
     | inr ge ↦ s.apart k d ge lt m named
@@ -196,10 +197,10 @@ one_left keeps_two rules variable before after place next s pos stays n = record
 }
 
 -- a flag at this place that is cleared
-pub one_woken : (keeps_two : Bool) (rules : List Rule) (variable : ℕ) (before after : List Bool) (place next : ℕ) → WokenSoFar keeps_two rules variable before after place → 0 < place
-    → place - 1 < length after → IsLastNamingRule rules variable (place - 1) next → WokenSoFar keeps_two rules variable before (set after (place - 1) false) next
-one_woken keeps_two rules variable before after place next s pos within =
-    one_left keeps_two rules variable before (set after (place - 1) false) place next (record {
+pub one_woken : (rules : List Rule) (variable : ℕ) (Stays : Rule → Type 0) (before after : List Bool) (place next : ℕ) → WokenSoFar rules variable Stays before after place → 0 < place
+    → place - 1 < length after → IsLastNamingRule rules variable (place - 1) next → WokenSoFar rules variable Stays before (set after (place - 1) false) next
+one_woken rules variable Stays before after place next s pos within =
+    one_left rules variable Stays before (set after (place - 1) false) place next (record {
       low = s.low;
       names = s.names;
       same_count = length-set after (place - 1) false ∙ s.same_count;
@@ -213,9 +214,10 @@ one_woken keeps_two rules variable before after place next s pos within =
       | inr ne ↦ sym (get_or-set_other after (place - 1) k false false ne) ∙ m
     ]
 
-pub all_woken : (keeps_two : Bool) (rules : List Rule) (variable : ℕ) (before after : List Bool) (place : ℕ) (changed : Bool)
-    → WokenSoFar keeps_two rules variable before after place → place ≤ 0 → changed ≡ true → AreClearedRules changed keeps_two rules variable before after
-all_woken keeps_two rules variable before after place changed s end t = record {
+pub all_woken : (rules : List Rule) (variable : ℕ) (only_lost : Bool) (sets : ℕ → ℤ → Type 0) (before after : List Bool) (place : ℕ) (changed : Bool)
+    → WokenSoFar rules variable (λ rule. IsFixedBy sets rule ⊎ ((only_lost ≡ true) × HasTwo (sets variable) × (needs_singles rule ≡ true))) before after place
+    → place ≤ 0 → changed ≡ true → AreClearedRules changed only_lost rules variable sets before after
+all_woken rules variable only_lost sets before after place changed s end t = record {
   same_count = s.same_count;
   kept = (λ f. absurd (false≢true (sym f ∙ t)));
   only_cleared = s.only_cleared;

@@ -1,5 +1,5 @@
 -- What taking a change back leaves of a network.
-use Rattle.std.proofs.Common.{◌≡◌, ◌↔◌, ◌∙◌, ◌-◌, ◌<◌, ◌≤◌, ℕ, ap, append_assoc, arith, drop, get_or, length, List, [], ◌∷◌, ◌++◌, Bool, true, false, refl, min, set, subst, sym, take}
+use Rattle.std.proofs.Common.{◌≡◌, ◌↔◌, ◌⊎◌, ◌∙◌, ◌-◌, ◌<◌, ◌≤◌, inl, inr, ℕ, ap, append_assoc, arith, drop, get_or, length, List, [], ◌∷◌, ◌++◌, Bool, true, false, refl, min, set, subst, sym, take}
 use Rattle.std.specs.Prelude.{ℤ, All}
 use Rattle.std.proofs.lemmas.Bool.{false≢true}
 use Rattle.std.proofs.Math.Seq.{drop-append_seam, take-append_seam}
@@ -13,6 +13,7 @@ use Rattle.ivl_rules.specs.declared.rules.Rule.{Rule}
 use Rattle.ivl_network.specs.Families.{ArePresent, IsFixedBy}
 use Rattle.ivl_network.specs.Network.{IsSoundRules}
 use Rattle.ivl_network.specs.Settled.{AreClearedRules}
+use Rattle.ivl_network.proofs.Settled.{names_or_not}
 use Rattle.ivl_rules.specs.Rules.{AreDifferent, NamesOf}
 use Rattle.ivl_network.specs.Trail.{RulesPast, revert_rule, reverted_rules, rules_past_at}
 use Rattle.ivl_store.proofs.Trails.{take_lt}
@@ -76,21 +77,34 @@ fixed_where_same rule before after same f i v h = record {
   supported = (λ named. HasPointAt-mono rule before after (λ j names w u. (same j names w).1 u) i v ((f i v ((same i named v).0 h)).supported named));
 }
 
--- a set takes the place of a domain, and no rule that names the variable is settled
+-- a set takes the place of a domain, and a rule that names the variable is settled only where narrowing changes nothing
 pub sound_replaced : (sets : List (List (ℤ × ℤ))) (rules : List Rule) (flags flags' : List Bool) (i : ℕ) (s : List (ℤ × ℤ))
-    → IsSoundRules sets rules flags → AreClearedRules true false rules i flags flags' → IsSoundRules (set sets i s) rules flags'
+    → IsSoundRules sets rules flags → AreClearedRules true false rules i (set_at (set sets i s)) flags flags' → IsSoundRules (set sets i s) rules flags'
 sound_replaced sets rules flags flags' i s n cleared = record {
   different = n.different;
   present = subst (λ count. All (ArePresent count) rules) (sym (length-set sets i s)) n.present;
   settled = record {
     one_each = cleared.same_count ∙ n.settled.one_each;
-    fixed = (λ k d lt m. fixed_where_same (get_or rules k d) (set_at sets) (set_at (set sets i s))
-        (λ j names v.
-        let e = get_or-set_other sets i j s [] (λ at. false≢true ((cleared.apart refl k d lt m (subst (NamesOf (get_or rules k d)) at names)).0)) in
-        (subst (λ L. Covers L v) e, subst (λ L. Covers L v) (sym e)))
-        (n.settled.fixed k d lt (cleared.only_cleared k m)));
+    fixed = (λ k d lt m. elim (apart_of k d lt m) [
+      | inl f ↦ f
+      | inr other ↦ fixed_where_same (get_or rules k d) (set_at sets) (set_at (set sets i s))
+          (λ j names v.
+          let e = get_or-set_other sets i j s [] (λ at. other (subst (NamesOf (get_or rules k d)) at names)) in
+          (subst (λ L. Covers L v) e, subst (λ L. Covers L v) (sym e)))
+          (n.settled.fixed k d lt (cleared.only_cleared k m))
+    ]);
   };
 }
+  where
+    apart_of : (k : ℕ) (d : Rule) → k < length rules → get_or flags' k false ≡ true
+        → IsFixedBy (set_at (set sets i s)) (get_or rules k d) ⊎ (NamesOf (get_or rules k d) i → ⊥)
+    apart_of k d lt m = elim (names_or_not (get_or rules k d) i) [
+      | inr other ↦ inr other
+      | inl named ↦ elim (cleared.apart refl k d lt m named) [
+        | inl f ↦ inl f
+        | inr grown ↦ absurd (false≢true grown.0)
+      ]
+    ]
 
 -- the last variable is dropped, which no rule names
 pub sound_without_variable : (sets : List (List (ℤ × ℤ))) (rules : List Rule) (flags : List Bool) (count : ℕ)

@@ -15,16 +15,19 @@ use Rattle.ivl_rules.specs.Rules.{NamesOf, NarrowedBy, needs_singles, places}
 use Rattle.ivl_rules.proofs.Narrowings.{narrowed_fixed}
 use Rattle.ivl_network.specs.Families.{IsFixedBy}
 use Rattle.ivl_network.specs.Settled.{AreSettledRules, AreClearedRules, HasTwo}
-use Rattle.ivl_network.proofs.Staying.{StaysAt, fixed_where_it_stays}
+use Rattle.ivl_network.proofs.Staying.{StaysFixed, fixed_where_it_stays}
 
--- flags that are left, where no set that a settled rule names has lost a member, or it has two and the rule says that numbers differ
+-- flags that are left, where narrowing by a rule changes nothing, or no set that it names has lost a member, or that has two and the rule says that numbers differ
 settled_kept : (rules : List Rule) (flags flags' : List Bool) (before after : ℕ → ℤ → Type 0) → AreSettledRules rules flags before
     → length flags' ≡ length flags → ((k : ℕ) → get_or flags' k false ≡ true → get_or flags k false ≡ true) → LiesWithin after before
-    → ((k : ℕ) (d : Rule) → k < length rules → get_or flags' k false ≡ true → (i : ℕ) → NamesOf (get_or rules k d) i → StaysAt (get_or rules k d) before after i)
+    → ((k : ℕ) (d : Rule) → k < length rules → get_or flags' k false ≡ true → StaysFixed (get_or rules k d) before after)
     → AreSettledRules rules flags' after
 settled_kept rules flags flags' before after s count cleared w same = record {
   one_each = count ∙ s.one_each;
-  fixed = (λ k d lt m. fixed_where_it_stays (get_or rules k d) before after w (same k d lt m) (s.fixed k d lt (cleared k m)));
+  fixed = (λ k d lt m. elim (same k d lt m) [
+    | inl f ↦ f
+    | inr stays ↦ fixed_where_it_stays (get_or rules k d) before after w stays (s.fixed k d lt (cleared k m))
+  ]);
 }
 
 -- a flag that is set where it may be
@@ -38,37 +41,62 @@ settled_set rules flags sets i s lt f = record {
   ]);
 }
 
--- where a settled rule names the variable, the variable has not changed, or has two members and the rule says that numbers differ
-apart_at : (rules : List Rule) (changed keeps_two : Bool) (variable : ℕ) (before after : List Bool) (sets : ℕ → ℤ → Type 0)
-    → AreClearedRules changed keeps_two rules variable before after → (keeps_two ≡ true → HasTwo (sets variable))
-    → (k : ℕ) (d : Rule) → k < length rules → get_or after k false ≡ true → (j : ℕ) → NamesOf (get_or rules k d) j
-    → (j ≡ variable → changed ≡ false) ⊎ ((needs_singles (get_or rules k d) ≡ true) × HasTwo (sets j))
-apart_at rules false keeps_two variable before after sets a two k d lt m j named = inl (λ _. refl)
-apart_at rules true keeps_two variable before after sets a two k d lt m j named = elim (cases_eq j variable) [
-  | inl e ↦ (let f = a.apart refl k d lt m (subst (NamesOf (get_or rules k d)) e named) in inr (f.1, subst (λ i. HasTwo (sets i)) (sym e) (two f.0)))
-  | inr ne ↦ inl (λ e. absurd (ne e))
+pub names_or_not : (rule : Rule) (i : ℕ) → NamesOf rule i ⊎ (NamesOf rule i → ⊥)
+names_or_not rule i = elim (cases_eq i (places rule).x) [
+  | inl e ↦ inl (inl e)
+  | inr nx ↦ elim (cases_eq i (places rule).y) [
+    | inl e ↦ inl (inr (inl e))
+    | inr ny ↦ elim (cases_eq i (places rule).z) [
+      | inl e ↦ inl (inr (inr e))
+      | inr nz ↦ inr (λ named. elim named [ inl e ↦ nx e | inr (inl e) ↦ ny e | inr (inr e) ↦ nz e ])
+    ]
+  ]
+]
+
+-- what is known of a settled rule at a variable that it names and that may have changed
+apart_at : (rules : List Rule) (changed : Bool) (variable : ℕ) (before after : List Bool) (sets : ℕ → ℤ → Type 0)
+    → AreClearedRules changed true rules variable sets before after → (k : ℕ) (d : Rule) → k < length rules → get_or after k false ≡ true
+    → IsFixedBy sets (get_or rules k d)
+    ⊎ ((j : ℕ) → NamesOf (get_or rules k d) j → (j ≡ variable → changed ≡ false) ⊎ ((needs_singles (get_or rules k d) ≡ true) × HasTwo (sets j)))
+apart_at rules false variable before after sets a k d lt m = inr (λ _ _. inl (λ _. refl))
+apart_at rules true variable before after sets a k d lt m = elim (names_or_not (get_or rules k d) variable) [
+  | inl named ↦ elim (a.apart refl k d lt m named) [
+    | inl f ↦ inl f
+    | inr two ↦ inr (λ j _. elim (cases_eq j variable) [
+      | inl e ↦ inr (two.2, subst (λ i. HasTwo (sets i)) (sym e) two.1)
+      | inr ne ↦ inl (λ e. absurd (ne e))
+    ])
+  ]
+  | inr other ↦ inr (λ j named. inl (λ e. absurd (other (subst (NamesOf (get_or rules k d)) e named))))
 ]
 
 -- the flags once rule i was narrowed by: those of others at variables that have changed are cleared, and its own is set
-pub flags_moved : (rules : List Rule) (i : ℕ) (e : Rule) (lost two : Lost) (m0 m1 m2 m3 : List Bool) (old new : List (List (ℤ × ℤ))) → i < length rules
-    → AreClearedRules lost.x two.x rules (places (get_or rules i e)).x m0 m1 → AreClearedRules lost.y two.y rules (places (get_or rules i e)).y m1 m2
-    → AreClearedRules lost.z two.z rules (places (get_or rules i e)).z m2 m3
-    → (two.x ≡ true → HasTwo (set_at new (places (get_or rules i e)).x)) → (two.y ≡ true → HasTwo (set_at new (places (get_or rules i e)).y))
-    → (two.z ≡ true → HasTwo (set_at new (places (get_or rules i e)).z))
+pub flags_moved : (rules : List Rule) (i : ℕ) (e : Rule) (lost : Lost) (m0 m1 m2 m3 : List Bool) (old new : List (List (ℤ × ℤ))) → i < length rules
+    → AreClearedRules lost.x true rules (places (get_or rules i e)).x (set_at new) m0 m1 → AreClearedRules lost.y true rules (places (get_or rules i e)).y (set_at new) m1 m2
+    → AreClearedRules lost.z true rules (places (get_or rules i e)).z (set_at new) m2 m3
     → ((d : Rule) (j : ℕ) (v : ℤ) → set_at new j v ↔ NarrowedBy (get_or rules i d) (set_at old) j v)
     → ((d : Rule) → AreLost (places (get_or rules i d)) lost (set_at old) (set_at new))
     → AreSettledRules rules m0 (set_at old) → AreSettledRules rules (set m3 i true) (set_at new)
-flags_moved rules i e lost two m0 m1 m2 m3 old new lt ax ay az tx ty tz n l s =
+flags_moved rules i e lost m0 m1 m2 m3 old new lt ax ay az n l s =
     settled_set rules m3 (set_at new) i
     (settled_kept rules m0 m3 (set_at old) (set_at new) s (az.same_count ∙ ay.same_count ∙ ax.same_count) (λ k m. ax.only_cleared k (m1_of k m))
     (λ j v h. ((n e j v).0 h).kept)
-    (λ k d h m j named. elim (apart_at rules lost.x two.x _ m0 m1 (set_at new) ax tx k d h (m1_of k m) j named) [
-      | inr f ↦ inr f
-      | inl ux ↦ elim (apart_at rules lost.y two.y _ m1 m2 (set_at new) ay ty k d h (az.only_cleared k m) j named) [
-        | inr f ↦ inr f
-        | inl uy ↦ elim (apart_at rules lost.z two.z _ m2 m3 (set_at new) az tz k d h m j named) [
-          | inr f ↦ inr f
-          | inl uz ↦ inl ((l e).others j ux uy uz)
+    (λ k d h m. elim (apart_at rules lost.x _ m0 m1 (set_at new) ax k d h (m1_of k m)) [
+      | inl f ↦ inl f
+      | inr ux ↦ elim (apart_at rules lost.y _ m1 m2 (set_at new) ay k d h (az.only_cleared k m)) [
+        | inl f ↦ inl f
+        | inr uy ↦ elim (apart_at rules lost.z _ m2 m3 (set_at new) az k d h m) [
+          | inl f ↦ inl f
+          | inr uz ↦ inr (λ j named. elim (ux j named) [
+            | inr two ↦ inr two
+            | inl x ↦ elim (uy j named) [
+              | inr two ↦ inr two
+              | inl y ↦ elim (uz j named) [
+                | inr two ↦ inr two
+                | inl z ↦ inl ((l e).others j x y z)
+              ]
+            ]
+          ])
         ]
       ]
     ]))
@@ -79,25 +107,28 @@ flags_moved rules i e lost two m0 m1 m2 m3 old new lt ax ay az tx ty tz n l s =
     m1_of k m = ay.only_cleared k (az.only_cleared k m)
 
 -- where nothing was lost, no flag was cleared
-pub only_one_moved : (rules : List Rule) (c : Constraint) (lost two : Lost) (m0 m1 m2 m3 : List Bool)
-    → AreClearedRules lost.x two.x rules c.x m0 m1 → AreClearedRules lost.y two.y rules c.y m1 m2 → AreClearedRules lost.z two.z rules c.z m2 m3 → any_lost lost ≡ false → m3 ≡ m0
-only_one_moved rules c lost two m0 m1 m2 m3 ax ay az none =
+pub only_one_moved : (rules : List Rule) (c : Constraint) (lost : Lost) (sets : ℕ → ℤ → Type 0) (m0 m1 m2 m3 : List Bool)
+    → AreClearedRules lost.x true rules c.x sets m0 m1 → AreClearedRules lost.y true rules c.y sets m1 m2 → AreClearedRules lost.z true rules c.z sets m2 m3 → any_lost lost ≡ false → m3 ≡ m0
+only_one_moved rules c lost sets m0 m1 m2 m3 ax ay az none =
     let n = none_lost_at lost none in
     az.kept n.2 ∙ ay.kept n.1 ∙ ax.kept n.0
 
 -- ---- from call to call
 
 -- the flags once a domain was cut
-pub settled_cut : (rules : List Rule) (flags flags' : List Bool) (i : ℕ) (lost keeps_two : Bool) (old new : List (List (ℤ × ℤ)))
-    → AreSettledRules rules flags (set_at old) → AreClearedRules lost keeps_two rules i flags flags' → (keeps_two ≡ true → HasTwo (set_at new i)) → (lost ≡ false → new ≡ old)
+pub settled_cut : (rules : List Rule) (flags flags' : List Bool) (i : ℕ) (lost : Bool) (old new : List (List (ℤ × ℤ)))
+    → AreSettledRules rules flags (set_at old) → AreClearedRules lost true rules i (set_at new) flags flags' → (lost ≡ false → new ≡ old)
     → LiesWithin (set_at new) (set_at old) → ((j : ℕ) (v : ℤ) → (j ≡ i → ⊥) → set_at old j v → set_at new j v) → AreSettledRules rules flags' (set_at new)
-settled_cut rules flags flags' i lost keeps_two old new s cleared two same within apart =
+settled_cut rules flags flags' i lost old new s cleared same within apart =
     settled_kept rules flags flags' (set_at old) (set_at new) s cleared.same_count cleared.only_cleared within
-    (λ k d lt m j named. elim (apart_at rules lost keeps_two i flags flags' (set_at new) cleared two k d lt m j named) [
-      | inr f ↦ inr f
-      | inl u ↦ inl (λ v was. elim (cases_eq j i) [
-        | inl e ↦ subst (λ sets. set_at sets j v) (sym (same (u e))) was
-        | inr ne ↦ apart j v ne was
+    (λ k d lt m. elim (apart_at rules lost i flags flags' (set_at new) cleared k d lt m) [
+      | inl f ↦ inl f
+      | inr u ↦ inr (λ j named. elim (u j named) [
+        | inr two ↦ inr two
+        | inl kept ↦ inl (λ v was. elim (cases_eq j i) [
+          | inl e ↦ subst (λ sets. set_at sets j v) (sym (same (kept e))) was
+          | inr ne ↦ apart j v ne was
+        ])
       ])
     ])
 

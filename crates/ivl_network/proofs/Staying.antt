@@ -18,6 +18,10 @@ use Rattle.ivl_network.specs.Settled.{HasTwo}
 abbrev pub StaysAt : Rule → (ℕ → ℤ → Type 0) → (ℕ → ℤ → Type 0) → ℕ → Type 0
 StaysAt rule before after i = ((v : ℤ) → before i v → after i v) ⊎ ((needs_singles rule ≡ true) × HasTwo (after i))
 
+-- narrowing by the rule changes nothing of what is left, or so for each set that it names
+abbrev pub StaysFixed : Rule → (ℕ → ℤ → Type 0) → (ℕ → ℤ → Type 0) → Type 0
+StaysFixed rule before after = IsFixedBy after rule ⊎ ((i : ℕ) → NamesOf rule i → StaysAt rule before after i)
+
 -- of two members one is not this number
 other_member : (S : ℤ → Type 0) (n : ℤ) → HasTwo S → (w : ℤ) × S w × (w ≢ n)
 other_member S n (v, w, hv, hw, ne) = by_test (int_eq v n) (int_eq_is v n _ refl)

@@ -1,9 +1,10 @@
 -- Which narrowings by rules need not be made again.
 --     AreSettledRules rules flags sets      one flag a rule, set only where narrowing by it changes nothing
 --     HasTwo S      two different members
---     AreClearedRules changed keeps_two rules i before after      flags were only cleared, and none if nothing has changed; where variable i
---         has changed, none is left at a rule that names it, but for rules of numbers that differ if the variable keeps two
-use Rattle.std.specs.Prelude.{◌≡◌, ◌≢◌, ◌<◌, ℕ, ℤ, Bool, true, false, List, length, slice_index_or}
+--     AreClearedRules changed only_lost rules i sets before after      flags were only cleared, and none if nothing has changed; where variable i
+--         has changed, one is left at a rule that names it only if narrowing the sets by it changes nothing, or if i lost members alone and keeps
+--         two, and the rule says that numbers differ
+use Rattle.std.specs.Prelude.{◌≡◌, ◌≢◌, ◌<◌, ◌⊎◌, ℕ, ℤ, Bool, true, false, List, length, slice_index_or}
 use Rattle.ivl_rules.specs.declared.rules.Rule.{Rule}
 use Rattle.ivl_rules.specs.Rules.{NamesOf, needs_singles}
 use Rattle.ivl_network.specs.Families.{IsFixedBy}
@@ -15,9 +16,9 @@ pub record AreSettledRules (rules : List Rule) (flags : List Bool) (sets : ℕ �
 abbrev pub HasTwo : (ℤ → Type 0) → Type 0
 HasTwo S = (v : ℤ) × (w : ℤ) × S v × S w × (v ≢ w)
 
-pub record AreClearedRules (changed keeps_two : Bool) (rules : List Rule) (variable : ℕ) (before after : List Bool) : Type 0 where
+pub record AreClearedRules (changed only_lost : Bool) (rules : List Rule) (variable : ℕ) (sets : ℕ → ℤ → Type 0) (before after : List Bool) : Type 0 where
   pub same_count : length after ≡ length before
   pub kept : changed ≡ false → after ≡ before
   pub only_cleared : (k : ℕ) → slice_index_or after k false ≡ true → slice_index_or before k false ≡ true
-  pub apart : changed ≡ true → (k : ℕ) (d : Rule) → k < length rules → slice_index_or after k false ≡ true
-      → NamesOf (slice_index_or rules k d) variable → (keeps_two ≡ true) × (needs_singles (slice_index_or rules k d) ≡ true)
+  pub apart : changed ≡ true → (k : ℕ) (d : Rule) → k < length rules → slice_index_or after k false ≡ true → NamesOf (slice_index_or rules k d) variable
+      → IsFixedBy sets (slice_index_or rules k d) ⊎ ((only_lost ≡ true) × HasTwo (sets variable) × (needs_singles (slice_index_or rules k d) ≡ true))

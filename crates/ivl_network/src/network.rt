@@ -43,7 +43,7 @@ mod trail;
 
 use change::Change;
 use index::Index;
-use narrowing::{cost_of_rule, has_two, narrow_swapped, restrict_swapped};
+use narrowing::{cost_of_rule, narrow_swapped, restrict_swapped};
 use queue::Queue;
 use trail::{
     clear_unmarked, is_logging, is_unkept, log_change, log_cut, reserve_change, revert_to,
@@ -265,9 +265,7 @@ impl<B: Width> Network<B> {
         let is_kept = is_logging(&self.marks);
         reserve_change(&mut self.trail, is_kept)?;
         let (lost, change) = restrict_swapped(&mut self.store, variable, allowed)?;
-        let keeps_two = has_two(&self.store, variable);
-        self.queue
-            .wake(lost, keeps_two, variable, &self.rules, &self.index);
+        self.queue.wake(lost, true, variable, &self.store, &self.rules, &self.index);
         let is_new = is_unkept(lost, &self.trail, &self.marks, &self.places, &change);
         log_cut(&mut self.trail, &mut self.places, is_kept, is_new, change);
         Ok(())

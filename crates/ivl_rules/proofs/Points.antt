@@ -12,7 +12,7 @@ use Rattle.ivl_store.proofs.Families.{narrowed_has_solution, has_solution_narrow
 use Rattle.ivl_store.proofs.NarrowedSets.{left_same}
 use Rattle.ivl_rules.specs.declared.rules.Rule.{Rule}
 use Rattle.ivl_rules.specs.declared.rules.Rule.TheVariants.{Sum, Shifted, AtMost, Differs}
-use Rattle.ivl_rules.specs.Rules.{HasPointAt, IsPointOf, NamesOf, NarrowedBy, Satisfies}
+use Rattle.ivl_rules.specs.Rules.{HasPointAt, IsPointOf, NamesOf, NarrowedBy, Satisfies, SupportsAll}
 use Rattle.ivl_rules.specs.NarrowedSets.{AreLeftAtPlaces, AreLeftBy, IsAtMost, IsMoved, IsNot}
 
 -- ---- two variables
@@ -70,6 +70,16 @@ left_of_two whole rule x y R sets a b r n left = record {
   z_is_y = (λ _. refl);
 }
 
+-- nothing is left out where each member of both stands in a pair
+supports_of_two : (whole : ℤ × ℤ) (rule : Rule) (x y : ℕ) (R : ℤ → ℤ → Type 0) (sets : List (List (ℤ × ℤ))) → IsOfTwo rule x y R → x ≢ y
+    → AreLeftBy whole R (get_or sets x []) (get_or sets y []) None None → SupportsAll rule (set_at sets)
+supports_of_two whole rule x y R sets r n left i named v m = elim (r.names i named) [
+  | inl e ↦ (let h = subst (λ k. set_at sets k v) e m in
+      subst (λ k. HasPointAt rule (set_at sets) k v) (sym e) ((at_first rule x y R (set_at sets) r n v h).0 (left.first.1 v h)))
+  | inr e ↦ (let h = subst (λ k. set_at sets k v) e m in
+      subst (λ k. HasPointAt rule (set_at sets) k v) (sym e) ((at_second rule x y R (set_at sets) r n v h).0 (left.second.1 v h)))
+]
+
 pub left_moved : (whole : ℤ × ℤ) (x y : ℕ) (by : ℤ) (sets : List (List (ℤ × ℤ))) (a b : Option (List (ℤ × ℤ))) → x ≢ y
     → AreLeftBy whole (IsMoved by) (get_or sets x []) (get_or sets y []) a b
     → AreLeftAtPlaces whole (record { x = x; y = y; z = y }) (HasPointAt (Shifted x y by) (set_at sets)) sets a b None
@@ -81,16 +91,22 @@ left_moved whole x y by sets a b n left =
       says = (λ point. ((λ h. h), (λ h. h)));
     }) n left
 
+is_of_at_most : (x y : ℕ) (by : ℤ) → IsOfTwo (AtMost x y by) x y (IsAtMost by)
+is_of_at_most x y by = record {
+  names = (λ i h. elim h [ inl e ↦ inl e | inr (inl e) ↦ inr e | inr (inr e) ↦ inr e ]);
+  names_x = inl refl;
+  names_y = inr (inl refl);
+  says = (λ point. ((λ h. h), (λ h. h)));
+}
+
 pub left_at_most : (whole : ℤ × ℤ) (x y : ℕ) (by : ℤ) (sets : List (List (ℤ × ℤ))) (a b : Option (List (ℤ × ℤ))) → x ≢ y
     → AreLeftBy whole (IsAtMost by) (get_or sets x []) (get_or sets y []) a b
     → AreLeftAtPlaces whole (record { x = x; y = y; z = y }) (HasPointAt (AtMost x y by) (set_at sets)) sets a b None
-left_at_most whole x y by sets a b n left =
-    left_of_two whole (AtMost x y by) x y (IsAtMost by) sets a b (record {
-      names = (λ i h. elim h [ inl e ↦ inl e | inr (inl e) ↦ inr e | inr (inr e) ↦ inr e ]);
-      names_x = inl refl;
-      names_y = inr (inl refl);
-      says = (λ point. ((λ h. h), (λ h. h)));
-    }) n left
+left_at_most whole x y by sets a b n left = left_of_two whole (AtMost x y by) x y (IsAtMost by) sets a b (is_of_at_most x y by) n left
+
+pub supports_at_most : (whole : ℤ × ℤ) (x y : ℕ) (by : ℤ) (sets : List (List (ℤ × ℤ))) → x ≢ y
+    → AreLeftBy whole (IsAtMost by) (get_or sets x []) (get_or sets y []) None None → SupportsAll (AtMost x y by) (set_at sets)
+supports_at_most whole x y by sets n left = supports_of_two whole (AtMost x y by) x y (IsAtMost by) sets (is_of_at_most x y by) n left
 
 is_of_differing : (x y : ℕ) (by : ℤ) → IsOfTwo (Differs x y by) x y (IsNot by)
 is_of_differing x y by = record {
@@ -104,6 +120,10 @@ pub left_differing : (whole : ℤ × ℤ) (x y : ℕ) (by : ℤ) (sets : List (L
     → AreLeftBy whole (IsNot by) (get_or sets x []) (get_or sets y []) a b
     → AreLeftAtPlaces whole (record { x = x; y = y; z = y }) (HasPointAt (Differs x y by) (set_at sets)) sets a b None
 left_differing whole x y by sets a b n left = left_of_two whole (Differs x y by) x y (IsNot by) sets a b (is_of_differing x y by) n left
+
+pub supports_differing : (whole : ℤ × ℤ) (x y : ℕ) (by : ℤ) (sets : List (List (ℤ × ℤ))) → x ≢ y
+    → AreLeftBy whole (IsNot by) (get_or sets x []) (get_or sets y []) None None → SupportsAll (Differs x y by) (set_at sets)
+supports_differing whole x y by sets n left = supports_of_two whole (Differs x y by) x y (IsNot by) sets (is_of_differing x y by) n left
 
 -- a member of the first set differs from one of the second, and the other way round, where it stands in a point
 pub differing_first : (x y : ℕ) (by : ℤ) (sets : ℕ → ℤ → Type 0) → x ≢ y → (v : ℤ) → sets x v → ((b : ℤ) × sets y b × IsNot by v b) ↔ HasPointAt (Differs x y by) sets x v

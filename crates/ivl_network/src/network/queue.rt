@@ -1,12 +1,12 @@
 //! The rules that have to be looked at again.
-ghost use Rattle.std.specs.Prelude.{◌≡◌, ◌+◌, ◌-◌, ◌<◌, ◌∷◌, ◌++◌, [], ℕ, ℤ, All, HoldsAt, IsNone, IsTrue, ◌↔◌, List, MatchOption, OnErr, OnOk, false, true, length, slice_index_or, slice_set, take};
+ghost use Rattle.std.specs.Prelude.{◌≡◌, ◌⊎◌, ◌+◌, ◌-◌, ◌<◌, ◌∷◌, ◌++◌, [], ℕ, ℤ, All, HoldsAt, IsNone, IsTrue, ◌↔◌, List, MatchOption, OnErr, OnOk, false, true, length, slice_index_or, slice_set, take};
 ghost use Rattle.std.specs.Vec.{vec_capacity};
 ghost use Rattle.ivl_laws.specs.Families.{set_at};
 ghost use Rattle.ivl_store.specs.Network.{unsettled_count};
 ghost use Rattle.ivl_store.specs.Queue.{Removes};
 ghost use Rattle.ivl_store.specs.Settled.{AreLost, any_lost};
-ghost use Rattle.ivl_rules.specs.Rules.{NarrowedBy, places as places_of};
-ghost use Rattle.ivl_network.specs.Families.{ArePresent};
+ghost use Rattle.ivl_rules.specs.Rules.{AreDifferent, NarrowedBy, needs_singles, places as places_of};
+ghost use Rattle.ivl_network.specs.Families.{ArePresent, IsFixedBy};
 ghost use Rattle.ivl_network.specs.Queue.{IsRuleIndex, IsRuleQueue};
 ghost use Rattle.ivl_network.specs.Settled.{AreClearedRules, AreSettledRules};
 
@@ -14,6 +14,7 @@ use super::index::Index;
 use super::narrowing::has_two;
 use intervallum::width::Width;
 use ivl_rules::rules::Rule;
+use ivl_rules::rules::narrowing::takes_nothing;
 use ivl_store::store::{Lost, Store};
 use std::alloc::{AllocError, Global};
 use std::mem;
@@ -108,8 +109,7 @@ impl Queue {
     }
 
     /// Updates the flags after the first rule narrowed the store, which is settled then. Others that
-    /// name a variable which lost a member are no longer, but where they look at single numbers alone
-    /// and the variable has two.
+    /// name a variable which lost a member are no longer, but for those that take nothing.
     pub(super) fn settle<B: Width>(
         &mut self,
         i: usize,
@@ -119,6 +119,7 @@ impl Queue {
         index: &Index,
     )
         requires queue { IsRuleQueue self.old }
+        requires different { All AreDifferent rules.now }
         requires present { All (ArePresent (length store.now)) rules.now }
         requires index { (count : ℕ) × IsRuleIndex count rules.now index.now }
         requires one_each { length self.old.settled.items ≡ length rules.now }
@@ -133,9 +134,9 @@ impl Queue {
             → AreSettledRules rules.now self.old.settled.items (set_at old) → AreSettledRules rules.now self.new.settled.items (set_at store.now) }
     {
         let c = rules[i].places();
-        self.wake(lost.x, has_two(store, c.x), c.x, rules, index);
-        self.wake(lost.y, has_two(store, c.y), c.y, rules, index);
-        self.wake(lost.z, has_two(store, c.z), c.z, rules, index);
+        self.wake(lost.x, true, c.x, store, rules, index);
+        self.wake(lost.y, true, c.y, store, rules, index);
+        self.wake(lost.z, true, c.z, store, rules, index);
         self.settle_first(i);
     }
 
@@ -166,35 +167,53 @@ impl Queue {
         }
     }
 
-    /// Clears the flags of the rules that name the variable, if it has changed. Where it only lost members
-    /// and has two, those that look at single numbers alone stay as they are.
-    pub(super) fn wake(
+    /// Clears the flags of the rules that name the variable, if it has changed, but for those that take
+    /// nothing from the domains of the store: `only_lost` says that the change took members and added none.
+    pub(super) fn wake<B: Width>(
         &mut self,
         changed: bool,
-        keeps_two: bool,
+        only_lost: bool,
         variable: usize,
+        store: &Store<B>,
         rules: &[Rule],
         index: &Index,
     )
         requires queue { IsRuleQueue self.old }
+        requires variable { only_lost ≡ true → variable < length store.now }
+        requires different { All AreDifferent rules.now }
+        requires present { All (ArePresent (length store.now)) rules.now }
         requires index { (count : ℕ) × IsRuleIndex count rules.now index.now }
         requires one_each { length self.old.settled.items ≡ length rules.now }
         ensures queue { IsRuleQueue self.new }
-        ensures cleared { AreClearedRules changed keeps_two rules.now variable self.old.settled.items self.new.settled.items }
+        ensures cleared { AreClearedRules changed only_lost rules.now variable (set_at store.now) self.old.settled.items self.new.settled.items }
         ensures round { self.new.round.items ≡ self.old.round.items }
     {
         if !changed {
             return;
         }
+        let keeps_two = only_lost && has_two(store, variable);
         let mut place = index.last(variable);
         while place > 0 {
             let k = place - 1;
-            if !(keeps_two && rules[k].needs_single_numbers()) {
+            if !stays_settled(&rules[k], keeps_two, store) {
                 self.clear(k);
             }
             place = index.last_before(rules, k, variable);
         }
     }
+}
+
+/// Whether a rule that is settled stays so where a variable that it names has changed: the variable only
+/// lost members and keeps two, and the rule looks at single numbers alone, or it takes nothing.
+fn stays_settled<B: Width>(rule: &Rule, keeps_two: bool, store: &Store<B>) -> bool
+    requires different { AreDifferent rule.now }
+    requires present { ArePresent (length store.now) rule.now }
+    ensures { result ≡ true → IsFixedBy (set_at store.now) rule.now ⊎ ((keeps_two ≡ true) × (needs_singles rule.now ≡ true)) }
+{
+    if keeps_two && rule.needs_single_numbers() {
+        return true;
+    }
+    takes_nothing(store.domains(), rule)
 }
 
 /// Removes a number from a list, at the last place where it stands. Returns false, and changes

@@ -88,6 +88,34 @@ impl Rule {
         }
     }
 
+    /// Returns true exactly for a rule that takes members only for a variable whose domain is a single number or
+    /// empty: `Differs`.
+    ///
+    /// ```
+    /// use intervallum::proved::examples::*;
+    ///
+    /// fn main() -> Result<(), std::boxed::Box<dyn std::error::Error>> {
+    ///     let alloc = Global;
+    ///     assert!(Rule::Differs { x: 0, y: 1, by: 5 }.needs_single_numbers());
+    ///     assert!(!Rule::AtMost { x: 0, y: 1, by: 5 }.needs_single_numbers());
+    ///     Ok(())
+    /// }
+    /// ```
+    ///
+    /// # Proved
+    ///
+    /// ```text
+    /// ensures { result ≡ needs_singles self.now }
+    /// ```
+    pub fn needs_single_numbers(&self) -> bool {
+        match self {
+            Rule::Sum(_) => false,
+            Rule::Shifted { x: _, y: _, by: _ } => false,
+            Rule::AtMost { x: _, y: _, by: _ } => false,
+            Rule::Differs { x: _, y: _, by: _ } => true,
+        }
+    }
+
     /// Returns true exactly when the rule names the variable.
     ///
     /// ```

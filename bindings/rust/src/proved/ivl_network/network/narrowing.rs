@@ -5,6 +5,7 @@
 use crate::rattle::prelude::*;
 use super::change::Change;
 use crate::proved::intervallum::interval_set::IntervalSet;
+use crate::proved::intervallum::ops::{Bounded, IsEmpty};
 use crate::proved::intervallum::width::Width;
 use crate::proved::ivl_rules::rules::Rule;
 use crate::proved::ivl_rules::rules::narrowing::narrowed_at_places;
@@ -57,4 +58,13 @@ fn cost_of_two<B: Width>(store: &Store<B>, x: usize, y: usize) -> u64 {
     let of_x = store.domains()[x].interval_count();
     let of_y = store.domains()[y].interval_count();
     (of_x.saturating_add(of_y) / 256) as u64 + 1
+}
+
+/// Whether the domain of a variable has two members.
+pub(super) fn has_two<B: Width>(store: &Store<B>, variable: usize) -> bool {
+    let domain = &store.domains()[variable];
+    if domain.is_empty() || domain.lower().number() == domain.upper().number() {
+        return false;
+    }
+    true
 }

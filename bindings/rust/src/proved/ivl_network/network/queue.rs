@@ -4,8 +4,10 @@
 #[allow(unused_imports)]
 use crate::rattle::prelude::*;
 use super::index::Index;
+use super::narrowing::has_two;
+use crate::proved::intervallum::width::Width;
 use crate::proved::ivl_rules::rules::Rule;
-use crate::proved::ivl_store::store::Lost;
+use crate::proved::ivl_store::store::{Lost, Store};
 use crate::rattle::std::alloc::{AllocError, Global};
 use crate::rattle::std::mem;
 
@@ -69,13 +71,21 @@ impl Queue {
         self.round.is_empty() && self.later.is_empty()
     }
 
-    /// Updates the flags after narrowing by the first rule, which is settled then. Those that
-    /// name a variable which lost a member are no longer.
-    pub(super) fn settle(&mut self, i: usize, lost: Lost, rules: &[Rule], index: &Index) {
+    /// Updates the flags after the first rule narrowed the store, which is settled then. Others that
+    /// name a variable which lost a member are no longer, but where they look at single numbers alone
+    /// and the variable has two.
+    pub(super) fn settle<B: Width>(
+        &mut self,
+        i: usize,
+        lost: Lost,
+        store: &Store<B>,
+        rules: &[Rule],
+        index: &Index,
+    ) {
         let c = rules[i].places();
-        self.wake(lost.x, rules, c.x, index);
-        self.wake(lost.y, rules, c.y, index);
-        self.wake(lost.z, rules, c.z, index);
+        self.wake(lost.x, has_two(store, c.x), c.x, rules, index);
+        self.wake(lost.y, has_two(store, c.y), c.y, rules, index);
+        self.wake(lost.z, has_two(store, c.z), c.z, rules, index);
         self.settle_first(i);
     }
 
@@ -93,15 +103,26 @@ impl Queue {
         }
     }
 
-    /// Clears the flags of the rules that name the variable, if it has changed.
-    pub(super) fn wake(&mut self, changed: bool, rules: &[Rule], variable: usize, index: &Index) {
+    /// Clears the flags of the rules that name the variable, if it has changed. Where it only lost members
+    /// and has two, those that look at single numbers alone stay as they are.
+    pub(super) fn wake(
+        &mut self,
+        changed: bool,
+        keeps_two: bool,
+        variable: usize,
+        rules: &[Rule],
+        index: &Index,
+    ) {
         if !changed {
             return;
         }
         let mut place = index.last(variable);
         while place > 0 {
-            self.clear(place - 1);
-            place = index.last_before(rules, place - 1, variable);
+            let k = place - 1;
+            if !(keeps_two && rules[k].needs_single_numbers()) {
+                self.clear(k);
+            }
+            place = index.last_before(rules, k, variable);
         }
     }
 }

@@ -208,7 +208,7 @@ fn put_back<B: Width>(
 ) {
     if let Some(set) = set {
         store.replace(variable, set);
-        queue.wake(true, rules, variable, index);
+        queue.wake(true, false, variable, rules, index);
     }
 }
 

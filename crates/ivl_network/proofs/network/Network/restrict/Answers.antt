@@ -18,8 +18,8 @@ invariant_of-self-2 g c =
     let cut = c.in_ok-lost.ensures.cut in
     let sound : IsSoundRules c.restrict_swapped.new.store cs c.wake.new.self.settled.items =
     sound_moved i.store c.restrict_swapped.new.store cs i.queue.settled.items c.wake.new.self.settled.items c.restrict_swapped.ensures.kept_count
-    (settled_cut cs i.queue.settled.items c.wake.new.self.settled.items c.args.variable c.in_ok-lost.lost c.has_two-keeps_two.result i.store c.restrict_swapped.new.store
-    c.self.invariant.0.settled (rw c.deref-2.ensures.value at c.wake.ensures.cleared) c.has_two-keeps_two.ensures c.in_ok-lost.ensures.lost
+    (settled_cut cs i.queue.settled.items c.wake.new.self.settled.items c.args.variable c.in_ok-lost.lost i.store c.restrict_swapped.new.store
+    c.self.invariant.0.settled (rw c.deref-2.ensures.value at c.wake.ensures.cleared) c.in_ok-lost.ensures.lost
     (λ j v h. ((cut j v).0 h).0)
     (λ j v ne was. (cut j v).1 (was, λ e. absurd (ne e))))
     c.self.invariant.0 in (

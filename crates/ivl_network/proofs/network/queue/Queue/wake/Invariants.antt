@@ -1,10 +1,14 @@
-use Rattle.std.proofs.Common.{◌≡◌}
+use Rattle.std.proofs.Common.{◌≡◌, ◌⊎◌, true}
+use Rattle.ivl_laws.specs.Families.{set_at}
+use Rattle.ivl_rules.specs.Rules.{needs_singles}
+use Rattle.ivl_network.specs.Families.{IsFixedBy}
+use Rattle.ivl_network.specs.Settled.{HasTwo}
 use Rattle.ivl_network.specs.Queue.{IsRuleQueue}
 use Rattle.ivl_network.proofs.Queues.{WokenSoFar}
 use Rattle.ivl_network.proofs.network.queue.Queue.wake.Given as goal
 
 abbrev pub invariant-loop-place : goal.invariant-loop-place
-invariant-loop-place l = IsRuleQueue l.self × WokenSoFar l.keeps_two l.rules l.variable l.fn.self.settled.items l.self.settled.items l.place × (l.self.round.items ≡ l.fn.self.round.items)
+invariant-loop-place g l = IsRuleQueue l.self × WokenSoFar l.rules l.variable (λ rule. IsFixedBy (set_at l.store) rule ⊎ ((l.only_lost ≡ true) × HasTwo (set_at l.store l.variable) × (needs_singles rule ≡ true))) l.fn.self.settled.items l.self.settled.items l.place × (l.self.round.items ≡ l.fn.self.round.items)
 
 abbrev pub decreases-loop-place : goal.decreases-loop-place
-decreases-loop-place l = l.place
+decreases-loop-place g l = l.place
