@@ -43,10 +43,10 @@ settles limit old new progress s complete used_up same waiting keeps greatest ma
 pub below_marked : (marked before : List Past) (now : Past) (mark : ℕ) → marked ≡ before ++ now ∷ [] → mark ≡ length before → mark < length marked
 below_marked marked before now mark e at = let n = length_push before now in let l = ap length e in omega (arith, n, l, at)
 
-pub undone_whole : (marked before : List Past) (now : Past) (mark : ℕ) (domains : List (List (ℤ × ℤ))) (constraints : List Constraint)
+pub undone_to_mark : (marked before : List Past) (now : Past) (mark : ℕ) (domains : List (List (ℤ × ℤ))) (constraints : List Constraint)
     → marked ≡ before ++ now ∷ [] → mark ≡ length before → HoldsAt (λ (past : Past). (domains ≡ past.domains) × (constraints ≡ past.constraints)) marked mark
     → (domains ≡ now.domains) × (constraints ≡ now.constraints)
-undone_whole marked before now mark domains constraints e at h =
+undone_to_mark marked before now mark domains constraints e at h =
     let is : get_or marked mark now ≡ now = ap (λ ms. get_or ms mark now) e ∙ get_or_push before now now mark (sym at) in
     let u = h now in
     (u.0 ∙ ap (λ (p : Past). p.domains) is, u.1 ∙ ap (λ (p : Past). p.constraints) is)

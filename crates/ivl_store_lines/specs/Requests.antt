@@ -3,6 +3,7 @@
 --     natural_of word      the number of i64 from 0 up that a word is; `None` if it is no such number
 --     request_of name words      what a command and the words after it ask for; none if they are not a request
 --     asked_of request      the request as the program keeps it
+--     asked_extreme extreme name      the request for the least or the greatest number of the variable with this name
 --     first_bad_number_of words      the first word that is not a number; `None` if all are numbers
 --     why_no_request name words      the fault of a command and the words after it that are no request
 --     needs_list name words      whether pairs may stand there, for which memory is needed
@@ -14,6 +15,8 @@ use Rattle.ivl_lines.specs.Numbers.{number_of, pairs_of}
 use Rattle.ivl_store_lines.specs.Faults.{Told, no_command, no_form, no_number}
 use Rattle.ivl_store_lines.specs.declared.request.Request.{Request}
 use Rattle.ivl_store_lines.specs.declared.request.Request.TheVariants as kept
+use Rattle.ivl_store_lines.specs.declared.solve.Extreme.{Extreme}
+use Rattle.ivl_store_lines.specs.declared.solve.Extreme.TheVariants.{Least, Greatest}
 
 pub data Asked : Type 0 where
   var : List ℕ → List (ℤ × ℤ) → Asked
@@ -106,6 +109,10 @@ asked_of (kept.Solve most) = solve most
 asked_of kept.Count = count
 asked_of (kept.Least name) = least name.now
 asked_of (kept.Greatest name) = greatest name.now
+
+abbrev pub asked_extreme : Extreme → List ℕ → Asked
+asked_extreme Least name = least name
+asked_extreme Greatest name = greatest name
 
 abbrev pub first_bad_number_of : List (List ℕ) → Option (List ℕ)
 first_bad_number_of words = find (λ word. is_none (number_of word)) words

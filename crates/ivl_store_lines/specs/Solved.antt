@@ -5,6 +5,8 @@
 --     HasNodes needed state      one node for each 500 of the limit are as many
 --     IsSolved most state text      the text shows solutions, none of them twice and no more than the nodes, and says how their search ended
 --     IsCounted state text      the text says how many solutions there are, no more than the nodes, and how their search ended
+--     IsExtremeAt extreme variable solves point      no solution gives the variable a smaller number than the point
+--         does, or a greater one, as the extreme is the least or the greatest
 --     IsBest best name state found end      the point found is the best solution for the variable with this name, if the search ended with all, and a
 --                       solution in any case
 --     ShowsBest best name state text      the text shows such a point, and says how the search ended
@@ -16,7 +18,9 @@ use Rattle.ivl_lines.specs.Lines.{with_newline}
 use Rattle.ivl_search.specs.declared.search.End.{End}
 use Rattle.ivl_search.specs.declared.search.End.TheVariants.{All, Solutions, Nodes}
 use Rattle.ivl_search.specs.Budget.{nodes_enough, nodes_for_best}
-use Rattle.ivl_search.specs.Points.{Finds, Solves}
+use Rattle.ivl_search.specs.Points.{Finds, IsGreatestAt, IsLeastAt, Solves}
+use Rattle.ivl_store_lines.specs.declared.solve.Extreme.{Extreme}
+use Rattle.ivl_store_lines.specs.declared.solve.Extreme.TheVariants.{Least, Greatest}
 use Rattle.ivl_store_lines.specs.Solving.{HasEmptyDomain, State, domain_range, variable_named}
 
 -- each variable with its number, after a separator, which is a space from the second on
@@ -63,6 +67,10 @@ pub record IsCounted (state : State) (text : List ℕ) : Type 0 where
   pub known : HasEmptyDomain state → end ≡ All
   pub enough : HasNodes (nodes_enough domain_range state.constraints state.domains) state → end ≢ Nodes
   pub shown : text ≡ codes "count " ++ with_newline (decimal (length points)) ++ end_line (length points) end
+
+abbrev pub IsExtremeAt : Extreme → ℕ → (List ℤ → Type 0) → List ℤ → Type 0
+IsExtremeAt Least = λ variable solves point. IsLeastAt variable solves point
+IsExtremeAt Greatest = λ variable solves point. IsGreatestAt variable solves point
 
 abbrev pub best_text : List (List ℕ) → Option (List ℤ) → End → List ℕ
 best_text names None end = end_line 0 end

@@ -1,6 +1,7 @@
 //! Narrows the domains of variables by sums `x + y = z`: reads lines and writes the answer to each.
 #![tactic(auto)]
 
+mod atomic;
 mod engine;
 mod fault;
 mod progress;
@@ -8,7 +9,6 @@ mod replies;
 mod request;
 mod solve;
 mod solver;
-mod whole;
 
 pub use engine::session;
 pub use ivl_lines::SessionFault;

@@ -94,6 +94,7 @@ fn first_variable<'a>(
 fn write_domain<W: Write>(writer: &mut W, name: &str, domain: &IntervalSet<i64>) -> io::Result<()>
     ensures { OnOk result (Appends (W.contents writer.old) (W.contents writer.new) (domain_line name.now domain.now)) }
 {
+    // for the prover: its runs are maximal
     domain.in_whole();
     writeln!(writer, "{} {domain}", Escaped(name))
 }

@@ -1,17 +1,29 @@
 //! The solutions of the constraints over the domains, as a search finds them within the limit of a line.
-ghost use Rattle.std.specs.Prelude.{◌≡◌, ◌≢◌, ◌<◌, ◌≤◌, ◌^◌, ◌-◌, ◌/◌, ℕ, ℤ, List, IfErr, IfOk, None, length, map, option_map};
-ghost use Rattle.ivl_search.specs.Budget.{nodes_enough};
-ghost use Rattle.ivl_search.specs.Points.{Finds, IsGreatestAt, IsLeastAt, Solves};
+ghost use Rattle.std.specs.Prelude.{◌≡◌, ◌≢◌, ◌<◌, ◌≤◌, ◌^◌, ◌-◌, ◌/◌, ℕ, ℤ, List, All, IfErr, IfNone, IfOk, IfSome, None, Some, length, map, option_map};
+ghost use Rattle.ivl_search.specs.Budget.{nodes_enough, nodes_for_best};
+ghost use Rattle.ivl_search.specs.Points.{Finds, Solves};
+ghost use Rattle.ivl_store.specs.Solutions.{AreDistinct};
 ghost use Rattle.ivl_store_lines.specs.Faults.{told_of};
-ghost use Rattle.ivl_store_lines.specs.Requests.{greatest as greatest_of, least as least_of};
-ghost use Rattle.ivl_store_lines.specs.Solved.{HasNodes, IsBest};
+ghost use Rattle.ivl_store_lines.specs.Requests.{show};
+ghost use Rattle.ivl_store_lines.specs.Solved.{HasNodes, IsBest, IsExtremeAt};
 ghost use Rattle.ivl_store_lines.specs.Solving.{HasEmptyDomain, fault_of, domain_range};
 
 use crate::fault::Fault;
 use crate::solver::Solver;
+use intervallum::interval_set::IntervalSet;
 use ivl_search::search;
-use ivl_search::search::{Best, End, Found, Limits, NARROWINGS_PER_NODE};
-use std::alloc::AllocError;
+use ivl_search::search::{Best, End, Found, Limits, NARROWINGS_PER_NODE, SearchFault};
+use ivl_store::store::Constraint;
+use std::alloc::{AllocError, Global};
+
+/// Which number of a variable a search is for.
+#[derive(Clone, Copy)]
+pub enum Extreme {
+    /// Its least one.
+    Least,
+    /// Its greatest one.
+    Greatest,
+}
 
 impl Solver {
     /// Returns solutions, `most` of them at most, and how their search ended.
@@ -54,55 +66,24 @@ impl Solver {
         }
     }
 
-    /// Returns a solution with the least number for a variable, and how the search for it ended. It has
-    /// fewer nodes than it may find solutions, so it never ends with [`End::Solutions`].
+    /// Returns a solution with the least or greatest number for a variable, and how the search for it
+    /// ended. It has fewer nodes than it may find solutions, so it never ends with
+    /// [`End::Solutions`].
     ///
     /// # Errors
     ///
     /// `Unknown` if no variable has the name, `Memory` if allocation fails.
-    pub fn least<'a>(&self, name: &'a str) -> Result<Best<i64>, Fault<'a>>
-        ensures best { IfOk result (λ best. IsBest IsLeastAt name.now self.now (option_map (λ point. point.items) best.point) best.end) }
-        ensures fault { IfErr result (λ fault. told_of fault ≡ fault_of (least_of name.now) self.now) }
+    pub fn best<'a>(&self, name: &'a str, extreme: Extreme) -> Result<Best<i64>, Fault<'a>>
+        ensures best { IfOk result (λ best. IsBest (IsExtremeAt extreme) name.now self.now (option_map (λ point. point.items) best.point) best.end) }
+        ensures fault { IfErr result (λ fault. told_of fault ≡ fault_of (show (Some name.now)) self.now) }
     {
         let variable = self.known(name)?;
         if self.has_empty() {
             return Ok(none());
         }
         let limits = self.limits(usize::MAX);
-        match search::least(
-            self.allocator(),
-            self.domains(),
-            self.constraints(),
-            variable,
-            limits,
-        ) {
-            Ok(best) => Ok(best),
-            Err(_) => Err(Fault::Memory),
-        }
-    }
-
-    /// Returns a solution with the greatest number for a variable, as [`Solver::least`] does one with
-    /// its least.
-    ///
-    /// # Errors
-    ///
-    /// Those of [`Solver::least`].
-    pub fn greatest<'a>(&self, name: &'a str) -> Result<Best<i64>, Fault<'a>>
-        ensures best { IfOk result (λ best. IsBest IsGreatestAt name.now self.now (option_map (λ point. point.items) best.point) best.end) }
-        ensures fault { IfErr result (λ fault. told_of fault ≡ fault_of (greatest_of name.now) self.now) }
-    {
-        let variable = self.known(name)?;
-        if self.has_empty() {
-            return Ok(none());
-        }
-        let limits = self.limits(usize::MAX);
-        match search::greatest(
-            self.allocator(),
-            self.domains(),
-            self.constraints(),
-            variable,
-            limits,
-        ) {
+        let (alloc, domains, constraints) = (self.allocator(), self.domains(), self.constraints());
+        match best_of(alloc, domains, constraints, variable, limits, extreme) {
             Ok(best) => Ok(best),
             Err(_) => Err(Fault::Memory),
         }
@@ -116,6 +97,29 @@ impl Solver {
     {
         let nodes = self.limit() / NARROWINGS_PER_NODE;
         Limits { solutions, nodes }
+    }
+}
+
+/// Searches for the solution with the extreme number.
+fn best_of(
+    alloc: Global,
+    domains: &[IntervalSet<i64>],
+    constraints: &[Constraint],
+    variable: usize,
+    limits: Limits,
+    extreme: Extreme,
+) -> Result<Best<i64>, SearchFault>
+    requires { All AreDistinct constraints.now }
+    ensures sound { IfOk result (λ best. IfSome best.point (λ point. Solves constraints.now domains.now (map (λ (x : ℤ). x) point.items))) }
+    ensures best { IfOk result (λ best. best.end ≡ End.All → IfSome best.point (λ point. IsExtremeAt extreme variable (Solves constraints.now domains.now) (map (λ (x : ℤ). x) point.items))) }
+    ensures none { IfOk result (λ best. best.end ≡ End.All → IfNone best.point ((point : List ℤ) → ¬ (Solves constraints.now domains.now point))) }
+    ensures bounded { IfOk result (λ best. IfSome best.point (λ _. (1 ≤ limits.solutions) × (1 ≤ limits.nodes))) }
+    ensures visited { IfOk result (λ best. best.end ≡ End.Solutions → limits.solutions ≤ limits.nodes) }
+    ensures enough { IfOk result (λ best. best.end ≡ End.Nodes → limits.nodes < nodes_for_best domain_range constraints.now domains.now) }
+{
+    match extreme {
+        Extreme::Least => search::least(alloc, domains, constraints, variable, limits),
+        Extreme::Greatest => search::greatest(alloc, domains, constraints, variable, limits),
     }
 }
 

@@ -8,10 +8,10 @@ ghost use Rattle.ivl_store_lines.specs.Faults.{told_of, unknown};
 ghost use Rattle.ivl_store_lines.specs.Requests.{asked_of, cut as cut_of, sum as sum_of, var as var_of};
 ghost use Rattle.ivl_store_lines.specs.Solving.{Adds, Carries, Cuts, Defines, Settles, fault_of, variable_named as index_in, range_fault};
 
+use crate::atomic::{require_atomically, restrict_atomically, settle_atomically};
 use crate::fault::Fault;
 use crate::progress::Progress;
 use crate::request::Request;
-use crate::whole::{require_whole, restrict_whole, settle_whole};
 use indexmap::IndexSet;
 use intervallum::interval::Interval;
 use intervallum::interval_set::{IntervalSet, ToIntervalSet};
@@ -241,7 +241,7 @@ impl Solver {
         ensures others { (self.new.names ≡ self.old.names) × (self.new.constraints ≡ self.old.constraints) × (self.new.limit ≡ self.old.limit) }
         ensures err { OnErr result (self.new ≡ self.old) }
     {
-        let progress = restrict_whole(&mut self.network, variable, allowed, self.limit)?;
+        let progress = restrict_atomically(&mut self.network, variable, allowed, self.limit)?;
         self.progress = progress;
         Ok(())
     }
@@ -254,7 +254,7 @@ impl Solver {
         ensures others { (self.new.names ≡ self.old.names) × (self.new.limit ≡ self.old.limit) }
         ensures err { OnErr result (self.new ≡ self.old) }
     {
-        let progress = require_whole(&mut self.network, sum, self.limit)?;
+        let progress = require_atomically(&mut self.network, sum, self.limit)?;
         self.progress = progress;
         Ok(())
     }
@@ -266,7 +266,7 @@ impl Solver {
         ensures others { (self.new.names ≡ self.old.names) × (self.new.constraints ≡ self.old.constraints) × (self.new.limit ≡ self.old.limit) }
         ensures err { OnErr result (self.new ≡ self.old) }
     {
-        let progress = settle_whole(&mut self.network, self.limit)?;
+        let progress = settle_atomically(&mut self.network, self.limit)?;
         self.progress = progress;
         Ok(())
     }

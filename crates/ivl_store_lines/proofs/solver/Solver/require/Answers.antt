@@ -7,4 +7,4 @@ pub invariant_of-self-2 : goal.invariant_of-self-2
 invariant_of-self-2 c = c.self.invariant ∙ sym c.in_ok-progress.ensures.kept_count
 
 pub returns-clause-required : goal.returns-clause-required
-returns-clause-required c = subst (λ (s : State). IsRequired c.args.sum s.constraints c.require_whole.new.network.constraints) c.self.view_is c.in_ok-progress.ensures.required
+returns-clause-required c = subst (λ (s : State). IsRequired c.args.sum s.constraints c.require_atomically.new.network.constraints) c.self.view_is c.in_ok-progress.ensures.required

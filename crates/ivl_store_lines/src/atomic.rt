@@ -1,4 +1,4 @@
-//! Lines that change the network, each carried out whole or not at all.
+//! Lines that change the network, each carried out as a whole or not at all.
 //!
 //! A network is marked before a line and taken back to the mark if an allocation fails.
 ghost use Rattle.std.specs.Prelude.{◌≡◌, ◌<◌, ℤ, List, HoldsAt, IfOk, OnErr, OnOk, length};
@@ -15,7 +15,7 @@ use ivl_store::store::Constraint;
 use std::alloc::AllocError;
 
 /// Cuts a domain and narrows all, within the limit.
-pub fn restrict_whole(
+pub fn restrict_atomically(
     network: &mut Network<i64>,
     variable: usize,
     allowed: &IntervalSet<i64>,
@@ -41,7 +41,7 @@ pub fn restrict_whole(
 }
 
 /// Adds a constraint and narrows the domains, within the limit.
-pub fn require_whole(
+pub fn require_atomically(
     network: &mut Network<i64>,
     sum: Constraint,
     limit: u64,
@@ -66,7 +66,7 @@ pub fn require_whole(
 }
 
 /// Narrows the domains by the constraints, within the limit.
-pub fn settle_whole(network: &mut Network<i64>, limit: u64) -> Result<Progress, AllocError>
+pub fn settle_atomically(network: &mut Network<i64>, limit: u64) -> Result<Progress, AllocError>
     ensures constraints { network.new.constraints ≡ network.old.constraints }
     ensures settled { IfOk result (λ p. Settles limit network.old.constraints network.old.domains network.new.domains p) }
     ensures kept_count { OnOk result (length network.new.domains ≡ length network.old.domains) }
@@ -85,7 +85,7 @@ fn settle_to(network: &mut Network<i64>, mark: usize, limit: u64) -> Result<Prog
     ensures kept_count { OnOk result (length network.new.domains ≡ length network.old.domains) }
     ensures undone { OnErr result (HoldsAt (λ past. (network.new.domains ≡ past.domains) × (network.new.constraints ≡ past.constraints)) network.old.marked mark) }
 {
-    // No more constraints have to be looked at than there are.
+    // for the prover: no more constraints are unsettled than there are
     network.constraints();
     match network.settle_within(limit) {
         Ok(reached) => {

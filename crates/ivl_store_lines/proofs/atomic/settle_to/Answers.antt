@@ -2,7 +2,7 @@ use Rattle.std.proofs.Common.{◌≡◌, ◌∙◌, ◌<◌, ap, get_or, length,
 use Rattle.ivl_store.specs.Network.{NetworkState}
 use Rattle.ivl_store_lines.specs.Solving.{Settles}
 use Rattle.ivl_store_lines.proofs.Settling.{settles}
-use Rattle.ivl_store_lines.proofs.whole.settle_to.Goals as goal
+use Rattle.ivl_store_lines.proofs.atomic.settle_to.Goals as goal
 
 pub returns-in-Ok-clause-settled : goal.returns-in-Ok-clause-settled
 returns-in-Ok-clause-settled c =

@@ -2,8 +2,8 @@ use Rattle.std.proofs.Common.{◌∙◌, List, ap, length}
 use Rattle.std.specs.Prelude.{ℤ}
 use Rattle.ivl_store.specs.Network.{NetworkState}
 use Rattle.ivl_store.proofs.Steps.{on_err}
-use Rattle.ivl_store_lines.proofs.Settling.{below_marked, undone_whole}
-use Rattle.ivl_store_lines.proofs.whole.require_whole.Goals as goal
+use Rattle.ivl_store_lines.proofs.Settling.{below_marked, undone_to_mark}
+use Rattle.ivl_store_lines.proofs.atomic.require_atomically.Goals as goal
 
 pub settle_to-requires : goal.settle_to-requires
 settle_to-requires c =
@@ -12,7 +12,7 @@ settle_to-requires c =
 
 pub returns-in_err-progress-in-Ok-clause-refused : goal.returns-in_err-progress-in-Ok-clause-refused
 returns-in_err-progress-in-Ok-clause-refused c = on_err _ _
-    (undone_whole c.require.new.self.marked c.args.network.now.marked _ c.in_ok-mark.mark _ _ (c.require.ensures.marked ∙ ap (λ (n : NetworkState). n.marked) c.in_ok-mark.ensures.marked)
+    (undone_to_mark c.require.new.self.marked c.args.network.now.marked _ c.in_ok-mark.mark _ _ (c.require.ensures.marked ∙ ap (λ (n : NetworkState). n.marked) c.in_ok-mark.ensures.marked)
     c.in_ok-mark.ensures.index c.in_err-progress-in-Ok.ensures.undone)
 
 pub returns-in_ok-progress-in-Ok-clause-kept_count : goal.returns-in_ok-progress-in-Ok-clause-kept_count

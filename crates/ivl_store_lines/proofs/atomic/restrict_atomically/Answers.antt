@@ -4,8 +4,8 @@ use Rattle.ivl_laws.specs.Runs.{Covers}
 use Rattle.ivl_store.specs.Network.{IsCutAt, NetworkState}
 use Rattle.ivl_store.proofs.Steps.{on_err}
 use Rattle.ivl_store_lines.specs.Solving.{Settles}
-use Rattle.ivl_store_lines.proofs.Settling.{below_marked, undone_whole}
-use Rattle.ivl_store_lines.proofs.whole.restrict_whole.Goals as goal
+use Rattle.ivl_store_lines.proofs.Settling.{below_marked, undone_to_mark}
+use Rattle.ivl_store_lines.proofs.atomic.restrict_atomically.Goals as goal
 
 pub settle_to-requires : goal.settle_to-requires
 settle_to-requires c =
@@ -14,7 +14,7 @@ settle_to-requires c =
 
 pub returns-in_err-progress-in-Ok-clause-refused : goal.returns-in_err-progress-in-Ok-clause-refused
 returns-in_err-progress-in-Ok-clause-refused c = on_err _ _
-    (undone_whole c.restrict.new.self.marked c.args.network.now.marked _ c.in_ok-mark.mark _ _ (c.restrict.ensures.marked ∙ ap (λ (n : NetworkState). n.marked) c.in_ok-mark.ensures.marked)
+    (undone_to_mark c.restrict.new.self.marked c.args.network.now.marked _ c.in_ok-mark.mark _ _ (c.restrict.ensures.marked ∙ ap (λ (n : NetworkState). n.marked) c.in_ok-mark.ensures.marked)
     c.in_ok-mark.ensures.index c.in_err-progress-in-Ok.ensures.undone)
 
 pub returns-in_ok-progress-in-Ok-clause-cut : goal.returns-in_ok-progress-in-Ok-clause-cut
