@@ -6,7 +6,7 @@ use Rattle.ivl_lines.specs.Lines.{with_newline}
 use Rattle.ivl_search.specs.declared.search.End.{End}
 use Rattle.ivl_search.specs.declared.search.End.TheVariants.{All as AllFound, Nodes, Solutions}
 use Rattle.ivl_search.specs.Budget.{nodes_enough}
-use Rattle.ivl_search.specs.Points.{Finds, Solves}
+use Rattle.ivl_search.specs.Points.{Finds, SolvesRules}
 use Rattle.ivl_store_lines.specs.declared.solve.Extreme.{Extreme}
 use Rattle.ivl_store_lines.specs.declared.solve.Extreme.TheVariants.{Least, Greatest}
 use Rattle.ivl_store_lines.specs.Answering.{AnswersAsked, AnswersRead}
@@ -34,8 +34,8 @@ no_request None name words None old none fault memory = (inr (memory refl, refl)
 no_request None name words (Some asked) old none fault memory = inr (inr (refl, refl))
 
 pub solved : {V : Type 0} → (numbers : V → List ℤ) (most : ℕ) (old : State) (names : List (List ℕ)) (points : List V) (end : End)
-    → names ≡ old.names → Finds (Solves old.constraints old.domains) (map numbers points) end → length points ≤ most → length points ≤ old.limit / 500
-    → (end ≡ Solutions → length points ≡ most) → (HasEmptyDomain old → end ≡ AllFound) → (HasNodes (nodes_enough domain_range old.constraints old.domains) old → end ≢ Nodes)
+    → names ≡ old.names → Finds (SolvesRules old.rules old.domains) (map numbers points) end → length points ≤ most → length points ≤ old.limit / 500
+    → (end ≡ Solutions → length points ≡ most) → (HasEmptyDomain old → end ≡ AllFound) → (HasNodes (nodes_enough domain_range old.rules old.domains) old → end ≢ Nodes)
     → AnswersAsked old (solve most) (point_lines names (map numbers points) ++ end_line (length points) end) old
 solved numbers most old names points end named finds few visited full known enough =
     inl (
@@ -55,8 +55,8 @@ solved numbers most old names points end named finds few visited full known enou
     )
 
 pub counted : (old : State) (points : List (List ℤ)) (found : ℕ) (end : End)
-    → length points ≡ found → Finds (Solves old.constraints old.domains) points end → found ≤ old.limit / 500 → (end ≡ Solutions → found ≡ 2 ^ 64 - 1)
-    → (HasEmptyDomain old → end ≡ AllFound) → (HasNodes (nodes_enough domain_range old.constraints old.domains) old → end ≢ Nodes)
+    → length points ≡ found → Finds (SolvesRules old.rules old.domains) points end → found ≤ old.limit / 500 → (end ≡ Solutions → found ≡ 2 ^ 64 - 1)
+    → (HasEmptyDomain old → end ≡ AllFound) → (HasNodes (nodes_enough domain_range old.rules old.domains) old → end ≢ Nodes)
     → AnswersAsked old count (codes "count " ++ with_newline (decimal found) ++ end_line found end) old
 counted old points found end as_many finds visited full known enough =
     inl (

@@ -1,12 +1,12 @@
--- What carrying out a request does to the variables, their domains, and the constraints between them.
---     State      one name and one domain for each variable, the constraints, what the narrowings of a line may count
+-- What carrying out a request does to the variables, their domains, and the rules between them.
+--     State      one name and one domain for each variable, the rules, what the narrowings of a line may count
 --         for, and how far the domains are narrowed: `Complete`, or stopped by the `Budget`
 --     variable_named names name      the index of the variable with this name
 --     HasEmptyDomain state      some domain is empty, so that there is no solution
 --     domain_range      the least and the greatest number that a domain may hold
---     Settles limit cs before after progress      narrowings by the constraints that count for no more than the limit
---         (`AreCounted`) lead from the one domains to the others, which keep each supported family; if the limit
---         stopped it, one more would count for more than is left; each but for one by each constraint removes a
+--     Settles limit rules before after progress      narrowings by the rules that count for no more than the limit
+--         (`AreRulesCounted`) lead from the one domains to the others, which keep each supported family; if the limit
+--         stopped it, one more would count for more than is left; each but for one by each rule removes a
 --         member; to the greatest supported family if it is complete
 --     Carries asked old new      the request takes the solver from `old` to `new`: `Defines` adds a name and a
 --         domain, `Cuts` and `Adds` cut a domain or require a sum and then narrow (`Settles`), all or nothing,
@@ -21,11 +21,13 @@ use Rattle.ivl_lines.specs.Numbers.{is_in_range}
 use Rattle.ivl_laws.specs.Runs.{Covers, IsRunsOf}
 use Rattle.ivl_laws.specs.Families.{set_at}
 use Rattle.ivl_store.specs.declared.store.constraint.Constraint.{Constraint}
-use Rattle.ivl_store.specs.Costs.{AreCounted, cost_of}
 use Rattle.ivl_store.specs.Measure.{total}
-use Rattle.ivl_store.specs.Narrowing.{Keeps}
-use Rattle.ivl_store.specs.Network.{IsCutAt, IsRequired}
-use Rattle.ivl_store.specs.Solutions.{IsGreatestFamily}
+use Rattle.ivl_store.specs.Network.{IsCutAt}
+use Rattle.ivl_rules.specs.declared.rules.Rule.{Rule}
+use Rattle.ivl_rules.specs.declared.rules.Rule.TheVariants.{Sum}
+use Rattle.ivl_network.specs.Costs.{AreRulesCounted, cost_of_rule}
+use Rattle.ivl_network.specs.Families.{IsGreatestUnder, KeepsUnder}
+use Rattle.ivl_network.specs.Network.{IsRuleRequired}
 use Rattle.ivl_store_lines.specs.declared.progress.Progress.{Progress}
 use Rattle.ivl_store_lines.specs.declared.progress.Progress.TheVariants.{Complete, Budget}
 use Rattle.ivl_store_lines.specs.Faults.{Told, out_of_range, unknown, defined, repeated}
@@ -35,7 +37,7 @@ use Rattle.ivl_store_lines.specs.Requests.{Asked, var, cut, sum, limit, go_on, s
 pub record State : Type 0 where
   pub names : List (List ℕ)
   pub domains : List (List (ℤ × ℤ))
-  pub constraints : List Constraint
+  pub rules : List Rule
   pub limit : ℕ
   pub progress : Progress
 
@@ -49,25 +51,25 @@ abbrev pub domain_range : ℤ × ℤ
 domain_range = (negsuc (2 ^ 63 - 2), pos (2 ^ 63 - 1))
 
 -- no supported family loses a member; if the limit stopped it, one more narrowing would count for more than is left; each narrowing removes a
--- member, but for one by each constraint
-pub record Settles (limit : ℕ) (constraints : List Constraint) (before after : List (List (ℤ × ℤ))) (progress : Progress) : Type 0 where
-  pub by : List Constraint
+-- member, but for one by each rule
+pub record Settles (limit : ℕ) (rules : List Rule) (before after : List (List (ℤ × ℤ))) (progress : Progress) : Type 0 where
+  pub by : List Rule
   pub cost : ℕ
-  pub counted : AreCounted constraints by cost before after
+  pub counted : AreRulesCounted rules by cost before after
   pub within_limit : cost ≤ limit
-  pub keeps : Keeps constraints before after
-  pub complete : progress ≡ Complete → IsGreatestFamily constraints (set_at before) (set_at after)
-  pub used_up : progress ≡ Budget → (next : Constraint) × Contains constraints next × (limit < cost + cost_of next after)
-  pub fewer : length by + total domain_range after * (length constraints + 1) ≤ total domain_range before * (length constraints + 1) + length constraints
+  pub keeps : KeepsUnder rules before after
+  pub complete : progress ≡ Complete → IsGreatestUnder rules (set_at before) (set_at after)
+  pub used_up : progress ≡ Budget → (next : Rule) × Contains rules next × (limit < cost + cost_of_rule next after)
+  pub fewer : length by + total domain_range after * (length rules + 1) ≤ total domain_range before * (length rules + 1) + length rules
 
 -- one more variable, whose domain is the union of the pairs
 pub record Defines (name : List ℕ) (pairs : List (ℤ × ℤ)) (old new : State) : Type 0 where
   pub is_new : variable_named old.names name ≡ None
   pub domain : List (ℤ × ℤ)
   pub is_union : IsRunsOf domain (Covers pairs)
-  pub added : new ≡ record { names = old.names ++ name ∷ []; domains = old.domains ++ domain ∷ []; constraints = old.constraints; limit = old.limit; progress = old.progress }
+  pub added : new ≡ record { names = old.names ++ name ∷ []; domains = old.domains ++ domain ∷ []; rules = old.rules; limit = old.limit; progress = old.progress }
 
--- the domain is cut, and then the constraints narrow all domains
+-- the domain is cut, and then the rules narrow all domains
 pub record Cuts (name : List ℕ) (pairs : List (ℤ × ℤ)) (old new : State) : Type 0 where
   pub variable : ℕ
   pub named : variable_named old.names name ≡ Some variable
@@ -75,31 +77,31 @@ pub record Cuts (name : List ℕ) (pairs : List (ℤ × ℤ)) (old new : State) 
   pub is_union : IsRunsOf allowed (Covers pairs)
   pub cut : List (List (ℤ × ℤ))
   pub is_cut : IsCutAt variable (Covers allowed) (set_at old.domains) (set_at cut)
-  pub settled : Settles new.limit new.constraints cut new.domains new.progress
+  pub settled : Settles new.limit new.rules cut new.domains new.progress
   pub names : new.names ≡ old.names
-  pub constraints : new.constraints ≡ old.constraints
+  pub rules : new.rules ≡ old.rules
   pub limit : new.limit ≡ old.limit
 
--- the sum is one of the constraints from now on, and they narrow all domains
+-- the sum is one of the rules from now on, and they narrow all domains
 pub record Adds (x y z : List ℕ) (old new : State) : Type 0 where
   pub sum : Constraint
   pub named_x : variable_named old.names x ≡ Some sum.x
   pub named_y : variable_named old.names y ≡ Some sum.y
   pub named_z : variable_named old.names z ≡ Some sum.z
-  pub required : IsRequired sum old.constraints new.constraints
-  pub settled : Settles new.limit new.constraints old.domains new.domains new.progress
+  pub required : IsRuleRequired (Sum sum) old.rules new.rules
+  pub settled : Settles new.limit new.rules old.domains new.domains new.progress
   pub names : new.names ≡ old.names
   pub limit : new.limit ≡ old.limit
 
--- the constraints narrow all domains further
+-- the rules narrow all domains further
 pub record GoesOn (old new : State) : Type 0 where
-  pub settled : Settles new.limit new.constraints old.domains new.domains new.progress
+  pub settled : Settles new.limit new.rules old.domains new.domains new.progress
   pub names : new.names ≡ old.names
-  pub constraints : new.constraints ≡ old.constraints
+  pub rules : new.rules ≡ old.rules
   pub limit : new.limit ≡ old.limit
 
 abbrev pub Limits : ℕ → State → State → Type 0
-Limits n old new = new ≡ record { names = old.names; domains = old.domains; constraints = old.constraints; limit = n; progress = old.progress }
+Limits n old new = new ≡ record { names = old.names; domains = old.domains; rules = old.rules; limit = n; progress = old.progress }
 
 abbrev pub Carries : Asked → State → State → Type 0
 Carries (var name pairs) old new = Defines name pairs old new

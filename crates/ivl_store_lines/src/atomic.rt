@@ -4,14 +4,15 @@
 ghost use Rattle.std.specs.Prelude.{◌≡◌, ◌<◌, ℤ, List, HoldsAt, IfOk, OnErr, OnOk, length};
 ghost use Rattle.ivl_laws.specs.Families.{set_at};
 ghost use Rattle.ivl_laws.specs.Runs.{Covers};
-ghost use Rattle.ivl_store.specs.Network.{IsCutAt, IsRequired};
-ghost use Rattle.ivl_store.specs.Solutions.{AreDistinct};
+ghost use Rattle.ivl_store.specs.Network.{IsCutAt};
+ghost use Rattle.ivl_rules.specs.Rules.{AreDifferent};
+ghost use Rattle.ivl_network.specs.Network.{IsRuleRequired};
 ghost use Rattle.ivl_store_lines.specs.Solving.{Settles};
 
 use crate::progress::Progress;
 use intervallum::interval_set::IntervalSet;
-use ivl_store::network::{Network, Settled};
-use ivl_store::store::Constraint;
+use ivl_network::network::{Network, Settled};
+use ivl_rules::rules::Rule;
 use std::alloc::AllocError;
 
 /// Cuts a domain and narrows all, within the limit.
@@ -22,10 +23,10 @@ pub fn restrict_atomically(
     limit: u64,
 ) -> Result<Progress, AllocError>
     ensures cut { IfOk result (λ p. (cut : List (List (ℤ × ℤ))) × IsCutAt variable (Covers allowed.now) (set_at network.old.domains) (set_at cut)
-        × Settles limit network.old.constraints cut network.new.domains p) }
-    ensures constraints { OnOk result (network.new.constraints ≡ network.old.constraints) }
+        × Settles limit network.old.rules cut network.new.domains p) }
+    ensures rules { OnOk result (network.new.rules ≡ network.old.rules) }
     ensures kept_count { OnOk result (length network.new.domains ≡ length network.old.domains) }
-    ensures refused { OnErr result ((network.new.domains ≡ network.old.domains) × (network.new.constraints ≡ network.old.constraints)) }
+    ensures refused { OnErr result ((network.new.domains ≡ network.old.domains) × (network.new.rules ≡ network.old.rules)) }
 {
     let mark = network.mark()?;
     match network.restrict(variable, allowed) {
@@ -40,20 +41,20 @@ pub fn restrict_atomically(
     }
 }
 
-/// Adds a constraint and narrows the domains, within the limit.
+/// Adds a rule and narrows the domains, within the limit.
 pub fn require_atomically(
     network: &mut Network<i64>,
-    sum: Constraint,
+    rule: Rule,
     limit: u64,
 ) -> Result<Progress, AllocError>
-    requires distinct { AreDistinct sum }
-    ensures required { OnOk result (IsRequired sum network.old.constraints network.new.constraints) }
-    ensures settled { IfOk result (λ p. Settles limit network.new.constraints network.old.domains network.new.domains p) }
+    requires different { AreDifferent rule }
+    ensures required { OnOk result (IsRuleRequired rule network.old.rules network.new.rules) }
+    ensures settled { IfOk result (λ p. Settles limit network.new.rules network.old.domains network.new.domains p) }
     ensures kept_count { OnOk result (length network.new.domains ≡ length network.old.domains) }
-    ensures refused { OnErr result ((network.new.domains ≡ network.old.domains) × (network.new.constraints ≡ network.old.constraints)) }
+    ensures refused { OnErr result ((network.new.domains ≡ network.old.domains) × (network.new.rules ≡ network.old.rules)) }
 {
     let mark = network.mark()?;
-    match network.require(sum) {
+    match network.require(rule) {
         Ok(()) => {
             let progress = settle_to(network, mark, limit)?;
             Ok(progress)
@@ -65,10 +66,10 @@ pub fn require_atomically(
     }
 }
 
-/// Narrows the domains by the constraints, within the limit.
+/// Narrows the domains by the rules, within the limit.
 pub fn settle_atomically(network: &mut Network<i64>, limit: u64) -> Result<Progress, AllocError>
-    ensures constraints { network.new.constraints ≡ network.old.constraints }
-    ensures settled { IfOk result (λ p. Settles limit network.old.constraints network.old.domains network.new.domains p) }
+    ensures rules { network.new.rules ≡ network.old.rules }
+    ensures settled { IfOk result (λ p. Settles limit network.old.rules network.old.domains network.new.domains p) }
     ensures kept_count { OnOk result (length network.new.domains ≡ length network.old.domains) }
     ensures refused { OnErr result (network.new.domains ≡ network.old.domains) }
 {
@@ -80,13 +81,13 @@ pub fn settle_atomically(network: &mut Network<i64>, limit: u64) -> Result<Progr
 /// Narrows the domains and drops the mark, or takes the network back to it.
 fn settle_to(network: &mut Network<i64>, mark: usize, limit: u64) -> Result<Progress, AllocError>
     requires { mark < length network.old.marked }
-    ensures constraints { OnOk result (network.new.constraints ≡ network.old.constraints) }
-    ensures settled { IfOk result (λ p. Settles limit network.old.constraints network.old.domains network.new.domains p) }
+    ensures rules { OnOk result (network.new.rules ≡ network.old.rules) }
+    ensures settled { IfOk result (λ p. Settles limit network.old.rules network.old.domains network.new.domains p) }
     ensures kept_count { OnOk result (length network.new.domains ≡ length network.old.domains) }
-    ensures undone { OnErr result (HoldsAt (λ past. (network.new.domains ≡ past.domains) × (network.new.constraints ≡ past.constraints)) network.old.marked mark) }
+    ensures undone { OnErr result (HoldsAt (λ past. (network.new.domains ≡ past.domains) × (network.new.rules ≡ past.rules)) network.old.marked mark) }
 {
-    // for the prover: no more constraints are unsettled than there are
-    network.constraints();
+    // for the prover: no more rules are unsettled than there are
+    network.rules();
     match network.settle_within(limit) {
         Ok(reached) => {
             network.drop_marks(mark);

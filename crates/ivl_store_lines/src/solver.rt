@@ -1,9 +1,10 @@
-//! The variables by name, their domains, and the sums that hold between them.
+//! The variables by name, their domains, and the rules that hold between them.
 ghost use Rattle.std.specs.Prelude.{◌≡◌, ◌∷◌, ◌++◌, ◌↔◌, ◌<◌, ℕ, ℤ, List, [], Some, All, Any, IfErr, IfOk, IfSome, IsSome, IsTrue, None, Ok, OnErr, OnOk, get_or, length, map, string_bytes};
 ghost use Rattle.ivl_laws.specs.Runs.{Covers, IsRunsOf};
 ghost use Rattle.ivl_laws.specs.Families.{set_at};
-ghost use Rattle.ivl_store.specs.Network.{IsCutAt, IsRequired};
-ghost use Rattle.ivl_store.specs.Solutions.{AreDistinct};
+ghost use Rattle.ivl_store.specs.Network.{IsCutAt};
+ghost use Rattle.ivl_rules.specs.Rules.{AreDifferent};
+ghost use Rattle.ivl_network.specs.Network.{IsRuleRequired};
 ghost use Rattle.ivl_store_lines.specs.Faults.{told_of, unknown};
 ghost use Rattle.ivl_store_lines.specs.Requests.{asked_of, cut as cut_of, sum as sum_of, var as var_of};
 ghost use Rattle.ivl_store_lines.specs.Solving.{Adds, Carries, Cuts, Defines, Settles, fault_of, variable_named as index_in, range_fault};
@@ -15,13 +16,14 @@ use crate::request::Request;
 use indexmap::IndexSet;
 use intervallum::interval::Interval;
 use intervallum::interval_set::{IntervalSet, ToIntervalSet};
-use ivl_store::network::Network;
+use ivl_network::network::Network;
+use ivl_rules::rules::Rule;
 use ivl_store::store::Constraint;
 use std::alloc::{AllocError, Global};
 use std::collections::hash_map::RandomState;
 use std::marker::Model;
 
-/// The variables by name, their domains, and the sums that hold between them. A contract sees the
+/// The variables by name, their domains, and the rules that hold between them. A contract sees the
 /// three lists.
 #[derive(Drop)]
 pub struct Solver {
@@ -39,7 +41,7 @@ impl Model for Solver {
 
     ghost Value = { State };
 
-    ghost view = { λ s. record { names = map string_bytes s.names.keys; domains = s.network.domains; constraints = s.network.constraints; limit = s.limit; progress = s.progress } };
+    ghost view = { λ s. record { names = map string_bytes s.names.keys; domains = s.network.domains; rules = s.network.rules; limit = s.limit; progress = s.progress } };
 
     ghost invariant = { λ s. length s.names.keys ≡ length s.network.domains };
 }
@@ -48,7 +50,7 @@ impl Solver {
     /// Creates a solver without variables, with a limit of a million. Looks names up by hashes with
     /// these keys. Does not allocate.
     pub fn new(alloc: Global, keys: RandomState) -> Solver
-        ensures { result ≡ record { names = []; domains = []; constraints = []; limit = 1000000; progress = Progress.Complete } }
+        ensures { result ≡ record { names = []; domains = []; rules = []; limit = 1000000; progress = Progress.Complete } }
     {
         Solver {
             alloc,
@@ -105,12 +107,12 @@ impl Solver {
         self.network.domains()
     }
 
-    /// Returns the constraints, in the order in which they were first required.
-    pub fn constraints(&self) -> &[Constraint]
-        ensures same { result.now ≡ self.now.constraints }
-        ensures distinct { All AreDistinct self.now.constraints }
+    /// Returns the rules, in the order in which they were first required.
+    pub fn rules(&self) -> &[Rule]
+        ensures same { result.now ≡ self.now.rules }
+        ensures different { All AreDifferent self.now.rules }
     {
-        self.network.constraints()
+        self.network.rules()
     }
 
     /// Returns the domain of the variable that has this name.
@@ -166,7 +168,7 @@ impl Solver {
     /// Adds a variable. If allocation fails, nothing changes.
     fn add(&mut self, name: &str, domain: IntervalSet<i64>) -> Result<(), AllocError>
         requires { index_in self.old.names name.now ≡ None }
-        ensures ok { OnOk result (self.new ≡ record { names = self.old.names ++ name.now ∷ []; domains = self.old.domains ++ domain ∷ []; constraints = self.old.constraints; limit = self.old.limit; progress = self.old.progress }) }
+        ensures ok { OnOk result (self.new ≡ record { names = self.old.names ++ name.now ∷ []; domains = self.old.domains ++ domain ∷ []; rules = self.old.rules; limit = self.old.limit; progress = self.old.progress }) }
         ensures err { OnErr result (self.new ≡ self.old) }
     {
         let count = self.names.len();
@@ -208,7 +210,7 @@ impl Solver {
         if !sum.distinct() {
             return Err(Fault::Repeated(if sum.x == sum.y { x } else { z }));
         }
-        self.require(sum)?;
+        self.require(Rule::Sum(sum))?;
         Ok(())
     }
 
@@ -237,8 +239,8 @@ impl Solver {
     /// Cuts a domain, and narrows all. If allocation fails, nothing changes.
     fn restrict(&mut self, variable: usize, allowed: &IntervalSet<i64>) -> Result<(), AllocError>
         ensures cut { OnOk result ((cut : List (List (ℤ × ℤ))) × IsCutAt variable (Covers allowed.now) (set_at self.old.domains) (set_at cut)
-            × Settles self.new.limit self.new.constraints cut self.new.domains self.new.progress) }
-        ensures others { (self.new.names ≡ self.old.names) × (self.new.constraints ≡ self.old.constraints) × (self.new.limit ≡ self.old.limit) }
+            × Settles self.new.limit self.new.rules cut self.new.domains self.new.progress) }
+        ensures others { (self.new.names ≡ self.old.names) × (self.new.rules ≡ self.old.rules) × (self.new.limit ≡ self.old.limit) }
         ensures err { OnErr result (self.new ≡ self.old) }
     {
         let progress = restrict_atomically(&mut self.network, variable, allowed, self.limit)?;
@@ -246,24 +248,24 @@ impl Solver {
         Ok(())
     }
 
-    /// Adds a constraint, and narrows the domains. If allocation fails, nothing changes.
-    fn require(&mut self, sum: Constraint) -> Result<(), AllocError>
-        requires distinct { AreDistinct sum }
-        ensures required { OnOk result (IsRequired sum self.old.constraints self.new.constraints) }
-        ensures settled { OnOk result (Settles self.new.limit self.new.constraints self.old.domains self.new.domains self.new.progress) }
+    /// Adds a rule, and narrows the domains. If allocation fails, nothing changes.
+    fn require(&mut self, rule: Rule) -> Result<(), AllocError>
+        requires different { AreDifferent rule }
+        ensures required { OnOk result (IsRuleRequired rule self.old.rules self.new.rules) }
+        ensures settled { OnOk result (Settles self.new.limit self.new.rules self.old.domains self.new.domains self.new.progress) }
         ensures others { (self.new.names ≡ self.old.names) × (self.new.limit ≡ self.old.limit) }
         ensures err { OnErr result (self.new ≡ self.old) }
     {
-        let progress = require_atomically(&mut self.network, sum, self.limit)?;
+        let progress = require_atomically(&mut self.network, rule, self.limit)?;
         self.progress = progress;
         Ok(())
     }
 
-    /// Narrows the domains by the constraints, within the limit. If allocation fails, nothing
+    /// Narrows the domains by the rules, within the limit. If allocation fails, nothing
     /// changes.
     fn settle(&mut self) -> Result<(), AllocError>
-        ensures settled { OnOk result (Settles self.new.limit self.new.constraints self.old.domains self.new.domains self.new.progress) }
-        ensures others { (self.new.names ≡ self.old.names) × (self.new.constraints ≡ self.old.constraints) × (self.new.limit ≡ self.old.limit) }
+        ensures settled { OnOk result (Settles self.new.limit self.new.rules self.old.domains self.new.domains self.new.progress) }
+        ensures others { (self.new.names ≡ self.old.names) × (self.new.rules ≡ self.old.rules) × (self.new.limit ≡ self.old.limit) }
         ensures err { OnErr result (self.new ≡ self.old) }
     {
         let progress = settle_atomically(&mut self.network, self.limit)?;
