@@ -4,6 +4,7 @@
 mod engine;
 mod fault;
 mod progress;
+mod relation;
 mod replies;
 mod request;
 mod solve;
