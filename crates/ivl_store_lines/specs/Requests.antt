@@ -12,7 +12,9 @@
 --     is_no_word words      there is no word
 use Rattle.std.specs.Prelude.{◌^◌, ◌-◌, ℕ, ℤ, pos, nat_le, negsuc, Bool, true, false, not, ◌&&◌, ◌||◌, List, [], ◌∷◌, bytes_eq, codes, find, if◌then◌else◌, is_none, Option, None, Some, option_and_then, option_map}
 use Rattle.ivl_lines.specs.Numbers.{number_of, pairs_of}
+use Rattle.ivl_lines.specs.Words.{words_between}
 use Rattle.ivl_store_lines.specs.Faults.{Told, no_command, no_form, no_number}
+use Rattle.ivl_store_lines.specs.declared.relation.Relation.{Relation}
 use Rattle.ivl_store_lines.specs.declared.request.Request.{Request}
 use Rattle.ivl_store_lines.specs.declared.request.Request.TheVariants as kept
 use Rattle.ivl_store_lines.specs.declared.solve.Extreme.{Extreme}
@@ -22,6 +24,8 @@ pub data Asked : Type 0 where
   var : List ℕ → List (ℤ × ℤ) → Asked
   cut : List ℕ → List (ℤ × ℤ) → Asked
   sum : List ℕ → List ℕ → List ℕ → Asked
+  relate : Relation → List ℕ → List ℕ → ℤ → Asked
+  different : List (List ℕ) → Asked
   limit : ℕ → Asked
   go_on : Asked
   show : Option (List ℕ) → Asked
@@ -102,6 +106,8 @@ abbrev pub asked_of : Request → Asked
 asked_of (kept.Var name pairs) = var name.now pairs.items
 asked_of (kept.Cut name pairs) = cut name.now pairs.items
 asked_of (kept.Sum x y z) = sum x.now y.now z.now
+asked_of (kept.Relate relation x y by) = relate relation x.now y.now by
+asked_of (kept.Different names) = different (words_between names.now)
 asked_of (kept.Limit n) = limit n
 asked_of kept.GoOn = go_on
 asked_of (kept.Show name) = show (option_map (λ word. word.now) name)

@@ -5,6 +5,7 @@ mod atomic;
 mod engine;
 mod fault;
 mod progress;
+mod relation;
 mod replies;
 mod request;
 mod solve;
