@@ -1,12 +1,12 @@
 //! Lines that change the network, each carried out as a whole or not at all.
 //!
 //! A network is marked before a line and taken back to the mark if an allocation fails.
-ghost use Rattle.std.specs.Prelude.{◌≡◌, ◌<◌, ℤ, List, HoldsAt, IfOk, OnErr, OnOk, length};
+ghost use Rattle.std.specs.Prelude.{◌≡◌, ◌<◌, ℤ, List, All, HoldsAt, IfOk, OnErr, OnOk, length};
 ghost use Rattle.ivl_laws.specs.Families.{set_at};
 ghost use Rattle.ivl_laws.specs.Runs.{Covers};
 ghost use Rattle.ivl_store.specs.Network.{IsCutAt};
 ghost use Rattle.ivl_rules.specs.Rules.{AreDifferent};
-ghost use Rattle.ivl_network.specs.Network.{IsRuleRequired};
+ghost use Rattle.ivl_store_lines.specs.Required.{AreRequired};
 ghost use Rattle.ivl_store_lines.specs.Solving.{Settles};
 
 use crate::progress::Progress;
@@ -41,29 +41,45 @@ pub fn restrict_atomically(
     }
 }
 
-/// Adds a rule and narrows the domains, within the limit.
+/// Adds the rules and narrows the domains, within the limit.
 pub fn require_atomically(
     network: &mut Network<i64>,
-    rule: Rule,
+    rules: &[Rule],
     limit: u64,
 ) -> Result<Progress, AllocError>
-    requires different { AreDifferent rule }
-    ensures required { OnOk result (IsRuleRequired rule network.old.rules network.new.rules) }
+    requires different { All AreDifferent rules.now }
+    ensures required { OnOk result (AreRequired rules.now network.old.rules network.new.rules) }
     ensures settled { IfOk result (λ p. Settles limit network.new.rules network.old.domains network.new.domains p) }
     ensures kept_count { OnOk result (length network.new.domains ≡ length network.old.domains) }
     ensures refused { OnErr result ((network.new.domains ≡ network.old.domains) × (network.new.rules ≡ network.old.rules)) }
 {
     let mark = network.mark()?;
-    match network.require(rule) {
+    match require_each(network, rules) {
         Ok(()) => {
             let progress = settle_to(network, mark, limit)?;
             Ok(progress)
         }
         Err(_) => {
-            network.drop_marks(mark);
+            network.undo_to(mark);
             Err(AllocError)
         }
     }
+}
+
+/// Adds those of the rules that were not added before, in order.
+fn require_each(network: &mut Network<i64>, rules: &[Rule]) -> Result<(), AllocError>
+    requires { All AreDifferent rules.now }
+    ensures domains { network.new.domains ≡ network.old.domains }
+    ensures marked { network.new.marked ≡ network.old.marked }
+    ensures required { OnOk result (AreRequired rules.now network.old.rules network.new.rules) }
+{
+    for rule in rules {
+        match network.require(*rule) {
+            Ok(()) => {}
+            Err(_) => return Err(AllocError),
+        }
+    }
+    Ok(())
 }
 
 /// Narrows the domains by the rules, within the limit.
