@@ -1,8 +1,8 @@
 -- Rules that are required one by one, and rules between variables that have names.
-use Rattle.std.proofs.Common.{◌≡◌, ◌≢◌, ◌∙◌, ◌<◌, ◌+◌, ◌++◌, ◌∷◌, [], ℕ, ℤ, Bool, true, false, List, Option, None, Some, ap, get_or, inl, inr, length, map, refl, subst, sym, take}
-use Rattle.std.specs.Prelude.{All, bytes_eq, filter_map, pos}
+use Rattle.std.proofs.Common.{◌≡◌, ◌∙◌, ◌<◌, ◌+◌, ◌++◌, ◌∷◌, [], ℕ, Bool, true, false, List, Option, None, Some, ap, get_or, length, map, refl, subst, sym, take}
+use Rattle.std.specs.Prelude.{All, bytes_eq, option_map, pos}
 use Rattle.std.specs.List.{list_any}
-use Rattle.std.proofs.lemmas.Bool.{cases_Bool, false≢true, or_parts, true≢false}
+use Rattle.std.proofs.lemmas.Bool.{or_parts, true≢false}
 use Rattle.std.proofs.lemmas.List.{take_more}
 use Rattle.std.proofs.lemmas.List.Elements.{All-append, All-cons, All-nil}
 use Rattle.std.proofs.lemmas.List.Quantifiers.{position-Some}
@@ -11,9 +11,7 @@ use Rattle.ivl_rules.specs.declared.rules.Rule.{Rule}
 use Rattle.ivl_rules.specs.declared.rules.Rule.TheVariants as rule
 use Rattle.ivl_rules.specs.Rules.{AreDifferent}
 use Rattle.ivl_network.specs.Network.{IsRuleRequired}
-use Rattle.ivl_store_lines.specs.declared.relation.Relation.{Relation}
-use Rattle.ivl_store_lines.specs.declared.relation.Relation.TheVariants.{Shifted, AtMost, Differs}
-use Rattle.ivl_store_lines.specs.Required.{AreRequired, each_pair, related}
+use Rattle.ivl_store_lines.specs.Required.{AreRequired, each_pair}
 use Rattle.ivl_store_lines.specs.Solving.{first_repeated, variable_named, variables_named}
 
 required_last : (rules : List Rule) (last : Rule) (old now new : List Rule) → AreRequired rules old now → IsRuleRequired last now new → AreRequired (rules ++ last ∷ []) old new
@@ -26,10 +24,10 @@ pub required_more : (rules : List Rule) (k : ℕ) (d : Rule) (old now new : List
 required_more rules k d old now new lt so_far one =
     subst (λ front. AreRequired front old new) (sym (take_more rules k d lt)) (required_last (take k rules) (get_or rules k d) old now new so_far one)
 
-pub related_different : (relation : Relation) (x y : ℕ) (by : ℤ) → x ≢ y → AreDifferent (related relation x y by)
-related_different Shifted x y by apart = apart
-related_different AtMost x y by apart = apart
-related_different Differs x y by apart = apart
+-- nothing was found
+pub none_found : {A B : Type 0} → (f : A → B) (o : Option A) (found : Option B) → option_map f o ≡ found → o ≡ None → found ≡ None
+none_found f None found e is = sym e
+none_found f (Some x) found e is = absurd (cc)
 
 -- names of one variable are one name
 same_name : (known : List (List ℕ)) (name other : List ℕ) (i : ℕ) → variable_named known name ≡ Some i → variable_named known other ≡ Some i → bytes_eq name other ≡ true

@@ -1,4 +1,4 @@
-use Rattle.std.proofs.Common.{◌∙◌, List, ap, length, subst, sym}
+use Rattle.std.proofs.Common.{◌∙◌, List, ap, length}
 use Rattle.std.specs.Prelude.{ℤ}
 use Rattle.ivl_store.proofs.Steps.{on_err}
 use Rattle.ivl_network.specs.Network.{RulesState}
