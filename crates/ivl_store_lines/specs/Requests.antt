@@ -3,6 +3,7 @@
 --     natural_of word      the number of i64 from 0 up that a word is; `None` if it is no such number
 --     command_of name words      what a command and the words after it ask for; `None` if they are no request
 --     asked_of request      the request as the program keeps it
+--     asked_extreme extreme name      the request for the least or the greatest number of the variable with this name
 --     first_bad_number_of words      the first word that is not a number; `None` if all are numbers
 --     why_no_command unknown name words      the fault of a command and the words after it that are no request; `unknown`
 --         if the name is none of a command
@@ -17,6 +18,8 @@ use Rattle.ivl_store_lines.specs.Faults.{Told, no_form, no_number}
 use Rattle.ivl_store_lines.specs.declared.relation.Relation.{Relation}
 use Rattle.ivl_store_lines.specs.declared.request.Request.{Request}
 use Rattle.ivl_store_lines.specs.declared.request.Request.TheVariants as kept
+use Rattle.ivl_store_lines.specs.declared.solve.Extreme.{Extreme}
+use Rattle.ivl_store_lines.specs.declared.solve.Extreme.TheVariants.{Least, Greatest}
 
 pub data Asked : Type 0 where
   var : List ℕ → List (ℤ × ℤ) → Asked
@@ -119,6 +122,10 @@ asked_of (kept.Solve most) = solve most
 asked_of kept.Count = count
 asked_of (kept.Least name) = least name.now
 asked_of (kept.Greatest name) = greatest name.now
+
+abbrev pub asked_extreme : Extreme → List ℕ → Asked
+asked_extreme Least name = least name
+asked_extreme Greatest name = greatest name
 
 abbrev pub first_bad_number_of : List (List ℕ) → Option (List ℕ)
 first_bad_number_of words = find (λ word. is_none (number_of word)) words

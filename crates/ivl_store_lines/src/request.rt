@@ -9,7 +9,8 @@ mod rules;
 
 use crate::fault::Fault;
 use crate::relation::Relation;
-use crate::request::rules::{begins_rule, rule_from};
+pub use crate::request::rules::begins_rule;
+use crate::request::rules::rule_from;
 use ivl_lines::{next_word, number_from, one_word, pairs_from, three_words};
 use std::alloc::Global;
 

@@ -1,5 +1,5 @@
 use Rattle.std.proofs.Common.{◌∙◌, subst, sym}
-use Rattle.ivl_store.specs.Network.{IsRequired}
+use Rattle.ivl_network.specs.Network.{IsRuleRequired}
 use Rattle.ivl_store_lines.specs.Solving.{State}
 use Rattle.ivl_store_lines.proofs.solver.Solver.require.Goals as goal
 
@@ -7,4 +7,4 @@ pub invariant_of-self-2 : goal.invariant_of-self-2
 invariant_of-self-2 c = c.self.invariant ∙ sym c.in_ok-progress.ensures.kept_count
 
 pub returns-clause-required : goal.returns-clause-required
-returns-clause-required c = subst (λ (s : State). IsRequired c.args.sum s.constraints c.require_whole.new.network.constraints) c.self.view_is c.in_ok-progress.ensures.required
+returns-clause-required c = subst (λ (s : State). IsRuleRequired c.args.rule s.rules c.require_atomically.new.network.rules) c.self.view_is c.in_ok-progress.ensures.required

@@ -1,31 +1,32 @@
-//! Lines that change the network, each carried out whole or not at all.
+//! Lines that change the network, each carried out as a whole or not at all.
 //!
 //! A network is marked before a line and taken back to the mark if an allocation fails.
-ghost use Rattle.std.specs.Prelude.{◌≡◌, ◌<◌, ℤ, List, HoldsAt, IfOk, OnErr, OnOk, length};
+ghost use Rattle.std.specs.Prelude.{◌≡◌, ◌<◌, ℤ, List, All, HoldsAt, IfOk, OnErr, OnOk, length};
 ghost use Rattle.ivl_laws.specs.Families.{set_at};
 ghost use Rattle.ivl_laws.specs.Runs.{Covers};
-ghost use Rattle.ivl_store.specs.Network.{IsCutAt, IsRequired};
-ghost use Rattle.ivl_store.specs.Solutions.{AreDistinct};
+ghost use Rattle.ivl_store.specs.Network.{IsCutAt};
+ghost use Rattle.ivl_rules.specs.Rules.{AreDifferent};
+ghost use Rattle.ivl_store_lines.specs.Required.{AreRequired};
 ghost use Rattle.ivl_store_lines.specs.Solving.{Settles};
 
 use crate::progress::Progress;
 use intervallum::interval_set::IntervalSet;
-use ivl_store::network::{Network, Settled};
-use ivl_store::store::Constraint;
+use ivl_network::network::{Network, Settled};
+use ivl_rules::rules::Rule;
 use std::alloc::AllocError;
 
 /// Cuts a domain and narrows all, within the limit.
-pub fn restrict_whole(
+pub fn restrict_atomically(
     network: &mut Network<i64>,
     variable: usize,
     allowed: &IntervalSet<i64>,
     limit: u64,
 ) -> Result<Progress, AllocError>
     ensures cut { IfOk result (λ p. (cut : List (List (ℤ × ℤ))) × IsCutAt variable (Covers allowed.now) (set_at network.old.domains) (set_at cut)
-        × Settles limit network.old.constraints cut network.new.domains p) }
-    ensures constraints { OnOk result (network.new.constraints ≡ network.old.constraints) }
+        × Settles limit network.old.rules cut network.new.domains p) }
+    ensures rules { OnOk result (network.new.rules ≡ network.old.rules) }
     ensures kept_count { OnOk result (length network.new.domains ≡ length network.old.domains) }
-    ensures refused { OnErr result ((network.new.domains ≡ network.old.domains) × (network.new.constraints ≡ network.old.constraints)) }
+    ensures refused { OnErr result ((network.new.domains ≡ network.old.domains) × (network.new.rules ≡ network.old.rules)) }
 {
     let mark = network.mark()?;
     match network.restrict(variable, allowed) {
@@ -40,35 +41,51 @@ pub fn restrict_whole(
     }
 }
 
-/// Adds a constraint and narrows the domains, within the limit.
-pub fn require_whole(
+/// Adds the rules and narrows the domains, within the limit.
+pub fn require_atomically(
     network: &mut Network<i64>,
-    sum: Constraint,
+    rules: &[Rule],
     limit: u64,
 ) -> Result<Progress, AllocError>
-    requires distinct { AreDistinct sum }
-    ensures required { OnOk result (IsRequired sum network.old.constraints network.new.constraints) }
-    ensures settled { IfOk result (λ p. Settles limit network.new.constraints network.old.domains network.new.domains p) }
+    requires different { All AreDifferent rules.now }
+    ensures required { OnOk result (AreRequired rules.now network.old.rules network.new.rules) }
+    ensures settled { IfOk result (λ p. Settles limit network.new.rules network.old.domains network.new.domains p) }
     ensures kept_count { OnOk result (length network.new.domains ≡ length network.old.domains) }
-    ensures refused { OnErr result ((network.new.domains ≡ network.old.domains) × (network.new.constraints ≡ network.old.constraints)) }
+    ensures refused { OnErr result ((network.new.domains ≡ network.old.domains) × (network.new.rules ≡ network.old.rules)) }
 {
     let mark = network.mark()?;
-    match network.require(sum) {
+    match require_each(network, rules) {
         Ok(()) => {
             let progress = settle_to(network, mark, limit)?;
             Ok(progress)
         }
         Err(_) => {
-            network.drop_marks(mark);
+            network.undo_to(mark);
             Err(AllocError)
         }
     }
 }
 
-/// Narrows the domains by the constraints, within the limit.
-pub fn settle_whole(network: &mut Network<i64>, limit: u64) -> Result<Progress, AllocError>
-    ensures constraints { network.new.constraints ≡ network.old.constraints }
-    ensures settled { IfOk result (λ p. Settles limit network.old.constraints network.old.domains network.new.domains p) }
+/// Adds those of the rules that were not added before, in order.
+fn require_each(network: &mut Network<i64>, rules: &[Rule]) -> Result<(), AllocError>
+    requires { All AreDifferent rules.now }
+    ensures domains { network.new.domains ≡ network.old.domains }
+    ensures marked { network.new.marked ≡ network.old.marked }
+    ensures required { OnOk result (AreRequired rules.now network.old.rules network.new.rules) }
+{
+    for rule in rules {
+        match network.require(*rule) {
+            Ok(()) => {}
+            Err(_) => return Err(AllocError),
+        }
+    }
+    Ok(())
+}
+
+/// Narrows the domains by the rules, within the limit.
+pub fn settle_atomically(network: &mut Network<i64>, limit: u64) -> Result<Progress, AllocError>
+    ensures rules { network.new.rules ≡ network.old.rules }
+    ensures settled { IfOk result (λ p. Settles limit network.old.rules network.old.domains network.new.domains p) }
     ensures kept_count { OnOk result (length network.new.domains ≡ length network.old.domains) }
     ensures refused { OnErr result (network.new.domains ≡ network.old.domains) }
 {
@@ -80,13 +97,13 @@ pub fn settle_whole(network: &mut Network<i64>, limit: u64) -> Result<Progress, 
 /// Narrows the domains and drops the mark, or takes the network back to it.
 fn settle_to(network: &mut Network<i64>, mark: usize, limit: u64) -> Result<Progress, AllocError>
     requires { mark < length network.old.marked }
-    ensures constraints { OnOk result (network.new.constraints ≡ network.old.constraints) }
-    ensures settled { IfOk result (λ p. Settles limit network.old.constraints network.old.domains network.new.domains p) }
+    ensures rules { OnOk result (network.new.rules ≡ network.old.rules) }
+    ensures settled { IfOk result (λ p. Settles limit network.old.rules network.old.domains network.new.domains p) }
     ensures kept_count { OnOk result (length network.new.domains ≡ length network.old.domains) }
-    ensures undone { OnErr result (HoldsAt (λ past. (network.new.domains ≡ past.domains) × (network.new.constraints ≡ past.constraints)) network.old.marked mark) }
+    ensures undone { OnErr result (HoldsAt (λ past. (network.new.domains ≡ past.domains) × (network.new.rules ≡ past.rules)) network.old.marked mark) }
 {
-    // No more constraints have to be looked at than there are.
-    network.constraints();
+    // for the prover: no more rules are unsettled than there are
+    network.rules();
     match network.settle_within(limit) {
         Ok(reached) => {
             network.drop_marks(mark);
