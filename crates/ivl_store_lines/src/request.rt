@@ -92,11 +92,7 @@ pub fn request_from<'a>(
 }
 
 /// The request of a command and the words after it.
-fn command_from<'a>(
-    alloc: Global,
-    name: &'a str,
-    words: &'a str,
-) -> Result<Request<'a>, Fault<'a>>
+fn command_from<'a>(alloc: Global, name: &'a str, words: &'a str) -> Result<Request<'a>, Fault<'a>>
     ensures ok { IfOk result (λ request. command_of name.entry.now (words_between words.entry.now) ≡ Some (asked_of request)) }
     ensures refused { IfErr result (λ fault. IsSome (told_of fault) → command_of name.entry.now (words_between words.entry.now) ≡ None) }
     ensures fault { IfErr result (λ fault. IsSome (told_of fault) → told_of fault ≡ Some (why_no_command (why_unknown name.entry.now (words_between words.entry.now)) name.entry.now (words_between words.entry.now))) }
