@@ -6,6 +6,8 @@ line tells several solutions, they stand in the order in which the program finds
 
 import itertools
 
+import ruled
+
 SUMS = [
     ("var adult 12 12 15 15 18 18", "ok"),
     ("var child 7 9", "ok"),
@@ -82,9 +84,6 @@ REFUSED = [
 ]
 
 
-# First digit, second digit and digit of the sum, in each column from the right.
-COLUMNS = ["dey", "nre", "eon", "smo"]
-
 TASKS = 30
 HORIZON = 100
 
@@ -118,9 +117,9 @@ class Run:
     def ok(self, *lines):
         self.said += [(line, "ok") for line in lines]
 
-    def variable(self, name, *numbers):
-        self.names.append(name)
-        self.ok(" ".join(map(str, ["var", name, *numbers])))
+    def model(self, lines):
+        self.names += [line.split(" ")[1] for line in lines if line.startswith("var ")]
+        self.ok(*lines)
 
     def show(self, name, lower, upper):
         self.said.append((f"show {name}", f"{name} [{lower}..{upper}]\nok"))
@@ -133,8 +132,7 @@ class Run:
 
 def colours(run):
     """The map of Australia: the colours of wa and nt leave one for each other region of the main land."""
-    for region in ["wa", "nt", "sa", "q", "nsw", "v", "t"]:
-        run.variable(region, 1, 3)
+    run.model(ruled.variables(["wa", "nt", "sa", "q", "nsw", "v", "t"], 1, 3))
     run.ok("wa != nt", "wa != sa", "nt != sa", "nt != q", "sa != q", "sa != nsw", "sa != v", "q != nsw", "nsw != v")
     run.said.append(("count", "count 18\nok"))
     run.ok("different wa nt sa", "cut wa 1 1", "cut nt 2 2", "t = wa + 2")
@@ -145,14 +143,9 @@ def colours(run):
 
 def queens(run):
     """Eight queens: 92 solutions, and one of them."""
-    names = [f"q{column}" for column in range(1, 9)]
-    for name in names:
-        run.variable(name, 1, 8)
-    run.ok("different " + " ".join(names))
-    for (i, x), (j, y) in itertools.combinations(enumerate(names), 2):
-        run.ok(f"{x} + {j - i} != {y}", f"{x} != {y} + {j - i}")
+    run.model(ruled.queens(8))
     run.said.append(("count", "count 92\nok"))
-    run.fix(dict(zip(names, [1, 5, 8, 6, 3, 7, 2, 4])))
+    run.fix(dict(zip(run.names[-8:], [1, 5, 8, 6, 3, 7, 2, 4])))
 
 
 def added(digits):
@@ -162,7 +155,7 @@ def added(digits):
     if send + more != money:
         return None
     carry = 0
-    for place, (x, y, _) in enumerate(COLUMNS):
+    for place, (x, y, _) in enumerate(ruled.COLUMNS):
         both = point[x] + point[y]
         point |= {f"both{place}": both, f"all{place}": both + carry}
         carry = (both + carry) // 10
@@ -171,22 +164,11 @@ def added(digits):
 
 
 def letters(run):
-    """SEND + MORE = MONEY, each letter another digit: one solution. A column adds to its digit and ten times what it carries."""
+    """SEND + MORE = MONEY, each letter another digit: one solution."""
     # five digits are the sum of four and four, so that the first of them is 1
     others = itertools.permutations([0, *range(2, 10)], 7)
     [found] = filter(None, (added([*digits[:4], 1, *digits[4:]]) for digits in others if digits[0]))
-    for letter in "sendmory":
-        run.variable(letter, 1 if letter in "sm" else 0, 9)
-    run.ok("different s e n d m o r y")
-    run.variable("none", 0, 0)
-    carry = "none"
-    for place, (x, y, digit) in enumerate(COLUMNS):
-        for name, numbers in {"both": (0, 18), "all": (0, 19), "carry": (0, 1), "nines": (0, 0, 9, 9), "tens": (0, 0, 10, 10)}.items():
-            run.variable(f"{name}{place}", *numbers)
-        run.ok(f"{x} + {y} = both{place}", f"both{place} + {carry} = all{place}")
-        carry = f"carry{place}"
-        run.ok(f"{carry} + nines{place} = tens{place}", f"{digit} + tens{place} = all{place}")
-    run.ok(f"{carry} = m")
+    run.model(ruled.letters())
     point = {**run.point, **found}
     text = " ".join(f"{name} {point[name]}" for name in run.names)
     run.said += [("solve", text + "\nok"), ("count", "count 1\nok"), (f"max {run.names[-1]}", text + "\nok")]
@@ -210,9 +192,7 @@ def timetable(run):
     times = [1 + (7 * task * task + 3 * task) % 6 for task in range(TASKS)]
     after = [[other for other in (task + 1 + task % 3, task + 4 + task % 5) if other < TASKS] for task in range(TASKS)]
     before, behind = lengths(times, after)
-    for task in range(TASKS):
-        run.variable(f"t{task}", 0, HORIZON)
-    run.variable("end", 0, HORIZON)
+    run.model(ruled.variables([*(f"t{task}" for task in range(TASKS)), "end"], 0, HORIZON))
     for task in range(TASKS):
         run.ok(*(f"t{task} + {times[task]} <= t{other}" if other % 2 else f"t{task} <= t{other} + {-times[task]}" for other in after[task]))
         run.ok(f"t{task} + {times[task]} <= end")

@@ -180,7 +180,7 @@ fn one_refused_request(rt: HostRuntime) -> Result<(), Fail> {
         .count();
     assert!(rt; refused <= 2);
     if refused == 0 {
-        let all: &[u8] = b"ok\nok\nok\nok\nok\nok\nok\nok\nx [2..3]\ny [8..9]\nz [11..11]\nok\nok\n\
+        let all: &[u8] = b"ok\nok\nok\nok\nok\nok\nok\nok\nx [2..5]\ny [6..9]\nz [11..11]\nok\nok\n\
             x 2 y 9 z 11\nx 3 y 8 z 11\nok\ncount 2\nok\n";
         assert_eq!(rt; written.as_slice(), all);
     }
