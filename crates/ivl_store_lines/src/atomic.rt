@@ -59,10 +59,7 @@ pub fn require_atomically(
             let progress = settle_to(network, mark, limit)?;
             Ok(progress)
         }
-        Err(_) => {
-            network.undo_to(mark);
-            Err(AllocError)
-        }
+        Err(_) => Err(taken_back(network, mark)),
     }
 }
 
@@ -109,11 +106,17 @@ fn settle_to(network: &mut Network<i64>, mark: usize, limit: u64) -> Result<Prog
             network.drop_marks(mark);
             Ok(progress_of(reached))
         }
-        Err(_) => {
-            network.undo_to(mark);
-            Err(AllocError)
-        }
+        Err(_) => Err(taken_back(network, mark)),
     }
+}
+
+/// Takes the network back to the mark, where an allocation failed.
+fn taken_back(network: &mut Network<i64>, mark: usize) -> AllocError
+    requires { mark < length network.old.marked }
+    ensures { HoldsAt (λ past. (network.new.domains ≡ past.domains) × (network.new.rules ≡ past.rules)) network.old.marked mark }
+{
+    network.undo_to(mark);
+    AllocError
 }
 
 /// How far the domains are narrowed, by what a call reached.

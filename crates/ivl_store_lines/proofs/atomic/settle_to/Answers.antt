@@ -14,9 +14,12 @@ returns-in-Ok-clause-settled c =
 pub returns-in-Err-clause-undone : goal.returns-in-Err-clause-undone
 returns-in-Err-clause-undone c = λ d.
     let kept = c.settle_within.ensures.marked in
-    let new = c.undo_to.new.self in
+    let new = c.taken_back.new.network in
     subst (λ ms. (new.domains ≡ (get_or ms c.args.mark d).domains) × (new.rules ≡ (get_or ms c.args.mark d).rules)) kept
-    (c.undo_to.ensures.undone (c.undo_to.ensures.told.1 (subst (λ ms. c.args.mark < length ms) (sym kept) c.requires)) d)
+    (c.taken_back.ensures d)
 
 pub returns-in-Ok-clause-kept_count : goal.returns-in-Ok-clause-kept_count
 returns-in-Ok-clause-kept_count c = ap (λ (n : RulesState). length n.domains) c.drop_marks.ensures ∙ c.settle_within.ensures.kept_count
+
+pub taken_back-requires : goal.taken_back-requires
+taken_back-requires c = subst (λ ms. c.args.mark < length ms) (sym c.settle_within.ensures.marked) c.requires
