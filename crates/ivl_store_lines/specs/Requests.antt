@@ -5,7 +5,7 @@
 --     asked_of request      the request as the program keeps it
 --     asked_extreme extreme name      the request for the least or the greatest number of the variable with this name
 --     first_bad_number_of words      the first word that is not a number; `None` if all are numbers
---     why_no_command unknown name words      the fault of a command and the words after it that are no request; `unknown`
+--     why_no_command otherwise name words      the fault of a command and the words after it that are no request; `otherwise`
 --         if the name is none of a command
 --     needs_list name words      whether pairs may stand there, for which memory is needed
 --     why_no_pairs form words, why_no_limit words, why_no_most words      the same for words that should be pairs, a
@@ -148,7 +148,7 @@ why_no_most (word ∷ []) = no_number word
 why_no_most _ = no_form (codes "solve or solve n")
 
 abbrev pub why_no_command : Told → List ℕ → List (List ℕ) → Told
-why_no_command unknown name words =
+why_no_command otherwise name words =
     if bytes_eq name (codes "var") then why_no_pairs (codes "var x l u l u ..") words
     else if bytes_eq name (codes "cut") then why_no_pairs (codes "cut x l u l u ..") words
     else if bytes_eq name (codes "sum") then no_form (codes "sum x y z")
@@ -160,7 +160,7 @@ why_no_command unknown name words =
     else if bytes_eq name (codes "count") then no_form (codes "count")
     else if bytes_eq name (codes "min") then no_form (codes "min x")
     else if bytes_eq name (codes "max") then no_form (codes "max x")
-    else unknown
+    else otherwise
 
 abbrev pub is_no_word : List (List ℕ) → Bool
 is_no_word [] = true

@@ -4,6 +4,8 @@
 --         the word is, or their fault: the number shifts `x`, and a name before `=` is added to it
 --     shifted_right x y word relation n      the same of `x` before the sign and `y + word` after it, which is `x - word`
 --         before it
+--     opposite n, shifted_back x y relation by      the number with its sign turned, if i64 has it, and the rule with that
+--         shift, or its fault
 --     rule_of words      what a line that has the form of a rule asks for, or its fault; `None` if it has no such form
 --     begins_as_rule words      the first of the words after a name is a sign or `+`
 --     request_of name words      what the first word of a line and the words after it ask for: a rule, if they have its
@@ -29,8 +31,16 @@ shifted_left x word y Shifted None = Ok (sum x word y)
 shifted_left x word y AtMost None = Err (no_number word)
 shifted_left x word y Differs None = Err (no_number word)
 
+-- the number with its sign turned, where i64 has that
+abbrev pub opposite : ℤ → Option ℤ
+opposite n = if int_le (neg_ℤ n) (pos (2 ^ 63 - 1)) then Some (neg_ℤ n) else None
+
+abbrev pub shifted_back : List ℕ → List ℕ → Relation → Option ℤ → Result Asked Told
+shifted_back x y relation (Some by) = Ok (relate relation x y by)
+shifted_back x y relation None = Err out_of_range
+
 abbrev pub shifted_right : List ℕ → List ℕ → List ℕ → Relation → Option ℤ → Result Asked Told
-shifted_right x y word relation (Some n) = if int_le (neg_ℤ n) (pos (2 ^ 63 - 1)) then Ok (relate relation x y (neg_ℤ n)) else Err out_of_range
+shifted_right x y word relation (Some n) = shifted_back x y relation (opposite n)
 shifted_right x y word relation None = Err (no_number word)
 
 abbrev pub rule_of : List (List ℕ) → Option (Result Asked Told)

@@ -1,10 +1,10 @@
 //! Lines that state a rule between variables.
-ghost use Rattle.std.specs.Prelude.{◌≡◌, ◌∷◌, IfErr, IfNone, IfOk, IfSome, IsTrue, None, Ok, Err, Option, Some, is_some};
+ghost use Rattle.std.specs.Prelude.{◌≡◌, ◌∷◌, Err, IfErr, IfNone, IfOk, IfSome, IsSome, None, Ok, Some, option_map};
 ghost use Rattle.ivl_lines.specs.Numbers.{number_of};
 ghost use Rattle.ivl_lines.specs.Words.{words_between};
-ghost use Rattle.ivl_store_lines.specs.Faults.{Told, told_of};
+ghost use Rattle.ivl_store_lines.specs.Faults.{told_of};
 ghost use Rattle.ivl_store_lines.specs.Requests.{asked_of};
-ghost use Rattle.ivl_store_lines.specs.RuleForms.{begins_as_rule, relation_of, rule_of, shifted_left, shifted_right};
+ghost use Rattle.ivl_store_lines.specs.RuleForms.{begins_as_rule, opposite, relation_of, rule_of, shifted_left, shifted_right};
 
 use crate::fault::Fault;
 use crate::relation::Relation;
@@ -21,7 +21,8 @@ use ivl_lines::{next_word, number_from, three_words, two_words};
 pub fn rule_from<'a>(x: &'a str, words: &'a str) -> Option<Result<Request<'a>, Fault<'a>>>
     ensures none { IfNone result (rule_of (x.entry.now ∷ words_between words.entry.now) ≡ None) }
     ensures ok { IfSome result (λ read. IfOk read (λ request. rule_of (x.entry.now ∷ words_between words.entry.now) ≡ Some (Ok (asked_of request)))) }
-    ensures fault { IfSome result (λ read. IfErr read (λ fault. (why : Told) × (told_of fault ≡ Some why) × (rule_of (x.entry.now ∷ words_between words.entry.now) ≡ Some (Err why)))) }
+    ensures fault { IfSome result (λ read. IfErr read (λ fault. option_map (λ why. Err why) (told_of fault) ≡ rule_of (x.entry.now ∷ words_between words.entry.now))) }
+    ensures told { IfSome result (λ read. IfErr read (λ fault. IsSome (told_of fault))) }
 {
     if let Some((sign, y)) = two_words(words) {
         return Some(Ok(Request::Relate(relation_from(sign)?, x, y, 0)));
@@ -67,13 +68,17 @@ fn from_left<'a>(
     y: &'a str,
 ) -> Result<Request<'a>, Fault<'a>>
     ensures ok { IfOk result (λ request. shifted_left x.entry.now word.entry.now y.entry.now relation (number_of word.entry.now) ≡ Ok (asked_of request)) }
-    ensures fault { IfErr result (λ fault. (why : Told) × (told_of fault ≡ Some why) × (shifted_left x.entry.now word.entry.now y.entry.now relation (number_of word.entry.now) ≡ Err why)) }
+    ensures fault { IfErr result (λ fault. option_map (λ why. Err why) (told_of fault) ≡ Some (shifted_left x.entry.now word.entry.now y.entry.now relation (number_of word.entry.now))) }
+    ensures told { IfErr result (λ fault. IsSome (told_of fault)) }
 {
-    match (number_from(word), relation) {
-        (Some(by), _) => Ok(Request::Relate(relation, x, y, by)),
-        (None, Relation::Shifted) => Ok(Request::Sum(x, word, y)),
-        (None, _) => Err(Fault::Number(word)),
-    }
+    let Some(by) = number_from(word) else {
+        return match relation {
+            Relation::Shifted => Ok(Request::Sum(x, word, y)),
+            Relation::AtMost => Err(Fault::Number(word)),
+            Relation::Differs => Err(Fault::Number(word)),
+        };
+    };
+    Ok(Request::Relate(relation, x, y, by))
 }
 
 /// The rule that relates `x` to `y + word`.
@@ -84,13 +89,21 @@ fn from_right<'a>(
     word: &'a str,
 ) -> Result<Request<'a>, Fault<'a>>
     ensures ok { IfOk result (λ request. shifted_right x.entry.now y.entry.now word.entry.now relation (number_of word.entry.now) ≡ Ok (asked_of request)) }
-    ensures fault { IfErr result (λ fault. (why : Told) × (told_of fault ≡ Some why) × (shifted_right x.entry.now y.entry.now word.entry.now relation (number_of word.entry.now) ≡ Err why)) }
+    ensures fault { IfErr result (λ fault. option_map (λ why. Err why) (told_of fault) ≡ Some (shifted_right x.entry.now y.entry.now word.entry.now relation (number_of word.entry.now))) }
+    ensures told { IfErr result (λ fault. IsSome (told_of fault)) }
 {
     let Some(number) = number_from(word) else {
         return Err(Fault::Number(word));
     };
-    match number.checked_neg() {
+    match opposite_of(number) {
         Some(by) => Ok(Request::Relate(relation, x, y, by)),
         None => Err(Fault::Range),
     }
+}
+
+/// The number with its sign turned, or `None` if that is no number of `i64`.
+fn opposite_of(number: i64) -> Option<i64>
+    ensures { result ≡ opposite number }
+{
+    number.checked_neg()
 }
