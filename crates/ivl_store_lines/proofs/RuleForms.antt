@@ -1,5 +1,5 @@
 -- Lines that state a rule, and lines that have no form of one.
-use Rattle.std.proofs.Common.{◌≡◌, ◌≢◌, ◌-◌, ◌^◌, ℕ, ℤ, List, [], ◌∷◌, length, Option, None, Some, arith, inl, inr, refl, sym}
+use Rattle.std.proofs.Common.{◌≡◌, ◌≢◌, ◌-◌, ◌^◌, ℕ, ℤ, List, [], ◌∷◌, length, Option, None, Some, arith, inl, inr, refl}
 use Rattle.std.specs.Prelude.{FitsSigned, SomeIff, ◌≤ℤ◌, int_le, neg_ℤ, pos}
 use Rattle.std.specs.Int.{w64}
 use Rattle.std.proofs.lemmas.Bool.{cases_Bool}
