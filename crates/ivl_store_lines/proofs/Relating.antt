@@ -34,9 +34,9 @@ related_different Differs x y by apart = apart
 -- names of one variable are one name
 same_name : (known : List (List ℕ)) (name other : List ℕ) (i : ℕ) → variable_named known name ≡ Some i → variable_named known other ≡ Some i → bytes_eq name other ≡ true
 same_name known name other i is also =
-    let here = (bytes_eq-Decides (get_or known i []) name).0 (sym (position-Some (λ k. bytes_eq k name) known i [] is).1) in
-    let there = (bytes_eq-Decides (get_or known i []) other).0 (sym (position-Some (λ k. bytes_eq k other) known i [] also).1) in
-    sym ((bytes_eq-Decides name other).1 (sym here ∙ there))
+    let here = (bytes_eq-Decides (get_or known i []) name).0 (position-Some (λ k. bytes_eq k name) known i [] is).1 in
+    let there = (bytes_eq-Decides (get_or known i []) other).0 (position-Some (λ k. bytes_eq k other) known i [] also).1 in
+    (bytes_eq-Decides name other).1 (sym here ∙ there)
 
 -- so one that does not stand among others names none of their variables
 apart_from : (known : List (List ℕ)) (name : List ℕ) (i : ℕ) (others : List (List ℕ)) → variable_named known name ≡ Some i → list_any (λ other. bytes_eq name other) others ≡ false
@@ -56,22 +56,16 @@ apart_from known name i (other ∷ others) is none =
 -- names that stand once are those of different variables
 pub pairs_different : (known names : List (List ℕ)) → first_repeated names ≡ None → All AreDifferent (each_pair (variables_named known names))
 pairs_different known [] once = All-nil AreDifferent
-pairs_different known (name ∷ names) once = with_first (list_any (λ other. bytes_eq name other) names) refl (variable_named known name) refl
+pairs_different known (name ∷ names) once = with_first (list_any (λ other. bytes_eq name other) names) refl (variable_named known name) refl (pairs_different known names)
   where
-    none_again : (again : Bool) → list_any (λ other. bytes_eq name other) names ≡ again → again ≡ false → first_repeated names ≡ None
-    none_again again e is = subst (λ o. o ≡ None) (rw (e ∙ is) refl) once
-
-    not_again : (again : Bool) → list_any (λ other. bytes_eq name other) names ≡ again → again ≡ false
-    not_again true e = absurd (some (subst (λ o. o ≡ None) (rw e refl) once))
-      where
-        some : Some name ≡ None → ⊥
-        some e = cc
-    not_again false e = refl
-
     with_first : (again : Bool) → list_any (λ other. bytes_eq name other) names ≡ again → (found : Option ℕ) → variable_named known name ≡ found
-        → All AreDifferent (each_pair (variables_named known (name ∷ names)))
-    with_first again e None is = rw is (pairs_different known names (none_again again e (not_again again e)))
-    with_first again e (Some i) is =
+        → (first_repeated names ≡ None → All AreDifferent (each_pair (variables_named known names))) → All AreDifferent (each_pair (variables_named known (name ∷ names)))
+    with_first true e found is rest = absurd (some_is_none (subst (λ o. o ≡ None) (rw e refl) once))
+      where
+        some_is_none : Some name ≡ None → ⊥
+        some_is_none e = absurd (cc)
+    with_first false e None is rest = rw is (rest (subst (λ o. o ≡ None) (rw e refl) once))
+    with_first false e (Some i) is rest =
         rw is (All-append AreDifferent (map (λ y. rule.Differs i y (pos 0)) (variables_named known names)) (each_pair (variables_named known names))
-        (apart_from known name i names is (e ∙ not_again again e))
-        (pairs_different known names (none_again again e (not_again again e))))
+        (apart_from known name i names is e)
+        (rest (subst (λ o. o ≡ None) (rw e refl) once)))

@@ -19,7 +19,7 @@ pub enum Fault<'a> {
     Unknown(&'a str),
     /// A variable has this name already.
     Defined(&'a str),
-    /// The variable is named twice in a sum.
+    /// The variable is named twice in a rule.
     Repeated(&'a str),
     /// An allocation failed.
     Memory,
