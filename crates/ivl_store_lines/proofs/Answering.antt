@@ -12,7 +12,8 @@ use Rattle.ivl_store_lines.specs.declared.solve.Extreme.TheVariants.{Least, Grea
 use Rattle.ivl_store_lines.specs.Answering.{AnswersAsked, AnswersRead}
 use Rattle.ivl_store_lines.specs.Faults.{Told}
 use Rattle.ivl_store_lines.specs.Printed.{domain_line, domain_lines, state_line, told_line}
-use Rattle.ivl_store_lines.specs.Requests.{Asked, asked_extreme, show, solve, count, least, greatest, needs_list, why_no_request}
+use Rattle.ivl_store_lines.specs.Requests.{Asked, asked_extreme, show, solve, count, least, greatest, needs_list}
+use Rattle.ivl_store_lines.specs.RuleForms.{why_no_request}
 use Rattle.ivl_store_lines.specs.Solved.{HasNodes, IsBest, IsExtremeAt, best_text, end_line, point_lines}
 use Rattle.ivl_store_lines.specs.Solving.{HasEmptyDomain, State, fault_of, domain_range, variable_named}
 
