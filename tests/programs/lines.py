@@ -109,6 +109,7 @@ def main(name, make_model, make_lines, full_disk_line, slow=()):
     parser = argparse.ArgumentParser()
     parser.add_argument("program", nargs="?", default=f"crates/{name}/out/{name}")
     parser.add_argument("--seconds", type=float, default=30)
+    parser.add_argument("--lines", type=int, default=0, help="go on until so many lines were compared")
     parser.add_argument("--seed", type=int, default=random.randrange(2**32))
     options = parser.parse_args()
     dice = random.Random(options.seed)
@@ -118,7 +119,7 @@ def main(name, make_model, make_lines, full_disk_line, slow=()):
         for quick_and_slow in slow:
             check_answers_are_seen(options.program, *quick_and_slow)
         end = time.monotonic() + options.seconds
-        while time.monotonic() < end:
+        while time.monotonic() < end or count < options.lines:
             count += check_run(options.program, make_model, make_lines, dice)
     except SystemExit as fault:
         raise SystemExit(f"{name}: seed {options.seed}: {fault}") from None

@@ -1,14 +1,18 @@
 #!/usr/bin/env python3
-"""Puzzles as sessions of ivl_solve: the number of their solutions, and each of these beside the sums.
+"""Puzzles as sessions of ivl_solve, by sums alone and by rules: the number of their solutions, and each of these beside the lines.
 
 usage: tests/programs/puzzles.py PROGRAM     ivl_solve, as it was built
 
-A puzzle is a file of lines `domain l u l u ..`, one for each variable, and `sum x y z` for the variables of these numbers.
+A puzzle by sums is a file of lines `domain l u l u ..`, one for each variable, and `sum x y z` for the variables of these numbers. By rules it
+is lines of ivl_solve, made by ruled.py.
 """
 
 import os
 import subprocess
 import sys
+
+import ruled
+from ivl_solve import rule_of
 
 TOP = os.path.dirname(os.path.dirname(os.path.dirname(os.path.realpath(__file__))))
 PUZZLES = os.path.join(TOP, "bindings", "rust", "tests", "puzzles")
@@ -24,6 +28,16 @@ SOLUTIONS = {
     "coins50": (146, 6_500_000),
 }
 
+RULED = {
+    "queens6": ruled.queens(6),
+    "queens8": ruled.queens(8),
+    "magic3": ruled.magic(),
+    "sendmore": ruled.letters(),
+    "golomb5_11": ruled.golomb(5, 11),
+    "langford4": ruled.langford(4),
+    "coins50": ruled.coins(50),
+}
+
 
 def read(name):
     """The domains and the sums of a puzzle, each a list of numbers."""
@@ -32,31 +46,43 @@ def read(name):
     return [[[int(word) for word in words] for kind, *words in lines if kind == wanted] for wanted in ("domain", "sum")]
 
 
-def is_solution(words, domains, sums):
-    """Whether a line of solutions names each variable with a member of its domain, and each sum holds."""
-    point = [int(word) for word in words[1::2]]
-    return (
-        words[::2] == [f"v{i}" for i in range(len(domains))]
-        and all(any(l <= n <= u for l, u in zip(domain[::2], domain[1::2])) for n, domain in zip(point, domains))
-        and all(point[x] + point[y] == point[z] for x, y, z in sums)
-    )
-
-
-def solve(program, name, number, limit):
+def by_sums(name):
+    """The lines of a puzzle by sums."""
     domains, sums = read(name)
+    return [f"var v{i} " + " ".join(map(str, domain)) for i, domain in enumerate(domains)] + [f"sum v{x} v{y} v{z}" for x, y, z in sums]
+
+
+def holds(line, point):
+    """Whether what a line says is so at a point."""
+    name, *words = line.split(" ")
+    if name == "var":
+        return any(int(l) <= point[words[0]] <= int(u) for l, u in zip(words[1::2], words[2::2]))
+    if name == "sum":
+        return point[words[0]] + point[words[1]] == point[words[2]]
+    if name == "different":
+        return len({point[word] for word in words}) == len(words)
+    return rule_of(line.encode().split(b" ")).holds({word.encode(): value for word, value in point.items()})
+
+
+def is_solution(words, lines):
+    """Whether a line of solutions gives each variable a number, and each line holds there."""
+    names = [line.split(" ")[1] for line in lines if line.startswith("var ")]
+    point = {name: int(word) for name, word in zip(words[::2], words[1::2])}
+    return words[::2] == names and all(holds(line, point) for line in lines)
+
+
+def solve(program, name, model, number, limit):
     lines = [f"limit {limit}"] if limit else []
-    lines += [f"var v{i} " + " ".join(map(str, domain)) for i, domain in enumerate(domains)]
-    lines += [f"sum v{x} v{y} v{z}" for x, y, z in sums]
-    text = "".join(line + "\n" for line in [*lines, "count", "solve"])
+    text = "".join(line + "\n" for line in [*lines, *model, "count", "solve"])
     ran = subprocess.run([program], input=text, capture_output=True, text=True, timeout=60, check=False)
     if (ran.returncode, ran.stderr) != (0, ""):
         raise SystemExit(f"puzzles: {name}: status {ran.returncode}, {ran.stderr!r}")
     answers = ran.stdout.splitlines()
-    expected = ["ok"] * len(lines) + [f"count {number}", "ok"]
+    expected = ["ok"] * len([*lines, *model]) + [f"count {number}", "ok"]
     if answers[: len(expected)] != expected or answers[-1] != "ok":
-        raise SystemExit(f"puzzles: {name}: {answers[len(lines):len(lines) + 2]} .. {answers[-1]!r}")
+        raise SystemExit(f"puzzles: {name}: {answers[len(expected) - 2:len(expected)]} .. {answers[-1]!r}")
     points = answers[len(expected) : -1]
-    if len(set(points)) != number or len(points) != number or not all(is_solution(point.split(" "), domains, sums) for point in points):
+    if len(set(points)) != number or len(points) != number or not all(is_solution(point.split(" "), model) for point in points):
         raise SystemExit(f"puzzles: {name}: {len(points)} lines, some of them no solutions, or twice")
 
 
@@ -80,8 +106,9 @@ def best_within_nodes(program):
 def main(program):
     best_within_nodes(program)
     for name, (number, limit) in SOLUTIONS.items():
-        solve(program, name, number, limit)
-    print(f"puzzles: {len(SOLUTIONS)} as they should be")
+        solve(program, name, by_sums(name), number, limit)
+        solve(program, name + " by rules", RULED[name], number, limit)
+    print(f"puzzles: {len(SOLUTIONS)} by sums and by rules, as they should be")
 
 
 if __name__ == "__main__":

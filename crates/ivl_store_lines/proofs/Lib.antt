@@ -1,5 +1,7 @@
 pub mod Ranges
 pub mod Requiring
+pub mod Relating
+pub mod RuleForms
 pub mod Printing
 pub mod Answering
 pub mod Names

@@ -7,7 +7,8 @@ use Rattle.std.specs.Prelude.{◌≡◌, ◌⊎◌, ℕ, Bool, true, false, IsTr
 use Rattle.std.specs.Str.{is_utf8}
 use Rattle.ivl_lines.specs.Lines.{words_of}
 use Rattle.ivl_store_lines.specs.Faults.{Told, no_text}
-use Rattle.ivl_store_lines.specs.Requests.{Asked, needs_list, request_of, why_no_request}
+use Rattle.ivl_store_lines.specs.Requests.{Asked, needs_list}
+use Rattle.ivl_store_lines.specs.RuleForms.{request_of, why_no_request}
 use Rattle.ivl_store_lines.specs.Solving.{State, Carries, fault_of}
 use Rattle.ivl_store_lines.specs.Printed.{told_line, IsReply}
 

@@ -1,5 +1,7 @@
 pub mod Faults
 pub mod Requests
+pub mod RuleForms
+pub mod Required
 pub mod Solving
 pub mod Solved
 pub mod Printed

@@ -2,9 +2,15 @@
 ghost use Rattle.std.specs.Prelude.{◌≡◌, ◌≢◌, ◌∷◌, [], IfErr, IfOk, IsSome, IsTrue, None, Some, codes, option_map};
 ghost use Rattle.ivl_lines.specs.Words.{words_between};
 ghost use Rattle.ivl_store_lines.specs.Faults.{no_form, told_of};
-ghost use Rattle.ivl_store_lines.specs.Requests.{asked_of, best_by, counted_by, cut, first_bad_number_of, greatest, least, limit_of, most_of, name_and_pairs, name_and_some_pairs, natural_of, needs_list, only_on, request_of, shown_by, why_no_limit, why_no_most, why_no_pairs, why_no_request, with_pairs};
+ghost use Rattle.ivl_store_lines.specs.Requests.{asked_of, best_by, counted_by, command_of, cut, different_by, first_bad_number_of, greatest, least, limit_of, most_of, name_and_pairs, name_and_some_pairs, natural_of, needs_list, only_on, shown_by, why_no_command, why_no_limit, why_no_most, why_no_pairs, with_pairs};
+ghost use Rattle.ivl_store_lines.specs.RuleForms.{request_of, why_no_request, why_unknown};
+
+mod rules;
 
 use crate::fault::Fault;
+use crate::relation::Relation;
+pub use crate::request::rules::begins_rule;
+use crate::request::rules::rule_from;
 use ivl_lines::{next_word, number_from, one_word, pairs_from, three_words};
 use std::alloc::Global;
 
@@ -18,6 +24,10 @@ pub enum Request<'a> {
     Cut(&'a str, Vec<(i64, i64)>),
     /// `sum x y z`: the first and the second variable add to the third.
     Sum(&'a str, &'a str, &'a str),
+    /// `x + n <= y` and the like: the first variable, shifted by the number, is so related to the second.
+    Relate(Relation, &'a str, &'a str, i64),
+    /// `different x y ..`: no two of the variables, whose names stand in the text, have the same number.
+    Different(&'a str),
     /// `limit n`: how many narrowings each later line may make.
     Limit(u64),
     /// `go on`: narrows further.
@@ -40,6 +50,10 @@ const CUT: &str = "cut x l u l u ..";
 
 const SUM: &str = "sum x y z";
 
+const DIFFERENT: &str = "different x y ..";
+
+const RULES: &str = "x + n <= y, x + n != y, x + n = y or x + y = z";
+
 const LIMIT: &str = "limit n";
 
 const GO_ON: &str = "go on";
@@ -54,12 +68,13 @@ const MIN: &str = "min x";
 
 const MAX: &str = "max x";
 
-/// Reads the request of a command and the words after it. Linear in the line; allocates the list
-/// of the pairs.
+/// Reads the request of the first word of a line and the words after it: a rule if they have its form, and
+/// else a command. So a variable may have the name of a command, and stand in a rule. Linear in the line; allocates
+/// the list of the pairs.
 ///
 /// # Errors
 ///
-/// `Command`, `Form`, `Number` or `Memory`: see [`Fault`].
+/// `Command`, `Form`, `Number`, `Range` or `Memory`: see [`Fault`].
 pub fn request_from<'a>(
     alloc: Global,
     name: &'a str,
@@ -68,6 +83,19 @@ pub fn request_from<'a>(
     ensures ok { IfOk result (λ request. request_of name.entry.now (words_between words.entry.now) ≡ Some (asked_of request)) }
     ensures refused { IfErr result (λ fault. IsSome (told_of fault) → request_of name.entry.now (words_between words.entry.now) ≡ None) }
     ensures fault { IfErr result (λ fault. IsSome (told_of fault) → told_of fault ≡ Some (why_no_request name.entry.now (words_between words.entry.now))) }
+    ensures memory { IfErr result (λ fault. told_of fault ≡ None → IsTrue (needs_list name.entry.now (words_between words.entry.now))) }
+{
+    match rule_from(name, words) {
+        Some(read) => read,
+        None => command_from(alloc, name, words),
+    }
+}
+
+/// The request of a command and the words after it.
+fn command_from<'a>(alloc: Global, name: &'a str, words: &'a str) -> Result<Request<'a>, Fault<'a>>
+    ensures ok { IfOk result (λ request. command_of name.entry.now (words_between words.entry.now) ≡ Some (asked_of request)) }
+    ensures refused { IfErr result (λ fault. IsSome (told_of fault) → command_of name.entry.now (words_between words.entry.now) ≡ None) }
+    ensures fault { IfErr result (λ fault. IsSome (told_of fault) → told_of fault ≡ Some (why_no_command (why_unknown name.entry.now (words_between words.entry.now)) name.entry.now (words_between words.entry.now))) }
     ensures memory { IfErr result (λ fault. told_of fault ≡ None → IsTrue (needs_list name.entry.now (words_between words.entry.now))) }
 {
     match name {
@@ -80,6 +108,7 @@ pub fn request_from<'a>(
             Some((x, y, z)) => Ok(Request::Sum(x, y, z)),
             None => Err(Fault::Form(SUM)),
         },
+        "different" => different_from(words),
         "limit" => Ok(Request::Limit(limit_from(words)?)),
         "go" => match one_word(words) {
             Some(word) => go_on_from(word),
@@ -90,8 +119,31 @@ pub fn request_from<'a>(
         "count" => count_from(words),
         "min" => Ok(Request::Least(name_from(words, MIN)?)),
         "max" => Ok(Request::Greatest(name_from(words, MAX)?)),
-        _ => Err(Fault::Command(name)),
+        _ => Err(unknown_command(name, words)),
     }
+}
+
+/// The fault of words that begin with no name of a command, which may be meant as a rule.
+fn unknown_command<'a>(name: &'a str, words: &str) -> Fault<'a>
+    ensures { told_of result ≡ Some (why_unknown name.entry.now (words_between words.now)) }
+{
+    if begins_rule(words) {
+        Fault::Form(RULES)
+    } else {
+        Fault::Command(name)
+    }
+}
+
+/// The request of `different`, after which there are two names or more.
+fn different_from<'a>(words: &'a str) -> Result<Request<'a>, Fault<'a>>
+    ensures ok { IfOk result (λ request. different_by (words_between words.entry.now) ≡ Some (asked_of request)) }
+    ensures refused { IfErr result (λ fault. different_by (words_between words.entry.now) ≡ None) }
+    ensures fault { IfErr result (λ fault. told_of fault ≡ Some (no_form (codes "different x y .."))) }
+{
+    if next_word(words).is_none() || one_word(words).is_some() {
+        return Err(Fault::Form(DIFFERENT));
+    }
+    Ok(Request::Different(words))
 }
 
 /// The first word, and the numbers after it two by two.

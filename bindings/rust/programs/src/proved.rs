@@ -20,7 +20,7 @@ pub mod ivl_solve;
 pub mod ivl_store_lines;
 
 // the library's modules, under the paths that they have there
-pub use ::intervallum::proved::{intervallum, ivl_interval, ivl_map, ivl_paged, ivl_search, ivl_store, ivl_within};
+pub use ::intervallum::proved::{intervallum, ivl_interval, ivl_map, ivl_network, ivl_paged, ivl_rules, ivl_search, ivl_store, ivl_within};
 
 /// What the doc examples of this module have in scope.
 #[doc(hidden)]
