@@ -41,7 +41,7 @@ mod trail;
 
 use change::Change;
 use index::Index;
-use narrowing::{cost_of_rule, has_two, narrow_swapped, restrict_swapped};
+use narrowing::{cost_of_rule, narrow_swapped, restrict_swapped};
 use queue::Queue;
 use trail::{
     clear_unmarked, is_logging, is_unkept, log_change, log_cut, reserve_change, revert_to,
@@ -310,9 +310,7 @@ impl<B: Width> Network<B> {
         let is_kept = is_logging(&self.marks);
         reserve_change(&mut self.trail, is_kept)?;
         let (lost, change) = restrict_swapped(&mut self.store, variable, allowed)?;
-        let keeps_two = has_two(&self.store, variable);
-        self.queue
-            .wake(lost, keeps_two, variable, &self.rules, &self.index);
+        self.queue.wake(lost, true, variable, &self.store, &self.rules, &self.index);
         let is_new = is_unkept(lost, &self.trail, &self.marks, &self.places, &change);
         log_cut(&mut self.trail, &mut self.places, is_kept, is_new, change);
         Ok(())
@@ -325,12 +323,12 @@ impl<B: Width> Network<B> {
     /// the greatest ones, within those before the call, in which each rule supports every member. After
     /// [`Settled::Unfinished`] another call goes on.
     ///
-    /// A rule whose domains did not change since it narrowed them is not counted: each narrowing that
-    /// counts removes a member, or leaves one rule fewer to look at. The rules are looked at in rounds,
-    /// and one that has to be looked at again waits for the next. `O(1)` for a rule beside its narrowing,
-    /// and for each domain that changes a pass over the rules that name its variable. Rules in a circle
-    /// may take a member or two at a time, and then need as many narrowings as there are members: the
-    /// budget is what stops them.
+    /// A rule whose domains did not change since it narrowed them is not counted, nor is an `AtMost` or a
+    /// `Differs` that takes nothing from them: each narrowing that counts removes a member, or leaves one
+    /// rule fewer to look at. The rules are looked at in rounds, and one that has to be looked at again
+    /// waits for the next. `O(1)` for a rule beside its narrowing, and for each domain that changes a pass
+    /// over the rules that name its variable. Rules in a circle may take a member or two at a time, and
+    /// then need as many narrowings as there are members: the budget is what stops them.
     ///
     /// # Errors
     ///

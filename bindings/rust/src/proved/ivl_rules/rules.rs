@@ -107,6 +107,8 @@ impl Rule {
     /// ```text
     /// ensures { result ≡ needs_singles self.now }
     /// ```
+    ///
+    /// Words: [`needs_singles`](crate::definitions#needs_singles).
     pub fn needs_single_numbers(&self) -> bool {
         match self {
             Rule::Sum(_) => false,

@@ -7,6 +7,7 @@ use super::index::Index;
 use super::narrowing::has_two;
 use crate::proved::intervallum::width::Width;
 use crate::proved::ivl_rules::rules::Rule;
+use crate::proved::ivl_rules::rules::narrowing::takes_nothing;
 use crate::proved::ivl_store::store::{Lost, Store};
 use crate::rattle::std::alloc::{AllocError, Global};
 use crate::rattle::std::mem;
@@ -72,8 +73,7 @@ impl Queue {
     }
 
     /// Updates the flags after the first rule narrowed the store, which is settled then. Others that
-    /// name a variable which lost a member are no longer, but where they look at single numbers alone
-    /// and the variable has two.
+    /// name a variable which lost a member are no longer, but for those that take nothing.
     pub(super) fn settle<B: Width>(
         &mut self,
         i: usize,
@@ -83,9 +83,9 @@ impl Queue {
         index: &Index,
     ) {
         let c = rules[i].places();
-        self.wake(lost.x, has_two(store, c.x), c.x, rules, index);
-        self.wake(lost.y, has_two(store, c.y), c.y, rules, index);
-        self.wake(lost.z, has_two(store, c.z), c.z, rules, index);
+        self.wake(lost.x, true, c.x, store, rules, index);
+        self.wake(lost.y, true, c.y, store, rules, index);
+        self.wake(lost.z, true, c.z, store, rules, index);
         self.settle_first(i);
     }
 
@@ -103,28 +103,39 @@ impl Queue {
         }
     }
 
-    /// Clears the flags of the rules that name the variable, if it has changed. Where it only lost members
-    /// and has two, those that look at single numbers alone stay as they are.
-    pub(super) fn wake(
+    /// Clears the flags of the rules that name the variable, if it has changed, but for those that take
+    /// nothing from the domains of the store: `only_lost` says that the change took members and added none.
+    pub(super) fn wake<B: Width>(
         &mut self,
         changed: bool,
-        keeps_two: bool,
+        only_lost: bool,
         variable: usize,
+        store: &Store<B>,
         rules: &[Rule],
         index: &Index,
     ) {
         if !changed {
             return;
         }
+        let keeps_two = only_lost && has_two(store, variable);
         let mut place = index.last(variable);
         while place > 0 {
             let k = place - 1;
-            if !(keeps_two && rules[k].needs_single_numbers()) {
+            if !stays_settled(&rules[k], keeps_two, store) {
                 self.clear(k);
             }
             place = index.last_before(rules, k, variable);
         }
     }
+}
+
+/// Whether a rule that is settled stays so where a variable that it names has changed: the variable only
+/// lost members and keeps two, and the rule looks at single numbers alone, or it takes nothing.
+fn stays_settled<B: Width>(rule: &Rule, keeps_two: bool, store: &Store<B>) -> bool {
+    if keeps_two && rule.needs_single_numbers() {
+        return true;
+    }
+    takes_nothing(store.domains(), rule)
 }
 
 /// Removes a number from a list, at the last place where it stands. Returns false, and changes

@@ -169,7 +169,8 @@ pub(super) fn revert_to<B: Width>(
     }
 }
 
-/// Takes a change back. Rules that name a variable whose domain is replaced are no longer settled.
+/// Takes a change back. Rules that name a variable whose domain is replaced are no longer settled, but
+/// for those that take nothing.
 fn take_back<B: Width>(
     change: Change<B>,
     store: &mut Store<B>,
@@ -208,7 +209,7 @@ fn put_back<B: Width>(
 ) {
     if let Some(set) = set {
         store.replace(variable, set);
-        queue.wake(true, false, variable, rules, index);
+        queue.wake(true, false, variable, store, rules, index);
     }
 }
 

@@ -5,8 +5,8 @@
 use crate::rattle::prelude::*;
 use super::Rule;
 use super::windows::{
-    at_least, at_most, narrowed_to_moved, narrowed_to_none, narrowed_to_window, narrowed_without,
-    shift_back_of, shift_of,
+    at_least, at_most, has_number, narrowed_to_moved, narrowed_to_none, narrowed_to_window,
+    narrowed_without, shift_back_of, shift_of,
 };
 use crate::proved::intervallum::interval_set::IntervalSet;
 use crate::proved::intervallum::ops::{Bounded, IsEmpty};
@@ -68,6 +68,87 @@ pub fn narrow<B: Width>(domains: &mut [IntervalSet<B>], rule: &Rule) -> Result<b
     put(domains, c.y, y);
     put(domains, c.z, z);
     Ok(lost)
+}
+
+/// Returns true only if narrowing by the rule takes no member: by the ends of its domains, and of a `Differs` where
+/// one domain is a single number, by a look-up of what that forbids. Does not allocate. Of `Sum` and `Shifted`, and
+/// where a domain is empty, it returns false.
+///
+/// The caller must ensure that the rule names each of its variables once, and that each has a domain. Check with
+/// [`Rule::is_over_different`] and [`Rule::first_unknown`].
+///
+/// ```
+/// use intervallum::proved::examples::*;
+///
+/// fn main() -> Result<(), std::boxed::Box<dyn std::error::Error>> {
+///     let alloc = Global;
+///     // x != y, for x and y from 0 to 9; then y is 4
+///     let mut domains = Vec::from_array(alloc, [ IntervalSet::new(alloc, 0, 9)?, IntervalSet::new(alloc, 0, 9)?])?;
+///     let differ = Rule::Differs { x: 0, y: 1, by: 0 };
+///     assert!(takes_nothing(&domains, &differ));
+///     domains[1] = IntervalSet::new(alloc, 4, 4)?;
+///     assert!(!takes_nothing(&domains, &differ));
+///     Ok(())
+/// }
+/// ```
+///
+/// # Proved
+///
+/// ```text
+/// requires different { AreDifferent rule.now }
+/// requires present { AllPresent (length domains.now) (places_of rule.now) }
+/// ensures { result ≡ true → SupportsAll rule.now (set_at domains.now) }
+/// ```
+///
+/// Words: [`AreDifferent`](crate::definitions#AreDifferent), [`AllPresent`](crate::definitions#AllPresent), [`places_of`](crate::definitions#places), [`SupportsAll`](crate::definitions#SupportsAll), [`set_at`](crate::definitions#set_at).
+pub fn takes_nothing<B: Width>(domains: &[IntervalSet<B>], rule: &Rule) -> bool {
+    match rule {
+        Rule::Sum(_) => false,
+        Rule::Shifted { x: _, y: _, by: _ } => false,
+        Rule::AtMost { x, y, by } => are_at_most(&domains[*x], &domains[*y], by),
+        Rule::Differs { x, y, by } => are_differing(&domains[*x], &domains[*y], by),
+    }
+}
+
+/// Whether two sets have a member, and each member of both stands in a pair of which the first and `by` are at most
+/// the second.
+fn are_at_most<B: Width>(x: &IntervalSet<B>, y: &IntervalSet<B>, by: &i64) -> bool {
+    x.in_whole();
+    y.in_whole();
+    if x.is_empty() || y.is_empty() {
+        return false;
+    }
+    let shift = shift_of(by);
+    if y.lower().number() < x.lower().number() + shift {
+        return false;
+    }
+    if y.upper().number() < x.upper().number() + shift {
+        return false;
+    }
+    true
+}
+
+/// Whether two sets have a member, and each member of both stands in a pair of which the first and `by` are not the
+/// second.
+fn are_differing<B: Width>(x: &IntervalSet<B>, y: &IntervalSet<B>, by: &i64) -> bool {
+    if x.is_empty() || y.is_empty() {
+        return false;
+    }
+    if !differs_from(x, y, shift_back_of(by)) {
+        return false;
+    }
+    differs_from(y, x, shift_of(by))
+}
+
+/// Whether each member of `x` is not some member of `y` and `by`, where `y` has a member.
+fn differs_from<B: Width>(x: &IntervalSet<B>, y: &IntervalSet<B>, by: i128) -> bool {
+    x.in_whole();
+    let low = y.lower().number();
+    let high = y.upper().number();
+    if low != high {
+        return true;
+    }
+    !has_number(x, low + by)
 }
 
 /// Whether a set was made for one place at least.

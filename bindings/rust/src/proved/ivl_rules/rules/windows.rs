@@ -99,6 +99,15 @@ pub(super) fn narrowed_without<B: Width>(
     Ok(Some(x.difference(&single)?))
 }
 
+/// Whether a number is a member of `x`.
+pub(super) fn has_number<B: Width>(x: &IntervalSet<B>, number: i128) -> bool {
+    x.in_whole();
+    match B::from_number(number) {
+        Some(value) => x.contains(&value),
+        None => false,
+    }
+}
+
 /// Returns the empty set, or `None` if `x` is empty. Does not allocate.
 pub(super) fn narrowed_to_none<B: Width>(x: &IntervalSet<B>) -> Option<IntervalSet<B>> {
     x.in_whole();

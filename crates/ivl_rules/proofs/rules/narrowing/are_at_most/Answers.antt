@@ -11,14 +11,14 @@ returns g c = λ _.
         c.in_whole.ensures,
         λ z m.
             let above = c.upper-2.ensures.in_range.0 in let below = c.upper-2.ensures.in_range.1 in
-          let k = c.upper-2.ensures.greatest z m in let un = c.number-3.ensures in let xn = c.number-4.ensures in let t = c.if-number-shift-2.false in
+            let k = c.upper-2.ensures.greatest z m in let un = c.number-3.ensures in let xn = c.number-4.ensures in let t = c.if-number-shift-2.false in
             (_, c.upper.ensures.member, omega (arith, ints)),
       );
       second = (
         c.in_whole-2.ensures,
         λ z m.
             let above = c.lower-2.ensures.in_range.0 in let below = c.lower-2.ensures.in_range.1 in
-          let k = c.lower.ensures.least z m in let ln = c.number.ensures in let xn = c.number-2.ensures in let t = c.if-number-shift.false in
+            let k = c.lower.ensures.least z m in let ln = c.number.ensures in let xn = c.number-2.ensures in let t = c.if-number-shift.false in
             (_, c.lower-2.ensures.member, omega (arith, ints)),
       );
     }

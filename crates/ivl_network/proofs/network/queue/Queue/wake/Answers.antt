@@ -18,28 +18,28 @@ loop-place-preserved g c =
     let rules = c.args.rules.now in
     let place = c.loop-place.place in
     let Stays : Rule → Type 0 = (λ rule. IsFixedBy (set_at c.args.store.now) rule
-        ⊎ ((c.args.only_lost ≡ true) × HasTwo (set_at c.args.store.now c.args.variable) × (needs_singles rule ≡ true))) in
+    ⊎ ((c.args.only_lost ≡ true) × HasTwo (set_at c.args.store.now c.args.variable) × (needs_singles rule ≡ true))) in
     let low = inv.1.low in let same = inv.1.same_count in let each = c.requires.one_each in let t = c.loop-place-test.true in
     let pos : 0 < place = omega (arith, t) in
     let within : place - 1 < length after = omega (arith, pos, low, same, each) in
     elim c.if-not-stays_settled.branch [
       | then-not-stays_settled w ↦ rw w.self-is (
-          w.clear.ensures.queue,
-          rw w.clear.ensures.settled (one_woken rules c.args.variable Stays flags after place c.last_before-place.result inv.1 pos within c.last_before-place.ensures),
-          w.clear.ensures.round ∙ inv.2,
-        )
+        w.clear.ensures.queue,
+        rw w.clear.ensures.settled (one_woken rules c.args.variable Stays flags after place c.last_before-place.result inv.1 pos within c.last_before-place.ensures),
+        w.clear.ensures.round ∙ inv.2,
+      )
       | else-not-stays_settled w ↦ rw w.self-is (
-          inv.0,
-          one_left rules c.args.variable Stays flags after place c.last_before-place.result inv.1 pos
-              (λ d m. subst Stays (get_or_default rules (place - 1) _ d (omega (arith, pos, low))) (elim (c.stays_settled.ensures w.if-not-stays_settled.false) [
-                | inl f ↦ inl f
-                | inr two ↦ inr (elim c.if-only_lost.branch [
-                  | then-only_lost v ↦ (v.if-only_lost.true, v.has_two-keeps_two.ensures (sym v.keeps_two-is ∙ two.0), two.1)
-                  | else-only_lost v ↦ absurd (false≢true (sym v.if-only_lost.false ∙ sym v.keeps_two-is ∙ two.0))
-                ])
-              ])) c.last_before-place.ensures,
-          inv.2,
-        )
+        inv.0,
+        one_left rules c.args.variable Stays flags after place c.last_before-place.result inv.1 pos
+            (λ d m. subst Stays (get_or_default rules (place - 1) _ d (omega (arith, pos, low))) (elim (c.stays_settled.ensures w.if-not-stays_settled.false) [
+              | inl f ↦ inl f
+              | inr two ↦ inr (elim c.if-only_lost.branch [
+                | then-only_lost v ↦ (v.if-only_lost.true, v.has_two-keeps_two.ensures (sym v.keeps_two-is ∙ two.0), two.1)
+                | else-only_lost v ↦ absurd (false≢true (sym v.if-only_lost.false ∙ sym v.keeps_two-is ∙ two.0))
+              ])
+            ])) c.last_before-place.ensures,
+        inv.2,
+      )
     ]
 
 pub returns-clause-cleared : goal.returns-clause-cleared
