@@ -24,10 +24,10 @@ StaysFixed rule before after = IsFixedBy after rule ⊎ ((i : ℕ) → NamesOf r
 
 -- of two members one is not this number
 other_member : (S : ℤ → Type 0) (n : ℤ) → HasTwo S → (w : ℤ) × S w × (w ≢ n)
-other_member S n (v, w, hv, hw, ne) = by_test (int_eq v n) (int_eq_is v n _ refl)
+other_member S n (v, w, hv, hw, lt) = by_test (int_eq v n) (int_eq_is v n _ refl)
   where
     by_test : (r : Bool) → IsTrue r ↔ (v ≡ n) → (u : ℤ) × S u × (u ≢ n)
-    by_test true h = (w, hw, λ e. ne (h.0 refl ∙ sym e))
+    by_test true h = (w, hw, λ e. let f = h.0 refl in omega (arith, ints))
     by_test false h = (v, hv, λ e. absurd (false≢true (h.1 e)))
 
 -- two variables that differ

@@ -12,7 +12,8 @@ use Rattle.ivl_laws.proofs.Runs.{≤ℤ_antisymm}
 use Rattle.ivl_search.specs.declared.search.choice.Wanted.{Wanted}
 use Rattle.ivl_search.specs.declared.search.choice.Wanted.TheVariants.{Least, Greatest}
 use Rattle.ivl_search.specs.Best.{IsAsGood, IsBetter}
-use Rattle.ivl_search.specs.Halves.{HasTwo, IsHalf, IsMiddle}
+use Rattle.ivl_network.specs.Settled.{HasTwo}
+use Rattle.ivl_search.specs.Halves.{IsHalf, IsMiddle}
 use Rattle.ivl_search.specs.Nodes.{AreFilled, IsNodeOf}
 use Rattle.ivl_search.specs.declared.search.choice.Node.{Node}
 use Rattle.ivl_search.specs.declared.search.choice.Node.TheVariants.{Unsettled, Dead, Leaf, Open}

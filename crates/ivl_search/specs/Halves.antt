@@ -1,15 +1,11 @@
 -- Where a set is cut in two.
---     HasTwo S      S has two members
 --     IsHalf wanted below all      of all members those from the one with so many below it to the best are no more than half, or half and one more
 --     IsMiddle wanted S x      x is a member, and so many are as good as it
-use Rattle.std.specs.Prelude.{ℕ, ◌+◌, ◌≤◌, ℤ, ◌<ℤ◌}
+use Rattle.std.specs.Prelude.{ℕ, ◌+◌, ◌≤◌, ℤ}
 use Rattle.ivl_laws.specs.Counts.{IsCountOf}
 use Rattle.ivl_laws.specs.Sets.{Below}
 use Rattle.ivl_search.specs.declared.search.choice.Wanted.{Wanted}
 use Rattle.ivl_search.specs.declared.search.choice.Wanted.TheVariants.{Least, Greatest}
-
-abbrev pub HasTwo : (ℤ → Type 0) → Type 0
-HasTwo S = (x : ℤ) × (y : ℤ) × S x × S y × (x <ℤ y)
 
 abbrev pub IsHalf : Wanted → ℕ → ℕ → Type 0
 IsHalf Least below all = below + below + 1 ≤ all

@@ -4,7 +4,8 @@ ghost use Rattle.ivl_laws.specs.Families.{set_at};
 ghost use Rattle.ivl_laws.specs.Runs.{Covers};
 ghost use Rattle.ivl_laws.specs.Sets.{Above, Below, HasNone, HasSome, Intersection, IsBetween, Only, SameMembers};
 ghost use Rattle.ivl_search.specs.Best.{IsBetter, IsInPart};
-ghost use Rattle.ivl_search.specs.Halves.{HasTwo, IsMiddle};
+ghost use Rattle.ivl_network.specs.Settled.{HasTwo};
+ghost use Rattle.ivl_search.specs.Halves.{IsMiddle};
 ghost use Rattle.ivl_search.specs.Nodes.{IsNodeOf};
 
 use intervallum::interval_set::IntervalSet;
