@@ -1,5 +1,5 @@
 // Written by bindings/rust/extract from crates/ivl_solve/src/main.rt.
-//! Narrows the domains of variables by sums `x + y = z`: reads one request per line from standard input,
+//! Narrows the domains of variables by rules between them: reads one request per line from standard input,
 //! and answers each on standard output.
 
 #[allow(unused_imports)]
@@ -10,11 +10,13 @@ use crate::rattle::std::io::{Read, Write};
 use crate::rattle::std::process::ExitCode;
 
 const HELP: &str = "\
-Narrows the domains of variables by sums: reads one line at a time from standard input, and answers each.
+Narrows the domains of variables by rules: reads one line at a time from standard input, and answers each.
 
   var x l u l u ..     a new variable, whose domain is the union of the pairs
   cut x l u l u ..     x keeps the members of its domain that are in the union of the pairs, one or more
-  sum x y z            x + y = z, from now on
+  x + n <= y           from now on, for a number n; also x <= y, x <= y + n, and all three by != and by =
+  x + y = z            from now on; also sum x y z
+  different x y ..     no two of them have the same number, from now on
   limit n              what the narrowings of each later line may count for; 1000000 at the start
   go on                narrows further
   show                 the domain of each variable

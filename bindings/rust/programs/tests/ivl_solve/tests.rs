@@ -114,7 +114,7 @@ fn domains_as_they_are_given() { let rt = HostRuntime;
 }
 
 // A line that cannot be carried out, and its answer. `x` and `y` are [1..9] before it and after it.
-const BAD_LINES: [(&str, &str); 38] = [
+const BAD_LINES: [(&str, &str); 68] = [
     ("frob", "unknown command frob"),
     ("Var z", "unknown command Var"),
     ("var", "write var x l u l u .."),
@@ -165,7 +165,45 @@ const BAD_LINES: [(&str, &str); 38] = [
         "show \u{1b}[2J\u{9b}\0",
         "unknown variable \\u{1b}[2J\\u{9b}\\u{0}",
     ),
+    ("x + two <= y", "bad number two"),
+    ("x + +1 != y", "bad number +1"),
+    ("x <= y + two", "bad number two"),
+    ("x = y + x", "bad number x"),
+    ("sum + x <= y", "bad number x"),
+    (
+        "x + 9223372036854775808 <= y",
+        "bad number 9223372036854775808",
+    ),
+    (
+        "x + 9223372036854775808 = y",
+        "unknown variable 9223372036854775808",
+    ),
+    ("x <= y + -9223372036854775808", "out of range"),
+    ("x != y + -9223372036854775808", "out of range"),
+    ("x = y + -9223372036854775808", "out of range"),
+    ("x <= z", "unknown variable z"),
+    ("u != z", "unknown variable u"),
+    ("u = z + 1", "unknown variable u"),
+    ("u + z = x", "unknown variable u"),
+    ("x <= x", "x is named twice"),
+    ("x + 3 != x", "x is named twice"),
+    ("x + y = y", "y is named twice"),
+    ("x <=", FORMS_OF_RULES),
+    ("x + 3 <=", FORMS_OF_RULES),
+    ("x + 3", FORMS_OF_RULES),
+    ("x <= y 3", FORMS_OF_RULES),
+    ("x <= y + 3 4", FORMS_OF_RULES),
+    ("x + 3 < y", FORMS_OF_RULES),
+    ("x <= y - 3", FORMS_OF_RULES),
+    ("x < y", "unknown command x"),
+    ("sum + 3", "write sum x y z"),
+    ("different", "write different x y .."),
+    ("different x", "write different x y .."),
+    ("different x z u", "unknown variable z"),
+    ("different x y y x", "x is named twice"),
 ];
+
+const FORMS_OF_RULES: &str = "write x + n <= y, x + n != y, x + n = y or x + y = z";
 
 #[test]
 fn bad_lines() -> Result<(), Fail> { let rt = HostRuntime;
@@ -175,6 +213,64 @@ fn bad_lines() -> Result<(), Fail> { let rt = HostRuntime;
         check_session(&rt, lines.as_str(), answers.as_str());
     }
     Ok(())
+}
+
+// A line of rules, and what it leaves of x, y and z, which are [0..9], [0..9] and [5..5] before it.
+const RULES: [(&str, &str); 14] = [
+    ("x <= z", "x [0..5]\ny [0..9]\nz [5..5]\n"),
+    ("x + 3 <= y", "x [0..6]\ny [3..9]\nz [5..5]\n"),
+    ("x <= y + -3", "x [0..6]\ny [3..9]\nz [5..5]\n"),
+    ("x <= y + 3", "x [0..9]\ny [0..9]\nz [5..5]\n"),
+    ("z <= x + 3", "x [2..9]\ny [0..9]\nz [5..5]\n"),
+    ("x != z", "x {[0..4][6..9]}\ny [0..9]\nz [5..5]\n"),
+    ("z + 2 != x", "x {[0..6][8..9]}\ny [0..9]\nz [5..5]\n"),
+    ("x != z + -2", "x {[0..2][4..9]}\ny [0..9]\nz [5..5]\n"),
+    ("x = z", "x [5..5]\ny [0..9]\nz [5..5]\n"),
+    ("x + 4 = y", "x [0..5]\ny [4..9]\nz [5..5]\n"),
+    (" x  =  y + 4", "x [4..9]\ny [0..5]\nz [5..5]\n"),
+    ("x + y = z", "x [0..5]\ny [0..5]\nz [5..5]\n"),
+    (
+        "different x z y",
+        "x {[0..4][6..9]}\ny {[0..4][6..9]}\nz [5..5]\n",
+    ),
+    (
+        "x + -9223372036854775808 <= y",
+        "x [0..9]\ny [0..9]\nz [5..5]\n",
+    ),
+];
+
+#[test]
+fn rules() -> Result<(), Fail> { let rt = HostRuntime;
+    for (line, left) in &RULES {
+        let lines = format!(in rt.alloc(); "var x 0 9\nvar y 0 9\nvar z 5 5\n{line}\nshow")?;
+        let answers = format!(in rt.alloc(); "ok\nok\nok\nok\n{left}ok\n")?;
+        check_session(&rt, lines.as_str(), answers.as_str());
+    }
+    Ok(())
+}
+
+// Variables may have the names of commands, of signs and of numbers. A number before `=` is one all the same, which
+// `sum` does not take so.
+#[test]
+fn rules_of_any_names() { let rt = HostRuntime;
+    let lines = "var sum 0 9\nvar + 3 4\nvar <= 0 9\nvar 1 7 7\nsum + -2 <= +\nsum + 1 = <=\n\
+        + <= <= + 0\nsum sum 1 <=\nshow\n";
+    let answers = "ok\nok\nok\nok\nok\nok\nok\nno solution\n\
+        sum {}\n+ {}\n<= {}\n1 {}\nno solution\n";
+    check_session(&rt, lines, answers);
+}
+
+// Three variables of two numbers cannot differ, and no narrowing sees that: a search does.
+#[test]
+fn different_variables() { let rt = HostRuntime;
+    let lines = "var x 1 2\nvar y 1 2\nvar z 1 2\ndifferent x y z\nshow x\nsolve\ncount\n";
+    let answers = "ok\nok\nok\nok\nx [1..2]\nok\nno solution\ncount 0\nno solution\n";
+    check_session(&rt, lines, answers);
+    let lines = "var x 1 3\nvar y 2 3\nvar z 3 3\nlimit 1\ndifferent x y z\nlimit 9\n\
+        different x y\nshow\n";
+    let answers = "ok\nok\nok\nok\nunfinished\nunfinished\nok\n\
+        x [1..1]\ny [2..2]\nz [3..3]\nok\n";
+    check_session(&rt, lines, answers);
 }
 
 // A variable alone, and names with control characters, which are printed escaped.

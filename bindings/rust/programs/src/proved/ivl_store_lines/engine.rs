@@ -8,9 +8,10 @@ use crate::proved::ivl_store_lines::progress::Progress;
 use crate::proved::ivl_store_lines::replies::{
     write_best, write_count, write_fault, write_shown, write_solutions, write_state, write_variable,
 };
-use crate::proved::ivl_store_lines::request::{Request, request_from};
+use crate::proved::ivl_store_lines::request::{Request, begins_rule, request_from};
+use crate::proved::ivl_store_lines::solve::Extreme;
 use crate::proved::ivl_store_lines::solver::Solver;
-use crate::proved::ivl_lines::{Answers, SessionFault, first_word, line_text, next_word, serve};
+use crate::proved::ivl_lines::{Answers, SessionFault, line_text, next_word, serve};
 use crate::rattle::std::alloc::Global;
 use crate::rattle::std::collections::hash_map::RandomState;
 use crate::rattle::std::io;
@@ -18,9 +19,9 @@ use crate::rattle::std::io::{Read, Write};
 
 impl Answers for Solver {
     fn may_take_long(&self, line: &[u8]) -> bool {
-        match first_word(line) {
-            "cut" | "sum" | "go" | "solve" | "count" | "min" | "max" => true,
-            _ => false,
+        match line_text(line) {
+            Some(text) => is_long(text),
+            None => false,
         }
     }
 
@@ -66,6 +67,17 @@ pub fn session<R: Read, W: Write>(
     serve(alloc, &mut Solver::new(alloc, keys), reader, writer)
 }
 
+// Whether a line narrows domains or searches, or may do so.
+fn is_long(text: &str) -> bool {
+    match next_word(text) {
+        Some((name, words)) => match name {
+            "var" | "limit" | "show" => begins_rule(words),
+            _ => true,
+        },
+        None => false,
+    }
+}
+
 // Answers one line. A line without words has no answer.
 fn answer_line<W: Write>(solver: &mut Solver, line: &[u8], writer: &mut W) -> io::Result<()> {
     match line_text(line) {
@@ -95,8 +107,8 @@ fn answer_request<W: Write>(
         Request::Show(Some(name)) => write_variable(writer, solver, name),
         Request::Solve(most) => answer_solve(solver, most, writer),
         Request::Count => answer_count(solver, writer),
-        Request::Least(name) => answer_least(solver, name, writer),
-        Request::Greatest(name) => answer_greatest(solver, name, writer),
+        Request::Least(name) => answer_best(solver, name, Extreme::Least, writer),
+        Request::Greatest(name) => answer_best(solver, name, Extreme::Greatest, writer),
         change => answer_change(solver, change, writer),
     }
 }
@@ -127,15 +139,13 @@ fn answer_count<W: Write>(solver: &Solver, writer: &mut W) -> io::Result<()> {
     }
 }
 
-fn answer_least<W: Write>(solver: &Solver, name: &str, writer: &mut W) -> io::Result<()> {
-    match solver.least(name) {
-        Ok(best) => write_best(writer, solver.names(), &best),
-        Err(fault) => write_fault(writer, &fault),
-    }
-}
-
-fn answer_greatest<W: Write>(solver: &Solver, name: &str, writer: &mut W) -> io::Result<()> {
-    match solver.greatest(name) {
+fn answer_best<W: Write>(
+    solver: &Solver,
+    name: &str,
+    extreme: Extreme,
+    writer: &mut W,
+) -> io::Result<()> {
+    match solver.best(name, extreme) {
         Ok(best) => write_best(writer, solver.names(), &best),
         Err(fault) => write_fault(writer, &fault),
     }

@@ -11,17 +11,18 @@ pub enum Fault<'a> {
     Bytes,
     /// The first word is not a command.
     Command(&'a str),
-    /// The words after the command do not have its form, which is this.
+    /// The words do not have the form of their command, or of a rule, which is this.
     Form(&'static str),
     /// The word is not a number of `i64`.
     Number(&'a str),
-    /// A bound is outside the range, which is that of `i64` without its least number.
+    /// A bound is outside the range, which is that of `i64` without its least number; or a rule adds that
+    /// number after its sign.
     Range,
     /// No variable has this name.
     Unknown(&'a str),
     /// A variable has this name already.
     Defined(&'a str),
-    /// The variable is named twice in a sum.
+    /// The variable is named twice in a rule.
     Repeated(&'a str),
     /// An allocation failed.
     Memory,

@@ -113,9 +113,12 @@ impl Write for Noted {
 }
 
 // The lines that narrow domains or search.
-const LONG_LINES: [&str; 7] = [
+const LONG_LINES: [&str; 10] = [
     "cut x 2 5",
     "sum x y z",
+    "x <= y",
+    "x + 0 = y",
+    "different x y",
     "go on",
     "solve",
     "count",
@@ -145,12 +148,26 @@ fn flushed_before_a_line_that_may_take_long() -> Result<(), Fail> { let rt = Hos
     Ok(())
 }
 
+// So too before a rule of a variable that has the name of a line that is quick.
+#[test]
+fn flushed_before_a_rule_of_any_name() { let rt = HostRuntime;
+    let mut input: &[u8] = b"var show 1 9\nvar y 1 9\nshow <= y\nlimit 9\n";
+    let mut writer = Noted {
+        written: 0,
+        flushes: [0; 6],
+        count: 0,
+    };
+    let ended = session(rt.alloc(), keys(&rt), &mut input, &mut writer);
+    assert_eq!(rt; (ended, writer.count, writer.flushes[1]), (Ok(()), 4, 6));
+}
+
 // If one allocation fails, as under `rt try --test --fail-alloc N`, either the session ends with `Memory`,
 // or one line is answered with out of memory, as an error or as unfinished.
 #[test]
 fn one_refused_request() -> Result<(), Fail> { let rt = HostRuntime;
     let mut input: &[u8] =
-        b"var x 1 9\nvar y 1 9\nvar z 11 11\nsum x y z\ncut x 2 5\nshow\ncut x 2 3\nsolve\ncount\n";
+        b"var x 1 9\nvar y 1 9\nvar z 11 11\nsum x y z\ncut x 2 5\nx + 4 <= y\nx <= y + 9\n\
+        different x y z\nshow\ncut x 2 3\nsolve\ncount\n";
     let mut written = Vec::with_capacity(rt.alloc(), 1024)?;
     if let Err(fault) = session(rt.alloc(), keys(&rt), &mut input, &mut written) {
         assert_eq!(rt; fault, SessionFault::Memory);
@@ -162,8 +179,8 @@ fn one_refused_request() -> Result<(), Fail> { let rt = HostRuntime;
         .count();
     assert!(rt; refused <= 2);
     if refused == 0 {
-        let all: &[u8] =
-            b"ok\nok\nok\nok\nok\nx [2..5]\ny [6..9]\nz [11..11]\nok\nok\nx 2 y 9 z 11\nx 3 y 8 z 11\nok\ncount 2\nok\n";
+        let all: &[u8] = b"ok\nok\nok\nok\nok\nok\nok\nok\nx [2..5]\ny [6..9]\nz [11..11]\nok\nok\n\
+            x 2 y 9 z 11\nx 3 y 8 z 11\nok\ncount 2\nok\n";
         assert_eq!(rt; written.as_slice(), all);
     }
     Ok(())
