@@ -12,7 +12,7 @@ use Rattle.ivl_rules.specs.declared.rules.Rule.TheVariants as rule
 use Rattle.ivl_rules.specs.Rules.{AreDifferent}
 use Rattle.ivl_network.specs.Network.{IsRuleRequired}
 use Rattle.ivl_store_lines.specs.Required.{AreRequired, each_pair}
-use Rattle.ivl_store_lines.specs.Solving.{first_repeated, variable_named, variables_named}
+use Rattle.ivl_store_lines.specs.Solving.{repeated_name, variable_named, variables_named}
 
 required_last : (rules : List Rule) (last : Rule) (old now new : List Rule) → AreRequired rules old now → IsRuleRequired last now new → AreRequired (rules ++ last ∷ []) old new
 required_last [] last old now new same one = (new, subst (λ rules. IsRuleRequired last rules new) same one, refl)
@@ -52,12 +52,12 @@ apart_from known name i (other ∷ others) is none =
         (λ same. true≢false (sym (same_name known name other i is (e ∙ ap Some (sym same))) ∙ apart)) all)
 
 -- names that stand once are those of different variables
-pub pairs_different : (known names : List (List ℕ)) → first_repeated names ≡ None → All AreDifferent (each_pair (variables_named known names))
+pub pairs_different : (known names : List (List ℕ)) → repeated_name names ≡ None → All AreDifferent (each_pair (variables_named known names))
 pairs_different known [] once = All-nil AreDifferent
 pairs_different known (name ∷ names) once = with_first (list_any (λ other. bytes_eq name other) names) refl (variable_named known name) refl (pairs_different known names)
   where
     with_first : (again : Bool) → list_any (λ other. bytes_eq name other) names ≡ again → (found : Option ℕ) → variable_named known name ≡ found
-        → (first_repeated names ≡ None → All AreDifferent (each_pair (variables_named known names))) → All AreDifferent (each_pair (variables_named known (name ∷ names)))
+        → (repeated_name names ≡ None → All AreDifferent (each_pair (variables_named known names))) → All AreDifferent (each_pair (variables_named known (name ∷ names)))
     with_first true e found is rest = absurd (some_is_none (subst (λ o. o ≡ None) (rw e refl) once))
       where
         some_is_none : Some name ≡ None → ⊥

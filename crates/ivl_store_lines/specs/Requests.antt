@@ -1,7 +1,7 @@
 -- What a command asks for, by its words.
 --     name_and_pairs, name_and_some_pairs, with_pairs, three_names, different_by, limit_of, only_on, shown_by, most_of, counted_by, best_by words      the words after a command, by its form; `None` if they do not have it
 --     natural_of word      the number of i64 from 0 up that a word is; `None` if it is no such number
---     command_of name words      what a command and the words after it ask for; `None` if they are no request
+--     asked_by name words      what a command and the words after it ask for; `None` if they are no request
 --     asked_of request      the request as the program keeps it
 --     asked_extreme extreme name      the request for the least or the greatest number of the variable with this name
 --     first_bad_number_of words      the first word that is not a number; `None` if all are numbers
@@ -94,8 +94,8 @@ abbrev pub best_by : (List ℕ → Asked) → List (List ℕ) → Option Asked
 best_by asked (name ∷ []) = Some (asked name)
 best_by asked _ = None
 
-abbrev pub command_of : List ℕ → List (List ℕ) → Option Asked
-command_of name words =
+abbrev pub asked_by : List ℕ → List (List ℕ) → Option Asked
+asked_by name words =
     if bytes_eq name (codes "var") then with_pairs var (name_and_pairs words)
     else if bytes_eq name (codes "cut") then with_pairs cut (name_and_some_pairs words)
     else if bytes_eq name (codes "sum") then three_names words

@@ -16,7 +16,7 @@ use Rattle.ivl_lines.specs.Numbers.{number_of}
 use Rattle.ivl_store_lines.specs.declared.relation.Relation.{Relation}
 use Rattle.ivl_store_lines.specs.declared.relation.Relation.TheVariants.{Shifted, AtMost, Differs}
 use Rattle.ivl_store_lines.specs.Faults.{Told, no_command, no_form, no_number, out_of_range}
-use Rattle.ivl_store_lines.specs.Requests.{Asked, sum, relate, command_of, why_no_command}
+use Rattle.ivl_store_lines.specs.Requests.{Asked, sum, relate, asked_by, why_no_command}
 
 abbrev pub relation_of : List ℕ → Option Relation
 relation_of sign =
@@ -62,7 +62,7 @@ asked_first (Some (Err why)) command = None
 asked_first None command = command
 
 abbrev pub request_of : List ℕ → List (List ℕ) → Option Asked
-request_of name words = asked_first (rule_of (name ∷ words)) (command_of name words)
+request_of name words = asked_first (rule_of (name ∷ words)) (asked_by name words)
 
 -- the fault of a rule, or else that of the command
 abbrev pub told_first : Option (Result Asked Told) → Told → Told

@@ -14,11 +14,12 @@
 --         domain, `Cuts` cuts a domain and then narrows (`Settles`), `Adds`, `Relates` and `different` require rules
 --         and then narrow, all or nothing, `GoesOn` narrows, `Limits` sets the limit, `show` changes nothing
 --     range_fault pairs      the fault of pairs that are not all in range (`is_in_range`); `None` if they are
---     first_unknown known names, first_repeated names      the first name that no variable has; the first that stands
+--     unknown_name known names, repeated_name names      the first name that no variable has; the first that stands
 --         again after itself; `None` if there is none
---     fault_of asked old      the fault of a request (`limit`, `go_on` and `show` alone have none), by the solver
---         before it: `var_fault`, `cut_fault`, `sum_fault`, `pair_fault`, `show_fault` by the variables that have the
---         names, `names_fault` by the first unknown and the first repeated name; `None` if it has none
+--     fault_of asked old      the fault of a request (`var`, `cut`, `sum`, `relate`, `different`, or `show` with a
+--         name; `limit`, `go_on` and `show` alone have none), by the solver before it: `var_fault`, `cut_fault`,
+--         `sum_fault`, `pair_fault`, `show_fault` by the variables that have the names, `names_fault` by the first
+--         unknown and the first repeated name; `None` if it has none
 use Rattle.std.specs.Prelude.{◌≡◌, ◌<◌, ◌≤◌, ◌+◌, ◌-◌, ◌*◌, ◌^◌, ◌||◌, ◌==◌, ℕ, ℤ, pos, negsuc, List, Any, Contains, [], ◌∷◌, ◌++◌, bytes_eq, filter_map, find, if◌then◌else◌, is_none, length, position, Option, Some, None}
 use Rattle.std.specs.List.{list_all, list_any}
 use Rattle.ivl_lines.specs.Numbers.{is_in_range}
@@ -170,13 +171,13 @@ pair_fault x y (Some i) None = Some (unknown y)
 pair_fault x y (Some i) (Some j) = if i == j then Some (repeated x) else None
 
 -- the first name that no variable has
-abbrev pub first_unknown : List (List ℕ) → List (List ℕ) → Option (List ℕ)
-first_unknown known names = find (λ name. is_none (variable_named known name)) names
+abbrev pub unknown_name : List (List ℕ) → List (List ℕ) → Option (List ℕ)
+unknown_name known names = find (λ name. is_none (variable_named known name)) names
 
 -- the first name that stands again after itself
-abbrev pub first_repeated : List (List ℕ) → Option (List ℕ)
-first_repeated [] = None
-first_repeated (name ∷ names) = if list_any (λ other. bytes_eq name other) names then Some name else first_repeated names
+abbrev pub repeated_name : List (List ℕ) → Option (List ℕ)
+repeated_name [] = None
+repeated_name (name ∷ names) = if list_any (λ other. bytes_eq name other) names then Some name else repeated_name names
 
 -- an unknown name is told before one that is repeated
 abbrev pub names_fault : Option (List ℕ) → Option (List ℕ) → Option Told
@@ -189,7 +190,7 @@ fault_of (var name pairs) old = var_fault name pairs (variable_named old.names n
 fault_of (cut name pairs) old = cut_fault name pairs (variable_named old.names name)
 fault_of (sum x y z) old = sum_fault x y z (variable_named old.names x) (variable_named old.names y) (variable_named old.names z)
 fault_of (relate relation x y by) old = pair_fault x y (variable_named old.names x) (variable_named old.names y)
-fault_of (different names) old = names_fault (first_unknown old.names names) (first_repeated names)
+fault_of (different names) old = names_fault (unknown_name old.names names) (repeated_name names)
 fault_of (limit n) old = None
 fault_of go_on old = None
 fault_of (show None) old = None

@@ -4,7 +4,7 @@ ghost use Rattle.std.specs.List.{list_any};
 ghost use Rattle.ivl_lines.specs.Words.{words_between};
 ghost use Rattle.ivl_rules.specs.declared.rules.Rule.TheVariants.{Differs};
 ghost use Rattle.ivl_store_lines.specs.Required.{each_pair as pairs_of};
-ghost use Rattle.ivl_store_lines.specs.Solving.{first_repeated as repeated_of};
+ghost use Rattle.ivl_store_lines.specs.Solving.{repeated_name};
 
 use ivl_lines::next_word;
 use ivl_rules::rules::Rule;
@@ -13,7 +13,7 @@ use std::alloc::{AllocError, Global};
 /// Returns the first name that stands again after itself, or `None` if each stands once. Compares
 /// each name with the later ones.
 pub fn first_repeated(names: &str) -> Option<&str>
-    ensures { option_map (λ name. name.now) result ≡ repeated_of (words_between names.entry.now) }
+    ensures { option_map (λ name. name.now) result ≡ repeated_name (words_between names.entry.now) }
 {
     let mut rest = names;
     while let Some((name, after)) = next_word(rest) {

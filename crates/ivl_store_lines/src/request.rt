@@ -2,7 +2,7 @@
 ghost use Rattle.std.specs.Prelude.{◌≡◌, ◌≢◌, ◌∷◌, [], IfErr, IfOk, IsSome, IsTrue, None, Some, codes, option_map};
 ghost use Rattle.ivl_lines.specs.Words.{words_between};
 ghost use Rattle.ivl_store_lines.specs.Faults.{no_form, told_of};
-ghost use Rattle.ivl_store_lines.specs.Requests.{asked_of, best_by, counted_by, command_of, cut, different_by, first_bad_number_of, greatest, least, limit_of, most_of, name_and_pairs, name_and_some_pairs, natural_of, needs_list, only_on, shown_by, why_no_command, why_no_limit, why_no_most, why_no_pairs, with_pairs};
+ghost use Rattle.ivl_store_lines.specs.Requests.{asked_of, best_by, counted_by, asked_by, cut, different_by, first_bad_number_of, greatest, least, limit_of, most_of, name_and_pairs, name_and_some_pairs, natural_of, needs_list, only_on, shown_by, why_no_command, why_no_limit, why_no_most, why_no_pairs, with_pairs};
 ghost use Rattle.ivl_store_lines.specs.RuleForms.{request_of, why_no_request, why_unknown};
 
 mod rules;
@@ -93,8 +93,8 @@ pub fn request_from<'a>(
 
 /// The request of a command and the words after it.
 fn command_from<'a>(alloc: Global, name: &'a str, words: &'a str) -> Result<Request<'a>, Fault<'a>>
-    ensures ok { IfOk result (λ request. command_of name.entry.now (words_between words.entry.now) ≡ Some (asked_of request)) }
-    ensures refused { IfErr result (λ fault. IsSome (told_of fault) → command_of name.entry.now (words_between words.entry.now) ≡ None) }
+    ensures ok { IfOk result (λ request. asked_by name.entry.now (words_between words.entry.now) ≡ Some (asked_of request)) }
+    ensures refused { IfErr result (λ fault. IsSome (told_of fault) → asked_by name.entry.now (words_between words.entry.now) ≡ None) }
     ensures fault { IfErr result (λ fault. IsSome (told_of fault) → told_of fault ≡ Some (why_no_command (why_unknown name.entry.now (words_between words.entry.now)) name.entry.now (words_between words.entry.now))) }
     ensures memory { IfErr result (λ fault. told_of fault ≡ None → IsTrue (needs_list name.entry.now (words_between words.entry.now))) }
 {

@@ -8,7 +8,7 @@ ghost use Rattle.ivl_lines.specs.Words.{words_between};
 ghost use Rattle.ivl_store_lines.specs.Faults.{told_of, unknown};
 ghost use Rattle.ivl_store_lines.specs.Required.{each_pair as pairs_of, related};
 ghost use Rattle.ivl_store_lines.specs.Requests.{asked_of, cut as cut_of, different as different_of, relate as relate_of, sum as sum_of, var as var_of};
-ghost use Rattle.ivl_store_lines.specs.Solving.{Adds, Carries, Cuts, Defines, Relates, Requires, Settles, first_unknown as unknown_in, fault_of, variable_named as index_in, variables_named as indexes_in, range_fault};
+ghost use Rattle.ivl_store_lines.specs.Solving.{Adds, Carries, Cuts, Defines, Relates, Requires, Settles, fault_of, unknown_name, variable_named as index_in, variables_named as indexes_in, range_fault};
 
 use crate::atomic::{require_atomically, restrict_atomically, settle_atomically};
 use crate::different::{each_pair, first_repeated};
@@ -264,7 +264,7 @@ impl Solver {
 
     /// The first of the names that no variable has.
     fn first_unknown<'a>(&self, names: &'a str) -> Option<&'a str>
-        ensures { option_map (λ name. name.now) result ≡ unknown_in self.now.names (words_between names.entry.now) }
+        ensures { option_map (λ name. name.now) result ≡ unknown_name self.now.names (words_between names.entry.now) }
     {
         let mut rest = names;
         while let Some((name, after)) = next_word(rest) {
