@@ -13,3 +13,4 @@ pub mod Queues
 pub mod Reverting
 pub mod Settled
 pub mod Trails
+pub mod Work

@@ -2,11 +2,11 @@
 use Rattle.std.proofs.Common.{◌≡◌, ◌≢◌, ◌↔◌, ℕ, ◌<◌, ◌⊎◌, inl, inr, refl, sym, ap, subst, arith, cond, leb, ◌∙◌, List, [], ◌∷◌, length, get_or, Bool, true, false}
 use Rattle.std.specs.Prelude.{ℤ, ◌||◌, Option, Some, None, All, is_some}
 use Rattle.std.proofs.lemmas.List.{get_or-set_same, get_or-set_other, length-set}
-use Rattle.std.proofs.lemmas.List.Elements.{All-nil, All-cons, All-set}
+use Rattle.std.proofs.lemmas.List.Elements.{All-nil, All-cons}
 use Rattle.std.proofs.lemmas.Bool.{cases_eq, false≢true}
 use Rattle.std.proofs.lemmas.Bool.Decides.{nat_tests}
 use Rattle.ivl_laws.specs.Sets.{IsSubset, SameMembers, HasSome, Without}
-use Rattle.ivl_laws.specs.Runs.{Covers, IsMaximal, IsRunListIn}
+use Rattle.ivl_laws.specs.Runs.{Covers, IsMaximal}
 use Rattle.ivl_laws.specs.Counts.{IsIn, IsCountOf}
 use Rattle.ivl_laws.specs.Families.{set_at}
 use Rattle.ivl_laws.proofs.Lengths.{decide_covers}
@@ -75,11 +75,6 @@ replaced-other sets i j (Some left) h = elim (cases_eq j i) [
   where
     not_none : Some left ≡ None → ⊥
     not_none e = cc
-
-pub replaced_in_range : (whole : ℤ × ℤ) (sets : List (List (ℤ × ℤ))) (i : ℕ) (left : Option (List (ℤ × ℤ))) → All (IsRunListIn whole) sets
-    → ((s : List (ℤ × ℤ)) → left ≡ Some s → IsRunListIn whole s) → All (IsRunListIn whole) (narrowed_at sets i left)
-replaced_in_range whole sets i None h k = h
-replaced_in_range whole sets i (Some s) h k = All-set (IsRunListIn whole) sets i s (k s refl) h
 
 -- one domain cut by a set
 pub cut_after : (whole : ℤ × ℤ) (old : List (List (ℤ × ℤ))) (i : ℕ) (S : ℤ → Type 0) (left : Option (List (ℤ × ℤ))) → i < length old

@@ -191,7 +191,11 @@ fn as_the_docs_have_it(rt: HostRuntime) {
         &mut network,
         &(0, Settled::Unfinished, &["[0..9]", "[0..9]"]),
     );
-    check_settled(&rt, &mut network, &(10, Settled::All, &["[0..6]", "[3..9]"]));
+    check_settled(
+        &rt,
+        &mut network,
+        &(10, Settled::All, &["[0..6]", "[3..9]"]),
+    );
     assert_eq!(rt; network.restrict(0, &set_of(&rt, &[(5, 20)])), Ok(()));
     check_settled(
         &rt,

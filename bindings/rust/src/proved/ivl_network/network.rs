@@ -6,7 +6,6 @@
 //! call goes on.
 //!
 //! ```
-//! use intervallum::proved::ivl_network::network::{Network, Settled};
 //! use intervallum::proved::examples::*;
 //!
 //! fn main() -> Result<(), std::boxed::Box<dyn std::error::Error>> {
@@ -90,7 +89,6 @@ impl<B: Width> Network<B> {
     /// Creates a network without variables. Does not allocate.
     ///
     /// ```
-    /// use intervallum::proved::ivl_network::network::{Network, Settled};
     /// use intervallum::proved::examples::*;
     ///
     /// fn main() -> Result<(), std::boxed::Box<dyn std::error::Error>> {
@@ -171,7 +169,6 @@ impl<B: Width> Network<B> {
     /// Fails only if allocation fails. The network is unchanged after an error.
     ///
     /// ```
-    /// use intervallum::proved::ivl_network::network::{Network, Settled};
     /// use intervallum::proved::examples::*;
     ///
     /// fn main() -> Result<(), std::boxed::Box<dyn std::error::Error>> {
@@ -216,7 +213,6 @@ impl<B: Width> Network<B> {
     /// fails. The network is then unchanged.
     ///
     /// ```
-    /// use intervallum::proved::ivl_network::network::{Network, Settled};
     /// use intervallum::proved::examples::*;
     ///
     /// fn main() -> Result<(), std::boxed::Box<dyn std::error::Error>> {
@@ -278,7 +274,6 @@ impl<B: Width> Network<B> {
     /// fails. The network is then unchanged.
     ///
     /// ```
-    /// use intervallum::proved::ivl_network::network::{Network, Settled};
     /// use intervallum::proved::examples::*;
     ///
     /// fn main() -> Result<(), std::boxed::Box<dyn std::error::Error>> {
@@ -302,7 +297,7 @@ impl<B: Width> Network<B> {
     /// ensures refused { OnErr result (self.new ≡ self.old) }
     /// ```
     ///
-    /// Words: [`IsCutAt`](crate::definitions#IsCutAt), [`Covers`](crate::definitions#Covers), [`set_at`](crate::definitions#set_at).
+    /// Words: [`Covers`](crate::definitions#Covers), [`set_at`](crate::definitions#set_at).
     pub fn restrict(&mut self, variable: usize, allowed: &IntervalSet<B>) -> Result<(), StoreFault> {
         if variable >= self.store.domains().len() {
             return Err(StoreFault::Variable(variable));
@@ -336,7 +331,6 @@ impl<B: Width> Network<B> {
     /// completed narrowing left it, and another call goes on.
     ///
     /// ```
-    /// use intervallum::proved::ivl_network::network::{Network, Settled};
     /// use intervallum::proved::examples::*;
     ///
     /// fn main() -> Result<(), std::boxed::Box<dyn std::error::Error>> {
@@ -396,7 +390,6 @@ impl<B: Width> Network<B> {
     /// Those of [`Network::settle`].
     ///
     /// ```
-    /// use intervallum::proved::ivl_network::network::{Network, Settled};
     /// use intervallum::proved::examples::*;
     ///
     /// fn main() -> Result<(), std::boxed::Box<dyn std::error::Error>> {
@@ -491,7 +484,6 @@ impl<B: Width> Network<B> {
     /// Fails only if allocation fails. The network is unchanged after an error.
     ///
     /// ```
-    /// use intervallum::proved::ivl_network::network::{Network, Settled};
     /// use intervallum::proved::examples::*;
     ///
     /// fn main() -> Result<(), std::boxed::Box<dyn std::error::Error>> {
@@ -559,7 +551,6 @@ impl<B: Width> Network<B> {
     /// keeps no domain that is replaced. Does not allocate.
     ///
     /// ```
-    /// use intervallum::proved::ivl_network::network::{Network, Settled};
     /// use intervallum::proved::examples::*;
     ///
     /// fn main() -> Result<(), std::boxed::Box<dyn std::error::Error>> {

@@ -4,7 +4,7 @@ use Rattle.std.specs.Prelude.{ℤ, not}
 use Rattle.std.proofs.Math.Nat.{mul-le-mul_right}
 use Rattle.std.proofs.lemmas.List.Sums.{count_by-le-length, sum_by-set}
 use Rattle.ivl_store.specs.Measure.{total}
-use Rattle.ivl_store.specs.Network.{unsettled_count}
+use Rattle.ivl_network.specs.Queue.{unsettled_count}
 
 -- one flag that is set now
 unsettled_count-set : (flags : List Bool) (i : ℕ) → i < length flags → get_or flags i false ≡ false → unsettled_count (set flags i true) + 1 ≡ unsettled_count flags
