@@ -6,12 +6,14 @@ use Rattle.ivl_lines.specs.Lines.{with_newline}
 use Rattle.ivl_search.specs.declared.search.End.{End}
 use Rattle.ivl_search.specs.declared.search.End.TheVariants.{All as AllFound, Nodes, Solutions}
 use Rattle.ivl_search.specs.Budget.{nodes_enough}
-use Rattle.ivl_search.specs.Points.{Finds, IsGreatestAt, IsLeastAt, Solves}
+use Rattle.ivl_search.specs.Points.{Finds, SolvesRules}
+use Rattle.ivl_store_lines.specs.declared.solve.Extreme.{Extreme}
+use Rattle.ivl_store_lines.specs.declared.solve.Extreme.TheVariants.{Least, Greatest}
 use Rattle.ivl_store_lines.specs.Answering.{AnswersAsked, AnswersRead}
 use Rattle.ivl_store_lines.specs.Faults.{Told}
 use Rattle.ivl_store_lines.specs.Printed.{domain_line, domain_lines, state_line, told_line}
-use Rattle.ivl_store_lines.specs.Requests.{Asked, show, solve, count, least, greatest, needs_list, why_no_request}
-use Rattle.ivl_store_lines.specs.Solved.{HasNodes, IsBest, best_text, end_line, point_lines}
+use Rattle.ivl_store_lines.specs.Requests.{Asked, asked_extreme, show, solve, count, least, greatest, needs_list, why_no_request}
+use Rattle.ivl_store_lines.specs.Solved.{HasNodes, IsBest, IsExtremeAt, best_text, end_line, point_lines}
 use Rattle.ivl_store_lines.specs.Solving.{HasEmptyDomain, State, fault_of, domain_range, variable_named}
 
 pub shown_reply : (asked : Asked) (old : State) → asked ≡ show None → AnswersAsked old asked (domain_lines old.names old.domains ++ state_line old.domains old.progress) old
@@ -32,8 +34,8 @@ no_request None name words None old none fault memory = (inr (memory refl, refl)
 no_request None name words (Some asked) old none fault memory = inr (inr (refl, refl))
 
 pub solved : {V : Type 0} → (numbers : V → List ℤ) (most : ℕ) (old : State) (names : List (List ℕ)) (points : List V) (end : End)
-    → names ≡ old.names → Finds (Solves old.constraints old.domains) (map numbers points) end → length points ≤ most → length points ≤ old.limit / 500
-    → (end ≡ Solutions → length points ≡ most) → (HasEmptyDomain old → end ≡ AllFound) → (HasNodes (nodes_enough domain_range old.constraints old.domains) old → end ≢ Nodes)
+    → names ≡ old.names → Finds (SolvesRules old.rules old.domains) (map numbers points) end → length points ≤ most → length points ≤ old.limit / 500
+    → (end ≡ Solutions → length points ≡ most) → (HasEmptyDomain old → end ≡ AllFound) → (HasNodes (nodes_enough domain_range old.rules old.domains) old → end ≢ Nodes)
     → AnswersAsked old (solve most) (point_lines names (map numbers points) ++ end_line (length points) end) old
 solved numbers most old names points end named finds few visited full known enough =
     inl (
@@ -53,8 +55,8 @@ solved numbers most old names points end named finds few visited full known enou
     )
 
 pub counted : (old : State) (points : List (List ℤ)) (found : ℕ) (end : End)
-    → length points ≡ found → Finds (Solves old.constraints old.domains) points end → found ≤ old.limit / 500 → (end ≡ Solutions → found ≡ 2 ^ 64 - 1)
-    → (HasEmptyDomain old → end ≡ AllFound) → (HasNodes (nodes_enough domain_range old.constraints old.domains) old → end ≢ Nodes)
+    → length points ≡ found → Finds (SolvesRules old.rules old.domains) points end → found ≤ old.limit / 500 → (end ≡ Solutions → found ≡ 2 ^ 64 - 1)
+    → (HasEmptyDomain old → end ≡ AllFound) → (HasNodes (nodes_enough domain_range old.rules old.domains) old → end ≢ Nodes)
     → AnswersAsked old count (codes "count " ++ with_newline (decimal found) ++ end_line found end) old
 counted old points found end as_many finds visited full known enough =
     inl (
@@ -72,10 +74,11 @@ counted old points found end as_many finds visited full known enough =
       },
     )
 
-pub least_shown : (name : List ℕ) (old : State) (names : List (List ℕ)) (found : Option (List ℤ)) (end : End)
-    → names ≡ old.names → IsBest IsLeastAt name old found end → AnswersAsked old (least name) (best_text names found end) old
-least_shown name old names found end named best = inl (rw best.named refl, refl, (found, end, best, rw named refl))
+pub best_shown : (extreme : Extreme) (name : List ℕ) (old : State) (names : List (List ℕ)) (found : Option (List ℤ)) (end : End)
+    → names ≡ old.names → IsBest (IsExtremeAt extreme) name old found end → AnswersAsked old (asked_extreme extreme name) (best_text names found end) old
+best_shown Least name old names found end named best = inl (rw best.named refl, refl, (found, end, best, rw named refl))
+best_shown Greatest name old names found end named best = inl (rw best.named refl, refl, (found, end, best, rw named refl))
 
-pub greatest_shown : (name : List ℕ) (old : State) (names : List (List ℕ)) (found : Option (List ℤ)) (end : End)
-    → names ≡ old.names → IsBest IsGreatestAt name old found end → AnswersAsked old (greatest name) (best_text names found end) old
-greatest_shown name old names found end named best = inl (rw best.named refl, refl, (found, end, best, rw named refl))
+pub best_refused : (extreme : Extreme) (told : Option Told) (name : List ℕ) (old : State) → told ≡ fault_of (show (Some name)) old → AnswersAsked old (asked_extreme extreme name) (told_line told) old
+best_refused Least told name old e = refused told (least name) old old e refl
+best_refused Greatest told name old e = refused told (greatest name) old old e refl

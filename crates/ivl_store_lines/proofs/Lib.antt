@@ -1,5 +1,6 @@
 pub mod Ranges
 pub mod Requiring
+pub mod Relating
 pub mod Printing
 pub mod Answering
 pub mod Names

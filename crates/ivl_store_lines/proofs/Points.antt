@@ -5,8 +5,8 @@ use Rattle.std.proofs.lemmas.List.{append-nil, map-append, map-id, take_more}
 use Rattle.ivl_search.specs.declared.search.End.{End}
 use Rattle.ivl_search.specs.declared.search.End.TheVariants.{All as AllFound, Nodes, Solutions}
 use Rattle.ivl_search.specs.Budget.{nodes_for_best}
-use Rattle.ivl_search.specs.Points.{EachOnce, Finds, Solves}
-use Rattle.ivl_store.specs.declared.store.constraint.Constraint.{Constraint}
+use Rattle.ivl_search.specs.Points.{EachOnce, Finds, SolvesRules}
+use Rattle.ivl_rules.specs.declared.rules.Rule.{Rule}
 use Rattle.ivl_store_lines.specs.Solved.{IsBest, point_line, point_lines}
 use Rattle.ivl_store_lines.specs.Solving.{HasEmptyDomain, State, domain_range, variable_named}
 use Rattle.ivl_store_lines.proofs.Nothing.{none_solves, not_used_up}
@@ -52,24 +52,24 @@ some_visited numbers (Some point) solutions nodes h = h.1
 
 -- what a search found is told
 pub best_told : {V : Type 0} → (best : ℕ → (List ℤ → Type 0) → List ℤ → Type 0) (numbers : V → List ℤ) (name : List ℕ) (old : State) (variable : ℕ)
-    (constraints : List Constraint) (domains : List (List (ℤ × ℤ))) (found : Option V) (end : End) (nodes solutions : ℕ)
-    → variable_named old.names name ≡ Some variable → constraints ≡ old.constraints → domains ≡ old.domains
-    → IfSome found (λ point. Solves constraints domains (map (λ (x : ℤ). x) (numbers point)))
-    → (end ≡ AllFound → IfSome found (λ point. best variable (Solves constraints domains) (map (λ (x : ℤ). x) (numbers point))))
-    → (end ≡ AllFound → IfNone found ((point : List ℤ) → ¬ (Solves constraints domains point)))
-    → IfSome found (λ _. (1 ≤ solutions) × (1 ≤ nodes)) → end ≢ Solutions → ¬ (HasEmptyDomain old) → nodes ≡ old.limit / 500 → (end ≡ Nodes → nodes < nodes_for_best domain_range constraints domains)
+    (rules : List Rule) (domains : List (List (ℤ × ℤ))) (found : Option V) (end : End) (nodes solutions : ℕ)
+    → variable_named old.names name ≡ Some variable → rules ≡ old.rules → domains ≡ old.domains
+    → IfSome found (λ point. SolvesRules rules domains (map (λ (x : ℤ). x) (numbers point)))
+    → (end ≡ AllFound → IfSome found (λ point. best variable (SolvesRules rules domains) (map (λ (x : ℤ). x) (numbers point))))
+    → (end ≡ AllFound → IfNone found ((point : List ℤ) → ¬ (SolvesRules rules domains point)))
+    → IfSome found (λ _. (1 ≤ solutions) × (1 ≤ nodes)) → end ≢ Solutions → ¬ (HasEmptyDomain old) → nodes ≡ old.limit / 500 → (end ≡ Nodes → nodes < nodes_for_best domain_range rules domains)
     → IsBest best name old (option_map numbers found) end
-best_told best numbers name old variable constraints domains found end nodes solutions named same_constraints same_domains sound is_best none visited searched filled as_many enough =
+best_told best numbers name old variable rules domains found end nodes solutions named same_rules same_domains sound is_best none visited searched filled as_many enough =
     record {
       variable = variable;
       named = named;
-      sound = rw (← same_constraints, ← same_domains) (some_plain numbers (Solves constraints domains) found sound);
-      is_best = (λ every. rw (← same_constraints, ← same_domains) (some_plain numbers (best variable (Solves constraints domains)) found (is_best every)));
-      none = (λ every. rw (← same_constraints, ← same_domains) (none_plain numbers ((point : List ℤ) → ¬ (Solves constraints domains point)) found (none every)));
+      sound = rw (← same_rules, ← same_domains) (some_plain numbers (SolvesRules rules domains) found sound);
+      is_best = (λ every. rw (← same_rules, ← same_domains) (some_plain numbers (best variable (SolvesRules rules domains)) found (is_best every)));
+      none = (λ every. rw (← same_rules, ← same_domains) (none_plain numbers ((point : List ℤ) → ¬ (SolvesRules rules domains point)) found (none every)));
       visited = subst (λ n. IfSome (option_map numbers found) (λ _. 1 ≤ n)) as_many (some_visited numbers found solutions nodes visited);
       searched = searched;
       known = (λ e. absurd (filled e));
-      enough = not_used_up (nodes_for_best domain_range) old constraints domains nodes end same_constraints same_domains as_many enough;
+      enough = not_used_up (nodes_for_best domain_range) old rules domains nodes end same_rules same_domains as_many enough;
     }
 
 -- no point, where a domain is empty
@@ -81,7 +81,7 @@ best_none best numbers name old variable found end named empty is all = rw (is, 
   sound = tt;
   visited = tt;
   is_best = (λ _. tt);
-  none = (λ _ point s. none_solves old.constraints old.domains empty point s);
+  none = (λ _ point s. none_solves old.rules old.domains empty point s);
   searched = (λ e. absurd (cc));
   known = (λ _. refl);
   enough = (λ _ e. absurd (cc));

@@ -3,26 +3,25 @@ use Rattle.std.proofs.Common.{◌≡◌, ◌∙◌, ◌+◌, ◌*◌, ◌<◌, �
 use Rattle.std.specs.Prelude.{Contains, HoldsAt}
 use Rattle.std.proofs.lemmas.List.{get_or_push, length_push}
 use Rattle.ivl_laws.specs.Families.{set_at}
-use Rattle.ivl_store.specs.declared.network.Settled.{Settled}
-use Rattle.ivl_store.specs.declared.network.Settled.TheVariants.{All, Unfinished}
-use Rattle.ivl_store.specs.declared.store.constraint.Constraint.{Constraint}
-use Rattle.ivl_store.specs.Costs.{AreCounted, cost_of}
 use Rattle.ivl_store.specs.Measure.{total}
-use Rattle.ivl_store.specs.Narrowing.{Keeps}
-use Rattle.ivl_store.specs.Network.{NetworkState, work}
-use Rattle.ivl_store.specs.Solutions.{IsGreatestFamily}
-use Rattle.ivl_store.specs.Trail.{Past}
+use Rattle.ivl_rules.specs.declared.rules.Rule.{Rule}
+use Rattle.ivl_network.specs.declared.network.Settled.{Settled}
+use Rattle.ivl_network.specs.declared.network.Settled.TheVariants.{All, Unfinished}
+use Rattle.ivl_network.specs.Costs.{AreRulesCounted, cost_of_rule}
+use Rattle.ivl_network.specs.Families.{IsGreatestUnder, KeepsUnder}
+use Rattle.ivl_network.specs.Network.{RulesState, work_of_rules}
+use Rattle.ivl_network.specs.Trail.{RulesPast}
 use Rattle.ivl_store_lines.specs.declared.progress.Progress.{Progress}
 use Rattle.ivl_store_lines.specs.declared.progress.Progress.TheVariants.{Complete, Budget}
 use Rattle.ivl_store_lines.specs.Solving.{Settles, domain_range}
 
-pub settles : (limit : ℕ) (old new : NetworkState) (progress : Progress) (s : Settled)
-    → (progress ≡ Complete → s ≡ All) → (progress ≡ Budget → s ≡ Unfinished) → new.constraints ≡ old.constraints → old.unsettled ≤ length old.constraints → Keeps old.constraints old.domains new.domains
-    → (s ≡ All → IsGreatestFamily old.constraints (set_at old.domains) (set_at new.domains))
-    → ((by : List Constraint) × (cost : ℕ) × AreCounted old.constraints by cost old.domains new.domains × (cost ≤ limit)
-    × (s ≡ Unfinished → (next : Constraint) × Contains old.constraints next × (limit < cost + cost_of next new.domains))
-    × (length by + work domain_range new ≤ work domain_range old))
-    → Settles limit old.constraints old.domains new.domains progress
+pub settles : (limit : ℕ) (old new : RulesState) (progress : Progress) (s : Settled)
+    → (progress ≡ Complete → s ≡ All) → (progress ≡ Budget → s ≡ Unfinished) → new.rules ≡ old.rules → old.unsettled ≤ length old.rules → KeepsUnder old.rules old.domains new.domains
+    → (s ≡ All → IsGreatestUnder old.rules (set_at old.domains) (set_at new.domains))
+    → ((by : List Rule) × (cost : ℕ) × AreRulesCounted old.rules by cost old.domains new.domains × (cost ≤ limit)
+    × (s ≡ Unfinished → (next : Rule) × Contains old.rules next × (limit < cost + cost_of_rule next new.domains))
+    × (length by + work_of_rules domain_range new ≤ work_of_rules domain_range old))
+    → Settles limit old.rules old.domains new.domains progress
 settles limit old new progress s complete used_up same waiting keeps greatest made = record {
   by = made.0;
   cost = made.1;
@@ -31,22 +30,22 @@ settles limit old new progress s complete used_up same waiting keeps greatest ma
   keeps = keeps;
   complete = (λ e. greatest (complete e));
   used_up = (λ e. made.4 (used_up e));
-  fewer = without_the_waiting (length made.0) (total domain_range new.domains * (length old.constraints + 1)) (total domain_range old.domains * (length old.constraints + 1))
-      new.unsettled old.unsettled (length old.constraints) waiting
-      (subst (λ cs. length made.0 + (total domain_range new.domains * (length cs + 1) + new.unsettled) ≤ work domain_range old) same made.5);
+  fewer = without_the_waiting (length made.0) (total domain_range new.domains * (length old.rules + 1)) (total domain_range old.domains * (length old.rules + 1))
+      new.unsettled old.unsettled (length old.rules) waiting
+      (subst (λ rules. length made.0 + (total domain_range new.domains * (length rules + 1) + new.unsettled) ≤ work_of_rules domain_range old) same made.5);
 }
   where
     without_the_waiting : (made after before left left' count : ℕ) → left' ≤ count → made + (after + left) ≤ before + left' → made + after ≤ before + count
     without_the_waiting made after before left left' count h k = omega arith
 
 -- a mark that was made last
-pub below_marked : (marked before : List Past) (now : Past) (mark : ℕ) → marked ≡ before ++ now ∷ [] → mark ≡ length before → mark < length marked
+pub below_marked : (marked before : List RulesPast) (now : RulesPast) (mark : ℕ) → marked ≡ before ++ now ∷ [] → mark ≡ length before → mark < length marked
 below_marked marked before now mark e at = let n = length_push before now in let l = ap length e in omega (arith, n, l, at)
 
-pub undone_whole : (marked before : List Past) (now : Past) (mark : ℕ) (domains : List (List (ℤ × ℤ))) (constraints : List Constraint)
-    → marked ≡ before ++ now ∷ [] → mark ≡ length before → HoldsAt (λ (past : Past). (domains ≡ past.domains) × (constraints ≡ past.constraints)) marked mark
-    → (domains ≡ now.domains) × (constraints ≡ now.constraints)
-undone_whole marked before now mark domains constraints e at h =
+pub undone_to_mark : (marked before : List RulesPast) (now : RulesPast) (mark : ℕ) (domains : List (List (ℤ × ℤ))) (rules : List Rule)
+    → marked ≡ before ++ now ∷ [] → mark ≡ length before → HoldsAt (λ (past : RulesPast). (domains ≡ past.domains) × (rules ≡ past.rules)) marked mark
+    → (domains ≡ now.domains) × (rules ≡ now.rules)
+undone_to_mark marked before now mark domains rules e at h =
     let is : get_or marked mark now ≡ now = ap (λ ms. get_or ms mark now) e ∙ get_or_push before now now mark (sym at) in
     let u = h now in
-    (u.0 ∙ ap (λ (p : Past). p.domains) is, u.1 ∙ ap (λ (p : Past). p.constraints) is)
+    (u.0 ∙ ap (λ (p : RulesPast). p.domains) is, u.1 ∙ ap (λ (p : RulesPast). p.rules) is)

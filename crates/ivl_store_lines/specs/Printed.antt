@@ -18,7 +18,7 @@ use Rattle.ivl_store.specs.Posts.{has_no_run}
 use Rattle.ivl_store_lines.specs.declared.progress.Progress.{Progress}
 use Rattle.ivl_store_lines.specs.declared.progress.Progress.TheVariants.{Complete, Budget}
 use Rattle.ivl_store_lines.specs.Faults.{Told, no_text, no_command, no_form, no_number, out_of_range, unknown, defined, repeated}
-use Rattle.ivl_store_lines.specs.Requests.{Asked, var, cut, sum, limit, go_on, show, solve, count, least, greatest}
+use Rattle.ivl_store_lines.specs.Requests.{Asked, var, cut, sum, relate, different, limit, go_on, show, solve, count, least, greatest}
 use Rattle.ivl_store_lines.specs.Solving.{State, variable_named}
 use Rattle.ivl_store_lines.specs.Solved.{IsSolved, IsCounted, ShowsBest}
 
@@ -56,6 +56,8 @@ abbrev pub IsReply : Asked → State → List ℕ → Type 0
 IsReply (var name pairs) new text = text ≡ state_line new.domains new.progress
 IsReply (cut name pairs) new text = text ≡ state_line new.domains new.progress
 IsReply (sum x y z) new text = text ≡ state_line new.domains new.progress
+IsReply (relate relation x y by) new text = text ≡ state_line new.domains new.progress
+IsReply (different names) new text = text ≡ state_line new.domains new.progress
 IsReply (limit n) new text = text ≡ state_line new.domains new.progress
 IsReply go_on new text = text ≡ state_line new.domains new.progress
 IsReply (show None) new text = text ≡ domain_lines new.names new.domains ++ state_line new.domains new.progress

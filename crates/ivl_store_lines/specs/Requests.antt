@@ -3,6 +3,7 @@
 --     natural_of word      the number of i64 from 0 up that a word is; `None` if it is no such number
 --     request_of name words      what a command and the words after it ask for; none if they are not a request
 --     asked_of request      the request as the program keeps it
+--     asked_extreme extreme name      the request for the least or the greatest number of the variable with this name
 --     first_bad_number_of words      the first word that is not a number; `None` if all are numbers
 --     why_no_request name words      the fault of a command and the words after it that are no request
 --     needs_list name words      whether pairs may stand there, for which memory is needed
@@ -11,14 +12,20 @@
 --     is_no_word words      there is no word
 use Rattle.std.specs.Prelude.{◌^◌, ◌-◌, ℕ, ℤ, pos, nat_le, negsuc, Bool, true, false, not, ◌&&◌, ◌||◌, List, [], ◌∷◌, bytes_eq, codes, find, if◌then◌else◌, is_none, Option, None, Some, option_and_then, option_map}
 use Rattle.ivl_lines.specs.Numbers.{number_of, pairs_of}
+use Rattle.ivl_lines.specs.Words.{words_between}
 use Rattle.ivl_store_lines.specs.Faults.{Told, no_command, no_form, no_number}
+use Rattle.ivl_store_lines.specs.declared.relation.Relation.{Relation}
 use Rattle.ivl_store_lines.specs.declared.request.Request.{Request}
 use Rattle.ivl_store_lines.specs.declared.request.Request.TheVariants as kept
+use Rattle.ivl_store_lines.specs.declared.solve.Extreme.{Extreme}
+use Rattle.ivl_store_lines.specs.declared.solve.Extreme.TheVariants.{Least, Greatest}
 
 pub data Asked : Type 0 where
   var : List ℕ → List (ℤ × ℤ) → Asked
   cut : List ℕ → List (ℤ × ℤ) → Asked
   sum : List ℕ → List ℕ → List ℕ → Asked
+  relate : Relation → List ℕ → List ℕ → ℤ → Asked
+  different : List (List ℕ) → Asked
   limit : ℕ → Asked
   go_on : Asked
   show : Option (List ℕ) → Asked
@@ -99,6 +106,8 @@ abbrev pub asked_of : Request → Asked
 asked_of (kept.Var name pairs) = var name.now pairs.items
 asked_of (kept.Cut name pairs) = cut name.now pairs.items
 asked_of (kept.Sum x y z) = sum x.now y.now z.now
+asked_of (kept.Relate relation x y by) = relate relation x.now y.now by
+asked_of (kept.Different names) = different (words_between names.now)
 asked_of (kept.Limit n) = limit n
 asked_of kept.GoOn = go_on
 asked_of (kept.Show name) = show (option_map (λ word. word.now) name)
@@ -106,6 +115,10 @@ asked_of (kept.Solve most) = solve most
 asked_of kept.Count = count
 asked_of (kept.Least name) = least name.now
 asked_of (kept.Greatest name) = greatest name.now
+
+abbrev pub asked_extreme : Extreme → List ℕ → Asked
+asked_extreme Least name = least name
+asked_extreme Greatest name = greatest name
 
 abbrev pub first_bad_number_of : List (List ℕ) → Option (List ℕ)
 first_bad_number_of words = find (λ word. is_none (number_of word)) words

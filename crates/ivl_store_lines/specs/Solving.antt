@@ -1,46 +1,57 @@
--- What carrying out a request does to the variables, their domains, and the constraints between them.
---     State      one name and one domain for each variable, the constraints, what the narrowings of a line may count
+-- What carrying out a request does to the variables, their domains, and the rules between them.
+--     State      one name and one domain for each variable, the rules, what the narrowings of a line may count
 --         for, and how far the domains are narrowed: `Complete`, or stopped by the `Budget`
 --     variable_named names name      the index of the variable with this name
+--     variables_named names words      the indexes of the variables that have these names, in order
 --     HasEmptyDomain state      some domain is empty, so that there is no solution
 --     domain_range      the least and the greatest number that a domain may hold
---     Settles limit cs before after progress      narrowings by the constraints that count for no more than the limit
---         (`AreCounted`) lead from the one domains to the others, which keep each supported family; if the limit
---         stopped it, one more would count for more than is left; each but for one by each constraint removes a
+--     Settles limit rules before after progress      narrowings by the rules that count for no more than the limit
+--         (`AreRulesCounted`) lead from the one domains to the others, which keep each supported family; if the limit
+--         stopped it, one more would count for more than is left; each but for one by each rule removes a
 --         member; to the greatest supported family if it is complete
+--     Requires rules old new      the rules hold from now on (`AreRequired`), and all rules so far narrow the domains
 --     Carries asked old new      the request takes the solver from `old` to `new`: `Defines` adds a name and a
---         domain, `Cuts` and `Adds` cut a domain or require a sum and then narrow (`Settles`), all or nothing,
---         `GoesOn` narrows, `Limits` sets the limit, `show` changes nothing
+--         domain, `Cuts` cuts a domain and then narrows (`Settles`), `Adds`, `Relates` and `different` require rules
+--         and then narrow, all or nothing, `GoesOn` narrows, `Limits` sets the limit, `show` changes nothing
 --     range_fault pairs      the fault of pairs that are not all in range (`is_in_range`); `None` if they are
---     fault_of asked old      the fault of a request (`var`, `cut`, `sum` or `show` with a name; `limit`, `go_on` and
---         `show` alone have none), by the solver before it: `var_fault`, `cut_fault`, `sum_fault`, `show_fault` by
---         the variables that have the names; `None` if it has none
-use Rattle.std.specs.Prelude.{◌≡◌, ◌<◌, ◌≤◌, ◌+◌, ◌-◌, ◌*◌, ◌^◌, ◌||◌, ◌==◌, ℕ, ℤ, pos, negsuc, List, Any, Contains, [], ◌∷◌, ◌++◌, bytes_eq, if◌then◌else◌, length, position, Option, Some, None}
-use Rattle.std.specs.List.{list_all}
+--     first_unknown known names, first_repeated names      the first name that no variable has; the first that stands
+--         again after itself; `None` if there is none
+--     fault_of asked old      the fault of a request (`limit`, `go_on` and `show` alone have none), by the solver
+--         before it: `var_fault`, `cut_fault`, `sum_fault`, `pair_fault`, `show_fault` by the variables that have the
+--         names, `names_fault` by the first unknown and the first repeated name; `None` if it has none
+use Rattle.std.specs.Prelude.{◌≡◌, ◌<◌, ◌≤◌, ◌+◌, ◌-◌, ◌*◌, ◌^◌, ◌||◌, ◌==◌, ℕ, ℤ, pos, negsuc, List, Any, Contains, [], ◌∷◌, ◌++◌, bytes_eq, filter_map, find, if◌then◌else◌, is_none, length, position, Option, Some, None}
+use Rattle.std.specs.List.{list_all, list_any}
 use Rattle.ivl_lines.specs.Numbers.{is_in_range}
 use Rattle.ivl_laws.specs.Runs.{Covers, IsRunsOf}
 use Rattle.ivl_laws.specs.Families.{set_at}
 use Rattle.ivl_store.specs.declared.store.constraint.Constraint.{Constraint}
-use Rattle.ivl_store.specs.Costs.{AreCounted, cost_of}
 use Rattle.ivl_store.specs.Measure.{total}
-use Rattle.ivl_store.specs.Narrowing.{Keeps}
-use Rattle.ivl_store.specs.Network.{IsCutAt, IsRequired}
-use Rattle.ivl_store.specs.Solutions.{IsGreatestFamily}
+use Rattle.ivl_store.specs.Network.{IsCutAt}
+use Rattle.ivl_rules.specs.declared.rules.Rule.{Rule}
+use Rattle.ivl_rules.specs.declared.rules.Rule.TheVariants.{Sum}
+use Rattle.ivl_network.specs.Costs.{AreRulesCounted, cost_of_rule}
+use Rattle.ivl_network.specs.Families.{IsGreatestUnder, KeepsUnder}
+use Rattle.ivl_store_lines.specs.declared.relation.Relation.{Relation}
 use Rattle.ivl_store_lines.specs.declared.progress.Progress.{Progress}
 use Rattle.ivl_store_lines.specs.declared.progress.Progress.TheVariants.{Complete, Budget}
 use Rattle.ivl_store_lines.specs.Faults.{Told, out_of_range, unknown, defined, repeated}
-use Rattle.ivl_store_lines.specs.Requests.{Asked, var, cut, sum, limit, go_on, show, solve, count, least, greatest}
+use Rattle.ivl_store_lines.specs.Required.{AreRequired, each_pair, related}
+use Rattle.ivl_store_lines.specs.Requests.{Asked, var, cut, sum, relate, different, limit, go_on, show, solve, count, least, greatest}
 
 -- one name and one domain for each variable
 pub record State : Type 0 where
   pub names : List (List ℕ)
   pub domains : List (List (ℤ × ℤ))
-  pub constraints : List Constraint
+  pub rules : List Rule
   pub limit : ℕ
   pub progress : Progress
 
 abbrev pub variable_named : List (List ℕ) → List ℕ → Option ℕ
 variable_named names name = position (λ known. bytes_eq known name) names
+
+-- names that no variable has are passed over
+abbrev pub variables_named : List (List ℕ) → List (List ℕ) → List ℕ
+variables_named names words = filter_map (λ word. variable_named names word) words
 
 abbrev pub HasEmptyDomain : State → Type 0
 HasEmptyDomain state = Any (λ L. L ≡ []) state.domains
@@ -49,25 +60,25 @@ abbrev pub domain_range : ℤ × ℤ
 domain_range = (negsuc (2 ^ 63 - 2), pos (2 ^ 63 - 1))
 
 -- no supported family loses a member; if the limit stopped it, one more narrowing would count for more than is left; each narrowing removes a
--- member, but for one by each constraint
-pub record Settles (limit : ℕ) (constraints : List Constraint) (before after : List (List (ℤ × ℤ))) (progress : Progress) : Type 0 where
-  pub by : List Constraint
+-- member, but for one by each rule
+pub record Settles (limit : ℕ) (rules : List Rule) (before after : List (List (ℤ × ℤ))) (progress : Progress) : Type 0 where
+  pub by : List Rule
   pub cost : ℕ
-  pub counted : AreCounted constraints by cost before after
+  pub counted : AreRulesCounted rules by cost before after
   pub within_limit : cost ≤ limit
-  pub keeps : Keeps constraints before after
-  pub complete : progress ≡ Complete → IsGreatestFamily constraints (set_at before) (set_at after)
-  pub used_up : progress ≡ Budget → (next : Constraint) × Contains constraints next × (limit < cost + cost_of next after)
-  pub fewer : length by + total domain_range after * (length constraints + 1) ≤ total domain_range before * (length constraints + 1) + length constraints
+  pub keeps : KeepsUnder rules before after
+  pub complete : progress ≡ Complete → IsGreatestUnder rules (set_at before) (set_at after)
+  pub used_up : progress ≡ Budget → (next : Rule) × Contains rules next × (limit < cost + cost_of_rule next after)
+  pub fewer : length by + total domain_range after * (length rules + 1) ≤ total domain_range before * (length rules + 1) + length rules
 
 -- one more variable, whose domain is the union of the pairs
 pub record Defines (name : List ℕ) (pairs : List (ℤ × ℤ)) (old new : State) : Type 0 where
   pub is_new : variable_named old.names name ≡ None
   pub domain : List (ℤ × ℤ)
   pub is_union : IsRunsOf domain (Covers pairs)
-  pub added : new ≡ record { names = old.names ++ name ∷ []; domains = old.domains ++ domain ∷ []; constraints = old.constraints; limit = old.limit; progress = old.progress }
+  pub added : new ≡ record { names = old.names ++ name ∷ []; domains = old.domains ++ domain ∷ []; rules = old.rules; limit = old.limit; progress = old.progress }
 
--- the domain is cut, and then the constraints narrow all domains
+-- the domain is cut, and then the rules narrow all domains
 pub record Cuts (name : List ℕ) (pairs : List (ℤ × ℤ)) (old new : State) : Type 0 where
   pub variable : ℕ
   pub named : variable_named old.names name ≡ Some variable
@@ -75,36 +86,50 @@ pub record Cuts (name : List ℕ) (pairs : List (ℤ × ℤ)) (old new : State) 
   pub is_union : IsRunsOf allowed (Covers pairs)
   pub cut : List (List (ℤ × ℤ))
   pub is_cut : IsCutAt variable (Covers allowed) (set_at old.domains) (set_at cut)
-  pub settled : Settles new.limit new.constraints cut new.domains new.progress
+  pub settled : Settles new.limit new.rules cut new.domains new.progress
   pub names : new.names ≡ old.names
-  pub constraints : new.constraints ≡ old.constraints
+  pub rules : new.rules ≡ old.rules
   pub limit : new.limit ≡ old.limit
 
--- the sum is one of the constraints from now on, and they narrow all domains
+-- the rules are among those that hold from now on, and all these narrow the domains
+pub record Requires (rules : List Rule) (old new : State) : Type 0 where
+  pub required : AreRequired rules old.rules new.rules
+  pub settled : Settles new.limit new.rules old.domains new.domains new.progress
+  pub names : new.names ≡ old.names
+  pub limit : new.limit ≡ old.limit
+
+-- the numbers of two variables add up to that of a third
 pub record Adds (x y z : List ℕ) (old new : State) : Type 0 where
   pub sum : Constraint
   pub named_x : variable_named old.names x ≡ Some sum.x
   pub named_y : variable_named old.names y ≡ Some sum.y
   pub named_z : variable_named old.names z ≡ Some sum.z
-  pub required : IsRequired sum old.constraints new.constraints
-  pub settled : Settles new.limit new.constraints old.domains new.domains new.progress
-  pub names : new.names ≡ old.names
-  pub limit : new.limit ≡ old.limit
+  pub requires : Requires (Sum sum ∷ []) old new
 
--- the constraints narrow all domains further
+-- the number of one variable, shifted, is so related to that of another
+pub record Relates (relation : Relation) (x y : List ℕ) (by : ℤ) (old new : State) : Type 0 where
+  pub first : ℕ
+  pub second : ℕ
+  pub named_x : variable_named old.names x ≡ Some first
+  pub named_y : variable_named old.names y ≡ Some second
+  pub requires : Requires (related relation first second by ∷ []) old new
+
+-- the rules narrow all domains further
 pub record GoesOn (old new : State) : Type 0 where
-  pub settled : Settles new.limit new.constraints old.domains new.domains new.progress
+  pub settled : Settles new.limit new.rules old.domains new.domains new.progress
   pub names : new.names ≡ old.names
-  pub constraints : new.constraints ≡ old.constraints
+  pub rules : new.rules ≡ old.rules
   pub limit : new.limit ≡ old.limit
 
 abbrev pub Limits : ℕ → State → State → Type 0
-Limits n old new = new ≡ record { names = old.names; domains = old.domains; constraints = old.constraints; limit = n; progress = old.progress }
+Limits n old new = new ≡ record { names = old.names; domains = old.domains; rules = old.rules; limit = n; progress = old.progress }
 
 abbrev pub Carries : Asked → State → State → Type 0
 Carries (var name pairs) old new = Defines name pairs old new
 Carries (cut name pairs) old new = Cuts name pairs old new
 Carries (sum x y z) old new = Adds x y z old new
+Carries (relate relation x y by) old new = Relates relation x y by old new
+Carries (different names) old new = Requires (each_pair (variables_named old.names names)) old new
 Carries (limit n) old new = Limits n old new
 Carries go_on old new = GoesOn old new
 Carries (show name) old new = new ≡ old
@@ -138,10 +163,33 @@ sum_fault x y z (Some i) (Some j) None = Some (unknown z)
 sum_fault x y z (Some i) (Some j) (Some k) =
     if i == j then Some (repeated x) else if i == k || j == k then Some (repeated z) else None
 
+-- the same for two
+abbrev pub pair_fault : List ℕ → List ℕ → Option ℕ → Option ℕ → Option Told
+pair_fault x y None _ = Some (unknown x)
+pair_fault x y (Some i) None = Some (unknown y)
+pair_fault x y (Some i) (Some j) = if i == j then Some (repeated x) else None
+
+-- the first name that no variable has
+abbrev pub first_unknown : List (List ℕ) → List (List ℕ) → Option (List ℕ)
+first_unknown known names = find (λ name. is_none (variable_named known name)) names
+
+-- the first name that stands again after itself
+abbrev pub first_repeated : List (List ℕ) → Option (List ℕ)
+first_repeated [] = None
+first_repeated (name ∷ names) = if list_any (λ other. bytes_eq name other) names then Some name else first_repeated names
+
+-- an unknown name is told before one that is repeated
+abbrev pub names_fault : Option (List ℕ) → Option (List ℕ) → Option Told
+names_fault (Some name) _ = Some (unknown name)
+names_fault None (Some name) = Some (repeated name)
+names_fault None None = None
+
 abbrev pub fault_of : Asked → State → Option Told
 fault_of (var name pairs) old = var_fault name pairs (variable_named old.names name)
 fault_of (cut name pairs) old = cut_fault name pairs (variable_named old.names name)
 fault_of (sum x y z) old = sum_fault x y z (variable_named old.names x) (variable_named old.names y) (variable_named old.names z)
+fault_of (relate relation x y by) old = pair_fault x y (variable_named old.names x) (variable_named old.names y)
+fault_of (different names) old = names_fault (first_unknown old.names names) (first_repeated names)
 fault_of (limit n) old = None
 fault_of go_on old = None
 fault_of (show None) old = None

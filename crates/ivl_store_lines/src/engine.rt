@@ -7,7 +7,7 @@ ghost use Rattle.ivl_lines.specs.Lines.{ended_lines_of, lines_of};
 ghost use Rattle.ivl_lines.specs.Words.{words_between};
 ghost use Rattle.ivl_store_lines.specs.Answering.{AnswersAsked, AnswersLine, AnswersWords};
 ghost use Rattle.ivl_store_lines.specs.Printed.{IsReply, state_line};
-ghost use Rattle.ivl_store_lines.specs.Requests.{asked_of, count, greatest, least, solve};
+ghost use Rattle.ivl_store_lines.specs.Requests.{asked_extreme, asked_of, count, solve};
 ghost use Rattle.ivl_store_lines.specs.Solving.{State};
 
 use crate::fault::Fault;
@@ -16,6 +16,7 @@ use crate::replies::{
     write_best, write_count, write_fault, write_shown, write_solutions, write_state, write_variable,
 };
 use crate::request::{Request, request_from};
+use crate::solve::Extreme;
 use crate::solver::Solver;
 use ivl_lines::{Answers, SessionFault, first_word, line_text, next_word, serve};
 use std::alloc::Global;
@@ -73,12 +74,12 @@ pub fn session<R: Read, W: Write>(
     // All bytes were read, and what is written answers their lines.
     ensures end { OnOk result (IsAtEnd (R.remaining reader.new)) }
     ensures ok { OnOk result (IfSome (R.remaining reader.old) (λ bytes. (text : List ℕ) × (end : State)
-        × IsAnswered (AnswersOrLoses no_memory AnswersLine) (record { names = []; domains = []; constraints = []; limit = 1000000; progress = Progress.Complete }) (lines_of bytes) text end
+        × IsAnswered (AnswersOrLoses no_memory AnswersLine) (record { names = []; domains = []; rules = []; limit = 1000000; progress = Progress.Complete }) (lines_of bytes) text end
         × Appends (W.contents writer.old) (W.contents writer.new) text)) }
     // What is written answers the ended lines of the bytes that the reader gave.
     ensures read { IsErrOf result SessionFault.Read → (front : List ℕ) × (text : List ℕ) × (end : State)
         × Consumes (R.remaining reader.old) (R.remaining reader.new) front
-        × IsAnswered (AnswersOrLoses no_memory AnswersLine) (record { names = []; domains = []; constraints = []; limit = 1000000; progress = Progress.Complete }) (ended_lines_of front) text end
+        × IsAnswered (AnswersOrLoses no_memory AnswersLine) (record { names = []; domains = []; rules = []; limit = 1000000; progress = Progress.Complete }) (ended_lines_of front) text end
         × Appends (W.contents writer.old) (W.contents writer.new) text }
     // There was no memory to begin.
     ensures memory { IsErrOf result SessionFault.Memory → (reader.new ≡ reader.old) × (writer.new ≡ writer.old) }
@@ -127,8 +128,8 @@ fn answer_request<W: Write>(
         Request::Show(Some(name)) => write_variable(writer, solver, name),
         Request::Solve(most) => answer_solve(solver, most, writer),
         Request::Count => answer_count(solver, writer),
-        Request::Least(name) => answer_least(solver, name, writer),
-        Request::Greatest(name) => answer_greatest(solver, name, writer),
+        Request::Least(name) => answer_best(solver, name, Extreme::Least, writer),
+        Request::Greatest(name) => answer_best(solver, name, Extreme::Greatest, writer),
         change => answer_change(solver, change, writer),
     }
 }
@@ -172,23 +173,17 @@ fn answer_count<W: Write>(solver: &Solver, writer: &mut W) -> io::Result<()>
     }
 }
 
-fn answer_least<W: Write>(solver: &Solver, name: &str, writer: &mut W) -> io::Result<()>
+fn answer_best<W: Write>(
+    solver: &Solver,
+    name: &str,
+    extreme: Extreme,
+    writer: &mut W,
+) -> io::Result<()>
     ensures { OnOk result ((text : List ℕ)
-        × AnswersAsked solver.now (least name.now) text solver.now
+        × AnswersAsked solver.now (asked_extreme extreme name.now) text solver.now
         × Appends (W.contents writer.old) (W.contents writer.new) text) }
 {
-    match solver.least(name) {
-        Ok(best) => write_best(writer, solver.names(), &best),
-        Err(fault) => write_fault(writer, &fault),
-    }
-}
-
-fn answer_greatest<W: Write>(solver: &Solver, name: &str, writer: &mut W) -> io::Result<()>
-    ensures { OnOk result ((text : List ℕ)
-        × AnswersAsked solver.now (greatest name.now) text solver.now
-        × Appends (W.contents writer.old) (W.contents writer.new) text) }
-{
-    match solver.greatest(name) {
+    match solver.best(name, extreme) {
         Ok(best) => write_best(writer, solver.names(), &best),
         Err(fault) => write_fault(writer, &fault),
     }

@@ -19,7 +19,7 @@ use std::io;
 use std::io::Write;
 
 /// Writes `no solution` if a domain is empty, and else how far the domains are narrowed: `ok` if no
-/// constraint narrows them any further.
+/// rule narrows them any further.
 pub fn write_state<W: Write>(writer: &mut W, solver: &Solver) -> io::Result<()>
     ensures { OnOk result (Appends (W.contents writer.old) (W.contents writer.new) (state_line solver.now.domains solver.now.progress)) }
 {
@@ -94,6 +94,7 @@ fn first_variable<'a>(
 fn write_domain<W: Write>(writer: &mut W, name: &str, domain: &IntervalSet<i64>) -> io::Result<()>
     ensures { OnOk result (Appends (W.contents writer.old) (W.contents writer.new) (domain_line name.now domain.now)) }
 {
+    // for the prover: its runs are maximal
     domain.in_whole();
     writeln!(writer, "{} {domain}", Escaped(name))
 }

@@ -5,6 +5,7 @@ ghost use Rattle.ivl_store_lines.specs.Faults.{no_form, told_of};
 ghost use Rattle.ivl_store_lines.specs.Requests.{asked_of, best_by, counted_by, cut, first_bad_number_of, greatest, least, limit_of, most_of, name_and_pairs, name_and_some_pairs, natural_of, needs_list, only_on, request_of, shown_by, why_no_limit, why_no_most, why_no_pairs, why_no_request, with_pairs};
 
 use crate::fault::Fault;
+use crate::relation::Relation;
 use ivl_lines::{next_word, number_from, one_word, pairs_from, three_words};
 use std::alloc::Global;
 
@@ -18,6 +19,10 @@ pub enum Request<'a> {
     Cut(&'a str, Vec<(i64, i64)>),
     /// `sum x y z`: the first and the second variable add to the third.
     Sum(&'a str, &'a str, &'a str),
+    /// `x + n <= y` and the like: the first variable, shifted by the number, is so related to the second.
+    Relate(Relation, &'a str, &'a str, i64),
+    /// `different x y ..`: no two of the variables, whose names stand in the text, have the same number.
+    Different(&'a str),
     /// `limit n`: how many narrowings each later line may make.
     Limit(u64),
     /// `go on`: narrows further.

@@ -1,27 +1,33 @@
-//! The variables by name, their domains, and the sums that hold between them.
-ghost use Rattle.std.specs.Prelude.{◌≡◌, ◌∷◌, ◌++◌, ◌↔◌, ◌<◌, ℕ, ℤ, List, [], Some, All, Any, IfErr, IfOk, IfSome, IsSome, IsTrue, None, Ok, OnErr, OnOk, get_or, length, map, string_bytes};
+//! The variables by name, their domains, and the rules that hold between them.
+ghost use Rattle.std.specs.Prelude.{◌≡◌, ◌∷◌, ◌++◌, ◌↔◌, ◌<◌, ℕ, ℤ, List, [], Some, All, Any, IfErr, IfOk, IfSome, IsSome, IsTrue, None, Ok, OnErr, OnOk, get_or, length, map, option_map, string_bytes};
 ghost use Rattle.ivl_laws.specs.Runs.{Covers, IsRunsOf};
 ghost use Rattle.ivl_laws.specs.Families.{set_at};
-ghost use Rattle.ivl_store.specs.Network.{IsCutAt, IsRequired};
-ghost use Rattle.ivl_store.specs.Solutions.{AreDistinct};
+ghost use Rattle.ivl_store.specs.Network.{IsCutAt};
+ghost use Rattle.ivl_rules.specs.Rules.{AreDifferent};
+ghost use Rattle.ivl_lines.specs.Words.{words_between};
 ghost use Rattle.ivl_store_lines.specs.Faults.{told_of, unknown};
-ghost use Rattle.ivl_store_lines.specs.Requests.{asked_of, cut as cut_of, sum as sum_of, var as var_of};
-ghost use Rattle.ivl_store_lines.specs.Solving.{Adds, Carries, Cuts, Defines, Settles, fault_of, variable_named as index_in, range_fault};
+ghost use Rattle.ivl_store_lines.specs.Required.{each_pair as pairs_of, related};
+ghost use Rattle.ivl_store_lines.specs.Requests.{asked_of, cut as cut_of, different as different_of, relate as relate_of, sum as sum_of, var as var_of};
+ghost use Rattle.ivl_store_lines.specs.Solving.{Adds, Carries, Cuts, Defines, Relates, Requires, Settles, first_unknown as unknown_in, fault_of, variable_named as index_in, variables_named as indexes_in, range_fault};
 
+use crate::atomic::{require_atomically, restrict_atomically, settle_atomically};
+use crate::different::{each_pair, first_repeated};
 use crate::fault::Fault;
 use crate::progress::Progress;
+use crate::relation::Relation;
 use crate::request::Request;
-use crate::whole::{require_whole, restrict_whole, settle_whole};
 use indexmap::IndexSet;
 use intervallum::interval::Interval;
 use intervallum::interval_set::{IntervalSet, ToIntervalSet};
-use ivl_store::network::Network;
+use ivl_lines::next_word;
+use ivl_network::network::Network;
+use ivl_rules::rules::Rule;
 use ivl_store::store::Constraint;
 use std::alloc::{AllocError, Global};
 use std::collections::hash_map::RandomState;
 use std::marker::Model;
 
-/// The variables by name, their domains, and the sums that hold between them. A contract sees the
+/// The variables by name, their domains, and the rules that hold between them. A contract sees the
 /// three lists.
 #[derive(Drop)]
 pub struct Solver {
@@ -39,7 +45,7 @@ impl Model for Solver {
 
     ghost Value = { State };
 
-    ghost view = { λ s. record { names = map string_bytes s.names.keys; domains = s.network.domains; constraints = s.network.constraints; limit = s.limit; progress = s.progress } };
+    ghost view = { λ s. record { names = map string_bytes s.names.keys; domains = s.network.domains; rules = s.network.rules; limit = s.limit; progress = s.progress } };
 
     ghost invariant = { λ s. length s.names.keys ≡ length s.network.domains };
 }
@@ -48,7 +54,7 @@ impl Solver {
     /// Creates a solver without variables, with a limit of a million. Looks names up by hashes with
     /// these keys. Does not allocate.
     pub fn new(alloc: Global, keys: RandomState) -> Solver
-        ensures { result ≡ record { names = []; domains = []; constraints = []; limit = 1000000; progress = Progress.Complete } }
+        ensures { result ≡ record { names = []; domains = []; rules = []; limit = 1000000; progress = Progress.Complete } }
     {
         Solver {
             alloc,
@@ -75,6 +81,8 @@ impl Solver {
             Request::Var(name, pairs) => self.define(name, &pairs),
             Request::Cut(name, pairs) => self.cut(name, &pairs),
             Request::Sum(x, y, z) => self.sum(x, y, z),
+            Request::Relate(relation, x, y, by) => self.relate(relation, x, y, by),
+            Request::Different(names) => self.different(names),
             Request::Limit(limit) => {
                 self.limit = limit;
                 Ok(())
@@ -105,12 +113,12 @@ impl Solver {
         self.network.domains()
     }
 
-    /// Returns the constraints, in the order in which they were first required.
-    pub fn constraints(&self) -> &[Constraint]
-        ensures same { result.now ≡ self.now.constraints }
-        ensures distinct { All AreDistinct self.now.constraints }
+    /// Returns the rules, in the order in which they were first required.
+    pub fn rules(&self) -> &[Rule]
+        ensures same { result.now ≡ self.now.rules }
+        ensures different { All AreDifferent self.now.rules }
     {
-        self.network.constraints()
+        self.network.rules()
     }
 
     /// Returns the domain of the variable that has this name.
@@ -166,7 +174,7 @@ impl Solver {
     /// Adds a variable. If allocation fails, nothing changes.
     fn add(&mut self, name: &str, domain: IntervalSet<i64>) -> Result<(), AllocError>
         requires { index_in self.old.names name.now ≡ None }
-        ensures ok { OnOk result (self.new ≡ record { names = self.old.names ++ name.now ∷ []; domains = self.old.domains ++ domain ∷ []; constraints = self.old.constraints; limit = self.old.limit; progress = self.old.progress }) }
+        ensures ok { OnOk result (self.new ≡ record { names = self.old.names ++ name.now ∷ []; domains = self.old.domains ++ domain ∷ []; rules = self.old.rules; limit = self.old.limit; progress = self.old.progress }) }
         ensures err { OnErr result (self.new ≡ self.old) }
     {
         let count = self.names.len();
@@ -208,8 +216,79 @@ impl Solver {
         if !sum.distinct() {
             return Err(Fault::Repeated(if sum.x == sum.y { x } else { z }));
         }
-        self.require(sum)?;
+        self.require(&[Rule::Sum(sum)])?;
         Ok(())
+    }
+
+    /// Requires that a variable, shifted by a number, is so related to another.
+    fn relate<'a>(
+        &mut self,
+        relation: Relation,
+        x: &'a str,
+        y: &'a str,
+        by: i64,
+    ) -> Result<(), Fault<'a>>
+        ensures ok { OnOk result (Relates relation x.now y.now by self.old self.new) }
+        ensures no_fault { OnOk result (fault_of (relate_of relation x.now y.now by) self.old ≡ None) }
+        ensures fault { IfErr result (λ fault. told_of fault ≡ fault_of (relate_of relation x.now y.now by) self.old) }
+        ensures refused { OnErr result (self.new ≡ self.old) }
+    {
+        let first = self.known(x)?;
+        let second = self.known(y)?;
+        if first == second {
+            return Err(Fault::Repeated(x));
+        }
+        let rule = rule_of(relation, first, second, by);
+        self.require(&[rule])?;
+        Ok(())
+    }
+
+    /// Requires that no two variables have the same number.
+    fn different<'a>(&mut self, names: &'a str) -> Result<(), Fault<'a>>
+        ensures ok { OnOk result (Requires (pairs_of (indexes_in self.old.names (words_between names.now))) self.old self.new) }
+        ensures no_fault { OnOk result (fault_of (different_of (words_between names.now)) self.old ≡ None) }
+        ensures fault { IfErr result (λ fault. told_of fault ≡ fault_of (different_of (words_between names.now)) self.old) }
+        ensures refused { OnErr result (self.new ≡ self.old) }
+    {
+        if let Some(name) = self.first_unknown(names) {
+            return Err(Fault::Unknown(name));
+        }
+        if let Some(name) = first_repeated(names) {
+            return Err(Fault::Repeated(name));
+        }
+        let variables = self.known_among(names)?;
+        let rules = each_pair(self.alloc, &variables)?;
+        self.require(&rules)?;
+        Ok(())
+    }
+
+    /// The first of the names that no variable has.
+    fn first_unknown<'a>(&self, names: &'a str) -> Option<&'a str>
+        ensures { option_map (λ name. name.now) result ≡ unknown_in self.now.names (words_between names.entry.now) }
+    {
+        let mut rest = names;
+        while let Some((name, after)) = next_word(rest) {
+            if self.index_of(name).is_none() {
+                return Some(name);
+            }
+            rest = after;
+        }
+        None
+    }
+
+    /// The variables that have these names, in order.
+    fn known_among(&self, names: &str) -> Result<Vec<usize>, AllocError>
+        ensures { IfOk result (λ variables. variables.items ≡ indexes_in self.now.names (words_between names.entry.now)) }
+    {
+        let mut variables = Vec::new(self.alloc);
+        let mut rest = names;
+        while let Some((name, after)) = next_word(rest) {
+            if let Some(variable) = self.index_of(name) {
+                variables.push(variable)?;
+            }
+            rest = after;
+        }
+        Ok(variables)
     }
 
     /// Returns the variable of a name.
@@ -237,38 +316,47 @@ impl Solver {
     /// Cuts a domain, and narrows all. If allocation fails, nothing changes.
     fn restrict(&mut self, variable: usize, allowed: &IntervalSet<i64>) -> Result<(), AllocError>
         ensures cut { OnOk result ((cut : List (List (ℤ × ℤ))) × IsCutAt variable (Covers allowed.now) (set_at self.old.domains) (set_at cut)
-            × Settles self.new.limit self.new.constraints cut self.new.domains self.new.progress) }
-        ensures others { (self.new.names ≡ self.old.names) × (self.new.constraints ≡ self.old.constraints) × (self.new.limit ≡ self.old.limit) }
+            × Settles self.new.limit self.new.rules cut self.new.domains self.new.progress) }
+        ensures others { (self.new.names ≡ self.old.names) × (self.new.rules ≡ self.old.rules) × (self.new.limit ≡ self.old.limit) }
         ensures err { OnErr result (self.new ≡ self.old) }
     {
-        let progress = restrict_whole(&mut self.network, variable, allowed, self.limit)?;
+        let progress = restrict_atomically(&mut self.network, variable, allowed, self.limit)?;
         self.progress = progress;
         Ok(())
     }
 
-    /// Adds a constraint, and narrows the domains. If allocation fails, nothing changes.
-    fn require(&mut self, sum: Constraint) -> Result<(), AllocError>
-        requires distinct { AreDistinct sum }
-        ensures required { OnOk result (IsRequired sum self.old.constraints self.new.constraints) }
-        ensures settled { OnOk result (Settles self.new.limit self.new.constraints self.old.domains self.new.domains self.new.progress) }
-        ensures others { (self.new.names ≡ self.old.names) × (self.new.limit ≡ self.old.limit) }
+    /// Adds rules, and narrows the domains. If allocation fails, nothing changes.
+    fn require(&mut self, rules: &[Rule]) -> Result<(), AllocError>
+        requires { All AreDifferent rules.now }
+        ensures required { OnOk result (Requires rules.now self.old self.new) }
         ensures err { OnErr result (self.new ≡ self.old) }
     {
-        let progress = require_whole(&mut self.network, sum, self.limit)?;
+        let progress = require_atomically(&mut self.network, rules, self.limit)?;
         self.progress = progress;
         Ok(())
     }
 
-    /// Narrows the domains by the constraints, within the limit. If allocation fails, nothing
+    /// Narrows the domains by the rules, within the limit. If allocation fails, nothing
     /// changes.
     fn settle(&mut self) -> Result<(), AllocError>
-        ensures settled { OnOk result (Settles self.new.limit self.new.constraints self.old.domains self.new.domains self.new.progress) }
-        ensures others { (self.new.names ≡ self.old.names) × (self.new.constraints ≡ self.old.constraints) × (self.new.limit ≡ self.old.limit) }
+        ensures settled { OnOk result (Settles self.new.limit self.new.rules self.old.domains self.new.domains self.new.progress) }
+        ensures others { (self.new.names ≡ self.old.names) × (self.new.rules ≡ self.old.rules) × (self.new.limit ≡ self.old.limit) }
         ensures err { OnErr result (self.new ≡ self.old) }
     {
-        let progress = settle_whole(&mut self.network, self.limit)?;
+        let progress = settle_atomically(&mut self.network, self.limit)?;
         self.progress = progress;
         Ok(())
+    }
+}
+
+/// The rule that relates two variables so.
+fn rule_of(relation: Relation, x: usize, y: usize, by: i64) -> Rule
+    ensures { result ≡ related relation x y by }
+{
+    match relation {
+        Relation::Shifted => Rule::Shifted { x, y, by },
+        Relation::AtMost => Rule::AtMost { x, y, by },
+        Relation::Differs => Rule::Differs { x, y, by },
     }
 }
 

@@ -12,6 +12,6 @@ returns-clause-ok c =
       is_cut = r.1;
       settled = r.2;
       names = c.restrict.ensures.others.0;
-      constraints = c.restrict.ensures.others.1;
+      rules = c.restrict.ensures.others.1;
       limit = c.restrict.ensures.others.2;
     }

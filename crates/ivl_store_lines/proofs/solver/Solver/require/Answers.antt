@@ -1,10 +1,17 @@
-use Rattle.std.proofs.Common.{◌∙◌, subst, sym}
-use Rattle.ivl_store.specs.Network.{IsRequired}
-use Rattle.ivl_store_lines.specs.Solving.{State}
+use Rattle.std.proofs.Common.{◌∙◌, ap, subst, sym}
+use Rattle.ivl_store_lines.specs.Required.{AreRequired}
+use Rattle.ivl_store_lines.specs.Solving.{Settles, State}
 use Rattle.ivl_store_lines.proofs.solver.Solver.require.Goals as goal
 
 pub invariant_of-self-2 : goal.invariant_of-self-2
 invariant_of-self-2 c = c.self.invariant ∙ sym c.in_ok-progress.ensures.kept_count
 
 pub returns-clause-required : goal.returns-clause-required
-returns-clause-required c = subst (λ (s : State). IsRequired c.args.sum s.constraints c.require_whole.new.network.constraints) c.self.view_is c.in_ok-progress.ensures.required
+returns-clause-required c =
+    let new = c.require_atomically.new.network in
+    record {
+      required = subst (λ (s : State). AreRequired c.args.rules.now s.rules new.rules) c.self.view_is c.in_ok-progress.ensures.required;
+      settled = subst (λ (s : State). Settles c.self.inside.limit new.rules s.domains new.domains c.in_ok-progress.progress) c.self.view_is c.in_ok-progress.ensures.settled;
+      names = ap (λ (s : State). s.names) c.self.view_is;
+      limit = ap (λ (s : State). s.limit) c.self.view_is;
+    }
