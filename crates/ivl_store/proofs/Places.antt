@@ -102,6 +102,11 @@ unchanged old i (Some left) e = absurd (cc)
 abbrev pub after : Constraint → List (List (ℤ × ℤ)) → Option (List (ℤ × ℤ)) → Option (List (ℤ × ℤ)) → Option (List (ℤ × ℤ)) → List (List (ℤ × ℤ))
 after c old x y z = narrowed_at (narrowed_at (narrowed_at old c.x x) c.y y) c.z z
 
+-- what is left is put there one after the other
+pub after_is : (c : Constraint) (old first second third : List (List (ℤ × ℤ))) (x y z : Option (List (ℤ × ℤ))) → first ≡ narrowed_at old c.x x
+    → second ≡ narrowed_at first c.y y → third ≡ narrowed_at second c.z z → third ≡ after c old x y z
+after_is c old first second third x y z at_x at_y at_z = at_z ∙ ap (λ s. narrowed_at s c.z z) (at_y ∙ ap (λ s. narrowed_at s c.y y) at_x)
+
 pub length-after : (c : Constraint) (old : List (List (ℤ × ℤ))) (x y z : Option (List (ℤ × ℤ))) → length (after c old x y z) ≡ length old
 length-after c old x y z = length-replaced _ c.z z ∙ length-replaced _ c.y y ∙ length-replaced old c.x x
 
