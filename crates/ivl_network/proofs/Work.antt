@@ -13,7 +13,7 @@ unsettled_count-set flags i lt e =
     let t = subst (λ b. unsettled_count (set flags i true) + cond (not b) 1 0 ≡ unsettled_count flags + 0) e s in
     omega (arith, t)
 
--- a narrowing by a constraint that is not settled, which removed a member or settled it
+-- a narrowing by a rule that is not settled, which removed a member or settled it
 pub work_less : (whole : ℤ × ℤ) (old new : List (List (ℤ × ℤ))) (count : ℕ) (flags flags' : List Bool) (i : ℕ) (lost : Bool)
     → i < length flags → get_or flags i false ≡ false → length flags' ≡ count
     → (lost ≡ false → new ≡ old) → (lost ≡ false → flags' ≡ set flags i true) → (lost ≡ true → total whole new < total whole old)

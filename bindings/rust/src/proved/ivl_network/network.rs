@@ -297,7 +297,7 @@ impl<B: Width> Network<B> {
     /// ensures refused { OnErr result (self.new ≡ self.old) }
     /// ```
     ///
-    /// Words: [`Covers`](crate::definitions#Covers), [`set_at`](crate::definitions#set_at).
+    /// Words: [`IsCutAt`](crate::definitions#IsCutAt), [`Covers`](crate::definitions#Covers), [`set_at`](crate::definitions#set_at).
     pub fn restrict(&mut self, variable: usize, allowed: &IntervalSet<B>) -> Result<(), StoreFault> {
         if variable >= self.store.domains().len() {
             return Err(StoreFault::Variable(variable));

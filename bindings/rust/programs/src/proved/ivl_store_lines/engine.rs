@@ -9,6 +9,7 @@ use crate::proved::ivl_store_lines::replies::{
     write_best, write_count, write_fault, write_shown, write_solutions, write_state, write_variable,
 };
 use crate::proved::ivl_store_lines::request::{Request, request_from};
+use crate::proved::ivl_store_lines::solve::Extreme;
 use crate::proved::ivl_store_lines::solver::Solver;
 use crate::proved::ivl_lines::{Answers, SessionFault, first_word, line_text, next_word, serve};
 use crate::rattle::std::alloc::Global;
@@ -95,8 +96,8 @@ fn answer_request<W: Write>(
         Request::Show(Some(name)) => write_variable(writer, solver, name),
         Request::Solve(most) => answer_solve(solver, most, writer),
         Request::Count => answer_count(solver, writer),
-        Request::Least(name) => answer_least(solver, name, writer),
-        Request::Greatest(name) => answer_greatest(solver, name, writer),
+        Request::Least(name) => answer_best(solver, name, Extreme::Least, writer),
+        Request::Greatest(name) => answer_best(solver, name, Extreme::Greatest, writer),
         change => answer_change(solver, change, writer),
     }
 }
@@ -127,15 +128,13 @@ fn answer_count<W: Write>(solver: &Solver, writer: &mut W) -> io::Result<()> {
     }
 }
 
-fn answer_least<W: Write>(solver: &Solver, name: &str, writer: &mut W) -> io::Result<()> {
-    match solver.least(name) {
-        Ok(best) => write_best(writer, solver.names(), &best),
-        Err(fault) => write_fault(writer, &fault),
-    }
-}
-
-fn answer_greatest<W: Write>(solver: &Solver, name: &str, writer: &mut W) -> io::Result<()> {
-    match solver.greatest(name) {
+fn answer_best<W: Write>(
+    solver: &Solver,
+    name: &str,
+    extreme: Extreme,
+    writer: &mut W,
+) -> io::Result<()> {
+    match solver.best(name, extreme) {
         Ok(best) => write_best(writer, solver.names(), &best),
         Err(fault) => write_fault(writer, &fault),
     }

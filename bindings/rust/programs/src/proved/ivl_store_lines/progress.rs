@@ -7,7 +7,7 @@ use crate::rattle::prelude::*;
 /// How far the lines so far have narrowed the domains.
 #[derive(Clone, Copy)]
 pub enum Progress {
-    /// No constraint narrows a domain any further.
+    /// No rule narrows a domain any further.
     Complete,
     /// The last line that narrows used up its narrowings.
     Budget,

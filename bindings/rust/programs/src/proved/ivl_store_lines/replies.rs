@@ -16,7 +16,7 @@ use crate::rattle::std::io;
 use crate::rattle::std::io::Write;
 
 /// Writes `no solution` if a domain is empty, and else how far the domains are narrowed: `ok` if no
-/// constraint narrows them any further.
+/// rule narrows them any further.
 pub fn write_state<W: Write>(writer: &mut W, solver: &Solver) -> io::Result<()> {
     if solver.has_empty() {
         writer.write_all(b"no solution\n")
@@ -74,6 +74,7 @@ fn first_variable<'a>(
 }
 
 fn write_domain<W: Write>(writer: &mut W, name: &str, domain: &IntervalSet<i64>) -> io::Result<()> {
+    // for the prover: its runs are maximal
     domain.in_whole();
     writeln!(writer, "{} {domain}", Escaped(name))
 }

@@ -4,6 +4,7 @@
 #[allow(unused_imports)]
 use crate::rattle::prelude::*;
 use crate::proved::ivl_store_lines::fault::Fault;
+use crate::proved::ivl_store_lines::relation::Relation;
 use crate::proved::ivl_lines::{next_word, number_from, one_word, pairs_from, three_words};
 use crate::rattle::std::alloc::Global;
 
@@ -16,6 +17,10 @@ pub enum Request<'a> {
     Cut(&'a str, Vec<(i64, i64)>),
     /// `sum x y z`: the first and the second variable add to the third.
     Sum(&'a str, &'a str, &'a str),
+    /// `x + n <= y` and the like: the first variable, shifted by the number, is so related to the second.
+    Relate(Relation, &'a str, &'a str, i64),
+    /// `different x y ..`: no two of the variables, whose names stand in the text, have the same number.
+    Different(&'a str),
     /// `limit n`: how many narrowings each later line may make.
     Limit(u64),
     /// `go on`: narrows further.

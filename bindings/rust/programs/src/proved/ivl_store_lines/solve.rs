@@ -1,13 +1,24 @@
 // Written by bindings/rust/extract from crates/ivl_store_lines/src/solve.rt.
-//! The solutions of the constraints over the domains, as a search finds them within the limit of a line.
+//! The solutions of the rules over the domains, as a search finds them within the limit of a line.
 
 #[allow(unused_imports)]
 use crate::rattle::prelude::*;
 use crate::proved::ivl_store_lines::fault::Fault;
 use crate::proved::ivl_store_lines::solver::Solver;
+use crate::proved::intervallum::interval_set::IntervalSet;
+use crate::proved::ivl_rules::rules::Rule;
 use crate::proved::ivl_search::search;
-use crate::proved::ivl_search::search::{Best, End, Found, Limits, NARROWINGS_PER_NODE};
-use crate::rattle::std::alloc::AllocError;
+use crate::proved::ivl_search::search::{Best, End, Found, Limits, NARROWINGS_PER_NODE, SearchFault};
+use crate::rattle::std::alloc::{AllocError, Global};
+
+/// Which number of a variable a search is for.
+#[derive(Clone, Copy)]
+pub enum Extreme {
+    /// Its least one.
+    Least,
+    /// Its greatest one.
+    Greatest,
+}
 
 impl Solver {
     /// Returns solutions, `most` of them at most, and how their search ended.
@@ -19,7 +30,7 @@ impl Solver {
             });
         }
         let limits = self.limits(most as usize);
-        match search::solutions(self.allocator(), self.domains(), self.constraints(), limits) {
+        match search::rules::solutions(self.allocator(), self.domains(), self.rules(), limits) {
             Ok(found) => Ok(found),
             Err(_) => Err(AllocError),
         }
@@ -31,55 +42,27 @@ impl Solver {
             return Ok((0, End::All));
         }
         let limits = self.limits(usize::MAX);
-        match search::count(self.allocator(), self.domains(), self.constraints(), limits) {
+        match search::rules::count(self.allocator(), self.domains(), self.rules(), limits) {
             Ok(counted) => Ok(counted),
             Err(_) => Err(AllocError),
         }
     }
 
-    /// Returns a solution with the least number for a variable, and how the search for it ended. It has
-    /// fewer nodes than it may find solutions, so it never ends with [`End::Solutions`].
+    /// Returns a solution with the least or greatest number for a variable, and how the search for it
+    /// ended. It has fewer nodes than it may find solutions, so it never ends with
+    /// [`End::Solutions`].
     ///
     /// # Errors
     ///
     /// `Unknown` if no variable has the name, `Memory` if allocation fails.
-    pub fn least<'a>(&self, name: &'a str) -> Result<Best<i64>, Fault<'a>> {
+    pub fn best<'a>(&self, name: &'a str, extreme: Extreme) -> Result<Best<i64>, Fault<'a>> {
         let variable = self.known(name)?;
         if self.has_empty() {
             return Ok(none());
         }
         let limits = self.limits(usize::MAX);
-        match search::least(
-            self.allocator(),
-            self.domains(),
-            self.constraints(),
-            variable,
-            limits,
-        ) {
-            Ok(best) => Ok(best),
-            Err(_) => Err(Fault::Memory),
-        }
-    }
-
-    /// Returns a solution with the greatest number for a variable, as [`Solver::least`] does one with
-    /// its least.
-    ///
-    /// # Errors
-    ///
-    /// Those of [`Solver::least`].
-    pub fn greatest<'a>(&self, name: &'a str) -> Result<Best<i64>, Fault<'a>> {
-        let variable = self.known(name)?;
-        if self.has_empty() {
-            return Ok(none());
-        }
-        let limits = self.limits(usize::MAX);
-        match search::greatest(
-            self.allocator(),
-            self.domains(),
-            self.constraints(),
-            variable,
-            limits,
-        ) {
+        let (alloc, domains, rules) = (self.allocator(), self.domains(), self.rules());
+        match best_of(alloc, domains, rules, variable, limits, extreme) {
             Ok(best) => Ok(best),
             Err(_) => Err(Fault::Memory),
         }
@@ -89,6 +72,21 @@ impl Solver {
     fn limits(&self, solutions: usize) -> Limits {
         let nodes = self.limit() / NARROWINGS_PER_NODE;
         Limits { solutions, nodes }
+    }
+}
+
+/// Searches for the solution with the extreme number.
+fn best_of(
+    alloc: Global,
+    domains: &[IntervalSet<i64>],
+    rules: &[Rule],
+    variable: usize,
+    limits: Limits,
+    extreme: Extreme,
+) -> Result<Best<i64>, SearchFault> {
+    match extreme {
+        Extreme::Least => search::rules::least(alloc, domains, rules, variable, limits),
+        Extreme::Greatest => search::rules::greatest(alloc, domains, rules, variable, limits),
     }
 }
 

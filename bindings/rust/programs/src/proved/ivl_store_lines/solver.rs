@@ -1,21 +1,25 @@
 // Written by bindings/rust/extract from crates/ivl_store_lines/src/solver.rt.
-//! The variables by name, their domains, and the sums that hold between them.
+//! The variables by name, their domains, and the rules that hold between them.
 
 #[allow(unused_imports)]
 use crate::rattle::prelude::*;
+use crate::proved::ivl_store_lines::atomic::{require_atomically, restrict_atomically, settle_atomically};
+use crate::proved::ivl_store_lines::different::{each_pair, first_repeated};
 use crate::proved::ivl_store_lines::fault::Fault;
 use crate::proved::ivl_store_lines::progress::Progress;
+use crate::proved::ivl_store_lines::relation::Relation;
 use crate::proved::ivl_store_lines::request::Request;
-use crate::proved::ivl_store_lines::whole::{require_whole, restrict_whole, settle_whole};
 use indexmap::IndexSet;
 use crate::proved::intervallum::interval::Interval;
 use crate::proved::intervallum::interval_set::{IntervalSet, ToIntervalSet};
-use crate::proved::ivl_store::network::Network;
+use crate::proved::ivl_lines::next_word;
+use crate::proved::ivl_network::network::Network;
+use crate::proved::ivl_rules::rules::Rule;
 use crate::proved::ivl_store::store::Constraint;
 use crate::rattle::std::alloc::{AllocError, Global};
 use crate::rattle::std::collections::hash_map::RandomState;
 
-/// The variables by name, their domains, and the sums that hold between them. A contract sees the
+/// The variables by name, their domains, and the rules that hold between them. A contract sees the
 /// three lists.
 pub struct Solver {
     alloc: Global,
@@ -50,6 +54,8 @@ impl Solver {
             Request::Var(name, pairs) => self.define(name, &pairs),
             Request::Cut(name, pairs) => self.cut(name, &pairs),
             Request::Sum(x, y, z) => self.sum(x, y, z),
+            Request::Relate(relation, x, y, by) => self.relate(relation, x, y, by),
+            Request::Different(names) => self.different(names),
             Request::Limit(limit) => {
                 self.limit = limit;
                 Ok(())
@@ -76,9 +82,9 @@ impl Solver {
         self.network.domains()
     }
 
-    /// Returns the constraints, in the order in which they were first required.
-    pub fn constraints(&self) -> &[Constraint] {
-        self.network.constraints()
+    /// Returns the rules, in the order in which they were first required.
+    pub fn rules(&self) -> &[Rule] {
+        self.network.rules()
     }
 
     /// Returns the domain of the variable that has this name.
@@ -147,8 +153,65 @@ impl Solver {
         if !sum.distinct() {
             return Err(Fault::Repeated(if sum.x == sum.y { x } else { z }));
         }
-        self.require(sum)?;
+        self.require(&[Rule::Sum(sum)])?;
         Ok(())
+    }
+
+    /// Requires that a variable, shifted by a number, is so related to another.
+    fn relate<'a>(
+        &mut self,
+        relation: Relation,
+        x: &'a str,
+        y: &'a str,
+        by: i64,
+    ) -> Result<(), Fault<'a>> {
+        let first = self.known(x)?;
+        let second = self.known(y)?;
+        if first == second {
+            return Err(Fault::Repeated(x));
+        }
+        let rule = rule_of(relation, first, second, by);
+        self.require(&[rule])?;
+        Ok(())
+    }
+
+    /// Requires that no two variables have the same number.
+    fn different<'a>(&mut self, names: &'a str) -> Result<(), Fault<'a>> {
+        if let Some(name) = self.first_unknown(names) {
+            return Err(Fault::Unknown(name));
+        }
+        if let Some(name) = first_repeated(names) {
+            return Err(Fault::Repeated(name));
+        }
+        let variables = self.known_among(names)?;
+        let rules = each_pair(self.alloc, &variables)?;
+        self.require(&rules)?;
+        Ok(())
+    }
+
+    /// The first of the names that no variable has.
+    fn first_unknown<'a>(&self, names: &'a str) -> Option<&'a str> {
+        let mut rest = names;
+        while let Some((name, after)) = next_word(rest) {
+            if self.index_of(name).is_none() {
+                return Some(name);
+            }
+            rest = after;
+        }
+        None
+    }
+
+    /// The variables that have these names, in order.
+    fn known_among(&self, names: &str) -> Result<Vec<usize>, AllocError> {
+        let mut variables = Vec::new(self.alloc);
+        let mut rest = names;
+        while let Some((name, after)) = next_word(rest) {
+            if let Some(variable) = self.index_of(name) {
+                variables.push(variable)?;
+            }
+            rest = after;
+        }
+        Ok(variables)
     }
 
     /// Returns the variable of a name.
@@ -167,24 +230,33 @@ impl Solver {
 
     /// Cuts a domain, and narrows all. If allocation fails, nothing changes.
     fn restrict(&mut self, variable: usize, allowed: &IntervalSet<i64>) -> Result<(), AllocError> {
-        let progress = restrict_whole(&mut self.network, variable, allowed, self.limit)?;
+        let progress = restrict_atomically(&mut self.network, variable, allowed, self.limit)?;
         self.progress = progress;
         Ok(())
     }
 
-    /// Adds a constraint, and narrows the domains. If allocation fails, nothing changes.
-    fn require(&mut self, sum: Constraint) -> Result<(), AllocError> {
-        let progress = require_whole(&mut self.network, sum, self.limit)?;
+    /// Adds rules, and narrows the domains. If allocation fails, nothing changes.
+    fn require(&mut self, rules: &[Rule]) -> Result<(), AllocError> {
+        let progress = require_atomically(&mut self.network, rules, self.limit)?;
         self.progress = progress;
         Ok(())
     }
 
-    /// Narrows the domains by the constraints, within the limit. If allocation fails, nothing
+    /// Narrows the domains by the rules, within the limit. If allocation fails, nothing
     /// changes.
     fn settle(&mut self) -> Result<(), AllocError> {
-        let progress = settle_whole(&mut self.network, self.limit)?;
+        let progress = settle_atomically(&mut self.network, self.limit)?;
         self.progress = progress;
         Ok(())
+    }
+}
+
+/// The rule that relates two variables so.
+fn rule_of(relation: Relation, x: usize, y: usize, by: i64) -> Rule {
+    match relation {
+        Relation::Shifted => Rule::Shifted { x, y, by },
+        Relation::AtMost => Rule::AtMost { x, y, by },
+        Relation::Differs => Rule::Differs { x, y, by },
     }
 }
 

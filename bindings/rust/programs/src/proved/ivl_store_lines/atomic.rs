@@ -1,5 +1,5 @@
-// Written by bindings/rust/extract from crates/ivl_store_lines/src/whole.rt.
-//! Lines that change the network, each carried out whole or not at all.
+// Written by bindings/rust/extract from crates/ivl_store_lines/src/atomic.rt.
+//! Lines that change the network, each carried out as a whole or not at all.
 //!
 //! A network is marked before a line and taken back to the mark if an allocation fails.
 
@@ -7,12 +7,12 @@
 use crate::rattle::prelude::*;
 use crate::proved::ivl_store_lines::progress::Progress;
 use crate::proved::intervallum::interval_set::IntervalSet;
-use crate::proved::ivl_store::network::{Network, Settled};
-use crate::proved::ivl_store::store::Constraint;
+use crate::proved::ivl_network::network::{Network, Settled};
+use crate::proved::ivl_rules::rules::Rule;
 use crate::rattle::std::alloc::AllocError;
 
 /// Cuts a domain and narrows all, within the limit.
-pub fn restrict_whole(
+pub fn restrict_atomically(
     network: &mut Network<i64>,
     variable: usize,
     allowed: &IntervalSet<i64>,
@@ -31,27 +31,35 @@ pub fn restrict_whole(
     }
 }
 
-/// Adds a constraint and narrows the domains, within the limit.
-pub fn require_whole(
+/// Adds the rules and narrows the domains, within the limit.
+pub fn require_atomically(
     network: &mut Network<i64>,
-    sum: Constraint,
+    rules: &[Rule],
     limit: u64,
 ) -> Result<Progress, AllocError> {
     let mark = network.mark()?;
-    match network.require(sum) {
+    match require_each(network, rules) {
         Ok(()) => {
             let progress = settle_to(network, mark, limit)?;
             Ok(progress)
         }
-        Err(_) => {
-            network.drop_marks(mark);
-            Err(AllocError)
-        }
+        Err(_) => Err(taken_back(network, mark)),
     }
 }
 
-/// Narrows the domains by the constraints, within the limit.
-pub fn settle_whole(network: &mut Network<i64>, limit: u64) -> Result<Progress, AllocError> {
+/// Adds those of the rules that were not added before, in order.
+fn require_each(network: &mut Network<i64>, rules: &[Rule]) -> Result<(), AllocError> {
+    for rule in rules {
+        match network.require(*rule) {
+            Ok(()) => {}
+            Err(_) => return Err(AllocError),
+        }
+    }
+    Ok(())
+}
+
+/// Narrows the domains by the rules, within the limit.
+pub fn settle_atomically(network: &mut Network<i64>, limit: u64) -> Result<Progress, AllocError> {
     let mark = network.mark()?;
     let progress = settle_to(network, mark, limit)?;
     Ok(progress)
@@ -59,18 +67,21 @@ pub fn settle_whole(network: &mut Network<i64>, limit: u64) -> Result<Progress, 
 
 /// Narrows the domains and drops the mark, or takes the network back to it.
 fn settle_to(network: &mut Network<i64>, mark: usize, limit: u64) -> Result<Progress, AllocError> {
-    // No more constraints have to be looked at than there are.
-    network.constraints();
+    // for the prover: no more rules are unsettled than there are
+    network.rules();
     match network.settle_within(limit) {
         Ok(reached) => {
             network.drop_marks(mark);
             Ok(progress_of(reached))
         }
-        Err(_) => {
-            network.undo_to(mark);
-            Err(AllocError)
-        }
+        Err(_) => Err(taken_back(network, mark)),
     }
+}
+
+/// Takes the network back to the mark, where an allocation failed.
+fn taken_back(network: &mut Network<i64>, mark: usize) -> AllocError {
+    network.undo_to(mark);
+    AllocError
 }
 
 /// How far the domains are narrowed, by what a call reached.
