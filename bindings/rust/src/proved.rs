@@ -81,6 +81,7 @@ pub mod examples {
     pub use super::ivl_map::{IntervalMap, MapValue};
     pub use super::ivl_merges::merges;
     pub use super::ivl_merges::sink::Places;
+    pub use super::ivl_network::network::{Network, Settled};
     pub use super::ivl_paged::PagedSet;
     pub use super::ivl_rules::rules::Rule;
     pub use super::ivl_rules::rules::narrowing::narrow;
@@ -88,7 +89,6 @@ pub mod examples {
     pub use super::ivl_search::search::{
         Best, End, Found, Limits, SearchFault, all_distinct, count, greatest, least, solutions, try_solutions,
     };
-    pub use super::ivl_store::network::{Network, Settled};
     pub use super::ivl_store::store::narrowed_sets::{narrowed_by, narrowed_to};
     pub use super::ivl_store::store::{Constraint, Lost, Post, Store, StoreFault};
     pub use super::ivl_within::within::{

@@ -123,7 +123,6 @@ fn numbers_outside_the_range_are_no_members() {
 #[test]
 #[cfg(debug_assertions)]
 fn debug_builds_test_the_conditions_of_the_proved_face() {
-    use intervallum::proved::ivl_store::network::Network;
     use intervallum::proved::ivl_store::store::{Constraint, Post, Store};
     use intervallum::proved::ivl_within::within::{Combined, pair_in_window};
     use intervallum::proved::steps::{Probes, Walk};
@@ -162,7 +161,6 @@ fn debug_builds_test_the_conditions_of_the_proved_face() {
         Probes::new(&set()).look(1) => "the condition of `look` is broken: i < self.len()";
         images(&set(), &set(), Op::Difference) => "the condition of `images` is broken: match op { Op::Sum => a.fits_add(b), Op::Difference => a.fits_sub(b), Op::Product => a.fits_mul(b) }";
         pair_in_window(run(), Interval::empty(), Combined::Sum, run()) => "the condition of `pair_in_window` is broken: !a.is_empty() && !b.is_empty() && !window.is_empty()";
-        Network::<u8>::new(Global).require(Constraint { x: 0, y: 0, z: 0 }) => "the condition of `require` is broken: constraint.distinct()";
         Store::<u8>::new(Global, vec![set()].into()).swap(1, None) => "the condition of `swap` is broken: i < self.domains.len()";
         Store::<u8>::new(Global, vec![set()].into()).cost_of(&Constraint { x: 0, y: 1, z: 2 }) => "the condition of `cost_of` is broken: c.first_unknown(self.domains.len()).is_none()";
         Store::<u8>::new(Global, vec![set()].into()).post_all(&[Post::Require(Constraint { x: 0, y: 0, z: 0 })]) => "the condition of `post_all` is broken: posts.iter().all(|post| match post { Post::Require(c) => c.distinct(), Post::Restrict(..) => true })";

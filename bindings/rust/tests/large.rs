@@ -1,8 +1,9 @@
 //! Each call that allocates succeeds with ample memory, well above every constant in the code and at its least input: a body that
 //! tells want of memory there meets every contract.
 use intervallum::proved::Global;
+use intervallum::proved::ivl_network::network::{Network, Settled};
 use intervallum::proved::ivl_paged::PagedSet;
-use intervallum::proved::ivl_store::network::{Network, Settled};
+use intervallum::proved::ivl_rules::rules::Rule;
 use intervallum::proved::ivl_store::store::Constraint;
 use intervallum::proved::prelude::*;
 
@@ -115,18 +116,26 @@ fn paged_sets_of_many_pages() {
 }
 
 #[test]
-fn networks_of_many_constraints() {
+fn networks_of_many_rules() {
     const COUNT: usize = 5_000;
-    let mut network: Network<i64> = Network::new(Global);
-    let one = network.add_variable(Set::new(Global, 1, 1).unwrap()).unwrap();
-    let mut last = network.add_variable(Set::new(Global, 0, 0).unwrap()).unwrap();
-    for _ in 0..COUNT {
-        let next = network.add_variable(Set::new(Global, 0, 1_000_000).unwrap()).unwrap();
-        network.require(Constraint { x: last, y: one, z: next }).unwrap();
-        last = next;
+    type Step = fn(usize, usize) -> Rule;
+    // variable 0 is 1
+    let steps: [Step; 2] = [
+        |last, next| Rule::Sum(Constraint { x: last, y: 0, z: next }),
+        |last, next| Rule::Shifted { x: last, y: next, by: 1 },
+    ];
+    for step in steps {
+        let mut network: Network<i64> = Network::new(Global);
+        network.add_variable(Set::new(Global, 1, 1).unwrap()).unwrap();
+        let mut last = network.add_variable(Set::new(Global, 0, 0).unwrap()).unwrap();
+        for _ in 0..COUNT {
+            let next = network.add_variable(Set::new(Global, 0, 1_000_000).unwrap()).unwrap();
+            network.require(step(last, next)).unwrap();
+            last = next;
+        }
+        assert_eq!(network.settle(100_000_000).unwrap(), Settled::All);
+        assert!(network.domains()[last] == Set::new(Global, COUNT as i64, COUNT as i64).unwrap());
     }
-    assert_eq!(network.settle(100_000_000).unwrap(), Settled::All);
-    assert!(network.domains()[last] == Set::new(Global, COUNT as i64, COUNT as i64).unwrap());
     let mut none: Network<i64> = Network::new(Global);
     assert_eq!(none.settle(0).unwrap(), Settled::All);
 }

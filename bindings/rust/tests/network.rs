@@ -1,44 +1,286 @@
-//! What the budget of a network buys, and that lines leave nothing behind: what is kept to take one back goes with its mark.
+//! Networks of every kind of rule beside plain lists of numbers: what is left when all is settled, marks and errors. Then what a
+//! budget buys, and that lines leave nothing behind: what is kept to take one back goes with its mark.
 use intervallum::proved::Global;
 use intervallum::proved::interval_set::{IntervalSet, ToIntervalSet};
-use intervallum::proved::ivl_store::network::{Network, Settled};
-use intervallum::proved::ivl_store::store::Constraint;
+use intervallum::proved::ivl_network::network::{Network, Settled};
+use intervallum::proved::ivl_rules::rules::Rule;
+use intervallum::proved::ivl_store::store::{Constraint, StoreFault};
 use intervallum::proved::ops::Cardinality;
-use std::alloc::{GlobalAlloc, Layout, System};
-use std::sync::atomic::{AtomicUsize, Ordering};
 
-struct Counting;
-
-static BYTES: AtomicUsize = AtomicUsize::new(0);
-
-unsafe impl GlobalAlloc for Counting {
-    unsafe fn alloc(&self, layout: Layout) -> *mut u8 {
-        BYTES.fetch_add(layout.size(), Ordering::Relaxed);
-        unsafe { System.alloc(layout) }
-    }
-
-    unsafe fn dealloc(&self, at: *mut u8, layout: Layout) {
-        BYTES.fetch_sub(layout.size(), Ordering::Relaxed);
-        unsafe { System.dealloc(at, layout) }
-    }
-
-    unsafe fn realloc(&self, at: *mut u8, layout: Layout, size: usize) -> *mut u8 {
-        BYTES.fetch_add(size, Ordering::Relaxed);
-        BYTES.fetch_sub(layout.size(), Ordering::Relaxed);
-        unsafe { System.realloc(at, layout, size) }
-    }
-}
+mod memory;
+use memory::{Watched, cost};
 
 #[global_allocator]
-static ALLOCATOR: Counting = Counting;
+static ALLOCATOR: Watched = Watched;
 
-const RUNS: i64 = 1_000;
-const LINES: i64 = 200;
+// a debug build tests conditions, and takes a hundred times as long
+const MODELS: usize = if cfg!(debug_assertions) { 100 } else { 4_000 };
+const LINES: usize = 20;
 
-fn evens() -> IntervalSet<i64> {
-    let pairs: Vec<(i64, i64)> = (0..RUNS).map(|n| (2 * n, 2 * n)).collect();
+struct Random(u64);
+
+impl Random {
+    fn below(&mut self, bound: usize) -> usize {
+        self.0 ^= self.0 << 13;
+        self.0 ^= self.0 >> 7;
+        self.0 ^= self.0 << 17;
+        (self.0 % bound as u64) as usize
+    }
+}
+
+type Numbers = Vec<i64>;
+
+fn set(numbers: &Numbers) -> IntervalSet<i8> {
+    let pairs: Vec<(i8, i8)> = numbers.iter().map(|&n| (n as i8, n as i8)).collect();
     pairs.as_slice().to_interval_set(Global).unwrap()
 }
+
+fn numbers(random: &mut Random) -> Numbers {
+    let density = 1 + random.below(4);
+    (-6..=9).filter(|_| random.below(5) <= density).collect()
+}
+
+/// A rule over different variables of so many, three at least.
+fn rule(random: &mut Random, count: usize) -> Rule {
+    let x = random.below(count);
+    let y = (x + 1 + random.below(count - 1)) % count;
+    let others: Vec<usize> = (0..count).filter(|i| ![x, y].contains(i)).collect();
+    let z = others[random.below(others.len())];
+    let by = random.below(9) as i64 - 4;
+    match random.below(4) {
+        0 => Rule::Sum(Constraint { x, y, z }),
+        1 => Rule::Shifted { x, y, by },
+        2 => Rule::AtMost { x, y, by },
+        _ => Rule::Differs { x, y, by },
+    }
+}
+
+fn variables(rule: &Rule) -> Vec<usize> {
+    let places = rule.places();
+    let mut named = vec![places.x, places.y];
+    if places.z != places.y {
+        named.push(places.z);
+    }
+    named
+}
+
+fn satisfies(rule: &Rule, point: &[i64]) -> bool {
+    match *rule {
+        Rule::Sum(_) => point[0] + point[1] == point[2],
+        Rule::Shifted { by, .. } => point[0] + by == point[1],
+        Rule::AtMost { by, .. } => point[0] + by <= point[1],
+        Rule::Differs { by, .. } => point[0] + by != point[1],
+    }
+}
+
+/// The points of the domains of a rule's variables which satisfy it.
+fn points(rule: &Rule, domains: &[Numbers]) -> Vec<Numbers> {
+    let mut points: Vec<Numbers> = vec![vec![]];
+    for i in variables(rule) {
+        points = points.iter().flat_map(|p| domains[i].iter().map(move |&n| [p.as_slice(), &[n]].concat())).collect();
+    }
+    points.retain(|p| satisfies(rule, p));
+    points
+}
+
+/// A model in plain lists: takes from the domains what no rule supports until nothing changes.
+#[derive(Clone, Default)]
+struct Model {
+    domains: Vec<Numbers>,
+    rules: Vec<Rule>,
+}
+
+impl Model {
+    fn settle(&mut self) {
+        loop {
+            let before = self.domains.clone();
+            for rule in &self.rules {
+                let points = points(rule, &self.domains);
+                for (place, i) in variables(rule).into_iter().enumerate() {
+                    self.domains[i].retain(|&n| points.iter().any(|p| p[place] == n));
+                }
+            }
+            if self.domains == before {
+                return;
+            }
+        }
+    }
+
+    fn compare(&self, network: &Network<i8>) {
+        assert_eq!(network.rules(), self.rules.as_slice());
+        assert_eq!(network.domains().len(), self.domains.len());
+        for (domain, numbers) in network.domains().iter().zip(&self.domains) {
+            assert!(*domain == set(numbers), "{:?} leave {domain} and not {numbers:?}", self.rules);
+        }
+        assert_eq!(network.has_empty(), self.domains.iter().any(Vec::is_empty));
+    }
+}
+
+/// One change of both, or a point to return to.
+fn step(random: &mut Random, model: &mut Model, marks: &mut Vec<Model>, network: &mut Network<i8>) {
+    let count = model.domains.len();
+    match random.below(12) {
+        0 if count < 6 => {
+            let domain = numbers(random);
+            assert_eq!(network.add_variable(set(&domain)), Ok(count));
+            model.domains.push(domain);
+        }
+        1..=4 => {
+            let rule = rule(random, count);
+            assert_eq!(network.require(rule), Ok(()));
+            if !model.rules.contains(&rule) {
+                model.rules.push(rule);
+            }
+        }
+        5 => {
+            let (i, allowed) = (random.below(count), numbers(random));
+            assert_eq!(network.restrict(i, &set(&allowed)), Ok(()));
+            model.domains[i].retain(|n| allowed.contains(n));
+        }
+        6 => {
+            assert_eq!(network.mark(), Ok(marks.len()));
+            marks.push(model.clone());
+        }
+        7 if !marks.is_empty() => {
+            let mark = random.below(marks.len());
+            assert!(network.undo_to(mark));
+            *model = marks[mark].clone();
+            marks.truncate(mark);
+        }
+        8 => {
+            let mark = random.below(marks.len() + 2);
+            network.drop_marks(mark);
+            marks.truncate(mark);
+        }
+        _ => {
+            // by many small budgets, of either kind
+            let mut calls = 0;
+            loop {
+                let budget = 1 + random.below(3) as u64;
+                let settled = if random.below(2) == 0 { network.settle(budget) } else { network.settle_within(budget) };
+                if settled == Ok(Settled::All) {
+                    break;
+                }
+                calls += 1;
+                assert!(calls < 10_000);
+            }
+            model.settle();
+        }
+    }
+    if !matches!(network.settle(0), Ok(Settled::All)) {
+        return;
+    }
+    model.settle();
+    model.compare(network);
+}
+
+#[test]
+fn networks_leave_what_the_rules_support() {
+    let mut random = Random(0x9e37_79b9_7f4a_7c15);
+    let (mut settled, mut emptied) = (0, 0);
+    for _ in 0..MODELS {
+        let (mut model, mut marks, mut network) = (Model::default(), vec![], Network::new(Global));
+        for _ in 0..3 {
+            let domain = numbers(&mut random);
+            network.add_variable(set(&domain)).unwrap();
+            model.domains.push(domain);
+        }
+        for _ in 0..LINES {
+            step(&mut random, &mut model, &mut marks, &mut network);
+        }
+        assert_eq!(network.settle(1_000_000), Ok(Settled::All));
+        model.settle();
+        model.compare(&network);
+        settled += 1;
+        emptied += usize::from(network.has_empty());
+    }
+    // neither kind of end is rare
+    assert!(emptied > settled / 10 && emptied < settled * 9 / 10, "{emptied} of {settled}");
+}
+
+#[test]
+fn unknown_variables_are_told_and_nothing_changes() {
+    let mut network = Network::new(Global);
+    for _ in 0..2 {
+        network.add_variable(IntervalSet::new(Global, 0i8, 9).unwrap()).unwrap();
+    }
+    let before = Rule::AtMost { x: 0, y: 1, by: 3 };
+    assert_eq!(network.require(before), Ok(()));
+    assert_eq!(network.require(Rule::Sum(Constraint { x: 0, y: 7, z: 5 })), Err(StoreFault::Variable(7)));
+    assert_eq!(network.require(Rule::Differs { x: 2, y: 1, by: 0 }), Err(StoreFault::Variable(2)));
+    assert_eq!(network.restrict(2, &IntervalSet::new(Global, 0, 1).unwrap()), Err(StoreFault::Variable(2)));
+    assert_eq!((network.rules(), network.domains().len()), (&[before][..], 2));
+    assert!(!network.undo_to(0));
+}
+
+/// Two rules in a circle, of each kind that has such: x + 1 = y and y + 1 = x, or both with `<=`. The third variable is 1.
+const CIRCLES: [[Rule; 2]; 3] = [
+    [Rule::Sum(Constraint { x: 0, y: 2, z: 1 }), Rule::Sum(Constraint { x: 1, y: 2, z: 0 })],
+    [Rule::Shifted { x: 0, y: 1, by: 1 }, Rule::Shifted { x: 1, y: 0, by: 1 }],
+    [Rule::AtMost { x: 0, y: 1, by: 1 }, Rule::AtMost { x: 1, y: 0, by: 1 }],
+];
+
+/// A circle over so many numbers: the narrowings empty the domains, some numbers each.
+fn circle_of(numbers: i64, rules: [Rule; 2]) -> Network<i64> {
+    let mut network = Network::new(Global);
+    for (lower, upper) in [(0, numbers - 1), (0, numbers - 1), (1, 1)] {
+        network.add_variable(IntervalSet::new(Global, lower, upper).unwrap()).unwrap();
+    }
+    for rule in rules {
+        network.require(rule).unwrap();
+    }
+    network
+}
+
+#[test]
+fn a_budget_that_suffices_exactly_settles_all() {
+    for (numbers, rules) in [1, 2, 3, 10, 500].into_iter().flat_map(|numbers| CIRCLES.map(|rules| (numbers, rules))) {
+        let settled = |budget| circle_of(numbers, rules).settle(budget).unwrap();
+        let within = |budget| circle_of(numbers, rules).settle_within(budget).unwrap();
+        let least = (0..).find(|budget| settled(*budget) == Settled::All).unwrap();
+        assert!(least > 1);
+        // narrowings of single runs count for one each
+        assert_eq!((0..).find(|budget| within(*budget) == Settled::All), Some(least));
+        assert_eq!(
+            (settled(least - 1), settled(least), settled(u64::MAX)),
+            (Settled::Unfinished, Settled::All, Settled::All)
+        );
+        // two calls share it
+        let mut network = circle_of(numbers, rules);
+        assert_eq!(network.settle(least - 1), Ok(Settled::Unfinished));
+        assert_eq!(network.settle_within(1), Ok(Settled::All));
+        assert!(network.has_empty());
+    }
+}
+
+/// The even numbers from 0, so many.
+fn evens(count: i64) -> IntervalSet<i64> {
+    let pairs: Vec<(i64, i64)> = (0..count).map(|n| (2 * n, 2 * n)).collect();
+    pairs.as_slice().to_interval_set(Global).unwrap()
+}
+
+#[test]
+fn a_narrowing_counts_for_what_it_may_look_at() {
+    let sum = Rule::Sum(Constraint { x: 0, y: 1, z: 2 });
+    let before = Rule::AtMost { x: 0, y: 1, by: 0 };
+    // of a sum the pairs of runs of two domains; of a rule of two variables the runs of both
+    let of_sum = [(1, 1), (9, 1), (10, 2), (100, 118)].map(|(runs, cost)| (sum, runs, cost));
+    let of_two = [(1, 1), (127, 1), (128, 2), (1_000, 8)].map(|(runs, cost)| (before, runs, cost));
+    for (rule, runs, cost) in of_sum.into_iter().chain(of_two) {
+        let mut network = Network::new(Global);
+        for _ in 0..3 {
+            network.add_variable(evens(runs)).unwrap();
+        }
+        network.require(rule).unwrap();
+        for _ in 0..3 {
+            assert_eq!(network.settle_within(cost - 1), Ok(Settled::Unfinished));
+        }
+        assert_eq!(network.settle_within(cost), Ok(Settled::All));
+    }
+}
+
+const RUNS: i64 = 1_000;
+const CUTS: i64 = 200;
 
 /// A line that cuts the greatest member off and narrows, carried out under a mark.
 fn cut_and_settle(network: &mut Network<i64>, line: i64) {
@@ -51,67 +293,17 @@ fn cut_and_settle(network: &mut Network<i64>, line: i64) {
 
 #[test]
 fn lines_leave_nothing_behind() {
-    let mut network = Network::new(Global);
-    for _ in 0..2 {
-        network.add_variable(evens()).unwrap();
-    }
-    network.add_variable(IntervalSet::new(Global, 0, 0).unwrap()).unwrap();
-    network.require(Constraint { x: 0, y: 2, z: 1 }).unwrap();
-    cut_and_settle(&mut network, 0);
-    let before = BYTES.load(Ordering::Relaxed);
-    for line in 1..LINES {
-        cut_and_settle(&mut network, line);
-    }
-    // both domains lost a member in each line
-    assert!(network.domains()[..2].iter().all(|domain| domain.size() == (RUNS - LINES) as u64));
-    // a domain that was replaced takes 8 kB and more
-    assert!(BYTES.load(Ordering::Relaxed) < before + 8 * RUNS as usize);
-}
-
-/// x + 1 = y and y + 1 = x over so many numbers: the narrowings empty all domains, some numbers each.
-fn loop_of(numbers: i64) -> Network<i64> {
-    let mut network = Network::new(Global);
-    for (lower, upper) in [(0, numbers - 1), (0, numbers - 1), (1, 1)] {
-        network.add_variable(IntervalSet::new(Global, lower, upper).unwrap()).unwrap();
-    }
-    network.require(Constraint { x: 0, y: 2, z: 1 }).unwrap();
-    network.require(Constraint { x: 1, y: 2, z: 0 }).unwrap();
-    network
-}
-
-#[test]
-fn a_budget_that_suffices_exactly_settles_all() {
-    for numbers in [1, 2, 3, 10, 500] {
-        let settled = |budget| loop_of(numbers).settle(budget).unwrap();
-        let within = |budget| loop_of(numbers).settle_within(budget).unwrap();
-        let least = (0..).find(|budget| settled(*budget) == Settled::All).unwrap();
-        assert!(least > 1);
-        // narrowings of single runs count for one each
-        assert_eq!((0..).find(|budget| within(*budget) == Settled::All), Some(least));
-        assert_eq!(
-            (settled(least - 1), settled(least), settled(u64::MAX)),
-            (Settled::Unfinished, Settled::All, Settled::All)
-        );
-        // two calls share it
-        let mut network = loop_of(numbers);
-        assert_eq!(network.settle(least - 1), Ok(Settled::Unfinished));
-        assert_eq!(network.settle_within(1), Ok(Settled::All));
-        assert!(network.has_empty());
-    }
-}
-
-#[test]
-fn a_narrowing_counts_for_the_pairs_it_may_look_at() {
-    for (runs, cost) in [(1, 1), (9, 1), (10, 2), (100, 118)] {
-        let evens: Vec<(i64, i64)> = (0..runs).map(|n| (2 * n, 2 * n)).collect();
+    for rule in [Rule::Sum(Constraint { x: 0, y: 2, z: 1 }), Rule::Shifted { x: 0, y: 1, by: 0 }] {
         let mut network = Network::new(Global);
-        for _ in 0..3 {
-            network.add_variable(evens.as_slice().to_interval_set(Global).unwrap()).unwrap();
+        for domain in [evens(RUNS), evens(RUNS), evens(1)] {
+            network.add_variable(domain).unwrap();
         }
-        network.require(Constraint { x: 0, y: 1, z: 2 }).unwrap();
-        for _ in 0..3 {
-            assert_eq!(network.settle_within(cost - 1), Ok(Settled::Unfinished));
-        }
-        assert_eq!(network.settle_within(cost), Ok(Settled::All));
+        network.require(rule).unwrap();
+        cut_and_settle(&mut network, 0);
+        let ((), told) = cost(|| (1..CUTS).for_each(|line| cut_and_settle(&mut network, line)));
+        // both domains lost a member in each line
+        assert!(network.domains()[..2].iter().all(|domain| domain.size() == (RUNS - CUTS) as u64));
+        // a domain that was replaced takes 8 kB and more
+        assert!(told.held < 8 * RUNS as isize, "{told:?}");
     }
 }

@@ -1,11 +1,10 @@
 //! Each request for memory of the calls above sets is refused in turn: searches, networks, sums of many pairs of runs. The call
 //! tells it and leaves what it was given, or answers as with ample memory.
 use intervallum::proved::Global;
-use intervallum::proved::ivl_network;
+use intervallum::proved::ivl_network::network::{Network, Settled};
 use intervallum::proved::ivl_rules::rules::Rule;
 use intervallum::proved::ivl_rules::rules::narrowing::narrow;
 use intervallum::proved::ivl_search::search::{Best, End, Limits, SearchFault, count, greatest, least, solutions};
-use intervallum::proved::ivl_store::network::{Network, Settled};
 use intervallum::proved::ivl_store::store::narrowed_sets::{narrowed_by, narrowed_to};
 use intervallum::proved::ivl_store::store::{Constraint, StoreFault};
 use intervallum::proved::ivl_within::within::{
@@ -99,25 +98,27 @@ fn searches() {
     assert!(refused > 10 && told > 10);
 }
 
-/// A network over domains with gaps, which has room for four constraints and has them, with a mark before the last.
+/// A network of each kind of rule over domains with gaps, which has room for four rules and has them, with a mark before the last.
 fn network() -> Network<i64> {
     let mut network = Network::new(Global);
     for start in 0..6 {
         let domain = [(start, start + 1), (start + 3, start + 5), (20 + start, 24)].to_interval_set(Global);
         network.add_variable(domain.unwrap()).unwrap();
     }
-    for constraint in [SUMS[0], Constraint { x: 1, y: 0, z: 2 }, Constraint { x: 3, y: 1, z: 5 }] {
-        network.require(constraint).unwrap();
+    for rule in
+        [Rule::Shifted { x: 0, y: 1, by: 1 }, Rule::Differs { x: 1, y: 2, by: 0 }, Rule::AtMost { x: 3, y: 4, by: 2 }]
+    {
+        network.require(rule).unwrap();
     }
     assert_eq!(network.settle(1_000).unwrap(), Settled::All);
     network.mark().unwrap();
-    network.require(SUMS[1]).unwrap();
+    network.require(Rule::Sum(SUMS[1])).unwrap();
     network
 }
 
-/// The domains and constraints of a network.
-fn seen(network: &Network<i64>) -> (Vec<Set>, Vec<Constraint>) {
-    (network.domains().iter().map(|domain| domain.try_clone().unwrap()).collect(), network.constraints().to_vec())
+/// The domains and rules of a network.
+fn seen(network: &Network<i64>) -> (Vec<Set>, Vec<Rule>) {
+    (network.domains().iter().map(|domain| domain.try_clone().unwrap()).collect(), network.rules().to_vec())
 }
 
 #[test]
@@ -135,7 +136,7 @@ fn edits_of_a_network() {
     };
     type Edit = fn(&mut Network<i64>) -> Result<bool, StoreFault>;
     let edits: [(&str, Edit); 3] = [
-        ("require", |network| network.require(SUMS[2]).map(|()| network.constraints().len() == 5)),
+        ("require", |network| network.require(Rule::AtMost { x: 4, y: 0, by: 0 }).map(|()| network.rules().len() == 5)),
         ("restrict", |network| {
             let odd = [(1, 1), (3, 3), (5, 5)].to_interval_set(Global).map_err(|_| StoreFault::Memory)?;
             network.restrict(0, &odd).map(|()| network.domains()[0].is_subset(&odd))
@@ -149,62 +150,6 @@ fn edits_of_a_network() {
         let (refused, told) = each_refused(network, edit, |network, made, _| unless_told(network, made));
         assert!(refused > 0 && told > 0, "{name}: {refused}, {told}");
     }
-}
-
-/// A network of each kind of rule, with a mark before the last, which narrows further than the others did.
-fn network_of_rules() -> ivl_network::network::Network<i64> {
-    let mut network = ivl_network::network::Network::new(Global);
-    for start in 0..5 {
-        let domain = [(start, start + 1), (start + 3, start + 5), (20 + start, 24)].to_interval_set(Global);
-        network.add_variable(domain.unwrap()).unwrap();
-    }
-    for rule in [Rule::Sum(SUMS[0]), Rule::Shifted { x: 0, y: 1, by: 1 }, Rule::Differs { x: 1, y: 2, by: 0 }] {
-        network.require(rule).unwrap();
-    }
-    assert_eq!(network.settle(1_000).unwrap(), ivl_network::network::Settled::All);
-    network.mark().unwrap();
-    network.require(Rule::AtMost { x: 3, y: 4, by: 2 }).unwrap();
-    network
-}
-
-#[test]
-fn a_network_of_rules_is_left_or_goes_on() {
-    use ivl_network::network::{Network, Settled};
-    let seen = |network: &Network<i64>| -> (Vec<Set>, Vec<Rule>) {
-        (network.domains().iter().map(|domain| domain.try_clone().unwrap()).collect(), network.rules().to_vec())
-    };
-    let before = seen(&network_of_rules());
-    type Edit = fn(&mut Network<i64>) -> Result<bool, StoreFault>;
-    let edits: [(&str, Edit); 2] = [
-        ("require", |network| network.require(Rule::AtMost { x: 4, y: 0, by: 0 }).map(|()| network.rules().len() == 5)),
-        ("restrict", |network| {
-            let odd = [(1, 1), (3, 3), (5, 5)].to_interval_set(Global).map_err(|_| StoreFault::Memory)?;
-            network.restrict(0, &odd).map(|()| network.domains()[0].is_subset(&odd))
-        }),
-    ];
-    for (name, edit) in edits {
-        let (refused, told) = each_refused(network_of_rules, edit, |network, made, _| match made {
-            Ok(is_right) => is_right,
-            Err(fault) => {
-                assert!(fault == StoreFault::Memory && seen(network) == before);
-                false
-            }
-        });
-        assert!(refused > 0 && told > 0, "{name}: {refused}, {told}");
-    }
-    let mut whole = network_of_rules();
-    assert_eq!(whole.settle(1_000).unwrap(), Settled::All);
-    let after = seen(&whole);
-    assert!(after.0 != before.0);
-    let settle = |network: &mut Network<i64>| network.settle(1_000);
-    let (refused, told) = each_refused(network_of_rules, settle, |network, made, _| {
-        let mut again = network.domains().iter().zip(&after.0);
-        // what was narrowed so far stays, and lost nothing
-        assert!(again.all(|(domain, end)| end.is_subset(domain)));
-        made.is_ok_and(|settled| settled == Settled::All && seen(network) == after)
-    });
-    assert!(refused > 1 && told > 1, "{refused}, {told}");
-    assert!(whole.undo_to(0) && seen(&whole).1.len() == 3);
 }
 
 #[test]
@@ -227,7 +172,7 @@ fn a_network_that_settles_can_be_taken_back_and_goes_on() {
     let mut back = network();
     assert!(refusing(1, || back.settle(1_000)).0.is_err());
     assert_eq!(back.settle(1_000).unwrap(), Settled::All);
-    assert!(seen(&back) == after && back.undo_to(0) && back.constraints().len() == 3);
+    assert!(seen(&back) == after && back.undo_to(0) && back.rules().len() == 3);
 }
 
 #[test]

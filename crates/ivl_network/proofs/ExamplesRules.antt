@@ -11,8 +11,9 @@ use Rattle.ivl_rules.specs.declared.rules.Rule.TheVariants.{AtMost}
 use Rattle.ivl_rules.specs.Rules.{IsPointOf, NamesOf, NarrowedBy, SupportsAll}
 use Rattle.ivl_rules.proofs.Narrowings.{HasPointAt-mono, narrowing_keeps}
 use Rattle.ivl_network.specs.Families.{AllSupport, ArePresent, IsCommonPoint, IsFixedBy, IsGreatestUnder, KeepsUnder}
-use Rattle.ivl_network.specs.Network.{AreRuleNarrowings, IsRuleRequired}
-use Rattle.ivl_network.specs.Queue.{IsLastNamingRule}
+use Rattle.ivl_store.specs.Measure.{count_from}
+use Rattle.ivl_network.specs.Network.{AreRuleNarrowings, IsCutAt, IsRuleRequired, work_of_rules}
+use Rattle.ivl_network.specs.Queue.{IsLastNamingRule, Removes, times_in, unsettled_count, waits}
 use Rattle.ivl_network.specs.Settled.{AreSettledRules}
 use Rattle.ivl_network.specs.Trail.{revert_rule, rules_past_at}
 use Rattle.ivl_network.specs.declared.network.change.Change.TheVariants.{Domain, Require}
@@ -177,3 +178,32 @@ rule_taken_back = refl
 cut_taken_back : rules_past_at {B = ℕ} {O = ℕ} (Domain 0 (Some ((pos 0, pos 1) ∷ [])) ∷ Domain 1 (Some ((pos 0, pos 1) ∷ [])) ∷ []) (record { domains = zero_and_one; rules = [] }) 0
     ≡ record { domains = bits; rules = [] }
 cut_taken_back = refl
+
+-- what is left to do over one number: a rule to look at, and a member that each of two narrowings may take
+one_narrowing_is_left : work_of_rules (pos 0, pos 0) (record { domains = [] ∷ []; rules = before ∷ []; unsettled = 1; marked = [] }) ≡ 1
+unfolding count_from
+one_narrowing_is_left = refl
+
+two_for_a_member : work_of_rules (pos 0, pos 0) (record { domains = ((pos 0, pos 0) ∷ []) ∷ []; rules = before ∷ []; unsettled = 1; marked = [] }) ≡ 3
+unfolding count_from
+two_for_a_member = refl
+
+-- a cut at variable 0 leaves variable 1 as it is
+cut_at_0 : IsCutAt 0 (λ v. v ≡ pos 0) (set_at bits) (λ i v. set_at bits i v × (i ≡ 0 → v ≡ pos 0))
+cut_at_0 i v = ((λ h. h), (λ h. h))
+
+-- flags that are not set, and numbers in a list
+one_flag_waits : unsettled_count (true ∷ false ∷ []) ≡ 1
+one_flag_waits = refl
+
+the_second_waits : waits (true ∷ false ∷ []) 1 ≡ 1
+the_second_waits = refl
+
+none_waits_beyond : waits (true ∷ false ∷ []) 2 ≡ 0
+none_waits_beyond = refl
+
+twice_in_a_list : times_in 3 (3 ∷ 5 ∷ 3 ∷ []) ≡ 2
+twice_in_a_list = refl
+
+none_to_remove : Removes 4 (3 ∷ []) (3 ∷ []) false
+none_to_remove = (refl, refl)

@@ -1,20 +1,47 @@
 -- What the calls of a network keep.
-use Rattle.std.proofs.Common.{◌≡◌, ℕ, inl, inr, sym, subst, arith, List, [], ◌∷◌, ◌++◌, length, get_or, take}
+use Rattle.std.proofs.Common.{◌≡◌, ℕ, inl, inr, sym, subst, arith, List, [], ◌∷◌, ◌++◌, length, get_or, take, ◌∙◌, ◌<◌, ◌≤◌, refl}
 use Rattle.std.specs.Prelude.{ℤ, All}
-use Rattle.std.proofs.Math.ListN.{get_or-append}
+use Rattle.std.proofs.Math.ListN.{get_or-append, get_or-eq_default}
 use Rattle.std.proofs.lemmas.Bool.{cases_lt}
 use Rattle.ivl_laws.specs.Families.{set_at}
 use Rattle.ivl_laws.specs.Runs.{Covers}
-use Rattle.ivl_store.specs.Network.{IsCutAt}
+use Rattle.ivl_network.specs.Network.{IsCutAt, IsRuleRequired}
 use Rattle.ivl_store.specs.Solutions.{LiesWithin}
-use Rattle.ivl_store.proofs.Histories.{at_rest, cut_has, cut_within, none_beyond}
 use Rattle.ivl_store.proofs.Lists.{All-first}
 use Rattle.ivl_rules.specs.declared.rules.Rule.{Rule}
 use Rattle.ivl_rules.specs.Rules.{SupportsAll}
 use Rattle.ivl_rules.proofs.Narrowings.{HasPointAt-mono}
 use Rattle.ivl_network.specs.Families.{AllSupport, ArePresent, IsGreatestUnder, KeepsUnder}
-use Rattle.ivl_network.specs.Network.{IsRuleRequired}
 use Rattle.ivl_network.proofs.Families.{named_present}
+use Rattle.std.proofs.Math.Nat.{min-le_left}
+use Rattle.std.proofs.lemmas.List.{get_or-append_right, get_or-take, length-take}
+
+-- ---- families that are cut off after the first variables, and lists with one more at the end
+
+-- a family is cut off after the first variables
+cut_off : (family : List (List (ℤ × ℤ))) (count i : ℕ) → i < count → get_or (take count family) i [] ≡ get_or family i []
+cut_off family count i lt = get_or-take count family i [] lt
+
+pub none_beyond : (family : List (List (ℤ × ℤ))) (count i : ℕ) (v : ℤ) → count ≤ i → set_at (take count family) i v → ⊥
+none_beyond family count i v le h =
+    subst (λ L. Covers L v) (get_or-eq_default (take count family) [] (let m = length-take count family in let n = min-le_left count (length family) in omega arith)) h
+
+pub cut_within : (family : List (List (ℤ × ℤ))) (count : ℕ) → LiesWithin (set_at (take count family)) (set_at family)
+cut_within family count i v h = elim (cases_lt i count) [
+  | inl lt ↦ subst (λ L. Covers L v) (cut_off family count i lt) h
+  | inr le ↦ absurd (none_beyond family count i v le h)
+]
+
+pub cut_has : (family : List (List (ℤ × ℤ))) (count i : ℕ) (v : ℤ) → i < count → set_at family i v → set_at (take count family) i v
+cut_has family count i v lt h = subst (λ L. Covers L v) (sym (cut_off family count i lt)) h
+
+-- a list with one more at the end
+pub at_rest : (sets others : List (List (ℤ × ℤ))) (domain : List (ℤ × ℤ)) (i : ℕ) → length sets ≡ length others → length sets ≤ i
+    → get_or (sets ++ domain ∷ []) i [] ≡ get_or (others ++ domain ∷ []) i []
+at_rest sets others domain i same le =
+    get_or-append_right sets (domain ∷ []) (length others) i [] same (omega arith) ∙ sym (get_or-append_right others (domain ∷ []) (length others) i [] refl (omega arith))
+
+-- ---- the calls
 
 -- a cut of the posted sets and of the domains
 pub cut_keeps : (rules : List Rule) (posted posted' domains domains' : List (List (ℤ × ℤ))) (variable : ℕ) (allowed : List (ℤ × ℤ))

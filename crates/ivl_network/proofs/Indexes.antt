@@ -3,7 +3,7 @@ use Rattle.std.proofs.Common.{◌≡◌, ◌∙◌, ◌+◌, ◌-◌, ◌<◌, �
 use Rattle.std.specs.Prelude.{ℤ, All, Contains, Option, Some, None}
 use Rattle.std.proofs.Math.ListN.{get_or-append, get_or-eq_default}
 use Rattle.std.proofs.lemmas.Bool.{cases_eq, cases_lt}
-use Rattle.std.proofs.lemmas.List.{get_or_default, get_or_push, length-set, length_push}
+use Rattle.std.proofs.lemmas.List.{get_or_default, get_or_push, length-set, length_push, get_or-set_other, get_or-set_same}
 use Rattle.ivl_network.specs.declared.network.index.Index.{Index}
 use Rattle.ivl_network.specs.declared.network.index.Links.{Links}
 use Rattle.ivl_rules.specs.declared.rules.Rule.{Rule}
@@ -12,7 +12,36 @@ use Rattle.ivl_store.specs.NarrowedSets.{narrowed_at}
 use Rattle.ivl_network.specs.Families.{ArePresent}
 use Rattle.ivl_network.specs.Queue.{AreRuleLinks, IsRuleIndex, IsLastNamingRule}
 use Rattle.ivl_rules.specs.Rules.{NamesOf, places}
-use Rattle.ivl_store.proofs.Indexes.{length-put, put, put_at}
+use Rattle.ivl_store.specs.Narrowing.{AllPresent}
+use Rattle.ivl_store.specs.Solutions.{Names}
+
+-- ---- three places that are written
+
+-- what stands there then
+unfoldable pub put : List ℕ → Constraint → ℕ → ℕ → ℕ → List ℕ
+put lasts c a b d = set (set (set lasts c.x a) c.y b) c.z d
+
+pub length-put : (lasts : List ℕ) (c : Constraint) (a b d : ℕ) → length (put lasts c a b d) ≡ length lasts
+unfolding put
+length-put lasts c a b d = length-set (set (set lasts c.x a) c.y b) c.z d ∙ length-set (set lasts c.x a) c.y b ∙ length-set lasts c.x a
+
+-- a fact that holds of each of the three at its variable, and of what stood there at each other variable
+pub put_at : (lasts : List ℕ) (c : Constraint) (a b d : ℕ) (P : ℕ → ℕ → Type 0) → AllPresent (length lasts) c → P c.x a → P c.y b → P c.z d
+    → ((i : ℕ) → (Names c i → ⊥) → P i (get_or lasts i 0)) → (i : ℕ) → P i (get_or (put lasts c a b d) i 0)
+unfolding put
+put_at lasts c a b d P p at_x at_y at_z other i =
+    elim (cases_eq i c.z) [
+      | inl e ↦ subst (λ j. P j (get_or (put lasts c a b d) j 0)) (sym e)
+          (subst (P c.z) (sym (get_or-set_same (set (set lasts c.x a) c.y b) c.z d 0 (let l = p.2 in let m = length-set (set lasts c.x a) c.y b in let n = length-set lasts c.x a in omega (arith, l, m, n)))) at_z)
+      | inr nz ↦ subst (P i) (sym (get_or-set_other (set (set lasts c.x a) c.y b) c.z i d 0 nz)) (elim (cases_eq i c.y) [
+        | inl e ↦ subst (λ j. P j (get_or (set (set lasts c.x a) c.y b) j 0)) (sym e)
+            (subst (P c.y) (sym (get_or-set_same (set lasts c.x a) c.y b 0 (let l = p.1 in let n = length-set lasts c.x a in omega (arith, l, n)))) at_y)
+        | inr ny ↦ subst (P i) (sym (get_or-set_other (set lasts c.x a) c.y i b 0 ny)) (elim (cases_eq i c.x) [
+          | inl e ↦ subst (λ j. P j (get_or (set lasts c.x a) j 0)) (sym e) (subst (P c.x) (sym (get_or-set_same lasts c.x a 0 p.0)) at_x)
+          | inr nx ↦ subst (P i) (sym (get_or-set_other lasts c.x i a 0 nx)) (other i (λ h. elim h [ inl e ↦ nx e | inr (inl e) ↦ ny e | inr (inr e) ↦ nz e ]))
+        ])
+      ])
+    ]
 
 -- ---- one more rule
 

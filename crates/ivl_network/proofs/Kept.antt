@@ -1,7 +1,7 @@
 -- Domains that are on the trail since the last mark, so that they are not written down again.
 use Rattle.std.proofs.Common.{◌≡◌, ◌∙◌, ◌-◌, ◌<◌, ◌≤◌, ◌⊎◌, inl, inr, ℕ, zero, suc, ap, arith, drop, get_or, length, length-drop, List, [], ◌∷◌, Bool, false, refl, set, subst, sym, take, get_or-drop}
-use Rattle.std.specs.Prelude.{ℤ, All, HoldsAt, Option, Some, None}
-use Rattle.std.proofs.lemmas.List.{length-set, length-take, set-set}
+use Rattle.std.specs.Prelude.{ℤ, All, HoldsAt, Option, Some, None, IsSome}
+use Rattle.std.proofs.lemmas.List.{length-set, length-take, set-set, set_comm}
 use Rattle.ivl_network.specs.declared.network.change.Change.{Change}
 use Rattle.ivl_network.specs.declared.network.change.Change.TheVariants.{Domain, Domains, Variable, Require}
 use Rattle.ivl_rules.specs.declared.rules.Rule.{Rule}
@@ -10,7 +10,29 @@ use Rattle.ivl_network.specs.Families.{ArePresent}
 use Rattle.ivl_network.specs.Trail.{AreRuleKeptFrom, IsRuleKeptFrom, ArePresentIn, IsSoundRuleTrail, KeepsRuleAt, RulesPast, rules_past_at, revert_rule, reverted_rules}
 use Rattle.ivl_store.proofs.Places.{length-replaced}
 use Rattle.ivl_network.proofs.Trails.{SameAtMarks, same_where_unchanged}
-use Rattle.ivl_store.proofs.Kept.{differ_no_more, differ_still, set-take}
+use Rattle.std.proofs.lemmas.Bool.{cases_eq, false≢true}
+
+-- ---- lists that differ at one place
+
+pub set-take : {X : Type 0} (n : ℕ) (xs : List X) (i : ℕ) (x : X) → set (take n xs) i x ≡ take n (set xs i x)
+set-take zero xs i x = refl
+set-take (suc n) [] i x = refl
+set-take (suc n) (y ∷ xs) zero x = refl
+set-take (suc n) (y ∷ xs) (suc i) x = ap (λ ys. y ∷ ys) (set-take n xs i x)
+
+-- they still do where one is replaced in both
+pub differ_still : (v : ℕ) (d d' : List (List (ℤ × ℤ))) (i : ℕ) (l : Option (List (ℤ × ℤ))) → set d v [] ≡ set d' v [] → set (narrowed_at d i l) v [] ≡ set (narrowed_at d' i l) v []
+differ_still v d d' i None e = e
+differ_still v d d' i (Some s) e = elim (cases_eq i v) [
+  | inl at ↦ ap (λ j. set (set d j s) v []) at ∙ set-set d v s [] ∙ e ∙ sym (set-set d' v s []) ∙ ap (λ j. set (set d' j s) v []) (sym at)
+  | inr ne ↦ set_comm d i v s [] ne ∙ ap (λ xs. set xs i s) e ∙ sym (set_comm d' i v s [] ne)
+]
+
+-- and no more where that one is
+pub differ_no_more : (v : ℕ) (d d' : List (List (ℤ × ℤ))) (i : ℕ) (l : Option (List (ℤ × ℤ))) → i ≡ v → IsSome l → set d v [] ≡ set d' v [] → narrowed_at d i l ≡ narrowed_at d' i l
+differ_no_more v d d' i None at some e = absurd (false≢true some)
+differ_no_more v d d' i (Some s) at some e =
+    ap (λ j. set d j s) at ∙ sym (set-set d v [] s) ∙ ap (λ xs. set xs v s) e ∙ set-set d' v [] s ∙ ap (λ j. set d' j s) (sym at)
 
 -- ---- pasts that differ at one domain
 

@@ -14,3 +14,4 @@ pub mod Reverting
 pub mod Settled
 pub mod Staying
 pub mod Trails
+pub mod Work

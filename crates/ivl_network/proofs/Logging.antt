@@ -1,5 +1,5 @@
 -- What the calls of a network leave of its trail and its marks.
-use Rattle.std.proofs.Common.{◌≡◌, ◌∙◌, ◌<◌, ◌⊎◌, inl, inr, ℕ, ap, arith, get_or, length, List, [], ◌∷◌, ◌++◌, Bool, false, refl, subst, sym, take}
+use Rattle.std.proofs.Common.{◌≡◌, ◌∙◌, ◌<◌, ◌⊎◌, inl, inr, ℕ, ap, arith, get_or, length, List, [], ◌∷◌, ◌++◌, Bool, false, refl, subst, sym, take, true}
 use Rattle.std.specs.Prelude.{ℤ, ◌&&◌, map}
 use Rattle.std.proofs.lemmas.List.{take-map}
 use Rattle.ivl_network.specs.declared.network.change.Change.{Change}
@@ -7,7 +7,11 @@ use Rattle.ivl_rules.specs.declared.rules.Rule.{Rule}
 use Rattle.ivl_network.specs.Network.{RulesState}
 use Rattle.ivl_network.specs.Trail.{RulesPast, revert_rule, rules_past_at, with_rule_change, ArePresentIn, IsSoundRuleTrail}
 use Rattle.ivl_network.proofs.Trails.{SameAtMarks, marked_logged, marked_marked, marked_undone, sound_fewer, sound_logged, sound_marked, sound_undone}
-use Rattle.ivl_store.proofs.Logging.{not_both}
+
+-- where no change is written down there is no mark, or nothing changed
+pub not_both : (is_kept is_change : Bool) (P Q : Type 0) → (is_kept ≡ false → P) → (is_change ≡ false → Q) → (is_kept && is_change) ≡ false → P ⊎ Q
+not_both false is_change P Q p q none = inl (p refl)
+not_both true is_change P Q p q none = inr (q none)
 
 -- ---- a change that is written down if there is a mark
 

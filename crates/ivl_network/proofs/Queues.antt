@@ -1,20 +1,59 @@
 -- The queue of the rules that are not settled.
-use Rattle.std.proofs.Common.{◌≡◌, ◌∙◌, ◌+◌, ◌-◌, ◌<◌, ◌≤◌, ◌⊎◌, inl, inr, ℕ, ap, arith, cond, get_or, length, List, [], ◌∷◌, ◌++◌, Bool, true, false, refl, set, subst, sym}
+use Rattle.std.proofs.Common.{◌≡◌, ◌∙◌, ◌+◌, ◌-◌, ◌<◌, ◌≤◌, ◌⊎◌, inl, inr, ℕ, ap, arith, cond, get_or, length, List, [], ◌∷◌, ◌++◌, Bool, true, false, refl, set, subst, sym, suc, eqb, take}
 use Rattle.std.specs.Prelude.{ℤ, not}
 use Rattle.std.specs.Vec.{vec_capacity}
 use Rattle.std.proofs.Math.ListN.{get_or-append, get_or-eq_default}
 use Rattle.std.proofs.lemmas.Bool.{cases_eq, cases_lt, false≢true}
-use Rattle.std.proofs.lemmas.List.{get_or-set_other, get_or-set_same, get_or_push, length-set, length_push}
-use Rattle.std.proofs.lemmas.List.Sums.{count_by-le-length, sum_by_push}
+use Rattle.std.proofs.lemmas.List.{get_or-set_other, get_or-set_same, get_or_push, length-set, length_push, get_or_default, take_all, take_more}
+use Rattle.std.proofs.lemmas.List.Sums.{count_by-le-length, sum_by_push, sum_by-append, sum_by-set}
 use Rattle.ivl_network.specs.declared.network.queue.Queue.{Queue}
-use Rattle.ivl_store.specs.Network.{unsettled_count}
-use Rattle.ivl_network.specs.Queue.{IsLastNamingRule, IsRuleQueue}
-use Rattle.ivl_store.specs.Queue.{Removes, times_in, waits}
+use Rattle.ivl_network.specs.Queue.{IsLastNamingRule, IsRuleQueue, Removes, times_in, unsettled_count, waits}
 use Rattle.ivl_network.specs.Families.{IsFixedBy}
 use Rattle.ivl_network.specs.Settled.{AreClearedRules, HasTwo}
 use Rattle.ivl_rules.specs.Rules.{NamesOf, needs_singles}
 use Rattle.ivl_rules.specs.declared.rules.Rule.{Rule}
-use Rattle.ivl_store.proofs.Queues.{count_push, count_some, one_other, one_same, unsettled-set, waits_at}
+
+-- ---- flags, and numbers in a list
+
+pub unsettled-set : (flags : List Bool) (i : ℕ) (b d : Bool) → i < length flags → unsettled_count (set flags i b) + cond (not (get_or flags i d)) 1 0 ≡ unsettled_count flags + cond (not b) 1 0
+unsettled-set flags i b d lt = sum_by-set (λ (m : Bool). cond (not m) 1 0) flags i b d lt
+
+pub waits_at : (flags : List Bool) (i : ℕ) (b d : Bool) → i < length flags → get_or flags i d ≡ b → waits flags i ≡ cond b 0 1
+waits_at flags i b d lt e = ap (λ m. cond m 0 1) (get_or_default flags i true d lt ∙ e)
+
+eqb_same : (k : ℕ) → eqb k k ≡ true
+eqb_same k = grind arith
+
+eqb_other : (j k : ℕ) → (j ≡ k → ⊥) → eqb j k ≡ false
+eqb_other j k ne = grind arith
+
+pub one_same : (k : ℕ) → times_in k (k ∷ []) ≡ 1
+one_same k = subst (λ b. 0 + cond b 1 0 ≡ 1) (sym (eqb_same k)) (omega arith)
+
+pub one_other : (j k : ℕ) → (j ≡ k → ⊥) → times_in k (j ∷ []) ≡ 0
+one_other j k ne = subst (λ b. 0 + cond b 1 0 ≡ 0) (sym (eqb_other j k ne)) (omega arith)
+
+pub count_push : (list : List ℕ) (j k : ℕ) → times_in k (list ++ j ∷ []) ≡ times_in k list + times_in k (j ∷ [])
+count_push list j k = sum_by-append (λ (i : ℕ). cond (eqb i k) 1 0) list (j ∷ [])
+
+-- a number that stands there stands there once at least
+pub count_some : (list : List ℕ) (k : ℕ) → times_in k (list ++ k ∷ []) ≡ times_in k list + 1
+count_some list k = count_push list k k ∙ ap (λ n. times_in k list + n) (one_same k)
+
+-- one that stands at no place does not
+pub count_none : (list : List ℕ) (k : ℕ) → ((j : ℕ) → j < length list → get_or list j 0 ≡ k → ⊥) → times_in k list ≡ 0
+count_none [] k none = refl
+count_none (j ∷ list) k none =
+    sum_by-append (λ (i : ℕ). cond (eqb i k) 1 0) (j ∷ []) list
+    ∙ (let a = one_other j k (λ e. none 0 (omega arith) e) in let b = count_none list k (λ i lt e. none (suc i) (omega (arith, lt)) e) in omega (arith, a, b))
+
+-- the last of a list
+pub last_of : (list : List ℕ) (k : ℕ) → 0 < length list → k ≡ get_or list (length list - 1) k → (front : List ℕ) × (list ≡ front ++ k ∷ [])
+last_of list k pos e = (take (length list - 1) list, split list k pos ∙ ap (λ j. take (length list - 1) list ++ j ∷ []) (sym e))
+  where
+    split : (xs : List ℕ) (d : ℕ) → 0 < length xs → xs ≡ take (length xs - 1) xs ++ get_or xs (length xs - 1) d ∷ []
+    split xs d lt =
+        sym (take_all (length xs - 1 + 1) xs (omega (arith, lt))) ∙ take_more xs (length xs - 1) d (omega (arith, lt))
 
 -- ---- flags of the queue
 

@@ -16,7 +16,7 @@ use Rattle.ivl_network.specs.Settled.{AreClearedRules}
 use Rattle.ivl_network.proofs.Settled.{names_or_not}
 use Rattle.ivl_rules.specs.Rules.{AreDifferent, NamesOf}
 use Rattle.ivl_network.specs.Trail.{RulesPast, revert_rule, reverted_rules, rules_past_at}
-use Rattle.ivl_store.proofs.Trails.{take_lt}
+use Rattle.ivl_network.proofs.Trails.{take_lt}
 use Rattle.ivl_network.proofs.Families.{named_present}
 
 -- what is left to be taken back of all changes, and what those that were taken back were made to

@@ -1,5 +1,5 @@
 -- What a network was at its marks, where a change is written down or taken back.
-use Rattle.std.proofs.Common.{◌≡◌, ◌∙◌, ◌<◌, ◌≤◌, ◌⊎◌, inl, inr, ℕ, ap, arith, drop, get_or, length, List, [], ◌∷◌, ◌++◌, Bool, true, false, refl, subst, sym, take}
+use Rattle.std.proofs.Common.{◌≡◌, ◌∙◌, ◌<◌, ◌≤◌, ◌⊎◌, inl, inr, ℕ, ap, arith, drop, get_or, length, List, [], ◌∷◌, ◌++◌, Bool, true, false, refl, subst, sym, take, zero, suc}
 use Rattle.std.specs.Prelude.{map}
 use Rattle.std.proofs.Math.ListN.{get_or-append}
 use Rattle.std.proofs.Math.Seq.{drop-length}
@@ -7,7 +7,21 @@ use Rattle.std.proofs.lemmas.Bool.{cases_eq}
 use Rattle.std.proofs.lemmas.List.{drop-append-le, get_or_push, length_push, length-take-le, map-append, take-append-drop, take-map}
 use Rattle.ivl_network.specs.declared.network.change.Change.{Change}
 use Rattle.ivl_network.specs.Trail.{RulesPast, revert_rule, reverted_rules, rules_past_at, with_rule_change, ArePresentIn, IsSoundRuleTrail}
-use Rattle.ivl_store.proofs.Trails.{map_agree, take_lt}
+
+-- ---- entries of a list
+
+-- two functions that agree on each mark
+pub map_agree : {X Y : Type 0} (f g : X → Y) (d : X) (xs : List X) → ((k : ℕ) → k < length xs → f (get_or xs k d) ≡ g (get_or xs k d)) → map f xs ≡ map g xs
+map_agree f g d [] h = refl
+map_agree f g d (x ∷ xs) h = ap (λ y. y ∷ map f xs) (h 0 (omega arith)) ∙ ap (λ ys. g x ∷ ys) (map_agree f g d xs (λ k lt. h (suc k) (omega arith)))
+
+pub take_lt : {X : Type 0} (n k : ℕ) (xs : List X) → k < length (take n xs) → (k < length xs) × (k < n) × ((d : X) → get_or (take n xs) k d ≡ get_or xs k d)
+take_lt zero k xs lt = absurd (omega arith)
+take_lt (suc n) k [] lt = absurd (omega arith)
+take_lt (suc n) zero (x ∷ xs) lt = (omega arith, omega arith, λ d. refl)
+take_lt (suc n) (suc k) (x ∷ xs) lt = let t = take_lt n k xs (omega arith) in (let a = t.0 in omega arith, let a = t.1 in omega arith, λ d. t.2 d)
+
+-- ---- changes that are taken back
 
 -- some changes and then others
 reverted_rules-append : {B O : Type 0} (cs ds : List (Change B O)) (past : RulesPast) → reverted_rules (cs ++ ds) past ≡ reverted_rules cs (reverted_rules ds past)

@@ -3,8 +3,9 @@
 --     work_of_rules whole network      how many narrowings are left at most, of which each removes a member or leaves one rule fewer to look at
 --     IsSoundRules domains rules flags      the rules name different variables, which have a domain; narrowing by one whose flag is set changes nothing
 --     IsRuleRequired rule old new      the rule is among the new ones, at the end, or where it was if it was among the old ones
+--     IsCutAt i S before after      variable i keeps its members that are in S, and the others keep all
 --     AreRuleNarrowings rules count before after      so many narrowings, each by one of the rules, leave these members
-use Rattle.std.specs.Prelude.{◌≡◌, ◌⊎◌, ◌++◌, ◌∷◌, [], ◌+◌, ◌*◌, ℕ, ℤ, Bool, List, All, Contains, length}
+use Rattle.std.specs.Prelude.{◌≡◌, ◌↔◌, ◌⊎◌, ◌++◌, ◌∷◌, [], ◌+◌, ◌*◌, ℕ, ℤ, Bool, List, All, Contains, length}
 use Rattle.ivl_laws.specs.Families.{set_at}
 use Rattle.ivl_store.specs.Measure.{total}
 use Rattle.ivl_rules.specs.declared.rules.Rule.{Rule}
@@ -30,6 +31,9 @@ pub record IsSoundRules (domains : List (List (ℤ × ℤ))) (rules : List Rule)
 
 abbrev pub IsRuleRequired : Rule → List Rule → List Rule → Type 0
 IsRuleRequired rule old new = (Contains old rule × (new ≡ old)) ⊎ ((¬ (Contains old rule)) × (new ≡ old ++ rule ∷ []))
+
+abbrev pub IsCutAt : ℕ → (ℤ → Type 0) → (ℕ → ℤ → Type 0) → (ℕ → ℤ → Type 0) → Type 0
+IsCutAt variable S before after = (i : ℕ) (v : ℤ) → after i v ↔ (before i v × (i ≡ variable → S v))
 
 pub record AreRuleNarrowings (rules : List Rule) (count : ℕ) (before after : ℕ → ℤ → Type 0) : Type 0 where
   pub by : List Rule

@@ -9,10 +9,9 @@
 use Rattle.std.specs.Prelude.{◌≡◌, ◌++◌, ◌∷◌, [], ℕ, ℤ, List, All, length}
 use Rattle.ivl_laws.specs.Families.{set_at}
 use Rattle.ivl_laws.specs.Runs.{Covers}
-use Rattle.ivl_store.specs.Network.{IsCutAt}
+use Rattle.ivl_network.specs.Network.{IsCutAt, IsRuleRequired}
 use Rattle.ivl_rules.specs.declared.rules.Rule.{Rule}
 use Rattle.ivl_network.specs.Families.{ArePresent, IsGreatestUnder, KeepsUnder}
-use Rattle.ivl_network.specs.Network.{IsRuleRequired}
 
 abbrev pub AddingKeepsUnder : Type 0
 AddingKeepsUnder = (rules : List Rule) (posted domains : List (List (ℤ × ℤ))) (domain : List (ℤ × ℤ)) → length posted ≡ length domains

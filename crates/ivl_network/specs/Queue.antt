@@ -1,17 +1,33 @@
 -- Which rules name a variable, and which have to be looked at again.
+--     unsettled_count flags      how many flags are not set
+--     waits flags k      1 where flag k is not set, and else 0
+--     times_in k list      how often the number stands in the list
+--     Removes k old new told      one k is taken from the list, or, if that is what is told, there is none and the list stays
 --     IsLastNamingRule rules i before place      place k + 1 where rule k is the last of the first `before` that names variable i, and place 0 where none does
 --     AreRuleLinks rules rule before links      such places for the variables of a rule
 --     IsRuleIndex count rules index      for each of so many variables the last rule that names it, and for each rule those before it that name the same
 --     IsRuleQueue queue      each rule that is not settled stands in the queue once, and nothing else does; there is room for all rules
-use Rattle.std.specs.Prelude.{◌≡◌, ◌<◌, ◌≤◌, ◌+◌, ℕ, List, length, slice_index_or}
+use Rattle.std.specs.Prelude.{◌≡◌, ◌<◌, ◌≤◌, ◌+◌, ℕ, Bool, true, false, List, [], ◌∷◌, eqb, if◌then◌else◌, length, not, slice_index_or}
+use Rattle.std.specs.List.{count_by}
 use Rattle.std.specs.Vec.{vec_capacity}
-use Rattle.ivl_store.specs.Network.{unsettled_count}
-use Rattle.ivl_store.specs.Queue.{times_in, waits}
 use Rattle.ivl_rules.specs.declared.rules.Rule.{Rule}
 use Rattle.ivl_rules.specs.Rules.{NamesOf, places}
 use Rattle.ivl_network.specs.declared.network.index.Index.{Index}
 use Rattle.ivl_network.specs.declared.network.index.Links.{Links}
 use Rattle.ivl_network.specs.declared.network.queue.Queue.{Queue}
+
+abbrev pub unsettled_count : List Bool → ℕ
+unsettled_count flags = count_by not flags
+
+abbrev pub waits : List Bool → ℕ → ℕ
+waits flags k = if slice_index_or flags k true then 0 else 1
+
+abbrev pub times_in : ℕ → List ℕ → ℕ
+times_in k list = count_by (λ j. eqb j k) list
+
+abbrev pub Removes : ℕ → List ℕ → List ℕ → Bool → Type 0
+Removes k old new true = ((j : ℕ) → times_in j new + times_in j (k ∷ []) ≡ times_in j old) × (length new + 1 ≡ length old)
+Removes k old new false = (new ≡ old) × (times_in k old ≡ 0)
 
 pub record IsLastNamingRule (rules : List Rule) (variable before place : ℕ) : Type 0 where
   pub low : place ≤ before

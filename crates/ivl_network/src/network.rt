@@ -19,13 +19,12 @@ ghost use Rattle.std.specs.Prelude.{Contains, HoldsAt, take, ◌≡◌, ◌↔�
 ghost use Rattle.ivl_laws.specs.Families.{set_at};
 ghost use Rattle.ivl_laws.specs.Runs.{Covers, IsRunListIn};
 ghost use Rattle.ivl_store.specs.Narrowing.{first_unknown};
-ghost use Rattle.ivl_store.specs.Network.{IsCutAt};
+ghost use Rattle.ivl_network.specs.Network.{AreRuleNarrowings, IsCutAt, IsRuleRequired, work_of_rules};
 ghost use Rattle.ivl_store.specs.Posts.{HasEmpty};
 ghost use Rattle.ivl_rules.specs.declared.rules.Rule.{Rule};
 ghost use Rattle.ivl_rules.specs.Rules.{AreDifferent, places as places_of};
 ghost use Rattle.ivl_network.specs.Costs.{AreRulesCounted, cost_of_rule as cost_of};
 ghost use Rattle.ivl_network.specs.Families.{ArePresent, IsCommonPoint, IsFixedBy, IsGreatestUnder, KeepsUnder};
-ghost use Rattle.ivl_network.specs.Network.{AreRuleNarrowings, IsRuleRequired, work_of_rules};
 
 use intervallum::interval_set::IntervalSet;
 use intervallum::width::Width;
@@ -91,7 +90,7 @@ pub struct Network<B: Width> {
 
 impl<B: Width> Model for Network<B> {
     ghost use Rattle.std.specs.Prelude.{length, map};
-    ghost use Rattle.ivl_store.specs.Network.{unsettled_count};
+    ghost use Rattle.ivl_network.specs.Queue.{unsettled_count};
     ghost use Rattle.ivl_network.specs.Network.{IsSoundRules, RulesState};
     ghost use Rattle.ivl_network.specs.Queue.{IsRuleIndex, IsRuleQueue};
     ghost use Rattle.ivl_network.specs.Trail.{IsSoundRuleTrail, rules_past_at};

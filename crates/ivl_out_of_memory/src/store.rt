@@ -53,10 +53,10 @@ const CUT_FIXED: &Family = &[&[(1, 1)], &[(1, 1), (4, 4)], &[(2, 2), (5, 5)], &[
 /// that leaves them if it is refused.
 const POSTED: [(u32, &Family); 5] = [
     (0, FRESH),
-    (21, NARROWED),
-    (22, CUT),
-    (28, CUT_NARROWED),
-    (33, CUT_ROUND),
+    (15, NARROWED),
+    (16, CUT),
+    (18, CUT_NARROWED),
+    (20, CUT_ROUND),
 ];
 
 /// How many posts the longest list has.

@@ -11,7 +11,7 @@ use Rattle.ivl_laws.specs.Runs.{Covers, IsRunListIn}
 use Rattle.ivl_laws.specs.Sets.{HasSome}
 use Rattle.ivl_laws.proofs.Intervals.{width_of-filled}
 use Rattle.ivl_store.specs.Measure.{covers, count_from, total}
-use Rattle.ivl_store.specs.Network.{IsCutAt}
+use Rattle.ivl_network.specs.Network.{IsCutAt}
 use Rattle.ivl_store.specs.Solutions.{LiesWithin}
 use Rattle.ivl_store.proofs.Counting.{count_le, count_less, covers-is}
 use Rattle.ivl_search.specs.Budget.{points_of}

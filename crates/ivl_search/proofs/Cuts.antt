@@ -7,7 +7,7 @@ use Rattle.std.proofs.Math.ListN.{get_or-append}
 use Rattle.ivl_laws.specs.Families.{set_at}
 use Rattle.ivl_laws.specs.Runs.{Covers, IsRunListIn}
 use Rattle.ivl_laws.specs.Sets.{Intersection, IsBetween, Only, SameMembers}
-use Rattle.ivl_store.specs.Network.{IsCutAt}
+use Rattle.ivl_network.specs.Network.{IsCutAt}
 use Rattle.ivl_store.specs.Posts.{HasEmpty}
 use Rattle.ivl_store.specs.Solutions.{LiesWithin}
 use Rattle.ivl_rules.specs.declared.rules.Rule.{Rule}

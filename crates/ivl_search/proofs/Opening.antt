@@ -11,7 +11,7 @@ use Rattle.ivl_laws.specs.Sets.{HasSome, Intersection, IsBetween}
 use Rattle.ivl_laws.proofs.Counts.{IsCountOf-same, count_is_unique}
 use Rattle.ivl_laws.proofs.Intervals.{width_of-filled}
 use Rattle.ivl_store.specs.Measure.{count_from}
-use Rattle.ivl_store.specs.Network.{IsCutAt}
+use Rattle.ivl_network.specs.Network.{IsCutAt}
 use Rattle.ivl_network.specs.Trail.{RulesPast}
 use Rattle.ivl_store.proofs.Counting.{count_le, count_less}
 use Rattle.ivl_store.proofs.Counts.{total_is_sum}

@@ -7,7 +7,7 @@ use Rattle.std.proofs.Math.Seq.{take-append_seam}
 use Rattle.ivl_laws.specs.Families.{set_at}
 use Rattle.ivl_laws.specs.Sets.{IsBetween}
 use Rattle.ivl_rules.specs.declared.rules.Rule.{Rule}
-use Rattle.ivl_store.specs.Network.{IsCutAt}
+use Rattle.ivl_network.specs.Network.{IsCutAt}
 use Rattle.ivl_network.specs.Trail.{RulesPast}
 use Rattle.ivl_search.specs.declared.search.End.TheVariants.{All as AllFound}
 use Rattle.ivl_search.specs.declared.search.choice.Wanted.{Wanted}

@@ -5,7 +5,7 @@ use Rattle.ivl_laws.specs.Families.{set_at}
 use Rattle.ivl_laws.specs.Runs.{IsRunListIn}
 use Rattle.ivl_laws.specs.Sets.{HasSome}
 use Rattle.ivl_rules.specs.declared.rules.Rule.{Rule}
-use Rattle.ivl_store.specs.Network.{IsCutAt}
+use Rattle.ivl_network.specs.Network.{IsCutAt}
 use Rattle.ivl_search.specs.declared.search.choice.Wanted.{Wanted}
 use Rattle.ivl_search.specs.Best.{IsAsGood, IsBetter}
 use Rattle.ivl_search.specs.Budget.{nodes_each, nodes_enough, points_of}

@@ -9,9 +9,6 @@ use Rattle.ivl_store.specs.declared.store.constraint.Constraint.{Constraint}
 use Rattle.ivl_store.specs.Solutions.{LostMember, Supports}
 use Rattle.ivl_store.specs.Narrowing.{Narrowed, IsFixed, Keeps, AllPresent, first_unknown_of}
 use Rattle.ivl_store.specs.Rounds.{narrowed_by, rounds_of, IsNarrowedBy, IsPartlyNarrowedBy, After, AfterSome, EachLost}
-use Rattle.ivl_store.specs.declared.store.change.Change.TheVariants.{Domain, Variable}
-use Rattle.ivl_store.specs.Network.{work}
-use Rattle.ivl_store.specs.Trail.{past_at}
 use Rattle.ivl_store.specs.Settled.{any_lost, AreLost, AreSettled, AreCleared}
 use Rattle.ivl_store.specs.NarrowedSets.{IsLeftOf, AreLeftAt, narrowed_at}
 use Rattle.ivl_store.specs.Measure.{covers, count_from}
@@ -268,18 +265,3 @@ none_of_no_numbers = refl
 
 the_first_is_replaced : narrowed_at ([] ∷ [] ∷ []) 0 (Some ((pos 3, pos 3) ∷ [])) ≡ ((pos 3, pos 3) ∷ []) ∷ [] ∷ []
 the_first_is_replaced = refl
-
--- ---- work
-
-one_narrowing_is_left : work (pos 0, pos 0) (record { domains = [] ∷ []; constraints = the_sum ∷ []; unsettled = 1; marked = [] }) ≡ 1
-unfolding count_from
-one_narrowing_is_left = refl
-
--- ---- past_at
-
-before_a_variable_was_added : past_at {B = ℕ} {O = ℕ} (Variable ∷ []) (record { domains = [] ∷ [] ∷ []; constraints = the_sum ∷ [] }) 0 ≡ record { domains = [] ∷ []; constraints = the_sum ∷ [] }
-before_a_variable_was_added = refl
-
-before_a_domain_was_cut : past_at {B = ℕ} {O = ℕ} (Variable ∷ Domain 0 (Some ((pos 3, pos 3) ∷ [])) ∷ []) (record { domains = [] ∷ []; constraints = [] }) 1
-    ≡ record { domains = ((pos 3, pos 3) ∷ []) ∷ []; constraints = [] }
-before_a_domain_was_cut = refl

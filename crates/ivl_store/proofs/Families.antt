@@ -93,10 +93,6 @@ has_solution_narrowed c sets i names v s = record {
         let u : sets j v = subst (sets j) w h in
         subst (λ k. sets k v) (sym e) u
 
--- where x, y and z are three variables: supported exactly where narrowing changes nothing
-pub supported_unchanged : (c : Constraint) (sets : ℕ → ℤ → Type 0) → Supports c sets → LiesWithin sets (Narrowed c sets)
-supported_unchanged c sets s = narrowing_keeps c sets sets s (λ i v h. h)
-
 pub unchanged_supported : (c : Constraint) (sets : ℕ → ℤ → Type 0) → AreDistinct c → LiesWithin sets (Narrowed c sets) → Supports c sets
 unchanged_supported c sets k same i names v h = narrowed_has_solution c sets k i names v (same i v h)
 
@@ -123,31 +119,3 @@ supported_same constraints first second same s k d lt i names v h = HasSolutionA
 -- the greatest family is unique
 pub greatest_unique : (constraints : List Constraint) (given : ℕ → ℤ → Type 0) (a b : List (List (ℤ × ℤ))) → IsGreatestFamily constraints given (set_at a) → IsGreatestFamily constraints given (set_at b) → (i : ℕ) (v : ℤ) → set_at a i v ↔ set_at b i v
 greatest_unique constraints given a b g h i v = (h.greatest a g.within g.supported i v, g.greatest b h.within h.supported i v)
-
--- it shrinks with the given family and with more constraints
-pub greatest_shrinks : (fewer more : List Constraint) (given smaller : ℕ → ℤ → Type 0) (family : ℕ → ℤ → Type 0) (after : List (List (ℤ × ℤ)))
-    → LiesWithin smaller given → ((sets : ℕ → ℤ → Type 0) → SupportedBy more sets → SupportedBy fewer sets)
-    → IsGreatestFamily fewer given family → IsGreatestFamily more smaller (set_at after) → LiesWithin (set_at after) family
-greatest_shrinks fewer more given smaller family after w weaken g h =
-    g.greatest after (λ i v k. w i v (h.within i v k)) (weaken _ h.supported)
-
--- to restrict first, and to take the greatest family, restrict that and take the greatest again, is one
-pub greatest_restricted : (constraints : List Constraint) (given allowed : ℕ → ℤ → Type 0) (first family : List (List (ℤ × ℤ)))
-    → IsGreatestFamily constraints given (set_at first)
-    → IsGreatestFamily constraints (λ i v. set_at first i v × allowed i v) (set_at family)
-    → IsGreatestFamily constraints (λ i v. given i v × allowed i v) (set_at family)
-greatest_restricted constraints given allowed first family g h = record {
-  within = (λ i v k. let u = h.within i v k in (g.within i v u.0, u.1));
-  supported = h.supported;
-  greatest = (λ other w s. h.greatest other (λ i v k. (g.greatest other (λ j z l. (w j z l).0) s i v k, (w i v k).1)) s);
-}
-
--- to take the greatest family for some constraints first, and then for more within that, is one
-pub greatest_more : (fewer more : List Constraint) (given : ℕ → ℤ → Type 0) (first family : List (List (ℤ × ℤ)))
-    → ((sets : ℕ → ℤ → Type 0) → SupportedBy more sets → SupportedBy fewer sets)
-    → IsGreatestFamily fewer given (set_at first) → IsGreatestFamily more (set_at first) (set_at family) → IsGreatestFamily more given (set_at family)
-greatest_more fewer more given first family weaken g h = record {
-  within = (λ i v k. g.within i v (h.within i v k));
-  supported = h.supported;
-  greatest = (λ other w s. h.greatest other (λ i v k. g.greatest other w (weaken (set_at other) s) i v k) s);
-}

@@ -2,11 +2,11 @@
 use Rattle.std.proofs.Common.{◌≡◌, ◌≢◌, ◌↔◌, ℕ, ◌<◌, ◌⊎◌, inl, inr, refl, sym, ap, subst, arith, cond, leb, ◌∙◌, List, [], ◌∷◌, length, get_or, Bool, true, false}
 use Rattle.std.specs.Prelude.{ℤ, ◌||◌, Option, Some, None, All, is_some}
 use Rattle.std.proofs.lemmas.List.{get_or-set_same, get_or-set_other, length-set}
-use Rattle.std.proofs.lemmas.List.Elements.{All-nil, All-cons, All-set}
+use Rattle.std.proofs.lemmas.List.Elements.{All-nil, All-cons}
 use Rattle.std.proofs.lemmas.Bool.{cases_eq, false≢true}
 use Rattle.std.proofs.lemmas.Bool.Decides.{nat_tests}
 use Rattle.ivl_laws.specs.Sets.{IsSubset, SameMembers, HasSome, Without}
-use Rattle.ivl_laws.specs.Runs.{Covers, IsMaximal, IsRunListIn}
+use Rattle.ivl_laws.specs.Runs.{Covers, IsMaximal}
 use Rattle.ivl_laws.specs.Counts.{IsIn, IsCountOf}
 use Rattle.ivl_laws.specs.Families.{set_at}
 use Rattle.ivl_laws.proofs.Lengths.{decide_covers}
@@ -76,11 +76,6 @@ replaced-other sets i j (Some left) h = elim (cases_eq j i) [
     not_none : Some left ≡ None → ⊥
     not_none e = cc
 
-pub replaced_in_range : (whole : ℤ × ℤ) (sets : List (List (ℤ × ℤ))) (i : ℕ) (left : Option (List (ℤ × ℤ))) → All (IsRunListIn whole) sets
-    → ((s : List (ℤ × ℤ)) → left ≡ Some s → IsRunListIn whole s) → All (IsRunListIn whole) (narrowed_at sets i left)
-replaced_in_range whole sets i None h k = h
-replaced_in_range whole sets i (Some s) h k = All-set (IsRunListIn whole) sets i s (k s refl) h
-
 -- one domain cut by a set
 pub cut_after : (whole : ℤ × ℤ) (old : List (List (ℤ × ℤ))) (i : ℕ) (S : ℤ → Type 0) (left : Option (List (ℤ × ℤ))) → i < length old
     → IsLeftOf whole (get_or old i []) S left → (j : ℕ) (v : ℤ) → set_at (narrowed_at old i left) j v ↔ (set_at old j v × (j ≡ i → S v))
@@ -106,6 +101,11 @@ unchanged old i (Some left) e = absurd (cc)
 
 abbrev pub after : Constraint → List (List (ℤ × ℤ)) → Option (List (ℤ × ℤ)) → Option (List (ℤ × ℤ)) → Option (List (ℤ × ℤ)) → List (List (ℤ × ℤ))
 after c old x y z = narrowed_at (narrowed_at (narrowed_at old c.x x) c.y y) c.z z
+
+-- what is left is put there one after the other
+pub after_is : (c : Constraint) (old first second third : List (List (ℤ × ℤ))) (x y z : Option (List (ℤ × ℤ))) → first ≡ narrowed_at old c.x x
+    → second ≡ narrowed_at first c.y y → third ≡ narrowed_at second c.z z → third ≡ after c old x y z
+after_is c old first second third x y z at_x at_y at_z = at_z ∙ ap (λ s. narrowed_at s c.z z) (at_y ∙ ap (λ s. narrowed_at s c.y y) at_x)
 
 pub length-after : (c : Constraint) (old : List (List (ℤ × ℤ))) (x y z : Option (List (ℤ × ℤ))) → length (after c old x y z) ≡ length old
 length-after c old x y z = length-replaced _ c.z z ∙ length-replaced _ c.y y ∙ length-replaced old c.x x

@@ -15,7 +15,7 @@ use Rattle.ivl_store.specs.declared.store.post.Post.TheVariants.{Restrict, Requi
 use Rattle.ivl_laws.specs.Families.{set_at}
 use Rattle.ivl_store.specs.Solutions.{AreDistinct, Supports, LiesWithin, IsGreatestFamily}
 use Rattle.ivl_store.specs.Narrowing.{IsFixed, Keeps, AllPresent}
-use Rattle.ivl_store.specs.Posts.{constraints_of, AllAllow, CutBy, IsLeftBy, HasEmpty, AnswersPost, AnswersPosts, CutKeeps, IsKnown, unknown_in, first_unknown_post}
+use Rattle.ivl_store.specs.Posts.{constraints_of, AllAllow, CutBy, IsLeftBy, HasEmpty, AnswersPost, CutKeeps, IsKnown, unknown_in, first_unknown_post}
 use Rattle.ivl_store.proofs.Places.{all_present}
 use Rattle.ivl_store.proofs.Rounds.{fixed_greatest}
 
@@ -97,13 +97,6 @@ left_keeps posts old new g = record {
   families = (λ f s w. g.greatest f w s);
 }
 
--- domains that did not change keep it
-pub CutKeeps-same : {B O : Type 0} (constraints : List Constraint) (posts : List (Post B O)) (old new : List (List (ℤ × ℤ))) → new ≡ old → CutKeeps constraints posts old new
-CutKeeps-same constraints posts old new e = subst (λ s. CutKeeps constraints posts old s) (sym e) (record {
-  within = (λ i v h. h);
-  families = (λ f s w i v h. (w i v h).0);
-})
-
 -- a cut and then narrowings keep it
 pub CutKeeps-narrowed : {B O : Type 0} (constraints more : List Constraint) (posts : List (Post B O)) (old mid new : List (List (ℤ × ℤ)))
     → more ≡ constraints
@@ -144,17 +137,6 @@ pub record PostedSoFar {B O : Type 0} (posts : List (Post B O)) (old now : List 
   pub left : IsLeftBy (take k posts) (set_at old) (set_at now)
   pub one_each : length replies ≡ k
   pub each : (j : ℕ) → j < k → AnswersPost (take (j + 1) posts) old (get_or replies j false)
-
--- before the first post
-pub posted_none : {B O : Type 0} (posts : List (Post B O)) (old : List (List (ℤ × ℤ))) (constraints : List Constraint) (replies : List Bool)
-    → constraints ≡ [] → replies ≡ [] → PostedSoFar posts old old constraints replies 0
-posted_none posts old constraints replies e f = record {
-  same_count = refl;
-  constraints_are = e;
-  left = left_none (take 0 posts) old refl;
-  one_each = ap length f;
-  each = (λ j lt. absurd (omega arith));
-}
 
 -- one more post stands at the end of those taken
 pub next_post : {B O : Type 0} (posts : List (Post B O)) (k : ℕ) (p : Post B O) → k < length posts → p ≡ get_or posts k p → take (k + 1) posts ≡ take k posts ++ p ∷ []
@@ -218,14 +200,6 @@ posted_step posts old mid new constraints constraints' replies replies' reply k 
 pub posted_left : {B O : Type 0} (posts : List (Post B O)) (old now : List (List (ℤ × ℤ))) (constraints : List Constraint) (replies : List Bool) (k : ℕ)
     → length posts ≤ k → PostedSoFar posts old now constraints replies k → IsLeftBy posts (set_at old) (set_at now)
 posted_left posts old now constraints replies k done so_far = subst (λ ps. IsLeftBy ps (set_at old) (set_at now)) (take_all k posts done) so_far.left
-
--- and each post has its reply
-pub posted_answers : {B O : Type 0} (posts : List (Post B O)) (old now : List (List (ℤ × ℤ))) (constraints : List Constraint) (replies : List Bool) (k : ℕ)
-    → length posts ≡ k → PostedSoFar posts old now constraints replies k → AnswersPosts posts old replies
-posted_answers posts old now constraints replies k done so_far = record {
-  one_each = so_far.one_each ∙ sym done;
-  each = (λ j lt. so_far.each j (omega arith));
-}
 
 -- one more is taken at the end, if any is left
 take_suc : {X : Type 0} (k : ℕ) (xs : List X) → take (suc k) xs ≡ take k xs ++ take 1 (drop k xs)

@@ -2,7 +2,7 @@
 use Rattle.std.proofs.Common.{◌≡◌, ◌↔◌, ℕ, zero, suc, ◌+◌, ◌<◌, ◌≤◌, ◌⊎◌, inl, inr, refl, sym, subst, arith, List, [], ◌∷◌, length, get_or, take, Bool, true, false}
 use Rattle.std.specs.Prelude.{ℤ, Result, Ok, Err, OnErr}
 use Rattle.std.proofs.lemmas.List.{take_all}
-use Rattle.std.proofs.lemmas.Bool.{cases_eq, false≢true, iff_false}
+use Rattle.std.proofs.lemmas.Bool.{cases_eq, iff_false}
 use Rattle.ivl_laws.specs.Families.{set_at}
 use Rattle.ivl_store.specs.declared.store.constraint.Constraint.{Constraint}
 use Rattle.ivl_store.specs.Solutions.{LiesWithin, LostMember}
@@ -106,10 +106,6 @@ pub record StepsSoFar (constraints : List Constraint) (before after : ℕ → �
   pub steps : IsNarrowedBy (take k constraints) before after
   pub taken : lost ≡ true → LostMember before after
   pub kept : lost ≡ false → LiesWithin before after
-
--- before the first narrowing of a round
-pub no_steps : (constraints : List Constraint) (sets : ℕ → ℤ → Type 0) → StepsSoFar constraints sets sets false 0
-no_steps constraints sets = record { steps = (λ i v. ((λ h. h), (λ h. h))); taken = (λ f. absurd (false≢true f)); kept = (λ _ i v h. h) }
 
 -- one more narrowing of a round
 pub steps_step : (constraints : List Constraint) (sets : ℕ → ℤ → Type 0) (mid new : List (List (ℤ × ℤ))) (lost less lost' : Bool) (k : ℕ) (d : Constraint)

@@ -3,11 +3,7 @@ pub mod FamilyLaws
 pub mod NarrowedSets
 pub mod Measure
 pub mod Narrowing
-pub mod Network
-pub mod NetworkLaws
 pub mod Posts
-pub mod Queue
 pub mod Rounds
 pub mod Settled
 pub mod Solutions
-pub mod Trail

@@ -14,5 +14,4 @@
 //! ```
 #![tactic(auto)]
 
-pub mod network;
 pub mod store;

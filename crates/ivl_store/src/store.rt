@@ -21,7 +21,6 @@ ghost use Rattle.ivl_laws.specs.Runs.{IsRunListIn};
 ghost use Rattle.ivl_store.specs.Posts.{HasEmpty};
 
 pub mod callers;
-pub(crate) mod change;
 mod constraint;
 mod costs;
 pub mod laws;
@@ -29,7 +28,7 @@ pub mod narrowed_sets;
 mod narrowing;
 mod post;
 mod posting;
-pub(crate) mod settled;
+mod settled;
 mod swapping;
 
 pub use constraint::{Constraint, StoreFault};

@@ -27,7 +27,7 @@ use Rattle.ivl_laws.specs.Runs.{Covers, IsRunsOf}
 use Rattle.ivl_laws.specs.Families.{set_at}
 use Rattle.ivl_store.specs.declared.store.constraint.Constraint.{Constraint}
 use Rattle.ivl_store.specs.Measure.{total}
-use Rattle.ivl_store.specs.Network.{IsCutAt}
+use Rattle.ivl_network.specs.Network.{IsCutAt}
 use Rattle.ivl_rules.specs.declared.rules.Rule.{Rule}
 use Rattle.ivl_rules.specs.declared.rules.Rule.TheVariants.{Sum}
 use Rattle.ivl_network.specs.Costs.{AreRulesCounted, cost_of_rule}

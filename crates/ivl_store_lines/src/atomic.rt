@@ -4,7 +4,7 @@
 ghost use Rattle.std.specs.Prelude.{◌≡◌, ◌<◌, ℤ, List, All, HoldsAt, IfOk, OnErr, OnOk, length};
 ghost use Rattle.ivl_laws.specs.Families.{set_at};
 ghost use Rattle.ivl_laws.specs.Runs.{Covers};
-ghost use Rattle.ivl_store.specs.Network.{IsCutAt};
+ghost use Rattle.ivl_network.specs.Network.{IsCutAt};
 ghost use Rattle.ivl_rules.specs.Rules.{AreDifferent};
 ghost use Rattle.ivl_store_lines.specs.Required.{AreRequired};
 ghost use Rattle.ivl_store_lines.specs.Solving.{Settles};

@@ -2,7 +2,6 @@
 //! Domains and rules between them that are added one by one: see [`network`].
 //!
 //! ```
-//! use intervallum::proved::ivl_network::network::{Network, Settled};
 //! use intervallum::proved::examples::*;
 //!
 //! fn main() -> Result<(), std::boxed::Box<dyn std::error::Error>> {

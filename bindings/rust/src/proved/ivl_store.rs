@@ -23,5 +23,4 @@
 #[allow(unused_imports)]
 use crate::rattle::prelude::*;
 
-pub mod network;
 pub mod store;

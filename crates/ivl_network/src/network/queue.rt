@@ -2,12 +2,10 @@
 ghost use Rattle.std.specs.Prelude.{◌≡◌, ◌⊎◌, ◌+◌, ◌-◌, ◌<◌, ◌∷◌, ◌++◌, [], ℕ, ℤ, All, HoldsAt, IsNone, IsTrue, ◌↔◌, List, MatchOption, OnErr, OnOk, false, true, length, slice_index_or, slice_set, take};
 ghost use Rattle.std.specs.Vec.{vec_capacity};
 ghost use Rattle.ivl_laws.specs.Families.{set_at};
-ghost use Rattle.ivl_store.specs.Network.{unsettled_count};
-ghost use Rattle.ivl_store.specs.Queue.{Removes};
+ghost use Rattle.ivl_network.specs.Queue.{IsRuleIndex, IsRuleQueue, Removes, unsettled_count};
 ghost use Rattle.ivl_store.specs.Settled.{AreLost, any_lost};
 ghost use Rattle.ivl_rules.specs.Rules.{AreDifferent, NarrowedBy, needs_singles, places as places_of};
 ghost use Rattle.ivl_network.specs.Families.{ArePresent, IsFixedBy};
-ghost use Rattle.ivl_network.specs.Queue.{IsRuleIndex, IsRuleQueue};
 ghost use Rattle.ivl_network.specs.Settled.{AreClearedRules, AreSettledRules};
 
 use super::index::Index;

@@ -2,7 +2,7 @@
 ghost use Rattle.std.specs.Prelude.{◌≡◌, ◌<◌, ◌≤◌, ◌+◌, ◌++◌, ◌∷◌, [], false, true, ℤ, List, All, HoldsAt, IfOk, OnOk, length, map, take};
 ghost use Rattle.ivl_laws.specs.Families.{set_at};
 ghost use Rattle.ivl_laws.specs.Sets.{IsBetween};
-ghost use Rattle.ivl_store.specs.Network.{IsCutAt};
+ghost use Rattle.ivl_network.specs.Network.{IsCutAt};
 ghost use Rattle.ivl_network.specs.Families.{ArePresent};
 ghost use Rattle.ivl_search.specs.Best.{IsBetter};
 ghost use Rattle.ivl_search.specs.Budget.{nodes_enough};

@@ -4,10 +4,9 @@ ghost use Rattle.std.specs.Prelude.{◌≡◌, ◌↔◌, ◌<◌, ◌≤◌, �
 ghost use Rattle.ivl_laws.specs.Families.{set_at};
 ghost use Rattle.ivl_laws.specs.Runs.{Covers, IsRunListIn};
 ghost use Rattle.ivl_laws.specs.Sets.{IsBetween};
-ghost use Rattle.ivl_store.specs.Network.{IsCutAt};
+ghost use Rattle.ivl_network.specs.Network.{IsCutAt, work_of_rules};
 ghost use Rattle.ivl_store.specs.Solutions.{LiesWithin};
 ghost use Rattle.ivl_network.specs.Families.{AllSupport, ArePresent};
-ghost use Rattle.ivl_network.specs.Network.{work_of_rules};
 ghost use Rattle.ivl_search.specs.Best.{IsAsGood, IsBetter, IsInPart};
 ghost use Rattle.ivl_search.specs.Nodes.{AreSingle, IsNodeOf, IsOnlyPoint};
 ghost use Rattle.ivl_search.specs.Points.{SolvesRules};

@@ -5,12 +5,9 @@ ghost use Rattle.ivl_laws.specs.Runs.{IsRunListIn};
 ghost use Rattle.ivl_store.specs.Measure.{total};
 ghost use Rattle.ivl_store.specs.Narrowing.{AllPresent, IsFixed, Keeps, Narrowed, first_unknown, first_unknown_of as first_unknown_in};
 ghost use Rattle.ivl_store.specs.Rounds.{After, AfterSome, EachLost, IsNarrowedBy, IsPartlyNarrowedBy};
-ghost use Rattle.ivl_store.specs.Settled.{AreLost, AreSettled, any_lost};
+ghost use Rattle.ivl_store.specs.Settled.{AreLost, AreSettled};
 ghost use Rattle.ivl_store.specs.Solutions.{AreDistinct, HasSolutionAt, IsCommonSolution, IsGreatestFamily, IsSolution, LiesWithin, LostMember, Names, Supports};
-ghost use Rattle.ivl_store.specs.Trail.{revert};
-ghost use Rattle.ivl_store.specs.declared.store.constraint.Constraint.{Constraint};
 
-use super::change::Change;
 use super::constraint::first_unknown_of;
 use super::narrowed_sets::narrowed_sets;
 use super::settled::{Lost, none_settled, settle_after};
@@ -71,31 +68,16 @@ impl<B: Width> Store<B> {
         ensures lost { IfOk result (λ lost. AreLost c.now lost (set_at self.old) (set_at self.new)) }
         ensures range { OnOk result (All (IsRunListIn B.whole) self.old) }
     {
-        let (lost, _) = self.narrow_swapped(c)?;
-        Ok(lost)
-    }
-
-    /// The same, and returns what takes it back.
-    pub(crate) fn narrow_swapped(&mut self, c: &Constraint) -> Result<(Lost, Change<B>), AllocError>
-        requires { AllPresent (length self.old) c.now }
-        ensures refused { OnErr result (self.new ≡ self.old) }
-        ensures kept_count { length self.new ≡ length self.old }
-        ensures narrowed { OnOk result ((i : ℕ) (v : ℤ) → set_at self.new i v ↔ Narrowed c.now (set_at self.old) i v) }
-        ensures lost { IfOk result (λ r. AreLost c.now r.0 (set_at self.old) (set_at self.new)) }
-        ensures same { IfOk result (λ r. any_lost r.0 ≡ false → self.new ≡ self.old) }
-        ensures back { IfOk result (λ r. (constraints : List Constraint) → revert r.1 (record { domains = self.new; constraints = constraints }) ≡ record { domains = self.old; constraints = constraints }) }
-        ensures range { OnOk result (All (IsRunListIn B.whole) self.old) }
-    {
         let (x, y, z) = narrowed_sets(&self.domains, c)?;
         let lost = Lost {
             x: x.is_some(),
             y: y.is_some(),
             z: z.is_some(),
         };
-        let x = self.swap(c.x, x);
-        let y = self.swap(c.y, y);
-        let z = self.swap(c.z, z);
-        Ok((lost, Change::Domains(*c, x, y, z)))
+        self.swap(c.x, x);
+        self.swap(c.y, y);
+        self.swap(c.z, z);
+        Ok(lost)
     }
 
     /// Narrows by constraint `i`, unless it is settled.

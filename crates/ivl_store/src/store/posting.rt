@@ -7,10 +7,8 @@ ghost use Rattle.ivl_store.specs.Posts.{AnswersPosts, CutBy, CutKeeps, HasEmpty,
 ghost use Rattle.ivl_store.specs.Rounds.{IsPartlySettled};
 ghost use Rattle.ivl_store.specs.Settled.{AreSettled};
 ghost use Rattle.ivl_store.specs.Solutions.{AreDistinct, IsCommonSolution, IsGreatestFamily, LiesWithin, SupportedBy};
-ghost use Rattle.ivl_store.specs.Trail.{revert};
 ghost use Rattle.ivl_store.specs.declared.store.constraint.Constraint.{Constraint};
 
-use super::change::Change;
 use super::narrowed_sets::narrowed_to;
 use super::post::first_unknown_post;
 use super::settled::unsettle;
@@ -179,27 +177,10 @@ impl<B: Width> Store<B> {
         ensures cut { OnOk result ((j : ℕ) (v : ℤ) → set_at self.new j v ↔ (set_at self.old j v × (j ≡ i → Covers allowed.now v))) }
         ensures lost { IfOk result (λ b. b ≡ false → self.new ≡ self.old) }
     {
-        let (lost, _) = self.restrict_swapped(i, allowed)?;
-        Ok(lost)
-    }
-
-    /// The same, and returns what takes it back.
-    pub(crate) fn restrict_swapped(
-        &mut self,
-        i: usize,
-        allowed: &IntervalSet<B>,
-    ) -> Result<(bool, Change<B>), AllocError>
-        requires { i < length self.old }
-        ensures refused { OnErr result (self.new ≡ self.old) }
-        ensures kept_count { length self.new ≡ length self.old }
-        ensures cut { OnOk result ((j : ℕ) (v : ℤ) → set_at self.new j v ↔ (set_at self.old j v × (j ≡ i → Covers allowed.now v))) }
-        ensures lost { IfOk result (λ r. r.0 ≡ false → self.new ≡ self.old) }
-        ensures back { IfOk result (λ r. (constraints : List Constraint) → revert r.1 (record { domains = self.new; constraints = constraints }) ≡ record { domains = self.old; constraints = constraints }) }
-    {
         let left = narrowed_to(&self.domains[i], allowed)?;
         let lost = left.is_some();
-        let old = self.swap(i, left);
-        Ok((lost, Change::Domain(i, old)))
+        self.swap(i, left);
+        Ok(lost)
     }
 
     /// Narrows by the constraints until none changes a domain.

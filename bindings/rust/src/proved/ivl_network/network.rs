@@ -6,7 +6,6 @@
 //! call goes on.
 //!
 //! ```
-//! use intervallum::proved::ivl_network::network::{Network, Settled};
 //! use intervallum::proved::examples::*;
 //!
 //! fn main() -> Result<(), std::boxed::Box<dyn std::error::Error>> {
@@ -90,7 +89,6 @@ impl<B: Width> Network<B> {
     /// Creates a network without variables. Does not allocate.
     ///
     /// ```
-    /// use intervallum::proved::ivl_network::network::{Network, Settled};
     /// use intervallum::proved::examples::*;
     ///
     /// fn main() -> Result<(), std::boxed::Box<dyn std::error::Error>> {
@@ -171,7 +169,6 @@ impl<B: Width> Network<B> {
     /// Fails only if allocation fails. The network is unchanged after an error.
     ///
     /// ```
-    /// use intervallum::proved::ivl_network::network::{Network, Settled};
     /// use intervallum::proved::examples::*;
     ///
     /// fn main() -> Result<(), std::boxed::Box<dyn std::error::Error>> {
@@ -216,7 +213,6 @@ impl<B: Width> Network<B> {
     /// fails. The network is then unchanged.
     ///
     /// ```
-    /// use intervallum::proved::ivl_network::network::{Network, Settled};
     /// use intervallum::proved::examples::*;
     ///
     /// fn main() -> Result<(), std::boxed::Box<dyn std::error::Error>> {
@@ -278,7 +274,6 @@ impl<B: Width> Network<B> {
     /// fails. The network is then unchanged.
     ///
     /// ```
-    /// use intervallum::proved::ivl_network::network::{Network, Settled};
     /// use intervallum::proved::examples::*;
     ///
     /// fn main() -> Result<(), std::boxed::Box<dyn std::error::Error>> {
@@ -336,7 +331,6 @@ impl<B: Width> Network<B> {
     /// completed narrowing left it, and another call goes on.
     ///
     /// ```
-    /// use intervallum::proved::ivl_network::network::{Network, Settled};
     /// use intervallum::proved::examples::*;
     ///
     /// fn main() -> Result<(), std::boxed::Box<dyn std::error::Error>> {
@@ -396,7 +390,6 @@ impl<B: Width> Network<B> {
     /// Those of [`Network::settle`].
     ///
     /// ```
-    /// use intervallum::proved::ivl_network::network::{Network, Settled};
     /// use intervallum::proved::examples::*;
     ///
     /// fn main() -> Result<(), std::boxed::Box<dyn std::error::Error>> {
@@ -492,7 +485,6 @@ impl<B: Width> Network<B> {
     /// Fails only if allocation fails. The network is unchanged after an error.
     ///
     /// ```
-    /// use intervallum::proved::ivl_network::network::{Network, Settled};
     /// use intervallum::proved::examples::*;
     ///
     /// fn main() -> Result<(), std::boxed::Box<dyn std::error::Error>> {
@@ -560,7 +552,6 @@ impl<B: Width> Network<B> {
     /// keeps no domain that is replaced. Does not allocate.
     ///
     /// ```
-    /// use intervallum::proved::ivl_network::network::{Network, Settled};
     /// use intervallum::proved::examples::*;
     ///
     /// fn main() -> Result<(), std::boxed::Box<dyn std::error::Error>> {

@@ -27,7 +27,6 @@
 use crate::rattle::prelude::*;
 
 pub mod callers;
-pub(crate) mod change;
 mod constraint;
 mod costs;
 
@@ -35,7 +34,7 @@ pub mod narrowed_sets;
 mod narrowing;
 mod post;
 mod posting;
-pub(crate) mod settled;
+mod settled;
 mod swapping;
 
 pub use constraint::{Constraint, StoreFault};

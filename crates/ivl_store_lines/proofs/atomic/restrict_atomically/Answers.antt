@@ -1,9 +1,8 @@
 use Rattle.std.proofs.Common.{◌∙◌, ap, length, subst}
 use Rattle.ivl_laws.specs.Families.{set_at}
 use Rattle.ivl_laws.specs.Runs.{Covers}
-use Rattle.ivl_store.specs.Network.{IsCutAt}
+use Rattle.ivl_network.specs.Network.{IsCutAt, RulesState}
 use Rattle.ivl_store.proofs.Steps.{on_err}
-use Rattle.ivl_network.specs.Network.{RulesState}
 use Rattle.ivl_store_lines.specs.Solving.{Settles}
 use Rattle.ivl_store_lines.proofs.Settling.{below_marked, undone_to_mark}
 use Rattle.ivl_store_lines.proofs.atomic.restrict_atomically.Goals as goal

@@ -8,10 +8,10 @@ use crate::proved::ivl_store_lines::progress::Progress;
 use crate::proved::ivl_store_lines::replies::{
     write_best, write_count, write_fault, write_shown, write_solutions, write_state, write_variable,
 };
-use crate::proved::ivl_store_lines::request::{Request, begins_rule, request_from};
+use crate::proved::ivl_store_lines::request::{Request, request_from};
 use crate::proved::ivl_store_lines::solve::Extreme;
 use crate::proved::ivl_store_lines::solver::Solver;
-use crate::proved::ivl_lines::{Answers, SessionFault, line_text, next_word, serve};
+use crate::proved::ivl_lines::{Answers, SessionFault, first_word, line_text, next_word, serve};
 use crate::rattle::std::alloc::Global;
 use crate::rattle::std::collections::hash_map::RandomState;
 use crate::rattle::std::io;
@@ -19,9 +19,9 @@ use crate::rattle::std::io::{Read, Write};
 
 impl Answers for Solver {
     fn may_take_long(&self, line: &[u8]) -> bool {
-        match line_text(line) {
-            Some(text) => is_long(text),
-            None => false,
+        match first_word(line) {
+            "cut" | "sum" | "go" | "solve" | "count" | "min" | "max" => true,
+            _ => false,
         }
     }
 
@@ -65,17 +65,6 @@ pub fn session<R: Read, W: Write>(
     writer: &mut W,
 ) -> Result<(), SessionFault> {
     serve(alloc, &mut Solver::new(alloc, keys), reader, writer)
-}
-
-// Whether a line narrows domains or searches, or may do so.
-fn is_long(text: &str) -> bool {
-    match next_word(text) {
-        Some((name, words)) => match name {
-            "var" | "limit" | "show" => begins_rule(words),
-            _ => true,
-        },
-        None => false,
-    }
 }
 
 // Answers one line. A line without words has no answer.

@@ -3,7 +3,6 @@
 
 #[allow(unused_imports)]
 use crate::rattle::prelude::*;
-use super::change::Change;
 use super::constraint::first_unknown_of;
 use super::narrowed_sets::narrowed_sets;
 use super::settled::{Lost, none_settled, settle_after};
@@ -66,22 +65,16 @@ impl<B: Width> Store<B> {
 
     /// The same for variables that the store has.
     fn narrow_known(&mut self, c: &Constraint) -> Result<Lost, AllocError> {
-        let (lost, _) = self.narrow_swapped(c)?;
-        Ok(lost)
-    }
-
-    /// The same, and returns what takes it back.
-    pub(crate) fn narrow_swapped(&mut self, c: &Constraint) -> Result<(Lost, Change<B>), AllocError> {
         let (x, y, z) = narrowed_sets(&self.domains, c)?;
         let lost = Lost {
             x: x.is_some(),
             y: y.is_some(),
             z: z.is_some(),
         };
-        let x = self.swap(c.x, x);
-        let y = self.swap(c.y, y);
-        let z = self.swap(c.z, z);
-        Ok((lost, Change::Domains(*c, x, y, z)))
+        self.swap(c.x, x);
+        self.swap(c.y, y);
+        self.swap(c.z, z);
+        Ok(lost)
     }
 
     /// Narrows by constraint `i`, unless it is settled.

@@ -3,7 +3,6 @@
 
 #[allow(unused_imports)]
 use crate::rattle::prelude::*;
-use super::change::Change;
 use super::narrowed_sets::narrowed_to;
 use super::post::first_unknown_post;
 use super::settled::unsettle;
@@ -136,20 +135,10 @@ impl<B: Width> Store<B> {
 
     /// Keeps the members of one domain that are allowed. Returns false if that is all of them.
     fn restrict(&mut self, i: usize, allowed: &IntervalSet<B>) -> Result<bool, AllocError> {
-        let (lost, _) = self.restrict_swapped(i, allowed)?;
-        Ok(lost)
-    }
-
-    /// The same, and returns what takes it back.
-    pub(crate) fn restrict_swapped(
-        &mut self,
-        i: usize,
-        allowed: &IntervalSet<B>,
-    ) -> Result<(bool, Change<B>), AllocError> {
         let left = narrowed_to(&self.domains[i], allowed)?;
         let lost = left.is_some();
-        let old = self.swap(i, left);
-        Ok((lost, Change::Domain(i, old)))
+        self.swap(i, left);
+        Ok(lost)
     }
 
     /// Narrows by the constraints until none changes a domain.

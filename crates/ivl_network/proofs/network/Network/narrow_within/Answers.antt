@@ -7,7 +7,7 @@ use Rattle.ivl_network.specs.Costs.{AreRulesCounted, cost_of_rule}
 use Rattle.ivl_network.specs.Families.{ArePresent, IsFixedBy}
 use Rattle.ivl_rules.specs.Rules.{NarrowedBy, places}
 use Rattle.ivl_network.specs.Network.{AreRuleNarrowings, IsSoundRules, RulesState, work_of_rules}
-use Rattle.ivl_store.specs.Network.{unsettled_count}
+use Rattle.ivl_network.specs.Queue.{unsettled_count}
 use Rattle.ivl_store.specs.Settled.{AreLost, any_lost}
 use Rattle.ivl_network.specs.Settled.{AreSettledRules}
 use Rattle.ivl_network.proofs.Costs.{counted_one}
@@ -16,7 +16,7 @@ use Rattle.ivl_network.proofs.Kept.{same_at_marks}
 use Rattle.ivl_network.proofs.Logging.{logged_marks, logged_trail, state_is}
 use Rattle.ivl_network.proofs.Narrowings.{all_fixed, one_narrowing, sound_moved}
 use Rattle.ivl_store.proofs.Totals.{total_falls}
-use Rattle.ivl_store.proofs.Work.{work_less}
+use Rattle.ivl_network.proofs.Work.{work_less}
 use Rattle.ivl_network.proofs.network.Network.narrow_within.Goals as goal
 
 pub returns-clause-narrowed : goal.returns-clause-narrowed

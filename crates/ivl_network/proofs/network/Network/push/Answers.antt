@@ -4,8 +4,7 @@ use Rattle.std.proofs.lemmas.Bool.{false≢true}
 use Rattle.std.proofs.lemmas.List.Sums.{sum_by_push}
 use Rattle.ivl_network.specs.Families.{ArePresent}
 use Rattle.ivl_network.specs.Network.{IsSoundRules, RulesState}
-use Rattle.ivl_store.specs.Network.{unsettled_count}
-use Rattle.ivl_network.specs.Queue.{IsRuleIndex}
+use Rattle.ivl_network.specs.Queue.{IsRuleIndex, unsettled_count}
 use Rattle.ivl_network.specs.declared.network.change.Change.TheVariants.{Require}
 use Rattle.ivl_network.proofs.Logging.{logged_marks, logged_trail, state_is}
 use Rattle.ivl_network.proofs.Narrowings.{sound_pushed}

@@ -2,8 +2,7 @@ use Rattle.std.proofs.Common.{◌∙◌, ap, subst, sym, List}
 use Rattle.std.specs.Prelude.{ℤ}
 use Rattle.ivl_laws.specs.Families.{set_at}
 use Rattle.ivl_laws.specs.Runs.{Covers}
-use Rattle.ivl_store.specs.Network.{IsCutAt}
-use Rattle.ivl_network.specs.Network.{IsSoundRules, RulesState}
+use Rattle.ivl_network.specs.Network.{IsCutAt, IsSoundRules, RulesState}
 use Rattle.ivl_network.proofs.Indexes.{index_of_count}
 use Rattle.ivl_network.proofs.Kept.{same_at_marks}
 use Rattle.ivl_network.proofs.Logging.{logged_marks, logged_trail}

@@ -1,5 +1,5 @@
 use Rattle.std.proofs.Common.{arith, ap}
-use Rattle.ivl_store.proofs.Queues.{count_none}
+use Rattle.ivl_network.proofs.Queues.{count_none}
 use Rattle.ivl_network.proofs.network.queue.remove.Goals as goal
 
 pub returns-clause-removed : goal.returns-clause-removed

@@ -2,7 +2,7 @@ use Rattle.std.proofs.Common.{◌≡◌, ◌≤◌, ◌+◌, ◌/◌, ◌++◌, 
 use Rattle.std.specs.Prelude.{ℤ, ◌↔◌, All}
 use Rattle.std.proofs.lemmas.List.{append-nil, append_assoc, length_push, length-append}
 use Rattle.ivl_laws.specs.Families.{set_at}
-use Rattle.ivl_store.specs.Network.{IsCutAt}
+use Rattle.ivl_network.specs.Network.{IsCutAt}
 use Rattle.ivl_network.specs.Families.{AllSupport, ArePresent}
 use Rattle.ivl_network.specs.Trail.{RulesPast}
 use Rattle.ivl_search.specs.Best.{IsAsGood}

@@ -3,7 +3,7 @@ use Rattle.std.specs.Prelude.{ℤ, ◌↔◌, IfNone, IfSome}
 use Rattle.std.proofs.lemmas.List.{length-map}
 use Rattle.ivl_laws.specs.Families.{set_at}
 use Rattle.ivl_laws.specs.Sets.{IsBetween}
-use Rattle.ivl_store.specs.Network.{IsCutAt}
+use Rattle.ivl_network.specs.Network.{IsCutAt}
 use Rattle.ivl_search.specs.Best.{IsAsGood, IsBetter}
 use Rattle.ivl_search.specs.Halves.{IsMiddle}
 use Rattle.ivl_search.specs.Nodes.{AreFilled}

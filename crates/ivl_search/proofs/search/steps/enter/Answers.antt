@@ -1,6 +1,6 @@
 use Rattle.std.proofs.Common.{ap, subst}
 use Rattle.ivl_laws.specs.Families.{set_at}
-use Rattle.ivl_store.specs.Network.{IsCutAt}
+use Rattle.ivl_network.specs.Network.{IsCutAt}
 use Rattle.ivl_search.specs.Best.{IsAsGood}
 use Rattle.ivl_search.proofs.search.steps.enter.Goals as goal
 

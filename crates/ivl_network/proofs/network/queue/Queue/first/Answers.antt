@@ -1,6 +1,5 @@
 use Rattle.std.proofs.Common.{◌∙◌, arith, ap, length, sym, get_or, false}
-use Rattle.ivl_store.proofs.Queues.{last_of}
-use Rattle.ivl_network.proofs.Queues.{waiting}
+use Rattle.ivl_network.proofs.Queues.{last_of, waiting}
 use Rattle.ivl_network.proofs.network.queue.Queue.first.Goals as goal
 
 pub returns-clause-first : goal.returns-clause-first

@@ -4,7 +4,7 @@ use Rattle.std.specs.Prelude.{ℤ, not}
 use Rattle.std.proofs.Math.Nat.{mul-le-mul_right}
 use Rattle.std.proofs.lemmas.List.Sums.{count_by-le-length, sum_by-set}
 use Rattle.ivl_store.specs.Measure.{total}
-use Rattle.ivl_store.specs.Network.{unsettled_count}
+use Rattle.ivl_network.specs.Queue.{unsettled_count}
 
 -- one flag that is set now
 unsettled_count-set : (flags : List Bool) (i : ℕ) → i < length flags → get_or flags i false ≡ false → unsettled_count (set flags i true) + 1 ≡ unsettled_count flags
@@ -13,7 +13,7 @@ unsettled_count-set flags i lt e =
     let t = subst (λ b. unsettled_count (set flags i true) + cond (not b) 1 0 ≡ unsettled_count flags + 0) e s in
     omega (arith, t)
 
--- a narrowing by a constraint that is not settled, which removed a member or settled it
+-- a narrowing by a rule that is not settled, which removed a member or settled it
 pub work_less : (whole : ℤ × ℤ) (old new : List (List (ℤ × ℤ))) (count : ℕ) (flags flags' : List Bool) (i : ℕ) (lost : Bool)
     → i < length flags → get_or flags i false ≡ false → length flags' ≡ count
     → (lost ≡ false → new ≡ old) → (lost ≡ false → flags' ≡ set flags i true) → (lost ≡ true → total whole new < total whole old)

@@ -1,17 +1,13 @@
-use Rattle.std.proofs.Common.{◌≡◌, List, [], ap, subst, get_or}
-use Rattle.std.specs.Prelude.{ℤ}
+use Rattle.std.proofs.Common.{◌≡◌, [], subst, get_or}
 use Rattle.ivl_laws.specs.Runs.{Covers}
 use Rattle.ivl_store.specs.NarrowedSets.{IsLeftOf}
 use Rattle.ivl_within.proofs.Lists.{entry_seen}
 use Rattle.ivl_store.proofs.Places.{cut_after}
-use Rattle.ivl_store.proofs.store.Store.restrict_swapped.Goals as goal
+use Rattle.ivl_store.proofs.store.Store.restrict.Goals as goal
 
 pub returns-clause-cut : goal.returns-clause-cut
 returns-clause-cut g c =
     let old = c.args.self.now in
     let read : c.index.result.now ≡ get_or old c.args.i [] = entry_seen _ _ _ _ c.self.view_is c.requires c.index.ensures in
-    rw c.swap-old.ensures.put (cut_after g.B.Width.whole old c.args.i (Covers c.args.allowed.now) c.in_ok-left.left c.requires
+    rw c.swap.ensures.put (cut_after g.B.Width.whole old c.args.i (Covers c.args.allowed.now) c.in_ok-left.left c.requires
     (subst (λ L. IsLeftOf g.B.Width.whole L (Covers c.args.allowed.now) c.in_ok-left.left) read c.in_ok-left.ensures))
-
-pub returns-clause-back : goal.returns-clause-back
-returns-clause-back g c = λ constraints. ap (λ (sets : List (List (ℤ × ℤ))). record { domains = sets; constraints = constraints }) c.swap-old.ensures.back

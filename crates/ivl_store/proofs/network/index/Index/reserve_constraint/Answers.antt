@@ -1,9 +1,0 @@
-use Rattle.std.proofs.Common.{refl}
-use Rattle.ivl_store.proofs.Indexes.{same_index}
-use Rattle.ivl_store.proofs.network.index.Index.reserve_constraint.Goals as goal
-
-pub returns-clause-same : goal.returns-clause-same
-returns-clause-same c = λ count cs s. same_index count cs c.args.self.now _ refl c.in_ok-reserve.ensures.items s
-
-pub returns-in_err-reserve-clause-same : goal.returns-in_err-reserve-clause-same
-returns-in_err-reserve-clause-same c = λ count cs s. same_index count cs c.args.self.now _ refl c.in_err-reserve.ensures.items s

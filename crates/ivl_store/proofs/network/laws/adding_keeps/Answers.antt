@@ -1,5 +1,0 @@
-use Rattle.ivl_store.proofs.Histories.{adding_keeps as keeps}
-use Rattle.ivl_store.proofs.network.laws.adding_keeps.Goals as goal
-
-pub returns : goal.returns
-returns c = keeps

@@ -1,5 +1,0 @@
-use Rattle.ivl_store.proofs.Histories.{all_greatest}
-use Rattle.ivl_store.proofs.network.laws.all_is_greatest.Goals as goal
-
-pub returns : goal.returns
-returns c = all_greatest
