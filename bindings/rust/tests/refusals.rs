@@ -196,14 +196,20 @@ fn a_network_of_rules_is_left_or_goes_on() {
     assert_eq!(whole.settle(1_000).unwrap(), Settled::All);
     let after = seen(&whole);
     assert!(after.0 != before.0);
-    let settle = |network: &mut Network<i64>| network.settle(1_000);
-    let (refused, told) = each_refused(network_of_rules, settle, |network, made, _| {
-        let mut again = network.domains().iter().zip(&after.0);
-        // what was narrowed so far stays, and lost nothing
-        assert!(again.all(|(domain, end)| end.is_subset(domain)));
-        made.is_ok_and(|settled| settled == Settled::All && seen(network) == after)
-    });
-    assert!(refused > 1 && told > 1, "{refused}, {told}");
+    type Settle = fn(&mut Network<i64>) -> Result<Settled, StoreFault>;
+    let settles: [(&str, Settle); 2] = [
+        ("settle", |network| network.settle(1_000)),
+        ("settle_unless_empty", |network| network.settle_unless_empty(1_000)),
+    ];
+    for (name, settle) in settles {
+        let (refused, told) = each_refused(network_of_rules, settle, |network, made, _| {
+            let mut again = network.domains().iter().zip(&after.0);
+            // what was narrowed so far stays, and lost nothing
+            assert!(again.all(|(domain, end)| end.is_subset(domain)));
+            made.is_ok_and(|settled| settled == Settled::All && seen(network) == after)
+        });
+        assert!(refused > 1 && told > 1, "{name}: {refused}, {told}");
+    }
     assert!(whole.undo_to(0) && seen(&whole).1.len() == 3);
 }
 
