@@ -116,8 +116,13 @@ impl Model {
     }
 }
 
-/// One change of both, or a point to return to.
-fn step(random: &mut Random, model: &mut Model, marks: &mut Vec<Model>, network: &mut Network<i8>) {
+/// Whether no rule is left to look at.
+fn is_settled(network: &mut Network<i8>) -> bool {
+    network.settle(0) == Ok(Settled::All)
+}
+
+/// One change of both, or a point to return to, and whether all was settled there.
+fn step(random: &mut Random, model: &mut Model, marks: &mut Vec<(Model, bool)>, network: &mut Network<i8>) {
     let count = model.domains.len();
     match random.below(12) {
         0 if count < 6 => {
@@ -139,12 +144,14 @@ fn step(random: &mut Random, model: &mut Model, marks: &mut Vec<Model>, network:
         }
         6 => {
             assert_eq!(network.mark(), Ok(marks.len()));
-            marks.push(model.clone());
+            marks.push((model.clone(), is_settled(network)));
         }
         7 if !marks.is_empty() => {
             let mark = random.below(marks.len());
             assert!(network.undo_to(mark));
-            *model = marks[mark].clone();
+            let (was, was_settled) = marks[mark].clone();
+            assert!(is_settled(network) || !was_settled);
+            *model = was;
             marks.truncate(mark);
         }
         8 => {
@@ -153,12 +160,12 @@ fn step(random: &mut Random, model: &mut Model, marks: &mut Vec<Model>, network:
             marks.truncate(mark);
         }
         _ => {
-            // by many small budgets, of either kind
+            // by many small budgets, of each kind
             let mut calls = 0;
             loop {
                 let budget = 1 + random.below(3) as u64;
-                let settled = if random.below(2) == 0 { network.settle(budget) } else { network.settle_within(budget) };
-                if settled == Ok(Settled::All) {
+                let settle = [Network::settle, Network::settle_within, Network::settle_unless_empty][random.below(3)];
+                if settle(network, budget) == Ok(Settled::All) {
                     break;
                 }
                 calls += 1;
@@ -167,7 +174,7 @@ fn step(random: &mut Random, model: &mut Model, marks: &mut Vec<Model>, network:
             model.settle();
         }
     }
-    if !matches!(network.settle(0), Ok(Settled::All)) {
+    if !is_settled(network) {
         return;
     }
     model.settle();
@@ -196,6 +203,62 @@ fn networks_leave_what_the_rules_support() {
     }
     // neither kind of end is rare
     assert!(emptied > settled / 10 && emptied < settled * 9 / 10, "{emptied} of {settled}");
+}
+
+#[test]
+fn a_mark_keeps_whether_all_was_settled() {
+    for is_all in [true, false] {
+        let mut network = Network::new(Global);
+        for _ in 0..3 {
+            network.add_variable(IntervalSet::new(Global, 0i8, 9).unwrap()).unwrap();
+        }
+        network.require(Rule::AtMost { x: 0, y: 1, by: 0 }).unwrap();
+        network.require(Rule::AtMost { x: 1, y: 2, by: 0 }).unwrap();
+        if is_all {
+            assert_eq!(network.settle(2), Ok(Settled::All));
+        }
+        for _ in 0..3 {
+            let mark = network.mark().unwrap();
+            network.restrict(0, &IntervalSet::new(Global, 5, 9).unwrap()).unwrap();
+            network.require(Rule::Differs { x: 0, y: 2, by: 3 }).unwrap();
+            assert_eq!(network.settle(100), Ok(Settled::All));
+            assert_eq!(network.domains()[2], IntervalSet::new(Global, 5, 9).unwrap());
+            assert!(network.undo_to(mark));
+            assert_eq!(is_settled(&mut network), is_all);
+        }
+        // the flags are right again: a cut wakes the rules that name its variable
+        network.restrict(0, &IntervalSet::new(Global, 7, 9).unwrap()).unwrap();
+        assert_eq!(network.settle(100), Ok(Settled::All));
+        assert_eq!(network.domains()[2], IntervalSet::new(Global, 7, 9).unwrap());
+    }
+}
+
+#[test]
+fn narrowing_unless_a_domain_is_empty_stops_at_the_first() {
+    let whole = || IntervalSet::new(Global, 0i8, 9).unwrap();
+    let (emptying, other) = (Rule::AtMost { x: 0, y: 1, by: 10 }, Rule::AtMost { x: 2, y: 3, by: 1 });
+    let untouched = [[emptying, other], [other, emptying]].map(|rules| {
+        let mut network = Network::new(Global);
+        for _ in 0..4 {
+            network.add_variable(whole()).unwrap();
+        }
+        for rule in rules {
+            network.require(rule).unwrap();
+        }
+        assert_eq!(network.settle_unless_empty(0), Ok(Settled::Unfinished));
+        assert!(!network.has_empty());
+        // one of the orders ends in its last narrowing, the other has one left
+        let ended = network.settle_unless_empty(100).unwrap();
+        assert!(network.has_empty());
+        let is_untouched = network.domains()[2] == whole();
+        assert_eq!(ended == Settled::Unfinished, is_untouched);
+        assert_eq!(network.settle_unless_empty(100), Ok(ended));
+        assert_eq!(network.domains()[2] == whole(), is_untouched);
+        assert_eq!(network.settle(100), Ok(Settled::All));
+        assert!(network.domains()[2] != whole());
+        is_untouched
+    });
+    assert_ne!(untouched[0], untouched[1]);
 }
 
 #[test]

@@ -158,8 +158,11 @@ fn a_network_that_settles_can_be_taken_back_and_goes_on() {
     assert_eq!(whole.settle(1_000).unwrap(), Settled::All);
     let after = seen(&whole);
     type Settle = fn(&mut Network<i64>) -> Result<Settled, StoreFault>;
-    let settles: [(&str, Settle); 2] =
-        [("settle", |network| network.settle(1_000)), ("settle_within", |network| network.settle_within(1_000))];
+    let settles: [(&str, Settle); 3] = [
+        ("settle", |network| network.settle(1_000)),
+        ("settle_within", |network| network.settle_within(1_000)),
+        ("settle_unless_empty", |network| network.settle_unless_empty(1_000)),
+    ];
     for (name, settle) in settles {
         let (refused, told) = each_refused(network, settle, |network, made, _| {
             let mut again = network.domains().iter().zip(&after.0);

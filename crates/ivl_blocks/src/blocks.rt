@@ -42,7 +42,7 @@ impl AnswersCommands for Blocks {
 
     ghost command_allowed = { AnswersCommand };
 
-    fn command_may_take_long(&self, _: &str) -> bool {
+    fn command_may_take_long(&self, _: &[u8]) -> bool {
         false
     }
 

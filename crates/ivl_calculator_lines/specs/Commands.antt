@@ -41,16 +41,16 @@ of_pairs (r ∷ words) = option_and_then (λ x. option_map (λ list. make x (pai
 of_pairs [] = None
 
 -- `r a`
-abbrev pub of_one : (ℕ → Making) → List (List ℕ) → Option Action
-of_one making words = option_map (λ f. make f.0 (making f.1)) (two_registers_of words)
+abbrev pub made_of_one : (ℕ → Making) → List (List ℕ) → Option Action
+made_of_one making words = option_map (λ f. make f.0 (making f.1)) (two_registers_of words)
 
 -- `r a b`
-abbrev pub of_two_registers : (ℕ → ℕ → Making) → List (List ℕ) → Option Action
-of_two_registers making words = option_map (λ f. make f.0 (making f.1 f.2)) (three_registers_of words)
+abbrev pub made_of_two : (ℕ → ℕ → Making) → List (List ℕ) → Option Action
+made_of_two making words = option_map (λ f. make f.0 (making f.1 f.2)) (three_registers_of words)
 
 -- `r a v`
-abbrev pub of_one_and_number : (ℕ → ℤ → Making) → List (List ℕ) → Option Action
-of_one_and_number making words = option_map (λ f. make f.0 (making f.1 f.2)) (two_registers_and_number_of words)
+abbrev pub made_of_one_and_number : (ℕ → ℤ → Making) → List (List ℕ) → Option Action
+made_of_one_and_number making words = option_map (λ f. make f.0 (making f.1 f.2)) (two_registers_and_number_of words)
 
 -- `a`
 abbrev pub about_one : (ℕ → Question) → List (List ℕ) → Option Action
@@ -66,21 +66,21 @@ about_one_and_number question words = option_map (λ f. ask (question f.0 f.1)) 
 
 abbrev pub commands : List (List ℕ × (List (List ℕ) → Option Action))
 commands =
-    (codes "union", of_two_registers union)
-    ∷ (codes "inter", of_two_registers intersection)
-    ∷ (codes "diff", of_two_registers difference)
-    ∷ (codes "sym", of_two_registers symmetric)
-    ∷ (codes "comp", of_one complement)
-    ∷ (codes "left", of_one_and_number at_least)
-    ∷ (codes "right", of_one_and_number at_most)
-    ∷ (codes "sleft", of_one_and_number above)
-    ∷ (codes "sright", of_one_and_number below)
-    ∷ (codes "plus", of_two_registers plus)
-    ∷ (codes "minus", of_two_registers minus)
-    ∷ (codes "times", of_two_registers times)
-    ∷ (codes "plusv", of_one_and_number plus_value)
-    ∷ (codes "minusv", of_one_and_number minus_value)
-    ∷ (codes "timesv", of_one_and_number times_value)
+    (codes "union", made_of_two union)
+    ∷ (codes "inter", made_of_two intersection)
+    ∷ (codes "diff", made_of_two difference)
+    ∷ (codes "sym", made_of_two symmetric)
+    ∷ (codes "comp", made_of_one complement)
+    ∷ (codes "left", made_of_one_and_number at_least)
+    ∷ (codes "right", made_of_one_and_number at_most)
+    ∷ (codes "sleft", made_of_one_and_number above)
+    ∷ (codes "sright", made_of_one_and_number below)
+    ∷ (codes "plus", made_of_two plus)
+    ∷ (codes "minus", made_of_two minus)
+    ∷ (codes "times", made_of_two times)
+    ∷ (codes "plusv", made_of_one_and_number plus_value)
+    ∷ (codes "minusv", made_of_one_and_number minus_value)
+    ∷ (codes "timesv", made_of_one_and_number times_value)
     ∷ (codes "has", about_one_and_number has)
     ∷ (codes "size", about_one size)
     ∷ (codes "count", about_one count)

@@ -42,8 +42,11 @@ impl AnswersCommands for Calendar {
 
     ghost command_allowed = { AnswersNamed };
 
-    fn command_may_take_long(&self, name: &str) -> bool {
-        name == "free" || name == "of"
+    fn command_may_take_long(&self, name: &[u8]) -> bool {
+        match name {
+            b"free" | b"of" => true,
+            _ => false,
+        }
     }
 
     fn answer_command<W: Write>(

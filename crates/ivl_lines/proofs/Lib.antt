@@ -1,4 +1,5 @@
 pub mod Pairs
+pub mod Returns
 pub mod Spaces
 pub mod Answered
 pub mod Cuts

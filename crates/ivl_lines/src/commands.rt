@@ -19,9 +19,10 @@ pub trait AnswersCommands {
     /// leave that state.
     ghost command_allowed: { Self → List ℕ → List (List ℕ) → List ℕ → Self → Type 0 };
 
-    /// Returns whether the answer to this command may take long, so that what was answered before it
-    /// is flushed first. A line without a command has the empty name.
-    fn command_may_take_long(&self, name: &str) -> bool;
+    /// Returns whether the answer to the command of this name may take long, so that what was answered
+    /// before it is flushed first. A line without words has the empty name; one that is not UTF-8 has
+    /// its first word all the same.
+    fn command_may_take_long(&self, name: &[u8]) -> bool;
 
     /// Answers a command, given its name and the text after it.
     ///

@@ -1,9 +1,7 @@
-//! The text of a line.
-ghost use Rattle.std.specs.Prelude.{◌≡◌, [], IfNone, IfSome, IsUtf8};
+//! The text of a line, and its first word.
+ghost use Rattle.std.specs.Prelude.{◌≡◌, IfNone, IfSome, IsUtf8};
 ghost use Rattle.std.specs.Str.Lines.{strip_carriage_return};
 ghost use Rattle.ivl_lines.specs.Lines.{first_word_of};
-
-use crate::words::next_word;
 
 /// Returns the text of a line that is given without its newline, less one carriage return at its
 /// end. Returns `None` if the line is not UTF-8. Linear, does not allocate.
@@ -17,37 +15,32 @@ pub fn line_text(line: &[u8]) -> Option<&str>
     ensures utf8 { IfSome result (λ text. IsUtf8 line.now) }
     ensures none { IfNone result (¬ (IsUtf8 line.now)) }
 {
-    match str::from_utf8(line) {
-        Ok(text) => Some(without_return(text)),
+    match str::from_utf8(without_return(line)) {
+        Ok(text) => Some(text),
         Err(_) => None,
     }
 }
 
-/// Returns the first word of a line that is given without its newline, or the empty text if it has
-/// none or is not UTF-8. Linear, does not allocate.
+/// Returns the first word of a line that is given without its newline, or no bytes if it has none.
+/// Linear in the bytes up to the end of that word, and does not ask whether the line is UTF-8. Does
+/// not allocate.
 ///
 /// ```
-/// assert_eq!(rt; first_word(b"sum x y z"), "sum");
-/// assert_eq!(rt; first_word(b"\r"), "");
+/// assert_eq!(rt; first_word(b"  sum x y z"), b"sum".as_slice());
+/// assert_eq!(rt; first_word(b"\r"), b"".as_slice());
 /// ```
-pub fn first_word(line: &[u8]) -> &str
-    ensures word { IsUtf8 line.now → result.now ≡ first_word_of line.now }
-    ensures none { ¬ (IsUtf8 line.now) → result.now ≡ [] }
+pub fn first_word(line: &[u8]) -> &[u8]
+    ensures { result.now ≡ first_word_of line.now }
 {
-    let Some(text) = line_text(line) else {
-        return "";
-    };
-    match next_word(text) {
-        Some((word, _)) => word,
-        None => "",
-    }
+    let mut pieces = without_return(line).split(|byte| *byte == b' ');
+    pieces.find(|piece| !piece.is_empty()).unwrap_or(&[])
 }
 
-fn without_return(text: &str) -> &str
-    ensures { result.now ≡ strip_carriage_return text.entry.now }
+fn without_return(line: &[u8]) -> &[u8]
+    ensures { result.now ≡ strip_carriage_return line.now }
 {
-    match text.strip_suffix('\r') {
-        Some(front) => front,
-        None => text,
+    match line {
+        [front @ .., b'\r'] => front,
+        _ => line,
     }
 }

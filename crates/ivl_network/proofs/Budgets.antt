@@ -1,11 +1,12 @@
 -- What a budget of looks has made, narrowing by narrowing.
-use Rattle.std.proofs.Common.{◌≡◌, ◌∙◌, ℕ, ◌+◌, ◌-◌, ◌≤◌, refl, sym, subst, arith, List, [], ◌∷◌, ◌++◌, length}
-use Rattle.std.specs.Prelude.{ℤ}
+use Rattle.std.proofs.Common.{◌≡◌, ◌∙◌, ◌⊎◌, inl, inr, ℕ, ◌+◌, ◌-◌, ◌<◌, ◌≤◌, true, false, refl, sym, subst, arith, List, [], ◌∷◌, ◌++◌, length}
+use Rattle.std.specs.Prelude.{ℤ, Err, Ok, OnErr, Result}
+use Rattle.std.proofs.lemmas.Bool.{false≢true}
 use Rattle.std.proofs.lemmas.List.{length_push}
 use Rattle.ivl_laws.specs.Families.{set_at}
 use Rattle.ivl_rules.specs.declared.rules.Rule.{Rule}
 use Rattle.ivl_network.specs.Costs.{AreRulesCounted}
-use Rattle.ivl_network.specs.Network.{AreRuleNarrowings, RulesState, work_of_rules}
+use Rattle.ivl_network.specs.Network.{AreNarrowedTo, AreRuleNarrowings, RulesState, work_of_rules}
 use Rattle.ivl_network.proofs.Costs.{counted_more, counted_none}
 use Rattle.ivl_network.proofs.Narrowings.{more_narrowings, no_narrowings}
 
@@ -58,3 +59,33 @@ made_more whole budget left left' old mid new c cost h rules kept_count marked l
 -- a state that did not change since
 pub made_same : (whole : ℤ × ℤ) (budget left : ℕ) (old mid new : RulesState) → new ≡ mid → HasMade whole budget left old mid → HasMade whole budget left old new
 made_same whole budget left old mid new e h = subst (λ (s : RulesState). HasMade whole budget left old s) (sym e) h
+
+-- ---- why narrowing stopped: no rule is left, the budget is used up, or what else it stops at
+
+pub spent_or : {E : Type 0} (unsettled count budget : ℕ) → (unsettled ≡ 0) ⊎ ((count ≡ budget) ⊎ E) → (unsettled ≡ 0 → ⊥) → (count ≡ budget) ⊎ E
+spent_or unsettled count budget (inl none) some = absurd (some none)
+spent_or unsettled count budget (inr stop) some = stop
+
+pub fewer_or : {E : Type 0} (count budget new old : ℕ) → count + new ≤ old → (count ≡ budget) ⊎ E → (budget + new ≤ old) ⊎ E
+fewer_or count budget new old less (inl e) = inl (omega (arith, less, e))
+fewer_or count budget new old less (inr stop) = inr stop
+
+pub settled_or : {E : Type 0} (rest unsettled count budget old : ℕ) → (unsettled ≡ 0) ⊎ ((count ≡ budget) ⊎ E) → count + (rest + unsettled) ≤ old → old ≤ budget → (unsettled ≡ 0) ⊎ E
+settled_or rest unsettled count budget old (inl none) less enough = inl none
+settled_or rest unsettled count budget old (inr (inl e)) less enough = inl (omega (arith, less, enough, e))
+settled_or rest unsettled count budget old (inr (inr stop)) less enough = inr stop
+
+-- where it stops at nothing else, and where it does
+pub without : {P E : Type 0} → P ⊎ ((false ≡ true) × E) → P
+without (inl p) = p
+without (inr stop) = absurd (false≢true stop.0)
+
+pub with_stop : {P E : Type 0} → P ⊎ ((true ≡ true) × E) → P ⊎ E
+with_stop (inl p) = inl p
+with_stop (inr stop) = inr stop.1
+
+-- what was made before an error
+pub made_before : {T E : Type 0} (result : Result T E) (whole : ℤ × ℤ) (budget : ℕ) (old new : RulesState) → ((count : ℕ) × AreNarrowedTo whole old count new × (count < budget))
+    → OnErr result ((count : ℕ) × (count < budget) × AreRuleNarrowings old.rules count (set_at old.domains) (set_at new.domains))
+made_before (Ok value) whole budget old new h = tt
+made_before (Err error) whole budget old new h = (h.0, h.2, h.1.narrowings)

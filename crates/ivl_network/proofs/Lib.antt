@@ -7,6 +7,7 @@ pub mod Indexes
 pub mod Kept
 pub mod Logging
 pub mod Losses
+pub mod Marks
 pub mod Narrowings
 pub mod Points
 pub mod Queues

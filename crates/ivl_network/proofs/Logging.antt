@@ -5,7 +5,8 @@ use Rattle.std.proofs.lemmas.List.{take-map}
 use Rattle.ivl_network.specs.declared.network.change.Change.{Change}
 use Rattle.ivl_rules.specs.declared.rules.Rule.{Rule}
 use Rattle.ivl_network.specs.Network.{RulesState}
-use Rattle.ivl_network.specs.Trail.{RulesPast, revert_rule, rules_past_at, with_rule_change, ArePresentIn, IsSoundRuleTrail}
+use Rattle.ivl_network.specs.Trail.{RulesPast, revert_rule, rules_past_at, with_rule_change, ArePresentIn, AreSettledMarks, IsSoundRuleTrail}
+use Rattle.ivl_network.proofs.Marks.{marks_same}
 use Rattle.ivl_network.proofs.Trails.{SameAtMarks, marked_logged, marked_marked, marked_undone, sound_fewer, sound_logged, sound_marked, sound_undone}
 
 -- where no change is written down there is no mark, or nothing changed
@@ -28,6 +29,16 @@ pub logged_marks : {B O : Type 0} (marks : List ℕ) (trail trail0 trail' : List
 logged_marks marks trail trail0 trail' change now now' is_kept is_change s same e back unmarked unchanged =
     ap (λ t. map (rules_past_at t now') marks) (e ∙ ap (λ t. with_rule_change (is_kept && is_change) t change) same)
     ∙ marked_logged marks trail change now now' (is_kept && is_change) s back (not_both is_kept is_change _ _ unmarked unchanged)
+
+-- and what the flags of the marks say
+pub logged : {B O : Type 0} (flags : List Bool) (marks : List ℕ) (trail trail0 trail' : List (Change B O)) (change : Change B O) (now now' : RulesPast) (is_kept is_change : Bool)
+    → AreSettledMarks flags (map (rules_past_at trail now) marks) → IsSoundRuleTrail marks trail now → ArePresentIn now' → trail0 ≡ trail → trail' ≡ with_rule_change (is_kept && is_change) trail0 change
+    → revert_rule change now' ≡ now → (is_kept ≡ false → marks ≡ []) → (is_change ≡ false → SameAtMarks marks trail now now')
+    → IsSoundRuleTrail marks trail' now' × AreSettledMarks flags (map (rules_past_at trail' now') marks)
+logged flags marks trail trail0 trail' change now now' is_kept is_change f s p same e back unmarked unchanged = (
+  logged_trail marks trail trail0 trail' change now now' is_kept is_change s p same e back unmarked unchanged,
+  marks_same flags _ _ f (logged_marks marks trail trail0 trail' change now now' is_kept is_change s same e back unmarked unchanged),
+)
 
 -- ---- a mark
 

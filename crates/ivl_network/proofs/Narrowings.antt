@@ -1,5 +1,5 @@
 -- What the narrowings of a network leave, one after the other.
-use Rattle.std.proofs.Common.{◌≡◌, ◌↔◌, ℕ, ◌+◌, ◌<◌, refl, sym, subst, arith, List, [], ◌∷◌, ◌++◌, length, length-append, get_or, Bool, true, false}
+use Rattle.std.proofs.Common.{◌≡◌, ◌↔◌, ℕ, ◌+◌, ◌<◌, ◌≤◌, refl, sym, subst, arith, List, [], ◌∷◌, ◌++◌, length, length-append, get_or, Bool, true, false}
 use Rattle.std.specs.Prelude.{ℤ, All, Contains, Result, Ok, Err, OnOk, OnErr}
 use Rattle.std.proofs.Math.ListN.{get_or-append}
 use Rattle.std.proofs.lemmas.List.{get_or_default, length_push}
@@ -12,7 +12,7 @@ use Rattle.ivl_rules.specs.declared.rules.Rule.{Rule}
 use Rattle.ivl_rules.specs.Rules.{AreDifferent, NarrowedBy, SupportsAll}
 use Rattle.ivl_rules.proofs.Narrowings.{HasPointAt-mono, NarrowedBy-mono, narrowing_keeps}
 use Rattle.ivl_network.specs.Families.{AllSupport, ArePresent, IsCommonPoint, IsFixedBy, IsGreatestUnder, KeepsUnder}
-use Rattle.ivl_network.specs.Network.{AreRuleNarrowings, IsSoundRules}
+use Rattle.ivl_network.specs.Network.{AreRuleNarrowings, AreNarrowedTo, IsSoundRules, RulesState, work_of_rules}
 use Rattle.ivl_network.specs.Rounds.{narrowed_by_rules}
 use Rattle.ivl_network.specs.Settled.{AreSettledRules}
 use Rattle.ivl_network.proofs.Families.{fixed_greatest, named_present}
@@ -64,6 +64,18 @@ more_narrowings rules m n before mid after f g = record {
         (λ h. all.1 (narrowed-mono g.by mid (narrowed_by_rules f.by before) (λ j w u. (f.left j w).0 u) i v ((g.left i v).0 h))),
         (λ h. (g.left i v).1 (narrowed-mono g.by (narrowed_by_rules f.by before) mid (λ j w u. (f.left j w).1 u) i v (all.0 h))),
       ));
+}
+
+-- the same, and how many narrowings are left
+pub narrowed_none : (whole : ℤ × ℤ) (old : RulesState) → AreNarrowedTo whole old 0 old
+narrowed_none whole old = record { narrowings = no_narrowings old.rules (set_at old.domains); fewer = omega arith }
+
+pub narrowed_more : (whole : ℤ × ℤ) (count : ℕ) (old mid new : RulesState) → AreNarrowedTo whole old count mid → mid.rules ≡ old.rules
+    → AreRuleNarrowings mid.rules 1 (set_at mid.domains) (set_at new.domains) → 1 + work_of_rules whole new ≤ work_of_rules whole mid → AreNarrowedTo whole old (count + 1) new
+narrowed_more whole count old mid new h same one less = record {
+  narrowings = more_narrowings old.rules count 1 (set_at old.domains) (set_at mid.domains) (set_at new.domains) h.narrowings
+      (subst (λ cs. AreRuleNarrowings cs 1 (set_at mid.domains) (set_at new.domains)) same one);
+  fewer = (let a = h.fewer in omega (arith, a, less));
 }
 
 -- narrowing adds no member

@@ -5,7 +5,8 @@
 --     IsRuleRequired rule old new      the rule is among the new ones, at the end, or where it was if it was among the old ones
 --     IsCutAt i S before after      variable i keeps its members that are in S, and the others keep all
 --     AreRuleNarrowings rules count before after      so many narrowings, each by one of the rules, leave these members
-use Rattle.std.specs.Prelude.{◌≡◌, ◌↔◌, ◌⊎◌, ◌++◌, ◌∷◌, [], ◌+◌, ◌*◌, ℕ, ℤ, Bool, List, All, Contains, length}
+--     AreNarrowedTo whole before count after      so, and so many fewer are left of them
+use Rattle.std.specs.Prelude.{◌≡◌, ◌↔◌, ◌≤◌, ◌⊎◌, ◌++◌, ◌∷◌, [], ◌+◌, ◌*◌, ℕ, ℤ, Bool, List, All, Contains, length}
 use Rattle.ivl_laws.specs.Families.{set_at}
 use Rattle.ivl_store.specs.Measure.{total}
 use Rattle.ivl_rules.specs.declared.rules.Rule.{Rule}
@@ -40,3 +41,7 @@ pub record AreRuleNarrowings (rules : List Rule) (count : ℕ) (before after : �
   pub as_many : length by ≡ count
   pub each : All (Contains rules) by
   pub left : IsLeftByRules by before after
+
+pub record AreNarrowedTo (whole : ℤ × ℤ) (before : RulesState) (count : ℕ) (after : RulesState) : Type 0 where
+  pub narrowings : AreRuleNarrowings before.rules count (set_at before.domains) (set_at after.domains)
+  pub fewer : count + work_of_rules whole after ≤ work_of_rules whole before

@@ -15,11 +15,11 @@
 //! assert_eq!(rt; network.settle(100)?, Settled::All);
 //! assert!(rt; network.has_empty());
 //! ```
-ghost use Rattle.std.specs.Prelude.{Contains, HoldsAt, take, ◌≡◌, ◌↔◌, ◌<◌, ◌≤◌, ◌++◌, ◌+◌, ◌∷◌, [], ℕ, ℤ, List, All, Any, Err, IfErr, IfOk, IsTrue, MatchOption, OnErr, OnOk, Some, false, length, true};
+ghost use Rattle.std.specs.Prelude.{Contains, HoldsAt, take, ◌≡◌, ◌↔◌, ◌⊎◌, ◌<◌, ◌≤◌, ◌++◌, ◌+◌, ◌∷◌, [], ℕ, ℤ, List, All, Any, Err, IfErr, IfOk, IsTrue, MatchOption, OnErr, OnOk, Some, false, length, true};
 ghost use Rattle.ivl_laws.specs.Families.{set_at};
 ghost use Rattle.ivl_laws.specs.Runs.{Covers, IsRunListIn};
 ghost use Rattle.ivl_store.specs.Narrowing.{first_unknown};
-ghost use Rattle.ivl_network.specs.Network.{AreRuleNarrowings, IsCutAt, IsRuleRequired, work_of_rules};
+ghost use Rattle.ivl_network.specs.Network.{AreNarrowedTo, AreRuleNarrowings, IsCutAt, IsRuleRequired, work_of_rules};
 ghost use Rattle.ivl_store.specs.Posts.{HasEmpty};
 ghost use Rattle.ivl_rules.specs.declared.rules.Rule.{Rule};
 ghost use Rattle.ivl_rules.specs.Rules.{AreDifferent, places as places_of};
@@ -86,6 +86,8 @@ pub struct Network<B: Width> {
     places: Vec<usize>,
     // The places of the trail at which there is a mark.
     marks: Vec<usize>,
+    // For each mark, whether all rules were settled at it.
+    settled_at_marks: Vec<bool>,
 }
 
 impl<B: Width> Model for Network<B> {
@@ -93,13 +95,13 @@ impl<B: Width> Model for Network<B> {
     ghost use Rattle.ivl_network.specs.Queue.{unsettled_count};
     ghost use Rattle.ivl_network.specs.Network.{IsSoundRules, RulesState};
     ghost use Rattle.ivl_network.specs.Queue.{IsRuleIndex, IsRuleQueue};
-    ghost use Rattle.ivl_network.specs.Trail.{IsSoundRuleTrail, rules_past_at};
+    ghost use Rattle.ivl_network.specs.Trail.{AreSettledMarks, IsSoundRuleTrail, rules_past_at};
 
     ghost Value = { RulesState };
 
     ghost view = { λ n. record { domains = n.store; rules = n.rules.items; unsettled = unsettled_count n.queue.settled.items; marked = map (rules_past_at n.trail.items (record { domains = n.store; rules = n.rules.items })) n.marks.items } };
 
-    ghost invariant = { λ n. IsSoundRules n.store n.rules.items n.queue.settled.items × IsSoundRuleTrail n.marks.items n.trail.items (record { domains = n.store; rules = n.rules.items }) × IsRuleIndex (length n.store) n.rules.items n.index × IsRuleQueue n.queue };
+    ghost invariant = { λ n. IsSoundRules n.store n.rules.items n.queue.settled.items × IsSoundRuleTrail n.marks.items n.trail.items (record { domains = n.store; rules = n.rules.items }) × IsRuleIndex (length n.store) n.rules.items n.index × IsRuleQueue n.queue × AreSettledMarks n.settled_at_marks.items (map (rules_past_at n.trail.items (record { domains = n.store; rules = n.rules.items })) n.marks.items) };
 }
 
 impl<B: Width> Network<B> {
@@ -120,6 +122,7 @@ impl<B: Width> Network<B> {
             trail: Vec::new(alloc),
             places: Vec::new(alloc),
             marks: Vec::new(alloc),
+            settled_at_marks: Vec::new(alloc),
         }
     }
 
@@ -326,12 +329,76 @@ impl<B: Width> Network<B> {
         ensures exactly { IfOk result (λ s. s ≡ Settled.All ↔ self.new.unsettled ≡ 0) }
         ensures enough { IfOk result (λ s. work_of_rules B.whole self.old ≤ budget → s ≡ Settled.All) }
     {
+        self.narrow_up_to(budget, false)?;
+        Ok(self.reached())
+    }
+
+    /// Narrows the domains as [`Network::settle`] does, but no further once one of them is empty: no point
+    /// solves the rules then. [`Settled::Unfinished`] says that the budget is used up or that a domain is
+    /// empty; check with [`Network::has_empty`]. If a domain is empty before the call, nothing changes.
+    ///
+    /// # Errors
+    ///
+    /// Those of [`Network::settle`].
+    ///
+    /// ```
+    /// // x + 1 <= y leaves x = 0 and y = 1, and y + 1 <= x leaves none of them
+    /// let mut network: Network<i32> = Network::new(alloc);
+    /// let x = network.add_variable(IntervalSet::new(alloc, 0, 1)?)?;
+    /// let y = network.add_variable(IntervalSet::new(alloc, 0, 1)?)?;
+    /// network.require(Rule::AtMost { x, y, by: 1 })?;
+    /// network.require(Rule::AtMost { x: y, y: x, by: 1 })?;
+    /// assert_eq!(rt; network.settle_unless_empty(100)?, Settled::Unfinished);
+    /// assert!(rt; network.has_empty());
+    /// ```
+    pub fn settle_unless_empty(&mut self, budget: u64) -> Result<Settled, StoreFault>
+        ensures memory { IfErr result (λ fault. fault ≡ StoreFault.Memory) }
+        ensures rules { self.new.rules ≡ self.old.rules }
+        ensures marked { self.new.marked ≡ self.old.marked }
+        ensures kept_count { length self.new.domains ≡ length self.old.domains }
+
+        // Domains only lose members, and no supported family and no common solution loses one.
+        ensures keeps { KeepsUnder self.old.rules self.old.domains self.new.domains }
+        ensures solutions { (point : ℕ → ℤ) → IsCommonPoint self.old.rules (set_at self.old.domains) point → IsCommonPoint self.old.rules (set_at self.new.domains) point }
+
+        // All: the domains are the greatest supported family, and no rule is left to look at.
+        ensures greatest { IfOk result (λ s. s ≡ Settled.All → IsGreatestUnder self.old.rules (set_at self.old.domains) (set_at self.new.domains)) }
+        ensures exactly { IfOk result (λ s. s ≡ Settled.All ↔ self.new.unsettled ≡ 0) }
+
+        // So many narrowings were made: all of the budget if some rule is left and no domain is empty, and none if one was.
+        ensures made { IfOk result (λ s. (count : ℕ) × (count ≤ budget) × (s ≡ Settled.Unfinished → (count ≡ budget) ⊎ Any (λ L. L ≡ []) self.new.domains)
+            × AreRuleNarrowings self.old.rules count (set_at self.old.domains) (set_at self.new.domains)) }
+        ensures made_before { OnErr result ((count : ℕ) × (count < budget) × AreRuleNarrowings self.old.rules count (set_at self.old.domains) (set_at self.new.domains)) }
+        ensures stops { Any (λ L. L ≡ []) self.old.domains → self.new ≡ self.old }
+
+        // No narrowing is made in vain: so many fewer are left.
+        ensures fewer { IfOk result (λ s. s ≡ Settled.Unfinished → (budget + work_of_rules B.whole self.new ≤ work_of_rules B.whole self.old) ⊎ Any (λ L. L ≡ []) self.new.domains) }
+        ensures enough { IfOk result (λ s. work_of_rules B.whole self.old ≤ budget → (s ≡ Settled.All) ⊎ Any (λ L. L ≡ []) self.new.domains) }
+    {
+        self.narrow_up_to(budget, true)?;
+        Ok(self.reached())
+    }
+
+    /// Narrows by rules that are not settled until there is none, or so many narrowings are made, or if
+    /// it is to stop there, until a domain is empty.
+    fn narrow_up_to(&mut self, budget: u64, stops_at_empty: bool) -> Result<(), AllocError>
+        ensures rules { self.new.rules ≡ self.old.rules }
+        ensures marked { self.new.marked ≡ self.old.marked }
+        ensures kept_count { length self.new.domains ≡ length self.old.domains }
+        ensures made { OnOk result ((count : ℕ) × AreNarrowedTo B.whole self.old count self.new × (count ≤ budget)
+            × ((self.new.unsettled ≡ 0) ⊎ ((count ≡ budget) ⊎ ((stops_at_empty ≡ true) × Any (λ L. L ≡ []) self.new.domains)))) }
+        ensures made_before { OnErr result ((count : ℕ) × AreNarrowedTo B.whole self.old count self.new × (count < budget)) }
+        ensures stops { stops_at_empty ≡ true → Any (λ L. L ≡ []) self.old.domains → self.new ≡ self.old }
+    {
         for _ in 0..budget {
+            if stops_at_empty && self.has_empty() {
+                return Ok(());
+            }
             if !self.narrow_next()? {
-                return Ok(Settled::All);
+                return Ok(());
             }
         }
-        Ok(self.reached())
+        Ok(())
     }
 
     /// Narrows the domains as [`Network::settle`] does, by narrowings that count for what they look at:
@@ -475,7 +542,9 @@ impl<B: Width> Network<B> {
         ensures err { OnErr result (self.new ≡ self.old) }
     {
         let mark = self.marks.len();
+        self.settled_at_marks.reserve(1)?;
         self.marks.push(self.trail.len())?;
+        self.settled_at_marks.push_reserved(self.queue.is_empty());
         Ok(mark)
     }
 
@@ -483,9 +552,26 @@ impl<B: Width> Network<B> {
     /// the mark. This mark and later ones are gone. Returns false, and changes nothing, if there is
     /// no such mark.
     ///
-    /// Linear in the changes, and for each domain that is put back a pass over the rules that
-    /// name its variable, which have to be looked at again. A rule that is dropped before it was
-    /// looked at costs a pass over those that wait. Does not allocate.
+    /// If no rule was left to look at when the network was marked, none is afterwards, and the next
+    /// [`Network::settle`] looks only at what changes then. Otherwise the rules that name a variable whose
+    /// domain is put back have to be looked at again.
+    ///
+    /// Linear in the changes, and for each domain that is put back a pass over the rules that name its
+    /// variable. A rule that is dropped before it was looked at costs a pass over those that wait. Does not
+    /// allocate.
+    ///
+    /// ```
+    /// let mut network: Network<i32> = Network::new(alloc);
+    /// let x = network.add_variable(IntervalSet::new(alloc, 0, 9)?)?;
+    /// let y = network.add_variable(IntervalSet::new(alloc, 0, 9)?)?;
+    /// network.require(Rule::AtMost { x, y, by: 0 })?;
+    /// network.settle(10)?;
+    /// let mark = network.mark()?;
+    /// network.restrict(x, &IntervalSet::new(alloc, 5, 9)?)?;
+    /// network.settle(10)?;
+    /// network.undo_to(mark);
+    /// assert_eq!(rt; network.settle(0)?, Settled::All);
+    /// ```
     pub fn undo_to(&mut self, mark: usize) -> bool
         ensures told { IsTrue result ↔ (mark < length self.old.marked) }
         ensures none { result ≡ false → self.new ≡ self.old }
@@ -504,7 +590,10 @@ impl<B: Width> Network<B> {
             &mut self.index,
             &mut self.queue,
         );
+        let were_settled = self.settled_at_marks[mark];
+        self.queue.settle_all(were_settled);
         self.marks.truncate(mark);
+        self.settled_at_marks.truncate(mark);
         self.places.truncate(self.store.domains().len());
         true
     }
@@ -523,6 +612,7 @@ impl<B: Width> Network<B> {
         ensures { self.new ≡ record { domains = self.old.domains; rules = self.old.rules; unsettled = self.old.unsettled; marked = take mark self.old.marked } }
     {
         self.marks.truncate(mark);
+        self.settled_at_marks.truncate(mark);
         clear_unmarked(&self.marks, &mut self.trail);
     }
 }

@@ -41,7 +41,7 @@ impl AnswersCommands for Ports {
 
     ghost command_allowed = { AnswersCommand };
 
-    fn command_may_take_long(&self, _: &str) -> bool {
+    fn command_may_take_long(&self, _: &[u8]) -> bool {
         false
     }
 

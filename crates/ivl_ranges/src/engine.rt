@@ -18,9 +18,9 @@ impl AnswersCommands for Access {
 
     ghost command_allowed = { AnswersCommand };
 
-    fn command_may_take_long(&self, name: &str) -> bool {
+    fn command_may_take_long(&self, name: &[u8]) -> bool {
         match name {
-            "i" | "k" | "check" => true,
+            b"i" | b"k" | b"check" => true,
             _ => false,
         }
     }

@@ -15,10 +15,10 @@ use crate::progress::Progress;
 use crate::replies::{
     write_best, write_count, write_fault, write_shown, write_solutions, write_state, write_variable,
 };
-use crate::request::{Request, begins_rule, request_from};
+use crate::request::{Request, request_from};
 use crate::solve::Extreme;
 use crate::solver::Solver;
-use ivl_lines::{Answers, SessionFault, line_text, next_word, serve};
+use ivl_lines::{Answers, SessionFault, first_word, line_text, next_word, serve};
 use std::alloc::Global;
 use std::collections::hash_map::RandomState;
 use std::io;
@@ -33,9 +33,11 @@ impl Answers for Solver {
     ghost lost = { no_memory };
 
     fn may_take_long(&self, line: &[u8]) -> bool {
-        match line_text(line) {
-            Some(text) => is_long(text),
-            None => false,
+        match first_word(line) {
+            b"" => false,
+            // a rule, whose variable may be named so, has an operator, and each ends in this
+            b"var" | b"limit" | b"show" => line.iter().any(|byte| *byte == b'='),
+            _ => true,
         }
     }
 
@@ -85,17 +87,6 @@ pub fn session<R: Read, W: Write>(
     ensures memory { IsErrOf result SessionFault.Memory → (reader.new ≡ reader.old) × (writer.new ≡ writer.old) }
 {
     serve(alloc, &mut Solver::new(alloc, keys), reader, writer)
-}
-
-// Whether a line narrows domains or searches, or may do so.
-fn is_long(text: &str) -> bool {
-    match next_word(text) {
-        Some((name, words)) => match name {
-            "var" | "limit" | "show" => begins_rule(words),
-            _ => true,
-        },
-        None => false,
-    }
 }
 
 // Answers one line. A line without words has no answer.

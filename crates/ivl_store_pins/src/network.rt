@@ -84,6 +84,21 @@ pub fn is_settled_by<B: Width>(network: &mut Network<B>, budget: u64) -> Result<
     Ok(settled == Settled::All)
 }
 
+/// Narrows within a budget of narrowings, and returns whether all is narrowed or a domain is empty, which
+/// is so where the budget covers the work. If neither is so, as many narrowings fewer are left.
+pub fn is_settled_or_emptied_by<B: Width>(
+    network: &mut Network<B>,
+    budget: u64,
+) -> Result<bool, StoreFault>
+    ensures solutions { (point : ℕ → ℤ) → IsCommonPoint network.old.rules (set_at network.old.domains) point → IsCommonPoint network.old.rules (set_at network.new.domains) point }
+    ensures enough { IfOk result (λ b. work_of_rules B.whole network.old ≤ budget → IsTrue b) }
+    ensures fewer { IfOk result (λ b. ¬ (IsTrue b) → budget + work_of_rules B.whole network.new ≤ work_of_rules B.whole network.old) }
+    ensures stops { Any (λ L. L ≡ []) network.old.domains → network.new ≡ network.old }
+{
+    let settled = network.settle_unless_empty(budget)?;
+    Ok(settled == Settled::All || network.has_empty())
+}
+
 /// Narrows within a budget that counts what narrowings look at, and returns whether all is narrowed;
 /// if not, some rule's next narrowing counts for more than is left.
 pub fn is_settled_within<B: Width>(

@@ -138,6 +138,22 @@ impl Queue {
         self.settle_first(i);
     }
 
+    /// Settles all rules, so that none waits, if narrowing by each would change nothing.
+    pub(super) fn settle_all(&mut self, are_settled: bool)
+        requires { IsRuleQueue self.old }
+        ensures queue { IsRuleQueue self.new }
+        ensures count { length self.new.settled.items ≡ length self.old.settled.items }
+        ensures same { are_settled ≡ false → self.new.settled.items ≡ self.old.settled.items }
+        ensures none { are_settled ≡ true → unsettled_count self.new.settled.items ≡ 0 }
+    {
+        if !are_settled {
+            return;
+        }
+        while let Some(k) = self.first() {
+            self.settle_first(k);
+        }
+    }
+
     /// Settles the first rule, which leaves the queue.
     fn settle_first(&mut self, k: usize)
         requires queue { IsRuleQueue self.old }

@@ -33,11 +33,12 @@ fn text_of_a_line(rt: HostRuntime) {
     );
     assert_eq!(rt;
         [
-            first_word(b"sum x y z"),
-            first_word(b"\r"),
+            first_word(b"  sum x y z"),
+            first_word(b"sum\r"),
+            first_word(b" \r"),
             first_word(b"sum \xff")
         ],
-        ["sum", "", ""]
+        [b"sum".as_slice(), b"sum", b"", b"sum"]
     );
 }
 

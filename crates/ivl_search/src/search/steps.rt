@@ -38,7 +38,7 @@ pub(super) fn advance<B: Width>(
 {
     // for the prover: no more rules are unsettled than there are, before and after
     network.rules();
-    let settled = network.settle(NARROWINGS_PER_NODE);
+    let settled = network.settle_unless_empty(NARROWINGS_PER_NODE);
     network.rules();
     let domains = network.domains();
     match settled {

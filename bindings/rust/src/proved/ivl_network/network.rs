@@ -83,6 +83,8 @@ pub struct Network<B: Width> {
     places: Vec<usize>,
     // The places of the trail at which there is a mark.
     marks: Vec<usize>,
+    // For each mark, whether all rules were settled at it.
+    settled_at_marks: Vec<bool>,
 }
 
 impl<B: Width> Network<B> {
@@ -113,6 +115,7 @@ impl<B: Width> Network<B> {
             trail: Vec::new(alloc),
             places: Vec::new(alloc),
             marks: Vec::new(alloc),
+            settled_at_marks: Vec::new(alloc),
         }
     }
 
@@ -369,12 +372,73 @@ impl<B: Width> Network<B> {
     ///
     /// Words: [`KeepsUnder`](crate::definitions#KeepsUnder), [`IsCommonPoint`](crate::definitions#IsCommonPoint), [`set_at`](crate::definitions#set_at), [`IsGreatestUnder`](crate::definitions#IsGreatestUnder), [`AreRuleNarrowings`](crate::definitions#AreRuleNarrowings), [`work_of_rules`](crate::definitions#work_of_rules).
     pub fn settle(&mut self, budget: u64) -> Result<Settled, StoreFault> {
+        self.narrow_up_to(budget, false)?;
+        Ok(self.reached())
+    }
+
+    /// Narrows the domains as [`Network::settle`] does, but no further once one of them is empty: no point
+    /// solves the rules then. [`Settled::Unfinished`] says that the budget is used up or that a domain is
+    /// empty; check with [`Network::has_empty`]. If a domain is empty before the call, nothing changes.
+    ///
+    /// # Errors
+    ///
+    /// Those of [`Network::settle`].
+    ///
+    /// ```
+    /// use intervallum::proved::ivl_network::network::{Network, Settled};
+    /// use intervallum::proved::examples::*;
+    ///
+    /// fn main() -> Result<(), std::boxed::Box<dyn std::error::Error>> {
+    ///     let alloc = Global;
+    ///     // x + 1 <= y leaves x = 0 and y = 1, and y + 1 <= x leaves none of them
+    ///     let mut network: Network<i32> = Network::new(alloc);
+    ///     let x = network.add_variable(IntervalSet::new(alloc, 0, 1)?)?;
+    ///     let y = network.add_variable(IntervalSet::new(alloc, 0, 1)?)?;
+    ///     network.require(Rule::AtMost { x, y, by: 1 })?;
+    ///     network.require(Rule::AtMost { x: y, y: x, by: 1 })?;
+    ///     assert_eq!(network.settle_unless_empty(100)?, Settled::Unfinished);
+    ///     assert!(network.has_empty());
+    ///     Ok(())
+    /// }
+    /// ```
+    ///
+    /// # Proved
+    ///
+    /// ```text
+    /// ensures memory { IfErr result (λ fault. fault ≡ StoreFault.Memory) }
+    /// ensures rules { self.new.rules ≡ self.old.rules }
+    /// ensures marked { self.new.marked ≡ self.old.marked }
+    /// ensures kept_count { length self.new.domains ≡ length self.old.domains }
+    /// ensures keeps { KeepsUnder self.old.rules self.old.domains self.new.domains }
+    /// ensures solutions { (point : ℕ → ℤ) → IsCommonPoint self.old.rules (set_at self.old.domains) point → IsCommonPoint self.old.rules (set_at self.new.domains) point }
+    /// ensures greatest { IfOk result (λ s. s ≡ Settled.All → IsGreatestUnder self.old.rules (set_at self.old.domains) (set_at self.new.domains)) }
+    /// ensures exactly { IfOk result (λ s. s ≡ Settled.All ↔ self.new.unsettled ≡ 0) }
+    /// ensures made { IfOk result (λ s. (count : ℕ) × (count ≤ budget) × (s ≡ Settled.Unfinished → (count ≡ budget) ⊎ Any (λ L. L ≡ []) self.new.domains)
+    ///     × AreRuleNarrowings self.old.rules count (set_at self.old.domains) (set_at self.new.domains)) }
+    /// ensures made_before { OnErr result ((count : ℕ) × (count < budget) × AreRuleNarrowings self.old.rules count (set_at self.old.domains) (set_at self.new.domains)) }
+    /// ensures stops { Any (λ L. L ≡ []) self.old.domains → self.new ≡ self.old }
+    /// ensures fewer { IfOk result (λ s. s ≡ Settled.Unfinished → (budget + work_of_rules B.whole self.new ≤ work_of_rules B.whole self.old) ⊎ Any (λ L. L ≡ []) self.new.domains) }
+    /// ensures enough { IfOk result (λ s. work_of_rules B.whole self.old ≤ budget → (s ≡ Settled.All) ⊎ Any (λ L. L ≡ []) self.new.domains) }
+    /// ```
+    ///
+    /// Words: [`KeepsUnder`](crate::definitions#KeepsUnder), [`IsCommonPoint`](crate::definitions#IsCommonPoint), [`set_at`](crate::definitions#set_at), [`IsGreatestUnder`](crate::definitions#IsGreatestUnder), [`AreRuleNarrowings`](crate::definitions#AreRuleNarrowings), [`work_of_rules`](crate::definitions#work_of_rules).
+    pub fn settle_unless_empty(&mut self, budget: u64) -> Result<Settled, StoreFault> {
+        self.narrow_up_to(budget, true)?;
+        Ok(self.reached())
+    }
+
+    /// Narrows by rules that are not settled until there is none, or so many narrowings are made, or if
+    /// it is to stop there, until a domain is empty.
+    fn narrow_up_to(&mut self, budget: u64, stops_at_empty: bool) -> Result<(), AllocError> {
         for _ in 0..budget {
+            if stops_at_empty && self.has_empty() {
+                return Ok(());
+            }
             if !self.narrow_next()? {
-                return Ok(Settled::All);
+                return Ok(());
             }
         }
-        Ok(self.reached())
+        Ok(())
     }
 
     /// Narrows the domains as [`Network::settle`] does, by narrowings that count for what they look at:
@@ -510,7 +574,9 @@ impl<B: Width> Network<B> {
     /// ```
     pub fn mark(&mut self) -> Result<usize, AllocError> {
         let mark = self.marks.len();
+        self.settled_at_marks.reserve(1)?;
         self.marks.push(self.trail.len())?;
+        self.settled_at_marks.push_reserved(self.queue.is_empty());
         Ok(mark)
     }
 
@@ -518,9 +584,33 @@ impl<B: Width> Network<B> {
     /// the mark. This mark and later ones are gone. Returns false, and changes nothing, if there is
     /// no such mark.
     ///
-    /// Linear in the changes, and for each domain that is put back a pass over the rules that
-    /// name its variable, which have to be looked at again. A rule that is dropped before it was
-    /// looked at costs a pass over those that wait. Does not allocate.
+    /// If no rule was left to look at when the network was marked, none is afterwards, and the next
+    /// [`Network::settle`] looks only at what changes then. Otherwise the rules that name a variable whose
+    /// domain is put back have to be looked at again.
+    ///
+    /// Linear in the changes, and for each domain that is put back a pass over the rules that name its
+    /// variable. A rule that is dropped before it was looked at costs a pass over those that wait. Does not
+    /// allocate.
+    ///
+    /// ```
+    /// use intervallum::proved::ivl_network::network::{Network, Settled};
+    /// use intervallum::proved::examples::*;
+    ///
+    /// fn main() -> Result<(), std::boxed::Box<dyn std::error::Error>> {
+    ///     let alloc = Global;
+    ///     let mut network: Network<i32> = Network::new(alloc);
+    ///     let x = network.add_variable(IntervalSet::new(alloc, 0, 9)?)?;
+    ///     let y = network.add_variable(IntervalSet::new(alloc, 0, 9)?)?;
+    ///     network.require(Rule::AtMost { x, y, by: 0 })?;
+    ///     network.settle(10)?;
+    ///     let mark = network.mark()?;
+    ///     network.restrict(x, &IntervalSet::new(alloc, 5, 9)?)?;
+    ///     network.settle(10)?;
+    ///     network.undo_to(mark);
+    ///     assert_eq!(network.settle(0)?, Settled::All);
+    ///     Ok(())
+    /// }
+    /// ```
     ///
     /// # Proved
     ///
@@ -543,7 +633,10 @@ impl<B: Width> Network<B> {
             &mut self.index,
             &mut self.queue,
         );
+        let were_settled = self.settled_at_marks[mark];
+        self.queue.settle_all(were_settled);
         self.marks.truncate(mark);
+        self.settled_at_marks.truncate(mark);
         self.places.truncate(self.store.domains().len());
         true
     }
@@ -572,6 +665,7 @@ impl<B: Width> Network<B> {
     /// ```
     pub fn drop_marks(&mut self, mark: usize) {
         self.marks.truncate(mark);
+        self.settled_at_marks.truncate(mark);
         clear_unmarked(&self.marks, &mut self.trail);
     }
 }

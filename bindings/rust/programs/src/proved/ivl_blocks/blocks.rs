@@ -24,7 +24,7 @@ pub struct Blocks {
 }
 
 impl AnswersCommands for Blocks {
-    fn command_may_take_long(&self, _: &str) -> bool {
+    fn command_may_take_long(&self, _: &[u8]) -> bool {
         false
     }
 

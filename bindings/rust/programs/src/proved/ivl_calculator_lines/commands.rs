@@ -44,50 +44,55 @@ fn command_by_name(name: &str, words: &str) -> Option<Command<i64>> {
         "minusv" => of_two_registers_and_number(words, Command::MinusValue),
         "timesv" => of_two_registers_and_number(words, Command::TimesValue),
         "has" => of_register_and_number(words, Command::Has),
-        "size" => register_alone(words).map(Command::Size),
-        "count" => register_alone(words).map(Command::Count),
-        "low" => register_alone(words).map(Command::Low),
-        "high" => register_alone(words).map(Command::High),
+        "size" => of_register(words, Command::Size),
+        "count" => of_register(words, Command::Count),
+        "low" => of_register(words, Command::Low),
+        "high" => of_register(words, Command::High),
         "same" => of_two_registers(words, Command::Same),
         "sub" => of_two_registers(words, Command::Sub),
         "meets" => of_two_registers(words, Command::Meets),
-        "show" => register_alone(words).map(Command::Show),
+        "show" => of_register(words, Command::Show),
         _ => None,
     }
 }
 
 // The command that `make` returns for the registers and the number in the words, or `None` if the
 // words are not exactly these.
+fn of_register<F: FnOnce(usize) -> Command<i64>>(words: &str, make: F) -> Option<Command<i64>> {
+    let a = one_word(words)?;
+    Some(make(register_from(a)?))
+}
+
 fn of_two_registers<F: FnOnce(usize, usize) -> Command<i64>>(
     words: &str,
     make: F,
 ) -> Option<Command<i64>> {
-    let (a, b) = two_registers(words)?;
-    Some(make(a, b))
+    let (a, b) = two_words(words)?;
+    Some(make(register_from(a)?, register_from(b)?))
 }
 
 fn of_three_registers<F: FnOnce(usize, usize, usize) -> Command<i64>>(
     words: &str,
     make: F,
 ) -> Option<Command<i64>> {
-    let (r, a, b) = three_registers(words)?;
-    Some(make(r, a, b))
+    let (r, a, b) = three_words(words)?;
+    Some(make(register_from(r)?, register_from(a)?, register_from(b)?))
 }
 
 fn of_register_and_number<F: FnOnce(usize, i64) -> Command<i64>>(
     words: &str,
     make: F,
 ) -> Option<Command<i64>> {
-    let (a, v) = register_and_number(words)?;
-    Some(make(a, v))
+    let (a, v) = two_words(words)?;
+    Some(make(register_from(a)?, number_from(v)?))
 }
 
 fn of_two_registers_and_number<F: FnOnce(usize, usize, i64) -> Command<i64>>(
     words: &str,
     make: F,
 ) -> Option<Command<i64>> {
-    let (r, a, v) = two_registers_and_number(words)?;
-    Some(make(r, a, v))
+    let (r, a, v) = three_words(words)?;
+    Some(make(register_from(r)?, register_from(a)?, number_from(v)?))
 }
 
 // `set r l u l u ..`
@@ -121,30 +126,6 @@ pub fn pairs_in_range(words: &str) -> Option<bool> {
 
 fn pair_in_range(lower: i64, upper: i64) -> bool {
     Interval::in_range(lower, upper)
-}
-
-fn register_alone(words: &str) -> Option<usize> {
-    register_from(one_word(words)?)
-}
-
-fn two_registers(words: &str) -> Option<(usize, usize)> {
-    let (a, b) = two_words(words)?;
-    Some((register_from(a)?, register_from(b)?))
-}
-
-fn three_registers(words: &str) -> Option<(usize, usize, usize)> {
-    let (r, a, b) = three_words(words)?;
-    Some((register_from(r)?, register_from(a)?, register_from(b)?))
-}
-
-fn register_and_number(words: &str) -> Option<(usize, i64)> {
-    let (a, v) = two_words(words)?;
-    Some((register_from(a)?, number_from(v)?))
-}
-
-fn two_registers_and_number(words: &str) -> Option<(usize, usize, i64)> {
-    let (r, a, v) = three_words(words)?;
-    Some((register_from(r)?, register_from(a)?, number_from(v)?))
 }
 
 /// The register that a word names, or `None` if it is not one letter from a to z.

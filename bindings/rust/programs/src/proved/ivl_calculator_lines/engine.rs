@@ -22,7 +22,7 @@ struct Registers {
 impl Answers for Registers {
     fn may_take_long(&self, line: &[u8]) -> bool {
         match first_word(line) {
-            "plus" | "minus" | "times" => true,
+            b"plus" | b"minus" | b"times" => true,
             _ => false,
         }
     }
@@ -76,7 +76,7 @@ fn answer_line<W: Write>(
     writer: &mut W,
 ) -> io::Result<()> {
     match read_line(alloc, line) {
-        Ok(read) => write_answer(calc, &read, writer),
+        Ok(read) => carry_out(calc, &read, writer),
         Err(unkept) => write_unkept(calc, unkept, writer),
     }
 }
@@ -94,7 +94,7 @@ fn write_unkept<W: Write>(calc: &Calc<i64>, unkept: Unkept, writer: &mut W) -> i
 }
 
 // Carries out what a line says, and writes the answer to it.
-fn write_answer<W: Write>(calc: &mut Calc<i64>, line: &Line, writer: &mut W) -> io::Result<()> {
+fn carry_out<W: Write>(calc: &mut Calc<i64>, line: &Line, writer: &mut W) -> io::Result<()> {
     match line {
         Line::Blank => Ok(()),
         Line::Bad => writer.write_all(b"bad line\n"),

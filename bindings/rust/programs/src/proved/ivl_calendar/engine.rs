@@ -32,8 +32,11 @@ const OTHER: &str = "error: write room, book, gap, free, who or of";
 const MEMORY: &str = "error: out of memory";
 
 impl AnswersCommands for Calendar {
-    fn command_may_take_long(&self, name: &str) -> bool {
-        name == "free" || name == "of"
+    fn command_may_take_long(&self, name: &[u8]) -> bool {
+        match name {
+            b"free" | b"of" => true,
+            _ => false,
+        }
     }
 
     fn answer_command<W: Write>(

@@ -13,9 +13,10 @@ use crate::rattle::std::io::Write;
 /// line without words has no answer, one that is not UTF-8 is answered `error: not UTF-8`, and one
 /// that is lost `error: out of memory`.
 pub trait AnswersCommands {
-    /// Returns whether the answer to this command may take long, so that what was answered before it
-    /// is flushed first. A line without a command has the empty name.
-    fn command_may_take_long(&self, name: &str) -> bool;
+    /// Returns whether the answer to the command of this name may take long, so that what was answered
+    /// before it is flushed first. A line without words has the empty name; one that is not UTF-8 has
+    /// its first word all the same.
+    fn command_may_take_long(&self, name: &[u8]) -> bool;
 
     /// Answers a command, given its name and the text after it.
     ///

@@ -1,9 +1,8 @@
 // Written by bindings/rust/extract from crates/ivl_lines/src/text.rt.
-//! The text of a line.
+//! The text of a line, and its first word.
 
 #[allow(unused_imports)]
 use crate::rattle::prelude::*;
-use crate::proved::ivl_lines::words::next_word;
 
 /// Returns the text of a line that is given without its newline, less one carriage return at its
 /// end. Returns `None` if the line is not UTF-8. Linear, does not allocate.
@@ -20,14 +19,15 @@ use crate::proved::ivl_lines::words::next_word;
 /// }
 /// ```
 pub fn line_text(line: &[u8]) -> Option<&str> {
-    match str::from_utf8(line) {
-        Ok(text) => Some(without_return(text)),
+    match str::from_utf8(without_return(line)) {
+        Ok(text) => Some(text),
         Err(_) => None,
     }
 }
 
-/// Returns the first word of a line that is given without its newline, or the empty text if it has
-/// none or is not UTF-8. Linear, does not allocate.
+/// Returns the first word of a line that is given without its newline, or no bytes if it has none.
+/// Linear in the bytes up to the end of that word, and does not ask whether the line is UTF-8. Does
+/// not allocate.
 ///
 /// ```
 /// use intervallum_programs::proved::examples::*;
@@ -35,24 +35,19 @@ pub fn line_text(line: &[u8]) -> Option<&str> {
 ///
 /// fn main() -> Result<(), std::boxed::Box<dyn std::error::Error>> {
 ///     let alloc = Global;
-///     assert_eq!(first_word(b"sum x y z"), "sum");
-///     assert_eq!(first_word(b"\r"), "");
+///     assert_eq!(first_word(b"  sum x y z"), b"sum".as_slice());
+///     assert_eq!(first_word(b"\r"), b"".as_slice());
 ///     Ok(())
 /// }
 /// ```
-pub fn first_word(line: &[u8]) -> &str {
-    let Some(text) = line_text(line) else {
-        return "";
-    };
-    match next_word(text) {
-        Some((word, _)) => word,
-        None => "",
-    }
+pub fn first_word(line: &[u8]) -> &[u8] {
+    let mut pieces = without_return(line).split(|byte| *byte == b' ');
+    pieces.find(|piece| !piece.is_empty()).unwrap_or(&[])
 }
 
-fn without_return(text: &str) -> &str {
-    match text.strip_suffix('\r') {
-        Some(front) => front,
-        None => text,
+fn without_return(line: &[u8]) -> &[u8] {
+    match line {
+        [front @ .., b'\r'] => front,
+        _ => line,
     }
 }

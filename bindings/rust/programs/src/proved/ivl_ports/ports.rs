@@ -22,7 +22,7 @@ pub struct Ports {
 }
 
 impl AnswersCommands for Ports {
-    fn command_may_take_long(&self, _: &str) -> bool {
+    fn command_may_take_long(&self, _: &[u8]) -> bool {
         false
     }
 

@@ -11,9 +11,9 @@ use crate::rattle::std::io;
 use crate::rattle::std::io::{Read, Write};
 
 impl AnswersCommands for Access {
-    fn command_may_take_long(&self, name: &str) -> bool {
+    fn command_may_take_long(&self, name: &[u8]) -> bool {
         match name {
-            "i" | "k" | "check" => true,
+            b"i" | b"k" | b"check" => true,
             _ => false,
         }
     }

@@ -20,7 +20,7 @@ use crate::rattle::std::io::{Read, Write};
 impl Answers for Solver {
     fn may_take_long(&self, line: &[u8]) -> bool {
         match first_word(line) {
-            "cut" | "sum" | "go" | "solve" | "count" | "min" | "max" => true,
+            b"cut" | b"sum" | b"go" | b"solve" | b"count" | b"min" | b"max" => true,
             _ => false,
         }
     }

@@ -35,11 +35,12 @@ fn text_of_a_line() { let rt = HostRuntime;
     );
     assert_eq!(rt;
         [
-            first_word(b"sum x y z"),
-            first_word(b"\r"),
+            first_word(b"  sum x y z"),
+            first_word(b"sum\r"),
+            first_word(b" \r"),
             first_word(b"sum \xff")
         ],
-        ["sum", "", ""]
+        [b"sum".as_slice(), b"sum", b"", b"sum"]
     );
 }
 

@@ -89,6 +89,16 @@ impl Queue {
         self.settle_first(i);
     }
 
+    /// Settles all rules, so that none waits, if narrowing by each would change nothing.
+    pub(super) fn settle_all(&mut self, are_settled: bool) {
+        if !are_settled {
+            return;
+        }
+        while let Some(k) = self.first() {
+            self.settle_first(k);
+        }
+    }
+
     /// Settles the first rule, which leaves the queue.
     fn settle_first(&mut self, k: usize) {
         let _ = self.round.pop();

@@ -13,7 +13,7 @@ use Rattle.ivl_network.specs.Settled.{AreSettledRules}
 use Rattle.ivl_network.proofs.Costs.{counted_one}
 use Rattle.ivl_network.proofs.Indexes.{index_of_count}
 use Rattle.ivl_network.proofs.Kept.{same_at_marks}
-use Rattle.ivl_network.proofs.Logging.{logged_marks, logged_trail, state_is}
+use Rattle.ivl_network.proofs.Logging.{logged, logged_marks, state_is}
 use Rattle.ivl_network.proofs.Narrowings.{all_fixed, one_narrowing, sound_moved}
 use Rattle.ivl_store.proofs.Totals.{total_falls}
 use Rattle.ivl_network.proofs.Work.{work_less}
@@ -51,15 +51,17 @@ invariant_of-self-2 g c =
     (λ d. subst (λ k. (j : ℕ) (v : ℤ) → set_at c.narrow_swapped.new.store j v ↔ NarrowedBy k (set_at inside.store) j v) (at d) c.in_ok-lost.ensures.narrowed)
     (λ d. subst (λ k. AreLost (places k) c.in_ok-lost.lost (set_at inside.store) (set_at c.narrow_swapped.new.store)) (at d) c.in_ok-lost.ensures.lost)
     (subst (λ (ms : List Bool). AreSettledRules cs ms (set_at inside.store)) (sym c.first.ensures.settled) c.self.invariant.0.settled))
-    c.self.invariant.0 in (
+    c.self.invariant.0 in
+    let l = logged inside.settled_at_marks.items inside.marks.items inside.trail.items c.reserve_change.new.trail.items c.log_cut.new.trail.items c.in_ok-lost.change _ _ _ c.is_unkept-is_new.result c.self.invariant.4 c.self.invariant.1 sound.present
+    c.reserve_change.ensures.same c.log_cut.ensures (c.in_ok-lost.ensures.back cs)
+    (λ f. sym c.deref.ensures.value ∙ c.is_logging-is_kept.ensures f)
+    (λ f. same_at_marks inside.marks.items _ inside.trail.items _ c.in_ok-lost.change _ _ c.any-lost.result c.self.invariant.1 (c.in_ok-lost.ensures.back cs)
+    (λ none. ap (λ (sets : List (List (ℤ × ℤ))). record { domains = sets; rules = cs }) (c.in_ok-lost.ensures.same (sym c.any-lost.ensures ∙ none))) c.deref-4.ensures.value (c.deref-3.ensures.value ∙ c.reserve_change.ensures.same) (c.is_unkept-is_new.ensures f)) in (
       sound,
-      logged_trail inside.marks.items inside.trail.items c.reserve_change.new.trail.items c.log_cut.new.trail.items c.in_ok-lost.change _ _ _ c.is_unkept-is_new.result c.self.invariant.1 sound.present
-          c.reserve_change.ensures.same c.log_cut.ensures (c.in_ok-lost.ensures.back cs)
-          (λ f. sym c.deref.ensures.value ∙ c.is_logging-is_kept.ensures f)
-          (λ f. same_at_marks inside.marks.items _ inside.trail.items _ c.in_ok-lost.change _ _ c.any-lost.result c.self.invariant.1 (c.in_ok-lost.ensures.back cs)
-          (λ none. ap (λ (sets : List (List (ℤ × ℤ))). record { domains = sets; rules = cs }) (c.in_ok-lost.ensures.same (sym c.any-lost.ensures ∙ none))) c.deref-4.ensures.value (c.deref-3.ensures.value ∙ c.reserve_change.ensures.same) (c.is_unkept-is_new.ensures f)),
+      l.0,
       index_of_count _ _ cs inside.index c.narrow_swapped.ensures.kept_count c.self.invariant.2,
       c.settle.ensures.queue,
+      l.1,
     )
 
 pub returns-clause-marked : goal.returns-clause-marked

@@ -6,7 +6,7 @@ use Rattle.ivl_network.specs.Families.{ArePresent}
 use Rattle.ivl_network.specs.Network.{IsSoundRules, RulesState}
 use Rattle.ivl_network.specs.Queue.{IsRuleIndex, unsettled_count}
 use Rattle.ivl_network.specs.declared.network.change.Change.TheVariants.{Require}
-use Rattle.ivl_network.proofs.Logging.{logged_marks, logged_trail, state_is}
+use Rattle.ivl_network.proofs.Logging.{logged, logged_marks, state_is}
 use Rattle.ivl_network.proofs.Narrowings.{sound_pushed}
 use Rattle.ivl_network.proofs.Reverting.{reverts_rule}
 use Rattle.ivl_network.proofs.network.Network.push.Goals as goal
@@ -18,6 +18,7 @@ invariant_of-self-in_err-reserve_rule g c =
       rw c.reserve_change.ensures.same c.self.invariant.1,
       c.reserve_rule.ensures.same (length i.store) i.rules.items c.self.invariant.2,
       c.self.invariant.3,
+      rw c.reserve_change.ensures.same c.self.invariant.4,
     )
 
 pub invariant_of-self-in_err-reserve : goal.invariant_of-self-in_err-reserve
@@ -28,6 +29,7 @@ invariant_of-self-in_err-reserve g c =
       c.self.invariant.1,
       c.reserve_rule.ensures.same (length i.store) i.rules.items c.self.invariant.2,
       c.self.invariant.3,
+      c.self.invariant.4,
     )
 
 pub invariant_of-self-in_err-push : goal.invariant_of-self-in_err-push
@@ -38,6 +40,7 @@ invariant_of-self-in_err-push g c =
       c.self.invariant.1,
       c.reserve_rule.ensures.same (length i.store) i.rules.items c.self.invariant.2,
       c.push.ensures.queue,
+      c.self.invariant.4,
     )
 
 pub push_rule-requires-clause-present : goal.push_rule-requires-clause-present
@@ -52,14 +55,16 @@ invariant_of-self-2 g c =
     let added : c.push_reserved.new.self.items ≡ i.rules.items ++ c.args.rule ∷ [] = c.push_reserved.ensures.items ∙ ap (λ l. l ++ c.args.rule ∷ []) c.reserve.ensures.items in
     let sound : IsSoundRules i.store c.push_reserved.new.self.items c.push.new.self.settled.items =
     rw (added, c.in_ok-push.ensures.added) (sound_pushed i.store i.rules.items i.queue.settled.items c.args.rule c.requires.different
-    (subst (λ (s : RulesState). ArePresent (length s.domains) c.args.rule) (sym c.self.view_is) c.requires.present) c.self.invariant.0) in (
+    (subst (λ (s : RulesState). ArePresent (length s.domains) c.args.rule) (sym c.self.view_is) c.requires.present) c.self.invariant.0) in
+    let l = logged i.settled_at_marks.items i.marks.items i.trail.items c.reserve_change.new.trail.items c.log_change.new.trail.items _ _ _ _ _ c.self.invariant.4 c.self.invariant.1 sound.present
+    c.reserve_change.ensures.same c.log_change.ensures (reverts_rule {B = g.row.B.Denot} {O = g.row.B-Output.Denot} Require i.store i.rules.items c.push_reserved.new.self.items c.args.rule refl added)
+    (λ f. sym c.deref.ensures.value ∙ c.is_logging-is_kept.ensures f) (λ f. absurd (false≢true (sym f))) in (
       sound,
-      logged_trail i.marks.items i.trail.items c.reserve_change.new.trail.items c.log_change.new.trail.items _ _ _ _ _ c.self.invariant.1 sound.present
-          c.reserve_change.ensures.same c.log_change.ensures (reverts_rule {B = g.row.B.Denot} {O = g.row.B-Output.Denot} Require i.store i.rules.items c.push_reserved.new.self.items c.args.rule refl added)
-          (λ f. sym c.deref.ensures.value ∙ c.is_logging-is_kept.ensures f) (λ f. absurd (false≢true (sym f))),
+      l.0,
       subst (λ cs. IsRuleIndex (length i.store) cs c.push_rule.new.self) (sym added)
           (c.push_rule.ensures (length i.store) i.rules.items (c.reserve_rule.ensures.same (length i.store) i.rules.items c.self.invariant.2)),
       c.push.ensures.queue,
+      l.1,
     )
 
 pub returns-clause-added : goal.returns-clause-added

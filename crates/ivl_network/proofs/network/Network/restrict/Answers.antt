@@ -5,7 +5,7 @@ use Rattle.ivl_laws.specs.Runs.{Covers}
 use Rattle.ivl_network.specs.Network.{IsCutAt, IsSoundRules, RulesState}
 use Rattle.ivl_network.proofs.Indexes.{index_of_count}
 use Rattle.ivl_network.proofs.Kept.{same_at_marks}
-use Rattle.ivl_network.proofs.Logging.{logged_marks, logged_trail}
+use Rattle.ivl_network.proofs.Logging.{logged, logged_marks}
 use Rattle.ivl_network.proofs.Narrowings.{sound_moved}
 use Rattle.ivl_network.proofs.Settled.{settled_cut}
 use Rattle.ivl_network.proofs.network.Network.restrict.Goals as goal
@@ -21,15 +21,17 @@ invariant_of-self-2 g c =
     c.self.invariant.0.settled (rw c.deref-2.ensures.value at c.wake.ensures.cleared) c.in_ok-lost.ensures.lost
     (λ j v h. ((cut j v).0 h).0)
     (λ j v ne was. (cut j v).1 (was, λ e. absurd (ne e))))
-    c.self.invariant.0 in (
+    c.self.invariant.0 in
+    let l = logged i.settled_at_marks.items i.marks.items i.trail.items c.reserve_change.new.trail.items c.log_cut.new.trail.items c.in_ok-lost.change _ _ _ c.is_unkept-is_new.result c.self.invariant.4 c.self.invariant.1 sound.present
+    c.reserve_change.ensures.same c.log_cut.ensures (c.in_ok-lost.ensures.back cs)
+    (λ f. sym c.deref.ensures.value ∙ c.is_logging-is_kept.ensures f)
+    (λ f. same_at_marks i.marks.items _ i.trail.items _ c.in_ok-lost.change _ _ c.in_ok-lost.lost c.self.invariant.1 (c.in_ok-lost.ensures.back cs)
+    (λ none. ap (λ (sets : List (List (ℤ × ℤ))). record { domains = sets; rules = cs }) (c.in_ok-lost.ensures.lost none)) c.deref-4.ensures.value (c.deref-3.ensures.value ∙ c.reserve_change.ensures.same) (c.is_unkept-is_new.ensures f)) in (
       sound,
-      logged_trail i.marks.items i.trail.items c.reserve_change.new.trail.items c.log_cut.new.trail.items c.in_ok-lost.change _ _ _ c.is_unkept-is_new.result c.self.invariant.1 sound.present
-          c.reserve_change.ensures.same c.log_cut.ensures (c.in_ok-lost.ensures.back cs)
-          (λ f. sym c.deref.ensures.value ∙ c.is_logging-is_kept.ensures f)
-          (λ f. same_at_marks i.marks.items _ i.trail.items _ c.in_ok-lost.change _ _ c.in_ok-lost.lost c.self.invariant.1 (c.in_ok-lost.ensures.back cs)
-          (λ none. ap (λ (sets : List (List (ℤ × ℤ))). record { domains = sets; rules = cs }) (c.in_ok-lost.ensures.lost none)) c.deref-4.ensures.value (c.deref-3.ensures.value ∙ c.reserve_change.ensures.same) (c.is_unkept-is_new.ensures f)),
+      l.0,
       index_of_count _ _ cs i.index c.restrict_swapped.ensures.kept_count c.self.invariant.2,
       c.wake.ensures.queue,
+      l.1,
     )
 
 pub returns-clause-marked : goal.returns-clause-marked

@@ -1,73 +1,56 @@
-use Rattle.std.proofs.Common.{◌≡◌, ◌∙◌, ◌+◌, ◌*◌, ◌≤◌, ℕ, All, arith, length, subst, sym}
+use Rattle.std.proofs.Common.{◌+◌, ◌*◌, length, subst}
+use Rattle.std.specs.Prelude.{All}
 use Rattle.ivl_laws.specs.Families.{set_at}
 use Rattle.ivl_store.specs.Measure.{total}
 use Rattle.ivl_network.specs.Families.{IsFixedBy}
-use Rattle.ivl_network.specs.Network.{AreRuleNarrowings, RulesState}
-use Rattle.ivl_network.proofs.Narrowings.{more_narrowings, narrowings_greatest, narrowings_keep, narrowings_solve}
+use Rattle.ivl_network.specs.Network.{work_of_rules}
+use Rattle.ivl_network.proofs.Budgets.{fewer_or, made_before, settled_or, spent_or, without}
+use Rattle.ivl_network.proofs.Narrowings.{narrowings_greatest, narrowings_keep, narrowings_solve}
 use Rattle.ivl_network.proofs.network.Network.settle.Goals as goal
 
-pub returns-in_err-narrow_next-clause-keeps : goal.returns-in_err-narrow_next-clause-keeps
-returns-in_err-narrow_next-clause-keeps g c =
-    narrowings_keep c.args.self.now.rules c.loop.counter c.args.self.now.domains c.narrow_next.new.self.domains
-    (subst (λ (s : RulesState). AreRuleNarrowings c.args.self.now.rules c.loop.counter (set_at c.args.self.now.domains) (set_at s.domains)) (sym c.in_err-narrow_next.ensures.refused) c.loop.invariant.3)
+pub returns-in_err-narrow_up_to-clause-keeps : goal.returns-in_err-narrow_up_to-clause-keeps
+returns-in_err-narrow_up_to-clause-keeps g c =
+    let h = c.in_err-narrow_up_to.ensures.made_before in
+    narrowings_keep c.args.self.now.rules h.0 c.args.self.now.domains c.narrow_up_to.new.self.domains h.1.narrowings
 
-pub returns-in_err-narrow_next-clause-solutions : goal.returns-in_err-narrow_next-clause-solutions
-returns-in_err-narrow_next-clause-solutions g c =
-    narrowings_solve c.args.self.now.rules c.loop.counter c.args.self.now.domains c.narrow_next.new.self.domains
-    (subst (λ (s : RulesState). AreRuleNarrowings c.args.self.now.rules c.loop.counter (set_at c.args.self.now.domains) (set_at s.domains)) (sym c.in_err-narrow_next.ensures.refused) c.loop.invariant.3)
+pub returns-in_err-narrow_up_to-clause-solutions : goal.returns-in_err-narrow_up_to-clause-solutions
+returns-in_err-narrow_up_to-clause-solutions g c =
+    let h = c.in_err-narrow_up_to.ensures.made_before in
+    narrowings_solve c.args.self.now.rules h.0 c.args.self.now.domains c.narrow_up_to.new.self.domains h.1.narrowings
 
-pub returns-then-not-branch-clause-keeps : goal.returns-then-not-branch-clause-keeps
-returns-then-not-branch-clause-keeps g c =
-    let none = c.in_ok-narrow_next.ensures.none c.if-not-branch.true in
-    narrowings_keep c.args.self.now.rules c.loop.counter c.args.self.now.domains c.narrow_next.new.self.domains
-    (subst (λ (s : RulesState). AreRuleNarrowings c.args.self.now.rules c.loop.counter (set_at c.args.self.now.domains) (set_at s.domains)) (sym none.0) c.loop.invariant.3)
-
-pub returns-then-not-branch-clause-solutions : goal.returns-then-not-branch-clause-solutions
-returns-then-not-branch-clause-solutions g c =
-    let none = c.in_ok-narrow_next.ensures.none c.if-not-branch.true in
-    narrowings_solve c.args.self.now.rules c.loop.counter c.args.self.now.domains c.narrow_next.new.self.domains
-    (subst (λ (s : RulesState). AreRuleNarrowings c.args.self.now.rules c.loop.counter (set_at c.args.self.now.domains) (set_at s.domains)) (sym none.0) c.loop.invariant.3)
-
-pub returns-then-not-branch-clause-greatest : goal.returns-then-not-branch-clause-greatest
-returns-then-not-branch-clause-greatest g c = λ _.
-    let none = c.in_ok-narrow_next.ensures.none c.if-not-branch.true in
-    narrowings_greatest c.args.self.now.rules c.loop.counter c.args.self.now.domains c.narrow_next.new.self.domains
-    (subst (λ (s : RulesState). AreRuleNarrowings c.args.self.now.rules c.loop.counter (set_at c.args.self.now.domains) (set_at s.domains)) (sym none.0) c.loop.invariant.3)
-    (subst (λ (s : RulesState). All (IsFixedBy (set_at s.domains)) c.args.self.now.rules) (sym none.0)
-    (subst (λ cs. All (IsFixedBy (set_at c.loop.self.domains)) cs) c.loop.invariant.0 none.1))
-
-pub loop-preserved : goal.loop-preserved
-loop-preserved g c = (
-  c.narrow_next.ensures.rules ∙ c.loop.invariant.0,
-  c.narrow_next.ensures.kept_count ∙ c.loop.invariant.1,
-  (let b = c.loop-test.true in omega arith),
-  more_narrowings c.args.self.now.rules c.loop.counter 1 (set_at c.args.self.now.domains) (set_at c.loop.self.domains) (set_at c.narrow_next.new.self.domains) c.loop.invariant.3
-      (subst (λ cs. AreRuleNarrowings cs 1 (set_at c.loop.self.domains) (set_at c.narrow_next.new.self.domains)) c.loop.invariant.0
-      (c.in_ok-narrow_next.ensures.narrowed c.if-not-branch.false)),
-  (let less = c.in_ok-narrow_next.ensures.fewer c.if-not-branch.false in let so_far = c.loop.invariant.4 in omega arith),
-  c.narrow_next.ensures.marked ∙ c.loop.invariant.5,
-)
+pub returns-in_err-narrow_up_to-clause-made_before : goal.returns-in_err-narrow_up_to-clause-made_before
+returns-in_err-narrow_up_to-clause-made_before g c =
+    made_before c.from_residual.result g.B.Width.whole c.args.budget c.args.self.now c.narrow_up_to.new.self c.in_err-narrow_up_to.ensures.made_before
 
 pub returns-clause-keeps : goal.returns-clause-keeps
-returns-clause-keeps g c = narrowings_keep c.args.self.now.rules c.loop.counter c.args.self.now.domains c.loop.self.domains c.loop.invariant.3
+returns-clause-keeps g c =
+    let h = c.in_ok-narrow_up_to.ensures.made in
+    narrowings_keep c.args.self.now.rules h.0 c.args.self.now.domains c.narrow_up_to.new.self.domains h.1.narrowings
 
 pub returns-clause-solutions : goal.returns-clause-solutions
-returns-clause-solutions g c = narrowings_solve c.args.self.now.rules c.loop.counter c.args.self.now.domains c.loop.self.domains c.loop.invariant.3
+returns-clause-solutions g c =
+    let h = c.in_ok-narrow_up_to.ensures.made in
+    narrowings_solve c.args.self.now.rules h.0 c.args.self.now.domains c.narrow_up_to.new.self.domains h.1.narrowings
 
 pub returns-clause-greatest : goal.returns-clause-greatest
 returns-clause-greatest g c = λ all.
-    let reached = c.reached.ensures.all all in
-    narrowings_greatest c.args.self.now.rules c.loop.counter c.args.self.now.domains c.loop.self.domains c.loop.invariant.3
-    (subst (λ cs. All (IsFixedBy (set_at c.loop.self.domains)) cs) c.loop.invariant.0 reached)
+    let h = c.in_ok-narrow_up_to.ensures.made in
+    narrowings_greatest c.args.self.now.rules h.0 c.args.self.now.domains c.narrow_up_to.new.self.domains h.1.narrowings
+    (subst (λ cs. All (IsFixedBy (set_at c.narrow_up_to.new.self.domains)) cs) c.narrow_up_to.ensures.rules (c.reached.ensures.all all))
+
+pub returns-clause-made : goal.returns-clause-made
+returns-clause-made g c =
+    let h = c.in_ok-narrow_up_to.ensures.made in
+    (h.0, h.2, (λ left. without (spent_or c.narrow_up_to.new.self.unsettled h.0 c.args.budget h.3 (λ none. let all = c.reached.ensures.exactly.1 none in absurd (cc)))), h.1.narrowings)
+
+pub returns-clause-fewer : goal.returns-clause-fewer
+returns-clause-fewer g c = λ left.
+    let h = c.in_ok-narrow_up_to.ensures.made in
+    without (fewer_or h.0 c.args.budget (work_of_rules g.B.Width.whole c.narrow_up_to.new.self) (work_of_rules g.B.Width.whole c.args.self.now) h.1.fewer
+    (spent_or c.narrow_up_to.new.self.unsettled h.0 c.args.budget h.3 (λ none. let all = c.reached.ensures.exactly.1 none in absurd (cc))))
 
 pub returns-clause-enough : goal.returns-clause-enough
-returns-clause-enough g c = λ w.
-    let so_far = c.loop.invariant.4 in
-    let n = c.loop-test.false in
-    let k = c.loop.invariant.2 in
-    let rest = total g.B.Width.whole c.loop.self.domains * (length c.loop.self.rules + 1) in
-    let none : rest + c.loop.self.unsettled ≤ 0 = omega (arith, w, so_far, n, k) in
-    c.reached.ensures.exactly.1 (nothing_left rest c.loop.self.unsettled none)
-  where
-    nothing_left : (a b : ℕ) → a + b ≤ 0 → b ≡ 0
-    nothing_left a b h = omega arith
+returns-clause-enough g c = λ enough.
+    let h = c.in_ok-narrow_up_to.ensures.made in
+    let new = c.narrow_up_to.new.self in
+    c.reached.ensures.exactly.1 (without (settled_or (total g.B.Width.whole new.domains * (length new.rules + 1)) new.unsettled h.0 c.args.budget (work_of_rules g.B.Width.whole c.args.self.now) h.3 h.1.fewer enough))

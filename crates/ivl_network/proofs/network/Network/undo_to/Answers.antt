@@ -1,8 +1,9 @@
-use Rattle.std.proofs.Common.{◌≡◌, ◌∙◌, ◌<◌, ap, arith, get_or, length, sym, take}
-use Rattle.std.proofs.lemmas.List.{get_or-map, get_or_default}
+use Rattle.std.proofs.Common.{◌≡◌, ◌∙◌, ◌<◌, ap, arith, get_or, false, length, subst, sym, take}
+use Rattle.std.proofs.lemmas.List.{get_or-map, get_or_default, length-map}
 use Rattle.ivl_network.specs.Network.{RulesState}
-use Rattle.ivl_network.specs.Trail.{RulesPast, rules_past_at}
+use Rattle.ivl_network.specs.Trail.{AreFixedIn, RulesPast, rules_past_at}
 use Rattle.ivl_network.proofs.Logging.{undone_marks, undone_trail}
+use Rattle.ivl_network.proofs.Marks.{fewer_marks, fixed_at, sound_settled}
 use Rattle.ivl_network.proofs.network.Network.undo_to.Goals as goal
 
 pub revert_to-requires-clause-present : goal.revert_to-requires-clause-present
@@ -15,12 +16,22 @@ revert_to-requires-clause-present g c = λ m low high.
 pub invariant_of-self : goal.invariant_of-self
 invariant_of-self g c =
     let i = c.self.inside in
-    let lt : c.args.mark < length i.marks.items = (let t = c.if-mark-len.false in let e = c.len.ensures in omega (arith, t, e)) in (
-      c.revert_to.ensures.sound,
+    let lt : c.args.mark < length i.marks.items = (let t = c.if-mark-len.false in let e = c.len.ensures in omega (arith, t, e)) in
+    let below : c.args.mark < length i.settled_at_marks.items = (
+    let o = c.self.invariant.4.one_each in
+    let m = length-map i.marks.items (rules_past_at i.trail.items (record { domains = i.store; rules = i.rules.items })) in
+    omega (arith, o, m, lt)) in (
+      sound_settled c.revert_to.new.store c.revert_to.new.rules.items c.revert_to.new.queue.settled.items c.settle_all.new.self.settled.items c.index-were_settled.result.now c.revert_to.ensures.sound
+          c.settle_all.ensures.count c.settle_all.ensures.same
+          (λ set. subst AreFixedIn (sym c.revert_to.ensures.past) (fixed_at i.settled_at_marks.items i.marks.items i.trail.items _ c.args.mark c.index-start.result.now c.self.invariant.4 lt
+          (c.index-start.ensures ∙ get_or_default i.marks.items c.args.mark c.index-start.result.now 0 lt) (sym (c.index-were_settled.ensures ∙ get_or_default i.settled_at_marks.items c.args.mark c.index-were_settled.result.now false below) ∙ set))),
       undone_trail i.marks.items c.truncate.new.self.items i.trail.items c.revert_to.new.trail.items _ _ c.args.mark c.index-start.result.now c.self.invariant.1 lt
           (c.index-start.ensures ∙ get_or_default i.marks.items c.args.mark c.index-start.result.now 0 lt) c.truncate.ensures.items c.revert_to.ensures.trail c.revert_to.ensures.past,
       c.revert_to.ensures.index,
-      c.revert_to.ensures.queue,
+      c.settle_all.ensures.queue,
+      rw c.truncate-2.ensures.items (fewer_marks i.settled_at_marks.items _ _ c.args.mark c.self.invariant.4
+          (undone_marks i.marks.items c.truncate.new.self.items i.trail.items c.revert_to.new.trail.items _ _ c.args.mark c.index-start.result.now c.self.invariant.1 lt
+          (c.index-start.ensures ∙ get_or_default i.marks.items c.args.mark c.index-start.result.now 0 lt) c.truncate.ensures.items c.revert_to.ensures.trail c.revert_to.ensures.past)),
     )
 
 pub returns-clause-marked : goal.returns-clause-marked
