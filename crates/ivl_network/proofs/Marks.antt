@@ -1,6 +1,9 @@
 -- Whether all rules were settled at the marks of a network.
 use Rattle.std.proofs.Common.{◌≡◌, ◌∙◌, ℕ, ◌<◌, inl, inr, ap, arith, get_or, length, List, [], ◌∷◌, ◌++◌, Bool, true, false, refl, subst, sym, take}
-use Rattle.std.specs.Prelude.{ℤ, map}
+use Rattle.std.specs.Prelude.{ℤ, map, not}
+use Rattle.ivl_laws.specs.Families.{set_at}
+use Rattle.ivl_network.specs.Settled.{claimed_flags}
+use Rattle.ivl_network.proofs.Settled.{claimed_length, claimed_settled}
 use Rattle.std.proofs.Math.ListN.{get_or-append}
 use Rattle.std.proofs.lemmas.Bool.{cases_eq}
 use Rattle.std.proofs.lemmas.List.{get_or-map, get_or_push, length-map, length-take, length_push}
@@ -57,7 +60,17 @@ sound_fixed domains rules flags flags' s count f = record {
   };
 }
 
-pub sound_settled : (domains : List (List (ℤ × ℤ))) (rules : List Rule) (flags flags' : List Bool) (are_settled : Bool) → IsSoundRules domains rules flags → length flags' ≡ length flags
+pub sound_settled : (domains : List (List (ℤ × ℤ))) (rules : List Rule) (flags flags' : List Bool) (are_settled : Bool)
+    → IsSoundRules domains rules (claimed_flags (not are_settled) flags) → length flags' ≡ length flags
     → (are_settled ≡ false → flags' ≡ flags) → (are_settled ≡ true → AreFixedIn (record { domains = domains; rules = rules })) → IsSoundRules domains rules flags'
-sound_settled domains rules flags flags' true s count same f = sound_fixed domains rules flags flags' s count (f refl)
+sound_settled domains rules flags flags' true s count same f = sound_fixed domains rules (claimed_flags false flags) flags' s (count ∙ sym (claimed_length false flags)) (f refl)
 sound_settled domains rules flags flags' false s count same f = subst (IsSoundRules domains rules) (sym (same refl)) s
+
+-- flags that claim less
+pub sound_claimed : (claims : Bool) (domains : List (List (ℤ × ℤ))) (rules : List Rule) (flags : List Bool) → IsSoundRules domains rules flags
+    → IsSoundRules domains rules (claimed_flags claims flags)
+sound_claimed claims domains rules flags s = record {
+  different = s.different;
+  present = s.present;
+  settled = claimed_settled claims rules flags (set_at domains) s.settled;
+}

@@ -1,8 +1,8 @@
 -- Rules that stay settled.
-use Rattle.std.proofs.Common.{◌≡◌, ◌↔◌, ◌⊎◌, ℕ, ◌<◌, inl, inr, refl, sym, subst, ◌∙◌, arith, List, [], ◌∷◌, ◌++◌, length, get_or, set, Bool, true, false}
+use Rattle.std.proofs.Common.{◌≡◌, ◌↔◌, ◌⊎◌, ℕ, ◌<◌, inl, inr, refl, sym, subst, ◌∙◌, arith, List, [], ◌∷◌, ◌++◌, length, get_or, set, take, Bool, true, false}
 use Rattle.std.specs.Prelude.{ℤ}
-use Rattle.std.proofs.Math.ListN.{get_or-append}
-use Rattle.std.proofs.lemmas.List.{get_or-set_other, get_or_push, length-set, length_push}
+use Rattle.std.proofs.Math.ListN.{get_or-append, get_or-map}
+use Rattle.std.proofs.lemmas.List.{take-map, length-map, get_or-set_other, get_or_push, length-set, length_push}
 use Rattle.std.proofs.lemmas.Bool.{cases_eq, false≢true}
 use Rattle.ivl_laws.specs.Families.{set_at}
 use Rattle.ivl_store.specs.declared.store.constraint.Constraint.{Constraint}
@@ -14,7 +14,7 @@ use Rattle.ivl_rules.specs.declared.rules.Rule.{Rule}
 use Rattle.ivl_rules.specs.Rules.{NamesOf, NarrowedBy, needs_singles, places}
 use Rattle.ivl_rules.proofs.Narrowings.{narrowed_fixed}
 use Rattle.ivl_network.specs.Families.{IsFixedBy}
-use Rattle.ivl_network.specs.Settled.{AreSettledRules, AreClearedRules, HasTwo}
+use Rattle.ivl_network.specs.Settled.{AreSettledRules, AreClearedRules, HasTwo, claimed_flags}
 use Rattle.ivl_network.proofs.Staying.{StaysFixed, fixed_where_it_stays}
 
 -- flags that are left, where narrowing by a rule changes nothing, or no set that it names has lost a member, or that has two and the rule says that numbers differ
@@ -145,3 +145,34 @@ settled_push rules rules' flags flags' rule sets e f s =
             (s.fixed k d below (sym (get_or-append flags (false ∷ []) false k (omega arith)) ∙ m)))
       ]);
     }))
+
+-- ---- flags that claim nothing
+
+none_set : (flags : List Bool) (k : ℕ) → get_or (claimed_flags false flags) k false ≡ false
+none_set flags k = get_or-map (λ _. false) flags k false
+
+pub claimed_length : (claims : Bool) (flags : List Bool) → length (claimed_flags claims flags) ≡ length flags
+claimed_length true flags = refl
+claimed_length false flags = length-map flags (λ _. false)
+
+pub claimed_take : (claims : Bool) (n : ℕ) (flags : List Bool) → take n (claimed_flags claims flags) ≡ claimed_flags claims (take n flags)
+claimed_take true n flags = refl
+claimed_take false n flags = take-map (λ _. false) n flags
+
+pub claimed_cleared : (claims : Bool) (rules : List Rule) (i : ℕ) (sets : ℕ → ℤ → Type 0) (before after : List Bool) → AreClearedRules claims false rules i sets before after
+    → AreClearedRules true false rules i sets (claimed_flags claims before) (claimed_flags claims after)
+claimed_cleared true rules i sets before after a = a
+claimed_cleared false rules i sets before after a = record {
+  same_count = claimed_length false after ∙ a.same_count ∙ sym (claimed_length false before);
+  kept = (λ e. absurd (false≢true (sym e)));
+  only_cleared = (λ k m. absurd (false≢true (sym (none_set after k) ∙ m)));
+  apart = (λ _ k d lt m. absurd (false≢true (sym (none_set after k) ∙ m)));
+}
+
+pub claimed_settled : (claims : Bool) (rules : List Rule) (flags : List Bool) (sets : ℕ → ℤ → Type 0) → AreSettledRules rules flags sets
+    → AreSettledRules rules (claimed_flags claims flags) sets
+claimed_settled true rules flags sets s = s
+claimed_settled false rules flags sets s = record {
+  one_each = claimed_length false flags ∙ s.one_each;
+  fixed = (λ k d lt m. absurd (false≢true (sym (none_set flags k) ∙ m)));
+}

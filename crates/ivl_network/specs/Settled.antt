@@ -1,10 +1,11 @@
 -- Which narrowings by rules need not be made again.
 --     AreSettledRules rules flags sets      one flag a rule, set only where narrowing by it changes nothing
+--     claimed_flags claims flags      the flags; none of them is set where they claim nothing
 --     HasTwo S      S has two members
 --     AreClearedRules changed only_lost rules i sets before after      flags were only cleared, and none if nothing has changed; where variable i
 --         has changed, one is left at a rule that names it only if narrowing the sets by it changes nothing, or if i lost members alone and keeps
 --         two, and the rule says that numbers differ
-use Rattle.std.specs.Prelude.{◌≡◌, ◌<◌, ◌<ℤ◌, ◌⊎◌, ℕ, ℤ, Bool, true, false, List, length, slice_index_or}
+use Rattle.std.specs.Prelude.{◌≡◌, ◌<◌, ◌<ℤ◌, ◌⊎◌, ℕ, ℤ, Bool, true, false, List, length, map, slice_index_or}
 use Rattle.ivl_rules.specs.declared.rules.Rule.{Rule}
 use Rattle.ivl_rules.specs.Rules.{NamesOf, needs_singles}
 use Rattle.ivl_network.specs.Families.{IsFixedBy}
@@ -12,6 +13,10 @@ use Rattle.ivl_network.specs.Families.{IsFixedBy}
 pub record AreSettledRules (rules : List Rule) (flags : List Bool) (sets : ℕ → ℤ → Type 0) : Type 0 where
   pub one_each : length flags ≡ length rules
   pub fixed : (k : ℕ) (d : Rule) → k < length rules → slice_index_or flags k false ≡ true → IsFixedBy sets (slice_index_or rules k d)
+
+abbrev pub claimed_flags : Bool → List Bool → List Bool
+claimed_flags true flags = flags
+claimed_flags false flags = map (λ _. false) flags
 
 abbrev pub HasTwo : (ℤ → Type 0) → Type 0
 HasTwo S = (x : ℤ) × (y : ℤ) × S x × S y × (x <ℤ y)

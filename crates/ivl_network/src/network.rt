@@ -582,15 +582,16 @@ impl<B: Width> Network<B> {
             return false;
         }
         let start = self.marks[mark];
+        let were_settled = self.settled_at_marks[mark];
         revert_to(
             &mut self.trail,
             start,
+            !were_settled,
             &mut self.store,
             &mut self.rules,
             &mut self.index,
             &mut self.queue,
         );
-        let were_settled = self.settled_at_marks[mark];
         self.queue.settle_all(were_settled);
         self.marks.truncate(mark);
         self.settled_at_marks.truncate(mark);

@@ -4,6 +4,7 @@ ghost use Rattle.std.specs.Vec.{vec_capacity, vec_len};
 ghost use Rattle.ivl_store.specs.NarrowedSets.{narrowed_at};
 ghost use Rattle.ivl_network.specs.Network.{IsSoundRules};
 ghost use Rattle.ivl_network.specs.Queue.{IsRuleIndex, IsRuleQueue};
+ghost use Rattle.ivl_network.specs.Settled.{claimed_flags};
 ghost use Rattle.ivl_network.specs.Trail.{ArePresentIn, AreRuleKeptFrom, IsRuleKeptFrom, KeepsRuleAt, revert_rule, rules_past_at, with_rule_change};
 
 use super::change::Change;
@@ -175,29 +176,31 @@ fn note_place<B: Width>(
     }
 }
 
-/// Takes back the changes from a place of the trail on, the last one first.
+/// Takes back the changes from a place of the trail on, the last one first. Where it does not wake rules, the
+/// flags of the queue claim nothing afterwards, and the caller sets them.
 pub(super) fn revert_to<B: Width>(
     trail: &mut Vec<Change<B>>,
     start: usize,
+    wakes: bool,
     store: &mut Store<B>,
     rules: &mut Vec<Rule>,
     index: &mut Index,
     queue: &mut Queue,
 )
     requires in_trail { start ≤ length trail.old.items }
-    requires sound { IsSoundRules store.old rules.old.items queue.old.settled.items }
+    requires sound { IsSoundRules store.old rules.old.items (claimed_flags wakes queue.old.settled.items) }
     requires index { IsRuleIndex (length store.old) rules.old.items index.old }
     requires queue { IsRuleQueue queue.old }
     requires present { (m : ℕ) → start ≤ m → m ≤ length trail.old.items → ArePresentIn (rules_past_at trail.old.items (record { domains = store.old; rules = rules.old.items }) m) }
     ensures trail { trail.new.items ≡ take start trail.old.items }
     ensures past { record { domains = store.new; rules = rules.new.items } ≡ rules_past_at trail.old.items (record { domains = store.old; rules = rules.old.items }) start }
-    ensures sound { IsSoundRules store.new rules.new.items queue.new.settled.items }
+    ensures sound { IsSoundRules store.new rules.new.items (claimed_flags wakes queue.new.settled.items) }
     ensures index { IsRuleIndex (length store.new) rules.new.items index.new }
     ensures queue { IsRuleQueue queue.new }
 {
     while trail.len() > start {
         if let Some(change) = trail.pop() {
-            take_back(change, store, rules, index, queue);
+            take_back(change, wakes, store, rules, index, queue);
         }
     }
 }
@@ -206,26 +209,27 @@ pub(super) fn revert_to<B: Width>(
 /// for those that take nothing.
 fn take_back<B: Width>(
     change: Change<B>,
+    wakes: bool,
     store: &mut Store<B>,
     rules: &mut Vec<Rule>,
     index: &mut Index,
     queue: &mut Queue,
 )
-    requires sound { IsSoundRules store.old rules.old.items queue.old.settled.items }
+    requires sound { IsSoundRules store.old rules.old.items (claimed_flags wakes queue.old.settled.items) }
     requires index { IsRuleIndex (length store.old) rules.old.items index.old }
     requires queue { IsRuleQueue queue.old }
     requires present { ArePresentIn (revert_rule change (record { domains = store.old; rules = rules.old.items })) }
     ensures past { record { domains = store.new; rules = rules.new.items } ≡ revert_rule change (record { domains = store.old; rules = rules.old.items }) }
-    ensures sound { IsSoundRules store.new rules.new.items queue.new.settled.items }
+    ensures sound { IsSoundRules store.new rules.new.items (claimed_flags wakes queue.new.settled.items) }
     ensures index { IsRuleIndex (length store.new) rules.new.items index.new }
     ensures queue { IsRuleQueue queue.new }
 {
     match change {
-        Change::Domain(variable, set) => put_back(store, rules, index, queue, variable, set),
+        Change::Domain(variable, set) => put_back(store, rules, index, queue, wakes, variable, set),
         Change::Domains(c, x, y, z) => {
-            put_back(store, rules, index, queue, c.z, z);
-            put_back(store, rules, index, queue, c.y, y);
-            put_back(store, rules, index, queue, c.x, x);
+            put_back(store, rules, index, queue, wakes, c.z, z);
+            put_back(store, rules, index, queue, wakes, c.y, y);
+            put_back(store, rules, index, queue, wakes, c.x, x);
         }
         Change::Variable => {
             store.drop_variable();
@@ -246,19 +250,20 @@ fn put_back<B: Width>(
     rules: &[Rule],
     index: &Index,
     queue: &mut Queue,
+    wakes: bool,
     variable: usize,
     set: Option<IntervalSet<B>>,
 )
-    requires sound { IsSoundRules store.old rules.now queue.old.settled.items }
+    requires sound { IsSoundRules store.old rules.now (claimed_flags wakes queue.old.settled.items) }
     requires index { IsRuleIndex (length store.old) rules.now index.now }
     requires queue { IsRuleQueue queue.old }
     ensures domains { store.new ≡ narrowed_at store.old variable set }
-    ensures sound { IsSoundRules store.new rules.now queue.new.settled.items }
+    ensures sound { IsSoundRules store.new rules.now (claimed_flags wakes queue.new.settled.items) }
     ensures queue { IsRuleQueue queue.new }
 {
     if let Some(set) = set {
         store.replace(variable, set);
-        queue.wake(true, false, variable, store, rules, index);
+        queue.wake(wakes, false, variable, store, rules, index);
     }
 }
 

@@ -3,7 +3,7 @@ use Rattle.std.proofs.lemmas.List.{get_or-map, get_or_default, length-map}
 use Rattle.ivl_network.specs.Network.{RulesState}
 use Rattle.ivl_network.specs.Trail.{AreFixedIn, RulesPast, rules_past_at}
 use Rattle.ivl_network.proofs.Logging.{undone_marks, undone_trail}
-use Rattle.ivl_network.proofs.Marks.{fewer_marks, fixed_at, sound_settled}
+use Rattle.ivl_network.proofs.Marks.{fewer_marks, fixed_at, sound_claimed, sound_settled}
 use Rattle.ivl_network.proofs.network.Network.undo_to.Goals as goal
 
 pub revert_to-requires-clause-present : goal.revert_to-requires-clause-present
@@ -12,6 +12,11 @@ revert_to-requires-clause-present g c = λ m low high.
     let lt : c.args.mark < length i.marks.items = (let t = c.if-mark-len.false in let e = c.len.ensures in omega (arith, t, e)) in
     let at : c.index-start.result.now ≡ get_or i.marks.items c.args.mark 0 = c.index-start.ensures ∙ get_or_default i.marks.items c.args.mark c.index-start.result.now 0 lt in
     c.self.invariant.1.present c.args.mark m lt (omega (arith, at, low)) high
+
+pub revert_to-requires-clause-sound : goal.revert_to-requires-clause-sound
+revert_to-requires-clause-sound g c =
+    let i = c.self.inside in
+    sound_claimed _ i.store i.rules.items i.queue.settled.items c.self.invariant.0
 
 pub invariant_of-self : goal.invariant_of-self
 invariant_of-self g c =

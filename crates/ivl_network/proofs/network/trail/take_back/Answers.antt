@@ -4,6 +4,8 @@ use Rattle.std.proofs.lemmas.List.{length-take}
 use Rattle.ivl_network.specs.Families.{ArePresent}
 use Rattle.ivl_network.specs.Network.{IsSoundRules}
 use Rattle.ivl_network.specs.Queue.{IsRuleIndex}
+use Rattle.ivl_network.specs.Settled.{claimed_flags}
+use Rattle.ivl_network.proofs.Settled.{claimed_length, claimed_take}
 use Rattle.ivl_network.proofs.Indexes.{index_narrowed, index_of_count, present_last}
 use Rattle.ivl_network.proofs.Reverting.{sound_without_rules, sound_without_variable}
 use Rattle.ivl_network.proofs.network.trail.take_back.Goals as goal
@@ -14,7 +16,7 @@ put_back-requires-in-Domains-3-clause-index g c =
 
 pub returns-in-Variable-clause-sound : goal.returns-in-Variable-clause-sound
 returns-in-Variable-clause-sound g c =
-    rw c.drop_variable.ensures (sound_without_variable c.args.store.now c.args.rules.now.items c.args.queue.now.settled.items _ c.requires.sound
+    rw c.drop_variable.ensures (sound_without_variable c.args.store.now c.args.rules.now.items (claimed_flags c.args.wakes c.args.queue.now.settled.items) _ c.requires.sound
     (rw c.in-Variable.is at c.requires.present))
 
 pub returns-in-Variable-clause-index : goal.returns-in-Variable-clause-index
@@ -36,7 +38,11 @@ pub returns-in-Some-clause-sound : goal.returns-in-Some-clause-sound
 returns-in-Some-clause-sound g c =
     let cs = c.args.rules.now.items in
     let ms = c.args.queue.now.settled.items in
-    let e : c.pop.new.self.items ≡ take (length cs - 1) cs = c.in-Some.ensures.rest ∙ ap (λ n. take n cs) (let o = c.args.rules.now.ok.0 in omega (arith, o)) in
-    let f : c.pop-in-Some.new.self.settled.items ≡ take (length cs - 1) ms = c.pop-in-Some.ensures.left ∙ ap (λ n. take (n - 1) ms) c.requires.sound.settled.one_each in
-    subst (λ ds. IsSoundRules c.args.store.now ds c.pop-in-Some.new.self.settled.items) (sym e)
-    (subst (λ ns. IsSoundRules c.args.store.now (take (length cs - 1) cs) ns) (sym f) (sound_without_rules c.args.store.now cs ms (length cs - 1) c.requires.sound))
+    let wakes = c.args.wakes in
+    let n = length cs - 1 in
+    let each : length ms ≡ length cs = sym (claimed_length wakes ms) ∙ c.requires.sound.settled.one_each in
+    let e : c.pop.new.self.items ≡ take n cs = c.in-Some.ensures.rest ∙ ap (λ m. take m cs) (let o = c.args.rules.now.ok.0 in omega (arith, o)) in
+    let f : c.pop-in-Some.new.self.settled.items ≡ take n ms = c.pop-in-Some.ensures.left ∙ ap (λ m. take (m - 1) ms) each in
+    subst (λ ds. IsSoundRules c.args.store.now ds (claimed_flags wakes c.pop-in-Some.new.self.settled.items)) (sym e)
+    (subst (λ ns. IsSoundRules c.args.store.now (take n cs) (claimed_flags wakes ns)) (sym f)
+    (subst (IsSoundRules c.args.store.now (take n cs)) (claimed_take wakes n ms) (sound_without_rules c.args.store.now cs (claimed_flags wakes ms) n c.requires.sound)))
