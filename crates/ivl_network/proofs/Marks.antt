@@ -11,7 +11,7 @@ use Rattle.ivl_rules.specs.declared.rules.Rule.{Rule}
 use Rattle.ivl_network.specs.declared.network.change.Change.{Change}
 use Rattle.ivl_network.specs.Network.{IsSoundRules}
 use Rattle.ivl_network.specs.Trail.{AreFixedIn, AreSettledMarks, RulesPast, rules_past_at}
-use Rattle.ivl_store.proofs.Trails.{take_lt}
+use Rattle.ivl_network.proofs.Trails.{take_lt}
 
 -- where the marks are the same
 pub marks_same : (flags : List Bool) (marked marked' : List RulesPast) → AreSettledMarks flags marked → marked' ≡ marked → AreSettledMarks flags marked'

@@ -154,14 +154,15 @@ fn each_allocation_of_the_calculator_fails() {
 
 #[test]
 fn each_allocation_of_the_solver_fails() {
-    let (input, answers) = PROGRAMS[1].2;
-    each_allocation_fails(
-        "ivl_solve",
-        |alloc, r, w| ivl_store_lines::session(alloc, RandomState::new(&()).unwrap(), r, w),
-        input,
-        answers,
-        "error: out of memory",
-    );
+    // each kind of line once: the stored run has searches that are too long to be repeated for each allocation
+    let input = b"var x 0 9\nvar y 0 4 7 9\nvar z 2 6\nsum x y z\nx + 1 <= y\ny != z\nx = z + -3\ndifferent x y z\ncut z 3 6\n\
+        limit 5000\ngo on\nshow\nshow y\nsolve 2\ncount\nmin x\nmax y\nx <= w\ndifferent x x\nx <= y z\n";
+    let session: Session = |alloc, r, w| ivl_store_lines::session(alloc, RandomState::new(&()).unwrap(), r, w);
+    let mut answers = Vec::new();
+    session(Global, &mut &input[..], &mut answers).unwrap();
+    let answers = String::from_utf8(answers).unwrap();
+    assert!(answers.lines().filter(|line| line.starts_with("error: ")).count() == 3, "{answers}");
+    each_allocation_fails("ivl_solve", session, input, &answers, "error: out of memory");
 }
 
 /// A map with a key more, or, where an allocation fails, as it was; so too the copy of a key.

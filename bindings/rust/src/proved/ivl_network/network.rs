@@ -385,7 +385,6 @@ impl<B: Width> Network<B> {
     /// Those of [`Network::settle`].
     ///
     /// ```
-    /// use intervallum::proved::ivl_network::network::{Network, Settled};
     /// use intervallum::proved::examples::*;
     ///
     /// fn main() -> Result<(), std::boxed::Box<dyn std::error::Error>> {
@@ -593,7 +592,6 @@ impl<B: Width> Network<B> {
     /// allocate.
     ///
     /// ```
-    /// use intervallum::proved::ivl_network::network::{Network, Settled};
     /// use intervallum::proved::examples::*;
     ///
     /// fn main() -> Result<(), std::boxed::Box<dyn std::error::Error>> {
@@ -625,15 +623,16 @@ impl<B: Width> Network<B> {
             return false;
         }
         let start = self.marks[mark];
+        let were_settled = self.settled_at_marks[mark];
         revert_to(
             &mut self.trail,
             start,
+            !were_settled,
             &mut self.store,
             &mut self.rules,
             &mut self.index,
             &mut self.queue,
         );
-        let were_settled = self.settled_at_marks[mark];
         self.queue.settle_all(were_settled);
         self.marks.truncate(mark);
         self.settled_at_marks.truncate(mark);

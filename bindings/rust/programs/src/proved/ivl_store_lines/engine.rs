@@ -20,8 +20,10 @@ use crate::rattle::std::io::{Read, Write};
 impl Answers for Solver {
     fn may_take_long(&self, line: &[u8]) -> bool {
         match first_word(line) {
-            b"cut" | b"sum" | b"go" | b"solve" | b"count" | b"min" | b"max" => true,
-            _ => false,
+            b"" => false,
+            // a rule, whose variable may be named so, has an operator, and each ends in this
+            b"var" | b"limit" | b"show" => line.iter().any(|byte| *byte == b'='),
+            _ => true,
         }
     }
 

@@ -3,8 +3,13 @@
 
 #[allow(unused_imports)]
 use crate::rattle::prelude::*;
+
+mod rules;
+
 use crate::proved::ivl_store_lines::fault::Fault;
 use crate::proved::ivl_store_lines::relation::Relation;
+pub use crate::proved::ivl_store_lines::request::rules::begins_rule;
+use crate::proved::ivl_store_lines::request::rules::rule_from;
 use crate::proved::ivl_lines::{next_word, number_from, one_word, pairs_from, three_words};
 use crate::rattle::std::alloc::Global;
 
@@ -43,6 +48,10 @@ const CUT: &str = "cut x l u l u ..";
 
 const SUM: &str = "sum x y z";
 
+const DIFFERENT: &str = "different x y ..";
+
+const RULES: &str = "x + n <= y, x + n != y, x + n = y or x + y = z";
+
 const LIMIT: &str = "limit n";
 
 const GO_ON: &str = "go on";
@@ -57,17 +66,26 @@ const MIN: &str = "min x";
 
 const MAX: &str = "max x";
 
-/// Reads the request of a command and the words after it. Linear in the line; allocates the list
-/// of the pairs.
+/// Reads the request of the first word of a line and the words after it: a rule if they have its form, and
+/// else a command. So a variable may have the name of a command, and stand in a rule. Linear in the line; allocates
+/// the list of the pairs.
 ///
 /// # Errors
 ///
-/// `Command`, `Form`, `Number` or `Memory`: see [`Fault`].
+/// `Command`, `Form`, `Number`, `Range` or `Memory`: see [`Fault`].
 pub fn request_from<'a>(
     alloc: Global,
     name: &'a str,
     words: &'a str,
 ) -> Result<Request<'a>, Fault<'a>> {
+    match rule_from(name, words) {
+        Some(read) => read,
+        None => command_from(alloc, name, words),
+    }
+}
+
+/// The request of a command and the words after it.
+fn command_from<'a>(alloc: Global, name: &'a str, words: &'a str) -> Result<Request<'a>, Fault<'a>> {
     match name {
         "var" => {
             let (variable, pairs) = variable_and_pairs(alloc, words, VAR)?;
@@ -78,6 +96,7 @@ pub fn request_from<'a>(
             Some((x, y, z)) => Ok(Request::Sum(x, y, z)),
             None => Err(Fault::Form(SUM)),
         },
+        "different" => different_from(words),
         "limit" => Ok(Request::Limit(limit_from(words)?)),
         "go" => match one_word(words) {
             Some(word) => go_on_from(word),
@@ -88,8 +107,25 @@ pub fn request_from<'a>(
         "count" => count_from(words),
         "min" => Ok(Request::Least(name_from(words, MIN)?)),
         "max" => Ok(Request::Greatest(name_from(words, MAX)?)),
-        _ => Err(Fault::Command(name)),
+        _ => Err(unknown_command(name, words)),
     }
+}
+
+/// The fault of words that begin with no name of a command, which may be meant as a rule.
+fn unknown_command<'a>(name: &'a str, words: &str) -> Fault<'a> {
+    if begins_rule(words) {
+        Fault::Form(RULES)
+    } else {
+        Fault::Command(name)
+    }
+}
+
+/// The request of `different`, after which there are two names or more.
+fn different_from<'a>(words: &'a str) -> Result<Request<'a>, Fault<'a>> {
+    if next_word(words).is_none() || one_word(words).is_some() {
+        return Err(Fault::Form(DIFFERENT));
+    }
+    Ok(Request::Different(words))
 }
 
 /// The first word, and the numbers after it two by two.

@@ -153,10 +153,12 @@ fn note_place<B: Width>(
     }
 }
 
-/// Takes back the changes from a place of the trail on, the last one first.
+/// Takes back the changes from a place of the trail on, the last one first. Where it does not wake rules, the
+/// flags of the queue claim nothing afterwards, and the caller sets them.
 pub(super) fn revert_to<B: Width>(
     trail: &mut Vec<Change<B>>,
     start: usize,
+    wakes: bool,
     store: &mut Store<B>,
     rules: &mut Vec<Rule>,
     index: &mut Index,
@@ -164,7 +166,7 @@ pub(super) fn revert_to<B: Width>(
 ) {
     while trail.len() > start {
         if let Some(change) = trail.pop() {
-            take_back(change, store, rules, index, queue);
+            take_back(change, wakes, store, rules, index, queue);
         }
     }
 }
@@ -173,17 +175,18 @@ pub(super) fn revert_to<B: Width>(
 /// for those that take nothing.
 fn take_back<B: Width>(
     change: Change<B>,
+    wakes: bool,
     store: &mut Store<B>,
     rules: &mut Vec<Rule>,
     index: &mut Index,
     queue: &mut Queue,
 ) {
     match change {
-        Change::Domain(variable, set) => put_back(store, rules, index, queue, variable, set),
+        Change::Domain(variable, set) => put_back(store, rules, index, queue, wakes, variable, set),
         Change::Domains(c, x, y, z) => {
-            put_back(store, rules, index, queue, c.z, z);
-            put_back(store, rules, index, queue, c.y, y);
-            put_back(store, rules, index, queue, c.x, x);
+            put_back(store, rules, index, queue, wakes, c.z, z);
+            put_back(store, rules, index, queue, wakes, c.y, y);
+            put_back(store, rules, index, queue, wakes, c.x, x);
         }
         Change::Variable => {
             store.drop_variable();
@@ -204,12 +207,13 @@ fn put_back<B: Width>(
     rules: &[Rule],
     index: &Index,
     queue: &mut Queue,
+    wakes: bool,
     variable: usize,
     set: Option<IntervalSet<B>>,
 ) {
     if let Some(set) = set {
         store.replace(variable, set);
-        queue.wake(true, false, variable, store, rules, index);
+        queue.wake(wakes, false, variable, store, rules, index);
     }
 }
 

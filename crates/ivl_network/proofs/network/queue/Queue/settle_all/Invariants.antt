@@ -1,6 +1,5 @@
 use Rattle.std.proofs.Common.{◌≡◌, length}
-use Rattle.ivl_store.specs.Network.{unsettled_count}
-use Rattle.ivl_network.specs.Queue.{IsRuleQueue}
+use Rattle.ivl_network.specs.Queue.{IsRuleQueue, unsettled_count}
 use Rattle.ivl_network.proofs.network.queue.Queue.settle_all.Given as goal
 
 abbrev pub invariant-loop-k : goal.invariant-loop-k
