@@ -8,7 +8,7 @@ use Rattle.ivl_laws.proofs.Orders.{int_eq_is}
 use Rattle.ivl_store.specs.Solutions.{LiesWithin}
 use Rattle.ivl_rules.specs.declared.rules.Rule.{Rule}
 use Rattle.ivl_rules.specs.declared.rules.Rule.TheVariants.{Sum, Shifted, AtMost, Differs}
-use Rattle.ivl_rules.specs.Rules.{HasPointAt, NamesOf, NarrowedBy, needs_singles}
+use Rattle.ivl_rules.specs.Rules.{HasPointAt, NamesOf, needs_singles}
 use Rattle.ivl_rules.proofs.Narrowings.{fixed_elsewhere}
 use Rattle.ivl_rules.proofs.Points.{differing_first, differing_second}
 use Rattle.ivl_network.specs.Families.{IsFixedBy}
