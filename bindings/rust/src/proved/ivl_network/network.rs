@@ -585,11 +585,11 @@ impl<B: Width> Network<B> {
     ///
     /// If no rule was left to look at when the network was marked, none is afterwards, and the next
     /// [`Network::settle`] looks only at what changes then. Otherwise the rules that name a variable whose
-    /// domain is put back have to be looked at again.
+    /// domain is put back have to be looked at again, but for those that take nothing.
     ///
-    /// Linear in the changes, and for each domain that is put back a pass over the rules that name its
-    /// variable. A rule that is dropped before it was looked at costs a pass over those that wait. Does not
-    /// allocate.
+    /// Linear in the changes and in the rules that wait; where rules were left to look at, for each domain
+    /// that is put back also a pass over the rules that name its variable. A rule that is dropped before it
+    /// was looked at costs a pass over those that wait. Does not allocate.
     ///
     /// ```
     /// use intervallum::proved::examples::*;
