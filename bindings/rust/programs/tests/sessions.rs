@@ -154,7 +154,13 @@ fn each_allocation_of_the_calculator_fails() {
 
 #[test]
 fn each_allocation_of_the_solver_fails() {
-    let (input, answers) = PROGRAMS[1].2;
+    // not the stored run, which is long
+    let input =
+        b"var x 1 9 20 30\nvar y 1 9\nvar z 11 11\nsum x y z\ncut x 2 5 7 7\nx + 4 <= y\nx <= y + 9\ndifferent x y z\n\
+        show\ncut x 2 3\ngo on\nx != y + -6\nsolve\ncount\nsolve 1\nmin y\nmax y\nshow y\n";
+    let answers = "ok\nok\nok\nok\nok\nok\nok\nok\nx [2..5]\ny [6..9]\nz [11..11]\nok\nok\nok\nok\n\
+        x 2 y 9 z 11\nx 3 y 8 z 11\nok\ncount 2\nok\nx 2 y 9 z 11\nmore possible\nx 3 y 8 z 11\nok\nx 2 y 9 z 11\nok\n\
+        y [8..9]\nok\n";
     each_allocation_fails(
         "ivl_solve",
         |alloc, r, w| ivl_store_lines::session(alloc, RandomState::new(&()).unwrap(), r, w),
