@@ -154,15 +154,20 @@ fn each_allocation_of_the_calculator_fails() {
 
 #[test]
 fn each_allocation_of_the_solver_fails() {
-    // each kind of line once: the stored run has searches that are too long to be repeated for each allocation
-    let input = b"var x 0 9\nvar y 0 4 7 9\nvar z 2 6\nsum x y z\nx + 1 <= y\ny != z\nx = z + -3\ndifferent x y z\ncut z 3 6\n\
-        limit 5000\ngo on\nshow\nshow y\nsolve 2\ncount\nmin x\nmax y\nx <= w\ndifferent x x\nx <= y z\n";
-    let session: Session = |alloc, r, w| ivl_store_lines::session(alloc, RandomState::new(&()).unwrap(), r, w);
-    let mut answers = Vec::new();
-    session(Global, &mut &input[..], &mut answers).unwrap();
-    let answers = String::from_utf8(answers).unwrap();
-    assert!(answers.lines().filter(|line| line.starts_with("error: ")).count() == 3, "{answers}");
-    each_allocation_fails("ivl_solve", session, input, &answers, "error: out of memory");
+    // not the stored run, which is long
+    let input =
+        b"var x 1 9 20 30\nvar y 1 9\nvar z 11 11\nsum x y z\ncut x 2 5 7 7\nx + 4 <= y\nx <= y + 9\ndifferent x y z\n\
+        show\ncut x 2 3\ngo on\nx != y + -6\nsolve\ncount\nsolve 1\nmin y\nmax y\nshow y\n";
+    let answers = "ok\nok\nok\nok\nok\nok\nok\nok\nx [2..5]\ny [6..9]\nz [11..11]\nok\nok\nok\nok\n\
+        x 2 y 9 z 11\nx 3 y 8 z 11\nok\ncount 2\nok\nx 2 y 9 z 11\nmore possible\nx 3 y 8 z 11\nok\nx 2 y 9 z 11\nok\n\
+        y [8..9]\nok\n";
+    each_allocation_fails(
+        "ivl_solve",
+        |alloc, r, w| ivl_store_lines::session(alloc, RandomState::new(&()).unwrap(), r, w),
+        input,
+        answers,
+        "error: out of memory",
+    );
 }
 
 /// A map with a key more, or, where an allocation fails, as it was; so too the copy of a key.
