@@ -36,7 +36,7 @@ impl Answers for Solver {
         match first_word(line) {
             b"" => false,
             // a rule, whose variable may be named so, has an operator, and each ends in this
-            b"var" | b"limit" | b"show" => line.iter().any(|byte| *byte == b'='),
+            b"var" | b"limit" | b"show" => line.contains(&b'='),
             _ => true,
         }
     }

@@ -6,7 +6,7 @@ use Rattle.ivl_laws.specs.Families.{set_at}
 use Rattle.ivl_laws.specs.Runs.{Covers}
 use Rattle.ivl_laws.specs.Sets.{HasSome}
 use Rattle.ivl_search.specs.Best.{IsBetter}
-use Rattle.ivl_search.specs.Halves.{HasTwo}
+use Rattle.ivl_network.specs.Settled.{HasTwo}
 use Rattle.ivl_search.proofs.search.choice.node_of.Goals as goal
 
 pub better-best-requires-clause-filled : goal.better-best-requires-clause-filled

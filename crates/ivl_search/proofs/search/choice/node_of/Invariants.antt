@@ -2,7 +2,7 @@ use Rattle.std.proofs.Common.{◌≡◌, ◌<◌, ℕ, length}
 use Rattle.std.specs.Prelude.{ℤ, IfSome, None}
 use Rattle.ivl_laws.specs.Families.{set_at}
 use Rattle.ivl_laws.specs.Sets.{HasSome, Only, SameMembers}
-use Rattle.ivl_search.specs.Halves.{HasTwo}
+use Rattle.ivl_network.specs.Settled.{HasTwo}
 use Rattle.ivl_search.proofs.search.choice.node_of.Given as goal
 
 abbrev pub invariant-loop-i : goal.invariant-loop-i

@@ -1,5 +1,6 @@
-use Rattle.std.proofs.Common.{◌<◌, ◌+◌, ◌-◌, ◌*◌, ◌/◌, ◌++◌, List, length, map, max}
+use Rattle.std.proofs.Common.{◌≡◌, [], arith, ◌<◌, ◌+◌, ◌-◌, ◌*◌, ◌/◌, ◌++◌, List, length, map, max}
 use Rattle.std.specs.Prelude.{ℤ, Contains}
+use Rattle.std.proofs.lemmas.List.{length-map}
 use Rattle.ivl_search.specs.Budget.{points_of}
 use Rattle.ivl_search.specs.Points.{SolvesRules}
 use Rattle.ivl_search.proofs.Rooms.{enough_more}
@@ -19,3 +20,30 @@ returns-clause-enough g c = λ e.
     let points = λ (D : List (List (ℤ × ℤ))). 2 * max 1 (points_of g.B.Width.whole D) - 1 in
     enough_more (length net.rules) (length c.args.rules.now) (points c.args.domains.now) c.args.limits.nodes c.in_ok-network.ensures.no_more
     (subst (λ D. c.args.limits.nodes < points D * (length net.rules / 500 + 1)) c.in_ok-network.ensures.domains (c.in_ok-end.ensures.enough e).1)
+
+-- as many points are kept as were found
+kept_count : {A B : Type 0} (f : A → B) (items start : List A) (more : List B) → map f items ≡ map f start ++ more → start ≡ [] → length items ≡ length more
+kept_count f items start more e none = sym (length-map items f) ∙ ap length (e ∙ ap (λ xs. map f xs ++ more) none)
+
+pub returns-clause-bounded : goal.returns-clause-bounded
+returns-clause-bounded g c =
+    let f = c.in_ok-end.ensures.finds in
+    let count = f.3 in
+    let kept = kept_count _ _ _ f.0 (f.2 refl) c.new-points.ensures.items in
+    omega (arith, kept, count)
+
+pub returns-clause-full : goal.returns-clause-full
+returns-clause-full g c = λ e.
+    let f = c.in_ok-end.ensures.finds in
+    let count = f.3 in
+    let kept = kept_count _ _ _ f.0 (f.2 refl) c.new-points.ensures.items in
+    let none = c.in_ok-end.ensures.full e in
+    omega (arith, kept, count, none)
+
+pub returns-clause-visited : goal.returns-clause-visited
+returns-clause-visited g c =
+    let f = c.in_ok-end.ensures.finds in
+    let count = f.3 in
+    let kept = kept_count _ _ _ f.0 (f.2 refl) c.new-points.ensures.items in
+    let visited = c.in_ok-end.ensures.visited in
+    omega (arith, kept, count, visited)
