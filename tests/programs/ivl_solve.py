@@ -234,8 +234,8 @@ def rule_of(words):
 class Solver(Commands):
     """Domains as sets of their members, in the order in which they were defined.
 
-    Narrowings are made in rounds: a rule whose domains have changed since it narrowed waits for the next round, and of a
-    round that which waits last comes first. This tells which domains an unfinished line leaves; those of any other are
+    Narrowings are made in rounds: a rule whose domains have changed since it narrowed waits for the next round, but for one
+    by <= or != that would take nothing, and of a round that which waits last comes first. This tells which domains an unfinished line leaves; those of any other are
     compared with `supported`.
     """
 
@@ -345,7 +345,7 @@ class Solver(Commands):
             if name == b"var":
                 self.domains[words[0]] = members
             else:
-                self.replace(words[0], self.domains[words[0]] & members)
+                self.replace({words[0]: self.domains[words[0]] & members})
         if name != b"var":
             self.settle()
         return self.state()
@@ -360,13 +360,19 @@ class Solver(Commands):
         self.settle()
         return self.state()
 
-    def replace(self, name, members):
-        if members != self.domains[name]:
-            self.domains[name] = members
+    def replace(self, domains):
+        changed = [name for name, members in domains.items() if members != self.domains[name]]
+        self.domains.update(domains)
+        for name in changed:
             for place in reversed(range(len(self.rules))):
-                if self.is_settled[place] and name in self.rules[place].names:
+                if self.is_settled[place] and name in self.rules[place].names and not self.stays_settled(self.rules[place]):
                     self.is_settled[place] = False
                     self.later.append(place)
+
+    def stays_settled(self, rule):
+        """Whether a rule is not looked at again though a domain of it has changed."""
+        narrowed = rule.narrowed(self.domains)
+        return rule.sign != b"=" and all(members and members == self.domains[name] for name, members in narrowed.items())
 
     def first(self):
         """The rule that narrows next, or None."""
@@ -378,8 +384,7 @@ class Solver(Commands):
         all_left = supported(dict(self.domains), self.rules)
         left = self.limit
         while (place := self.first()) is not None and (cost := self.cost(place)) <= left:
-            for name, members in self.rules[place].narrowed(self.domains).items():
-                self.replace(name, members)
+            self.replace(self.rules[place].narrowed(self.domains))
             self.round.pop()
             self.is_settled[place] = True
             left -= cost
