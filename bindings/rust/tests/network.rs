@@ -206,6 +206,33 @@ fn networks_leave_what_the_rules_support() {
 }
 
 #[test]
+fn rules_that_take_nothing_are_not_looked_at_again() {
+    let cut = |network: &mut Network<i8>, variable, low, high| {
+        network.restrict(variable, &IntervalSet::new(Global, low, high).unwrap()).unwrap();
+        is_settled(network)
+    };
+    for (rule, leaves, wakes) in [
+        (Rule::Differs { x: 0, y: 1, by: 0 }, vec![(0, 0, 5), (1, 3, 8)], (0, 4, 4)),
+        (Rule::AtMost { x: 0, y: 1, by: 0 }, vec![(0, 0, 5), (1, 2, 9)], (1, 2, 4)),
+    ] {
+        let mut network = Network::new(Global);
+        for _ in 0..2 {
+            network.add_variable(IntervalSet::new(Global, 0i8, 9).unwrap()).unwrap();
+        }
+        network.require(rule).unwrap();
+        assert_eq!(network.settle(1), Ok(Settled::All));
+        for (variable, low, high) in leaves {
+            assert!(cut(&mut network, variable, low, high), "{rule:?} at {variable}");
+        }
+        let (variable, low, high) = wakes;
+        assert!(!cut(&mut network, variable, low, high), "{rule:?}");
+        assert_eq!(network.settle(1), Ok(Settled::All));
+        // a single number that the other domain lacks takes nothing
+        assert!(!matches!(rule, Rule::Differs { .. }) || cut(&mut network, 1, 5, 8));
+    }
+}
+
+#[test]
 fn a_mark_keeps_whether_all_was_settled() {
     for is_all in [true, false] {
         let mut network = Network::new(Global);
