@@ -229,7 +229,8 @@ fn debug_builds_test_the_conditions_of_pages_maps_and_searches() {
     use intervallum::proved::ivl_map::IntervalMap;
     use intervallum::proved::ivl_network::network::Network;
     use intervallum::proved::ivl_paged::PagedSet;
-    use intervallum::proved::ivl_rules::rules::{Rule, narrowing::narrow};
+    use intervallum::proved::ivl_rules::rules::Rule;
+    use intervallum::proved::ivl_rules::rules::narrowing::{narrow, takes_nothing};
     use intervallum::proved::ivl_search::search::{Limits, count, greatest, least, rules, solutions};
     use intervallum::proved::ivl_store::store::Constraint;
 
@@ -246,6 +247,7 @@ fn debug_builds_test_the_conditions_of_pages_maps_and_searches() {
         map().first_fit(Interval::new(1, 9), 0).is_ok() => "the condition of `first_fit` is broken: crate::proved::ivl_interval::width::SizeNumber::number(count) > 0";
         Network::<u8>::new(Global).require(Rule::Shifted { x: 1, y: 1, by: 0 }) => "the condition of `require` is broken: rule.is_over_different()";
         narrow(&mut domains(), &Rule::Differs { x: 0, y: 1, by: 0 }) => "the condition of `narrow` is broken: rule.is_over_different() && rule.first_unknown(domains.len()).is_none()";
+        takes_nothing(&domains(), &Rule::Differs { x: 0, y: 1, by: 0 }) => "the condition of `takes_nothing` is broken: rule.is_over_different() && rule.first_unknown(domains.len()).is_none()";
         solutions(Global, &domains(), &twice, limits()) => "the condition of `solutions` is broken: all_distinct(constraints)";
         count(Global, &domains(), &twice, limits()) => "the condition of `count` is broken: all_distinct(constraints)";
         least(Global, &domains(), &twice, 0, limits()) => "the condition of `least` is broken: all_distinct(constraints)";

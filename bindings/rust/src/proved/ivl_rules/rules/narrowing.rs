@@ -102,6 +102,7 @@ pub fn narrow<B: Width>(domains: &mut [IntervalSet<B>], rule: &Rule) -> Result<b
 ///
 /// Words: [`AreDifferent`](crate::definitions#AreDifferent), [`AllPresent`](crate::definitions#AllPresent), [`places_of`](crate::definitions#places), [`SupportsAll`](crate::definitions#SupportsAll), [`set_at`](crate::definitions#set_at).
 pub fn takes_nothing<B: Width>(domains: &[IntervalSet<B>], rule: &Rule) -> bool {
+    debug_assert!({ #[allow(unused_imports)] use crate::proved::ivl_interval::ops::*; rule.is_over_different() && rule.first_unknown(domains.len()).is_none() }, "{}", "the condition of `takes_nothing` is broken: rule.is_over_different() && rule.first_unknown(domains.len()).is_none()");
     match rule {
         Rule::Sum(_) => false,
         Rule::Shifted { x: _, y: _, by: _ } => false,
