@@ -115,9 +115,15 @@ def main(programs):
         name = os.path.basename(program)
         for what, make in INPUTS[name].items():
             short, _ = seconds(program, make(10_000))
-            long, answers = seconds(program, make(100_000))
+            text = make(100_000)
+            # a machine with other work may take long once, and not three times
+            for _ in range(3):
+                long, answers = seconds(program, text)
+                is_slow = long > MOST_SECONDS or long > 25 * max(short, LEAST_SECONDS)
+                if not is_slow:
+                    break
             shown.append(f"{what} {long:.2f} s")
-            if long > MOST_SECONDS or long > 25 * max(short, LEAST_SECONDS):
+            if is_slow:
                 raise SystemExit(f"large: {name}: {what}: {short:.2f} s and, ten times as large, {long:.2f} s for {answers} answers")
         print(f"large: {name}: {', '.join(shown)}")
 
