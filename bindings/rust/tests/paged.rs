@@ -166,6 +166,38 @@ fn fits_agree_with_flags() {
     assert_eq!(set.take_first_fit(5), None);
 }
 
+/// Fills a set from the least number of its type to the greatest, takes both off, puts them back, and empties it.
+fn assert_reaches_the_ends<B: Width>() {
+    let (least, greatest) = (B::min_value(), B::max_value());
+    let mut set: PagedSet<B> = PagedSet::new(Global);
+    assert_eq!(set.insert_interval(Interval::new(least, greatest)), Ok(()));
+    let size = greatest.number().abs_diff(least.number()) + 1;
+    assert_eq!(set.size().number(), size);
+    assert!(set.first() == Some(least) && set.last() == Some(greatest));
+    assert!(set.pop_first() == Some(least) && set.pop_last() == Some(greatest));
+    assert!(!set.contains(&least) && !set.contains(&greatest) && set.size().number() == size - 2);
+    assert!(set.next_from(greatest).is_none() && set.previous_to(least).is_none());
+    assert!(set.insert(greatest) == Ok(true) && set.insert(least) == Ok(true));
+    assert!(set.interval_count() == 1 && set.hull() == Interval::new(least, greatest));
+    assert!(set.nth(set.rank(greatest)) == Some(greatest));
+    assert_eq!(set.remove_interval(Interval::new(least, greatest)), Ok(()));
+    assert!(set.is_empty());
+}
+
+#[test]
+fn the_ends_of_each_type() {
+    assert_reaches_the_ends::<u8>();
+    assert_reaches_the_ends::<u16>();
+    assert_reaches_the_ends::<u32>();
+    assert_reaches_the_ends::<u64>();
+    assert_reaches_the_ends::<usize>();
+    assert_reaches_the_ends::<i8>();
+    assert_reaches_the_ends::<i16>();
+    assert_reaches_the_ends::<i32>();
+    assert_reaches_the_ends::<i64>();
+    assert_reaches_the_ends::<isize>();
+}
+
 #[test]
 fn the_ends_of_a_type() {
     let mut set: PagedSet<u8> = PagedSet::new(Global);
