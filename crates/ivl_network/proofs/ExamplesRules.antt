@@ -175,7 +175,7 @@ none_of_2 = record { low = omega arith; names = (λ k d e. absurd (omega arith))
 rule_taken_back : revert_rule {B = ℕ} {O = ℕ} Require (record { domains = bits; rules = before ∷ [] }) ≡ record { domains = bits; rules = [] }
 rule_taken_back = refl
 
-cut_taken_back : rules_past_at {B = ℕ} {O = ℕ} (Domain 0 (Some ((pos 0, pos 1) ∷ [])) ∷ Domain 1 (Some ((pos 0, pos 1) ∷ [])) ∷ []) (record { domains = zero_and_one; rules = [] }) 0
+cut_taken_back : rules_past_at {B = ℕ} {O = ℕ} (Domain 0 ((pos 0, pos 1) ∷ []) ∷ Domain 1 ((pos 0, pos 1) ∷ []) ∷ []) (record { domains = zero_and_one; rules = [] }) 0
     ≡ record { domains = bits; rules = [] }
 cut_taken_back = refl
 

@@ -1,44 +1,81 @@
 -- What the calls of a network leave of its trail and its marks.
-use Rattle.std.proofs.Common.{◌≡◌, ◌∙◌, ◌<◌, ◌⊎◌, inl, inr, ℕ, ap, arith, get_or, length, List, [], ◌∷◌, ◌++◌, Bool, false, refl, subst, sym, take, true}
-use Rattle.std.specs.Prelude.{ℤ, ◌&&◌, map}
-use Rattle.std.proofs.lemmas.List.{take-map}
+use Rattle.std.proofs.Common.{◌≡◌, ◌∙◌, ◌-◌, ◌<◌, ◌⊎◌, inl, inr, ℕ, ap, arith, get_or, length, List, [], ◌∷◌, ◌++◌, Bool, false, refl, set, subst, sym, take}
+use Rattle.std.specs.Prelude.{ℤ, All, map}
+use Rattle.std.proofs.lemmas.List.{length-set, take-map}
 use Rattle.ivl_network.specs.declared.network.change.Change.{Change}
 use Rattle.ivl_rules.specs.declared.rules.Rule.{Rule}
+use Rattle.ivl_network.specs.declared.network.change.Change.TheVariants.{Domain}
+use Rattle.ivl_network.specs.Families.{ArePresent}
 use Rattle.ivl_network.specs.Network.{RulesState}
-use Rattle.ivl_network.specs.Trail.{RulesPast, revert_rule, rules_past_at, with_rule_change, ArePresentIn, AreSettledMarks, IsSoundRuleTrail}
+use Rattle.ivl_network.specs.Trail.{RulesPast, revert_rule, rules_past_at, with_rule_change, ArePresentIn, AreSettledMarks, IsRuleKeptFrom, IsSoundRuleTrail, KeepsPast}
+use Rattle.ivl_network.proofs.Kept.{kept_at_marks}
 use Rattle.ivl_network.proofs.Marks.{marks_same}
 use Rattle.ivl_network.proofs.Trails.{SameAtMarks, marked_logged, marked_marked, marked_undone, sound_fewer, sound_logged, sound_marked, sound_undone}
 
--- where no change is written down there is no mark, or nothing changed
-pub not_both : (is_kept is_change : Bool) (P Q : Type 0) → (is_kept ≡ false → P) → (is_change ≡ false → Q) → (is_kept && is_change) ≡ false → P ⊎ Q
-not_both false is_change P Q p q none = inl (p refl)
-not_both true is_change P Q p q none = inr (q none)
-
 -- ---- a change that is written down if there is a mark
 
-pub logged_trail : {B O : Type 0} (marks : List ℕ) (trail trail0 trail' : List (Change B O)) (change : Change B O) (now now' : RulesPast) (is_kept is_change : Bool)
-    → IsSoundRuleTrail marks trail now → ArePresentIn now' → trail0 ≡ trail → trail' ≡ with_rule_change (is_kept && is_change) trail0 change
-    → revert_rule change now' ≡ now → (is_kept ≡ false → marks ≡ []) → (is_change ≡ false → SameAtMarks marks trail now now') → IsSoundRuleTrail marks trail' now'
-logged_trail marks trail trail0 trail' change now now' is_kept is_change s p same e back unmarked unchanged =
-    subst (λ t. IsSoundRuleTrail marks t now') (sym (e ∙ ap (λ t. with_rule_change (is_kept && is_change) t change) same))
-    (sound_logged marks trail change now now' (is_kept && is_change) s p back (not_both is_kept is_change _ _ unmarked unchanged))
+pub logged_trail : {B O : Type 0} (marks : List ℕ) (trail trail0 trail' : List (Change B O)) (change : Change B O) (now now' : RulesPast) (is_kept : Bool)
+    → IsSoundRuleTrail marks trail now → ArePresentIn now' → trail0 ≡ trail → trail' ≡ with_rule_change is_kept trail0 change
+    → revert_rule change now' ≡ now → (is_kept ≡ false → marks ≡ []) → IsSoundRuleTrail marks trail' now'
+logged_trail marks trail trail0 trail' change now now' is_kept s p same e back unmarked =
+    subst (λ t. IsSoundRuleTrail marks t now') (sym (e ∙ ap (λ t. with_rule_change is_kept t change) same))
+    (sound_logged marks trail change now now' is_kept s p back (λ f. inl (unmarked f)))
 
-pub logged_marks : {B O : Type 0} (marks : List ℕ) (trail trail0 trail' : List (Change B O)) (change : Change B O) (now now' : RulesPast) (is_kept is_change : Bool)
-    → IsSoundRuleTrail marks trail now → trail0 ≡ trail → trail' ≡ with_rule_change (is_kept && is_change) trail0 change
-    → revert_rule change now' ≡ now → (is_kept ≡ false → marks ≡ []) → (is_change ≡ false → SameAtMarks marks trail now now') → map (rules_past_at trail' now') marks ≡ map (rules_past_at trail now) marks
-logged_marks marks trail trail0 trail' change now now' is_kept is_change s same e back unmarked unchanged =
-    ap (λ t. map (rules_past_at t now') marks) (e ∙ ap (λ t. with_rule_change (is_kept && is_change) t change) same)
-    ∙ marked_logged marks trail change now now' (is_kept && is_change) s back (not_both is_kept is_change _ _ unmarked unchanged)
+pub logged_marks : {B O : Type 0} (marks : List ℕ) (trail trail0 trail' : List (Change B O)) (change : Change B O) (now now' : RulesPast) (is_kept : Bool)
+    → IsSoundRuleTrail marks trail now → trail0 ≡ trail → trail' ≡ with_rule_change is_kept trail0 change
+    → revert_rule change now' ≡ now → (is_kept ≡ false → marks ≡ []) → map (rules_past_at trail' now') marks ≡ map (rules_past_at trail now) marks
+logged_marks marks trail trail0 trail' change now now' is_kept s same e back unmarked =
+    ap (λ t. map (rules_past_at t now') marks) (e ∙ ap (λ t. with_rule_change is_kept t change) same)
+    ∙ marked_logged marks trail change now now' is_kept s back (λ f. inl (unmarked f))
 
 -- and what the flags of the marks say
-pub logged : {B O : Type 0} (flags : List Bool) (marks : List ℕ) (trail trail0 trail' : List (Change B O)) (change : Change B O) (now now' : RulesPast) (is_kept is_change : Bool)
-    → AreSettledMarks flags (map (rules_past_at trail now) marks) → IsSoundRuleTrail marks trail now → ArePresentIn now' → trail0 ≡ trail → trail' ≡ with_rule_change (is_kept && is_change) trail0 change
-    → revert_rule change now' ≡ now → (is_kept ≡ false → marks ≡ []) → (is_change ≡ false → SameAtMarks marks trail now now')
+pub logged : {B O : Type 0} (flags : List Bool) (marks : List ℕ) (trail trail0 trail' : List (Change B O)) (change : Change B O) (now now' : RulesPast) (is_kept : Bool)
+    → AreSettledMarks flags (map (rules_past_at trail now) marks) → IsSoundRuleTrail marks trail now → ArePresentIn now' → trail0 ≡ trail → trail' ≡ with_rule_change is_kept trail0 change
+    → revert_rule change now' ≡ now → (is_kept ≡ false → marks ≡ [])
     → IsSoundRuleTrail marks trail' now' × AreSettledMarks flags (map (rules_past_at trail' now') marks)
-logged flags marks trail trail0 trail' change now now' is_kept is_change f s p same e back unmarked unchanged = (
-  logged_trail marks trail trail0 trail' change now now' is_kept is_change s p same e back unmarked unchanged,
-  marks_same flags _ _ f (logged_marks marks trail trail0 trail' change now now' is_kept is_change s same e back unmarked unchanged),
+logged flags marks trail trail0 trail' change now now' is_kept f s p same e back unmarked = (
+  logged_trail marks trail trail0 trail' change now now' is_kept s p same e back unmarked,
+  marks_same flags _ _ f (logged_marks marks trail trail0 trail' change now now' is_kept s same e back unmarked),
 )
+
+-- ---- domains that are replaced
+
+-- some, and then others
+pub keeps_both : {B O : Type 0} (marks : List ℕ) (t t1 t2 : List (Change B O)) (d d1 d2 : List (List (ℤ × ℤ))) (rules : List Rule)
+    → KeepsPast marks t t1 d d1 rules → KeepsPast marks t1 t2 d1 d2 rules → KeepsPast marks t t2 d d2 rules
+keeps_both marks t t1 t2 d d1 d2 rules a b = record {
+  same_count = b.same_count ∙ a.same_count;
+  sound = (λ s p. b.sound (a.sound s p) (subst (λ n. All (ArePresent n) rules) (sym a.same_count) p));
+  marked = (λ s p. b.marked (a.sound s p) (subst (λ n. All (ArePresent n) rules) (sym a.same_count) p) ∙ a.marked s p);
+}
+
+-- one is, whether or not its set is written down
+pub keeps_replaced : {B O : Type 0} (marks : List ℕ) (trail : List (Change B O)) (v : ℕ) (old : List (ℤ × ℤ)) (d d' : List (List (ℤ × ℤ))) (rules : List Rule) (is_written : Bool)
+    → set d' v old ≡ d → (is_written ≡ false → (marks ≡ []) ⊎ IsRuleKeptFrom (get_or marks (length marks - 1) 0) trail v)
+    → KeepsPast marks trail (with_rule_change is_written trail (Domain v old)) d d' rules
+keeps_replaced {B} {O} marks trail v old d d' rules is_written back none = record {
+  same_count = same;
+  sound = (λ sound p. sound_logged marks trail (Domain v old) now now' is_written sound (subst (λ n. All (ArePresent n) rules) (sym same) p) back_is (at_marks sound));
+  marked = (λ sound p. marked_logged marks trail (Domain v old) now now' is_written sound back_is (at_marks sound));
+}
+  where
+    now : RulesPast
+    now = record { domains = d; rules = rules }
+
+    now' : RulesPast
+    now' = record { domains = d'; rules = rules }
+
+    same : length d' ≡ length d
+    same = sym (length-set d' v old) ∙ ap length back
+
+    back_is : revert_rule {B = B} {O = O} (Domain v old) now' ≡ now
+    back_is = ap (λ (sets : List (List (ℤ × ℤ))). record { domains = sets; rules = rules }) back
+
+    at_marks : IsSoundRuleTrail marks trail now → is_written ≡ false → (marks ≡ []) ⊎ SameAtMarks marks trail now now'
+    at_marks sound f = elim (none f) [
+      | inl e ↦ inl e
+      | inr kept ↦ inr (kept_at_marks marks trail v old d d' rules back sound kept)
+    ]
 
 -- ---- a mark
 

@@ -7,16 +7,15 @@
 --     AreFixedIn past      narrowing by none of the rules changes anything
 --     KeepsRuleAt i change      the change has the domain of variable i that was replaced
 --     IsRuleKeptFrom start trail i      some change from this place of the trail on has it
---     AreRuleKeptFrom start trail change      so for each domain that the change replaced
 --     ArePresentIn past      the rules name variables that have a domain
 --     AreSettledMarks flags marked      one flag a mark, set only where narrowing by no rule would have changed anything at it
+--     KeepsPast marks trail trail' domains domains' rules      domains that are replaced, and the trail then: as many, and at each mark all is as it was
 --     IsSoundRuleTrail marks trail now      the marks are places of the trail, in order; at no place from a mark on does a rule name a variable without a domain
-use Rattle.std.specs.Prelude.{◌≡◌, ◌<◌, ◌≤◌, ◌-◌, ◌++◌, ◌∷◌, [], ℕ, ℤ, Bool, true, false, List, All, HoldsAt, IsSome, None, ◌⊎◌, drop, length, slice_index_or, take}
+use Rattle.std.specs.Prelude.{◌≡◌, ◌<◌, ◌≤◌, ◌-◌, ◌++◌, ◌∷◌, [], ℕ, ℤ, Bool, true, false, List, All, HoldsAt, drop, length, map, slice_index_or, slice_set, take}
 use Rattle.ivl_laws.specs.Families.{set_at}
-use Rattle.ivl_store.specs.NarrowedSets.{narrowed_at}
 use Rattle.ivl_rules.specs.declared.rules.Rule.{Rule}
 use Rattle.ivl_network.specs.declared.network.change.Change.{Change}
-use Rattle.ivl_network.specs.declared.network.change.Change.TheVariants.{Domain, Domains, Variable, Require}
+use Rattle.ivl_network.specs.declared.network.change.Change.TheVariants.{Domain, Variable, Require}
 use Rattle.ivl_network.specs.Families.{ArePresent, IsFixedBy}
 
 pub record RulesPast : Type 0 where
@@ -24,8 +23,7 @@ pub record RulesPast : Type 0 where
   pub rules : List Rule
 
 abbrev pub revert_rule : {B O : Type 0} → Change B O → RulesPast → RulesPast
-revert_rule (Domain i set) past = record { domains = narrowed_at past.domains i set; rules = past.rules }
-revert_rule (Domains c x y z) past = record { domains = narrowed_at (narrowed_at (narrowed_at past.domains c.z z) c.y y) c.x x; rules = past.rules }
+revert_rule (Domain i set) past = record { domains = slice_set past.domains i set; rules = past.rules }
 revert_rule Variable past = record { domains = take (length past.domains - 1) past.domains; rules = past.rules }
 revert_rule Require past = record { domains = past.domains; rules = take (length past.rules - 1) past.rules }
 
@@ -47,24 +45,24 @@ abbrev pub AreFixedIn : RulesPast → Type 0
 AreFixedIn past = All (IsFixedBy (set_at past.domains)) past.rules
 
 abbrev pub KeepsRuleAt : {B O : Type 0} → ℕ → Change B O → Type 0
-KeepsRuleAt variable (Domain i set) = (i ≡ variable) × IsSome set
-KeepsRuleAt variable (Domains c x y z) = ((c.x ≡ variable) × IsSome x) ⊎ (((c.y ≡ variable) × IsSome y) ⊎ ((c.z ≡ variable) × IsSome z))
+KeepsRuleAt variable (Domain i set) = i ≡ variable
 KeepsRuleAt variable Variable = ⊥
 KeepsRuleAt variable Require = ⊥
 
 abbrev pub IsRuleKeptFrom : {B O : Type 0} → ℕ → List (Change B O) → ℕ → Type 0
 IsRuleKeptFrom start trail variable = (k : ℕ) × (start ≤ k) × (k < length trail) × HoldsAt (KeepsRuleAt variable) trail k
 
-abbrev pub AreRuleKeptFrom : {B O : Type 0} → ℕ → List (Change B O) → Change B O → Type 0
-AreRuleKeptFrom start trail (Domain i set) = (set ≡ None) ⊎ IsRuleKeptFrom start trail i
-AreRuleKeptFrom start trail (Domains c x y z) = ((x ≡ None) ⊎ IsRuleKeptFrom start trail c.x) × ((y ≡ None) ⊎ IsRuleKeptFrom start trail c.y) × ((z ≡ None) ⊎ IsRuleKeptFrom start trail c.z)
-AreRuleKeptFrom start trail Variable = ⊥
-AreRuleKeptFrom start trail Require = ⊥
-
 pub record IsSoundRuleTrail {B O : Type 0} (marks : List ℕ) (trail : List (Change B O)) (now : RulesPast) : Type 0 where
   pub in_trail : (k : ℕ) → k < length marks → slice_index_or marks k 0 ≤ length trail
   pub in_order : (j k : ℕ) → j ≤ k → k < length marks → slice_index_or marks j 0 ≤ slice_index_or marks k 0
   pub present : (k m : ℕ) → k < length marks → slice_index_or marks k 0 ≤ m → m ≤ length trail → ArePresentIn (rules_past_at trail now m)
+
+pub record KeepsPast {B O : Type 0} (marks : List ℕ) (trail trail' : List (Change B O)) (domains domains' : List (List (ℤ × ℤ))) (rules : List Rule) : Type 0 where
+  pub same_count : length domains' ≡ length domains
+  pub sound : IsSoundRuleTrail marks trail (record { domains = domains; rules = rules }) → All (ArePresent (length domains)) rules
+      → IsSoundRuleTrail marks trail' (record { domains = domains'; rules = rules })
+  pub marked : IsSoundRuleTrail marks trail (record { domains = domains; rules = rules }) → All (ArePresent (length domains)) rules
+      → map (rules_past_at trail' (record { domains = domains'; rules = rules })) marks ≡ map (rules_past_at trail (record { domains = domains; rules = rules })) marks
 
 pub record AreSettledMarks (flags : List Bool) (marked : List RulesPast) : Type 0 where
   pub one_each : length flags ≡ length marked

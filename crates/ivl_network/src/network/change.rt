@@ -1,15 +1,12 @@
 //! What takes back a change of a network.
 use intervallum::interval_set::IntervalSet;
 use intervallum::width::Width;
-use ivl_store::store::Constraint;
 
-/// What takes a change back. A set is the domain that was replaced; it is `None` where none was.
+/// What takes a change back.
 #[derive(Drop)]
 pub(super) enum Change<B: Width> {
-    /// The domain of this variable was cut.
-    Domain(usize, Option<IntervalSet<B>>),
-    /// A rule with these places narrowed the domains at `x`, `y` and `z`, in this order.
-    Domains(Constraint, Option<IntervalSet<B>>, Option<IntervalSet<B>>, Option<IntervalSet<B>>),
+    /// The domain of this variable, which was this set, was replaced.
+    Domain(usize, IntervalSet<B>),
     /// A variable was added after the others.
     Variable,
     /// A rule was added after the others.

@@ -1,5 +1,6 @@
 //! Domains that are narrowed by a rule or cut, and what takes that back.
-ghost use Rattle.std.specs.Prelude.{◌≡◌, ◌↔◌, ◌<◌, ◌+◌, ◌-◌, ◌/◌, ◌^◌, [], ℕ, ℤ, List, All, IfOk, OnErr, OnOk, false, true, length, min, slice_index_or};
+ghost use Rattle.std.specs.Prelude.{◌≡◌, ◌↔◌, ◌⊎◌, ◌<◌, ◌≤◌, ◌+◌, ◌-◌, ◌/◌, ◌^◌, [], ℕ, ℤ, List, All, IfOk, OnErr, OnOk, false, true, length, min, slice_index_or};
+ghost use Rattle.std.specs.Vec.{vec_capacity, vec_len};
 ghost use Rattle.ivl_laws.specs.Families.{set_at};
 ghost use Rattle.ivl_laws.specs.Runs.{Covers, IsRunListIn};
 ghost use Rattle.ivl_store.specs.Settled.{AreLost, any_lost};
@@ -8,9 +9,10 @@ ghost use Rattle.ivl_rules.specs.Rules.{AreDifferent, NarrowedBy, places as plac
 ghost use Rattle.ivl_network.specs.Costs.{cost_of_rule as cost_of};
 ghost use Rattle.ivl_network.specs.Families.{ArePresent};
 ghost use Rattle.ivl_network.specs.Settled.{HasTwo};
-ghost use Rattle.ivl_network.specs.Trail.{revert_rule};
+ghost use Rattle.ivl_network.specs.Trail.{KeepsPast};
 
 use super::change::Change;
+use super::trail::replace_logged;
 use intervallum::interval_set::IntervalSet;
 use intervallum::ops::{Bounded, IsEmpty};
 use intervallum::width::Width;
@@ -20,19 +22,23 @@ use ivl_store::store::narrowed_sets::narrowed_to;
 use ivl_store::store::{Lost, Store};
 use std::alloc::AllocError;
 
-/// Narrows by a rule, and returns what takes it back.
-pub(super) fn narrow_swapped<B: Width>(
+/// Narrows by a rule, and writes down what takes that back.
+pub(super) fn narrow_logged<B: Width>(
     store: &mut Store<B>,
+    trail: &mut Vec<Change<B>>,
+    places: &mut [usize],
+    marks: &[usize],
     rule: &Rule,
-) -> Result<(Lost, Change<B>), AllocError>
+) -> Result<Lost, AllocError>
     requires different { AreDifferent rule.now }
     requires present { ArePresent (length store.old) rule.now }
-    ensures refused { OnErr result (store.new ≡ store.old) }
+    requires room { (marks.now ≡ []) ⊎ (vec_len trail.old + 3 ≤ vec_capacity trail.old) }
+    ensures refused { OnErr result ((store.new ≡ store.old) × (trail.new.items ≡ trail.old.items)) }
     ensures kept_count { length store.new ≡ length store.old }
     ensures narrowed { OnOk result ((i : ℕ) (v : ℤ) → set_at store.new i v ↔ NarrowedBy rule.now (set_at store.old) i v) }
-    ensures lost { IfOk result (λ r. AreLost (places_of rule.now) r.0 (set_at store.old) (set_at store.new)) }
-    ensures same { IfOk result (λ r. any_lost r.0 ≡ false → store.new ≡ store.old) }
-    ensures back { IfOk result (λ r. (rules : List Rule) → revert_rule r.1 (record { domains = store.new; rules = rules }) ≡ record { domains = store.old; rules = rules }) }
+    ensures lost { IfOk result (λ lost. AreLost (places_of rule.now) lost (set_at store.old) (set_at store.new)) }
+    ensures same { IfOk result (λ lost. any_lost lost ≡ false → store.new ≡ store.old) }
+    ensures past { OnOk result ((rules : List Rule) → KeepsPast marks.now trail.old.items trail.new.items store.old store.new rules) }
     ensures range { OnOk result (All (IsRunListIn B.whole) store.old) }
 {
     let (x, y, z) = narrowed_at_places(store.domains(), rule)?;
@@ -42,30 +48,34 @@ pub(super) fn narrow_swapped<B: Width>(
         z: z.is_some(),
     };
     let c = rule.places();
-    let x = store.swap(c.x, x);
-    let y = store.swap(c.y, y);
-    let z = store.swap(c.z, z);
-    Ok((lost, Change::Domains(c, x, y, z)))
+    replace_logged(store, trail, places, marks, c.x, x);
+    replace_logged(store, trail, places, marks, c.y, y);
+    replace_logged(store, trail, places, marks, c.z, z);
+    Ok(lost)
 }
 
-/// Keeps the members of one domain that are allowed, and returns what takes it back. Returns false if
-/// all members stay.
-pub(super) fn restrict_swapped<B: Width>(
+/// Keeps the members of one domain that are allowed, and writes down what takes that back. Returns false if all
+/// members stay.
+pub(super) fn restrict_logged<B: Width>(
     store: &mut Store<B>,
+    trail: &mut Vec<Change<B>>,
+    places: &mut [usize],
+    marks: &[usize],
     i: usize,
     allowed: &IntervalSet<B>,
-) -> Result<(bool, Change<B>), AllocError>
-    requires { i < length store.old }
-    ensures refused { OnErr result (store.new ≡ store.old) }
+) -> Result<bool, AllocError>
+    requires known { i < length store.old }
+    requires room { (marks.now ≡ []) ⊎ (vec_len trail.old < vec_capacity trail.old) }
+    ensures refused { OnErr result ((store.new ≡ store.old) × (trail.new.items ≡ trail.old.items)) }
     ensures kept_count { length store.new ≡ length store.old }
     ensures cut { OnOk result ((j : ℕ) (v : ℤ) → set_at store.new j v ↔ (set_at store.old j v × (j ≡ i → Covers allowed.now v))) }
-    ensures lost { IfOk result (λ r. r.0 ≡ false → store.new ≡ store.old) }
-    ensures back { IfOk result (λ r. (rules : List Rule) → revert_rule r.1 (record { domains = store.new; rules = rules }) ≡ record { domains = store.old; rules = rules }) }
+    ensures lost { IfOk result (λ lost. lost ≡ false → store.new ≡ store.old) }
+    ensures past { OnOk result ((rules : List Rule) → KeepsPast marks.now trail.old.items trail.new.items store.old store.new rules) }
 {
     let left = narrowed_to(&store.domains()[i], allowed)?;
     let lost = left.is_some();
-    let old = store.swap(i, left);
-    Ok((lost, Change::Domain(i, old)))
+    replace_logged(store, trail, places, marks, i, left);
+    Ok(lost)
 }
 
 /// What narrowing by a rule counts for: a sum one, and one more for each 256 pairs of runs of two of its

@@ -1,11 +1,13 @@
 //! The changes that a network writes down from its first mark on, and how they are taken back.
-ghost use Rattle.std.specs.Prelude.{None, slice_index_or, ◌-◌, ◌≡◌, ◌<◌, ◌≤◌, ◌&&◌, ◌⊎◌, [], ℕ, OnOk, false, length, take, true};
+ghost use Rattle.std.specs.Prelude.{slice_index_or, ◌-◌, ◌+◌, ◌≡◌, ◌<◌, ◌≤◌, ◌⊎◌, [], ℕ, ℤ, List, Some, OnOk, false, length, take, true};
 ghost use Rattle.std.specs.Vec.{vec_capacity, vec_len};
+ghost use Rattle.ivl_laws.specs.Runs.{IsRunListIn};
 ghost use Rattle.ivl_store.specs.NarrowedSets.{narrowed_at};
+ghost use Rattle.ivl_rules.specs.declared.rules.Rule.{Rule};
 ghost use Rattle.ivl_network.specs.Network.{IsSoundRules};
 ghost use Rattle.ivl_network.specs.Queue.{IsRuleIndex, IsRuleQueue};
 ghost use Rattle.ivl_network.specs.Settled.{claimed_flags};
-ghost use Rattle.ivl_network.specs.Trail.{ArePresentIn, AreRuleKeptFrom, IsRuleKeptFrom, KeepsRuleAt, revert_rule, rules_past_at, with_rule_change};
+ghost use Rattle.ivl_network.specs.Trail.{ArePresentIn, IsRuleKeptFrom, KeepsPast, KeepsRuleAt, revert_rule, rules_past_at, with_rule_change};
 
 use super::change::Change;
 use super::index::Index;
@@ -16,108 +18,83 @@ use ivl_rules::rules::Rule;
 use ivl_store::store::Store;
 use std::alloc::AllocError;
 
-/// Reserves room for a change, if changes are written down.
-pub(super) fn reserve_change<B: Width>(
+/// Reserves room for so many changes, if changes are written down.
+pub(super) fn reserve_changes<B: Width>(
     trail: &mut Vec<Change<B>>,
     is_kept: bool,
+    count: usize,
 ) -> Result<(), AllocError>
     ensures same { trail.new.items ≡ trail.old.items }
-    ensures room { OnOk result (is_kept ≡ true → vec_len trail.new < vec_capacity trail.new) }
+    ensures room { OnOk result (is_kept ≡ true → vec_len trail.new + count ≤ vec_capacity trail.new) }
 {
     if is_kept {
-        trail.reserve(1)?;
+        trail.reserve(count)?;
     }
     Ok(())
 }
 
-/// Writes a change down, if changes are written down and this is one.
-pub(super) fn log_change<B: Width>(
-    trail: &mut Vec<Change<B>>,
-    is_kept: bool,
-    is_change: bool,
-    change: Change<B>,
-)
+/// Writes a change down, if changes are written down.
+pub(super) fn log_change<B: Width>(trail: &mut Vec<Change<B>>, is_kept: bool, change: Change<B>)
     requires { is_kept ≡ true → vec_len trail.old < vec_capacity trail.old }
-    ensures { trail.new.items ≡ with_rule_change (is_kept && is_change) trail.old.items change }
+    ensures { trail.new.items ≡ with_rule_change is_kept trail.old.items change }
 {
-    if is_kept && is_change {
+    if is_kept {
         trail.push_reserved(change);
     }
 }
 
-/// Whether a change is one, and has a domain that the trail does not have since the last mark.
-pub(super) fn is_unkept<B: Width>(
-    changed: bool,
+/// Puts what is left in place of a domain, if it lost a member. Writes down the set that stood there, if changes are
+/// written down and the trail does not have one of this variable since the last mark.
+pub(super) fn replace_logged<B: Width>(
+    store: &mut Store<B>,
+    trail: &mut Vec<Change<B>>,
+    places: &mut [usize],
+    marks: &[usize],
+    variable: usize,
+    left: Option<IntervalSet<B>>,
+)
+    requires known { variable < length store.old }
+    requires range { (s : List (ℤ × ℤ)) → left ≡ Some s → IsRunListIn B.whole s }
+    requires room { (marks.now ≡ []) ⊎ (vec_len trail.old < vec_capacity trail.old) }
+    ensures put { store.new ≡ narrowed_at store.old variable left }
+    ensures past { (rules : List Rule) → KeepsPast marks.now trail.old.items trail.new.items store.old store.new rules }
+    ensures count { vec_len trail.new ≤ vec_len trail.old + 1 }
+    ensures capacity { vec_capacity trail.new ≡ vec_capacity trail.old }
+{
+    let Some(old) = store.swap(variable, left) else {
+        return;
+    };
+    if is_unkept(trail, marks, places, variable) {
+        if variable < places.len() {
+            places[variable] = trail.len().saturating_add(1);
+        }
+        trail.push_reserved(Change::Domain(variable, old));
+    }
+}
+
+/// Whether there is a mark, and the trail does not have a domain of the variable since the last one: a look at where
+/// it was kept last.
+fn is_unkept<B: Width>(
     trail: &[Change<B>],
     marks: &[usize],
     places: &[usize],
-    change: &Change<B>,
+    variable: usize,
 ) -> bool
-    ensures { result ≡ false → (changed ≡ false) ⊎ AreRuleKeptFrom (slice_index_or marks.now (length marks.now - 1) 0) trail.now change.now }
-{
-    if !changed {
-        return false;
-    }
-    !are_kept(trail, last_mark(marks), places, change)
-}
-
-/// The place of the last mark, or 0 if there is none.
-fn last_mark(marks: &[usize]) -> usize
-    ensures { result ≡ slice_index_or marks.now (length marks.now - 1) 0 }
+    ensures marked { result ≡ true → ¬ (marks.now ≡ []) }
+    ensures kept { result ≡ false → (marks.now ≡ []) ⊎ IsRuleKeptFrom (slice_index_or marks.now (length marks.now - 1) 0) trail.now variable }
 {
     let count = marks.len();
     if count == 0 {
-        return 0;
-    }
-    marks[count - 1]
-}
-
-/// Whether the trail has each domain that a change replaced, from a place on.
-fn are_kept<B: Width>(
-    trail: &[Change<B>],
-    start: usize,
-    places: &[usize],
-    change: &Change<B>,
-) -> bool
-    ensures { result ≡ true → AreRuleKeptFrom start trail.now change.now }
-{
-    match change {
-        Change::Domain(i, set) => is_kept(trail, start, places, *i, set),
-        Change::Domains(c, x, y, z) => {
-            if !is_kept(trail, start, places, c.x, x) {
-                return false;
-            }
-            if !is_kept(trail, start, places, c.y, y) {
-                return false;
-            }
-            is_kept(trail, start, places, c.z, z)
-        }
-        Change::Variable | Change::Require => false,
-    }
-}
-
-/// Whether there is no domain to keep, or the trail has that of the variable from a place on: a look
-/// at where it was kept last.
-fn is_kept<B: Width>(
-    trail: &[Change<B>],
-    start: usize,
-    places: &[usize],
-    variable: usize,
-    set: &Option<IntervalSet<B>>,
-) -> bool
-    ensures { result ≡ true → (set.now ≡ None) ⊎ IsRuleKeptFrom start trail.now variable }
-{
-    if set.is_none() {
-        return true;
+        return false;
     }
     if variable >= places.len() {
-        return false;
+        return true;
     }
     let place = places[variable];
-    if place <= start || place > trail.len() {
-        return false;
+    if place <= marks[count - 1] || place > trail.len() {
+        return true;
     }
-    keeps(&trail[place - 1], variable)
+    !keeps(&trail[place - 1], variable)
 }
 
 /// Whether a change has the domain of a variable that was replaced.
@@ -125,54 +102,8 @@ fn keeps<B: Width>(change: &Change<B>, variable: usize) -> bool
     ensures { result ≡ true → KeepsRuleAt variable change.now }
 {
     match change {
-        Change::Domain(i, set) => *i == variable && set.is_some(),
-        Change::Domains(c, x, y, z) => {
-            (c.x == variable && x.is_some())
-                || (c.y == variable && y.is_some())
-                || (c.z == variable && z.is_some())
-        }
+        Change::Domain(i, _) => *i == variable,
         Change::Variable | Change::Require => false,
-    }
-}
-
-/// Writes down what takes a cut back, as [`log_change`] does, and notes where.
-pub(super) fn log_cut<B: Width>(
-    trail: &mut Vec<Change<B>>,
-    places: &mut Vec<usize>,
-    is_kept: bool,
-    is_new: bool,
-    change: Change<B>,
-)
-    requires { is_kept ≡ true → vec_len trail.old < vec_capacity trail.old }
-    ensures { trail.new.items ≡ with_rule_change (is_kept && is_new) trail.old.items change }
-{
-    if is_kept && is_new {
-        note_places(places, &change, trail.len().saturating_add(1));
-    }
-    log_change(trail, is_kept, is_new, change);
-}
-
-/// Notes the place of the trail at which a change will have the domains that it replaced.
-fn note_places<B: Width>(places: &mut Vec<usize>, change: &Change<B>, place: usize) {
-    match change {
-        Change::Domain(i, set) => note_place(places, *i, set, place),
-        Change::Domains(c, x, y, z) => {
-            note_place(places, c.x, x, place);
-            note_place(places, c.y, y, place);
-            note_place(places, c.z, z, place);
-        }
-        Change::Variable | Change::Require => {}
-    }
-}
-
-fn note_place<B: Width>(
-    places: &mut Vec<usize>,
-    variable: usize,
-    set: &Option<IntervalSet<B>>,
-    place: usize,
-) {
-    if set.is_some() && variable < places.len() {
-        places[variable] = place;
     }
 }
 
@@ -225,11 +156,9 @@ fn take_back<B: Width>(
     ensures queue { IsRuleQueue queue.new }
 {
     match change {
-        Change::Domain(variable, set) => put_back(store, rules, index, queue, wakes, variable, set),
-        Change::Domains(c, x, y, z) => {
-            put_back(store, rules, index, queue, wakes, c.z, z);
-            put_back(store, rules, index, queue, wakes, c.y, y);
-            put_back(store, rules, index, queue, wakes, c.x, x);
+        Change::Domain(variable, set) => {
+            store.replace(variable, set);
+            queue.wake(wakes, false, variable, store, rules, index);
         }
         Change::Variable => {
             store.drop_variable();
@@ -241,29 +170,6 @@ fn take_back<B: Width>(
                 queue.pop();
             }
         }
-    }
-}
-
-/// Puts a set in the place of a domain, if there is one.
-fn put_back<B: Width>(
-    store: &mut Store<B>,
-    rules: &[Rule],
-    index: &Index,
-    queue: &mut Queue,
-    wakes: bool,
-    variable: usize,
-    set: Option<IntervalSet<B>>,
-)
-    requires sound { IsSoundRules store.old rules.now (claimed_flags wakes queue.old.settled.items) }
-    requires index { IsRuleIndex (length store.old) rules.now index.now }
-    requires queue { IsRuleQueue queue.old }
-    ensures domains { store.new ≡ narrowed_at store.old variable set }
-    ensures sound { IsSoundRules store.new rules.now (claimed_flags wakes queue.new.settled.items) }
-    ensures queue { IsRuleQueue queue.new }
-{
-    if let Some(set) = set {
-        store.replace(variable, set);
-        queue.wake(wakes, false, variable, store, rules, index);
     }
 }
 

@@ -40,11 +40,9 @@ mod trail;
 
 use change::Change;
 use index::Index;
-use narrowing::{cost_of_rule, narrow_swapped, restrict_swapped};
+use narrowing::{cost_of_rule, narrow_logged, restrict_logged};
 use queue::Queue;
-use trail::{
-    clear_unmarked, is_logging, is_unkept, log_change, log_cut, reserve_change, revert_to,
-};
+use trail::{clear_unmarked, is_logging, log_change, reserve_changes, revert_to};
 
 /// What [`Network::settle`] reached.
 #[derive(Clone, Copy, Debug, PartialEq, Eq)]
@@ -192,13 +190,13 @@ impl<B: Width> Network<B> {
     /// ```
     pub fn add_variable(&mut self, domain: IntervalSet<B>) -> Result<usize, AllocError> {
         let is_kept = is_logging(&self.marks);
-        reserve_change(&mut self.trail, is_kept)?;
+        reserve_changes(&mut self.trail, is_kept, 1)?;
         self.places.reserve(1)?;
         self.index.reserve_variable()?;
         let index = self.store.add_variable(domain)?;
         self.index.push_variable();
         self.places.push_reserved(0);
-        log_change(&mut self.trail, is_kept, true, Change::Variable);
+        log_change(&mut self.trail, is_kept, Change::Variable);
         Ok(index)
     }
 
@@ -258,13 +256,13 @@ impl<B: Width> Network<B> {
     /// Adds a rule at the end, not settled.
     fn push(&mut self, rule: Rule) -> Result<(), AllocError> {
         let is_kept = is_logging(&self.marks);
-        reserve_change(&mut self.trail, is_kept)?;
+        reserve_changes(&mut self.trail, is_kept, 1)?;
         self.index.reserve_rule()?;
         self.rules.reserve(1)?;
         self.queue.push()?;
         self.index.push_rule(&rule);
         self.rules.push_reserved(rule);
-        log_change(&mut self.trail, is_kept, true, Change::Require);
+        log_change(&mut self.trail, is_kept, Change::Require);
         Ok(())
     }
 
@@ -305,12 +303,16 @@ impl<B: Width> Network<B> {
         if variable >= self.store.domains().len() {
             return Err(StoreFault::Variable(variable));
         }
-        let is_kept = is_logging(&self.marks);
-        reserve_change(&mut self.trail, is_kept)?;
-        let (lost, change) = restrict_swapped(&mut self.store, variable, allowed)?;
+        reserve_changes(&mut self.trail, is_logging(&self.marks), 1)?;
+        let lost = restrict_logged(
+            &mut self.store,
+            &mut self.trail,
+            &mut self.places,
+            &self.marks,
+            variable,
+            allowed,
+        )?;
         self.queue.wake(lost, true, variable, &self.store, &self.rules, &self.index);
-        let is_new = is_unkept(lost, &self.trail, &self.marks, &self.places, &change);
-        log_cut(&mut self.trail, &mut self.places, is_kept, is_new, change);
         Ok(())
     }
 
@@ -518,14 +520,16 @@ impl<B: Width> Network<B> {
         if cost > left {
             return Ok(Step::Costly);
         }
-        let is_kept = is_logging(&self.marks);
-        reserve_change(&mut self.trail, is_kept)?;
-        let (lost, change) = narrow_swapped(&mut self.store, &rule)?;
+        reserve_changes(&mut self.trail, is_logging(&self.marks), 3)?;
+        let lost = narrow_logged(
+            &mut self.store,
+            &mut self.trail,
+            &mut self.places,
+            &self.marks,
+            &rule,
+        )?;
         self.queue
             .settle(i, lost, &self.store, &self.rules, &self.index);
-        let lost = lost.any();
-        let is_new = is_unkept(lost, &self.trail, &self.marks, &self.places, &change);
-        log_cut(&mut self.trail, &mut self.places, is_kept, is_new, change);
         Ok(Step::Made(cost))
     }
 

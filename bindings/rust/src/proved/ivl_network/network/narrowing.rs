@@ -4,6 +4,7 @@
 #[allow(unused_imports)]
 use crate::rattle::prelude::*;
 use super::change::Change;
+use super::trail::replace_logged;
 use crate::proved::intervallum::interval_set::IntervalSet;
 use crate::proved::intervallum::ops::{Bounded, IsEmpty};
 use crate::proved::intervallum::width::Width;
@@ -13,11 +14,14 @@ use crate::proved::ivl_store::store::narrowed_sets::narrowed_to;
 use crate::proved::ivl_store::store::{Lost, Store};
 use crate::rattle::std::alloc::AllocError;
 
-/// Narrows by a rule, and returns what takes it back.
-pub(super) fn narrow_swapped<B: Width>(
+/// Narrows by a rule, and writes down what takes that back.
+pub(super) fn narrow_logged<B: Width>(
     store: &mut Store<B>,
+    trail: &mut Vec<Change<B>>,
+    places: &mut [usize],
+    marks: &[usize],
     rule: &Rule,
-) -> Result<(Lost, Change<B>), AllocError> {
+) -> Result<Lost, AllocError> {
     let (x, y, z) = narrowed_at_places(store.domains(), rule)?;
     let lost = Lost {
         x: x.is_some(),
@@ -25,23 +29,26 @@ pub(super) fn narrow_swapped<B: Width>(
         z: z.is_some(),
     };
     let c = rule.places();
-    let x = store.swap(c.x, x);
-    let y = store.swap(c.y, y);
-    let z = store.swap(c.z, z);
-    Ok((lost, Change::Domains(c, x, y, z)))
+    replace_logged(store, trail, places, marks, c.x, x);
+    replace_logged(store, trail, places, marks, c.y, y);
+    replace_logged(store, trail, places, marks, c.z, z);
+    Ok(lost)
 }
 
-/// Keeps the members of one domain that are allowed, and returns what takes it back. Returns false if
-/// all members stay.
-pub(super) fn restrict_swapped<B: Width>(
+/// Keeps the members of one domain that are allowed, and writes down what takes that back. Returns false if all
+/// members stay.
+pub(super) fn restrict_logged<B: Width>(
     store: &mut Store<B>,
+    trail: &mut Vec<Change<B>>,
+    places: &mut [usize],
+    marks: &[usize],
     i: usize,
     allowed: &IntervalSet<B>,
-) -> Result<(bool, Change<B>), AllocError> {
+) -> Result<bool, AllocError> {
     let left = narrowed_to(&store.domains()[i], allowed)?;
     let lost = left.is_some();
-    let old = store.swap(i, left);
-    Ok((lost, Change::Domain(i, old)))
+    replace_logged(store, trail, places, marks, i, left);
+    Ok(lost)
 }
 
 /// What narrowing by a rule counts for: a sum one, and one more for each 256 pairs of runs of two of its

@@ -12,144 +12,77 @@ use crate::proved::ivl_rules::rules::Rule;
 use crate::proved::ivl_store::store::Store;
 use crate::rattle::std::alloc::AllocError;
 
-/// Reserves room for a change, if changes are written down.
-pub(super) fn reserve_change<B: Width>(
+/// Reserves room for so many changes, if changes are written down.
+pub(super) fn reserve_changes<B: Width>(
     trail: &mut Vec<Change<B>>,
     is_kept: bool,
+    count: usize,
 ) -> Result<(), AllocError> {
     if is_kept {
-        trail.reserve(1)?;
+        trail.reserve(count)?;
     }
     Ok(())
 }
 
-/// Writes a change down, if changes are written down and this is one.
+/// Writes a change down, if changes are written down.
 pub(super) fn log_change<B: Width>(
     trail: &mut Vec<Change<B>>,
     is_kept: bool,
-    is_change: bool,
     change: Change<B>,
 ) {
-    if is_kept && is_change {
+    if is_kept {
         trail.push_reserved(change);
     }
 }
 
-/// Whether a change is one, and has a domain that the trail does not have since the last mark.
-pub(super) fn is_unkept<B: Width>(
-    changed: bool,
+/// Puts what is left in place of a domain, if it lost a member. Writes down the set that stood there, if changes are
+/// written down and the trail does not have one of this variable since the last mark.
+pub(super) fn replace_logged<B: Width>(
+    store: &mut Store<B>,
+    trail: &mut Vec<Change<B>>,
+    places: &mut [usize],
+    marks: &[usize],
+    variable: usize,
+    left: Option<IntervalSet<B>>,
+) {
+    let Some(old) = store.swap(variable, left) else {
+        return;
+    };
+    if is_unkept(trail, marks, places, variable) {
+        if variable < places.len() {
+            places[variable] = trail.len().saturating_add(1);
+        }
+        trail.push_reserved(Change::Domain(variable, old));
+    }
+}
+
+/// Whether there is a mark, and the trail does not have a domain of the variable since the last one: a look at where
+/// it was kept last.
+fn is_unkept<B: Width>(
     trail: &[Change<B>],
     marks: &[usize],
     places: &[usize],
-    change: &Change<B>,
+    variable: usize,
 ) -> bool {
-    if !changed {
-        return false;
-    }
-    !are_kept(trail, last_mark(marks), places, change)
-}
-
-/// The place of the last mark, or 0 if there is none.
-fn last_mark(marks: &[usize]) -> usize {
     let count = marks.len();
     if count == 0 {
-        return 0;
-    }
-    marks[count - 1]
-}
-
-/// Whether the trail has each domain that a change replaced, from a place on.
-fn are_kept<B: Width>(
-    trail: &[Change<B>],
-    start: usize,
-    places: &[usize],
-    change: &Change<B>,
-) -> bool {
-    match change {
-        Change::Domain(i, set) => is_kept(trail, start, places, *i, set),
-        Change::Domains(c, x, y, z) => {
-            if !is_kept(trail, start, places, c.x, x) {
-                return false;
-            }
-            if !is_kept(trail, start, places, c.y, y) {
-                return false;
-            }
-            is_kept(trail, start, places, c.z, z)
-        }
-        Change::Variable | Change::Require => false,
-    }
-}
-
-/// Whether there is no domain to keep, or the trail has that of the variable from a place on: a look
-/// at where it was kept last.
-fn is_kept<B: Width>(
-    trail: &[Change<B>],
-    start: usize,
-    places: &[usize],
-    variable: usize,
-    set: &Option<IntervalSet<B>>,
-) -> bool {
-    if set.is_none() {
-        return true;
+        return false;
     }
     if variable >= places.len() {
-        return false;
+        return true;
     }
     let place = places[variable];
-    if place <= start || place > trail.len() {
-        return false;
+    if place <= marks[count - 1] || place > trail.len() {
+        return true;
     }
-    keeps(&trail[place - 1], variable)
+    !keeps(&trail[place - 1], variable)
 }
 
 /// Whether a change has the domain of a variable that was replaced.
 fn keeps<B: Width>(change: &Change<B>, variable: usize) -> bool {
     match change {
-        Change::Domain(i, set) => *i == variable && set.is_some(),
-        Change::Domains(c, x, y, z) => {
-            (c.x == variable && x.is_some())
-                || (c.y == variable && y.is_some())
-                || (c.z == variable && z.is_some())
-        }
+        Change::Domain(i, _) => *i == variable,
         Change::Variable | Change::Require => false,
-    }
-}
-
-/// Writes down what takes a cut back, as [`log_change`] does, and notes where.
-pub(super) fn log_cut<B: Width>(
-    trail: &mut Vec<Change<B>>,
-    places: &mut Vec<usize>,
-    is_kept: bool,
-    is_new: bool,
-    change: Change<B>,
-) {
-    if is_kept && is_new {
-        note_places(places, &change, trail.len().saturating_add(1));
-    }
-    log_change(trail, is_kept, is_new, change);
-}
-
-/// Notes the place of the trail at which a change will have the domains that it replaced.
-fn note_places<B: Width>(places: &mut Vec<usize>, change: &Change<B>, place: usize) {
-    match change {
-        Change::Domain(i, set) => note_place(places, *i, set, place),
-        Change::Domains(c, x, y, z) => {
-            note_place(places, c.x, x, place);
-            note_place(places, c.y, y, place);
-            note_place(places, c.z, z, place);
-        }
-        Change::Variable | Change::Require => {}
-    }
-}
-
-fn note_place<B: Width>(
-    places: &mut Vec<usize>,
-    variable: usize,
-    set: &Option<IntervalSet<B>>,
-    place: usize,
-) {
-    if set.is_some() && variable < places.len() {
-        places[variable] = place;
     }
 }
 
@@ -182,11 +115,9 @@ fn take_back<B: Width>(
     queue: &mut Queue,
 ) {
     match change {
-        Change::Domain(variable, set) => put_back(store, rules, index, queue, wakes, variable, set),
-        Change::Domains(c, x, y, z) => {
-            put_back(store, rules, index, queue, wakes, c.z, z);
-            put_back(store, rules, index, queue, wakes, c.y, y);
-            put_back(store, rules, index, queue, wakes, c.x, x);
+        Change::Domain(variable, set) => {
+            store.replace(variable, set);
+            queue.wake(wakes, false, variable, store, rules, index);
         }
         Change::Variable => {
             store.drop_variable();
@@ -198,22 +129,6 @@ fn take_back<B: Width>(
                 queue.pop();
             }
         }
-    }
-}
-
-/// Puts a set in the place of a domain, if there is one.
-fn put_back<B: Width>(
-    store: &mut Store<B>,
-    rules: &[Rule],
-    index: &Index,
-    queue: &mut Queue,
-    wakes: bool,
-    variable: usize,
-    set: Option<IntervalSet<B>>,
-) {
-    if let Some(set) = set {
-        store.replace(variable, set);
-        queue.wake(wakes, false, variable, store, rules, index);
     }
 }
 

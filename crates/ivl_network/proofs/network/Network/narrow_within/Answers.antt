@@ -12,8 +12,9 @@ use Rattle.ivl_store.specs.Settled.{AreLost, any_lost}
 use Rattle.ivl_network.specs.Settled.{AreSettledRules}
 use Rattle.ivl_network.proofs.Costs.{counted_one}
 use Rattle.ivl_network.proofs.Indexes.{index_of_count}
-use Rattle.ivl_network.proofs.Kept.{same_at_marks}
-use Rattle.ivl_network.proofs.Logging.{logged, logged_marks, state_is}
+use Rattle.ivl_network.specs.Trail.{KeepsPast}
+use Rattle.ivl_network.proofs.Logging.{state_is}
+use Rattle.ivl_network.proofs.Marks.{marks_same}
 use Rattle.ivl_network.proofs.Narrowings.{all_fixed, one_narrowing, sound_moved}
 use Rattle.ivl_store.proofs.Totals.{total_falls}
 use Rattle.ivl_network.proofs.Work.{work_less}
@@ -25,18 +26,18 @@ returns-clause-narrowed g c = λ _ _.
     let lt : c.in-Some.i < length cs = (let a = c.in-Some.ensures.first.0 in let b = c.self.invariant.0.settled.one_each in omega (arith, a, b)) in
     let at = λ (d : Rule). get_or_default cs c.in-Some.i d c.index.result.now lt ∙ sym c.index.ensures in
     let first = c.index.result.now in
-    subst (λ (s : RulesState). AreRuleNarrowings s.rules 1 (set_at s.domains) (set_at c.narrow_swapped.new.store)) c.self.view_is
-    (one_narrowing cs c.in-Some.i first (set_at c.self.inside.store) (set_at c.narrow_swapped.new.store) lt
-    (subst (λ k. (j : ℕ) (v : ℤ) → set_at c.narrow_swapped.new.store j v ↔ NarrowedBy k (set_at c.self.inside.store) j v) (sym (at first)) c.in_ok-lost.ensures.narrowed))
+    subst (λ (s : RulesState). AreRuleNarrowings s.rules 1 (set_at s.domains) (set_at c.narrow_logged.new.store)) c.self.view_is
+    (one_narrowing cs c.in-Some.i first (set_at c.self.inside.store) (set_at c.narrow_logged.new.store) lt
+    (subst (λ k. (j : ℕ) (v : ℤ) → set_at c.narrow_logged.new.store j v ↔ NarrowedBy k (set_at c.self.inside.store) j v) (sym (at first)) c.in_ok-lost.ensures.narrowed))
 
 pub returns-clause-fewer : goal.returns-clause-fewer
 returns-clause-fewer g c = λ _ _.
     let inside = c.self.inside in
     let flags = inside.queue.settled.items in
-    subst (λ (s : RulesState). 1 + work_of_rules g.B.Width.whole (record { domains = c.narrow_swapped.new.store; rules = inside.rules.items; unsettled = unsettled_count c.settle.new.self.settled.items; marked = [] }) ≤ work_of_rules g.B.Width.whole s) c.self.view_is
-    (work_less g.B.Width.whole inside.store c.narrow_swapped.new.store (length inside.rules.items) flags c.settle.new.self.settled.items c.in-Some.i (any_lost c.in_ok-lost.lost) c.in-Some.ensures.first.0 c.in-Some.ensures.first.1
-    (c.settle.ensures.count ∙ ap length c.deref-2.ensures.value) c.in_ok-lost.ensures.same (λ none. c.settle.ensures.alone none ∙ ap (λ (ms : List Bool). set ms c.in-Some.i true) c.first.ensures.settled)
-    (λ t. total_falls g.B.Width.whole inside.store c.narrow_swapped.new.store c.in_ok-lost.ensures.range c.narrow_swapped.ensures.kept_count (λ i v h. ((c.in_ok-lost.ensures.narrowed i v).0 h).kept)
+    subst (λ (s : RulesState). 1 + work_of_rules g.B.Width.whole (record { domains = c.narrow_logged.new.store; rules = inside.rules.items; unsettled = unsettled_count c.settle.new.self.settled.items; marked = [] }) ≤ work_of_rules g.B.Width.whole s) c.self.view_is
+    (work_less g.B.Width.whole inside.store c.narrow_logged.new.store (length inside.rules.items) flags c.settle.new.self.settled.items c.in-Some.i (any_lost c.in_ok-lost.lost) c.in-Some.ensures.first.0 c.in-Some.ensures.first.1
+    (c.settle.ensures.count ∙ ap length c.deref-3.ensures.value) c.in_ok-lost.ensures.same (λ none. c.settle.ensures.alone none ∙ ap (λ (ms : List Bool). set ms c.in-Some.i true) c.first.ensures.settled)
+    (λ t. total_falls g.B.Width.whole inside.store c.narrow_logged.new.store c.in_ok-lost.ensures.range c.narrow_logged.ensures.kept_count (λ i v h. ((c.in_ok-lost.ensures.narrowed i v).0 h).kept)
     (c.in_ok-lost.ensures.lost.some.0 t)))
 
 pub invariant_of-self-2 : goal.invariant_of-self-2
@@ -45,35 +46,31 @@ invariant_of-self-2 g c =
     let cs = inside.rules.items in
     let lt : c.in-Some.i < length cs = (let a = c.in-Some.ensures.first.0 in let b = c.self.invariant.0.settled.one_each in omega (arith, a, b)) in
     let at = λ (d : Rule). sym (get_or_default cs c.in-Some.i d c.index.result.now lt ∙ sym c.index.ensures) in
-    let moved = rw c.deref-2.ensures.value at c.settle.ensures.settled in
-    let sound : IsSoundRules c.narrow_swapped.new.store cs c.settle.new.self.settled.items = sound_moved inside.store c.narrow_swapped.new.store cs inside.queue.settled.items c.settle.new.self.settled.items c.narrow_swapped.ensures.kept_count
+    let moved = rw c.deref-3.ensures.value at c.settle.ensures.settled in
+    let sound : IsSoundRules c.narrow_logged.new.store cs c.settle.new.self.settled.items = sound_moved inside.store c.narrow_logged.new.store cs inside.queue.settled.items c.settle.new.self.settled.items c.narrow_logged.ensures.kept_count
     (moved inside.store
-    (λ d. subst (λ k. (j : ℕ) (v : ℤ) → set_at c.narrow_swapped.new.store j v ↔ NarrowedBy k (set_at inside.store) j v) (at d) c.in_ok-lost.ensures.narrowed)
-    (λ d. subst (λ k. AreLost (places k) c.in_ok-lost.lost (set_at inside.store) (set_at c.narrow_swapped.new.store)) (at d) c.in_ok-lost.ensures.lost)
+    (λ d. subst (λ k. (j : ℕ) (v : ℤ) → set_at c.narrow_logged.new.store j v ↔ NarrowedBy k (set_at inside.store) j v) (at d) c.in_ok-lost.ensures.narrowed)
+    (λ d. subst (λ k. AreLost (places k) c.in_ok-lost.lost (set_at inside.store) (set_at c.narrow_logged.new.store)) (at d) c.in_ok-lost.ensures.lost)
     (subst (λ (ms : List Bool). AreSettledRules cs ms (set_at inside.store)) (sym c.first.ensures.settled) c.self.invariant.0.settled))
     c.self.invariant.0 in
-    let l = logged inside.settled_at_marks.items inside.marks.items inside.trail.items c.reserve_change.new.trail.items c.log_cut.new.trail.items c.in_ok-lost.change _ _ _ c.is_unkept-is_new.result c.self.invariant.4 c.self.invariant.1 sound.present
-    c.reserve_change.ensures.same c.log_cut.ensures (c.in_ok-lost.ensures.back cs)
-    (λ f. sym c.deref.ensures.value ∙ c.is_logging-is_kept.ensures f)
-    (λ f. same_at_marks inside.marks.items _ inside.trail.items _ c.in_ok-lost.change _ _ c.any-lost.result c.self.invariant.1 (c.in_ok-lost.ensures.back cs)
-    (λ none. ap (λ (sets : List (List (ℤ × ℤ))). record { domains = sets; rules = cs }) (c.in_ok-lost.ensures.same (sym c.any-lost.ensures ∙ none))) c.deref-4.ensures.value (c.deref-3.ensures.value ∙ c.reserve_change.ensures.same) (c.is_unkept-is_new.ensures f)) in (
+    let was : KeepsPast inside.marks.items inside.trail.items c.narrow_logged.new.trail.items inside.store c.narrow_logged.new.store cs =
+    subst (λ t. KeepsPast inside.marks.items t c.narrow_logged.new.trail.items inside.store c.narrow_logged.new.store cs) c.reserve_changes.ensures.same
+    (subst (λ ms. KeepsPast ms c.reserve_changes.new.trail.items c.narrow_logged.new.trail.items inside.store c.narrow_logged.new.store cs) c.deref-2.ensures.value (c.in_ok-lost.ensures.past cs)) in (
       sound,
-      l.0,
-      index_of_count _ _ cs inside.index c.narrow_swapped.ensures.kept_count c.self.invariant.2,
+      was.sound c.self.invariant.1 c.self.invariant.0.present,
+      index_of_count _ _ cs inside.index c.narrow_logged.ensures.kept_count c.self.invariant.2,
       c.settle.ensures.queue,
-      l.1,
+      marks_same inside.settled_at_marks.items _ _ c.self.invariant.4 (was.marked c.self.invariant.1 c.self.invariant.0.present),
     )
 
 pub returns-clause-marked : goal.returns-clause-marked
 returns-clause-marked g c =
     let inside = c.self.inside in
     let cs = inside.rules.items in
-    logged_marks inside.marks.items inside.trail.items c.reserve_change.new.trail.items c.log_cut.new.trail.items c.in_ok-lost.change _ _ _ c.is_unkept-is_new.result c.self.invariant.1
-    c.reserve_change.ensures.same c.log_cut.ensures (c.in_ok-lost.ensures.back cs)
-    (λ f. sym c.deref.ensures.value ∙ c.is_logging-is_kept.ensures f)
-    (λ f. same_at_marks inside.marks.items _ inside.trail.items _ c.in_ok-lost.change _ _ c.any-lost.result c.self.invariant.1 (c.in_ok-lost.ensures.back cs)
-    (λ none. ap (λ (sets : List (List (ℤ × ℤ))). record { domains = sets; rules = cs }) (c.in_ok-lost.ensures.same (sym c.any-lost.ensures ∙ none))) c.deref-4.ensures.value (c.deref-3.ensures.value ∙ c.reserve_change.ensures.same) (c.is_unkept-is_new.ensures f))
-    ∙ ap (λ (s : RulesState). s.marked) c.self.view_is
+    let was : KeepsPast inside.marks.items inside.trail.items c.narrow_logged.new.trail.items inside.store c.narrow_logged.new.store cs =
+    subst (λ t. KeepsPast inside.marks.items t c.narrow_logged.new.trail.items inside.store c.narrow_logged.new.store cs) c.reserve_changes.ensures.same
+    (subst (λ ms. KeepsPast ms c.reserve_changes.new.trail.items c.narrow_logged.new.trail.items inside.store c.narrow_logged.new.store cs) c.deref-2.ensures.value (c.in_ok-lost.ensures.past cs)) in
+    was.marked c.self.invariant.1 c.self.invariant.0.present ∙ ap (λ (s : RulesState). s.marked) c.self.view_is
 
 pub returns-clause-counted : goal.returns-clause-counted
 returns-clause-counted g c = λ cost e.
@@ -83,11 +80,11 @@ returns-clause-counted g c = λ cost e.
     let is : c.cost_of_rule-cost.result ≡ cost = cc in
     let positive = c.cost_of_rule-cost.ensures.positive in
     let within = c.if-cost-left.false in
-    subst (λ (s : RulesState). (0 < cost) × (cost ≤ c.args.left) × (d : Rule) × AreRulesCounted s.rules (d ∷ []) cost s.domains c.narrow_swapped.new.store) c.self.view_is (
+    subst (λ (s : RulesState). (0 < cost) × (cost ≤ c.args.left) × (d : Rule) × AreRulesCounted s.rules (d ∷ []) cost s.domains c.narrow_logged.new.store) c.self.view_is (
       omega (arith, is, positive),
       omega (arith, is, within),
       c.index.result.now,
-      counted_one cs c.in-Some.i c.index.result.now cost inside.store c.narrow_swapped.new.store lt (sym c.index.ensures) c.in_ok-lost.ensures.narrowed (sym is ∙ c.cost_of_rule-cost.ensures.cost),
+      counted_one cs c.in-Some.i c.index.result.now cost inside.store c.narrow_logged.new.store lt (sym c.index.ensures) c.in_ok-lost.ensures.narrowed (sym is ∙ c.cost_of_rule-cost.ensures.cost),
     )
 
 pub returns-then-cost-left-clause-costly : goal.returns-then-cost-left-clause-costly

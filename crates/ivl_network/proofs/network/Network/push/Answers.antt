@@ -1,6 +1,5 @@
 use Rattle.std.proofs.Common.{◌≡◌, ◌∙◌, ◌+◌, ap, cond, false, length, subst, sym, Bool, List, ◌∷◌, ◌++◌, [], refl}
 use Rattle.std.specs.Prelude.{not}
-use Rattle.std.proofs.lemmas.Bool.{false≢true}
 use Rattle.std.proofs.lemmas.List.Sums.{sum_by_push}
 use Rattle.ivl_network.specs.Families.{ArePresent}
 use Rattle.ivl_network.specs.Network.{IsSoundRules, RulesState}
@@ -15,16 +14,16 @@ pub invariant_of-self-in_err-reserve_rule : goal.invariant_of-self-in_err-reserv
 invariant_of-self-in_err-reserve_rule g c =
     let i = c.self.inside in (
       c.self.invariant.0,
-      rw c.reserve_change.ensures.same c.self.invariant.1,
+      rw c.reserve_changes.ensures.same c.self.invariant.1,
       c.reserve_rule.ensures.same (length i.store) i.rules.items c.self.invariant.2,
       c.self.invariant.3,
-      rw c.reserve_change.ensures.same c.self.invariant.4,
+      rw c.reserve_changes.ensures.same c.self.invariant.4,
     )
 
 pub invariant_of-self-in_err-reserve : goal.invariant_of-self-in_err-reserve
 invariant_of-self-in_err-reserve g c =
     let i = c.self.inside in
-    rw (c.reserve.ensures.items, c.reserve_change.ensures.same) (
+    rw (c.reserve.ensures.items, c.reserve_changes.ensures.same) (
       c.self.invariant.0,
       c.self.invariant.1,
       c.reserve_rule.ensures.same (length i.store) i.rules.items c.self.invariant.2,
@@ -35,7 +34,7 @@ invariant_of-self-in_err-reserve g c =
 pub invariant_of-self-in_err-push : goal.invariant_of-self-in_err-push
 invariant_of-self-in_err-push g c =
     let i = c.self.inside in
-    rw (c.reserve.ensures.items, c.reserve_change.ensures.same) (
+    rw (c.reserve.ensures.items, c.reserve_changes.ensures.same) (
       subst (λ (ms : List Bool). IsSoundRules i.store i.rules.items ms) (sym c.in_err-push.ensures.refused) c.self.invariant.0,
       c.self.invariant.1,
       c.reserve_rule.ensures.same (length i.store) i.rules.items c.self.invariant.2,
@@ -56,9 +55,9 @@ invariant_of-self-2 g c =
     let sound : IsSoundRules i.store c.push_reserved.new.self.items c.push.new.self.settled.items =
     rw (added, c.in_ok-push.ensures.added) (sound_pushed i.store i.rules.items i.queue.settled.items c.args.rule c.requires.different
     (subst (λ (s : RulesState). ArePresent (length s.domains) c.args.rule) (sym c.self.view_is) c.requires.present) c.self.invariant.0) in
-    let l = logged i.settled_at_marks.items i.marks.items i.trail.items c.reserve_change.new.trail.items c.log_change.new.trail.items _ _ _ _ _ c.self.invariant.4 c.self.invariant.1 sound.present
-    c.reserve_change.ensures.same c.log_change.ensures (reverts_rule {B = g.row.B.Denot} {O = g.row.B-Output.Denot} Require i.store i.rules.items c.push_reserved.new.self.items c.args.rule refl added)
-    (λ f. sym c.deref.ensures.value ∙ c.is_logging-is_kept.ensures f) (λ f. absurd (false≢true (sym f))) in (
+    let l = logged i.settled_at_marks.items i.marks.items i.trail.items c.reserve_changes.new.trail.items c.log_change.new.trail.items _ _ _ _ c.self.invariant.4 c.self.invariant.1 sound.present
+    c.reserve_changes.ensures.same c.log_change.ensures (reverts_rule {B = g.row.B.Denot} {O = g.row.B-Output.Denot} Require i.store i.rules.items c.push_reserved.new.self.items c.args.rule refl added)
+    (λ f. sym c.deref.ensures.value ∙ c.is_logging-is_kept.ensures f) in (
       sound,
       l.0,
       subst (λ cs. IsRuleIndex (length i.store) cs c.push_rule.new.self) (sym added)
@@ -74,7 +73,7 @@ returns-clause-added g c =
     state_is _ _ _ _ _ _ _ _ (ap (λ (s : RulesState). s.domains) c.self.view_is)
     (added ∙ ap (λ (s : RulesState). s.rules ++ c.args.rule ∷ []) c.self.view_is)
     (ap unsettled_count c.in_ok-push.ensures.added ∙ sum_by_push (λ (b : Bool). cond (not b) 1 0) i.queue.settled.items false ∙ ap (λ (s : RulesState). s.unsettled + 1) c.self.view_is)
-    (logged_marks i.marks.items i.trail.items c.reserve_change.new.trail.items c.log_change.new.trail.items _ _ _ _ _ c.self.invariant.1
-    c.reserve_change.ensures.same c.log_change.ensures (reverts_rule {B = g.row.B.Denot} {O = g.row.B-Output.Denot} Require i.store i.rules.items c.push_reserved.new.self.items c.args.rule refl added)
-    (λ f. sym c.deref.ensures.value ∙ c.is_logging-is_kept.ensures f) (λ f. absurd (false≢true (sym f)))
+    (logged_marks i.marks.items i.trail.items c.reserve_changes.new.trail.items c.log_change.new.trail.items _ _ _ _ c.self.invariant.1
+    c.reserve_changes.ensures.same c.log_change.ensures (reverts_rule {B = g.row.B.Denot} {O = g.row.B-Output.Denot} Require i.store i.rules.items c.push_reserved.new.self.items c.args.rule refl added)
+    (λ f. sym c.deref.ensures.value ∙ c.is_logging-is_kept.ensures f)
     ∙ ap (λ (s : RulesState). s.marked) c.self.view_is)

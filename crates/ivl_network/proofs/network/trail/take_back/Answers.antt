@@ -1,18 +1,27 @@
-use Rattle.std.proofs.Common.{◌≡◌, ◌∙◌, ◌-◌, ap, arith, length, subst, sym, take}
-use Rattle.std.specs.Prelude.{All}
+use Rattle.std.proofs.Common.{◌≡◌, ◌∙◌, ◌-◌, List, ap, arith, false, length, subst, sym, take}
+use Rattle.std.specs.Prelude.{ℤ, All}
+use Rattle.ivl_laws.specs.Families.{set_at}
+use Rattle.ivl_rules.specs.declared.rules.Rule.{Rule}
 use Rattle.std.proofs.lemmas.List.{length-take}
 use Rattle.ivl_network.specs.Families.{ArePresent}
 use Rattle.ivl_network.specs.Network.{IsSoundRules}
 use Rattle.ivl_network.specs.Queue.{IsRuleIndex}
-use Rattle.ivl_network.specs.Settled.{claimed_flags}
-use Rattle.ivl_network.proofs.Settled.{claimed_length, claimed_take}
-use Rattle.ivl_network.proofs.Indexes.{index_narrowed, index_of_count, present_last}
-use Rattle.ivl_network.proofs.Reverting.{sound_without_rules, sound_without_variable}
+use Rattle.ivl_network.specs.Settled.{AreClearedRules, claimed_flags}
+use Rattle.ivl_network.proofs.Settled.{claimed_cleared, claimed_length, claimed_take}
+use Rattle.ivl_network.proofs.Indexes.{index_of_count, present_last}
+use Rattle.ivl_network.proofs.Reverting.{sound_replaced, sound_without_rules, sound_without_variable}
 use Rattle.ivl_network.proofs.network.trail.take_back.Goals as goal
 
-pub put_back-requires-in-Domains-3-clause-index : goal.put_back-requires-in-Domains-3-clause-index
-put_back-requires-in-Domains-3-clause-index g c =
-    rw c.deref-in-Domains-3.ensures.value (index_narrowed _ _ _ _ _ _ c.put_back-in-Domains-2.ensures.domains (index_narrowed _ _ _ _ _ _ c.put_back-in-Domains.ensures.domains c.requires.index))
+pub returns-in-Domain-clause-sound : goal.returns-in-Domain-clause-sound
+returns-in-Domain-clause-sound g c =
+    let rules = c.args.rules.now.items in
+    let wakes = c.args.wakes in
+    let before = c.args.queue.now.settled.items in
+    let after = c.wake.new.self.settled.items in
+    rw c.replace.ensures (sound_replaced c.args.store.now rules (claimed_flags wakes before) (claimed_flags wakes after) c.in-Domain.variable c.in-Domain.set c.requires.sound
+    (claimed_cleared wakes rules c.in-Domain.variable _ before after
+    (subst (λ (sets : List (List (ℤ × ℤ))). AreClearedRules wakes false rules c.in-Domain.variable (set_at sets) before after) c.replace.ensures
+    (subst (λ (cs : List Rule). AreClearedRules wakes false cs c.in-Domain.variable (set_at c.replace.new.self) before after) c.deref.ensures.value c.wake.ensures.cleared))))
 
 pub returns-in-Variable-clause-sound : goal.returns-in-Variable-clause-sound
 returns-in-Variable-clause-sound g c =

@@ -7,14 +7,15 @@ use Rattle.ivl_store.proofs.Places.{after, none_after}
 use Rattle.ivl_rules.specs.Rules.{HasPointAt, places}
 use Rattle.ivl_rules.specs.NarrowedSets.{AreLeftAtPlaces}
 use Rattle.ivl_rules.proofs.Places.{narrowed_after}
+use Rattle.ivl_network.proofs.Logging.{keeps_both}
 use Rattle.ivl_network.proofs.Losses.{lost_after}
-use Rattle.ivl_network.proofs.network.narrowing.narrow_swapped.Goals as goal
+use Rattle.ivl_network.proofs.network.narrowing.narrow_logged.Goals as goal
 
 pub returns-clause-narrowed : goal.returns-clause-narrowed
 returns-clause-narrowed g c =
     let rule = c.args.rule.now in let old = c.args.store.now in let k = c.places-c.result in
-    let e : c.swap-z.new.self ≡ after (places rule) old c.in_ok-x.x c.in_ok-x.y c.in_ok-x.z =
-    c.swap-z.ensures.put ∙ ap (λ s. narrowed_at s k.z c.in_ok-x.z) (c.swap-y.ensures.put ∙ ap (λ s. narrowed_at s k.y c.in_ok-x.y) c.swap-x.ensures.put)
+    let e : c.replace_logged-3.new.store ≡ after (places rule) old c.in_ok-x.x c.in_ok-x.y c.in_ok-x.z =
+    c.replace_logged-3.ensures.put ∙ ap (λ s. narrowed_at s k.z c.in_ok-x.z) (c.replace_logged-2.ensures.put ∙ ap (λ s. narrowed_at s k.y c.in_ok-x.y) c.replace_logged.ensures.put)
     ∙ ap (λ (p : Constraint). after p old c.in_ok-x.x c.in_ok-x.y c.in_ok-x.z) c.places-c.ensures in
     let left = subst (λ s. AreLeftAtPlaces g.B.Width.whole (places rule) (HasPointAt rule (set_at s)) s c.in_ok-x.x c.in_ok-x.y c.in_ok-x.z) c.domains.ensures.same c.in_ok-x.ensures in
     rw e (narrowed_after g.B.Width.whole rule old _ _ _ c.requires.different c.requires.present left)
@@ -22,8 +23,8 @@ returns-clause-narrowed g c =
 pub returns-clause-lost : goal.returns-clause-lost
 returns-clause-lost g c =
     let rule = c.args.rule.now in let old = c.args.store.now in let k = c.places-c.result in
-    let e : c.swap-z.new.self ≡ after (places rule) old c.in_ok-x.x c.in_ok-x.y c.in_ok-x.z =
-    c.swap-z.ensures.put ∙ ap (λ s. narrowed_at s k.z c.in_ok-x.z) (c.swap-y.ensures.put ∙ ap (λ s. narrowed_at s k.y c.in_ok-x.y) c.swap-x.ensures.put)
+    let e : c.replace_logged-3.new.store ≡ after (places rule) old c.in_ok-x.x c.in_ok-x.y c.in_ok-x.z =
+    c.replace_logged-3.ensures.put ∙ ap (λ s. narrowed_at s k.z c.in_ok-x.z) (c.replace_logged-2.ensures.put ∙ ap (λ s. narrowed_at s k.y c.in_ok-x.y) c.replace_logged.ensures.put)
     ∙ ap (λ (p : Constraint). after p old c.in_ok-x.x c.in_ok-x.y c.in_ok-x.z) c.places-c.ensures in
     let left = subst (λ s. AreLeftAtPlaces g.B.Width.whole (places rule) (HasPointAt rule (set_at s)) s c.in_ok-x.x c.in_ok-x.y c.in_ok-x.z) c.domains.ensures.same c.in_ok-x.ensures in
     rw e (lost_after g.B.Width.whole rule (HasPointAt rule (set_at old)) old _ _ _ _ c.requires.different c.requires.present left c.is_some.ensures c.is_some-2.ensures c.is_some-3.ensures)
@@ -31,12 +32,9 @@ returns-clause-lost g c =
 pub returns-clause-same : goal.returns-clause-same
 returns-clause-same g c = λ none.
     let k = c.places-c.result in let old = c.args.store.now in
-    c.swap-z.ensures.put ∙ ap (λ s. narrowed_at s k.z c.in_ok-x.z) (c.swap-y.ensures.put ∙ ap (λ s. narrowed_at s k.y c.in_ok-x.y) c.swap-x.ensures.put)
+    c.replace_logged-3.ensures.put ∙ ap (λ s. narrowed_at s k.z c.in_ok-x.z) (c.replace_logged-2.ensures.put ∙ ap (λ s. narrowed_at s k.y c.in_ok-x.y) c.replace_logged.ensures.put)
     ∙ none_after k old c.in_ok-x.x c.in_ok-x.y c.in_ok-x.z _ c.is_some.ensures c.is_some-2.ensures c.is_some-3.ensures none
 
-pub returns-clause-back : goal.returns-clause-back
-returns-clause-back g c = λ rules.
-    let k = c.places-c.result in
-    ap (λ (sets : List (List (ℤ × ℤ))). record { domains = sets; rules = rules })
-    (ap (λ sets. narrowed_at (narrowed_at sets k.y c.swap-y.result) k.x c.swap-x.result) c.swap-z.ensures.back ∙ ap (λ sets. narrowed_at sets k.x c.swap-x.result) c.swap-y.ensures.back
-    ∙ c.swap-x.ensures.back)
+pub returns-clause-past : goal.returns-clause-past
+returns-clause-past g c = λ rules.
+    keeps_both _ _ _ _ _ _ _ rules (keeps_both _ _ _ _ _ _ _ rules (c.replace_logged.ensures.past rules) (c.replace_logged-2.ensures.past rules)) (c.replace_logged-3.ensures.past rules)
