@@ -44,7 +44,8 @@ pub fn results_by_fronts<B: Width>(
     if kept == runs.len() {
         return Ok(None);
     }
-    let mut entries = Vec::from_slice(x.allocator(), &runs[..kept])?;
+    let mut entries = Vec::with_capacity(x.allocator(), runs.len())?;
+    entries.extend_from_slice(&runs[..kept])?;
     push_all(&mut entries, &runs[kept..], left, right, op)?;
     Ok(Some(coalesce(x.allocator(), entries)?))
 }
