@@ -237,7 +237,7 @@ fn next_of<B: Width>(run: Interval<B>, b: &[Interval<B>], op: Combined, place: u
 }
 
 /// The results of a run and the one of a list whose results come at a place, where these ascend.
-fn result_at<B: Width>(
+pub fn result_at<B: Width>(
     run: Interval<B>,
     b: &[Interval<B>],
     op: Combined,
