@@ -1,8 +1,10 @@
 -- What is left of a set where only some members are kept.
-use Rattle.std.proofs.Common.{◌≡◌, ◌↔◌, inl, inr, sym, ap, subst, arith, ◌∙◌, List, [], ◌∷◌, length, get_or}
-use Rattle.std.specs.Prelude.{ℤ, ◌≤ℤ◌, Option, Some, None}
-use Rattle.ivl_laws.specs.Sets.{IsBetween, IsSubset, SameMembers, Intersection}
+use Rattle.std.proofs.Common.{◌≡◌, ◌↔◌, ◌⊎◌, inl, inr, refl, sym, ap, subst, arith, ◌∙◌, List, [], ◌∷◌, length, get_or}
+use Rattle.std.proofs.lemmas.Int.{ints}
+use Rattle.std.specs.Prelude.{ℤ, ◌≤ℤ◌, Option, Some, None, IfOk, Result, Ok, Err, unwrap_or}
+use Rattle.ivl_laws.specs.Sets.{Differences, HasNone, HasSome, IsBetween, IsSubset, Only, SameMembers, Sums, Intersection}
 use Rattle.ivl_laws.specs.Runs.{Covers, IsRunListIn, IsRunsOf}
+use Rattle.ivl_laws.proofs.Runs.{lower_end}
 use Rattle.ivl_laws.proofs.Products.{sums_of_intervals, differences_of_intervals}
 use Rattle.ivl_laws.proofs.SetLaws.{sums_are_monotone, differences_are_monotone}
 use Rattle.ivl_within.specs.declared.within.Combined.{Combined}
@@ -80,3 +82,50 @@ run_left whole L left run kept r e within differ is =
 pub run_left_all : (whole : ℤ × ℤ) (L : List (ℤ × ℤ)) (run kept : ℤ × ℤ) → IsRunListIn whole L → L ≡ run ∷ [] → SameMembers (IsBetween kept) (IsBetween run)
     → IsLeftOf whole L (IsBetween kept) None
 run_left_all whole L run kept r e same = (r, λ z m. (same z).1 ((covers_one L run e z).0 m))
+
+-- ---- a set of one number
+
+-- the list of what is left
+rest_is : (whole : ℤ × ℤ) (L : List (ℤ × ℤ)) (S : ℤ → Type 0) (left : Option (List (ℤ × ℤ))) → IsLeftOf whole L S left
+    → IsRunListIn whole (unwrap_or left L) × SameMembers (Covers (unwrap_or left L)) (Intersection (Covers L) S)
+rest_is whole L S None h = (h.0, λ z. ((λ m. (m, h.1 z m)), (λ u. u.0)))
+rest_is whole L S (Some left) h = (h.1, h.2)
+
+-- a list of runs has a member or none
+some_or_none : (whole : ℤ × ℤ) (L : List (ℤ × ℤ)) → IsRunListIn whole L → HasSome (Covers L) ⊎ HasNone (Covers L)
+some_or_none whole [] r = inr (λ z n. n)
+some_or_none whole (p ∷ L) r = inl (p.0, inl (lower_end p r.maximal.0))
+
+-- it stays exactly where some member of another set does
+pub one_is_left : (whole : ℤ × ℤ) (one other : List (ℤ × ℤ)) (S T : ℤ → Type 0) (left result : Option (List (ℤ × ℤ))) → IsRunListIn whole one
+    → (x : ℤ) × SameMembers (Covers one) (Only x) → IsLeftOf whole other S left
+    → HasSome (Intersection (Covers other) S) ↔ HasSome (Intersection (Covers one) T)
+    → (HasSome (Covers (unwrap_or left other)) → result ≡ None) → (HasNone (Covers (unwrap_or left other)) → result ≡ Some []) → IsLeftOf whole one T result
+one_is_left whole one other S T left result r (x, only) h meet stays goes =
+    let (runs, rest) = rest_is whole other S left h in
+    elim (some_or_none whole (unwrap_or left other) runs) [
+      | inl (v, m) ↦ rw (stays (v, m)) (let (w, (k, t)) = meet.0 (v, (rest v).0 m) in
+          (r, λ z n. subst T ((only w).0 k ∙ sym ((only z).0 n)) t))
+      | inr none ↦ rw (goes none) (
+        r,
+        record { maximal = tt; within = λ z n. absurd n },
+        (λ z. ((λ n. absurd n), (λ u. let (v, k) = meet.1 (z, u) in none v ((rest v).1 k)))),
+        (λ agree. (agree x).1 ((only x).1 refl)),
+      )
+    ]
+
+-- a member of one set is a difference of members where that of the other is
+pub turned : (X Y Z : ℤ → Type 0) → HasSome (Intersection X (Differences Z Y)) → HasSome (Intersection Y (Differences Z X))
+turned X Y Z (v, (m, (c, b, k, n, e))) = (b, (n, (c, v, k, m, omega (arith, ints, e))))
+
+pub summed : (X Y Z : ℤ → Type 0) → HasSome (Intersection Y (Differences Z X)) ↔ HasSome (Intersection Z (Sums X Y))
+summed X Y Z = (
+  (λ (v, (m, (c, a, k, n, e))). (c, (k, (a, v, n, m, omega (arith, ints, e))))),
+  (λ (c, (k, (a, v, n, m, e))). (v, (m, (c, a, k, n, omega (arith, ints, e))))),
+)
+
+-- ---- three facts of one result
+
+pub by_all_three : {T E : Type 0} (r : Result T E) (P Q R S : T → Type 0) → ((x : T) → P x → Q x → R x → S x) → IfOk r P → IfOk r Q → IfOk r R → IfOk r S
+by_all_three (Ok x) P Q R S f p q r = f x p q r
+by_all_three (Err e) P Q R S f p q r = tt

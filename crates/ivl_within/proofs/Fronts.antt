@@ -22,7 +22,7 @@ abbrev pub row : Combined → List (ℤ × ℤ) → ℤ × ℤ → ℕ → ℤ �
 row op b p k = pair_by op p (nth_by op b k)
 
 -- of two runs the later one begins and ends no lower
-at_most : (b : List (ℤ × ℤ)) (i j : ℕ) → IsMaximal b → i ≤ j → j < length b → ((run_at b i).0 ≤ℤ (run_at b j).0) × ((run_at b i).1 ≤ℤ (run_at b j).1)
+pub at_most : (b : List (ℤ × ℤ)) (i j : ℕ) → IsMaximal b → i ≤ j → j < length b → ((run_at b i).0 ≤ℤ (run_at b j).0) × ((run_at b i).1 ≤ℤ (run_at b j).1)
 at_most b i j m h l = ⊎_elim
     (λ less.
     let up = runs_ascend b i j (pos 0, pos 0) m less l in
@@ -104,7 +104,7 @@ difference_made op b p q r k e l is made =
     subst (λ (o : Combined). r ≡ row o b p k) (sym e) (made ∙ ap (λ (t : ℤ × ℤ). (p.0 -ℤ t.1, p.1 -ℤ t.0)) here)
 
 -- each result is in some row
-in_rows : (op : Combined) (a b : List (ℤ × ℤ)) (z : ℤ) → SumsBy op (Covers a) (Covers b) z → (r : ℕ) × (r < length a) × (k : ℕ) × (k < length b) × IsBetween (row op b (run_at a r) k) z
+pub in_rows : (op : Combined) (a b : List (ℤ × ℤ)) (z : ℤ) → SumsBy op (Covers a) (Covers b) z → (r : ℕ) × (r < length a) × (k : ℕ) × (k < length b) × IsBetween (row op b (run_at a r) k) z
 in_rows Sum a b z (x, y, c, t, e) = let (r, l, s) = place_of_covered a (pos 0, pos 0) x c in let (k, h, i) = in_row Sum b (run_at a r) z (x, y, s, t, e) in (r, l, k, h, i)
 in_rows Difference a b z (x, y, c, t, e) = let (r, l, s) = place_of_covered a (pos 0, pos 0) x c in let (k, h, i) = in_row Difference b (run_at a r) z (x, y, s, t, e) in (r, l, k, h, i)
 

@@ -5,3 +5,4 @@ pub mod Lists
 pub mod Reaching
 pub mod Stretches
 pub mod Windows
+pub mod Moved

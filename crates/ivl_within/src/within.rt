@@ -7,6 +7,7 @@ ghost use Rattle.ivl_within.specs.Within.{Clipped, SumsBy};
 mod by_runs;
 mod fronts;
 mod members;
+mod moved;
 mod pairs;
 mod rows;
 

@@ -18,9 +18,7 @@ use super::windows::{
 use intervallum::interval_set::IntervalSet;
 use intervallum::ops::{Bounded, IsEmpty};
 use intervallum::width::Width;
-use ivl_store::store::Constraint;
-use ivl_store::store::narrowed_sets::narrowed_by;
-use ivl_within::within::Combined;
+use ivl_store::store::{Constraint, narrowed_sets};
 use std::alloc::AllocError;
 
 /// Narrows by a rule: a domain that it names keeps its members that are in a point of the domains which satisfies the
@@ -31,8 +29,8 @@ use std::alloc::AllocError;
 ///
 /// `AtMost` and `Differs` look at the ends of a domain and, where a member is lost, copy what is left of it.
 /// `Shifted` looks each run of one domain up in the other, and makes that anew where one is lost. `Sum` costs what
-/// [`narrowed_by`] costs, for each of its three domains. A domain that keeps its members is not written, and no
-/// rule of two variables allocates where none is lost.
+/// [`narrowed_by_sum`](ivl_store::store::narrowed_sets::narrowed_by_sum) costs. A domain that keeps its members is not
+/// written, and no rule of two variables allocates where none is lost.
 ///
 /// # Errors
 ///
@@ -290,9 +288,5 @@ fn narrowed_by_sum<B: Width>(
     requires present { AllPresent (length domains.now) c.now }
     ensures { IfOk result (λ r. AreLeftAtPlaces B.whole c.now (HasPointAt (SumRule c.now) (set_at domains.now)) domains.now r.0 r.1 r.2) }
 {
-    let (x, y, z) = (&domains[c.x], &domains[c.y], &domains[c.z]);
-    let left_of_x = narrowed_by(x, z, y, Combined::Difference)?;
-    let left_of_y = narrowed_by(y, z, x, Combined::Difference)?;
-    let left_of_z = narrowed_by(z, x, y, Combined::Sum)?;
-    Ok((left_of_x, left_of_y, left_of_z))
+    narrowed_sets::narrowed_by_sum(&domains[c.x], &domains[c.y], &domains[c.z])
 }

@@ -1,6 +1,6 @@
 //! What narrowing leaves of a domain; `None` stands for a domain that loses no member.
-ghost use Rattle.std.specs.Prelude.{◌≡◌, ◌∷◌, [], IfOk, length};
-ghost use Rattle.ivl_laws.specs.Sets.{IsBetween, IsSubset};
+ghost use Rattle.std.specs.Prelude.{◌≡◌, ◌∷◌, [], IfOk, None, Some, length, unwrap_or};
+ghost use Rattle.ivl_laws.specs.Sets.{Differences, HasNone, HasSome, IsBetween, IsSubset, Sums};
 ghost use Rattle.ivl_laws.specs.Runs.{Covers, IsRunListIn};
 ghost use Rattle.ivl_store.specs.NarrowedSets.{AreLeftAt, IsLeftOf};
 ghost use Rattle.ivl_store.specs.Narrowing.{AllPresent};
@@ -9,7 +9,7 @@ ghost use Rattle.ivl_within.specs.Within.{SumsBy};
 use super::Constraint;
 use intervallum::interval::Interval;
 use intervallum::interval_set::IntervalSet;
-use intervallum::ops::{Cardinality, Intersection};
+use intervallum::ops::{Cardinality, Intersection, IsEmpty, IsSingleton};
 use intervallum::width::Width;
 use ivl_within::within::{Combined, pair_in_window, results_unless_all};
 use std::alloc::AllocError;
@@ -31,6 +31,9 @@ pub(super) fn narrowed_sets<B: Width>(
     ensures { IfOk result (λ r. AreLeftAt B.whole c.now domains.now r.0 r.1 r.2) }
 {
     let (x, y, z) = (&domains[c.x], &domains[c.y], &domains[c.z]);
+    if c.distinct() {
+        return narrowed_by_sum(x, y, z);
+    }
     let left_of_x = if c.has_x_later() {
         None
     } else {
@@ -43,6 +46,79 @@ pub(super) fn narrowed_sets<B: Width>(
     };
     let left_of_z = narrowed_by(z, x, y, Combined::Sum)?;
     Ok((left_of_x, left_of_y, left_of_z))
+}
+
+/// Returns the members of `x` that are a difference of a member of `z` and one of `y`, those of `y` that are one of a
+/// member of `z` and one of `x`, and those of `z` that are a sum of both, or `None` in place of a set of which all
+/// are. Costs what [`narrowed_by`] costs, for each set with two members or more, and for one more at most.
+///
+/// # Errors
+///
+/// Fails only if allocation fails.
+///
+/// ```
+/// let (x, y) = (IntervalSet::new(alloc, 0, 9)?, IntervalSet::new(alloc, 3, 3)?);
+/// let z = IntervalSet::new(alloc, 5, 6)?;
+/// let (left_of_x, left_of_y, left_of_z) = narrowed_by_sum(&x, &y, &z)?;
+/// assert!(rt; left_of_x == Some(IntervalSet::new(alloc, 2, 3)?));
+/// assert!(rt; left_of_y.is_none() && left_of_z.is_none());
+/// ```
+pub fn narrowed_by_sum<B: Width>(
+    x: &IntervalSet<B>,
+    y: &IntervalSet<B>,
+    z: &IntervalSet<B>,
+) -> Result<
+    (
+        Option<IntervalSet<B>>,
+        Option<IntervalSet<B>>,
+        Option<IntervalSet<B>>,
+    ),
+    AllocError,
+>
+    ensures at_x { IfOk result (λ r. IsLeftOf B.whole x.now (Differences (Covers z.now) (Covers y.now)) r.0) }
+    ensures at_y { IfOk result (λ r. IsLeftOf B.whole y.now (Differences (Covers z.now) (Covers x.now)) r.1) }
+    ensures at_z { IfOk result (λ r. IsLeftOf B.whole z.now (Sums (Covers x.now) (Covers y.now)) r.2) }
+{
+    if y.is_singleton() {
+        let left_of_x = narrowed_by(x, z, y, Combined::Difference)?;
+        let left_of_y = left_of_one(y, x, &left_of_x);
+        let left_of_z = narrowed_by(z, x, y, Combined::Sum)?;
+        return Ok((left_of_x, left_of_y, left_of_z));
+    }
+    let left_of_y = narrowed_by(y, z, x, Combined::Difference)?;
+    let left_of_x = if x.is_singleton() {
+        left_of_one(x, y, &left_of_y)
+    } else {
+        narrowed_by(x, z, y, Combined::Difference)?
+    };
+    let left_of_z = if z.is_singleton() {
+        left_of_one(z, y, &left_of_y)
+    } else {
+        narrowed_by(z, x, y, Combined::Sum)?
+    };
+    Ok((left_of_x, left_of_y, left_of_z))
+}
+
+/// Returns what is left of a set of one number, which stands in a sum with a member of another set: it stays exactly
+/// where some member of that one does.
+fn left_of_one<B: Width>(
+    one: &IntervalSet<B>,
+    other: &IntervalSet<B>,
+    left: &Option<IntervalSet<B>>,
+) -> Option<IntervalSet<B>>
+    ensures runs { IsRunListIn B.whole one.now }
+    ensures stays { HasSome (Covers (unwrap_or left.now other.now)) → result ≡ None }
+    ensures goes { HasNone (Covers (unwrap_or left.now other.now)) → result ≡ Some [] }
+{
+    one.in_whole();
+    let is_none = match left {
+        Some(rest) => rest.is_empty(),
+        None => other.is_empty(),
+    };
+    if is_none {
+        return Some(IntervalSet::empty(one.allocator()));
+    }
+    None
 }
 
 /// Returns the members of `x` that are a sum, or a difference, of a member of `a` and one of `b`, or `None` if all

@@ -41,7 +41,8 @@ pub fn results_by_fronts<B: Width>(
     if kept == runs.len() {
         return Ok(None);
     }
-    let mut entries = Vec::from_slice(x.allocator(), &runs[..kept])?;
+    let mut entries = Vec::with_capacity(x.allocator(), runs.len())?;
+    entries.extend_from_slice(&runs[..kept])?;
     push_all(&mut entries, &runs[kept..], left, right, op)?;
     Ok(Some(coalesce(x.allocator(), entries)?))
 }
@@ -236,7 +237,7 @@ fn next_of<B: Width>(run: Interval<B>, b: &[Interval<B>], op: Combined, place: u
 }
 
 /// The results of a run and the one of a list whose results come at a place, where these ascend.
-fn result_at<B: Width>(
+pub fn result_at<B: Width>(
     run: Interval<B>,
     b: &[Interval<B>],
     op: Combined,

@@ -1,14 +1,15 @@
 //! The members of a set that are sums or differences.
-ghost use Rattle.std.specs.Prelude.{◌↔◌, IfOk, IsTrue, MatchOption};
+ghost use Rattle.std.specs.Prelude.{◌≡◌, ◌↔◌, IfOk, IsTrue, MatchOption, length};
 ghost use Rattle.ivl_laws.specs.Sets.{Intersection, IsBetween, IsSubset};
 ghost use Rattle.ivl_laws.specs.Runs.{Covers, IsRunsOf};
 ghost use Rattle.ivl_within.specs.Within.{SumsBy};
 
 use super::by_runs::results_by_runs;
 use super::fronts::results_by_fronts;
+use super::moved::results_by_moving;
 use super::{Combined, combine};
 use intervallum::interval_set::IntervalSet;
-use intervallum::ops::{Fits, Intersection, IsEmpty};
+use intervallum::ops::{Fits, Intersection, IsEmpty, IsSingleton};
 use intervallum::width::Width;
 use std::alloc::AllocError;
 
@@ -20,7 +21,8 @@ const FEW: usize = 64;
 ///
 /// If the three have fewer than 64 runs and all results are in the range, finds them in order: each run
 /// of the answer, and each gap in a run of `x`, takes a walk of `O(n + m)` for `n` and `m` runs of `a` and
-/// `b`, or more where results touch. Allocates the answer as it grows, and once more at most.
+/// `b`, or more where results touch. Where `a` or `b` is a single number, one walk over the runs of the
+/// other one and of `x` finds all. Reserves as many runs as `x` has, and grows where the answer has more.
 ///
 /// Else makes the `k` pairs of runs whose results reach the interval from the least to the greatest member
 /// of `x`, at the cost of [`sums_in_window`](super::sums_in_window), and intersects these results with
@@ -85,6 +87,9 @@ pub fn results_unless_all<B: Width>(
         (λ L. IsRunsOf L (Intersection (Covers x.now) (SumsBy op (Covers a.now) (Covers b.now))))) }
 {
     if are_few(x, a, b) && all_fit(a, b, op) {
+        if is_number(a) || is_number(b) {
+            return results_by_moving(x, a, b, op);
+        }
         return results_by_fronts(x, a, b, op);
     }
     Ok(Some(results_by_pairs(x, a, b, op)?))
@@ -94,6 +99,14 @@ pub fn results_unless_all<B: Width>(
 fn are_few<B: Width>(x: &IntervalSet<B>, a: &IntervalSet<B>, b: &IntervalSet<B>) -> bool {
     let count = a.interval_count().saturating_add(b.interval_count());
     count.saturating_add(x.interval_count()) < FEW
+}
+
+/// Whether a set is a single number.
+fn is_number<B: Width>(a: &IntervalSet<B>) -> bool
+    ensures { IsTrue result → length a.now ≡ 1 }
+{
+    a.in_whole();
+    a.is_singleton()
 }
 
 /// Whether all results are in the range.

@@ -7,6 +7,7 @@ use crate::rattle::prelude::*;
 mod by_runs;
 mod fronts;
 mod members;
+mod moved;
 mod pairs;
 mod rows;
 

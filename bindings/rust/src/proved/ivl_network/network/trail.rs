@@ -25,11 +25,7 @@ pub(super) fn reserve_changes<B: Width>(
 }
 
 /// Writes a change down, if changes are written down.
-pub(super) fn log_change<B: Width>(
-    trail: &mut Vec<Change<B>>,
-    is_kept: bool,
-    change: Change<B>,
-) {
+pub(super) fn log_change<B: Width>(trail: &mut Vec<Change<B>>, is_kept: bool, change: Change<B>) {
     if is_kept {
         trail.push_reserved(change);
     }

@@ -11,9 +11,7 @@ use super::windows::{
 use crate::proved::intervallum::interval_set::IntervalSet;
 use crate::proved::intervallum::ops::{Bounded, IsEmpty};
 use crate::proved::intervallum::width::Width;
-use crate::proved::ivl_store::store::Constraint;
-use crate::proved::ivl_store::store::narrowed_sets::narrowed_by;
-use crate::proved::ivl_within::within::Combined;
+use crate::proved::ivl_store::store::{Constraint, narrowed_sets};
 use crate::rattle::std::alloc::AllocError;
 
 /// Narrows by a rule: a domain that it names keeps its members that are in a point of the domains which satisfies the
@@ -24,8 +22,8 @@ use crate::rattle::std::alloc::AllocError;
 ///
 /// `AtMost` and `Differs` look at the ends of a domain and, where a member is lost, copy what is left of it.
 /// `Shifted` looks each run of one domain up in the other, and makes that anew where one is lost. `Sum` costs what
-/// [`narrowed_by`] costs, for each of its three domains. A domain that keeps its members is not written, and no
-/// rule of two variables allocates where none is lost.
+/// [`narrowed_by_sum`](crate::proved::ivl_store::store::narrowed_sets::narrowed_by_sum) costs. A domain that keeps its members is not
+/// written, and no rule of two variables allocates where none is lost.
 ///
 /// # Errors
 ///
@@ -288,9 +286,5 @@ fn narrowed_by_sum<B: Width>(
     ),
     AllocError,
 > {
-    let (x, y, z) = (&domains[c.x], &domains[c.y], &domains[c.z]);
-    let left_of_x = narrowed_by(x, z, y, Combined::Difference)?;
-    let left_of_y = narrowed_by(y, z, x, Combined::Difference)?;
-    let left_of_z = narrowed_by(z, x, y, Combined::Sum)?;
-    Ok((left_of_x, left_of_y, left_of_z))
+    narrowed_sets::narrowed_by_sum(&domains[c.x], &domains[c.y], &domains[c.z])
 }

@@ -6,7 +6,7 @@ use crate::rattle::prelude::*;
 use super::Constraint;
 use crate::proved::intervallum::interval::Interval;
 use crate::proved::intervallum::interval_set::IntervalSet;
-use crate::proved::intervallum::ops::{Cardinality, Intersection};
+use crate::proved::intervallum::ops::{Cardinality, Intersection, IsEmpty, IsSingleton};
 use crate::proved::intervallum::width::Width;
 use crate::proved::ivl_within::within::{Combined, pair_in_window, results_unless_all};
 use crate::rattle::std::alloc::AllocError;
@@ -25,6 +25,9 @@ pub(super) fn narrowed_sets<B: Width>(
     AllocError,
 > {
     let (x, y, z) = (&domains[c.x], &domains[c.y], &domains[c.z]);
+    if c.distinct() {
+        return narrowed_by_sum(x, y, z);
+    }
     let left_of_x = if c.has_x_later() {
         None
     } else {
@@ -37,6 +40,87 @@ pub(super) fn narrowed_sets<B: Width>(
     };
     let left_of_z = narrowed_by(z, x, y, Combined::Sum)?;
     Ok((left_of_x, left_of_y, left_of_z))
+}
+
+/// Returns the members of `x` that are a difference of a member of `z` and one of `y`, those of `y` that are one of a
+/// member of `z` and one of `x`, and those of `z` that are a sum of both, or `None` in place of a set of which all
+/// are. Costs what [`narrowed_by`] costs, for each set with two members or more, and for one more at most.
+///
+/// # Errors
+///
+/// Fails only if allocation fails.
+///
+/// ```
+/// use intervallum::proved::examples::*;
+///
+/// fn main() -> Result<(), std::boxed::Box<dyn std::error::Error>> {
+///     let alloc = Global;
+///     let (x, y) = (IntervalSet::new(alloc, 0, 9)?, IntervalSet::new(alloc, 3, 3)?);
+///     let z = IntervalSet::new(alloc, 5, 6)?;
+///     let (left_of_x, left_of_y, left_of_z) = narrowed_by_sum(&x, &y, &z)?;
+///     assert!(left_of_x == Some(IntervalSet::new(alloc, 2, 3)?));
+///     assert!(left_of_y.is_none() && left_of_z.is_none());
+///     Ok(())
+/// }
+/// ```
+///
+/// # Proved
+///
+/// ```text
+/// ensures at_x { IfOk result (λ r. IsLeftOf B.whole x.now (Differences (Covers z.now) (Covers y.now)) r.0) }
+/// ensures at_y { IfOk result (λ r. IsLeftOf B.whole y.now (Differences (Covers z.now) (Covers x.now)) r.1) }
+/// ensures at_z { IfOk result (λ r. IsLeftOf B.whole z.now (Sums (Covers x.now) (Covers y.now)) r.2) }
+/// ```
+///
+/// Words: [`IsLeftOf`](crate::definitions#IsLeftOf), [`Differences`](crate::definitions#Differences), [`Covers`](crate::definitions#Covers), [`Sums`](crate::definitions#Sums).
+pub fn narrowed_by_sum<B: Width>(
+    x: &IntervalSet<B>,
+    y: &IntervalSet<B>,
+    z: &IntervalSet<B>,
+) -> Result<
+    (
+        Option<IntervalSet<B>>,
+        Option<IntervalSet<B>>,
+        Option<IntervalSet<B>>,
+    ),
+    AllocError,
+> {
+    if y.is_singleton() {
+        let left_of_x = narrowed_by(x, z, y, Combined::Difference)?;
+        let left_of_y = left_of_one(y, x, &left_of_x);
+        let left_of_z = narrowed_by(z, x, y, Combined::Sum)?;
+        return Ok((left_of_x, left_of_y, left_of_z));
+    }
+    let left_of_y = narrowed_by(y, z, x, Combined::Difference)?;
+    let left_of_x = if x.is_singleton() {
+        left_of_one(x, y, &left_of_y)
+    } else {
+        narrowed_by(x, z, y, Combined::Difference)?
+    };
+    let left_of_z = if z.is_singleton() {
+        left_of_one(z, y, &left_of_y)
+    } else {
+        narrowed_by(z, x, y, Combined::Sum)?
+    };
+    Ok((left_of_x, left_of_y, left_of_z))
+}
+
+/// Returns what is left of a set of one number, which stands in a sum with a member of another set: it stays exactly
+/// where some member of that one does.
+fn left_of_one<B: Width>(
+    one: &IntervalSet<B>,
+    other: &IntervalSet<B>,
+    left: &Option<IntervalSet<B>>,
+) -> Option<IntervalSet<B>> {
+    one.in_whole();
+    let is_none = match left {
+        Some(rest) => rest.is_empty(),
+        None => other.is_empty(),
+    };
+    if is_none {
+        return Some(IntervalSet::empty(one.allocator()));
+    }
+    None
 }
 
 /// Returns the members of `x` that are a sum, or a difference, of a member of `a` and one of `b`, or `None` if all

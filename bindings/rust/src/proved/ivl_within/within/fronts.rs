@@ -44,7 +44,8 @@ pub fn results_by_fronts<B: Width>(
     if kept == runs.len() {
         return Ok(None);
     }
-    let mut entries = Vec::from_slice(x.allocator(), &runs[..kept])?;
+    let mut entries = Vec::with_capacity(x.allocator(), runs.len())?;
+    entries.extend_from_slice(&runs[..kept])?;
     push_all(&mut entries, &runs[kept..], left, right, op)?;
     Ok(Some(coalesce(x.allocator(), entries)?))
 }
@@ -191,7 +192,19 @@ fn next_of<B: Width>(run: Interval<B>, b: &[Interval<B>], op: Combined, place: u
 }
 
 /// The results of a run and the one of a list whose results come at a place, where these ascend.
-fn result_at<B: Width>(
+///
+/// # Proved
+///
+/// ```text
+/// requires filled { run.0 ≤ℤ run.1 }
+/// requires right { IsMaximal b.now }
+/// requires fits { IsSubset (SumsBy op (IsBetween run) (Covers b.now)) (IsBetween B.whole) }
+/// requires place { place < length b.now }
+/// ensures { result ≡ pair_by op run (nth_by op b.now place) }
+/// ```
+///
+/// Words: [`IsMaximal`](crate::definitions#IsMaximal), [`IsSubset`](crate::definitions#IsSubset), [`SumsBy`](crate::definitions#SumsBy), [`IsBetween`](crate::definitions#IsBetween), [`Covers`](crate::definitions#Covers), [`pair_by`](crate::definitions#pair_by).
+pub fn result_at<B: Width>(
     run: Interval<B>,
     b: &[Interval<B>],
     op: Combined,

@@ -1,4 +1,4 @@
-use Rattle.std.proofs.Common.{◌∙◌, ◌-◌, List, ℤ, arith, drop, length, subst, sym, take}
+use Rattle.std.proofs.Common.{◌∙◌, ◌-◌, ◌++◌, List, ℤ, ap, arith, drop, length, subst, sym, take}
 use Rattle.intervallum.proofs.Slices.{from_place}
 use Rattle.ivl_laws.specs.Sets.{Intersection, SameMembers, Union}
 use Rattle.ivl_laws.specs.Runs.{Covers, IsMaximal}
@@ -51,7 +51,7 @@ returns g c =
     let S = SumsBy c.args.op (Covers L) (Covers M) in
     let new = c.push_all.new.entries.items in
     let P : List (ℤ × ℤ) → List (ℤ × ℤ) → Type 0 = λ kept rest. SameMembers (Covers new) (Union (Covers kept) (Intersection (Covers rest) S)) in
-    let added : P (take n R) (drop n R) = subst (P (take n R)) (from_place R n) (subst (λ kept. P kept (take (length R - n) (drop n R))) c.in_ok-entries.ensures.items c.in_ok-push_all.ensures) in
+    let added : P (take n R) (drop n R) = subst (P (take n R)) (from_place R n) (subst (λ kept. P kept (take (length R - n) (drop n R))) (c.in_ok-extend_from_slice.ensures.items ∙ ap (λ (old : List (ℤ × ℤ)). old ++ take n R) c.in_ok-entries.ensures.items) c.in_ok-push_all.ensures) in
     results_seen c.args.op R L M c.args.x.now c.args.a.now c.args.b.now new c.in_ok-coalesce.field-0 n
     (c.as_slice-runs.ensures.value ∙ c.iter.ensures.rest) (c.as_slice-left.ensures.value ∙ c.iter-2.ensures.rest) (c.as_slice-right.ensures.value ∙ c.iter-3.ensures.rest)
     c.count_kept-kept.ensures.kept added c.in_ok-coalesce.ensures
