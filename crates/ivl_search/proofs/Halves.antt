@@ -6,7 +6,7 @@ use Rattle.std.proofs.lemmas.List.Elements.{All-head, All-tail}
 use Rattle.ivl_laws.specs.Counts.{IsCountOf, IsIn}
 use Rattle.ivl_laws.specs.Families.{set_at}
 use Rattle.ivl_laws.specs.Runs.{Covers, IsRunListIn}
-use Rattle.ivl_laws.specs.Sets.{Below, HasNone, HasSome, Intersection, Only, SameMembers, Union}
+use Rattle.ivl_laws.specs.Sets.{Below, HasNone, HasSome, Intersection, Only, Union}
 use Rattle.ivl_laws.proofs.Counts.{IsCountOf-apart, IsCountOf-only, IsCountOf-same, count_is_monotone, count_is_unique, none_of_count}
 use Rattle.ivl_laws.proofs.Runs.{≤ℤ_antisymm}
 use Rattle.ivl_search.specs.declared.search.choice.Wanted.{Wanted}
@@ -75,25 +75,6 @@ least_worse S x least two = let le = least two.0 two.2 in let lt = two.4 in (two
 
 pub greatest_worse : (S : ℤ → Type 0) (x : ℤ) → ((z : ℤ) → S z → z ≤ℤ x) → HasTwo S → HasSome (λ v. S v × IsBetter Greatest v x)
 greatest_worse S x greatest two = let le = greatest two.1 two.3 in let lt = two.4 in (two.0, (two.2, omega (arith, ints)))
-
--- runs with a member, but not with one alone, have two
-pub two_members : (whole : ℤ × ℤ) (s : List (ℤ × ℤ)) → IsRunListIn whole s → HasSome (Covers s) → ¬ ((x : ℤ) × SameMembers (Covers s) (Only x)) → HasTwo (Covers s)
-two_members whole [] runs some other = absurd some.1
-two_members whole (p ∷ []) runs some other =
-    let le = runs.maximal.0 in
-    by_lt_z p.0 p.1 (λ lt. (p.0, p.1, inl (omega (arith, ints), omega (arith, ints)), inl (omega (arith, ints), omega (arith, ints)), lt))
-    (λ ge. absurd (other (
-      p.0,
-      λ z. (
-        (λ c. elim c [ inl b ↦ (let l = b.0 in let u = b.1 in omega (arith, ints)) | inr n ↦ absurd n ]),
-        (λ e. inl (omega (arith, ints, e), omega (arith, ints, e))),
-      ),
-    )))
-two_members whole (p ∷ (q ∷ s)) runs some other =
-    let le = runs.maximal.0 in
-    let after = runs.maximal.1 in
-    let le' = runs.maximal.2.0 in
-    (p.0, q.0, inl (omega (arith, ints), omega (arith, ints)), inr (inl (omega (arith, ints), omega (arith, ints))), omega (arith, ints))
 
 -- runs that are not empty have a member
 pub filled : (whole : ℤ × ℤ) (s : List (ℤ × ℤ)) → IsRunListIn whole s → ¬ (HasNone (Covers s)) → HasSome (Covers s)

@@ -2,7 +2,7 @@
 ghost use Rattle.std.specs.Prelude.{◌≡◌, ◌↔◌, ◌≢◌, ◌<◌, ◌||◌, ℕ, ℤ, ◌+ℤ◌, IfOk, IsTrue, None, OnErr, OnOk, is_some, length, true};
 ghost use Rattle.ivl_laws.specs.Families.{set_at};
 ghost use Rattle.ivl_laws.specs.Runs.{Covers};
-ghost use Rattle.ivl_laws.specs.Sets.{HasSome};
+ghost use Rattle.ivl_laws.specs.Sets.{HasSome, Only, SameMembers};
 ghost use Rattle.ivl_store.specs.NarrowedSets.{IsLeftOf, narrowed_at};
 ghost use Rattle.ivl_store.specs.Narrowing.{AllPresent};
 ghost use Rattle.ivl_store.specs.Solutions.{AreDistinct, LostMember};
@@ -16,7 +16,7 @@ use super::windows::{
     narrowed_without, shift_back_of, shift_of,
 };
 use intervallum::interval_set::IntervalSet;
-use intervallum::ops::{Bounded, IsEmpty};
+use intervallum::ops::{Bounded, IsEmpty, IsSingleton};
 use intervallum::width::Width;
 use ivl_store::store::{Constraint, narrowed_sets};
 use std::alloc::AllocError;
@@ -115,28 +115,27 @@ fn are_at_most<B: Width>(x: &IntervalSet<B>, y: &IntervalSet<B>, by: &i64) -> bo
 fn are_differing<B: Width>(x: &IntervalSet<B>, y: &IntervalSet<B>, by: &i64) -> bool
     ensures { result ≡ true → AreLeftBy B.whole (IsNot by.now) x.now y.now None None }
 {
+    x.in_whole();
+    y.in_whole();
     if x.is_empty() || y.is_empty() {
         return false;
     }
-    if !differs_from(x, y, shift_back_of(by)) {
-        return false;
+    if y.is_singleton() {
+        return lacks_moved(x, y, shift_back_of(by));
     }
-    differs_from(y, x, shift_of(by))
+    if x.is_singleton() {
+        return lacks_moved(y, x, shift_of(by));
+    }
+    true
 }
 
-/// Whether each member of `x` is not some member of `y` and `by`, where `y` has a member.
-fn differs_from<B: Width>(x: &IntervalSet<B>, y: &IntervalSet<B>, by: i128) -> bool
-    requires filled { HasSome (Covers y.now) }
+/// Whether `x` does not have the number that the one of `y` and `by` make.
+fn lacks_moved<B: Width>(x: &IntervalSet<B>, y: &IntervalSet<B>, by: i128) -> bool
+    requires single { (w : ℤ) × SameMembers (Covers y.now) (Only w) }
     requires small { IsSmall by }
-    ensures { result ≡ true → IsLeftOf B.whole x.now (λ v. (w : ℤ) × Covers y.now w × ((w +ℤ by) ≢ v)) None }
+    ensures { result ≡ true → (v w : ℤ) → Covers x.now v → Covers y.now w → (w +ℤ by) ≢ v }
 {
-    x.in_whole();
-    let low = y.lower().number();
-    let high = y.upper().number();
-    if low != high {
-        return true;
-    }
-    !has_number(x, low + by)
+    !has_number(x, y.lower().number() + by)
 }
 
 /// Whether a set was made for one place at least.

@@ -5,8 +5,8 @@ use Rattle.std.proofs.lemmas.List.{get_or_default}
 use Rattle.ivl_laws.specs.Families.{set_at}
 use Rattle.ivl_laws.specs.Runs.{Covers, IsRunListIn}
 use Rattle.ivl_laws.specs.Sets.{HasSome, Only, SameMembers}
+use Rattle.ivl_rules.proofs.Differing.{two_members}
 use Rattle.ivl_network.specs.Settled.{HasTwo}
-use Rattle.ivl_search.proofs.Halves.{two_members}
 use Rattle.ivl_search.proofs.search.choice.better.Goals as goal
 
 -- a domain that is neither empty nor single has two members
