@@ -9,7 +9,7 @@ use super::windows::{
     narrowed_without, shift_back_of, shift_of,
 };
 use crate::proved::intervallum::interval_set::IntervalSet;
-use crate::proved::intervallum::ops::{Bounded, IsEmpty};
+use crate::proved::intervallum::ops::{Bounded, IsEmpty, IsSingleton};
 use crate::proved::intervallum::width::Width;
 use crate::proved::ivl_store::store::Constraint;
 use crate::proved::ivl_store::store::narrowed_sets::narrowed_by;
@@ -132,24 +132,23 @@ fn are_at_most<B: Width>(x: &IntervalSet<B>, y: &IntervalSet<B>, by: &i64) -> bo
 /// Whether two sets have a member, and each member of both stands in a pair of which the first and `by` are not the
 /// second.
 fn are_differing<B: Width>(x: &IntervalSet<B>, y: &IntervalSet<B>, by: &i64) -> bool {
+    x.in_whole();
+    y.in_whole();
     if x.is_empty() || y.is_empty() {
         return false;
     }
-    if !differs_from(x, y, shift_back_of(by)) {
-        return false;
+    if y.is_singleton() {
+        return lacks_moved(x, y, shift_back_of(by));
     }
-    differs_from(y, x, shift_of(by))
+    if x.is_singleton() {
+        return lacks_moved(y, x, shift_of(by));
+    }
+    true
 }
 
-/// Whether each member of `x` is not some member of `y` and `by`, where `y` has a member.
-fn differs_from<B: Width>(x: &IntervalSet<B>, y: &IntervalSet<B>, by: i128) -> bool {
-    x.in_whole();
-    let low = y.lower().number();
-    let high = y.upper().number();
-    if low != high {
-        return true;
-    }
-    !has_number(x, low + by)
+/// Whether `x` does not have the number that the one of `y` and `by` make.
+fn lacks_moved<B: Width>(x: &IntervalSet<B>, y: &IntervalSet<B>, by: i128) -> bool {
+    !has_number(x, y.lower().number() + by)
 }
 
 /// Whether a set was made for one place at least.
