@@ -364,7 +364,9 @@ class Solver(Commands):
         changed = [name for name, members in domains.items() if members != self.domains[name]]
         self.domains.update(domains)
         for name in changed:
-            for place in reversed(range(len(self.rules))):
+            # the rules that need single numbers are looked at last
+            latest_first = reversed(range(len(self.rules)))
+            for place in sorted(latest_first, key=lambda place: self.rules[place].sign == b"!="):
                 if self.is_settled[place] and name in self.rules[place].names and not self.stays_settled(self.rules[place]):
                     self.is_settled[place] = False
                     self.later.append(place)

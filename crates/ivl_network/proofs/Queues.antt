@@ -7,11 +7,12 @@ use Rattle.std.proofs.lemmas.Bool.{cases_eq, cases_lt, false≢true}
 use Rattle.std.proofs.lemmas.List.{get_or-set_other, get_or-set_same, get_or_push, length-set, length_push, get_or_default, take_all, take_more}
 use Rattle.std.proofs.lemmas.List.Sums.{count_by-le-length, sum_by_push, sum_by-append, sum_by-set}
 use Rattle.ivl_network.specs.declared.network.queue.Queue.{Queue}
-use Rattle.ivl_network.specs.Queue.{IsLastNamingRule, IsRuleQueue, Removes, times_in, unsettled_count, waits}
+use Rattle.ivl_network.specs.Queue.{IsLastNamingRule, IsListed, IsRuleQueue, Removes, times_in, unsettled_count, waits}
 use Rattle.ivl_network.specs.Families.{IsFixedBy}
-use Rattle.ivl_network.specs.Settled.{AreClearedRules, HasTwo}
+use Rattle.ivl_network.specs.Settled.{AreClearedListed, AreClearedRules, HasTwo}
 use Rattle.ivl_rules.specs.Rules.{NamesOf, needs_singles}
 use Rattle.ivl_rules.specs.declared.rules.Rule.{Rule}
+use Rattle.ivl_rules.specs.declared.rules.Rule.TheVariants.{Sum}
 
 -- ---- flags, and numbers in a list
 
@@ -198,53 +199,67 @@ popped_round queue queue' false k false s e m at f g room room_later =
 
 -- ---- rules that lose their flags
 
--- those that name the variable have none from this place on, but where they stay
-pub record WokenSoFar (rules : List Rule) (variable : ℕ) (Stays : Rule → Type 0) (before after : List Bool) (place : ℕ) : Type 0 where
+-- those that are listed at the variable have none from this place on, but where they stay
+pub record WokenSoFar (singles : Bool) (rules : List Rule) (variable : ℕ) (Stays : Rule → Type 0) (before after : List Bool) (place : ℕ) : Type 0 where
   pub low : place ≤ length rules
-  pub names : (k : ℕ) (d : Rule) → k + 1 ≡ place → NamesOf (get_or rules k d) variable
+  pub names : (k : ℕ) (d : Rule) → k + 1 ≡ place → IsListed singles variable (get_or rules k d)
   pub same_count : length after ≡ length before
   pub only_cleared : (k : ℕ) → get_or after k false ≡ true → get_or before k false ≡ true
-  pub apart : (k : ℕ) (d : Rule) → place ≤ k → k < length rules → get_or after k false ≡ true → NamesOf (get_or rules k d) variable
+  pub left : (k : ℕ) (d : Rule) → place ≤ k → k < length rules → get_or after k false ≡ true → IsListed singles variable (get_or rules k d)
       → Stays (get_or rules k d)
 
-pub none_woken : (rules : List Rule) (variable : ℕ) (Stays : Rule → Type 0) (flags : List Bool) (place : ℕ) → IsLastNamingRule rules variable (length rules) place
-    → WokenSoFar rules variable Stays flags flags place
-none_woken rules variable Stays flags place s = record {
-  low = s.low;
-  names = s.names;
+pub none_woken : (s : Bool) (rules : List Rule) (variable : ℕ) (Stays : Rule → Type 0) (flags : List Bool) (place : ℕ) → IsLastNamingRule s rules variable (length rules) place
+    → WokenSoFar s rules variable Stays flags flags place
+none_woken s rules variable Stays flags place last = record {
+  low = last.low;
+  names = last.names;
   same_count = refl;
   only_cleared = (λ k m. m);
-  apart = (λ k d from lt m named. absurd (s.none k d from lt named));
+  left = (λ k d from lt m listed. absurd (last.none k d from lt listed));
 }
+
+-- some rule, where one is asked for that plays no part
+any_rule : Rule
+any_rule = Sum (record { x = 0; y = 0; z = 0 })
+
+-- the next place is a lower one
+pub next_is_lower : (rules : List Rule) (i k place : ℕ) → ((d : Rule) → IsLastNamingRule (needs_singles (get_or rules k d)) rules i k place) → place ≤ k
+next_is_lower rules i k place last = (last any_rule).low
 
 -- a flag at this place that stays
-pub one_left : (rules : List Rule) (variable : ℕ) (Stays : Rule → Type 0) (before after : List Bool) (place next : ℕ) → WokenSoFar rules variable Stays before after place → 0 < place
+pub one_left : (s : Bool) (rules : List Rule) (variable : ℕ) (Stays : Rule → Type 0) (before after : List Bool) (place next : ℕ)
+    → WokenSoFar s rules variable Stays before after place → 0 < place
     → ((d : Rule) → get_or after (place - 1) false ≡ true → Stays (get_or rules (place - 1) d))
-    → IsLastNamingRule rules variable (place - 1) next → WokenSoFar rules variable Stays before after next
-one_left rules variable Stays before after place next s pos stays n = record {
-  low = (let a = n.low in let b = s.low in omega (arith, a, b));
-  names = n.names;
-  same_count = s.same_count;
-  only_cleared = s.only_cleared;
-  apart = (λ k d from lt m named. elim (cases_lt k place) [
+    → ((d : Rule) → IsLastNamingRule (needs_singles (get_or rules (place - 1) d)) rules variable (place - 1) next) → WokenSoFar s rules variable Stays before after next
+one_left s rules variable Stays before after place next so_far pos stays last = record {
+  low = (let a = (last any_rule).low in let b = so_far.low in omega (arith, a, b));
+  names = (listed any_rule).names;
+  same_count = so_far.same_count;
+  only_cleared = so_far.only_cleared;
+  left = (λ k d from lt m is. elim (cases_lt k place) [
     | inl below ↦ elim (cases_eq k (place - 1)) [
       | inl e ↦ subst (λ j. Stays (get_or rules j d)) (sym e) (stays d (subst (λ j. get_or after j false ≡ true) e m))
-      | inr ne ↦ absurd (n.none k d from (omega (arith, below, ne)) named)
+      | inr ne ↦ absurd ((listed any_rule).none k d from (omega (arith, below, ne)) is)
     ]
-    | inr ge ↦ s.apart k d ge lt m named
+    | inr ge ↦ so_far.left k d ge lt m is
   ]);
 }
+  where
+    listed : (d : Rule) → IsLastNamingRule s rules variable (place - 1) next
+    listed d = subst (λ t. IsLastNamingRule t rules variable (place - 1) next) (so_far.names (place - 1) d (omega (arith, pos))).1 (last d)
 
 -- a flag at this place that is cleared
-pub one_woken : (rules : List Rule) (variable : ℕ) (Stays : Rule → Type 0) (before after : List Bool) (place next : ℕ) → WokenSoFar rules variable Stays before after place → 0 < place
-    → place - 1 < length after → IsLastNamingRule rules variable (place - 1) next → WokenSoFar rules variable Stays before (set after (place - 1) false) next
-one_woken rules variable Stays before after place next s pos within =
-    one_left rules variable Stays before (set after (place - 1) false) place next (record {
-      low = s.low;
-      names = s.names;
-      same_count = length-set after (place - 1) false ∙ s.same_count;
-      only_cleared = (λ k m. s.only_cleared k (was k m));
-      apart = (λ k d from lt m. s.apart k d from lt (was k m));
+pub one_woken : (s : Bool) (rules : List Rule) (variable : ℕ) (Stays : Rule → Type 0) (before after : List Bool) (place next : ℕ)
+    → WokenSoFar s rules variable Stays before after place → 0 < place → place - 1 < length after
+    → ((d : Rule) → IsLastNamingRule (needs_singles (get_or rules (place - 1) d)) rules variable (place - 1) next)
+    → WokenSoFar s rules variable Stays before (set after (place - 1) false) next
+one_woken s rules variable Stays before after place next so_far pos within =
+    one_left s rules variable Stays before (set after (place - 1) false) place next (record {
+      low = so_far.low;
+      names = so_far.names;
+      same_count = length-set after (place - 1) false ∙ so_far.same_count;
+      only_cleared = (λ k m. so_far.only_cleared k (was k m));
+      left = (λ k d from lt m. so_far.left k d from lt (was k m));
     }) pos (λ d m. absurd (false≢true (sym (get_or-set_same after (place - 1) false false within) ∙ m)))
   where
     was : (k : ℕ) → get_or (set after (place - 1) false) k false ≡ true → get_or after k false ≡ true
@@ -253,12 +268,44 @@ one_woken rules variable Stays before after place next s pos within =
       | inr ne ↦ sym (get_or-set_other after (place - 1) k false false ne) ∙ m
     ]
 
-pub all_woken : (rules : List Rule) (variable : ℕ) (only_lost : Bool) (sets : ℕ → ℤ → Type 0) (before after : List Bool) (place : ℕ) (changed : Bool)
-    → WokenSoFar rules variable (λ rule. IsFixedBy sets rule ⊎ ((only_lost ≡ true) × HasTwo (sets variable) × (needs_singles rule ≡ true))) before after place
-    → place ≤ 0 → changed ≡ true → AreClearedRules changed only_lost rules variable sets before after
-all_woken rules variable only_lost sets before after place changed s end t = record {
-  same_count = s.same_count;
-  kept = (λ f. absurd (false≢true (sym f ∙ t)));
-  only_cleared = s.only_cleared;
-  apart = (λ _ k d lt m. s.apart k d (omega (arith, end)) lt m);
+pub all_woken : (s : Bool) (rules : List Rule) (variable : ℕ) (Stays : Rule → Type 0) (before after : List Bool) (place : ℕ) → WokenSoFar s rules variable Stays before after place
+    → place ≤ 0 → AreClearedListed s rules variable Stays before after
+all_woken s rules variable Stays before after place so_far end = record {
+  same_count = so_far.same_count;
+  only_cleared = so_far.only_cleared;
+  left = (λ k d lt m. so_far.left k d (omega (arith, end)) lt m);
 }
+
+-- a list in which all stay
+pub list_left : (s : Bool) (rules : List Rule) (variable : ℕ) (Stays : Rule → Type 0) (flags : List Bool) → ((rule : Rule) → Stays rule)
+    → AreClearedListed s rules variable Stays flags flags
+list_left s rules variable Stays flags stays = record {
+  same_count = refl;
+  only_cleared = (λ k m. m);
+  left = (λ k d lt m is. stays (get_or rules k d));
+}
+
+pub list_weaker : (s : Bool) (rules : List Rule) (variable : ℕ) (Stays Stays' : Rule → Type 0) (before after : List Bool) → ((rule : Rule) → Stays rule → Stays' rule)
+    → AreClearedListed s rules variable Stays before after → AreClearedListed s rules variable Stays' before after
+list_weaker s rules variable Stays Stays' before after weaker cleared = record {
+  same_count = cleared.same_count;
+  only_cleared = cleared.only_cleared;
+  left = (λ k d lt m is. weaker (get_or rules k d) (cleared.left k d lt m is));
+}
+
+-- both lists
+pub lists_woken : (rules : List Rule) (variable : ℕ) (changed only_lost : Bool) (sets : ℕ → ℤ → Type 0) (before mid after : List Bool) → changed ≡ true
+    → AreClearedListed false rules variable (IsFixedBy sets) before mid
+    → AreClearedListed true rules variable (λ rule. IsFixedBy sets rule ⊎ ((only_lost ≡ true) × HasTwo (sets variable))) mid after
+    → AreClearedRules changed only_lost rules variable sets before after
+lists_woken rules variable changed only_lost sets before mid after t others singles = record {
+  same_count = singles.same_count ∙ others.same_count;
+  kept = (λ f. absurd (false≢true (sym f ∙ t)));
+  only_cleared = (λ k m. others.only_cleared k (singles.only_cleared k m));
+  apart = (λ _ k d lt m named. of_kind k d lt m named (needs_singles (get_or rules k d)) refl);
+}
+  where
+    of_kind : (k : ℕ) (d : Rule) → k < length rules → get_or after k false ≡ true → NamesOf (get_or rules k d) variable → (s : Bool) → needs_singles (get_or rules k d) ≡ s
+        → IsFixedBy sets (get_or rules k d) ⊎ ((only_lost ≡ true) × HasTwo (sets variable) × (needs_singles (get_or rules k d) ≡ true))
+    of_kind k d lt m named false is = inl (others.left k d lt (singles.only_cleared k m) (named, is))
+    of_kind k d lt m named true is = elim (singles.left k d lt m (named, is)) [ inl f ↦ inl f | inr two ↦ inr (two.0, two.1, is) ]

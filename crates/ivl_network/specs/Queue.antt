@@ -3,15 +3,18 @@
 --     waits flags k      1 where flag k is not set, and else 0
 --     times_in k list      how often the number stands in the list
 --     Removes k old new told      one k is taken from the list, or, if that is what is told, there is none and the list stays
---     IsLastNamingRule rules i before place      place k + 1 where rule k is the last of the first `before` that names variable i, and place 0 where none does
---     AreRuleLinks rules rule before links      such places for the variables of a rule
---     IsRuleIndex count rules index      for each of so many variables the last rule that names it, and for each rule those before it that name the same
+--     IsListed singles i rule      the rule names variable i, and is one of those that need single numbers, or one of the others, as told
+--     IsLastNamingRule singles rules i before place      place k + 1 where rule k is the last of the first `before` that is listed so, and place 0 where none is
+--     AreRuleLinks rules rule before links      such places of the rule's own kind for its variables
+--     lasts_of singles index      the places that an index has for the variables, of the rules of one kind
+--     IsRuleIndex count rules index      for each of so many variables the last rule of each kind that names it, and for each rule those before it that are of
+--         its kind and name the same
 --     IsRuleQueue queue      each rule that is not settled stands in the queue once, and nothing else does; there is room for all rules
 use Rattle.std.specs.Prelude.{◌≡◌, ◌<◌, ◌≤◌, ◌+◌, ℕ, Bool, true, false, List, [], ◌∷◌, eqb, if◌then◌else◌, length, not, slice_index_or}
 use Rattle.std.specs.List.{count_by}
 use Rattle.std.specs.Vec.{vec_capacity}
 use Rattle.ivl_rules.specs.declared.rules.Rule.{Rule}
-use Rattle.ivl_rules.specs.Rules.{NamesOf, places}
+use Rattle.ivl_rules.specs.Rules.{NamesOf, needs_singles, places}
 use Rattle.ivl_network.specs.declared.network.index.Index.{Index}
 use Rattle.ivl_network.specs.declared.network.index.Links.{Links}
 use Rattle.ivl_network.specs.declared.network.queue.Queue.{Queue}
@@ -29,20 +32,27 @@ abbrev pub Removes : ℕ → List ℕ → List ℕ → Bool → Type 0
 Removes k old new true = ((j : ℕ) → times_in j new + times_in j (k ∷ []) ≡ times_in j old) × (length new + 1 ≡ length old)
 Removes k old new false = (new ≡ old) × (times_in k old ≡ 0)
 
-pub record IsLastNamingRule (rules : List Rule) (variable before place : ℕ) : Type 0 where
+abbrev pub IsListed : Bool → ℕ → Rule → Type 0
+IsListed singles variable rule = NamesOf rule variable × (needs_singles rule ≡ singles)
+
+pub record IsLastNamingRule (singles : Bool) (rules : List Rule) (variable before place : ℕ) : Type 0 where
   pub low : place ≤ before
-  pub names : (k : ℕ) (d : Rule) → k + 1 ≡ place → NamesOf (slice_index_or rules k d) variable
-  pub none : (k : ℕ) (d : Rule) → place ≤ k → k < before → ¬ (NamesOf (slice_index_or rules k d) variable)
+  pub names : (k : ℕ) (d : Rule) → k + 1 ≡ place → IsListed singles variable (slice_index_or rules k d)
+  pub none : (k : ℕ) (d : Rule) → place ≤ k → k < before → ¬ (IsListed singles variable (slice_index_or rules k d))
 
 pub record AreRuleLinks (rules : List Rule) (rule : Rule) (before : ℕ) (links : Links) : Type 0 where
-  pub at_x : IsLastNamingRule rules (places rule).x before links.x
-  pub at_y : IsLastNamingRule rules (places rule).y before links.y
-  pub at_z : IsLastNamingRule rules (places rule).z before links.z
+  pub at_x : IsLastNamingRule (needs_singles rule) rules (places rule).x before links.x
+  pub at_y : IsLastNamingRule (needs_singles rule) rules (places rule).y before links.y
+  pub at_z : IsLastNamingRule (needs_singles rule) rules (places rule).z before links.z
+
+abbrev pub lasts_of : Bool → Index → List ℕ
+lasts_of true index = index.single_lasts.items
+lasts_of false index = index.lasts.items
 
 pub record IsRuleIndex (count : ℕ) (rules : List Rule) (index : Index) : Type 0 where
-  pub one_each : length index.lasts.items ≡ count
+  pub one_each : (singles : Bool) → length (lasts_of singles index) ≡ count
   pub one_link_each : length index.links.items ≡ length rules
-  pub lasts : (i : ℕ) → IsLastNamingRule rules i (length rules) (slice_index_or index.lasts.items i 0)
+  pub lasts : (singles : Bool) (i : ℕ) → IsLastNamingRule singles rules i (length rules) (slice_index_or (lasts_of singles index) i 0)
   pub links : (k : ℕ) (d : Rule) (l : Links) → k < length rules → AreRuleLinks rules (slice_index_or rules k d) k (slice_index_or index.links.items k l)
 
 pub record IsRuleQueue (queue : Queue) : Type 0 where

@@ -1,23 +1,27 @@
 //! Which rules name each variable.
-ghost use Rattle.std.specs.Prelude.{Contains, ◌-◌, ◌≡◌, ◌+◌, ◌<◌, ◌∷◌, ◌++◌, [], ℕ, All, IsTrue, List, OnOk, length, ◌↔◌, slice_index_or};
+ghost use Rattle.std.specs.Prelude.{Contains, ◌-◌, ◌≡◌, ◌+◌, ◌<◌, ◌∷◌, ◌++◌, [], ℕ, All, IsTrue, List, OnOk, length, ◌↔◌, slice_index_or, slice_set};
 ghost use Rattle.std.specs.Vec.{vec_capacity, vec_len};
 ghost use Rattle.ivl_rules.specs.declared.rules.Rule.{Rule};
-ghost use Rattle.ivl_rules.specs.Rules.{NamesOf};
+ghost use Rattle.ivl_store.specs.Narrowing.{AllPresent};
+ghost use Rattle.ivl_rules.specs.Rules.{NamesOf, needs_singles};
 ghost use Rattle.ivl_network.specs.Families.{ArePresent};
-ghost use Rattle.ivl_network.specs.Queue.{IsLastNamingRule, IsRuleIndex};
+ghost use Rattle.ivl_network.specs.Queue.{IsLastNamingRule, IsRuleIndex, lasts_of};
 
 use ivl_rules::rules::Rule;
+use ivl_store::store::Constraint;
 use std::alloc::{AllocError, Global};
 
-/// For each variable the rules that name it, as a list that is linked through the rules, the latest
-/// one first. A place is one more than the index of a rule, and 0 ends a list.
+/// For each variable the rules that name it, as two lists that are linked through the rules, the latest
+/// one first: those that need single numbers, and the others. A place is one more than the index of a
+/// rule, and 0 ends a list.
 #[derive(Drop)]
 pub(super) struct Index {
     lasts: Vec<usize>,
+    single_lasts: Vec<usize>,
     links: Vec<Links>,
 }
 
-/// The places of the rules before one that name its x, its y and its z.
+/// The places of the rules before one that are of its kind and name its x, its y and its z.
 #[derive(Clone, Copy)]
 pub(super) struct Links {
     x: usize,
@@ -31,6 +35,7 @@ impl Index {
     {
         Index {
             lasts: Vec::new(alloc),
+            single_lasts: Vec::new(alloc),
             links: Vec::new(alloc),
         }
     }
@@ -39,17 +44,21 @@ impl Index {
     pub(super) fn reserve_variable(&mut self) -> Result<(), AllocError>
         ensures same { (count : ℕ) (rules : List Rule) → IsRuleIndex count rules self.old → IsRuleIndex count rules self.new }
         ensures room { OnOk result (vec_len self.new.lasts < vec_capacity self.new.lasts) }
+        ensures single_room { OnOk result (vec_len self.new.single_lasts < vec_capacity self.new.single_lasts) }
     {
         self.lasts.reserve(1)?;
+        self.single_lasts.reserve(1)?;
         Ok(())
     }
 
     /// Adds a variable that no rule names.
     pub(super) fn push_variable(&mut self)
-        requires { vec_len self.old.lasts < vec_capacity self.old.lasts }
+        requires room { vec_len self.old.lasts < vec_capacity self.old.lasts }
+        requires single_room { vec_len self.old.single_lasts < vec_capacity self.old.single_lasts }
         ensures { (count : ℕ) (rules : List Rule) → IsRuleIndex count rules self.old → IsRuleIndex (count + 1) rules self.new }
     {
         self.lasts.push_reserved(0);
+        self.single_lasts.push_reserved(0);
     }
 
     /// Drops the last variable, if there is one, which no rule names.
@@ -57,6 +66,7 @@ impl Index {
         ensures { (count : ℕ) (rules : List Rule) → IsRuleIndex count rules self.old → All (ArePresent (count - 1)) rules → IsRuleIndex (count - 1) rules self.new }
     {
         let _ = self.lasts.pop();
+        let _ = self.single_lasts.pop();
     }
 
     /// Reserves room for one more rule.
@@ -71,51 +81,54 @@ impl Index {
     /// Adds a rule after the others.
     pub(super) fn push_rule(&mut self, rule: &Rule)
         requires room { vec_len self.old.links < vec_capacity self.old.links }
-        requires present { ArePresent (length self.old.lasts.items) rule.now }
+        requires present { ArePresent (length (lasts_of (needs_singles rule.now) self.old)) rule.now }
         ensures { (count : ℕ) (rules : List Rule) → IsRuleIndex count rules self.old → IsRuleIndex count (rules ++ rule.now ∷ []) self.new }
     {
         let c = rule.places();
-        self.links.push_reserved(Links {
-            x: self.lasts[c.x],
-            y: self.lasts[c.y],
-            z: self.lasts[c.z],
-        });
-        let place = self.links.len();
-        self.lasts[c.x] = place;
-        self.lasts[c.y] = place;
-        self.lasts[c.z] = place;
+        if rule.needs_single_numbers() {
+            self.links.push_reserved(places_at(&self.single_lasts, &c));
+            let place = self.links.len();
+            put_places(&mut self.single_lasts, &c, place, place, place);
+        } else {
+            self.links.push_reserved(places_at(&self.lasts, &c));
+            let place = self.links.len();
+            put_places(&mut self.lasts, &c, place, place, place);
+        }
     }
 
     /// Drops the last rule.
     pub(super) fn pop_rule(&mut self, rule: &Rule)
-        requires { ArePresent (length self.old.lasts.items) rule.now }
+        requires { ArePresent (length (lasts_of (needs_singles rule.now) self.old)) rule.now }
         ensures { (count : ℕ) (rules : List Rule) → IsRuleIndex count (rules ++ rule.now ∷ []) self.old → IsRuleIndex count rules self.new }
     {
         let c = rule.places();
         if let Some(links) = self.links.pop() {
-            self.lasts[c.x] = links.x;
-            self.lasts[c.y] = links.y;
-            self.lasts[c.z] = links.z;
+            if rule.needs_single_numbers() {
+                put_places(&mut self.single_lasts, &c, links.x, links.y, links.z);
+            } else {
+                put_places(&mut self.lasts, &c, links.x, links.y, links.z);
+            }
         }
     }
 
-    /// The place of the last rule that names the variable.
-    pub(super) fn last(&self, variable: usize) -> usize
-        ensures { (count : ℕ) (rules : List Rule) → IsRuleIndex count rules self.now → IsLastNamingRule rules variable (length rules) result }
+    /// The place of the last rule that names the variable, among those that need single numbers or
+    /// among the others.
+    pub(super) fn last(&self, singles: bool, variable: usize) -> usize
+        ensures { (count : ℕ) (rules : List Rule) → IsRuleIndex count rules self.now → IsLastNamingRule singles rules variable (length rules) result }
     {
-        if variable < self.lasts.len() {
-            self.lasts[variable]
+        if singles {
+            place_at(&self.single_lasts, variable)
         } else {
-            0
+            place_at(&self.lasts, variable)
         }
     }
 
-    /// The place of the last rule before this one that names the variable.
+    /// The place of the last rule before this one that is of its kind and names the variable.
     pub(super) fn last_before(&self, rules: &[Rule], k: usize, variable: usize) -> usize
         requires index { (count : ℕ) × IsRuleIndex count rules.now self.now }
         requires in_list { k < length rules.now }
         requires names { (d : Rule) → NamesOf (slice_index_or rules.now k d) variable }
-        ensures { IsLastNamingRule rules.now variable k result }
+        ensures { (d : Rule) → IsLastNamingRule (needs_singles (slice_index_or rules.now k d)) rules.now variable k result }
     {
         let c = rules[k].places();
         let links = &self.links[k];
@@ -128,13 +141,13 @@ impl Index {
         }
     }
 
-    /// Whether a rule is one of the list: a walk over those that name its last variable.
+    /// Whether a rule is one of the list: a walk over those of its kind that name its last variable.
     pub(super) fn has(&self, rules: &[Rule], rule: &Rule) -> bool
         requires { (count : ℕ) × IsRuleIndex count rules.now self.now }
         ensures { IsTrue result ↔ Contains rules.now rule.now }
     {
         let variable = rule.places().z;
-        let mut place = self.last(variable);
+        let mut place = self.last(rule.needs_single_numbers(), variable);
         while place > 0 {
             if is_same(&rules[place - 1], rule) {
                 return true;
@@ -142,6 +155,39 @@ impl Index {
             place = self.last_before(rules, place - 1, variable);
         }
         false
+    }
+}
+
+/// The places that stand at three variables.
+fn places_at(lasts: &[usize], c: &Constraint) -> Links
+    requires { AllPresent (length lasts.now) c.now }
+    ensures { result ≡ record { x = slice_index_or lasts.now c.now.x 0; y = slice_index_or lasts.now c.now.y 0; z = slice_index_or lasts.now c.now.z 0 } }
+{
+    Links {
+        x: lasts[c.x],
+        y: lasts[c.y],
+        z: lasts[c.z],
+    }
+}
+
+/// Puts places at three variables, and the last of them where two are one.
+fn put_places(lasts: &mut Vec<usize>, c: &Constraint, x: usize, y: usize, z: usize)
+    requires { AllPresent (length lasts.old.items) c.now }
+    ensures { lasts.new.items ≡ slice_set (slice_set (slice_set lasts.old.items c.now.x x) c.now.y y) c.now.z z }
+{
+    lasts[c.x] = x;
+    lasts[c.y] = y;
+    lasts[c.z] = z;
+}
+
+/// The place that stands at a variable, or 0 if that is not there.
+fn place_at(lasts: &[usize], variable: usize) -> usize
+    ensures { result ≡ slice_index_or lasts.now variable 0 }
+{
+    if variable < lasts.len() {
+        lasts[variable]
+    } else {
+        0
     }
 }
 

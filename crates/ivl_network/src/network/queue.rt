@@ -1,12 +1,12 @@
 //! The rules that have to be looked at again.
-ghost use Rattle.std.specs.Prelude.{◌≡◌, ◌⊎◌, ◌+◌, ◌-◌, ◌<◌, ◌∷◌, ◌++◌, [], ℕ, ℤ, All, HoldsAt, IsNone, IsTrue, ◌↔◌, List, MatchOption, OnErr, OnOk, false, true, length, slice_index_or, slice_set, take};
+ghost use Rattle.std.specs.Prelude.{◌≡◌, ◌+◌, ◌-◌, ◌<◌, ◌∷◌, ◌++◌, [], ℕ, ℤ, All, HoldsAt, IsNone, IsTrue, ◌↔◌, List, MatchOption, OnErr, OnOk, false, true, length, slice_index_or, slice_set, take};
 ghost use Rattle.std.specs.Vec.{vec_capacity};
 ghost use Rattle.ivl_laws.specs.Families.{set_at};
 ghost use Rattle.ivl_network.specs.Queue.{IsRuleIndex, IsRuleQueue, Removes, unsettled_count};
 ghost use Rattle.ivl_store.specs.Settled.{AreLost, any_lost};
-ghost use Rattle.ivl_rules.specs.Rules.{AreDifferent, NarrowedBy, needs_singles, places as places_of};
+ghost use Rattle.ivl_rules.specs.Rules.{AreDifferent, NarrowedBy, places as places_of};
 ghost use Rattle.ivl_network.specs.Families.{ArePresent, IsFixedBy};
-ghost use Rattle.ivl_network.specs.Settled.{AreClearedRules, AreSettledRules};
+ghost use Rattle.ivl_network.specs.Settled.{AreClearedListed, AreClearedRules, AreSettledRules};
 
 use super::index::Index;
 use super::narrowing::has_two;
@@ -205,29 +205,41 @@ impl Queue {
         if !changed {
             return;
         }
-        let keeps_two = only_lost && has_two(store, variable);
-        let mut place = index.last(variable);
+        self.wake_listed(false, variable, store, rules, index);
+        if only_lost && has_two(store, variable) {
+            return;
+        }
+        self.wake_listed(true, variable, store, rules, index);
+    }
+
+    /// Clears the flags of the rules of one list that name the variable, but for those that take nothing
+    /// from the domains of the store.
+    fn wake_listed<B: Width>(
+        &mut self,
+        singles: bool,
+        variable: usize,
+        store: &Store<B>,
+        rules: &[Rule],
+        index: &Index,
+    )
+        requires queue { IsRuleQueue self.old }
+        requires different { All AreDifferent rules.now }
+        requires present { All (ArePresent (length store.now)) rules.now }
+        requires index { (count : ℕ) × IsRuleIndex count rules.now index.now }
+        requires one_each { length self.old.settled.items ≡ length rules.now }
+        ensures queue { IsRuleQueue self.new }
+        ensures cleared { AreClearedListed singles rules.now variable (IsFixedBy (set_at store.now)) self.old.settled.items self.new.settled.items }
+        ensures round { self.new.round.items ≡ self.old.round.items }
+    {
+        let mut place = index.last(singles, variable);
         while place > 0 {
             let k = place - 1;
-            if !stays_settled(&rules[k], keeps_two, store) {
+            if self.settled[k] && !takes_nothing(store.domains(), &rules[k]) {
                 self.clear(k);
             }
             place = index.last_before(rules, k, variable);
         }
     }
-}
-
-/// Whether a rule that is settled stays so where a variable that it names has changed: the variable only
-/// lost members and keeps two, and the rule looks at single numbers alone, or it takes nothing.
-fn stays_settled<B: Width>(rule: &Rule, keeps_two: bool, store: &Store<B>) -> bool
-    requires different { AreDifferent rule.now }
-    requires present { ArePresent (length store.now) rule.now }
-    ensures { result ≡ true → IsFixedBy (set_at store.now) rule.now ⊎ ((keeps_two ≡ true) × (needs_singles rule.now ≡ true)) }
-{
-    if keeps_two && rule.needs_single_numbers() {
-        return true;
-    }
-    takes_nothing(store.domains(), rule)
 }
 
 /// Removes a number from a list, at the last place where it stands. Returns false, and changes

@@ -127,25 +127,32 @@ impl Queue {
         if !changed {
             return;
         }
-        let keeps_two = only_lost && has_two(store, variable);
-        let mut place = index.last(variable);
+        self.wake_listed(false, variable, store, rules, index);
+        if only_lost && has_two(store, variable) {
+            return;
+        }
+        self.wake_listed(true, variable, store, rules, index);
+    }
+
+    /// Clears the flags of the rules of one list that name the variable, but for those that take nothing
+    /// from the domains of the store.
+    fn wake_listed<B: Width>(
+        &mut self,
+        singles: bool,
+        variable: usize,
+        store: &Store<B>,
+        rules: &[Rule],
+        index: &Index,
+    ) {
+        let mut place = index.last(singles, variable);
         while place > 0 {
             let k = place - 1;
-            if !stays_settled(&rules[k], keeps_two, store) {
+            if self.settled[k] && !takes_nothing(store.domains(), &rules[k]) {
                 self.clear(k);
             }
             place = index.last_before(rules, k, variable);
         }
     }
-}
-
-/// Whether a rule that is settled stays so where a variable that it names has changed: the variable only
-/// lost members and keeps two, and the rule looks at single numbers alone, or it takes nothing.
-fn stays_settled<B: Width>(rule: &Rule, keeps_two: bool, store: &Store<B>) -> bool {
-    if keeps_two && rule.needs_single_numbers() {
-        return true;
-    }
-    takes_nothing(store.domains(), rule)
 }
 
 /// Removes a number from a list, at the last place where it stands. Returns false, and changes

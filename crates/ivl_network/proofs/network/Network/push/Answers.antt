@@ -46,7 +46,7 @@ pub push_rule-requires-clause-present : goal.push_rule-requires-clause-present
 push_rule-requires-clause-present g c =
     let i = c.self.inside in
     let index : IsRuleIndex (length i.store) i.rules.items c.reserve_rule.new.self = c.reserve_rule.ensures.same (length i.store) i.rules.items c.self.invariant.2 in
-    subst (λ n. ArePresent n c.args.rule) (sym index.one_each) (subst (λ (s : RulesState). ArePresent (length s.domains) c.args.rule) (sym c.self.view_is) c.requires.present)
+    subst (λ n. ArePresent n c.args.rule) (sym (index.one_each _)) (subst (λ (s : RulesState). ArePresent (length s.domains) c.args.rule) (sym c.self.view_is) c.requires.present)
 
 pub invariant_of-self-2 : goal.invariant_of-self-2
 invariant_of-self-2 g c =

@@ -1,15 +1,14 @@
-use Rattle.std.proofs.Common.{◌<◌, ◌∙◌, arith, length, subst, sym}
-use Rattle.std.proofs.lemmas.List.{get_or_default}
+use Rattle.std.proofs.Common.{◌∙◌, ℕ, List, ap, get_or, length, subst, sym, true, false}
 use Rattle.ivl_network.specs.Queue.{IsLastNamingRule}
-use Rattle.ivl_network.proofs.Indexes.{absent_last}
 use Rattle.ivl_network.proofs.network.index.Index.last.Goals as goal
 
-pub returns-then-variable-len : goal.returns-then-variable-len
-returns-then-variable-len c = λ count cs s.
-    let lasts = c.args.self.now.lasts.items in
-    let lt : c.args.variable < length lasts = (let t = c.if-variable-len.true in let e = c.len.ensures in let n = c.args.self.now.lasts.ok.0 in omega (arith, t, e, n)) in
-    subst (λ p. IsLastNamingRule cs c.args.variable (length cs) p) (sym (c.index.ensures ∙ get_or_default lasts c.args.variable c.index.result.now 0 lt)) (s.lasts c.args.variable)
+pub returns-then-singles : goal.returns-then-singles
+returns-then-singles c = λ count cs s.
+    let i = c.args.variable in
+    rw c.if-singles.true (subst (λ p. IsLastNamingRule true cs i (length cs) p) (sym (c.place_at.ensures ∙ ap (λ (l : List ℕ). get_or l i 0) c.deref.ensures.value)) (s.lasts true i))
 
-pub returns-else-variable-len : goal.returns-else-variable-len
-returns-else-variable-len c = λ count cs s.
-    absent_last count cs c.args.self.now c.args.variable s (let t = c.if-variable-len.false in let e = c.len.ensures in let n = c.args.self.now.lasts.ok.0 in omega (arith, t, e, n))
+pub returns-else-singles : goal.returns-else-singles
+returns-else-singles c = λ count cs s.
+    let i = c.args.variable in
+    rw c.if-singles.false
+    (subst (λ p. IsLastNamingRule false cs i (length cs) p) (sym (c.place_at-else-singles.ensures ∙ ap (λ (l : List ℕ). get_or l i 0) c.deref-else-singles.ensures.value)) (s.lasts false i))
