@@ -1,10 +1,10 @@
 -- Operations by windows: the parts of two sets in a window, and what is put behind the pages so far.
-use Rattle.std.proofs.Common.{◌≡◌, ◌⊎◌, ⊎_elim, inl, inr, ℕ, ◌+◌, ◌-◌, ◌<◌, ◌≤◌, ℤ, pos, ◌+ℤ◌, ◌-ℤ◌, ◌≤ℤ◌, ◌<ℤ◌, List, [], ◌∷◌, ◌++◌, length, get_or, take, drop, refl, sym, ap, ap₂, subst, ◌∙◌, arith, append_assoc, append-nil, take_all}
+use Rattle.std.proofs.Common.{◌≡◌, ⊎_elim, inl, inr, ℕ, ◌+◌, ◌-◌, ◌<◌, ℤ, pos, ◌+ℤ◌, ◌-ℤ◌, ◌≤ℤ◌, ◌<ℤ◌, List, [], ◌∷◌, ◌++◌, length, get_or, take, drop, sym, ap, ap₂, subst, ◌∙◌, arith, append_assoc, append-nil, take_all}
 use Rattle.std.proofs.lemmas.List.{drop_all}
 use Rattle.std.proofs.lemmas.Int.{ints, by_lt_z}
 use Rattle.ivl_laws.specs.Bounds.{width_of}
 use Rattle.ivl_laws.specs.Families.{set_at}
-use Rattle.ivl_laws.specs.Sets.{Below, HasNone, Intersection, IsBetween, IsSubset, SameMembers, Union, Without}
+use Rattle.ivl_laws.specs.Sets.{Below, Intersection, IsBetween, IsSubset, SameMembers, Union, Without}
 use Rattle.ivl_laws.specs.Runs.{Covers, IsMaximal, IsRunsOf}
 use Rattle.ivl_laws.proofs.Intervals.{width_of-filled}
 use Rattle.ivl_laws.proofs.Runs.{covered_after, covered_from, lower_end, runs_are_unique}
@@ -16,8 +16,8 @@ use Rattle.ivl_paged.specs.Operations.{KeptBy}
 use Rattle.ivl_paged.specs.declared.combine.Operation.{Operation}
 use Rattle.ivl_paged.specs.declared.combine.Operation.TheVariants.{Either, Both, FirstAlone, OneAlone}
 use Rattle.ivl_paged.specs.Pages.{StartsUpTo, flattened}
-use Rattle.ivl_paged.proofs.Heads.{starts_up_to_all, starts_up_to_next}
-use Rattle.ivl_paged.proofs.Paging.{IsMaximal-first, IsMaximal-second, covers_page, flattened-append, flattened_more, in_page, order_of, page_of, pages_ascend}
+use Rattle.ivl_paged.proofs.Heads.{starts_up_to_next}
+use Rattle.ivl_paged.proofs.Paging.{IsMaximal-second, covers_page, flattened-append, flattened_more, in_page, order_of, page_of, pages_ascend}
 
 -- ---- the part that a window lies in
 
@@ -177,16 +177,19 @@ module _ (P K A B rest : List (ℤ × ℤ)) (run : ℤ × ℤ) (k : IsMaximal K)
               (λ b. inr ((left.members z).0 b).0)
               ((both.members z).0 c)),
           ⊎_elim
-          (λ d. (both.members z).1 (inl ((put.members z).1 (inl d))))
-          (λ d.
+              (λ d. (both.members z).1 (inl ((put.members z).1 (inl d))))
+              (λ d.
               let there : Covers (run ∷ rest) z = subst (λ (L : List (ℤ × ℤ)). Covers L z) e d in
               let m : IsMaximal (run ∷ rest) = subst IsMaximal e k in
               ⊎_elim
               (λ b. (both.members z).1 (inl ((put.members z).1 (inr b))))
-              (λ r. (both.members z).1 (inr ((left.members z).1 (d, λ b.
-                  let far = covered_after run.1 rest z m.1 m.2 r in
-                  let up = b.1 in
-                  omega (arith, ints, far, up)))))
+              (λ r. (both.members z).1 (inr ((left.members z).1 (
+                d,
+                λ b.
+                    let far = covered_after run.1 rest z m.1 m.2 r in
+                    let up = b.1 in
+                    omega (arith, ints, far, up),
+              ))))
               there),
         );
       }

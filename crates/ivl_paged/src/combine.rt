@@ -19,7 +19,7 @@ use intervallum::width::Width;
 use std::alloc::{AllocError, Global};
 
 /// Which members of two sets an operation keeps.
-#[derive(Clone, Copy, Debug)]
+#[derive(Clone, Copy)]
 pub(crate) enum Operation {
     /// Those of either.
     Either,
@@ -153,10 +153,7 @@ fn has_room<B: Width>(pages: &PageList<B>, count: usize) -> bool
 }
 
 /// Puts the runs of a set into the last page, behind its own.
-fn join_last<B: Width>(
-    pages: &mut PageList<B>,
-    piece: &IntervalSet<B>,
-) -> Result<(), AllocError>
+fn join_last<B: Width>(pages: &mut PageList<B>, piece: &IntervalSet<B>) -> Result<(), AllocError>
     requires some { 0 < length pages.old }
     requires runs { IsMaximal (flattened pages.old ++ piece.now) }
     ensures { OnOk result (flattened pages.new ≡ flattened pages.old ++ piece.now) }

@@ -1,12 +1,9 @@
-use Rattle.std.proofs.Common.{◌≡◌, ◌∙◌, ◌⊎◌, ⊎_elim, inl, inr, ℤ, arith}
-use Rattle.std.specs.Prelude.{pos, ◌+ℤ◌, ◌≤ℤ◌, ◌<ℤ◌}
-use Rattle.std.specs.Int.{int_min}
+use Rattle.std.proofs.Common.{⊎_elim, arith}
+use Rattle.std.specs.Prelude.{◌≤ℤ◌, ◌<ℤ◌}
 use Rattle.std.proofs.lemmas.Int.{ints}
-use Rattle.ivl_laws.specs.Sets.{Below, Intersection, IsBetween, IsSubset}
-use Rattle.ivl_laws.specs.Runs.{Covers, IsRunsOf}
+use Rattle.ivl_laws.specs.Sets.{IsBetween}
 use Rattle.ivl_laws.proofs.Orders.{le_number, min_number, not_le_number}
 use Rattle.ivl_laws.proofs.Ranges.{IsRunListIn-runs}
-use Rattle.ivl_paged.specs.Operations.{KeptBy}
 use Rattle.ivl_paged.specs.Pages.{flattened}
 use Rattle.ivl_paged.proofs.Combining.{kept_within, less_left, piece_there, window_is_above, window_is_last, window_is_next}
 use Rattle.ivl_paged.proofs.Heads.{lower_of}

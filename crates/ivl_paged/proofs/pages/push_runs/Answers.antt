@@ -1,4 +1,4 @@
-use Rattle.std.proofs.Common.{◌∙◌, ◌++◌, List, ℤ, ap, drop, ◌-◌, arith, append-nil, sym, take_all}
+use Rattle.std.proofs.Common.{◌∙◌, ap, drop, ◌-◌, arith}
 use Rattle.ivl_laws.proofs.Places.{IsMaximal-drop, IsMaximal-take}
 use Rattle.ivl_paged.specs.Pages.{flattened}
 use Rattle.ivl_paged.proofs.Paging.{parts_so_far}

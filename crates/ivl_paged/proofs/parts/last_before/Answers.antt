@@ -1,4 +1,4 @@
-use Rattle.std.proofs.Common.{arith, ◌∙◌, ap}
+use Rattle.std.proofs.Common.{arith}
 use Rattle.std.proofs.lemmas.Int.{ints}
 use Rattle.ivl_paged.proofs.Combining.{starts_before}
 use Rattle.ivl_paged.proofs.Paging.{covers_page}
