@@ -8,3 +8,4 @@ pub mod Heads
 pub mod Widening
 pub mod Longest
 pub mod PageSearch
+pub mod Combining

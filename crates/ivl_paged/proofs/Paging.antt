@@ -562,11 +562,12 @@ pub page_filled : (R : List (ℤ × ℤ)) → IsMaximal R → 0 < length R → H
 page_filled [] m h = absurd (omega arith)
 page_filled (p ∷ R) m h = (p.0, inl (lower_end p m.0))
 
--- the runs from place i to before place j put behind those before place i
-pub parts_so_far : (P : List (List (ℤ × ℤ))) (R M : List (ℤ × ℤ)) (i j : ℕ) → i ≤ j → flattened P ≡ take i R → M ≡ take (j - i) (drop i R) → flattened (P ++ M ∷ []) ≡ take j R
-parts_so_far P R M i j h e f =
+-- the runs from place i to before place j put behind F and those before place i
+pub parts_so_far : (P : List (List (ℤ × ℤ))) (F R M : List (ℤ × ℤ)) (i j : ℕ) → i ≤ j → flattened P ≡ F ++ take i R → M ≡ take (j - i) (drop i R) → flattened (P ++ M ∷ []) ≡ F ++ take j R
+parts_so_far P F R M i j h e f =
     let more : i + (j - i) ≡ j = omega arith in
     flattened-append P (M ∷ [])
     ∙ ap₂ (λ (A B : List (ℤ × ℤ)). A ++ B) e (append-nil M ∙ f)
-    ∙ sym (take-add i (j - i) R)
-    ∙ ap (λ (n : ℕ). take n R) more
+    ∙ append_assoc F (take i R) (take (j - i) (drop i R))
+    ∙ ap (λ (A : List (ℤ × ℤ)). F ++ A) (sym (take-add i (j - i) R))
+    ∙ ap (λ (n : ℕ). F ++ take n R) more

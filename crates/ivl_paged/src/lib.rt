@@ -15,10 +15,12 @@
 //! ```
 #![tactic(auto)]
 
+mod combine;
 mod page;
 mod page_list;
 mod page_search;
 pub mod paged_set;
 mod pages;
+mod parts;
 
 pub use paged_set::PagedSet;

@@ -10,8 +10,10 @@ mod clone;
 mod equality;
 mod first_fit;
 mod iter;
+mod list_operands;
 mod neighbours;
 mod rank;
+mod set_operands;
 mod text;
 
 use crate::page_list::PageList;

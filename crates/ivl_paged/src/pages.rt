@@ -22,13 +22,13 @@ use std::alloc::{AllocError, Global};
 
 /// A page that gets so many runs is split, unless there is no memory for it. With 8 in its place, the
 /// tests split and join pages at almost every edit.
-const MOST_RUNS: usize = 128;
+pub(crate) const MOST_RUNS: usize = 128;
 
 /// How many runs a page has at most that is looked at as one to join.
 const FEW_RUNS: usize = MOST_RUNS / 2;
 
 /// How many runs a page has where a list of runs is put into pages, and at most where two are joined.
-const FIRST_RUNS: usize = MOST_RUNS / 4 * 3;
+pub(crate) const FIRST_RUNS: usize = MOST_RUNS / 4 * 3;
 
 /// The runs of a list in pages that have room for more.
 pub(crate) fn pages_of<B: Width>(
@@ -39,13 +39,26 @@ pub(crate) fn pages_of<B: Width>(
     ensures { IfOk result (λ pages. flattened pages ≡ runs.now) }
 {
     let mut pages = PageList::new(alloc);
+    push_runs(alloc, &mut pages, runs)?;
+    Ok(pages)
+}
+
+/// Puts the runs of a list behind those of pages, in pages that have room for more.
+pub(crate) fn push_runs<B: Width>(
+    alloc: Global,
+    pages: &mut PageList<B>,
+    runs: &[Interval<B>],
+) -> Result<(), AllocError>
+    requires { IsMaximal runs.now }
+    ensures { OnOk result (flattened pages.new ≡ flattened pages.old ++ runs.now) }
+{
     let mut start = 0;
     'parts: while start < runs.len() {
         let end = start.saturating_add(FIRST_RUNS).min(runs.len());
         pages.push(page_of(alloc, &runs[start..end])?)?;
         start = end;
     }
-    Ok(pages)
+    Ok(())
 }
 
 /// A page of some runs, of which there is one at least, with room for as many as a page has.

@@ -24,10 +24,12 @@
 #[allow(unused_imports)]
 use crate::rattle::prelude::*;
 
+mod combine;
 mod page;
 mod page_list;
 mod page_search;
 pub mod paged_set;
 mod pages;
+mod parts;
 
 pub use paged_set::PagedSet;

@@ -14,7 +14,6 @@ pub(super) trait Lacking<T: Width>: Sized {
     fn size_within(&self, interval: &Interval<T>) -> T::Output;
     fn best_fit(&self, count: T::Output) -> Option<Interval<T>>;
     fn gaps_within(&self, interval: &Interval<T>) -> Result<Self, AllocError>;
-    fn intersection(&self, interval: &Interval<T>) -> Result<Self, AllocError>;
     fn split_off(&mut self, value: T) -> Result<Self, AllocError>;
 }
 
@@ -79,10 +78,6 @@ impl<T: Width> Lacking<T> for ProvedPagedSet<T> {
         made_of(gaps)
     }
 
-    fn intersection(&self, interval: &Interval<T>) -> Result<Self, AllocError> {
-        made_of(runs_within(self, interval).map(|run| Intersection::intersection(&run, interval)).collect())
-    }
-
     fn split_off(&mut self, value: T) -> Result<Self, AllocError> {
         let greatest = T::max_value();
         if value > greatest {
@@ -92,5 +87,13 @@ impl<T: Width> Lacking<T> for ProvedPagedSet<T> {
         let above = self.intersection(&rest)?;
         self.remove_interval(rest)?;
         Ok(above)
+    }
+}
+
+impl<T: Width> Intersection<Interval<T>> for ProvedPagedSet<T> {
+    type Output = Result<Self, AllocError>;
+
+    fn intersection(&self, interval: &Interval<T>) -> Result<Self, AllocError> {
+        made_of(runs_within(self, interval).map(|run| Intersection::intersection(&run, interval)).collect())
     }
 }

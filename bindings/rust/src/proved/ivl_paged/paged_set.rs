@@ -9,8 +9,10 @@ mod clone;
 mod equality;
 mod first_fit;
 mod iter;
+mod list_operands;
 mod neighbours;
 mod rank;
+mod set_operands;
 mod text;
 
 use crate::proved::ivl_paged::page_list::PageList;

@@ -1,0 +1,6 @@
+use Rattle.std.proofs.lemmas.Result.{IfOk-weaker}
+use Rattle.ivl_laws.proofs.Lengths.{length_of_union}
+use Rattle.ivl_paged.proofs.paged_set.list_operands.PagedSetUnionIntervalSet.union.Goals as goal
+
+pub returns-clause-runs_at_most : goal.returns-clause-runs_at_most
+returns-clause-runs_at_most g c = IfOk-weaker c.combined_with.result _ _ (λ L r. length_of_union c.args.self.now c.args.other.now L r) c.combined_with.ensures

@@ -1,0 +1,177 @@
+//! Set operations with a paged set.
+ghost use Rattle.std.specs.Prelude.{◌≤◌, ◌+◌, IfOk, length, ⊤};
+ghost use Rattle.ivl_laws.specs.Sets.{Complement, Intersection, SymmetricDifference, Union, Without};
+ghost use Rattle.ivl_laws.specs.Runs.{Covers, IsRunListIn, IsRunsOf};
+ghost use Rattle.ivl_paged.specs.Operations.{KeptBy};
+
+use super::PagedSet;
+use crate::combine::{Operation, combined};
+use crate::parts::Parts;
+use intervallum::interval_set::IntervalSet;
+use intervallum::ops::{Complement, Difference, Intersection, SymmetricDifference, Union};
+use intervallum::width::Width;
+use std::alloc::AllocError;
+
+impl<B: Width> PagedSet<B> {
+    /// What an operation makes of the set and another one, whose runs stand in parts.
+    pub(super) fn combined_with<T: Parts<B>>(
+        &self,
+        other: &T,
+        op: Operation,
+    ) -> Result<PagedSet<B>, AllocError>
+        requires { IsRunListIn B.whole (T.runs other.now) }
+        ensures { IfOk result (λ L. IsRunsOf L (KeptBy op (Covers self.now) (Covers (T.runs other.now)))) }
+    {
+        self.in_whole();
+        let pages = combined(self.alloc, &self.pages, other, op)?;
+        Ok(PagedSet {
+            alloc: self.alloc,
+            pages,
+        })
+    }
+}
+
+impl<B: Width> Union<PagedSet<B>> for PagedSet<B> {
+    type Output = Result<PagedSet<B>, AllocError>;
+
+    ghost members = { Covers };
+
+    ghost other_members = { Covers };
+
+    ghost can_unite = { λ _ _. ⊤ };
+
+    ghost answers = { λ r S. IfOk r (λ L. IsRunsOf L S) };
+
+    /// Returns the members of either set. `O(n + m)`. Allocates the pages
+    /// of the result one by one, and a part of each set at a time. Fails only if allocation fails.
+    ///
+    /// ```
+    /// let (mut a, mut b) = (PagedSet::new(alloc), PagedSet::new(alloc));
+    /// a.insert_interval(Interval::new(1, 5))?;
+    /// b.insert_interval(Interval::new(4, 9))?;
+    /// assert!(rt; a.union(&b)?.to_set()? == IntervalSet::new(alloc, 1, 9)?);
+    /// ```
+    fn union(&self, other: &PagedSet<B>) -> Result<PagedSet<B>, AllocError>
+        ensures members { IfOk result (λ L. IsRunsOf L (Union (Covers self.now) (Covers other.now))) }
+        ensures runs_at_most { IfOk result (λ L. length L ≤ length self.now + length other.now) }
+    {
+        other.in_whole();
+        self.combined_with(&other.pages, Operation::Either)
+    }
+}
+
+impl<B: Width> Intersection<PagedSet<B>> for PagedSet<B> {
+    type Output = Result<PagedSet<B>, AllocError>;
+
+    ghost members = { Covers };
+
+    ghost other_members = { Covers };
+
+    ghost answers = { λ r S. IfOk r (λ L. IsRunsOf L S) };
+
+    /// Returns the members of both sets. `O(n + m)`. Allocates the pages
+    /// of the result one by one, and a part of each set at a time. Fails only if allocation fails.
+    ///
+    /// ```
+    /// let (mut a, mut b) = (PagedSet::new(alloc), PagedSet::new(alloc));
+    /// a.insert_interval(Interval::new(1, 5))?;
+    /// b.insert_interval(Interval::new(4, 9))?;
+    /// assert!(rt; a.intersection(&b)?.to_set()? == IntervalSet::new(alloc, 4, 5)?);
+    /// ```
+    fn intersection(&self, other: &PagedSet<B>) -> Result<PagedSet<B>, AllocError>
+        ensures members { IfOk result (λ L. IsRunsOf L (Intersection (Covers self.now) (Covers other.now))) }
+        ensures runs_at_most { IfOk result (λ L. length L ≤ length self.now + length other.now) }
+    {
+        other.in_whole();
+        self.combined_with(&other.pages, Operation::Both)
+    }
+}
+
+impl<B: Width> Difference<PagedSet<B>> for PagedSet<B> {
+    type Output = Result<PagedSet<B>, AllocError>;
+
+    ghost members = { Covers };
+
+    ghost other_members = { Covers };
+
+    ghost answers = { λ r S. IfOk r (λ L. IsRunsOf L S) };
+
+    /// Returns the members that are not in `other`. `O(n + m)`. Allocates the pages
+    /// of the result one by one, and a part of each set at a time. Fails only if allocation fails.
+    ///
+    /// ```
+    /// let (mut a, mut b) = (PagedSet::new(alloc), PagedSet::new(alloc));
+    /// a.insert_interval(Interval::new(1, 5))?;
+    /// b.insert_interval(Interval::new(4, 9))?;
+    /// assert!(rt; a.difference(&b)?.to_set()? == IntervalSet::new(alloc, 1, 3)?);
+    /// ```
+    fn difference(&self, other: &PagedSet<B>) -> Result<PagedSet<B>, AllocError>
+        ensures members { IfOk result (λ L. IsRunsOf L (Without (Covers self.now) (Covers other.now))) }
+        ensures runs_at_most { IfOk result (λ L. length L ≤ length self.now + length other.now) }
+    {
+        other.in_whole();
+        self.combined_with(&other.pages, Operation::FirstAlone)
+    }
+}
+
+impl<B: Width> SymmetricDifference<PagedSet<B>> for PagedSet<B> {
+    type Output = Result<PagedSet<B>, AllocError>;
+
+    ghost members = { Covers };
+
+    ghost other_members = { Covers };
+
+    ghost can_unite = { λ _ _. ⊤ };
+
+    ghost answers = { λ r S. IfOk r (λ L. IsRunsOf L S) };
+
+    /// Returns the members of exactly one of the sets. `O(n + m)`. Allocates the pages
+    /// of the result one by one, and a part of each set at a time. Fails only if allocation fails.
+    ///
+    /// ```
+    /// let (mut a, mut b) = (PagedSet::new(alloc), PagedSet::new(alloc));
+    /// a.insert_interval(Interval::new(1, 5))?;
+    /// b.insert_interval(Interval::new(4, 9))?;
+    /// assert!(rt; a.symmetric_difference(&b)?.to_set()? == [(1, 3), (6, 9)].to_interval_set(alloc)?);
+    /// ```
+    fn symmetric_difference(&self, other: &PagedSet<B>) -> Result<PagedSet<B>, AllocError>
+        ensures members { IfOk result (λ L. IsRunsOf L (SymmetricDifference (Covers self.now) (Covers other.now))) }
+        ensures runs_at_most { IfOk result (λ L. length L ≤ length self.now + length other.now) }
+    {
+        other.in_whole();
+        self.combined_with(&other.pages, Operation::OneAlone)
+    }
+}
+
+impl<B: Width> Complement for PagedSet<B> {
+    type Output = Result<PagedSet<B>, AllocError>;
+
+    ghost whole = { B.whole };
+
+    ghost members = { Covers };
+
+    ghost answers = { λ r S. IfOk r (λ L. IsRunsOf L S) };
+
+    /// Returns the complement within the range of the type. `O(n)`. Allocates the pages of the result
+    /// one by one, and a copy of one page at a time. Fails only if allocation fails.
+    ///
+    /// ```
+    /// let mut a = PagedSet::new(alloc);
+    /// a.insert_interval(Interval::new(10u8, 254))?;
+    /// assert!(rt; a.complement()?.to_set()? == IntervalSet::new(alloc, 0, 9)?);
+    /// ```
+    fn complement(&self) -> Result<PagedSet<B>, AllocError>
+        ensures members { IfOk result (λ L. IsRunsOf L (Complement B.whole (Covers self.now))) }
+        ensures runs_at_most { IfOk result (λ L. length L ≤ length self.now + 1) }
+    {
+        self.in_whole();
+        // the members of the range that the set does not have
+        let all = IntervalSet::whole(self.alloc)?;
+        all.in_whole();
+        let pages = combined(self.alloc, &all, &self.pages, Operation::FirstAlone)?;
+        Ok(PagedSet {
+            alloc: self.alloc,
+            pages,
+        })
+    }
+}
