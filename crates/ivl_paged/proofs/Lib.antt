@@ -8,3 +8,6 @@ pub mod Heads
 pub mod Widening
 pub mod Longest
 pub mod PageSearch
+pub mod Walking
+pub mod Meeting
+pub mod Shortest
