@@ -163,7 +163,7 @@ grown_by_run (Some run) k n S T p v e old same filled r h = longest_grown k n S 
 
 -- ---- two lists of which one follows the other
 
-fits_in_part : (n : ℕ) (A B : List (ℤ × ℤ)) (v : ℤ) → 0 < n → IsMaximal (A ++ B) → FitsAt n (Covers (A ++ B)) v → FitsAt n (Covers A) v ⊎ FitsAt n (Covers B) v
+pub fits_in_part : (n : ℕ) (A B : List (ℤ × ℤ)) (v : ℤ) → 0 < n → IsMaximal (A ++ B) → FitsAt n (Covers (A ++ B)) v → FitsAt n (Covers A) v ⊎ FitsAt n (Covers B) v
 fits_in_part n A B v some m f =
     let r = in_one_run n (A ++ B) v some m f in
     ⊎_elim (λ i. inl (all_of A r.0 i r.2.0 r.3.1)) (λ i. inr (all_of B r.0 i r.2.0 r.3.1)) (in-append A B r.0 r.1)
@@ -171,7 +171,7 @@ fits_in_part n A B v some m f =
     all_of : (L : List (ℤ × ℤ)) (p : ℤ × ℤ) → IsIn L p → p.0 ≤ℤ v → ((v +ℤ pos n) -ℤ pos 1) ≤ℤ p.1 → FitsAt n (Covers L) v
     all_of L p i low high z b = let lo = b.0 in let hi = b.1 in one_covers L p z i (omega (arith, ints), omega (arith, ints))
 
-first_of : (n : ℕ) (v : ℤ) (S : ℤ → Type 0) → 0 < n → FitsAt n S v → S v
+pub first_of : (n : ℕ) (v : ℤ) (S : ℤ → Type 0) → 0 < n → FitsAt n S v → S v
 first_of n v S some f = f v (omega (arith, ints, some), omega (arith, ints, some))
 
 -- nothing fits in the first, so what fits is in the second

@@ -9,3 +9,6 @@ pub mod Widening
 pub mod Longest
 pub mod PageSearch
 pub mod Combining
+pub mod Walking
+pub mod Meeting
+pub mod Shortest

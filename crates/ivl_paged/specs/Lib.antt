@@ -1,2 +1,4 @@
 pub mod Pages
 pub mod Operations
+pub mod Parts
+pub mod Walks

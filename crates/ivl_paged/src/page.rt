@@ -1,12 +1,14 @@
 //! One page: a few of the runs of a set.
 ghost use Rattle.std.specs.Prelude.{◌≡◌, ◌↔◌, ◌⊎◌, ◌<◌, ◌≤◌, ℕ, ℤ, ◌≤ℤ◌, ◌<ℤ◌, IsSomeAnd, IsTrue, List, IfOk, IsOk, MatchOption, None, OnErr, OnOk, length};
 ghost use Rattle.ivl_laws.specs.Bounds.{width_of};
-ghost use Rattle.ivl_laws.specs.Sets.{HasSome, IsBetween, IsSubset, Only, Union, Without};
+ghost use Rattle.ivl_laws.specs.Sets.{HasSome, Intersection, IsBetween, IsSubset, Only, Union, Without};
+ghost use Rattle.ivl_laws.specs.Counts.{IsCountOf};
 ghost use Rattle.ivl_laws.specs.Runs.{Covers, IsMaximal, IsRunsOf};
 ghost use Rattle.intervallum.specs.Edits.{widened};
 ghost use Rattle.intervallum.specs.FirstFit.{FitsAt};
 ghost use Rattle.intervallum.specs.Neighbours.{IsLeast, IsRunWith};
 ghost use Rattle.ivl_paged.specs.Pages.{IsLongest, IsLongestPart};
+ghost use Rattle.ivl_paged.specs.Parts.{IsShortestRun};
 
 use crate::page_search::{find_run, run_before};
 use intervallum::interval::Interval;
@@ -82,6 +84,28 @@ impl<B: Width> Page<B> {
         ensures rest { ¬ (IsTrue result) → HasSome (Without (Covers self.now) (IsBetween interval.now)) }
     {
         interval.lower() <= self.head && self.set.upper() <= interval.upper()
+    }
+
+    /// The shortest run that has `count` numbers, the lowest of these, if one has so many.
+    pub(crate) fn shortest_run(&self, count: B::Output) -> Option<Interval<B>>
+        requires { 0 < B.Output.size count }
+        ensures { MatchOption result
+            ((v : ℤ) → ¬ (FitsAt (B.Output.size count) (Covers self.now) v))
+            (IsShortestRun (B.Output.size count) (Covers self.now)) }
+    {
+        let fit = self.set.best_fit(count)?;
+        self.set.run_at(fit.lower_bound())
+    }
+
+    /// How many members lie in an interval, which is not empty.
+    pub(crate) fn size_within(&self, interval: &Interval<B>) -> B::Output
+        requires { interval.now.0 ≤ℤ interval.now.1 }
+        ensures { IsCountOf (B.Output.size result) (Intersection (Covers self.now) (IsBetween interval.now)) }
+    {
+        if self.lies_within(interval) {
+            return self.set.size();
+        }
+        self.set.size_within(interval)
     }
 
     /// Returns true exactly when an interval lies inside a run and meets neither of its ends.

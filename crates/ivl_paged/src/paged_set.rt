@@ -5,22 +5,28 @@ ghost use Rattle.ivl_laws.specs.Runs.{Covers, IsRunListIn, IsRunsOf};
 ghost use Rattle.intervallum.specs.Edits.{widened};
 ghost use Rattle.ivl_paged.specs.Pages.{flattened};
 
+mod best_fit;
 mod bounds;
 mod clone;
 mod equality;
 mod first_fit;
+mod inclusion;
+mod interval_operands;
 mod iter;
 mod list_operands;
 mod neighbours;
+mod overlaps;
 mod rank;
 mod set_operands;
 mod text;
+mod walks;
+mod within;
 
 use crate::page_list::PageList;
 use crate::pages;
 use intervallum::interval::Interval;
 use intervallum::interval_set::IntervalSet;
-use intervallum::ops::{IsEmpty, Singleton};
+use intervallum::ops::{Collection, IsEmpty, Singleton};
 use intervallum::sweep::coalesce;
 use intervallum::width::Width;
 pub use iter::Runs;
@@ -57,6 +63,14 @@ impl<B: Width> Model for PagedSet<B> {
     ghost view = { λ s. flattened s.pages };
 
     ghost invariant = { λ s. IsRunListIn B.whole (flattened s.pages) };
+}
+
+impl<B: Width> Collection for PagedSet<B> {
+    type Item = B;
+
+    ghost members = { Covers };
+
+    ghost number = { B.value };
 }
 
 impl<B: Width> PagedSet<B> {

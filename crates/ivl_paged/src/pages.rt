@@ -1,20 +1,22 @@
 //! Searches and edits in a list of pages, which together hold one list of runs.
-ghost use Rattle.std.specs.Prelude.{◌≡◌, ◌↔◌, ◌⊎◌, ◌++◌, ◌+◌, ◌<◌, ◌≤◌, ℤ, pos, ◌+ℤ◌, ◌≤ℤ◌, List, [], drop, length, set, take, slice_index_or, IfOk, IsOk, IsTrue, MatchOption, OnErr, OnOk};
+ghost use Rattle.std.specs.Prelude.{◌≡◌, ◌↔◌, ◌⊎◌, ◌++◌, ◌+◌, ◌<◌, ◌≤◌, ℤ, pos, ◌+ℤ◌, ◌≤ℤ◌, List, [], drop, length, set, take, slice_index_or, IfOk, IsOk, IsTrue, MatchOption, OnErr, OnOk, ⊤};
+ghost use Rattle.ivl_laws.specs.Bounds.{width_of};
 ghost use Rattle.ivl_laws.specs.Counts.{IsCountOf};
 ghost use Rattle.ivl_laws.specs.Families.{set_at};
-ghost use Rattle.ivl_laws.specs.Sets.{AtLeast, HasNone, IsBetween, IsSubset, Only, Union, Without};
+ghost use Rattle.ivl_laws.specs.Sets.{AtLeast, HasNone, Intersection, IsBetween, IsSubset, Only, Union, Without};
 ghost use Rattle.ivl_laws.specs.Runs.{Covers, IsMaximal, IsRunListIn, IsRunsOf};
 ghost use Rattle.intervallum.specs.Edits.{widened};
 ghost use Rattle.intervallum.specs.FirstFit.{FitsAt, IsFirstFit};
 ghost use Rattle.intervallum.specs.Neighbours.{IsLeast};
 ghost use Rattle.ivl_paged.specs.Pages.{IsPageCut, IsPageSpan, StartsUpTo, flattened};
+ghost use Rattle.ivl_paged.specs.Parts.{ArePagesMet, IsBetterOf, IsShortestRun};
 
 use crate::page::Page;
 use crate::page_list::PageList;
 use intervallum::interval::Interval;
 use intervallum::interval_set::IntervalSet;
 use intervallum::ops::{
-    Bounded, Cardinality, Contains, ShrinkLeft, Singleton, StrictShrinkRight, Union,
+    Bounded, Cardinality, Contains, IsEmpty, ShrinkLeft, Singleton, StrictShrinkRight, Union,
 };
 use intervallum::sweep::coalesce;
 use intervallum::width::{SizeNumber, Width};
@@ -124,6 +126,56 @@ pub(crate) fn fit_in<B: Width>(pages: &[Page<B>], count: B::Output) -> Option<In
     None
 }
 
+/// The shortest run that has `count` numbers, the lowest of these, if one has so many. Pages whose longest
+/// run is shorter are not read.
+pub(crate) fn shortest_run<B: Width>(pages: &[Page<B>], count: B::Output) -> Option<Interval<B>>
+    requires above_zero { 0 < B.Output.size count }
+    requires runs { IsMaximal (flattened pages.now) }
+    ensures { MatchOption result
+        ((v : ℤ) → ¬ (FitsAt (B.Output.size count) (Covers (flattened pages.now)) v))
+        (IsShortestRun (B.Output.size count) (Covers (flattened pages.now))) }
+{
+    let mut best = None;
+    for page in pages {
+        best = better_of(best, page, count);
+    }
+    best
+}
+
+/// The shorter of a run and the shortest of a page that has `count` numbers, where there are both.
+fn better_of<B: Width>(
+    best: Option<Interval<B>>,
+    page: &Page<B>,
+    count: B::Output,
+) -> Option<Interval<B>>
+    requires { 0 < B.Output.size count }
+    ensures { IsBetterOf (B.Output.size count) best (Covers page.now) result }
+{
+    if page.longest() < count {
+        return best;
+    }
+    match page.shortest_run(count) {
+        Some(run) => {
+            if is_shorter(&run, best) {
+                Some(run)
+            } else {
+                best
+            }
+        }
+        None => best,
+    }
+}
+
+/// Whether a run has fewer numbers than another, if there is one.
+fn is_shorter<B: Width>(run: &Interval<B>, best: Option<Interval<B>>) -> bool
+    ensures { IsTrue result ↔ MatchOption best ⊤ (λ shortest. width_of run.now < width_of shortest) }
+{
+    match best {
+        Some(shortest) => run.size() < shortest.size(),
+        None => true,
+    }
+}
+
 /// The lowest `count` consecutive members that are at least `v` in the first `place` pages, which
 /// are those that start at `v` or below. Only the last of them can have them.
 pub(crate) fn fit_within<B: Width>(
@@ -156,6 +208,32 @@ fn span<B: Width>(pages: &PageList<B>, lower: B, upper: B) -> (usize, usize)
     let start = pages.starts_up_to(lower);
     let end = starts_from(pages, start, upper);
     (start.saturating_sub(1), end.max(1))
+}
+
+/// The pages that may have members in an interval. The others have none there.
+pub(crate) fn met_by<'a, B: Width>(pages: &'a PageList<B>, interval: &Interval<B>) -> &'a [Page<B>]
+    requires { IsMaximal (flattened pages.now) }
+    ensures { ArePagesMet pages.now interval.now result.now }
+{
+    let all = pages.as_slice();
+    if all.is_empty() || interval.is_empty() {
+        return &all[0..0];
+    }
+    let (start, end) = span(pages, interval.lower(), interval.upper());
+    &all[start..end]
+}
+
+/// How many members pages have together in an interval, which is not empty.
+pub(crate) fn size_of_parts<B: Width>(pages: &[Page<B>], interval: &Interval<B>) -> B::Output
+    requires runs { IsRunListIn B.whole (flattened pages.now) }
+    requires filled { interval.now.0 ≤ℤ interval.now.1 }
+    ensures { IsCountOf (B.Output.size result) (Intersection (Covers (flattened pages.now)) (IsBetween interval.now)) }
+{
+    let mut count = <B::Output as SizeNumber>::zero();
+    for page in pages {
+        count = count.add_in_range(page.size_within(interval));
+    }
+    count
 }
 
 /// How many pages start at a value or below, of which `start` do that start at a lower one. The next

@@ -1,13 +1,17 @@
 //! What the calls of a paged set mean, as a caller learns it; [`run_set`](crate::run_set) has those that both kinds of set have. None of these needs a hand-written proof.
-ghost use Rattle.std.specs.Prelude.{◌≡◌, ◌↔◌, ◌⊎◌, ◌≤ℤ◌, ℤ, pos, ◌+ℤ◌, [], IfOk, IsTrue, MatchOption, OnErr, OnOk, length};
-ghost use Rattle.ivl_laws.specs.Sets.{HasSome, IsBetween, SameMembers, Without};
+ghost use Rattle.std.specs.Prelude.{◌≡◌, ◌↔◌, ◌⊎◌, ◌≤ℤ◌, ℤ, pos, ◌+ℤ◌, [], ◌∷◌, IfOk, IsTrue, MatchOption, OnErr, OnOk, length};
+ghost use Rattle.ivl_laws.specs.Counts.{IsCountOf};
+ghost use Rattle.ivl_laws.specs.Sets.{HasNone, HasSome, Intersection, IsBetween, IsSubset, SameMembers, Without};
 ghost use Rattle.ivl_laws.specs.Runs.{Covers, IsRunsOf};
 ghost use Rattle.intervallum.specs.FirstFit.{FitsAt, IsFirstFit};
+ghost use Rattle.intervallum.specs.Fits.{IsBestFit};
+ghost use Rattle.intervallum.specs.Windows.{OfRunsThatMeet};
 
 use intervallum::interval::Interval;
 use intervallum::interval_set::IntervalSet;
+use intervallum::ops::{Bounded, Disjoint, Overlap, Subset};
 use intervallum::width::{SizeNumber, Width};
-use ivl_paged::paged_set::PagedSet;
+use ivl_paged::paged_set::{PagedSet, Runs};
 use std::alloc::{AllocError, Global};
 
 /// Removes the numbers of an interval.
@@ -84,4 +88,135 @@ pub fn set_of_interval<B: Width>(
     let mut set = PagedSet::new(alloc);
     set.insert_interval(interval)?;
     Ok(set)
+}
+
+/// Returns the whole range, as one run.
+pub fn all_of_range<B: Width>(alloc: Global) -> Result<PagedSet<B>, AllocError>
+    ensures { IfOk result (λ L. L ≡ B.whole ∷ []) }
+{
+    PagedSet::whole(alloc)
+}
+
+/// Returns the least and the greatest member of a set that has one.
+pub fn both_ends<B: Width>(set: &PagedSet<B>) -> (B, B)
+    requires { HasSome (Covers set.now) }
+    ensures least { (z : ℤ) → Covers set.now z → B.value result.0 ≤ℤ z }
+    ensures greatest { (z : ℤ) → Covers set.now z → z ≤ℤ B.value result.1 }
+    ensures members { Covers set.now (B.value result.0) × Covers set.now (B.value result.1) }
+{
+    (set.lower(), set.upper())
+}
+
+/// Returns true exactly when each number of an interval is a member.
+pub fn has_each<B: Width>(set: &PagedSet<B>, interval: &Interval<B>) -> bool
+    ensures { IsTrue result ↔ IsSubset (IsBetween interval.now) (Covers set.now) }
+{
+    set.includes(interval)
+}
+
+/// Returns true exactly when some number of an interval is a member.
+pub fn has_some_of<B: Width>(set: &PagedSet<B>, interval: &Interval<B>) -> bool
+    ensures { IsTrue result ↔ HasSome (Intersection (Covers set.now) (IsBetween interval.now)) }
+{
+    set.overlap(interval)
+}
+
+/// Returns true exactly when no number of an interval is a member.
+pub fn has_none_of<B: Width>(set: &PagedSet<B>, interval: &Interval<B>) -> bool
+    ensures { IsTrue result ↔ HasNone (Intersection (Covers set.now) (IsBetween interval.now)) }
+{
+    set.is_disjoint(interval)
+}
+
+/// Returns true exactly when two sets have a common member.
+pub fn have_one_in_common<B: Width>(a: &PagedSet<B>, b: &PagedSet<B>) -> bool
+    ensures { IsTrue result ↔ HasSome (Intersection (Covers a.now) (Covers b.now)) }
+{
+    a.overlap(b)
+}
+
+/// Returns true exactly when two sets have no common member.
+pub fn have_none_in_common<B: Width>(a: &PagedSet<B>, b: &PagedSet<B>) -> bool
+    ensures { IsTrue result ↔ HasNone (Intersection (Covers a.now) (Covers b.now)) }
+{
+    a.is_disjoint(b)
+}
+
+/// Returns true exactly when a set and a list have a common member.
+pub fn has_one_of_list<B: Width>(set: &PagedSet<B>, list: &IntervalSet<B>) -> bool
+    ensures { IsTrue result ↔ HasSome (Intersection (Covers set.now) (Covers list.now)) }
+{
+    set.overlap(list)
+}
+
+/// Returns true exactly when a set and a list have no common member.
+pub fn has_none_of_list<B: Width>(set: &PagedSet<B>, list: &IntervalSet<B>) -> bool
+    ensures { IsTrue result ↔ HasNone (Intersection (Covers set.now) (Covers list.now)) }
+{
+    set.is_disjoint(list)
+}
+
+/// Returns true exactly when each member of a set is one of another.
+pub fn lies_in<B: Width>(a: &PagedSet<B>, b: &PagedSet<B>) -> bool
+    ensures { IsTrue result ↔ IsSubset (Covers a.now) (Covers b.now) }
+{
+    a.is_subset(b)
+}
+
+/// Returns true exactly when each member of a set is one of another, which is asked.
+pub fn holds_all_of<B: Width>(a: &PagedSet<B>, b: &PagedSet<B>) -> bool
+    ensures { IsTrue result ↔ IsSubset (Covers b.now) (Covers a.now) }
+{
+    a.is_superset(b)
+}
+
+/// Returns true exactly when each member of a set is one of a list.
+pub fn lies_in_list<B: Width>(set: &PagedSet<B>, list: &IntervalSet<B>) -> bool
+    ensures { IsTrue result ↔ IsSubset (Covers set.now) (Covers list.now) }
+{
+    set.is_subset_of_list(list)
+}
+
+/// Returns true exactly when each member of a list is one of a set.
+pub fn holds_all_of_list<B: Width>(set: &PagedSet<B>, list: &IntervalSet<B>) -> bool
+    ensures { IsTrue result ↔ IsSubset (Covers list.now) (Covers set.now) }
+{
+    set.is_superset_of_list(list)
+}
+
+/// Returns how many members lie in an interval.
+pub fn count_in<B: Width>(set: &PagedSet<B>, interval: &Interval<B>) -> B::Output
+    ensures { IsCountOf (B.Output.size result) (Intersection (Covers set.now) (IsBetween interval.now)) }
+{
+    set.size_within(interval)
+}
+
+/// Returns the runs that overlap an interval.
+pub fn runs_that_meet<'a, B: Width>(set: &'a PagedSet<B>, interval: &Interval<B>) -> Runs<'a, B>
+    ensures { IsRunsOf result (OfRunsThatMeet (IsBetween interval.now) (Covers set.now)) }
+{
+    set.runs_within(interval)
+}
+
+/// Returns the numbers of an interval that are not members.
+pub fn free_in<B: Width>(
+    set: &PagedSet<B>,
+    interval: &Interval<B>,
+) -> Result<IntervalSet<B>, AllocError>
+    ensures { IfOk result (λ L. IsRunsOf L (Without (IsBetween interval.now) (Covers set.now))) }
+{
+    set.gaps_within(interval)
+}
+
+/// Returns the start of the shortest run with `count` members, if `count` is tested to be above 0.
+pub fn tightest_if_some<B: Width>(set: &PagedSet<B>, count: B::Output) -> Option<Interval<B>>
+    ensures { MatchOption result
+        ((B.Output.size count ≡ 0) ⊎ ((v : ℤ) → ¬ (FitsAt (B.Output.size count) (Covers set.now) v)))
+        (IsBestFit (B.Output.size count) (Covers set.now)) }
+{
+    if count.number() > 0 {
+        set.best_fit(count)
+    } else {
+        None
+    }
 }

@@ -1,6 +1,6 @@
 //! The proved set below each set, and sets of either kind as operands.
 use super::conditions::memory;
-use super::{IntervalSet, PagedSet, paged::Lacking as _};
+use super::{IntervalSet, PagedSet};
 use crate::proved::ivl_paged::PagedSet as ProvedPagedSet;
 use crate::proved::ops::{Cardinality, IsEmpty, Overlap, Subset};
 use crate::proved::{AllocError, Global, Interval, IntervalSet as ProvedIntervalSet, width::Width};

@@ -1,6 +1,7 @@
 //! Sets from sets.
 use super::conditions::{contract, cost, memory};
-use super::{AnySet, IntervalSet, PagedSet, Piece, below::Operand as _, paged::Lacking as _};
+use super::paged::{Lacking as _, OfList};
+use super::{AnySet, IntervalSet, PagedSet, Piece, below::Operand as _};
 use crate::proved::ops::{Complement, Difference, Intersection, SymmetricDifference, Union};
 use crate::proved::{self, Global, width::Width};
 use alloc::vec::Vec;
@@ -122,7 +123,8 @@ macro_rules! combining {
             #[doc = contract!(lists $Set "gaps_within")]
             #[must_use]
             pub fn gaps_within(&self, range: impl Piece<T>) -> Self {
-                Self(Some(memory(self.as_proved().gaps_within(&range.clamped()))))
+                let gaps = self.as_proved().gaps_within(&range.clamped());
+                Self(Some(memory(gaps.and_then(OfList::of_list))))
             }
         }
     };

@@ -1,8 +1,11 @@
 //! Iteration over the runs of a set, from both ends.
-ghost use Rattle.std.specs.Prelude.{◌≡◌, All};
+ghost use Rattle.std.specs.Prelude.{◌≡◌, ℕ, ◌+◌, ◌<◌, All, length};
 ghost use Rattle.std.specs.Iterator.{YieldsFirst, YieldsLast, item_count};
-ghost use Rattle.ivl_laws.specs.Sets.{HasSome, IsBetween};
-ghost use Rattle.ivl_laws.specs.Runs.{IsRunListIn};
+ghost use Rattle.ivl_laws.specs.Families.{set_at};
+ghost use Rattle.ivl_laws.specs.Sets.{HasSome, Intersection, IsBetween, IsSubset};
+ghost use Rattle.ivl_laws.specs.Runs.{Covers, IsMaximal, IsRunListIn, IsRunsOf};
+ghost use Rattle.intervallum.specs.Windows.{OfRunsThatMeet};
+ghost use Rattle.ivl_paged.specs.Pages.{flattened};
 
 use super::PagedSet;
 use crate::page::Page;
@@ -98,6 +101,46 @@ impl<'a, B: Width> DoubleEndedIterator for Runs<'a, B> {
 }
 
 impl<'a, B: Width> FusedIterator for Runs<'a, B> {}
+
+/// The runs of a slice, to be read as those of a set are.
+pub(super) fn runs_of<'a, B: Width>(runs: &'a [Interval<B>]) -> Runs<'a, B>
+    ensures { result ≡ runs.now }
+{
+    Runs {
+        first: runs,
+        between: &[],
+        last: &[],
+    }
+}
+
+/// The runs of pages that meet a window, which all pages but the first and the last do.
+pub(super) fn runs_of_parts<'a, B: Width>(pages: &'a [Page<B>], window: &Interval<B>) -> Runs<'a, B>
+    requires maximal { IsMaximal (flattened pages.now) }
+    requires inside { (k : ℕ) → 0 < k → k + 1 < length pages.now → IsSubset (set_at pages.now k) (IsBetween window.now) }
+    ensures members { IsRunsOf result (OfRunsThatMeet (IsBetween window.now) (Covers (flattened pages.now))) }
+    ensures overlap { All (λ run. HasSome (Intersection (IsBetween run) (IsBetween window.now))) result }
+{
+    let Some((page, rest)) = pages.split_first() else {
+        return Runs {
+            first: &[],
+            between: pages,
+            last: &[],
+        };
+    };
+    let first = page.set().runs_within(window);
+    let Some((page, between)) = rest.split_last() else {
+        return Runs {
+            first,
+            between: rest,
+            last: &[],
+        };
+    };
+    Runs {
+        first,
+        between,
+        last: page.set().runs_within(window),
+    }
+}
 
 /// Takes the first run of a slice away, if it has one.
 fn take_first<'a, B: Width>(part: &mut &'a [Interval<B>]) -> Option<Interval<B>>

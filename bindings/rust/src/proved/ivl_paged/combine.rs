@@ -16,7 +16,7 @@ use crate::proved::intervallum::width::Width;
 use crate::rattle::std::alloc::{AllocError, Global};
 
 /// Which members of two sets an operation keeps.
-#[derive(Clone, Copy, Debug)]
+#[derive(Clone, Copy)]
 pub(crate) enum Operation {
     /// Those of either.
     Either,
@@ -77,10 +77,12 @@ fn put<B: Width>(
     pages: &mut PageList<B>,
     mut piece: IntervalSet<B>,
 ) -> Result<(), AllocError> {
-    if let Some(run) = touching_run(pages, &piece) {
-        pages::insert_interval(pages, run)?;
-        piece.remove_interval(run)?;
-    }
+    piece.in_whole();
+    let Some(run) = touching_run(pages, &piece) else {
+        return put_apart(alloc, pages, piece);
+    };
+    pages::insert_interval(pages, run)?;
+    piece.remove_interval(run)?;
     put_apart(alloc, pages, piece)
 }
 
@@ -127,10 +129,7 @@ fn has_room<B: Width>(pages: &PageList<B>, count: usize) -> bool {
 }
 
 /// Puts the runs of a set into the last page, behind its own.
-fn join_last<B: Width>(
-    pages: &mut PageList<B>,
-    piece: &IntervalSet<B>,
-) -> Result<(), AllocError> {
+fn join_last<B: Width>(pages: &mut PageList<B>, piece: &IntervalSet<B>) -> Result<(), AllocError> {
     let last = pages.len() - 1;
     let joined = pages.page(last).set().union(piece)?;
     pages.remove(last);

@@ -52,6 +52,20 @@ impl<B: Width> Page<B> {
         interval.lower() <= self.head && self.set.upper() <= interval.upper()
     }
 
+    /// The shortest run that has `count` numbers, the lowest of these, if one has so many.
+    pub(crate) fn shortest_run(&self, count: B::Output) -> Option<Interval<B>> {
+        let fit = self.set.best_fit(count)?;
+        self.set.run_at(fit.lower_bound())
+    }
+
+    /// How many members lie in an interval, which is not empty.
+    pub(crate) fn size_within(&self, interval: &Interval<B>) -> B::Output {
+        if self.lies_within(interval) {
+            return self.set.size();
+        }
+        self.set.size_within(interval)
+    }
+
     /// Returns true exactly when an interval lies inside a run and meets neither of its ends.
     pub(crate) fn has_inside(&self, interval: &Interval<B>) -> bool {
         match self.set.run_at(interval.lower()) {

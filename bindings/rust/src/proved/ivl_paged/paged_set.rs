@@ -4,22 +4,28 @@
 #[allow(unused_imports)]
 use crate::rattle::prelude::*;
 
+mod best_fit;
 mod bounds;
 mod clone;
 mod equality;
 mod first_fit;
+mod inclusion;
+mod interval_operands;
 mod iter;
 mod list_operands;
 mod neighbours;
+mod overlaps;
 mod rank;
 mod set_operands;
 mod text;
+mod walks;
+mod within;
 
 use crate::proved::ivl_paged::page_list::PageList;
 use crate::proved::ivl_paged::pages;
 use crate::proved::intervallum::interval::Interval;
 use crate::proved::intervallum::interval_set::IntervalSet;
-use crate::proved::intervallum::ops::{IsEmpty, Singleton};
+use crate::proved::intervallum::ops::{Collection, IsEmpty, Singleton};
 use crate::proved::intervallum::sweep::coalesce;
 use crate::proved::intervallum::width::Width;
 pub use iter::Runs;
@@ -52,6 +58,18 @@ use crate::rattle::std::alloc::{AllocError, Global};
 pub struct PagedSet<B: Width> {
     alloc: Global,
     pages: PageList<B>,
+}
+
+/// Proved, with these words of the trait:
+///
+/// ```text
+/// members = { Covers }
+/// number = { B.value }
+/// ```
+///
+/// Words: [`Covers`](crate::definitions#Covers).
+impl<B: Width> Collection for PagedSet<B> {
+    type Item = B;
 }
 
 impl<B: Width> PagedSet<B> {

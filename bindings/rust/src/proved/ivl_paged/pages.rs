@@ -8,7 +8,7 @@ use crate::proved::ivl_paged::page_list::PageList;
 use crate::proved::intervallum::interval::Interval;
 use crate::proved::intervallum::interval_set::IntervalSet;
 use crate::proved::intervallum::ops::{
-    Bounded, Cardinality, Contains, ShrinkLeft, Singleton, StrictShrinkRight, Union,
+    Bounded, Cardinality, Contains, IsEmpty, ShrinkLeft, Singleton, StrictShrinkRight, Union,
 };
 use crate::proved::intervallum::sweep::coalesce;
 use crate::proved::intervallum::width::{SizeNumber, Width};
@@ -91,6 +91,45 @@ pub(crate) fn fit_in<B: Width>(pages: &[Page<B>], count: B::Output) -> Option<In
     None
 }
 
+/// The shortest run that has `count` numbers, the lowest of these, if one has so many. Pages whose longest
+/// run is shorter are not read.
+pub(crate) fn shortest_run<B: Width>(pages: &[Page<B>], count: B::Output) -> Option<Interval<B>> {
+    let mut best = None;
+    for page in pages {
+        best = better_of(best, page, count);
+    }
+    best
+}
+
+/// The shorter of a run and the shortest of a page that has `count` numbers, where there are both.
+fn better_of<B: Width>(
+    best: Option<Interval<B>>,
+    page: &Page<B>,
+    count: B::Output,
+) -> Option<Interval<B>> {
+    if page.longest() < count {
+        return best;
+    }
+    match page.shortest_run(count) {
+        Some(run) => {
+            if is_shorter(&run, best) {
+                Some(run)
+            } else {
+                best
+            }
+        }
+        None => best,
+    }
+}
+
+/// Whether a run has fewer numbers than another, if there is one.
+fn is_shorter<B: Width>(run: &Interval<B>, best: Option<Interval<B>>) -> bool {
+    match best {
+        Some(shortest) => run.size() < shortest.size(),
+        None => true,
+    }
+}
+
 /// The lowest `count` consecutive members that are at least `v` in the first `place` pages, which
 /// are those that start at `v` or below. Only the last of them can have them.
 pub(crate) fn fit_within<B: Width>(
@@ -111,6 +150,25 @@ fn span<B: Width>(pages: &PageList<B>, lower: B, upper: B) -> (usize, usize) {
     let start = pages.starts_up_to(lower);
     let end = starts_from(pages, start, upper);
     (start.saturating_sub(1), end.max(1))
+}
+
+/// The pages that may have members in an interval. The others have none there.
+pub(crate) fn met_by<'a, B: Width>(pages: &'a PageList<B>, interval: &Interval<B>) -> &'a [Page<B>] {
+    let all = pages.as_slice();
+    if all.is_empty() || interval.is_empty() {
+        return &all[0..0];
+    }
+    let (start, end) = span(pages, interval.lower(), interval.upper());
+    &all[start..end]
+}
+
+/// How many members pages have together in an interval, which is not empty.
+pub(crate) fn size_of_parts<B: Width>(pages: &[Page<B>], interval: &Interval<B>) -> B::Output {
+    let mut count = <B::Output as SizeNumber>::zero();
+    for page in pages {
+        count = count.add_in_range(page.size_within(interval));
+    }
+    count
 }
 
 /// How many pages start at a value or below, of which `start` do that start at a lower one. The next

@@ -58,14 +58,19 @@ impl<B: Width> Parts<B> for IntervalSet<B> {
 impl<B: Width> Parts<B> for PageList<B> {
     fn part_from<'a>(&'a self, lower: B, none: &'a IntervalSet<B>) -> (&'a IntervalSet<B>, B) {
         let count = self.starts_up_to(lower);
-        let end = if count < self.len() {
-            self.head(count).sub_in_range(B::one())
-        } else {
-            B::max_value()
-        };
+        let end = last_before(self, count, lower);
         if count == 0 {
             return (none, end);
         }
         (self.page(count - 1).set(), end)
     }
+}
+
+/// The last value before page `i`, which is the next one above a value, or the last of the range if
+/// there is no such page.
+fn last_before<B: Width>(pages: &PageList<B>, i: usize, value: B) -> B {
+    if i < pages.len() {
+        return pages.head(i).sub_in_range(B::one());
+    }
+    B::max_value()
 }

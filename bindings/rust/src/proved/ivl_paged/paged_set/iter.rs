@@ -112,6 +112,39 @@ impl<'a, B: Width> DoubleEndedIterator for Runs<'a, B> {
 
 impl<'a, B: Width> FusedIterator for Runs<'a, B> {}
 
+/// The runs of a slice, to be read as those of a set are.
+pub(super) fn runs_of<'a, B: Width>(runs: &'a [Interval<B>]) -> Runs<'a, B> {
+    Runs {
+        first: runs,
+        between: &[],
+        last: &[],
+    }
+}
+
+/// The runs of pages that meet a window, which all pages but the first and the last do.
+pub(super) fn runs_of_parts<'a, B: Width>(pages: &'a [Page<B>], window: &Interval<B>) -> Runs<'a, B> {
+    let Some((page, rest)) = pages.split_first() else {
+        return Runs {
+            first: &[],
+            between: pages,
+            last: &[],
+        };
+    };
+    let first = page.set().runs_within(window);
+    let Some((page, between)) = rest.split_last() else {
+        return Runs {
+            first,
+            between: rest,
+            last: &[],
+        };
+    };
+    Runs {
+        first,
+        between,
+        last: page.set().runs_within(window),
+    }
+}
+
 /// Takes the first run of a slice away, if it has one.
 fn take_first<'a, B: Width>(part: &mut &'a [Interval<B>]) -> Option<Interval<B>> {
     let (run, rest) = part.split_first()?;

@@ -1,0 +1,71 @@
+//! Which of two sets includes the other, in pages or in one list.
+ghost use Rattle.std.specs.Prelude.{◌↔◌, IsTrue};
+ghost use Rattle.ivl_laws.specs.Sets.{IsSubset};
+ghost use Rattle.ivl_laws.specs.Runs.{Covers};
+
+use super::PagedSet;
+use super::walks::is_included;
+use intervallum::interval_set::IntervalSet;
+use intervallum::ops::Subset;
+use intervallum::width::Width;
+
+impl<B: Width> Subset for PagedSet<B> {
+    ghost members = { Covers };
+
+    /// Returns true exactly when each member is a member of `other`, so always for an empty set.
+    /// Reads the `n` runs and the `m` of `other` up to the first that is missing: `O(n + m)`. If
+    /// `other` has far more (16 times), searches for each of the `n`: `O(n log m)`. Does not allocate.
+    ///
+    /// ```
+    /// let a = PagedSet::of_set(&IntervalSet::new(alloc, 1, 2)?)?;
+    /// let b = PagedSet::of_set(&IntervalSet::new(alloc, 0, 10)?)?;
+    /// assert!(rt; a.is_subset(&b) && !b.is_subset(&a));
+    /// ```
+    fn is_subset(&self, other: &PagedSet<B>) -> bool {
+        is_included(self, other)
+    }
+}
+
+impl<B: Width> PagedSet<B> {
+    /// Returns true exactly when each member of `other` is a member, so always if `other` is empty.
+    /// Costs as much as `other.is_subset`: `O(n + m)`. Does not allocate.
+    ///
+    /// ```
+    /// let a = PagedSet::of_set(&IntervalSet::new(alloc, 0, 10)?)?;
+    /// let b = PagedSet::of_set(&IntervalSet::new(alloc, 1, 2)?)?;
+    /// assert!(rt; a.is_superset(&b) && !b.is_superset(&a));
+    /// ```
+    pub fn is_superset(&self, other: &PagedSet<B>) -> bool
+        ensures { IsTrue result ↔ IsSubset (Covers other.now) (Covers self.now) }
+    {
+        other.is_subset(self)
+    }
+
+    /// Returns true exactly when each member is a member of `list`, whose runs stand in one list.
+    /// Costs as much as with another set in pages: `O(n + m)`. Does not allocate.
+    ///
+    /// ```
+    /// let a = PagedSet::of_set(&IntervalSet::new(alloc, 1, 2)?)?;
+    /// assert!(rt; a.is_subset_of_list(&IntervalSet::new(alloc, 0, 10)?));
+    /// assert!(rt; !a.is_subset_of_list(&IntervalSet::new(alloc, 2, 10)?));
+    /// ```
+    pub fn is_subset_of_list(&self, list: &IntervalSet<B>) -> bool
+        ensures { IsTrue result ↔ IsSubset (Covers self.now) (Covers list.now) }
+    {
+        is_included(self, list)
+    }
+
+    /// Returns true exactly when each member of `list`, whose runs stand in one list, is a member.
+    /// Costs as much as with another set in pages: `O(n + m)`. Does not allocate.
+    ///
+    /// ```
+    /// let a = PagedSet::of_set(&IntervalSet::new(alloc, 0, 10)?)?;
+    /// assert!(rt; a.is_superset_of_list(&IntervalSet::new(alloc, 1, 2)?));
+    /// assert!(rt; !a.is_superset_of_list(&IntervalSet::new(alloc, 9, 11)?));
+    /// ```
+    pub fn is_superset_of_list(&self, list: &IntervalSet<B>) -> bool
+        ensures { IsTrue result ↔ IsSubset (Covers list.now) (Covers self.now) }
+    {
+        is_included(list, self)
+    }
+}
