@@ -2,7 +2,7 @@
 use super::conditions::memory;
 use super::{IntervalSet, PagedSet};
 use crate::proved::ivl_paged::PagedSet as ProvedPagedSet;
-use crate::proved::ops::{Cardinality, IsEmpty, Overlap, Subset};
+use crate::proved::ops::{Cardinality, Complement, Difference, Intersection, IsEmpty, Overlap, Subset, SymmetricDifference, Union};
 use crate::proved::{AllocError, Global, Interval, IntervalSet as ProvedIntervalSet, width::Width};
 use core::ops::Deref;
 
@@ -29,6 +29,27 @@ impl<S> Deref for Lent<'_, S> {
     }
 }
 
+/// An operation on two sets.
+#[derive(Clone, Copy)]
+pub(super) enum Operation {
+    Union,
+    Intersection,
+    Difference,
+    SymmetricDifference,
+}
+
+/// Does an operation by the proved calls of its name.
+macro_rules! by_name {
+    ($op:expr, $set:expr, $other:expr) => {
+        match $op {
+            Operation::Union => $set.union($other),
+            Operation::Intersection => $set.intersection($other),
+            Operation::Difference => $set.difference($other),
+            Operation::SymmetricDifference => $set.symmetric_difference($other),
+        }
+    };
+}
+
 /// What both kinds of proved sets have.
 pub(super) trait Proved<T: Width>: Sized {
     /// The empty set.
@@ -39,6 +60,12 @@ pub(super) trait Proved<T: Width>: Sized {
 
     /// The set of the numbers of an interval.
     fn of_interval(interval: Interval<T>) -> Result<Self, AllocError>;
+
+    /// What an operation makes of the set and another one.
+    fn combined(&self, other: &impl Operand<T>, op: Operation) -> Result<Self, AllocError>;
+
+    /// The numbers within the limits that are not members.
+    fn others(&self) -> Result<Self, AllocError>;
 
     /// Adds an interval. Returns true exactly when the set has changed.
     fn add(&mut self, interval: Interval<T>) -> Result<bool, AllocError>;
@@ -58,6 +85,14 @@ impl<T: Width> Proved<T> for ProvedIntervalSet<T> {
 
     fn of_interval(interval: Interval<T>) -> Result<Self, AllocError> {
         ProvedIntervalSet::of(Global, interval)
+    }
+
+    fn combined(&self, other: &impl Operand<T>, op: Operation) -> Result<Self, AllocError> {
+        by_name!(op, self, &*other.list())
+    }
+
+    fn others(&self) -> Result<Self, AllocError> {
+        self.complement()
     }
 
     // the size of a list is at hand
@@ -89,6 +124,17 @@ impl<T: Width> Proved<T> for ProvedPagedSet<T> {
         Ok(set)
     }
 
+    fn combined(&self, other: &impl Operand<T>, op: Operation) -> Result<Self, AllocError> {
+        match other.paged() {
+            Some(other) => by_name!(op, self, other),
+            None => by_name!(op, self, &*other.list()),
+        }
+    }
+
+    fn others(&self) -> Result<Self, AllocError> {
+        self.complement()
+    }
+
     fn add(&mut self, interval: Interval<T>) -> Result<bool, AllocError> {
         let is_new = !self.includes(&interval);
         if is_new {
@@ -116,6 +162,9 @@ pub trait Operand<T: Width> {
 
     /// Returns the runs as a list, if they stand in one.
     fn listed(&self) -> Option<&ProvedIntervalSet<T>>;
+
+    /// Returns the proved set, if its runs stand in pages.
+    fn paged(&self) -> Option<&ProvedPagedSet<T>>;
 
     /// Returns the number of runs.
     fn run_count(&self) -> usize;
@@ -156,6 +205,10 @@ impl<T: Width> Operand<T> for IntervalSet<T> {
         self.0.as_ref()
     }
 
+    fn paged(&self) -> Option<&ProvedPagedSet<T>> {
+        None
+    }
+
     fn run_count(&self) -> usize {
         self.interval_count()
     }
@@ -180,6 +233,10 @@ impl<T: Width> Operand<T> for PagedSet<T> {
 
     fn listed(&self) -> Option<&ProvedIntervalSet<T>> {
         None
+    }
+
+    fn paged(&self) -> Option<&ProvedPagedSet<T>> {
+        self.0.as_ref()
     }
 
     fn run_count(&self) -> usize {

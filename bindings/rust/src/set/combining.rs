@@ -1,8 +1,8 @@
 //! Sets from sets.
 use super::conditions::{contract, cost, memory};
-use super::paged::{Lacking as _, OfList};
-use super::{AnySet, IntervalSet, PagedSet, Piece, below::Operand as _};
-use crate::proved::ops::{Complement, Difference, Intersection, SymmetricDifference, Union};
+use super::paged::OfList;
+use super::{AnySet, IntervalSet, PagedSet, Piece, below::{Operand as _, Operation, Proved as _}};
+use crate::proved::ops::Intersection;
 use crate::proved::{self, Global, width::Width};
 use alloc::vec::Vec;
 
@@ -24,7 +24,7 @@ macro_rules! combining {
             #[doc = contract!(lists $Set "union")]
             #[must_use]
             pub fn union(&self, other: &impl AnySet<T>) -> Self {
-                Self::of_list(self.list().union(&*other.list()))
+                Self(Some(memory(self.as_proved().combined(other, Operation::Union))))
             }
 
             /// Returns the members of both sets, as `&` does.
@@ -33,7 +33,7 @@ macro_rules! combining {
             #[doc = contract!(lists $Set "intersection")]
             #[must_use]
             pub fn intersection(&self, other: &impl AnySet<T>) -> Self {
-                Self::of_list(self.list().intersection(&*other.list()))
+                Self(Some(memory(self.as_proved().combined(other, Operation::Intersection))))
             }
 
             /// Returns the members that are not in `other`.
@@ -42,7 +42,7 @@ macro_rules! combining {
             #[doc = contract!(lists $Set "difference")]
             #[must_use]
             pub fn difference(&self, other: &impl AnySet<T>) -> Self {
-                Self::of_list(self.list().difference(&*other.list()))
+                Self(Some(memory(self.as_proved().combined(other, Operation::Difference))))
             }
 
             /// Returns the members of exactly one of the sets, as `^` does.
@@ -50,7 +50,7 @@ macro_rules! combining {
             #[doc = contract!(lists $Set "symmetric_difference")]
             #[must_use]
             pub fn symmetric_difference(&self, other: &impl AnySet<T>) -> Self {
-                Self::of_list(self.list().symmetric_difference(&*other.list()))
+                Self(Some(memory(self.as_proved().combined(other, Operation::SymmetricDifference))))
             }
 
             /// Returns the members of any of the sets: none if there is no set. `O(n log k)` for `k` sets of `n` runs in all.
@@ -100,7 +100,7 @@ macro_rules! combining {
             #[doc = contract!(lists $Set "complement")]
             #[must_use]
             pub fn complement(&self) -> Self {
-                Self::of_list(self.list().complement())
+                Self(Some(memory(self.as_proved().others())))
             }
 
             /// Returns the members that lie in a range.
