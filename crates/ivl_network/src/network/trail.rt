@@ -263,7 +263,7 @@ fn put_back<B: Width>(
 {
     if let Some(set) = set {
         store.replace(variable, set);
-        queue.wake(wakes, false, variable, store, rules, index);
+        queue.wake(wakes, false, false, variable, store, rules, index);
     }
 }
 

@@ -308,7 +308,15 @@ impl<B: Width> Network<B> {
         let is_kept = is_logging(&self.marks);
         reserve_change(&mut self.trail, is_kept)?;
         let (lost, change) = restrict_swapped(&mut self.store, variable, allowed)?;
-        self.queue.wake(lost, true, variable, &self.store, &self.rules, &self.index);
+        self.queue.wake(
+            lost,
+            true,
+            true,
+            variable,
+            &self.store,
+            &self.rules,
+            &self.index,
+        );
         let is_new = is_unkept(lost, &self.trail, &self.marks, &self.places, &change);
         log_cut(&mut self.trail, &mut self.places, is_kept, is_new, change);
         Ok(())

@@ -14,4 +14,4 @@ returns-in-Some-clause-sound g c =
     let after = c.wake.new.self.settled.items in
     rw c.replace.ensures (sound_replaced c.args.store.now rules (claimed_flags wakes before) (claimed_flags wakes after) c.args.variable c.in-Some.set c.requires.sound
     (claimed_cleared wakes rules c.args.variable _ before after
-    (subst (λ (sets : List (List (ℤ × ℤ))). AreClearedRules wakes false rules c.args.variable (set_at sets) before after) c.replace.ensures c.wake.ensures.cleared)))
+    (subst (λ (sets : List (List (ℤ × ℤ))). AreClearedRules wakes false false rules c.args.variable (set_at sets) before after) c.replace.ensures c.wake.ensures.cleared)))
