@@ -3,7 +3,7 @@ use Rattle.std.proofs.Common.{◌≡◌, ◌≢◌, ◌↔◌, ◌⊎◌, ℕ, �
 use Rattle.std.specs.Prelude.{ℤ}
 use Rattle.std.proofs.Math.ListN.{get_or-append, get_or-map}
 use Rattle.std.proofs.lemmas.List.{take-map, length-map, get_or-set_other, get_or_push, length-set, length_push}
-use Rattle.std.proofs.lemmas.Bool.{cases_eq, false≢true}
+use Rattle.std.proofs.lemmas.Bool.{cases_eq, false_from_ne_true, false≢true}
 use Rattle.ivl_laws.specs.Families.{set_at}
 use Rattle.ivl_laws.specs.Sets.{HasSome}
 use Rattle.ivl_store.specs.declared.store.constraint.Constraint.{Constraint}
@@ -87,10 +87,6 @@ stands_at rule changed alone variable before after j others (inr (is, inl two)) 
 stands_at rule changed alone variable before after j others (inr (is, inr (t, at, a, some, single))) =
     inr (is, inr (some, (single, λ i named ne. others t a i (λ e. ne (e ∙ sym at)))))
 
-not_true : (b : Bool) → (b ≡ true → ⊥) → b ≡ false
-not_true true never = absurd (never refl)
-not_true false never = refl
-
 -- the flags once rule i was narrowed by: those of others at variables that have changed are cleared, and its own is set
 pub flags_moved : (rules : List Rule) (i : ℕ) (e : Rule) (lost : Lost) (alone : Bool) (m0 m1 m2 m3 : List Bool) (old new : List (List (ℤ × ℤ))) → i < length rules
     → (alone ≡ true → IsOneAtMost lost)
@@ -132,13 +128,13 @@ flags_moved rules i e lost alone m0 m1 m2 m3 old new lt one ax ay az n l s =
     m1_of k m = ay.only_cleared k (az.only_cleared k m)
 
     alone_x : lost.x ≡ true → alone ≡ true → (j : ℕ) → j ≢ p.x → (v : ℤ) → set_at old j v → set_at new j v
-    alone_x t a j ne = (l e).others j (λ at. absurd (ne at)) (λ _. not_true lost.y (λ u. (one a).0 (t, u))) (λ _. not_true lost.z (λ u. (one a).1 (t, u)))
+    alone_x t a j ne = (l e).others j (λ at. absurd (ne at)) (λ _. false_from_ne_true lost.y (λ u. (one a).0 (t, u))) (λ _. false_from_ne_true lost.z (λ u. (one a).1 (t, u)))
 
     alone_y : lost.y ≡ true → alone ≡ true → (j : ℕ) → j ≢ p.y → (v : ℤ) → set_at old j v → set_at new j v
-    alone_y t a j ne = (l e).others j (λ _. not_true lost.x (λ u. (one a).0 (u, t))) (λ at. absurd (ne at)) (λ _. not_true lost.z (λ u. (one a).2 (t, u)))
+    alone_y t a j ne = (l e).others j (λ _. false_from_ne_true lost.x (λ u. (one a).0 (u, t))) (λ at. absurd (ne at)) (λ _. false_from_ne_true lost.z (λ u. (one a).2 (t, u)))
 
     alone_z : lost.z ≡ true → alone ≡ true → (j : ℕ) → j ≢ p.z → (v : ℤ) → set_at old j v → set_at new j v
-    alone_z t a j ne = (l e).others j (λ _. not_true lost.x (λ u. (one a).1 (u, t))) (λ _. not_true lost.y (λ u. (one a).2 (u, t))) (λ at. absurd (ne at))
+    alone_z t a j ne = (l e).others j (λ _. false_from_ne_true lost.x (λ u. (one a).1 (u, t))) (λ _. false_from_ne_true lost.y (λ u. (one a).2 (u, t))) (λ at. absurd (ne at))
 
 -- where nothing was lost, no flag was cleared
 pub only_one_moved : (rules : List Rule) (c : Constraint) (lost : Lost) (alone : Bool) (sets : ℕ → ℤ → Type 0) (m0 m1 m2 m3 : List Bool)

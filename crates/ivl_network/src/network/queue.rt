@@ -170,18 +170,17 @@ impl Queue {
         self.settled[k] = true;
     }
 
-    /// Clears the flag of a rule, which then waits for the next round.
+    /// Clears the flag of a rule that is settled, which then waits for the next round.
     fn clear(&mut self, k: usize)
         requires queue { IsRuleQueue self.old }
         requires in_list { k < length self.old.settled.items }
+        requires settled { slice_index_or self.old.settled.items k false ≡ true }
         ensures queue { IsRuleQueue self.new }
         ensures settled { self.new.settled.items ≡ slice_set self.old.settled.items k false }
         ensures round { self.new.round.items ≡ self.old.round.items }
     {
-        if self.settled[k] {
-            self.settled[k] = false;
-            self.later.push_reserved(k);
-        }
+        self.settled[k] = false;
+        self.later.push_reserved(k);
     }
 
     /// Clears the flags of the rules that name the variable, if it has changed, but for those that take
@@ -273,8 +272,8 @@ fn is_left_alone<B: Width>(only_lost: bool, alone: bool, variable: usize, store:
 }
 
 /// Whether a rule that is settled stays so where a variable that it names has changed: it takes nothing,
-/// or the variable alone lost members and keeps one, and the other variable is a single number, which took
-/// its number before.
+/// or the variable alone lost members and keeps one, and the other variable is a single number, so that
+/// what this forbids was taken before.
 fn stays_settled<B: Width>(rule: &Rule, keeps_one: bool, variable: usize, store: &Store<B>) -> bool
     requires different { AreDifferent rule.now }
     requires present { ArePresent (length store.now) rule.now }

@@ -107,12 +107,10 @@ impl Queue {
         self.settled[k] = true;
     }
 
-    /// Clears the flag of a rule, which then waits for the next round.
+    /// Clears the flag of a rule that is settled, which then waits for the next round.
     fn clear(&mut self, k: usize) {
-        if self.settled[k] {
-            self.settled[k] = false;
-            self.later.push_reserved(k);
-        }
+        self.settled[k] = false;
+        self.later.push_reserved(k);
     }
 
     /// Clears the flags of the rules that name the variable, if it has changed, but for those that take
@@ -179,8 +177,8 @@ fn is_left_alone<B: Width>(only_lost: bool, alone: bool, variable: usize, store:
 }
 
 /// Whether a rule that is settled stays so where a variable that it names has changed: it takes nothing,
-/// or the variable alone lost members and keeps one, and the other variable is a single number, which took
-/// its number before.
+/// or the variable alone lost members and keeps one, and the other variable is a single number, so that
+/// what this forbids was taken before.
 fn stays_settled<B: Width>(rule: &Rule, keeps_one: bool, variable: usize, store: &Store<B>) -> bool {
     if keeps_one && is_single_beside(rule, variable, store) {
         return true;

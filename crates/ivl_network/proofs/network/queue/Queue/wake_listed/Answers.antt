@@ -60,3 +60,9 @@ stays_settled-requires-clause-names g c = (c.loop-place.invariant.1.names (c.loo
 pub stays_settled-requires-clause-kind : goal.stays_settled-requires-clause-kind
 stays_settled-requires-clause-kind g c = λ e.
     (c.loop-place.invariant.1.names (c.loop-place.place - 1) _ (let t = c.loop-place-test.true in omega (arith, t))).1 ∙ c.requires.kind e
+
+pub clear-requires-clause-settled : goal.clear-requires-clause-settled
+clear-requires-clause-settled g c =
+    let flags = c.loop-place.self.settled.items in let place = c.loop-place.place in
+    let low = c.loop-place.invariant.1.low in let same = c.loop-place.invariant.1.same_count in let each = c.requires.one_each in let t = c.loop-place-test.true in
+    get_or_default flags (place - 1) false _ (omega (arith, t, low, same, each)) ∙ sym c.index.ensures ∙ c.if-index.true
