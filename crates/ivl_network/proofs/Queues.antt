@@ -9,7 +9,7 @@ use Rattle.std.proofs.lemmas.List.Sums.{count_by-le-length, sum_by_push, sum_by-
 use Rattle.ivl_network.specs.declared.network.queue.Queue.{Queue}
 use Rattle.ivl_network.specs.Queue.{IsLastNamingRule, IsListed, IsRuleQueue, Removes, times_in, unsettled_count, waits}
 use Rattle.ivl_network.specs.Families.{IsFixedBy}
-use Rattle.ivl_network.specs.Settled.{AreClearedListed, AreClearedRules, HasTwo}
+use Rattle.ivl_network.specs.Settled.{AreClearedListed, AreClearedRules, StillDiffers}
 use Rattle.ivl_rules.specs.Rules.{NamesOf, needs_singles}
 use Rattle.ivl_rules.specs.declared.rules.Rule.{Rule}
 use Rattle.ivl_rules.specs.declared.rules.Rule.TheVariants.{Sum}
@@ -294,11 +294,11 @@ list_weaker s rules variable Stays Stays' before after weaker cleared = record {
 }
 
 -- both lists
-pub lists_woken : (rules : List Rule) (variable : ℕ) (changed only_lost : Bool) (sets : ℕ → ℤ → Type 0) (before mid after : List Bool) → changed ≡ true
+pub lists_woken : (rules : List Rule) (variable : ℕ) (changed only_lost alone : Bool) (sets : ℕ → ℤ → Type 0) (before mid after : List Bool) → changed ≡ true
     → AreClearedListed false rules variable (IsFixedBy sets) before mid
-    → AreClearedListed true rules variable (λ rule. IsFixedBy sets rule ⊎ ((only_lost ≡ true) × HasTwo (sets variable))) mid after
-    → AreClearedRules changed only_lost rules variable sets before after
-lists_woken rules variable changed only_lost sets before mid after t others singles = record {
+    → AreClearedListed true rules variable (λ rule. IsFixedBy sets rule ⊎ ((only_lost ≡ true) × StillDiffers alone variable sets rule)) mid after
+    → AreClearedRules changed only_lost alone rules variable sets before after
+lists_woken rules variable changed only_lost alone sets before mid after t others singles = record {
   same_count = singles.same_count ∙ others.same_count;
   kept = (λ f. absurd (false≢true (sym f ∙ t)));
   only_cleared = (λ k m. others.only_cleared k (singles.only_cleared k m));
@@ -306,6 +306,6 @@ lists_woken rules variable changed only_lost sets before mid after t others sing
 }
   where
     of_kind : (k : ℕ) (d : Rule) → k < length rules → get_or after k false ≡ true → NamesOf (get_or rules k d) variable → (s : Bool) → needs_singles (get_or rules k d) ≡ s
-        → IsFixedBy sets (get_or rules k d) ⊎ ((only_lost ≡ true) × HasTwo (sets variable) × (needs_singles (get_or rules k d) ≡ true))
+        → IsFixedBy sets (get_or rules k d) ⊎ ((only_lost ≡ true) × (needs_singles (get_or rules k d) ≡ true) × StillDiffers alone variable sets (get_or rules k d))
     of_kind k d lt m named false is = inl (others.left k d lt (singles.only_cleared k m) (named, is))
-    of_kind k d lt m named true is = elim (singles.left k d lt m (named, is)) [ inl f ↦ inl f | inr two ↦ inr (two.0, two.1, is) ]
+    of_kind k d lt m named true is = elim (singles.left k d lt m (named, is)) [ inl f ↦ inl f | inr still ↦ inr (still.0, is, still.1) ]

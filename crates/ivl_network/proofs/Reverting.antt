@@ -79,7 +79,7 @@ fixed_where_same rule before after same f i v h = record {
 
 -- a set takes the place of a domain, and a rule that names the variable is settled only where narrowing changes nothing
 pub sound_replaced : (sets : List (List (ℤ × ℤ))) (rules : List Rule) (flags flags' : List Bool) (i : ℕ) (s : List (ℤ × ℤ))
-    → IsSoundRules sets rules flags → AreClearedRules true false rules i (set_at (set sets i s)) flags flags' → IsSoundRules (set sets i s) rules flags'
+    → IsSoundRules sets rules flags → AreClearedRules true false false rules i (set_at (set sets i s)) flags flags' → IsSoundRules (set sets i s) rules flags'
 sound_replaced sets rules flags flags' i s n cleared = record {
   different = n.different;
   present = subst (λ count. All (ArePresent count) rules) (sym (length-set sets i s)) n.present;

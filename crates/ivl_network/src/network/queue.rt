@@ -2,14 +2,16 @@
 ghost use Rattle.std.specs.Prelude.{◌≡◌, ◌+◌, ◌-◌, ◌<◌, ◌∷◌, ◌++◌, [], ℕ, ℤ, All, HoldsAt, IsNone, IsTrue, ◌↔◌, List, MatchOption, OnErr, OnOk, false, true, length, slice_index_or, slice_set, take};
 ghost use Rattle.std.specs.Vec.{vec_capacity};
 ghost use Rattle.ivl_laws.specs.Families.{set_at};
+ghost use Rattle.ivl_laws.specs.Sets.{HasSome};
 ghost use Rattle.ivl_network.specs.Queue.{IsRuleIndex, IsRuleQueue, Removes, unsettled_count};
 ghost use Rattle.ivl_store.specs.Settled.{AreLost, any_lost};
-ghost use Rattle.ivl_rules.specs.Rules.{AreDifferent, NarrowedBy, places as places_of};
-ghost use Rattle.ivl_network.specs.Families.{ArePresent, IsFixedBy};
-ghost use Rattle.ivl_network.specs.Settled.{AreClearedListed, AreClearedRules, AreSettledRules};
+ghost use Rattle.ivl_rules.specs.Rules.{AreDifferent, NamesOf, NarrowedBy, needs_singles, places as places_of};
+ghost use Rattle.ivl_network.specs.Families.{ArePresent};
+ghost use Rattle.ivl_network.specs.Settled.{AreClearedListed, AreClearedRules, AreSettledRules, AreSingleBeside, IsOneAtMost, StaysBeside};
 
 use super::index::Index;
 use super::narrowing::has_two;
+use intervallum::ops::{IsEmpty, IsSingleton};
 use intervallum::width::Width;
 use ivl_rules::rules::Rule;
 use ivl_rules::rules::narrowing::takes_nothing;
@@ -132,9 +134,10 @@ impl Queue {
             → AreSettledRules rules.now self.old.settled.items (set_at old) → AreSettledRules rules.now self.new.settled.items (set_at store.now) }
     {
         let c = rules[i].places();
-        self.wake(lost.x, true, c.x, store, rules, index);
-        self.wake(lost.y, true, c.y, store, rules, index);
-        self.wake(lost.z, true, c.z, store, rules, index);
+        let alone = is_one_at_most(lost);
+        self.wake(lost.x, true, alone, c.x, store, rules, index);
+        self.wake(lost.y, true, alone, c.y, store, rules, index);
+        self.wake(lost.z, true, alone, c.z, store, rules, index);
         self.settle_first(i);
     }
 
@@ -167,26 +170,27 @@ impl Queue {
         self.settled[k] = true;
     }
 
-    /// Clears the flag of a rule, which then waits for the next round.
+    /// Clears the flag of a rule that is settled, which then waits for the next round.
     fn clear(&mut self, k: usize)
         requires queue { IsRuleQueue self.old }
         requires in_list { k < length self.old.settled.items }
+        requires settled { slice_index_or self.old.settled.items k false ≡ true }
         ensures queue { IsRuleQueue self.new }
         ensures settled { self.new.settled.items ≡ slice_set self.old.settled.items k false }
         ensures round { self.new.round.items ≡ self.old.round.items }
     {
-        if self.settled[k] {
-            self.settled[k] = false;
-            self.later.push_reserved(k);
-        }
+        self.settled[k] = false;
+        self.later.push_reserved(k);
     }
 
     /// Clears the flags of the rules that name the variable, if it has changed, but for those that take
-    /// nothing from the domains of the store: `only_lost` says that the change took members and added none.
+    /// nothing from the domains of the store: `only_lost` says that the change took members and added none,
+    /// and `alone` that no other domain has changed with it.
     pub(super) fn wake<B: Width>(
         &mut self,
         changed: bool,
         only_lost: bool,
+        alone: bool,
         variable: usize,
         store: &Store<B>,
         rules: &[Rule],
@@ -199,24 +203,27 @@ impl Queue {
         requires index { (count : ℕ) × IsRuleIndex count rules.now index.now }
         requires one_each { length self.old.settled.items ≡ length rules.now }
         ensures queue { IsRuleQueue self.new }
-        ensures cleared { AreClearedRules changed only_lost rules.now variable (set_at store.now) self.old.settled.items self.new.settled.items }
+        ensures cleared { AreClearedRules changed only_lost alone rules.now variable (set_at store.now) self.old.settled.items self.new.settled.items }
         ensures round { self.new.round.items ≡ self.old.round.items }
     {
         if !changed {
             return;
         }
-        self.wake_listed(false, variable, store, rules, index);
+        self.wake_listed(false, false, variable, store, rules, index);
         if only_lost && has_two(store, variable) {
             return;
         }
-        self.wake_listed(true, variable, store, rules, index);
+        let keeps_one = is_left_alone(only_lost, alone, variable, store);
+        self.wake_listed(true, keeps_one, variable, store, rules, index);
     }
 
     /// Clears the flags of the rules of one list that name the variable, but for those that take nothing
-    /// from the domains of the store.
+    /// from the domains of the store and, where the variable alone lost members and keeps one, those whose
+    /// other variable is a single number.
     fn wake_listed<B: Width>(
         &mut self,
         singles: bool,
+        keeps_one: bool,
         variable: usize,
         store: &Store<B>,
         rules: &[Rule],
@@ -227,18 +234,71 @@ impl Queue {
         requires present { All (ArePresent (length store.now)) rules.now }
         requires index { (count : ℕ) × IsRuleIndex count rules.now index.now }
         requires one_each { length self.old.settled.items ≡ length rules.now }
+        requires kind { keeps_one ≡ true → singles ≡ true }
         ensures queue { IsRuleQueue self.new }
-        ensures cleared { AreClearedListed singles rules.now variable (IsFixedBy (set_at store.now)) self.old.settled.items self.new.settled.items }
+        ensures cleared { AreClearedListed singles rules.now variable (StaysBeside keeps_one variable (set_at store.now)) self.old.settled.items self.new.settled.items }
         ensures round { self.new.round.items ≡ self.old.round.items }
     {
         let mut place = index.last(singles, variable);
         while place > 0 {
             let k = place - 1;
-            if self.settled[k] && !takes_nothing(store.domains(), &rules[k]) {
+            if self.settled[k] && !stays_settled(&rules[k], keeps_one, variable, store) {
                 self.clear(k);
             }
             place = index.last_before(rules, k, variable);
         }
+    }
+}
+
+/// Whether no two of three variables have lost a member.
+fn is_one_at_most(lost: Lost) -> bool
+    ensures { result ≡ true → IsOneAtMost lost }
+{
+    if lost.x {
+        return !lost.y && !lost.z;
+    }
+    !lost.y || !lost.z
+}
+
+/// Whether a variable alone has changed, only lost members, and keeps one.
+fn is_left_alone<B: Width>(only_lost: bool, alone: bool, variable: usize, store: &Store<B>) -> bool
+    requires { only_lost ≡ true → variable < length store.now }
+    ensures { result ≡ true → (only_lost ≡ true) × (alone ≡ true) × HasSome (set_at store.now variable) }
+{
+    if !only_lost || !alone {
+        return false;
+    }
+    !store.domains()[variable].is_empty()
+}
+
+/// Whether a rule that is settled stays so where a variable that it names has changed: it takes nothing,
+/// or the variable alone lost members and keeps one, and the other variable is a single number, so that
+/// what this forbids was taken before.
+fn stays_settled<B: Width>(rule: &Rule, keeps_one: bool, variable: usize, store: &Store<B>) -> bool
+    requires different { AreDifferent rule.now }
+    requires present { ArePresent (length store.now) rule.now }
+    requires names { NamesOf rule.now variable }
+    requires kind { keeps_one ≡ true → needs_singles rule.now ≡ true }
+    ensures { result ≡ true → StaysBeside keeps_one variable (set_at store.now) rule.now }
+{
+    if keeps_one && is_single_beside(rule, variable, store) {
+        return true;
+    }
+    takes_nothing(store.domains(), rule)
+}
+
+/// Whether the other variable of a rule that needs single numbers is a single number.
+fn is_single_beside<B: Width>(rule: &Rule, variable: usize, store: &Store<B>) -> bool
+    requires present { ArePresent (length store.now) rule.now }
+    requires names { NamesOf rule.now variable }
+    requires kind { needs_singles rule.now ≡ true }
+    ensures { result ≡ true → AreSingleBeside rule.now variable (set_at store.now) }
+{
+    let c = rule.places();
+    if c.x == variable {
+        store.domains()[c.y].is_singleton()
+    } else {
+        store.domains()[c.x].is_singleton()
     }
 }
 

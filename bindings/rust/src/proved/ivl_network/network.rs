@@ -312,7 +312,15 @@ impl<B: Width> Network<B> {
             variable,
             allowed,
         )?;
-        self.queue.wake(lost, true, variable, &self.store, &self.rules, &self.index);
+        self.queue.wake(
+            lost,
+            true,
+            true,
+            variable,
+            &self.store,
+            &self.rules,
+            &self.index,
+        );
         Ok(())
     }
 

@@ -5,6 +5,7 @@
 use crate::rattle::prelude::*;
 use super::index::Index;
 use super::narrowing::has_two;
+use crate::proved::intervallum::ops::{IsEmpty, IsSingleton};
 use crate::proved::intervallum::width::Width;
 use crate::proved::ivl_rules::rules::Rule;
 use crate::proved::ivl_rules::rules::narrowing::takes_nothing;
@@ -83,9 +84,10 @@ impl Queue {
         index: &Index,
     ) {
         let c = rules[i].places();
-        self.wake(lost.x, true, c.x, store, rules, index);
-        self.wake(lost.y, true, c.y, store, rules, index);
-        self.wake(lost.z, true, c.z, store, rules, index);
+        let alone = is_one_at_most(lost);
+        self.wake(lost.x, true, alone, c.x, store, rules, index);
+        self.wake(lost.y, true, alone, c.y, store, rules, index);
+        self.wake(lost.z, true, alone, c.z, store, rules, index);
         self.settle_first(i);
     }
 
@@ -105,20 +107,20 @@ impl Queue {
         self.settled[k] = true;
     }
 
-    /// Clears the flag of a rule, which then waits for the next round.
+    /// Clears the flag of a rule that is settled, which then waits for the next round.
     fn clear(&mut self, k: usize) {
-        if self.settled[k] {
-            self.settled[k] = false;
-            self.later.push_reserved(k);
-        }
+        self.settled[k] = false;
+        self.later.push_reserved(k);
     }
 
     /// Clears the flags of the rules that name the variable, if it has changed, but for those that take
-    /// nothing from the domains of the store: `only_lost` says that the change took members and added none.
+    /// nothing from the domains of the store: `only_lost` says that the change took members and added none,
+    /// and `alone` that no other domain has changed with it.
     pub(super) fn wake<B: Width>(
         &mut self,
         changed: bool,
         only_lost: bool,
+        alone: bool,
         variable: usize,
         store: &Store<B>,
         rules: &[Rule],
@@ -127,18 +129,21 @@ impl Queue {
         if !changed {
             return;
         }
-        self.wake_listed(false, variable, store, rules, index);
+        self.wake_listed(false, false, variable, store, rules, index);
         if only_lost && has_two(store, variable) {
             return;
         }
-        self.wake_listed(true, variable, store, rules, index);
+        let keeps_one = is_left_alone(only_lost, alone, variable, store);
+        self.wake_listed(true, keeps_one, variable, store, rules, index);
     }
 
     /// Clears the flags of the rules of one list that name the variable, but for those that take nothing
-    /// from the domains of the store.
+    /// from the domains of the store and, where the variable alone lost members and keeps one, those whose
+    /// other variable is a single number.
     fn wake_listed<B: Width>(
         &mut self,
         singles: bool,
+        keeps_one: bool,
         variable: usize,
         store: &Store<B>,
         rules: &[Rule],
@@ -147,11 +152,47 @@ impl Queue {
         let mut place = index.last(singles, variable);
         while place > 0 {
             let k = place - 1;
-            if self.settled[k] && !takes_nothing(store.domains(), &rules[k]) {
+            if self.settled[k] && !stays_settled(&rules[k], keeps_one, variable, store) {
                 self.clear(k);
             }
             place = index.last_before(rules, k, variable);
         }
+    }
+}
+
+/// Whether no two of three variables have lost a member.
+fn is_one_at_most(lost: Lost) -> bool {
+    if lost.x {
+        return !lost.y && !lost.z;
+    }
+    !lost.y || !lost.z
+}
+
+/// Whether a variable alone has changed, only lost members, and keeps one.
+fn is_left_alone<B: Width>(only_lost: bool, alone: bool, variable: usize, store: &Store<B>) -> bool {
+    if !only_lost || !alone {
+        return false;
+    }
+    !store.domains()[variable].is_empty()
+}
+
+/// Whether a rule that is settled stays so where a variable that it names has changed: it takes nothing,
+/// or the variable alone lost members and keeps one, and the other variable is a single number, so that
+/// what this forbids was taken before.
+fn stays_settled<B: Width>(rule: &Rule, keeps_one: bool, variable: usize, store: &Store<B>) -> bool {
+    if keeps_one && is_single_beside(rule, variable, store) {
+        return true;
+    }
+    takes_nothing(store.domains(), rule)
+}
+
+/// Whether the other variable of a rule that needs single numbers is a single number.
+fn is_single_beside<B: Width>(rule: &Rule, variable: usize, store: &Store<B>) -> bool {
+    let c = rule.places();
+    if c.x == variable {
+        store.domains()[c.y].is_singleton()
+    } else {
+        store.domains()[c.x].is_singleton()
     }
 }
 

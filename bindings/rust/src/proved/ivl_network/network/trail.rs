@@ -113,7 +113,7 @@ fn take_back<B: Width>(
     match change {
         Change::Domain(variable, set) => {
             store.replace(variable, set);
-            queue.wake(wakes, false, variable, store, rules, index);
+            queue.wake(wakes, false, false, variable, store, rules, index);
         }
         Change::Variable => {
             store.drop_variable();

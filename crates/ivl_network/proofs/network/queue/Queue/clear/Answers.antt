@@ -1,8 +1,8 @@
-use Rattle.std.proofs.Common.{arith, ◌∙◌, sym}
+use Rattle.std.proofs.Common.{arith}
 use Rattle.ivl_network.proofs.Queues.{room_to_wait}
 use Rattle.ivl_network.proofs.network.queue.Queue.clear.Goals as goal
 
 pub push_reserved-requires : goal.push_reserved-requires
 push_reserved-requires c =
-    let r = room_to_wait c.args.self.now c.args.k c.index.result.now c.requires.queue c.requires.in_list (sym c.index.ensures ∙ c.if-index.true) in
+    let r = room_to_wait c.args.self.now c.args.k _ c.requires.queue c.requires.in_list c.requires.settled in
     let n = c.args.self.now.later.ok.0 in omega (arith, r, n)

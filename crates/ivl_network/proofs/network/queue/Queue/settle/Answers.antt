@@ -9,8 +9,9 @@ pub returns-clause-settled : goal.returns-clause-settled
 returns-clause-settled g c = λ old n l s.
     let new = c.args.store.now in
     let rules = c.args.rules.now in
+    let alone = c.is_one_at_most-alone.result in
     subst (λ ms. AreSettledRules rules ms (set_at new)) (sym c.settle_first.ensures.settled)
-    (flags_moved rules c.args.i _ c.args.lost c.args.self.now.settled.items c.wake.new.self.settled.items c.wake-2.new.self.settled.items c.wake-3.new.self.settled.items old new c.requires.in_list
-    (subst (λ (p : Constraint). AreClearedRules c.args.lost.x true rules p.x (set_at new) c.args.self.now.settled.items c.wake.new.self.settled.items) c.places-c.ensures c.wake.ensures.cleared)
-    (subst (λ (p : Constraint). AreClearedRules c.args.lost.y true rules p.y (set_at new) c.wake.new.self.settled.items c.wake-2.new.self.settled.items) c.places-c.ensures c.wake-2.ensures.cleared)
-    (subst (λ (p : Constraint). AreClearedRules c.args.lost.z true rules p.z (set_at new) c.wake-2.new.self.settled.items c.wake-3.new.self.settled.items) c.places-c.ensures c.wake-3.ensures.cleared) n l s)
+    (flags_moved rules c.args.i _ c.args.lost alone c.args.self.now.settled.items c.wake.new.self.settled.items c.wake-2.new.self.settled.items c.wake-3.new.self.settled.items old new c.requires.in_list c.is_one_at_most-alone.ensures
+    (subst (λ (p : Constraint). AreClearedRules c.args.lost.x true alone rules p.x (set_at new) c.args.self.now.settled.items c.wake.new.self.settled.items) c.places-c.ensures c.wake.ensures.cleared)
+    (subst (λ (p : Constraint). AreClearedRules c.args.lost.y true alone rules p.y (set_at new) c.wake.new.self.settled.items c.wake-2.new.self.settled.items) c.places-c.ensures c.wake-2.ensures.cleared)
+    (subst (λ (p : Constraint). AreClearedRules c.args.lost.z true alone rules p.z (set_at new) c.wake-2.new.self.settled.items c.wake-3.new.self.settled.items) c.places-c.ensures c.wake-3.ensures.cleared) n l s)

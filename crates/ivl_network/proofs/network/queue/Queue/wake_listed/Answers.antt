@@ -1,13 +1,10 @@
-use Rattle.std.proofs.Common.{◌∙◌, ◌<◌, ◌-◌, arith, length, refl, subst, sym, false, List}
-use Rattle.std.specs.Prelude.{ℤ}
+use Rattle.std.proofs.Common.{◌∙◌, ◌<◌, ◌-◌, arith, length, refl, subst, sym, false}
 use Rattle.std.proofs.lemmas.Bool.{false≢true}
 use Rattle.std.proofs.lemmas.List.{get_or_default}
 use Rattle.ivl_laws.specs.Families.{set_at}
-use Rattle.ivl_rules.specs.Rules.{SupportsAll}
-use Rattle.ivl_rules.proofs.Narrowings.{narrowing_keeps}
-use Rattle.ivl_network.specs.Families.{IsFixedBy}
+use Rattle.ivl_network.specs.Settled.{StaysBeside}
 use Rattle.ivl_network.proofs.Queues.{all_woken, next_is_lower, none_woken, one_left, one_woken}
-use Rattle.ivl_network.proofs.network.queue.Queue.wake_listed.Goals.{then-index+then-not-takes_nothing, else-index, else-index-via-then-index+else-not-takes_nothing, else-index-via-else-index}
+use Rattle.ivl_network.proofs.network.queue.Queue.wake_listed.Goals.{then-index+then-not-stays_settled, else-index, else-index-via-then-index+else-not-stays_settled, else-index-via-else-index}
 use Rattle.ivl_network.proofs.network.queue.Queue.wake_listed.Goals as goal
 
 pub loop-place-init : goal.loop-place-init
@@ -35,17 +32,17 @@ loop-place-preserved g c =
     let some : 0 < place = omega (arith, t) in
     let within : place - 1 < length after = omega (arith, some, low, same, each) in
     elim c.if-index.branch [
-      | then-index+then-not-takes_nothing w ↦ rw w.self-is (
+      | then-index+then-not-stays_settled w ↦ rw w.self-is (
         w.clear.ensures.queue,
-        rw w.clear.ensures.settled (one_woken c.args.singles rules c.args.variable (IsFixedBy sets) flags after place c.last_before-place.result inv.1 some within c.last_before-place.ensures),
+        rw w.clear.ensures.settled (one_woken c.args.singles rules c.args.variable (StaysBeside c.args.keeps_one c.args.variable sets) flags after place c.last_before-place.result inv.1 some within c.last_before-place.ensures),
         w.clear.ensures.round ∙ inv.2,
       )
       | else-index w ↦ rw w.self-is (
         inv.0,
-        one_left c.args.singles rules c.args.variable (IsFixedBy sets) flags after place c.last_before-place.result inv.1 some
+        one_left c.args.singles rules c.args.variable (StaysBeside c.args.keeps_one c.args.variable sets) flags after place c.last_before-place.result inv.1 some
             (λ d m. elim w.else-index.branch [
-              | else-index-via-then-index+else-not-takes_nothing v ↦ subst (IsFixedBy sets) (get_or_default rules (place - 1) _ d (omega (arith, some, low)))
-                  (narrowing_keeps _ sets sets (subst (λ (ss : List (List (ℤ × ℤ))). SupportsAll _ (set_at ss)) v.domains.ensures.same (v.takes_nothing.ensures v.if-not-takes_nothing.false)) (λ i u h. h))
+              | else-index-via-then-index+else-not-stays_settled v ↦ subst (StaysBeside c.args.keeps_one c.args.variable sets) (get_or_default rules (place - 1) _ d (omega (arith, some, low)))
+                  (v.stays_settled.ensures v.if-not-stays_settled.false)
               | else-index-via-else-index v ↦ absurd (false≢true (sym v.if-index.false ∙ c.index.ensures ∙ get_or_default after (place - 1) _ false within ∙ m))
             ]) c.last_before-place.ensures,
         inv.2,
@@ -56,3 +53,16 @@ pub returns-clause-cleared : goal.returns-clause-cleared
 returns-clause-cleared g c =
     all_woken c.args.singles c.args.rules.now c.args.variable _ c.args.self.now.settled.items c.loop-place.self.settled.items c.loop-place.place
     c.loop-place.invariant.1 (let t = c.loop-place-test.false in omega (arith, t))
+
+pub stays_settled-requires-clause-names : goal.stays_settled-requires-clause-names
+stays_settled-requires-clause-names g c = (c.loop-place.invariant.1.names (c.loop-place.place - 1) _ (let t = c.loop-place-test.true in omega (arith, t))).0
+
+pub stays_settled-requires-clause-kind : goal.stays_settled-requires-clause-kind
+stays_settled-requires-clause-kind g c = λ e.
+    (c.loop-place.invariant.1.names (c.loop-place.place - 1) _ (let t = c.loop-place-test.true in omega (arith, t))).1 ∙ c.requires.kind e
+
+pub clear-requires-clause-settled : goal.clear-requires-clause-settled
+clear-requires-clause-settled g c =
+    let flags = c.loop-place.self.settled.items in let place = c.loop-place.place in
+    let low = c.loop-place.invariant.1.low in let same = c.loop-place.invariant.1.same_count in let each = c.requires.one_each in let t = c.loop-place-test.true in
+    get_or_default flags (place - 1) false _ (omega (arith, t, low, same, each)) ∙ sym c.index.ensures ∙ c.if-index.true
