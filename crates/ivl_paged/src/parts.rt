@@ -5,14 +5,19 @@ ghost use Rattle.ivl_laws.specs.Runs.{Covers, IsRunListIn};
 ghost use Rattle.ivl_paged.specs.Pages.{StartsUpTo, flattened};
 
 use crate::page_list::PageList;
+use crate::pages::FIRST_RUNS;
 use intervallum::interval::Interval;
 use intervallum::interval_set::IntervalSet;
+use intervallum::ops::Range;
 use intervallum::width::Width;
 use std::alloc::AllocError;
 
 /// How many pages a window has about: so many that the search for them costs little, and so few that
 /// their runs stay in the cache.
 const WINDOW_PAGES: usize = 16;
+
+/// How many runs a window has about where they stand in one list.
+const WINDOW_RUNS: usize = WINDOW_PAGES * FIRST_RUNS;
 
 /// A set whose runs can be read window by window.
 pub(crate) trait Parts<B: Width> {
@@ -40,8 +45,12 @@ pub(crate) trait Parts<B: Width> {
 impl<B: Width> Parts<B> for IntervalSet<B> {
     ghost runs = { λ L. L };
 
-    fn end_from(&self, _lower: B) -> B {
-        B::max_value()
+    fn end_from(&self, lower: B) -> B {
+        let rest = self.runs_within(&Interval::new(lower, B::max_value()));
+        if rest.len() <= WINDOW_RUNS {
+            return B::max_value();
+        }
+        rest[WINDOW_RUNS].upper_bound().max(lower)
     }
 
     fn gather(&self, window: &Interval<B>, list: &mut Vec<Interval<B>>) -> Result<(), AllocError> {

@@ -74,7 +74,6 @@ fn piece_of<B: Width>(
 
 /// Whether each member of a set lies in a window.
 fn lies_within<B: Width>(set: &IntervalSet<B>, window: &Interval<B>) -> bool {
-    set.in_whole();
     if set.is_empty() {
         return true;
     }

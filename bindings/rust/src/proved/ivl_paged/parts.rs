@@ -4,14 +4,19 @@
 #[allow(unused_imports)]
 use crate::rattle::prelude::*;
 use crate::proved::ivl_paged::page_list::PageList;
+use crate::proved::ivl_paged::pages::FIRST_RUNS;
 use crate::proved::intervallum::interval::Interval;
 use crate::proved::intervallum::interval_set::IntervalSet;
+use crate::proved::intervallum::ops::Range;
 use crate::proved::intervallum::width::Width;
 use crate::rattle::std::alloc::AllocError;
 
 /// How many pages a window has about: so many that the search for them costs little, and so few that
 /// their runs stay in the cache.
 const WINDOW_PAGES: usize = 16;
+
+/// How many runs a window has about where they stand in one list.
+const WINDOW_RUNS: usize = WINDOW_PAGES * FIRST_RUNS;
 
 /// A set whose runs can be read window by window.
 ///
@@ -59,13 +64,18 @@ pub(crate) trait Parts<B: Width> {
 /// runs = { λ L. L }
 /// ```
 impl<B: Width> Parts<B> for IntervalSet<B> {
-    fn end_from(&self, _lower: B) -> B {
-        B::max_value()
+    fn end_from(&self, lower: B) -> B {
+        let rest = self.runs_within(&Interval::new(lower, B::max_value()));
+        if rest.len() <= WINDOW_RUNS {
+            return B::max_value();
+        }
+        rest[WINDOW_RUNS].upper_bound().max(lower)
     }
 
     fn gather(&self, window: &Interval<B>, list: &mut Vec<Interval<B>>) -> Result<(), AllocError> {
         list.clear();
-        list.extend_from_slice(self.runs_within(window))
+        list.extend_from_slice(self.runs_within(window))?;
+        Ok(())
     }
 }
 
