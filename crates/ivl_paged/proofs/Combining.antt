@@ -1,39 +1,74 @@
 -- Operations by windows: the parts of two sets in a window, and what is put behind the pages so far.
-use Rattle.std.proofs.Common.{◌≡◌, ⊎_elim, inl, inr, ℕ, ◌+◌, ◌-◌, ◌<◌, ℤ, pos, ◌+ℤ◌, ◌-ℤ◌, ◌≤ℤ◌, ◌<ℤ◌, List, [], ◌∷◌, ◌++◌, length, get_or, take, drop, sym, ap, ap₂, subst, ◌∙◌, arith, append_assoc, append-nil, take_all}
-use Rattle.std.proofs.lemmas.List.{drop_all}
+use Rattle.std.proofs.Common.{◌≡◌, ⊎_elim, inl, inr, ℕ, ◌+◌, ◌-◌, ◌<◌, ◌≤◌, ℤ, pos, ◌+ℤ◌, ◌≤ℤ◌, ◌<ℤ◌, List, [], ◌∷◌, ◌++◌, length, get_or, take, drop, sym, ap, ap₂, subst, ◌∙◌, arith, append_assoc, append-nil, take_all}
+use Rattle.std.proofs.lemmas.List.{drop-drop, drop_all}
 use Rattle.std.proofs.lemmas.Int.{ints, by_lt_z}
 use Rattle.ivl_laws.specs.Bounds.{width_of}
 use Rattle.ivl_laws.specs.Families.{set_at}
 use Rattle.ivl_laws.specs.Sets.{Below, Intersection, IsBetween, IsSubset, SameMembers, Union, Without}
-use Rattle.ivl_laws.specs.Runs.{Covers, IsMaximal, IsRunsOf}
+use Rattle.ivl_laws.specs.Runs.{Covers, IsMaximal, IsRunListIn, IsRunsOf}
 use Rattle.ivl_laws.proofs.Intervals.{width_of-filled}
 use Rattle.ivl_laws.proofs.Runs.{covered_after, covered_from, lower_end, runs_are_unique}
 use Rattle.ivl_laws.proofs.Merging.{covers-append, covers-append_left, covers-append_right}
-use Rattle.intervallum.specs.Neighbours.{IsGreatest, IsLeast}
+use Rattle.intervallum.specs.Neighbours.{IsGreatest}
 use Rattle.ivl_merges.specs.Order.{IsBelow}
 use Rattle.ivl_merges.proofs.MergeState.{IsMaximal-append}
 use Rattle.ivl_paged.specs.Operations.{KeptBy}
 use Rattle.ivl_paged.specs.declared.combine.Operation.{Operation}
 use Rattle.ivl_paged.specs.declared.combine.Operation.TheVariants.{Either, Both, FirstAlone, OneAlone}
 use Rattle.ivl_paged.specs.Pages.{StartsUpTo, flattened}
-use Rattle.ivl_paged.proofs.Heads.{starts_up_to_next}
-use Rattle.ivl_paged.proofs.Paging.{IsMaximal-second, covers_page, flattened-append, flattened_more, in_page, order_of, page_of, pages_ascend}
+use Rattle.ivl_paged.proofs.Paging.{IsMaximal-dropped, IsMaximal-second, IsMaximal-taken, covers_dropped, covers_taken, cut_at, ends_below, flattened-append, flattened_more, order_of, page_of, pages_ascend}
 
--- ---- the part that a window lies in
+-- ---- the pages that meet a window
 
-pub no_part : (P : List (List (ℤ × ℤ))) (L : List (ℤ × ℤ)) (p : ℤ × ℤ) (n : ℕ) → IsMaximal (flattened P) → ((v : ℤ) → IsBetween p v → StartsUpTo P v n) → n ≡ 0 → L ≡ [] →
-    SameMembers (Intersection (Covers L) (IsBetween p)) (Intersection (Covers (flattened P)) (IsBetween p))
-no_part P L p n m s none e z = (
-  (λ c. absurd (subst (λ (M : List (ℤ × ℤ)). Covers M z) e c.0)),
-  (λ c. absurd (let some = (in_page P z n m (s z c.1) c.0).0 in omega (arith, some, none))),
-)
+starts_in_order : (P : List (List (ℤ × ℤ))) (u v : ℤ) (a b : ℕ) → StartsUpTo P u a → StartsUpTo P v b → u ≤ℤ v → a ≤ b
+starts_in_order P u v a b s t o = ⊎_elim
+    (λ lt. let (z, c, up) = s.starts (omega (arith, lt)) in let far = t.above (a - 1) z (omega (arith, lt)) c in absurd (omega (arith, ints, up, far, o)))
+    (λ le. le)
+    (order_of b a)
 
-pub one_part : (P : List (List (ℤ × ℤ))) (L : List (ℤ × ℤ)) (p : ℤ × ℤ) (n : ℕ) → IsMaximal (flattened P) → ((v : ℤ) → IsBetween p v → StartsUpTo P v n) → L ≡ get_or P (n - 1) [] →
-    SameMembers (Intersection (Covers L) (IsBetween p)) (Intersection (Covers (flattened P)) (IsBetween p))
-one_part P L p n m s e z = (
-  (λ c. (covers_page P (n - 1) z (subst (λ (M : List (ℤ × ℤ)). Covers M z) e c.0), c.1)),
-  (λ c. (subst (λ (M : List (ℤ × ℤ)). Covers M z) (sym e) (in_page P z n m (s z c.1) c.0).1, c.1)),
-)
+-- a pages start up to the lower end of the window, and b up to the upper one
+module _ (whole : ℤ × ℤ) (P : List (List (ℤ × ℤ))) (p : ℤ × ℤ) (a b i : ℕ) (r : IsRunListIn whole (flattened P)) (o : p.0 ≤ℤ p.1) (s : StartsUpTo P p.0 a) (t : StartsUpTo P p.1 b) (e : i ≡ a - 1) where
+  pub window_in_order : i ≤ b
+  window_in_order = let le = starts_in_order P p.0 p.1 a b s t o in omega (arith, e, le)
+
+  gathered_before : flattened P ≡ flattened (take i P) ++ flattened (drop i P)
+  gathered_before = cut_at P i
+
+  gathered_after : flattened (drop i P) ≡ flattened (take (b - i) (drop i P)) ++ flattened (drop (b - i) (drop i P))
+  gathered_after = cut_at (drop i P) (b - i)
+
+  gathered_is_in : (z : ℤ) → Covers (flattened (take (b - i) (drop i P))) z → Covers (flattened P) z
+  gathered_is_in z c =
+      let F : List (ℤ × ℤ) → Type 0 = λ L. Covers L z in
+      subst F (sym gathered_before) (covers-append_right (flattened (take i P)) (flattened (drop i P)) z
+      (subst F (sym gathered_after) (covers-append_left (flattened (take (b - i) (drop i P))) (flattened (drop (b - i) (drop i P))) z c)))
+
+  pub gathered_runs : IsRunListIn whole (flattened (take (b - i) (drop i P)))
+  gathered_runs = record {
+    maximal = IsMaximal-taken (drop i P) (b - i) (IsMaximal-dropped P i r.maximal);
+    within = λ z c. r.within z (gathered_is_in z c);
+  }
+
+  gathered_all : (z : ℤ) → IsBetween p z → Covers (flattened P) z → Covers (flattened (take (b - i) (drop i P))) z
+  gathered_all z (low, high) c =
+      let F : List (ℤ × ℤ) → Type 0 = λ L. Covers L z in
+      let more : i + (b - i) ≡ b = let le = window_in_order in omega (arith, le) in
+      ⊎_elim
+      (λ d. absurd (
+      let (k, h, q) = covers_taken P i z d in
+      let far = ends_below P p.0 a k z r.maximal s (omega (arith, h, e)) q in omega (arith, ints, far, low)
+      ))
+      (λ d. ⊎_elim
+      (λ g. g)
+      (λ f. absurd (
+      let (k, h, q) = covers_dropped P b z (subst (λ (D : List (List (ℤ × ℤ))). Covers (flattened D) z) (drop-drop (b - i) i P ∙ ap (λ (n : ℕ). drop n P) more) f) in
+      let far = t.above k z h q in omega (arith, ints, far, high)
+      ))
+      (covers-append (flattened (take (b - i) (drop i P))) (flattened (drop (b - i) (drop i P))) z (subst F gathered_after d)))
+      (covers-append (flattened (take i P)) (flattened (drop i P)) z (subst F gathered_before c))
+
+  pub gathered_members : SameMembers (Intersection (Covers (flattened (take (b - i) (drop i P)))) (IsBetween p)) (Intersection (Covers (flattened P)) (IsBetween p))
+  gathered_members z = ((λ (c, w). (gathered_is_in z c, w)), (λ (c, w). (gathered_all z w c, w)))
 
 -- ---- an operation in a window
 
@@ -69,21 +104,33 @@ kept_alike op S T A B W a b z =
     let g = kept_in_window op A B (Intersection A W) (Intersection B W) W (λ x. ((λ c. c), (λ c. c))) (λ x. ((λ c. c), (λ c. c))) z in
     ((λ c. f.0 (g.1 c)), (λ c. g.0 (f.1 c)))
 
-narrower : (A S : ℤ → Type 0) (l e u : ℤ) → SameMembers (Intersection A (IsBetween (l, e))) (Intersection S (IsBetween (l, e))) → u ≤ℤ e → SameMembers (Intersection A (IsBetween (l, u))) (Intersection S (IsBetween (l, u)))
-narrower A S l e u same le z =
-    let wide : z ≤ℤ u → z ≤ℤ e = λ h. omega (arith, ints, h, le) in
-    ((λ (c, w). (((same z).0 (c, (w.0, wide w.1))).0, w)), (λ (c, w). (((same z).1 (c, (w.0, wide w.1))).0, w)))
+-- A has in the window p what S has there, and B what T has
+pub piece_there : (op : Operation) (S T : ℤ → Type 0) (A B A' B' K : List (ℤ × ℤ)) (p : ℤ × ℤ) (l u : ℤ) → p ≡ (l, u) → A' ≡ A → B' ≡ B → SameMembers (Intersection (Covers A) (IsBetween p)) (Intersection S (IsBetween p)) →
+    SameMembers (Intersection (Covers B) (IsBetween p)) (Intersection T (IsBetween p)) → IsRunsOf K (Intersection (KeptBy op (Covers A') (Covers B')) (IsBetween p)) → IsRunsOf K (Intersection (KeptBy op S T) (IsBetween (l, u)))
+piece_there op S T A B A' B' K p l u same e f a b made =
+    let there = kept_alike op S T (Covers A) (Covers B) (IsBetween p) a b in
+    let k : IsRunsOf K (Intersection (KeptBy op (Covers A) (Covers B)) (IsBetween p)) =
+    subst (λ (L : List (ℤ × ℤ)). IsRunsOf K (Intersection (KeptBy op (Covers L) (Covers B)) (IsBetween p))) e (subst (λ (L : List (ℤ × ℤ)). IsRunsOf K (Intersection (KeptBy op (Covers A') (Covers L)) (IsBetween p))) f made) in
+    subst (λ (q : ℤ × ℤ). IsRunsOf K (Intersection (KeptBy op S T) (IsBetween q))) same (record {
+      maximal = k.maximal;
+      members = λ z. ((λ c. (there z).0 ((k.members z).0 c)), (λ c. (k.members z).1 ((there z).1 c)));
+    })
 
--- A is a part of S that has its members from l to e, and B of T from l to f
-pub piece_there : (op : Operation) (S T A B : ℤ → Type 0) (K : List (ℤ × ℤ)) (p : ℤ × ℤ) (l e f u : ℤ) → SameMembers (Intersection A (IsBetween (l, e))) (Intersection S (IsBetween (l, e))) →
-    SameMembers (Intersection B (IsBetween (l, f))) (Intersection T (IsBetween (l, f))) → u ≤ℤ e → u ≤ℤ f → p ≡ (l, u) → IsRunsOf K (Intersection (KeptBy op A B) (IsBetween p)) →
-    IsRunsOf K (Intersection (KeptBy op S T) (IsBetween (l, u)))
-piece_there op S T A B K p l e f u a b le lf same k =
-    let made : IsRunsOf K (Intersection (KeptBy op A B) (IsBetween (l, u))) = subst (λ (q : ℤ × ℤ). IsRunsOf K (Intersection (KeptBy op A B) (IsBetween q))) same k in
-    let there = kept_alike op S T A B (IsBetween (l, u)) (narrower A S l e u a le) (narrower B T l f u b lf) in record {
-      maximal = made.maximal;
-      members = λ z. ((λ c. (there z).0 ((made.members z).0 c)), (λ c. (made.members z).1 ((there z).1 c)));
-    }
+-- L has the runs of M, which has the members of S
+pub kept_inside : (L M : List (ℤ × ℤ)) (S W : ℤ → Type 0) → IsRunsOf M S → IsRunsOf L (Covers M) → IsSubset (Covers L) W → IsRunsOf L (Intersection S W)
+kept_inside L M S W m l within = record {
+  maximal = l.maximal;
+  members = λ z. ((λ c. ((m.members z).0 ((l.members z).0 c), within z c)), (λ (s, w). (l.members z).1 ((m.members z).1 s)));
+}
+
+pub kept_cut : (K L M : List (ℤ × ℤ)) (S W : ℤ → Type 0) → IsRunsOf M S → IsRunsOf L (Covers M) → IsRunsOf K (Intersection (Covers L) W) → IsRunsOf K (Intersection S W)
+kept_cut K L M S W m l k = record {
+  maximal = k.maximal;
+  members = λ z. (
+    (λ c. let (d, w) = (k.members z).0 c in ((m.members z).0 ((l.members z).0 d), w)),
+    (λ (s, w). (k.members z).1 ((l.members z).1 ((m.members z).1 s), w)),
+  );
+}
 
 pub kept_within : (op : Operation) (S T W : ℤ → Type 0) → IsSubset S W → IsSubset T W → IsSubset (KeptBy op S T) W
 kept_within Either S T W s t z c = ⊎_elim (s z) (t z) c
@@ -215,16 +262,6 @@ joined_last P A K J L n last e m r f =
     flattened-append (take n P ++ drop (n + 1) P) (L ∷ [])
     ∙ ap₂ (λ (M N : List (ℤ × ℤ)). M ++ N) (ap (λ (D : List (List (ℤ × ℤ))). flattened (take n P ++ D)) none ∙ ap flattened (append-nil (take n P))) (append-nil L ∙ f ∙ same)
     ∙ sym all
-
--- ---- the last value before a page
-
--- h is the least number of page n, and e the one before it
-module _ (whole : ℤ × ℤ) (P : List (List (ℤ × ℤ))) (v h e : ℤ) (n : ℕ) (m : IsMaximal (flattened P)) (s : StartsUpTo P v n) (here : IsLeast h (set_at P n)) (before : e ≡ h -ℤ pos 1) where
-  pub before_is_above : v ≤ℤ e
-  before_is_above = let lt = s.above n h (omega arith) here.0 in omega (arith, ints, lt, before)
-
-  pub starts_before : (z : ℤ) → IsBetween (v, e) z → StartsUpTo P z n
-  starts_before z (a, b) = starts_up_to_next P v z h n m a s here (omega (arith, ints, b, before))
 
 -- fewer numbers are left above the next window
 pub less_left : (l u n end : ℤ) → l ≤ℤ u → u <ℤ end → n ≡ u +ℤ pos 1 → width_of (n, end) < width_of (l, end)

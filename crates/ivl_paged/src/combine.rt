@@ -1,6 +1,6 @@
 //! Operations on two sets, window by window, whose answer stands in pages.
 ghost use Rattle.std.specs.Prelude.{◌≡◌, ◌++◌, ◌∷◌, ◌<◌, ℤ, pos, List, IfOk, IsTrue, MatchOption, OnOk, length};
-ghost use Rattle.ivl_laws.specs.Sets.{Intersection, IsBetween, Union};
+ghost use Rattle.ivl_laws.specs.Sets.{Intersection, IsBetween, IsSubset, Union};
 ghost use Rattle.ivl_laws.specs.Runs.{Covers, IsMaximal, IsRunListIn, IsRunsOf};
 ghost use Rattle.ivl_merges.specs.Order.{IsBelow};
 ghost use Rattle.ivl_paged.specs.Operations.{KeptBy};
@@ -12,10 +12,10 @@ use crate::pages::{self, FIRST_RUNS, MOST_RUNS};
 use crate::parts::Parts;
 use intervallum::interval::Interval;
 use intervallum::interval_set::IntervalSet;
-use intervallum::ops::{
-    Bounded, Difference, Intersection, IsEmpty, Range, SymmetricDifference, Union,
-};
+use intervallum::ops::{Bounded, Intersection, IsEmpty, Range, Union};
+use intervallum::sweep::coalesce;
 use intervallum::width::Width;
+use ivl_merges::merges::{difference, intersection, symmetric_difference, union};
 use std::alloc::{AllocError, Global};
 
 /// Which members of two sets an operation keeps.
@@ -33,8 +33,9 @@ pub(crate) enum Operation {
 
 /// What an operation makes of two sets, in pages.
 ///
-/// A window goes from where the last one ended up to where a part of one of the sets ends. In it each
-/// set has one part alone, and what the operation makes of the two is put behind the pages so far.
+/// A window begins where the last one ended. The runs of both sets that meet it are put into two lists,
+/// and what the operation makes of these in the window is put behind the pages so far. The runs of a set
+/// that lie there are at most those of some pages.
 pub(crate) fn combined<B: Width, S: Parts<B>, T: Parts<B>>(
     alloc: Global,
     first: &S,
@@ -45,14 +46,15 @@ pub(crate) fn combined<B: Width, S: Parts<B>, T: Parts<B>>(
     requires second { IsRunListIn B.whole (T.runs second.now) }
     ensures { IfOk result (λ P. IsRunsOf (flattened P) (KeptBy op (Covers (S.runs first.now)) (Covers (T.runs second.now)))) }
 {
-    let none = IntervalSet::empty(alloc);
     let mut pages = PageList::new(alloc);
+    let (mut a, mut b) = (Vec::new(alloc), Vec::new(alloc));
     let mut lower = B::min_value();
     'windows: loop {
-        let (a, end) = first.part_from(lower, &none);
-        let (b, other_end) = second.part_from(lower, &none);
-        let upper = end.min(other_end);
-        let piece = piece_of(a, b, &Interval::new(lower, upper), op)?;
+        let upper = first.end_from(lower).min(second.end_from(lower));
+        let window = Interval::new(lower, upper);
+        first.gather(&window, &mut a)?;
+        second.gather(&window, &mut b)?;
+        let piece = piece_of(alloc, &a, &b, &window, op)?;
         put(alloc, &mut pages, piece)?;
         if B::max_value() <= upper {
             return Ok(pages);
@@ -61,22 +63,67 @@ pub(crate) fn combined<B: Width, S: Parts<B>, T: Parts<B>>(
     }
 }
 
-/// What an operation makes of two sets in a window.
+/// What an operation makes of two lists of runs, in a window.
 fn piece_of<B: Width>(
-    first: &IntervalSet<B>,
-    second: &IntervalSet<B>,
+    alloc: Global,
+    first: &[Interval<B>],
+    second: &[Interval<B>],
     window: &Interval<B>,
     op: Operation,
 ) -> Result<IntervalSet<B>, AllocError>
+    requires first { IsRunListIn B.whole first.now }
+    requires second { IsRunListIn B.whole second.now }
     ensures { IfOk result (λ L. IsRunsOf L (Intersection (KeptBy op (Covers first.now) (Covers second.now)) (IsBetween window.now))) }
 {
-    let a = first.intersection(window)?;
-    let b = second.intersection(window)?;
+    let made = merged(alloc, first, second, op)?;
+    let set = coalesce(alloc, made)?;
+    if lies_within(&set, window) {
+        return Ok(set);
+    }
+    set.intersection(window)
+}
+
+/// Whether each member of a set lies in a window.
+fn lies_within<B: Width>(set: &IntervalSet<B>, window: &Interval<B>) -> bool
+    ensures { IsTrue result → IsSubset (Covers set.now) (IsBetween window.now) }
+{
+    if set.is_empty() {
+        return true;
+    }
+    window.lower_bound() <= set.lower() && set.upper() <= window.upper_bound()
+}
+
+/// The runs that an operation makes of two lists of runs.
+fn merged<B: Width>(
+    alloc: Global,
+    first: &[Interval<B>],
+    second: &[Interval<B>],
+    op: Operation,
+) -> Result<Vec<Interval<B>>, AllocError>
+    requires first { IsRunListIn B.whole first.now }
+    requires second { IsRunListIn B.whole second.now }
+    ensures { IfOk result (λ v. IsRunsOf v.items (KeptBy op (Covers first.now) (Covers second.now))) }
+{
+    // no memory holds more runs than a `usize` counts
+    let room = first.len().checked_add(second.len()).ok_or(AllocError)?;
+    let mut runs = Vec::with_capacity(alloc, room)?;
     match op {
-        Operation::Either => a.union(&b),
-        Operation::Both => a.intersection(&b),
-        Operation::FirstAlone => a.difference(&b),
-        Operation::OneAlone => a.symmetric_difference(&b),
+        Operation::Either => {
+            union(first, second, &mut runs);
+            Ok(runs)
+        }
+        Operation::Both => {
+            intersection(first, second, &mut runs);
+            Ok(runs)
+        }
+        Operation::FirstAlone => {
+            difference(first, second, &mut runs);
+            Ok(runs)
+        }
+        Operation::OneAlone => {
+            symmetric_difference(first, second, &mut runs);
+            Ok(runs)
+        }
     }
 }
 

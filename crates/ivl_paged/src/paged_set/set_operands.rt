@@ -13,7 +13,7 @@ use intervallum::width::Width;
 use std::alloc::AllocError;
 
 impl<B: Width> PagedSet<B> {
-    /// What an operation makes of the set and another one, whose runs stand in parts.
+    /// What an operation makes of the set and another one.
     pub(super) fn combined_with<T: Parts<B>>(
         &self,
         other: &T,
@@ -42,8 +42,9 @@ impl<B: Width> Union<PagedSet<B>> for PagedSet<B> {
 
     ghost answers = { λ r S. IfOk r (λ L. IsRunsOf L S) };
 
-    /// Returns the members of either set. `O(n + m)`. Allocates the pages
-    /// of the result one by one, and a part of each set at a time. Fails only if allocation fails.
+    /// Returns the members of either set. `O(n + m)`. Goes by windows in which
+    /// each set has about 16 pages: allocates the pages of the result, and lists of the runs in one
+    /// window. Fails only if allocation fails.
     ///
     /// ```
     /// let (mut a, mut b) = (PagedSet::new(alloc), PagedSet::new(alloc));
@@ -69,8 +70,9 @@ impl<B: Width> Intersection<PagedSet<B>> for PagedSet<B> {
 
     ghost answers = { λ r S. IfOk r (λ L. IsRunsOf L S) };
 
-    /// Returns the members of both sets. `O(n + m)`. Allocates the pages
-    /// of the result one by one, and a part of each set at a time. Fails only if allocation fails.
+    /// Returns the members of both sets. `O(n + m)`. Goes by windows in which
+    /// each set has about 16 pages: allocates the pages of the result, and lists of the runs in one
+    /// window. Fails only if allocation fails.
     ///
     /// ```
     /// let (mut a, mut b) = (PagedSet::new(alloc), PagedSet::new(alloc));
@@ -96,8 +98,9 @@ impl<B: Width> Difference<PagedSet<B>> for PagedSet<B> {
 
     ghost answers = { λ r S. IfOk r (λ L. IsRunsOf L S) };
 
-    /// Returns the members that are not in `other`. `O(n + m)`. Allocates the pages
-    /// of the result one by one, and a part of each set at a time. Fails only if allocation fails.
+    /// Returns the members that are not in `other`. `O(n + m)`. Goes by windows in which
+    /// each set has about 16 pages: allocates the pages of the result, and lists of the runs in one
+    /// window. Fails only if allocation fails.
     ///
     /// ```
     /// let (mut a, mut b) = (PagedSet::new(alloc), PagedSet::new(alloc));
@@ -125,8 +128,9 @@ impl<B: Width> SymmetricDifference<PagedSet<B>> for PagedSet<B> {
 
     ghost answers = { λ r S. IfOk r (λ L. IsRunsOf L S) };
 
-    /// Returns the members of exactly one of the sets. `O(n + m)`. Allocates the pages
-    /// of the result one by one, and a part of each set at a time. Fails only if allocation fails.
+    /// Returns the members of exactly one of the sets. `O(n + m)`. Goes by windows in which
+    /// each set has about 16 pages: allocates the pages of the result, and lists of the runs in one
+    /// window. Fails only if allocation fails.
     ///
     /// ```
     /// let (mut a, mut b) = (PagedSet::new(alloc), PagedSet::new(alloc));
@@ -152,8 +156,9 @@ impl<B: Width> Complement for PagedSet<B> {
 
     ghost answers = { λ r S. IfOk r (λ L. IsRunsOf L S) };
 
-    /// Returns the complement within the range of the type. `O(n)`. Allocates the pages of the result
-    /// one by one, and a copy of one page at a time. Fails only if allocation fails.
+    /// Returns the complement within the range of the type. `O(n)`. Goes by windows in which the set has
+    /// about 16 pages: allocates the pages of the result, and lists of the runs in one window. Fails only
+    /// if allocation fails.
     ///
     /// ```
     /// let mut a = PagedSet::new(alloc);

@@ -1,13 +1,24 @@
 // Written by bindings/rust/extract from crates/ivl_paged/src/parts.rt.
-//! Sets of which one part has all the members from a value on, up to some other value.
+//! Sets whose runs can be read window by window.
 
 #[allow(unused_imports)]
 use crate::rattle::prelude::*;
 use crate::proved::ivl_paged::page_list::PageList;
+use crate::proved::ivl_paged::pages::FIRST_RUNS;
+use crate::proved::intervallum::interval::Interval;
 use crate::proved::intervallum::interval_set::IntervalSet;
+use crate::proved::intervallum::ops::Range;
 use crate::proved::intervallum::width::Width;
+use crate::rattle::std::alloc::AllocError;
 
-/// A set in one part or more, each of them a set in one vector.
+/// How many pages a window has about: so many that the search for them costs little, and so few that
+/// their runs stay in the cache.
+const WINDOW_PAGES: usize = 16;
+
+/// How many runs a window has about where they stand in one list.
+const WINDOW_RUNS: usize = WINDOW_PAGES * FIRST_RUNS;
+
+/// A set whose runs can be read window by window.
 ///
 /// Words and laws of the contracts:
 ///
@@ -15,59 +26,83 @@ use crate::proved::intervallum::width::Width;
 /// runs: { Self → List (ℤ × ℤ) }
 /// ```
 pub(crate) trait Parts<B: Width> {
-    /// The part that a value lies in, or `none` if no part begins up to it, and the last value before
-    /// the next part.
+    /// The end of the next window, which begins with a value.
     ///
     /// # Proved
     ///
     /// ```text
     /// requires runs { IsRunListIn B.whole (runs self.now) }
-    /// requires none { none.now ≡ [] }
     /// requires in_range { IsBetween B.whole (B.value lower) }
-    /// ensures in_order { B.value lower ≤ℤ B.value result.1 }
-    /// ensures at_most { B.value result.1 ≤ℤ B.whole.1 }
-    /// ensures members { SameMembers
-    ///     (Intersection (Covers result.0.now) (IsBetween (B.value lower, B.value result.1)))
-    ///     (Intersection (Covers (runs self.now)) (IsBetween (B.value lower, B.value result.1))) }
+    /// ensures in_order { B.value lower ≤ℤ B.value result }
+    /// ensures at_most { B.value result ≤ℤ B.whole.1 }
     /// ```
     ///
-    /// Words: [`IsRunListIn`](crate::definitions#IsRunListIn), [`IsBetween`](crate::definitions#IsBetween), [`SameMembers`](crate::definitions#SameMembers), [`Intersection`](crate::definitions#Intersection), [`Covers`](crate::definitions#Covers).
-    fn part_from<'a>(&'a self, lower: B, none: &'a IntervalSet<B>) -> (&'a IntervalSet<B>, B);
+    /// Words: [`IsRunListIn`](crate::definitions#IsRunListIn), [`IsBetween`](crate::definitions#IsBetween).
+    fn end_from(&self, lower: B) -> B;
+
+    /// Writes the runs that meet a window into a list, in the place of what it has. Some may lie beside
+    /// the window.
+    ///
+    /// # Proved
+    ///
+    /// ```text
+    /// requires runs { IsRunListIn B.whole (runs self.now) }
+    /// requires filled { window.now.0 ≤ℤ window.now.1 }
+    /// ensures list { OnOk result (IsRunListIn B.whole list.new.items) }
+    /// ensures members { OnOk result (SameMembers
+    ///     (Intersection (Covers list.new.items) (IsBetween window.now))
+    ///     (Intersection (Covers (runs self.now)) (IsBetween window.now))) }
+    /// ```
+    ///
+    /// Words: [`IsRunListIn`](crate::definitions#IsRunListIn), [`SameMembers`](crate::definitions#SameMembers), [`Intersection`](crate::definitions#Intersection), [`Covers`](crate::definitions#Covers), [`IsBetween`](crate::definitions#IsBetween).
+    fn gather(&self, window: &Interval<B>, list: &mut Vec<Interval<B>>) -> Result<(), AllocError>;
 }
 
-/// One part.
-///
 /// Proved, with these words of the trait:
 ///
 /// ```text
 /// runs = { λ L. L }
 /// ```
 impl<B: Width> Parts<B> for IntervalSet<B> {
-    fn part_from<'a>(&'a self, _lower: B, _none: &'a IntervalSet<B>) -> (&'a IntervalSet<B>, B) {
-        (self, B::max_value())
+    fn end_from(&self, lower: B) -> B {
+        let rest = self.runs_within(&Interval::new(lower, B::max_value()));
+        if rest.len() <= WINDOW_RUNS {
+            return B::max_value();
+        }
+        rest[WINDOW_RUNS].upper_bound().max(lower)
+    }
+
+    fn gather(&self, window: &Interval<B>, list: &mut Vec<Interval<B>>) -> Result<(), AllocError> {
+        list.clear();
+        list.extend_from_slice(self.runs_within(window))?;
+        Ok(())
     }
 }
 
-/// A part for each page.
-///
 /// Proved, with these words of the trait:
 ///
 /// ```text
 /// runs = { flattened }
 /// ```
 impl<B: Width> Parts<B> for PageList<B> {
-    fn part_from<'a>(&'a self, lower: B, none: &'a IntervalSet<B>) -> (&'a IntervalSet<B>, B) {
-        let count = self.starts_up_to(lower);
-        let end = last_before(self, count, lower);
-        if count == 0 {
-            return (none, end);
+    fn end_from(&self, lower: B) -> B {
+        let next = self.starts_up_to(lower);
+        last_before(self, next.saturating_add(WINDOW_PAGES), lower)
+    }
+
+    fn gather(&self, window: &Interval<B>, list: &mut Vec<Interval<B>>) -> Result<(), AllocError> {
+        let start = self.starts_up_to(window.lower_bound()).saturating_sub(1);
+        let end = self.starts_up_to(window.upper_bound());
+        list.clear();
+        for page in &self.as_slice()[start..end] {
+            list.extend_from_slice(page.set().runs())?;
         }
-        (self.page(count - 1).set(), end)
+        Ok(())
     }
 }
 
-/// The last value before page `i`, which is the next one above a value, or the last of the range if
-/// there is no such page.
+/// The last value before page `i`, or the last one of the range if there is no such page. A value up to
+/// which no more than `i` pages start comes no later.
 fn last_before<B: Width>(pages: &PageList<B>, i: usize, value: B) -> B {
     if i < pages.len() {
         return pages.head(i).sub_in_range(B::one());

@@ -2,6 +2,7 @@ use Rattle.std.proofs.Common.{⊎_elim, arith}
 use Rattle.std.specs.Prelude.{◌≤ℤ◌, ◌<ℤ◌}
 use Rattle.std.proofs.lemmas.Int.{ints}
 use Rattle.ivl_laws.specs.Sets.{IsBetween}
+use Rattle.ivl_laws.specs.Runs.{Covers}
 use Rattle.ivl_laws.proofs.Orders.{le_number, min_number, not_le_number}
 use Rattle.ivl_laws.proofs.Ranges.{IsRunListIn-runs}
 use Rattle.ivl_paged.specs.Pages.{flattened}
@@ -17,17 +18,17 @@ put-requires-clause-runs g c =
 pub put-requires-clause-above : goal.put-requires-clause-above
 put-requires-clause-above g c =
     let v = g.B.Width.value in
-    let least = lower_of (v c.part_from-end.result.1) (v c.part_from-other_end.result.1) (v c.min-upper.result) (min_number g.met.B.Width.ordered _ _ _ c.min-upper.ensures) in
-    let piece = piece_there c.args.op _ _ _ _ c.in_ok-piece.piece c.new.result (v c.windows.lower) (v c.part_from-end.result.1) (v c.part_from-other_end.result.1) (v c.min-upper.result)
-    c.part_from-end.ensures.members c.part_from-other_end.ensures.members least.0 least.1 c.new.ensures.value c.in_ok-piece.ensures in
+    let piece = piece_there c.args.op (Covers (g.S.Parts.runs c.args.first.now)) (Covers (g.T.Parts.runs c.args.second.now)) c.gather.new.list.items c.gather-in-windows.new.list.items c.deref.result.now c.deref-in-windows.result.now
+    c.in_ok-piece.piece c.new-window.result (v c.windows.lower) (v c.min-upper.result) c.new-window.ensures.value c.deref.ensures.value c.deref-in-windows.ensures.value
+    c.in_ok-gather.ensures.members c.in_ok-gather-2.ensures.members c.in_ok-piece.ensures in
     window_is_above _ (flattened c.windows.pages) c.in_ok-piece.piece (v c.windows.lower) (v c.min-upper.result) c.windows.invariant.made piece
 
 pub returns-then-le : goal.returns-then-le
 returns-then-le g c =
     let v = g.B.Width.value in
-    let least = lower_of (v c.part_from-end.result.1) (v c.part_from-other_end.result.1) (v c.min-upper.result) (min_number g.met.B.Width.ordered _ _ _ c.min-upper.ensures) in
-    let piece = piece_there c.args.op _ _ _ _ c.in_ok-piece.piece c.new.result (v c.windows.lower) (v c.part_from-end.result.1) (v c.part_from-other_end.result.1) (v c.min-upper.result)
-    c.part_from-end.ensures.members c.part_from-other_end.ensures.members least.0 least.1 c.new.ensures.value c.in_ok-piece.ensures in
+    let piece = piece_there c.args.op (Covers (g.S.Parts.runs c.args.first.now)) (Covers (g.T.Parts.runs c.args.second.now)) c.gather.new.list.items c.gather-in-windows.new.list.items c.deref.result.now c.deref-in-windows.result.now
+    c.in_ok-piece.piece c.new-window.result (v c.windows.lower) (v c.min-upper.result) c.new-window.ensures.value c.deref.ensures.value c.deref-in-windows.ensures.value
+    c.in_ok-gather.ensures.members c.in_ok-gather-2.ensures.members c.in_ok-piece.ensures in
     let last = (le_number g.met.B.Width.ordered _ _ _ c.le.ensures).0 c.if-le.true in
     let end = c.max_value.ensures in
     window_is_last _ (flattened c.windows.pages) c.in_ok-piece.piece (v c.windows.lower) (v c.min-upper.result) c.windows.invariant.made piece (flattened c.put.new.pages) g.B.Width.whole
@@ -36,9 +37,9 @@ returns-then-le g c =
 pub add_in_range-lower-requires : goal.add_in_range-lower-requires
 add_in_range-lower-requires g c =
     let v = g.B.Width.value in
-    let least = lower_of (v c.part_from-end.result.1) (v c.part_from-other_end.result.1) (v c.min-upper.result) (min_number g.met.B.Width.ordered _ _ _ c.min-upper.ensures) in
+    let least = lower_of (v c.end_from.result) (v c.end_from-in-windows.result) (v c.min-upper.result) (min_number g.met.B.Width.ordered _ _ _ c.min-upper.ensures) in
     let order : v c.windows.lower ≤ℤ v c.min-upper.result =
-    ⊎_elim (λ e. let o = c.part_from-end.ensures.in_order in omega (arith, ints, e, o)) (λ e. let o = c.part_from-other_end.ensures.in_order in omega (arith, ints, e, o)) least.2 in
+    ⊎_elim (λ e. let o = c.end_from.ensures.in_order in omega (arith, ints, e, o)) (λ e. let o = c.end_from-in-windows.ensures.in_order in omega (arith, ints, e, o)) least.2 in
     let less : v c.min-upper.result <ℤ g.B.Width.whole.1 = let l = not_le_number g.met.B.Width.ordered _ _ _ c.le.ensures c.if-le.false in let m = c.max_value.ensures in omega (arith, ints, l, m) in
     let low = c.windows.invariant.in_range.0 in
     let one = c.one.ensures in
@@ -47,9 +48,9 @@ add_in_range-lower-requires g c =
 pub windows-smaller : goal.windows-smaller
 windows-smaller g c =
     let v = g.B.Width.value in
-    let least = lower_of (v c.part_from-end.result.1) (v c.part_from-other_end.result.1) (v c.min-upper.result) (min_number g.met.B.Width.ordered _ _ _ c.min-upper.ensures) in
+    let least = lower_of (v c.end_from.result) (v c.end_from-in-windows.result) (v c.min-upper.result) (min_number g.met.B.Width.ordered _ _ _ c.min-upper.ensures) in
     let order : v c.windows.lower ≤ℤ v c.min-upper.result =
-    ⊎_elim (λ e. let o = c.part_from-end.ensures.in_order in omega (arith, ints, e, o)) (λ e. let o = c.part_from-other_end.ensures.in_order in omega (arith, ints, e, o)) least.2 in
+    ⊎_elim (λ e. let o = c.end_from.ensures.in_order in omega (arith, ints, e, o)) (λ e. let o = c.end_from-in-windows.ensures.in_order in omega (arith, ints, e, o)) least.2 in
     let less : v c.min-upper.result <ℤ g.B.Width.whole.1 = let l = not_le_number g.met.B.Width.ordered _ _ _ c.le.ensures c.if-le.false in let m = c.max_value.ensures in omega (arith, ints, l, m) in
     let next = c.add_in_range-lower.ensures in
     let one = c.one.ensures in
@@ -58,16 +59,16 @@ windows-smaller g c =
 pub windows-preserved : goal.windows-preserved
 windows-preserved g c =
     let v = g.B.Width.value in
-    let least = lower_of (v c.part_from-end.result.1) (v c.part_from-other_end.result.1) (v c.min-upper.result) (min_number g.met.B.Width.ordered _ _ _ c.min-upper.ensures) in
+    let least = lower_of (v c.end_from.result) (v c.end_from-in-windows.result) (v c.min-upper.result) (min_number g.met.B.Width.ordered _ _ _ c.min-upper.ensures) in
     let order : v c.windows.lower ≤ℤ v c.min-upper.result =
-    ⊎_elim (λ e. let o = c.part_from-end.ensures.in_order in omega (arith, ints, e, o)) (λ e. let o = c.part_from-other_end.ensures.in_order in omega (arith, ints, e, o)) least.2 in
+    ⊎_elim (λ e. let o = c.end_from.ensures.in_order in omega (arith, ints, e, o)) (λ e. let o = c.end_from-in-windows.ensures.in_order in omega (arith, ints, e, o)) least.2 in
     let less : v c.min-upper.result <ℤ g.B.Width.whole.1 = let l = not_le_number g.met.B.Width.ordered _ _ _ c.le.ensures c.if-le.false in let m = c.max_value.ensures in omega (arith, ints, l, m) in
-    let piece = piece_there c.args.op _ _ _ _ c.in_ok-piece.piece c.new.result (v c.windows.lower) (v c.part_from-end.result.1) (v c.part_from-other_end.result.1) (v c.min-upper.result)
-    c.part_from-end.ensures.members c.part_from-other_end.ensures.members least.0 least.1 c.new.ensures.value c.in_ok-piece.ensures in
+    let piece = piece_there c.args.op (Covers (g.S.Parts.runs c.args.first.now)) (Covers (g.T.Parts.runs c.args.second.now)) c.gather.new.list.items c.gather-in-windows.new.list.items c.deref.result.now c.deref-in-windows.result.now
+    c.in_ok-piece.piece c.new-window.result (v c.windows.lower) (v c.min-upper.result) c.new-window.ensures.value c.deref.ensures.value c.deref-in-windows.ensures.value
+    c.in_ok-gather.ensures.members c.in_ok-gather-2.ensures.members c.in_ok-piece.ensures in
     let next = c.add_in_range-lower.ensures in
     let one = c.one.ensures in
     let low = c.windows.invariant.in_range.0 in record {
-      none = c.windows.invariant.none;
       in_range = (omega (arith, ints, order, low, next, one), omega (arith, ints, less, next, one));
       made = window_is_next _ (flattened c.windows.pages) c.in_ok-piece.piece (v c.windows.lower) (v c.min-upper.result) c.windows.invariant.made piece (flattened c.put.new.pages) (v c.add_in_range-lower.result) order
           (omega (arith, ints, next, one)) c.in_ok-put.ensures;

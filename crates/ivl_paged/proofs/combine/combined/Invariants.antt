@@ -1,4 +1,3 @@
-use Rattle.std.proofs.Common.{◌≡◌, []}
 use Rattle.ivl_laws.specs.Bounds.{width_of}
 use Rattle.ivl_laws.specs.Sets.{Below, IsBetween}
 use Rattle.ivl_laws.specs.Runs.{Covers, IsRunsOf}
@@ -9,7 +8,6 @@ use Rattle.ivl_paged.proofs.combine.combined.Given as goal
 -- the members below the next window
 abbrev pub invariant-windows : goal.invariant-windows
 invariant-windows g l = record {
-  none : l.none-inside.intervals.items ≡ [];
   in_range : IsBetween g.B.Width.whole (g.B.Width.value l.lower);
   made : IsRunsOf (flattened l.pages) (Below (g.B.Width.value l.lower) (KeptBy l.op (Covers (g.S.Parts.runs l.first)) (Covers (g.T.Parts.runs l.second))));
 }

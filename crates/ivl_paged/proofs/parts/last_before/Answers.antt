@@ -1,6 +1,5 @@
 use Rattle.std.proofs.Common.{arith}
 use Rattle.std.proofs.lemmas.Int.{ints}
-use Rattle.ivl_paged.proofs.Combining.{starts_before}
 use Rattle.ivl_paged.proofs.Paging.{covers_page}
 use Rattle.ivl_paged.proofs.parts.last_before.Goals as goal
 
@@ -8,7 +7,8 @@ pub sub_in_range-requires : goal.sub_in_range-requires
 sub_in_range-requires g c =
     let h = g.B.Width.value c.head.result in
     let one = c.one.ensures in
-    let lt = c.requires.starts.above c.args.i h (omega arith) c.head.ensures.0 in
+    let (n, le, s) = c.requires.starts in
+    let lt = s.above c.args.i h le c.head.ensures.0 in
     let low = c.requires.in_range.0 in
     let high = (c.requires.runs.within h (covers_page c.args.pages.now c.args.i h c.head.ensures.0)).1 in
     (omega (arith, ints, lt, low, one), omega (arith, ints, high, one))
@@ -17,7 +17,8 @@ pub returns-then-i-len-clause-in_order : goal.returns-then-i-len-clause-in_order
 returns-then-i-len-clause-in_order g c =
     let one = c.one.ensures in
     let less = c.sub_in_range.ensures in
-    let lt = c.requires.starts.above c.args.i (g.B.Width.value c.head.result) (omega arith) c.head.ensures.0 in
+    let (n, le, s) = c.requires.starts in
+    let lt = s.above c.args.i (g.B.Width.value c.head.result) le c.head.ensures.0 in
     omega (arith, ints, lt, less, one)
 
 pub returns-then-i-len-clause-at_most : goal.returns-then-i-len-clause-at_most
@@ -27,10 +28,3 @@ returns-then-i-len-clause-at_most g c =
     let less = c.sub_in_range.ensures in
     let high = (c.requires.runs.within h (covers_page c.args.pages.now c.args.i h c.head.ensures.0)).1 in
     omega (arith, ints, high, less, one)
-
-pub returns-then-i-len-clause-starts : goal.returns-then-i-len-clause-starts
-returns-then-i-len-clause-starts g c =
-    let v = g.B.Width.value in
-    let one = c.one.ensures in
-    let less = c.sub_in_range.ensures in
-    starts_before g.B.Width.whole c.args.pages.now (v c.args.value) (v c.head.result) (v c.sub_in_range.result) c.args.i c.requires.runs.maximal c.requires.starts c.head.ensures (omega (arith, ints, less, one))

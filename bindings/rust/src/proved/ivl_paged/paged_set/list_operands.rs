@@ -23,8 +23,9 @@ use crate::rattle::std::alloc::AllocError;
 impl<B: Width> Union<IntervalSet<B>> for PagedSet<B> {
     type Output = Result<PagedSet<B>, AllocError>;
 
-    /// Returns the members of either set. `O(n + m)`. Allocates the pages
-    /// of the result one by one, and a part of each set at a time. Fails only if allocation fails.
+    /// Returns the members of either set. `O(n + m)`. Goes by windows in which
+    /// this set has about 16 pages: allocates the pages of the result, and lists of the runs in one
+    /// window. Fails only if allocation fails.
     ///
     /// ```
     /// use intervallum::proved::examples::*;
@@ -65,8 +66,9 @@ impl<B: Width> Union<IntervalSet<B>> for PagedSet<B> {
 impl<B: Width> Intersection<IntervalSet<B>> for PagedSet<B> {
     type Output = Result<PagedSet<B>, AllocError>;
 
-    /// Returns the members of both sets. `O(n + m)`. Allocates the pages
-    /// of the result one by one, and a part of each set at a time. Fails only if allocation fails.
+    /// Returns the members of both sets. `O(n + m)`. Goes by windows in which
+    /// this set has about 16 pages: allocates the pages of the result, and lists of the runs in one
+    /// window. Fails only if allocation fails.
     ///
     /// ```
     /// use intervallum::proved::examples::*;
@@ -107,8 +109,9 @@ impl<B: Width> Intersection<IntervalSet<B>> for PagedSet<B> {
 impl<B: Width> Difference<IntervalSet<B>> for PagedSet<B> {
     type Output = Result<PagedSet<B>, AllocError>;
 
-    /// Returns the members that are not in `other`. `O(n + m)`. Allocates the pages
-    /// of the result one by one, and a part of each set at a time. Fails only if allocation fails.
+    /// Returns the members that are not in `other`. `O(n + m)`. Goes by windows in which
+    /// this set has about 16 pages: allocates the pages of the result, and lists of the runs in one
+    /// window. Fails only if allocation fails.
     ///
     /// ```
     /// use intervallum::proved::examples::*;
@@ -150,8 +153,9 @@ impl<B: Width> Difference<IntervalSet<B>> for PagedSet<B> {
 impl<B: Width> SymmetricDifference<IntervalSet<B>> for PagedSet<B> {
     type Output = Result<PagedSet<B>, AllocError>;
 
-    /// Returns the members of exactly one of the sets. `O(n + m)`. Allocates the pages
-    /// of the result one by one, and a part of each set at a time. Fails only if allocation fails.
+    /// Returns the members of exactly one of the sets. `O(n + m)`. Goes by windows in which
+    /// this set has about 16 pages: allocates the pages of the result, and lists of the runs in one
+    /// window. Fails only if allocation fails.
     ///
     /// ```
     /// use intervallum::proved::examples::*;

@@ -12,7 +12,7 @@ use crate::proved::intervallum::width::Width;
 use crate::rattle::std::alloc::AllocError;
 
 impl<B: Width> PagedSet<B> {
-    /// What an operation makes of the set and another one, whose runs stand in parts.
+    /// What an operation makes of the set and another one.
     pub(super) fn combined_with<T: Parts<B>>(
         &self,
         other: &T,
@@ -40,8 +40,9 @@ impl<B: Width> PagedSet<B> {
 impl<B: Width> Union<PagedSet<B>> for PagedSet<B> {
     type Output = Result<PagedSet<B>, AllocError>;
 
-    /// Returns the members of either set. `O(n + m)`. Allocates the pages
-    /// of the result one by one, and a part of each set at a time. Fails only if allocation fails.
+    /// Returns the members of either set. `O(n + m)`. Goes by windows in which
+    /// each set has about 16 pages: allocates the pages of the result, and lists of the runs in one
+    /// window. Fails only if allocation fails.
     ///
     /// ```
     /// use intervallum::proved::examples::*;
@@ -82,8 +83,9 @@ impl<B: Width> Union<PagedSet<B>> for PagedSet<B> {
 impl<B: Width> Intersection<PagedSet<B>> for PagedSet<B> {
     type Output = Result<PagedSet<B>, AllocError>;
 
-    /// Returns the members of both sets. `O(n + m)`. Allocates the pages
-    /// of the result one by one, and a part of each set at a time. Fails only if allocation fails.
+    /// Returns the members of both sets. `O(n + m)`. Goes by windows in which
+    /// each set has about 16 pages: allocates the pages of the result, and lists of the runs in one
+    /// window. Fails only if allocation fails.
     ///
     /// ```
     /// use intervallum::proved::examples::*;
@@ -124,8 +126,9 @@ impl<B: Width> Intersection<PagedSet<B>> for PagedSet<B> {
 impl<B: Width> Difference<PagedSet<B>> for PagedSet<B> {
     type Output = Result<PagedSet<B>, AllocError>;
 
-    /// Returns the members that are not in `other`. `O(n + m)`. Allocates the pages
-    /// of the result one by one, and a part of each set at a time. Fails only if allocation fails.
+    /// Returns the members that are not in `other`. `O(n + m)`. Goes by windows in which
+    /// each set has about 16 pages: allocates the pages of the result, and lists of the runs in one
+    /// window. Fails only if allocation fails.
     ///
     /// ```
     /// use intervallum::proved::examples::*;
@@ -167,8 +170,9 @@ impl<B: Width> Difference<PagedSet<B>> for PagedSet<B> {
 impl<B: Width> SymmetricDifference<PagedSet<B>> for PagedSet<B> {
     type Output = Result<PagedSet<B>, AllocError>;
 
-    /// Returns the members of exactly one of the sets. `O(n + m)`. Allocates the pages
-    /// of the result one by one, and a part of each set at a time. Fails only if allocation fails.
+    /// Returns the members of exactly one of the sets. `O(n + m)`. Goes by windows in which
+    /// each set has about 16 pages: allocates the pages of the result, and lists of the runs in one
+    /// window. Fails only if allocation fails.
     ///
     /// ```
     /// use intervallum::proved::examples::*;
@@ -209,8 +213,9 @@ impl<B: Width> SymmetricDifference<PagedSet<B>> for PagedSet<B> {
 impl<B: Width> Complement for PagedSet<B> {
     type Output = Result<PagedSet<B>, AllocError>;
 
-    /// Returns the complement within the range of the type. `O(n)`. Allocates the pages of the result
-    /// one by one, and a copy of one page at a time. Fails only if allocation fails.
+    /// Returns the complement within the range of the type. `O(n)`. Goes by windows in which the set has
+    /// about 16 pages: allocates the pages of the result, and lists of the runs in one window. Fails only
+    /// if allocation fails.
     ///
     /// ```
     /// use intervallum::proved::examples::*;
