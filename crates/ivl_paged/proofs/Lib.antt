@@ -11,3 +11,4 @@ pub mod PageSearch
 pub mod Walking
 pub mod Meeting
 pub mod Shortest
+pub mod MembersInPages

@@ -5,9 +5,9 @@
 //! edit that changes the number of runs moves all those above it. A [`PagedSet`] moves the runs of
 //! one page. To contracts both are the same list of maximal runs.
 //!
-//! A [`PagedSet`] has edits, queries by value, by rank and by room, equality, text and the runs. To
-//! combine sets, convert by `to_set`, and back by `of_set`. Pages are split when they are full,
-//! joined with a neighbour when both have few runs, and removed when they are empty.
+//! A [`PagedSet`] has edits, queries by value, by rank, by room and within a window, equality, inclusion,
+//! text and the runs. To combine sets, convert by `to_set`, and back by `of_set`. Pages are split when
+//! they are full, joined with a neighbour when both have few runs, and removed when they are empty.
 //!
 //! ```
 //! use intervallum::proved::examples::*;

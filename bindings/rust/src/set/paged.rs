@@ -10,7 +10,6 @@ use alloc::vec::Vec;
 pub(super) trait Lacking<T: Width>: Sized {
     fn is_singleton(&self) -> bool;
     fn intersection(&self, interval: &Interval<T>) -> Result<Self, AllocError>;
-    fn split_off(&mut self, value: T) -> Result<Self, AllocError>;
 }
 
 /// A proved set that is made of one list of runs.
@@ -52,14 +51,4 @@ impl<T: Width> Lacking<T> for ProvedPagedSet<T> {
         made_of(runs_within(self, interval).map(|run| Intersection::intersection(&run, interval)).collect())
     }
 
-    fn split_off(&mut self, value: T) -> Result<Self, AllocError> {
-        let greatest = T::max_value();
-        if value > greatest {
-            return Ok(ProvedPagedSet::new(Global));
-        }
-        let rest = Interval::new(value.max(T::min_value()), greatest);
-        let above = self.intersection(&rest)?;
-        self.remove_interval(rest)?;
-        Ok(above)
-    }
 }

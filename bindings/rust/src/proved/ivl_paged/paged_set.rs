@@ -12,9 +12,11 @@ mod first_fit;
 mod inclusion;
 mod interval_operands;
 mod iter;
+mod members;
 mod neighbours;
 mod overlaps;
 mod rank;
+mod split_off;
 mod text;
 mod walks;
 mod within;
@@ -27,6 +29,7 @@ use crate::proved::intervallum::ops::{Collection, IsEmpty, Singleton};
 use crate::proved::intervallum::sweep::coalesce;
 use crate::proved::intervallum::width::Width;
 pub use iter::Runs;
+pub use members::Members;
 use crate::rattle::std::alloc::{AllocError, Global};
 
 /// A set of integers for many runs that change. A contract sees the list of its runs, each a pair
