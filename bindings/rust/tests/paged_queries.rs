@@ -26,7 +26,7 @@ impl Random {
 
     fn interval(&mut self) -> Interval<i16> {
         let lower = self.value();
-        let count = [1, 4, 40, 400, 8000][self.below(5) as usize];
+        let count = [1, 4, 40, 400, 2000][self.below(5) as usize];
         let upper = lower.saturating_add(self.below(count) as i16 - 1);
         Interval::new(lower, upper)
     }

@@ -50,5 +50,4 @@ impl<T: Width> Lacking<T> for ProvedPagedSet<T> {
     fn intersection(&self, interval: &Interval<T>) -> Result<Self, AllocError> {
         made_of(runs_within(self, interval).map(|run| Intersection::intersection(&run, interval)).collect())
     }
-
 }
