@@ -26,7 +26,7 @@ impl Random {
 
     fn interval(&mut self) -> Interval<i16> {
         let lower = self.value();
-        let count = [1, 4, 40, 400, 8000][self.below(5) as usize];
+        let count = [1, 4, 40, 400, 2000][self.below(5) as usize];
         let upper = lower.saturating_add(self.below(count) as i16 - 1);
         Interval::new(lower, upper)
     }
@@ -109,9 +109,20 @@ fn ask_of_runs(random: &mut Random, interval: &Interval<i16>, set: &Forms) {
         }
     }
     assert!(left.next().is_none() && left.next_back().is_none());
+    let inside = |x: &i16| interval.contains(x);
+    assert!(paged.members_within(interval).eq(model.iter().copied().filter(inside)));
+    assert!(paged.members_within(interval).rev().eq(model.iter().rev().copied().filter(inside)));
     let gaps = paged.gaps_within(interval).unwrap();
     let free = (interval.lower_bound()..=interval.upper_bound()).filter(|x| !model.contains(x));
     assert!(gaps.iter().flat_map(|run| run.lower()..=run.upper()).eq(free));
+}
+
+/// Compares both parts of a set that is divided at a value.
+fn ask_of_parts(value: i16, set: &Forms) {
+    let (mut below, mut below_model) = (set.paged.try_clone().unwrap(), set.model.clone());
+    let above = Forms::of(below.split_off(value).unwrap());
+    assert_eq!(above.model, below_model.split_off(&value));
+    assert_eq!(Forms::of(below).model, below_model);
 }
 
 /// Compares the shortest room for some numbers of members.
@@ -152,6 +163,9 @@ fn random_queries_agree_with_a_tree() {
             ask_of_both(&set, &part);
             ask_of_both(&part, &set);
             ask_of_room(&set);
+            for value in [random.value(), i16::MIN, i16::MIN + 1, i16::MAX] {
+                ask_of_parts(value, &set);
+            }
         }
         let interval = random.interval();
         ask_of(&interval, &set);

@@ -12,3 +12,4 @@ pub mod Combining
 pub mod Walking
 pub mod Meeting
 pub mod Shortest
+pub mod MembersInPages

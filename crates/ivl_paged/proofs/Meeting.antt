@@ -1,5 +1,5 @@
 -- The runs of pages that meet a window, and what the pages have in it.
-use Rattle.std.proofs.Common.{◌≡◌, ◌⊎◌, ⊎_elim, inl, inr, ℕ, zero, suc, ◌+◌, ◌-◌, ◌<◌, ◌≤◌, ℤ, pos, ◌+ℤ◌, ◌≤ℤ◌, List, [], ◌∷◌, ◌++◌, length, get_or, take, drop, take_all, refl, sym, ap, subst, ◌∙◌, arith, append-nil, append_assoc}
+use Rattle.std.proofs.Common.{◌≡◌, ◌⊎◌, ⊎_elim, inl, inr, ℕ, zero, suc, ◌+◌, ◌-◌, ◌<◌, ◌≤◌, ℤ, List, [], ◌∷◌, ◌++◌, length, get_or, take, drop, take_all, refl, sym, ap, subst, ◌∙◌, arith, append-nil, append_assoc}
 use Rattle.std.specs.Prelude.{All}
 use Rattle.std.proofs.lemmas.Int.{ints, by_lt_z}
 use Rattle.std.proofs.lemmas.List.{drop-drop}
@@ -7,7 +7,7 @@ use Rattle.std.proofs.lemmas.List.Elements.{All-append}
 use Rattle.ivl_laws.specs.Bounds.{width_of}
 use Rattle.ivl_laws.specs.Counts.{IsCountOf}
 use Rattle.ivl_laws.specs.Families.{set_at}
-use Rattle.ivl_laws.specs.Sets.{HasNone, HasSome, InOneRun, Intersection, IsBetween, IsSubset, SameMembers, Union, Without}
+use Rattle.ivl_laws.specs.Sets.{AtLeast, HasNone, HasSome, Intersection, IsBetween, IsSubset, SameMembers, Union, Without}
 use Rattle.ivl_laws.specs.Runs.{Covers, IsMaximal, IsRunListIn, IsRunsOf}
 use Rattle.ivl_laws.proofs.Counts.{IsCountOf-apart, IsCountOf-none, IsCountOf-same, count_is_monotone, in-append}
 use Rattle.ivl_laws.proofs.Intervals.{IsCountOf-width_of}
@@ -15,12 +15,12 @@ use Rattle.ivl_laws.proofs.Merging.{covers-append, covers-append_left, covers-ap
 use Rattle.ivl_laws.proofs.Places.{in_at}
 use Rattle.ivl_laws.proofs.Products.{both_covered_by_one, one_covers, one_run_is_one_pair, open_in}
 use Rattle.ivl_laws.proofs.Runs.{lower_end}
-use Rattle.ivl_laws.proofs.SetLaws.{IsRunsOf-same, one_run_of_member}
+use Rattle.ivl_laws.proofs.SetLaws.{one_run_of_member}
 use Rattle.ivl_merges.proofs.MergeState.{IsMaximal-append}
 use Rattle.intervallum.specs.Windows.{OfRunsThatMeet}
 use Rattle.ivl_paged.specs.Pages.{IsPageSpan, flattened}
 use Rattle.ivl_paged.specs.Parts.{ArePagesMet}
-use Rattle.ivl_paged.proofs.Paging.{IsMaximal-dropped, IsMaximal-first, IsMaximal-second, IsMaximal-taken, covers_dropped, covers_page, covers_taken, cut_at, dropped_covers, flattened-append, order_of, page_of, pages_ascend, parts_apart, taken_covers}
+use Rattle.ivl_paged.proofs.Paging.{IsMaximal-dropped, IsMaximal-first, IsMaximal-second, IsMaximal-taken, covers_dropped, covers_page, covers_taken, cut_at, flattened-append, order_of, page_of, pages_ascend, parts_apart, taken_covers}
 
 -- ---- the runs of two lists, of which one follows the other
 
@@ -78,6 +78,14 @@ pub gaps_seen : (W S : ℤ → Type 0) (all met : List (ℤ × ℤ)) → IsRunsO
 gaps_seen W S all met a m z = (
   (λ (c, n). let w = (a.members z).0 c in (w, λ s. n ((m.members z).1 (z, w, one_run_of_member S z s)))),
   (λ (w, n). ((a.members z).1 w, λ c. n (of_one_run W S z ((m.members z).0 c)))),
+)
+
+-- of the runs that meet a window up to the end of the range, the numbers from its start on are those of all
+pub cut_from_met : (whole p : ℤ × ℤ) (v : ℤ) (S : ℤ → Type 0) (met : List (ℤ × ℤ)) → SameMembers (IsBetween p) (AtLeast v (IsBetween whole)) → IsSubset S (IsBetween whole) → IsRunsOf met (OfRunsThatMeet (IsBetween p) S) →
+    SameMembers (AtLeast v (Covers met)) (AtLeast v S)
+cut_from_met whole p v S met w s m z = (
+  (λ (c, up). (of_one_run (IsBetween p) S z ((m.members z).0 c), up)),
+  (λ (c, up). ((m.members z).1 (z, (w z).1 (s z c, up), one_run_of_member S z c), up)),
 )
 
 -- ---- the pages that meet a window

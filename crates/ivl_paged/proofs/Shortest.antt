@@ -1,10 +1,10 @@
 -- The shortest run that has room, page by page.
-use Rattle.std.proofs.Common.{◌≡◌, ◌⊎◌, ⊎_elim, inl, inr, ℕ, ◌+◌, ◌<◌, ◌≤◌, ℤ, pos, ◌+ℤ◌, ◌-ℤ◌, ◌≤ℤ◌, List, [], ◌∷◌, ◌++◌, length, get_or, take, take_all, Some, None, refl, sym, subst, ◌∙◌, arith}
+use Rattle.std.proofs.Common.{◌≡◌, ◌⊎◌, ⊎_elim, inl, inr, ℕ, ◌+◌, ◌<◌, ◌≤◌, ℤ, pos, ◌+ℤ◌, ◌-ℤ◌, ◌≤ℤ◌, List, ◌++◌, length, get_or, take, take_all, Some, None, refl, sym, subst, ◌∙◌, arith}
 use Rattle.std.specs.Prelude.{MatchOption, Option}
 use Rattle.std.proofs.lemmas.Bool.{cases_lt}
 use Rattle.std.proofs.lemmas.Int.{ints, by_lt_z}
 use Rattle.ivl_laws.specs.Bounds.{width_of}
-use Rattle.ivl_laws.specs.Sets.{AtLeast, IsBetween}
+use Rattle.ivl_laws.specs.Sets.{AtLeast}
 use Rattle.ivl_laws.specs.Runs.{Covers, IsMaximal}
 use Rattle.ivl_laws.proofs.Counts.{in-append}
 use Rattle.ivl_laws.proofs.Intervals.{width_of-filled}
@@ -12,7 +12,7 @@ use Rattle.ivl_laws.proofs.Merging.{covers-append, covers-append_left, covers-ap
 use Rattle.ivl_laws.proofs.Products.{one_covers}
 use Rattle.ivl_laws.proofs.Runs.{lower_end, pair_same, upper_end, ≤ℤ_antisymm}
 use Rattle.intervallum.specs.FirstFit.{FitsAt, IsFirstFit}
-use Rattle.intervallum.specs.Fits.{IsBestFit, IsNoBetter}
+use Rattle.intervallum.specs.Fits.{IsBestFit}
 use Rattle.intervallum.specs.Neighbours.{IsRunWith}
 use Rattle.intervallum.proofs.Fits.{run_is_listed}
 use Rattle.ivl_paged.specs.Pages.{flattened}

@@ -1,12 +1,12 @@
 -- Two lists of runs that are read side by side.
-use Rattle.std.proofs.Common.{◌≡◌, ◌⊎◌, ⊎_elim, inl, inr, ℤ, pos, ◌+ℤ◌, ◌≤ℤ◌, List, [], ◌∷◌, ◌++◌, Some, None, Bool, true, false, IsTrue, ◌↔◌, refl, sym, ap, subst, ◌∙◌, arith, append_assoc}
-use Rattle.std.specs.Prelude.{◌<ℤ◌, IsSomeAnd, MatchOption, Option}
+use Rattle.std.proofs.Common.{◌≡◌, ◌⊎◌, ⊎_elim, inl, inr, ℤ, pos, ◌+ℤ◌, ◌≤ℤ◌, List, [], ◌∷◌, ◌++◌, Some, None, refl, sym, ap, subst, ◌∙◌, arith, append_assoc}
+use Rattle.std.specs.Prelude.{◌<ℤ◌, IsSomeAnd, Option}
 use Rattle.std.specs.Iterator.{YieldsFirst}
 use Rattle.std.proofs.lemmas.Int.{ints, by_lt_z}
 use Rattle.ivl_laws.specs.Sets.{HasSome, Intersection, IsBetween, IsSubset}
 use Rattle.ivl_laws.specs.Runs.{Covers, IsMaximal}
 use Rattle.ivl_laws.proofs.Merging.{covers-append, covers-append_right}
-use Rattle.ivl_laws.proofs.Runs.{covered_after, covered_from, lower_end, upper_end}
+use Rattle.ivl_laws.proofs.Runs.{covered_after, covered_from, lower_end}
 use Rattle.intervallum.specs.Places.{EndBelow}
 use Rattle.intervallum.proofs.Windows.{below_all}
 use Rattle.ivl_paged.specs.Walks.{IsPassed, IsReadTo, put_back}

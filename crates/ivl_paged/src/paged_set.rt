@@ -13,11 +13,19 @@ mod first_fit;
 mod inclusion;
 mod interval_operands;
 mod iter;
+<<<<<<< HEAD
 mod list_operands;
 mod neighbours;
 mod overlaps;
 mod rank;
 mod set_operands;
+=======
+mod members;
+mod neighbours;
+mod overlaps;
+mod rank;
+mod split_off;
+>>>>>>> c6c3adb019ab2d5acc91c93487520c1c20dddd26
 mod text;
 mod walks;
 mod within;
@@ -30,6 +38,7 @@ use intervallum::ops::{Collection, IsEmpty, Singleton};
 use intervallum::sweep::coalesce;
 use intervallum::width::Width;
 pub use iter::Runs;
+pub use members::Members;
 use std::alloc::{AllocError, Global};
 use std::marker::Model;
 

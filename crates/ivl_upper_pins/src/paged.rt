@@ -1,17 +1,18 @@
 //! What the calls of a paged set mean, as a caller learns it; [`run_set`](crate::run_set) has those that both kinds of set have. None of these needs a hand-written proof.
 ghost use Rattle.std.specs.Prelude.{◌≡◌, ◌↔◌, ◌⊎◌, ◌≤ℤ◌, ℤ, pos, ◌+ℤ◌, [], ◌∷◌, IfOk, IsTrue, MatchOption, OnErr, OnOk, length};
-ghost use Rattle.ivl_laws.specs.Counts.{IsCountOf};
-ghost use Rattle.ivl_laws.specs.Sets.{HasNone, HasSome, Intersection, IsBetween, IsSubset, SameMembers, Without};
+ghost use Rattle.ivl_laws.specs.Counts.{IsCountOf, IsIn};
+ghost use Rattle.ivl_laws.specs.Sets.{AtLeast, Below, HasNone, HasSome, Intersection, IsBetween, IsSubset, SameMembers, Without};
 ghost use Rattle.ivl_laws.specs.Runs.{Covers, IsRunsOf};
 ghost use Rattle.intervallum.specs.FirstFit.{FitsAt, IsFirstFit};
 ghost use Rattle.intervallum.specs.Fits.{IsBestFit};
+ghost use Rattle.intervallum.specs.Members.{IsAscending};
 ghost use Rattle.intervallum.specs.Windows.{OfRunsThatMeet};
 
 use intervallum::interval::Interval;
 use intervallum::interval_set::IntervalSet;
 use intervallum::ops::{Bounded, Disjoint, Overlap, Subset};
 use intervallum::width::{SizeNumber, Width};
-use ivl_paged::paged_set::{PagedSet, Runs};
+use ivl_paged::paged_set::{Members, PagedSet, Runs};
 use std::alloc::{AllocError, Global};
 
 /// Removes the numbers of an interval.
@@ -219,4 +220,21 @@ pub fn tightest_if_some<B: Width>(set: &PagedSet<B>, count: B::Output) -> Option
     } else {
         None
     }
+}
+
+/// Divides a set at a value.
+pub fn divided<B: Width>(set: &mut PagedSet<B>, value: B) -> Result<PagedSet<B>, AllocError>
+    ensures above { IfOk result (λ L. IsRunsOf L (AtLeast (B.value value) (Covers set.old))) }
+    ensures below { OnOk result (IsRunsOf set.new (Below (B.value value) (Covers set.old))) }
+    ensures err { OnErr result (set.new ≡ set.old) }
+{
+    set.split_off(value)
+}
+
+/// Returns the members that lie in an interval.
+pub fn members_in<'a, B: Width>(set: &'a PagedSet<B>, interval: &Interval<B>) -> Members<'a, B>
+    ensures members { SameMembers (Intersection (Covers set.now) (IsBetween interval.now)) (IsIn result) }
+    ensures ascending { IsAscending result }
+{
+    set.members_within(interval)
 }

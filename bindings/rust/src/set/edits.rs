@@ -4,7 +4,7 @@ use super::conditions::{broken, contract, cost, memory, unless_broken, within_ra
 use super::iterators::members_of;
 use super::making::{gathered, interval_of, intervals_of};
 use super::reads::{ABOVE_0, as_range};
-use super::{IntervalSet, PagedSet, Piece, Pieces, paged::Lacking as _};
+use super::{IntervalSet, PagedSet, Piece, Pieces};
 use crate::proved::width::{SizeNumber, Width};
 use crate::proved::{Interval, ops::Range as _};
 use alloc::vec::Vec;

@@ -9,7 +9,11 @@ use alloc::vec::Vec;
 /// Calls that a proved set has if its runs stand in one list.
 pub(super) trait Lacking<T: Width>: Sized {
     fn is_singleton(&self) -> bool;
+<<<<<<< HEAD
     fn split_off(&mut self, value: T) -> Result<Self, AllocError>;
+=======
+    fn intersection(&self, interval: &Interval<T>) -> Result<Self, AllocError>;
+>>>>>>> c6c3adb019ab2d5acc91c93487520c1c20dddd26
 }
 
 /// A proved set that is made of one list of runs.
@@ -47,6 +51,7 @@ impl<T: Width> Lacking<T> for ProvedPagedSet<T> {
         self.interval_count() == 1 && self.first() == self.last()
     }
 
+<<<<<<< HEAD
     fn split_off(&mut self, value: T) -> Result<Self, AllocError> {
         let greatest = T::max_value();
         if value > greatest {
@@ -56,6 +61,10 @@ impl<T: Width> Lacking<T> for ProvedPagedSet<T> {
         let above = self.intersection(&rest)?;
         self.remove_interval(rest)?;
         Ok(above)
+=======
+    fn intersection(&self, interval: &Interval<T>) -> Result<Self, AllocError> {
+        made_of(runs_within(self, interval).map(|run| Intersection::intersection(&run, interval)).collect())
+>>>>>>> c6c3adb019ab2d5acc91c93487520c1c20dddd26
     }
 }
 

@@ -12,11 +12,19 @@ mod first_fit;
 mod inclusion;
 mod interval_operands;
 mod iter;
+<<<<<<< HEAD
 mod list_operands;
 mod neighbours;
 mod overlaps;
 mod rank;
 mod set_operands;
+=======
+mod members;
+mod neighbours;
+mod overlaps;
+mod rank;
+mod split_off;
+>>>>>>> c6c3adb019ab2d5acc91c93487520c1c20dddd26
 mod text;
 mod walks;
 mod within;
@@ -29,6 +37,7 @@ use crate::proved::intervallum::ops::{Collection, IsEmpty, Singleton};
 use crate::proved::intervallum::sweep::coalesce;
 use crate::proved::intervallum::width::Width;
 pub use iter::Runs;
+pub use members::Members;
 use crate::rattle::std::alloc::{AllocError, Global};
 
 /// A set of integers for many runs that change. A contract sees the list of its runs, each a pair

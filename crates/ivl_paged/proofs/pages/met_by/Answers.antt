@@ -1,4 +1,4 @@
-use Rattle.std.proofs.Common.{◌≡◌, ◌∙◌, ◌-◌, ℤ, List, ap, drop, take}
+use Rattle.std.proofs.Common.{◌-◌, ℤ, List, ap, drop, take}
 use Rattle.ivl_paged.proofs.Meeting.{met_span}
 use Rattle.ivl_paged.proofs.pages.met_by.Goals as goal
 

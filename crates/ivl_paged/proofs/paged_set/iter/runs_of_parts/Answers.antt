@@ -1,5 +1,4 @@
-use Rattle.std.proofs.Common.{◌∙◌, ℤ, List, ap, subst, sym}
-use Rattle.std.specs.Prelude.{All}
+use Rattle.std.proofs.Common.{ℤ, List, subst}
 use Rattle.ivl_laws.specs.Sets.{HasSome, Intersection, IsBetween}
 use Rattle.ivl_laws.specs.Runs.{Covers, IsRunsOf}
 use Rattle.intervallum.specs.Windows.{OfRunsThatMeet}

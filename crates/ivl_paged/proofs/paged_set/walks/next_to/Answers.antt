@@ -1,7 +1,7 @@
 use Rattle.ivl_laws.proofs.Orders.{not_le_number}
 use Rattle.std.proofs.Common.{ℤ, subst}
 use Rattle.std.specs.Prelude.{◌<ℤ◌}
-use Rattle.ivl_paged.proofs.Walking.{none_passed, one_passed, read_here, read_to_end}
+use Rattle.ivl_paged.proofs.Walking.{one_passed}
 use Rattle.ivl_paged.proofs.paged_set.walks.next_to.Goals as goal
 
 pub runs-preserved : goal.runs-preserved

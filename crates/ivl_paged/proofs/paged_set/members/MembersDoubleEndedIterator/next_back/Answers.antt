@@ -1,0 +1,37 @@
+use Rattle.std.proofs.Common.{◌++◌, ◌≤ℤ◌, ℤ, refl, subst, sym}
+use Rattle.std.specs.List.{AllByRecursion}
+use Rattle.intervallum.specs.Members.{members_of, numbers_of}
+use Rattle.intervallum.proofs.Members.{IsReadyBack, back_as_is, back_by_run, filled_before, last_of_part, goes_by_last}
+use Rattle.ivl_paged.proofs.MembersInPages.{back_at_end}
+use Rattle.ivl_paged.proofs.paged_set.members.MembersDoubleEndedIterator.next_back.Goals.{then-is_empty, in-Some, in-None, else-is_empty}
+use Rattle.ivl_paged.proofs.paged_set.members.MembersDoubleEndedIterator.next_back.Goals as goal
+
+pub returns-clause-steps : goal.returns-clause-steps
+returns-clause-steps g c =
+    let all = c.args.self.now in
+    let old = c.self.inside in
+    let now = c.if-is_empty.self-inside in
+    let ready : IsReadyBack all (numbers_of now.first ++ members_of now.between) (numbers_of now.last) = elim c.if-is_empty.branch [
+      | then-is_empty w ↦ elim w.match-next_back.branch [
+        | in-Some v ↦ rw (w.self-inside-is, v.self-is, v.self-inside-is) (back_by_run all old.first old.last v.in-Some.run' old.between _ c.self.view_is c.self.invariant (w.if-is_empty.ensures.crossed.0 refl) v.in-Some.ensures.steps)
+        | in-None v ↦ rw (w.self-inside-is, v.self-is, v.self-inside-is, v.replace-self-inside.ensures.value, v.replace-self-inside.ensures.after) (back_at_end all old.first old.last v.empty.result old.between _ c.self.view_is (w.if-is_empty.ensures.crossed.0 refl) v.empty.ensures.crossed v.in-None.ensures.steps.0 v.in-None.ensures.steps.1)
+      ]
+      | else-is_empty w ↦ rw w.self-inside-is (back_as_is all old.first old.last old.between c.self.view_is (w.if-is_empty.ensures.filled (λ e. cc)))
+    ] in
+    last_of_part g.B.Width.value all (numbers_of now.first ++ members_of now.between) (numbers_of now.last) (numbers_of c.take_greatest.new.part) c.take_greatest.result ready c.take_greatest.ensures
+
+pub returns-clause-goes : goal.returns-clause-goes
+returns-clause-goes g c = goes_by_last g.B.Width.value c.args.self.now _ c.take_greatest.result (returns-clause-steps g c)
+
+pub invariant_of-self : goal.invariant_of-self
+invariant_of-self g c =
+    let old = c.self.inside in
+    let now = c.if-is_empty.self-inside in
+    let filled : AllByRecursion (λ run. run.0 ≤ℤ run.1) now.between = elim c.if-is_empty.branch [
+      | then-is_empty w ↦ elim w.match-next_back.branch [
+        | in-Some v ↦ rw (w.self-inside-is, v.self-inside-is) (filled_before v.in-Some.run' old.between _ c.self.invariant v.in-Some.ensures.steps)
+        | in-None v ↦ rw (w.self-inside-is, v.self-inside-is) (subst (AllByRecursion (λ (run : ℤ × ℤ). run.0 ≤ℤ run.1)) (sym v.in-None.ensures.steps.1) tt)
+      ]
+      | else-is_empty w ↦ rw w.self-inside-is c.self.invariant
+    ] in
+    filled
