@@ -170,7 +170,7 @@ fn a_network_that_settles_can_be_taken_back_and_goes_on() {
             assert!(again.all(|(domain, end)| end.is_subset(domain)));
             made.is_ok_and(|settled| settled == Settled::All && seen(network) == after)
         });
-        assert!(refused > 3 && told > 3, "{name}: {refused}, {told}");
+        assert!(refused > 2 && told > 2, "{name}: {refused}, {told}");
     }
     let mut back = network();
     assert!(refusing(1, || back.settle(1_000)).0.is_err());
@@ -209,26 +209,33 @@ fn thirds(count: i64, step: i64) -> Set {
 /// Sums in a set of few runs, in order: the operands stay, and where all members are sums nothing is allocated.
 #[test]
 fn sums_in_order() {
-    let operands = || (thirds(12, 7), thirds(3, 20), thirds(2, 5));
-    let (x, a, b) = operands();
-    let wanted = results_unless_all(&x, &a, &b, Combined::Sum).unwrap().unwrap();
-    assert!(wanted.interval_count() > 4 && wanted.is_subset(&x));
-    let (refused, told) = each_refused(
-        operands,
-        |(x, a, b)| results_unless_all(x, a, b, Combined::Sum),
-        |given, made, _| {
-            assert!(*given == operands());
-            made.is_ok_and(|set| set.is_some_and(|set| set == wanted))
-        },
-    );
-    assert!(refused > 1 && told > 1, "{refused}, {told}");
-    let all = || (thirds(2, 6), thirds(3, 6), thirds(2, 6));
-    let (refused, _) = each_refused(
-        all,
-        |(x, a, b)| results_unless_all(x, a, b, Combined::Sum),
-        |given, made, _| *given == all() && made.is_ok_and(|set| set.is_none()),
-    );
-    assert_eq!(refused, 0);
+    // more runs of sums than of the set; then one operand is a single number
+    let cases: [fn() -> (Set, Set, Set); 2] =
+        [|| (thirds(2, 90), thirds(12, 10), thirds(2, 3)), || (thirds(2, 90), thirds(20, 7), thirds(1, 1))];
+    for operands in cases {
+        let (x, a, b) = operands();
+        let wanted = results_unless_all(&x, &a, &b, Combined::Sum).unwrap().unwrap();
+        assert!(wanted.interval_count() > 4 && wanted.is_subset(&x));
+        let (refused, told) = each_refused(
+            operands,
+            |(x, a, b)| results_unless_all(x, a, b, Combined::Sum),
+            |given, made, _| {
+                assert!(*given == operands());
+                made.is_ok_and(|set| set.is_some_and(|set| set == wanted))
+            },
+        );
+        assert!(refused > 1 && told > 1, "{refused}, {told}");
+    }
+    let cases: [fn() -> (Set, Set, Set); 2] =
+        [|| (thirds(2, 6), thirds(3, 6), thirds(2, 6)), || (thirds(2, 6), thirds(3, 6), thirds(1, 1))];
+    for all in cases {
+        let (refused, _) = each_refused(
+            all,
+            |(x, a, b)| results_unless_all(x, a, b, Combined::Sum),
+            |given, made, _| *given == all() && made.is_ok_and(|set| set.is_none()),
+        );
+        assert_eq!(refused, 0);
+    }
 }
 
 /// Sums cut to a window or to a set, by pairs and run by run: the operands stay.
@@ -290,11 +297,13 @@ fn narrowing_by_rules() {
         );
         assert!(refused > 0 && told == refused, "{rule:?}: {refused}, {told}");
     }
+    // one run, of which many are left
+    let wide = || -> [Set; 3] { [Set::new(Global, -200, 0).unwrap(), given()[1].try_clone().unwrap(), thirds(20, 9)] };
     let (refused, told) = each_refused(
-        given,
+        wide,
         |[x, a, b]| narrowed_by(x, a, b, Combined::Difference),
         |domains, made, _| {
-            assert!(*domains == given());
+            assert!(*domains == wide());
             made.is_ok_and(|left| left.is_some())
         },
     );

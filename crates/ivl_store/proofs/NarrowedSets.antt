@@ -1,12 +1,16 @@
 -- What is left of a set where only some members are kept.
-use Rattle.std.proofs.Common.{◌≡◌, ◌↔◌, ◌⊎◌, inl, inr, refl, sym, ap, subst, arith, ◌∙◌, List, [], ◌∷◌, length, get_or}
+use Rattle.std.proofs.Common.{◌≡◌, ◌↔◌, ◌⊎◌, ℕ, inl, inr, refl, sym, ap, subst, arith, ◌∙◌, List, [], ◌∷◌, length, map, take, get_or}
 use Rattle.std.proofs.lemmas.Int.{ints}
 use Rattle.std.specs.Prelude.{ℤ, ◌≤ℤ◌, Option, Some, None, IfOk, Result, Ok, Err, unwrap_or}
 use Rattle.ivl_laws.specs.Sets.{Differences, HasNone, HasSome, IsBetween, IsSubset, Only, SameMembers, Sums, Intersection}
-use Rattle.ivl_laws.specs.Runs.{Covers, IsRunListIn, IsRunsOf}
+use Rattle.ivl_laws.specs.Runs.{Covers, IsMaximal, IsRunListIn, IsRunsOf}
+use Rattle.ivl_laws.specs.Counts.{IsCountOf}
+use Rattle.ivl_laws.proofs.Counts.{IsCountOf-same}
 use Rattle.ivl_laws.proofs.Runs.{lower_end}
 use Rattle.ivl_laws.proofs.Products.{sums_of_intervals, differences_of_intervals}
 use Rattle.ivl_laws.proofs.SetLaws.{sums_are_monotone, differences_are_monotone}
+use Rattle.intervallum.specs.declared.sweep.Op.TheVariants.{Sum as Plus}
+use Rattle.intervallum.proofs.Shifting.{is_moved, moved}
 use Rattle.ivl_within.specs.declared.within.Combined.{Combined}
 use Rattle.ivl_within.specs.declared.within.Combined.TheVariants.{Sum, Difference}
 use Rattle.ivl_within.specs.Within.{Clipped, SumsBy, pair_by}
@@ -123,6 +127,51 @@ summed X Y Z = (
   (λ (v, (m, (c, a, k, n, e))). (c, (k, (a, v, n, m, omega (arith, ints, e))))),
   (λ (c, (k, (a, v, n, m, e))). (v, (m, (c, a, k, n, omega (arith, ints, e))))),
 )
+
+pub sums_turned : (X Y : ℤ → Type 0) (z : ℤ) → Sums X Y z ↔ Sums Y X z
+sums_turned X Y z = ((λ (x, y, m, n, e). (y, x, n, m, omega (arith, ints, e))), (λ (y, x, n, m, e). (x, y, m, n, omega (arith, ints, e))))
+
+-- ---- a set that is moved onto another one
+
+module _ (whole : ℤ × ℤ) (x y z : List (ℤ × ℤ)) (left : Option (List (ℤ × ℤ))) (h : IsLeftOf whole x (Differences (Covers z) (Covers y)) left) (k : ℤ) (only : SameMembers (Covers y) (Only k)) where
+  rest : List (ℤ × ℤ)
+  rest = unwrap_or left x
+
+  -- what is left of x, moved, stands in z
+  pub moved_within : IsSubset (Sums (Covers (unwrap_or left x)) (Only k)) (Covers z)
+  moved_within v (r, l, m, e, s) =
+      let (here, (c, b, t, n, d)) = ((rest_is whole x (Differences (Covers z) (Covers y)) left h).1 r).0 m in
+      let f = (only b).0 n in
+      let g : c ≡ v = omega (arith, ints, d, e, f, s) in
+      subst (Covers z) g t
+
+  -- and these are all members of z that are sums
+  pub moved_are_sums : (left_of_z : Option (List (ℤ × ℤ))) → IsLeftOf whole z (Sums (Covers (unwrap_or left x)) (Only k)) left_of_z → IsLeftOf whole z (Sums (Covers x) (Covers y)) left_of_z
+  moved_are_sums left_of_z = left_same whole z (Sums (Covers (unwrap_or left x)) (Only k)) (Sums (Covers x) (Covers y)) left_of_z (λ v t. (
+    (λ (r, l, m, e, s). (r, l, (((rest_is whole x (Differences (Covers z) (Covers y)) left h).1 r).0 m).0, (only l).1 e, s)),
+    (λ (r, l, m, n, s). (r, l, ((rest_is whole x (Differences (Covers z) (Covers y)) left h).1 r).1 (m, (v, l, t, n, omega (arith, ints, s))), (only l).0 n, s)),
+  ))
+
+-- the only number of a set
+pub only_at : (S : ℤ → Type 0) (v : ℤ) → (k : ℤ) × SameMembers S (Only k) → S v → SameMembers S (Only v)
+only_at S v (k, same) m =
+    let e = (same v).0 m in
+    λ z. ((λ n. (same z).0 n ∙ sym e), (λ f. (same z).1 (f ∙ e)))
+
+-- some members of a set are left
+pub part_left : (whole : ℤ × ℤ) (L made : List (ℤ × ℤ)) (S : ℤ → Type 0) → IsRunListIn whole L → IsSubset S (Covers L) → IsRunsOf made S → ¬ (SameMembers S (Covers L)) → IsLeftOf whole L S (Some made)
+part_left whole L made S r part is differ = (
+  r,
+  record { maximal = is.maximal; within = λ z m. r.within z (part z ((is.members z).0 m)) },
+  (λ z. ((λ m. let s = (is.members z).0 m in (part z s, s)), (λ u. (is.members z).1 u.1))),
+  (λ agree. differ (λ z. ((λ s. part z s), (λ m. (is.members z).0 ((agree z).1 m))))),
+)
+
+-- a set moved by a number has as many members
+pub count_moved : (whole : ℤ × ℤ) (L : List (ℤ × ℤ)) (k : ℤ) (n : ℕ) → IsMaximal L → IsSubset (Sums (Covers L) (Only k)) (IsBetween whole) → IsCountOf n (Covers L) → IsCountOf n (Sums (Covers L) (Only k))
+count_moved whole L k n m fits c =
+    let made = is_moved whole Plus k L L n (length L) (map (moved Plus k) (take (length L) L)) refl tt m c fits (omega arith) refl in
+    IsCountOf-same (Covers (map (moved Plus k) (take (length L) L))) (Sums (Covers L) (Only k)) n made.runs.members made.count
 
 -- ---- three facts of one result
 

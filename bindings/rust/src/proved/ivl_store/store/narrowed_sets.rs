@@ -6,7 +6,7 @@ use crate::rattle::prelude::*;
 use super::Constraint;
 use crate::proved::intervallum::interval::Interval;
 use crate::proved::intervallum::interval_set::IntervalSet;
-use crate::proved::intervallum::ops::{Cardinality, Intersection, IsEmpty, IsSingleton};
+use crate::proved::intervallum::ops::{Bounded, Cardinality, Intersection, IsEmpty, IsSingleton};
 use crate::proved::intervallum::width::Width;
 use crate::proved::ivl_within::within::{Combined, pair_in_window, results_unless_all};
 use crate::rattle::std::alloc::AllocError;
@@ -44,7 +44,8 @@ pub(super) fn narrowed_sets<B: Width>(
 
 /// Returns the members of `x` that are a difference of a member of `z` and one of `y`, those of `y` that are one of a
 /// member of `z` and one of `x`, and those of `z` that are a sum of both, or `None` in place of a set of which all
-/// are. Costs what [`narrowed_by`] costs, for each set with two members or more, and for one more at most.
+/// are. Costs what [`narrowed_by`] costs, for each of the three; where `x` or `y` is a single number, for one of them,
+/// and where that makes `z` lose members, a copy of what is left.
 ///
 /// # Errors
 ///
@@ -86,41 +87,77 @@ pub fn narrowed_by_sum<B: Width>(
     AllocError,
 > {
     if y.is_singleton() {
-        let left_of_x = narrowed_by(x, z, y, Combined::Difference)?;
-        let left_of_y = left_of_one(y, x, &left_of_x);
-        let left_of_z = narrowed_by(z, x, y, Combined::Sum)?;
+        return narrowed_by_number(x, y, z);
+    }
+    if x.is_singleton() {
+        let (left_of_y, left_of_x, left_of_z) = narrowed_by_number(y, x, z)?;
         return Ok((left_of_x, left_of_y, left_of_z));
     }
+    let left_of_x = narrowed_by(x, z, y, Combined::Difference)?;
     let left_of_y = narrowed_by(y, z, x, Combined::Difference)?;
-    let left_of_x = if x.is_singleton() {
-        left_of_one(x, y, &left_of_y)
-    } else {
-        narrowed_by(x, z, y, Combined::Difference)?
-    };
     let left_of_z = if z.is_singleton() {
-        left_of_one(z, y, &left_of_y)
+        left_of_one(z, rest_of(y, &left_of_y))
     } else {
         narrowed_by(z, x, y, Combined::Sum)?
     };
     Ok((left_of_x, left_of_y, left_of_z))
 }
 
+/// Returns what is left at x, y and z of a sum where y is a single number, by which what is left of x is moved onto
+/// what is left of z.
+fn narrowed_by_number<B: Width>(
+    x: &IntervalSet<B>,
+    y: &IntervalSet<B>,
+    z: &IntervalSet<B>,
+) -> Result<
+    (
+        Option<IntervalSet<B>>,
+        Option<IntervalSet<B>>,
+        Option<IntervalSet<B>>,
+    ),
+    AllocError,
+> {
+    let left_of_x = narrowed_by(x, z, y, Combined::Difference)?;
+    let rest = rest_of(x, &left_of_x);
+    let left_of_y = left_of_one(y, rest);
+    let left_of_z = left_of_moved(z, rest, y.lower())?;
+    Ok((left_of_x, left_of_y, left_of_z))
+}
+
+/// The set itself, or what is left of it.
+fn rest_of<'a, B: Width>(
+    set: &'a IntervalSet<B>,
+    left: &'a Option<IntervalSet<B>>,
+) -> &'a IntervalSet<B> {
+    match left {
+        Some(rest) => rest,
+        None => set,
+    }
+}
+
 /// Returns what is left of a set of one number, which stands in a sum with a member of another set: it stays exactly
-/// where some member of that one does.
-fn left_of_one<B: Width>(
-    one: &IntervalSet<B>,
-    other: &IntervalSet<B>,
-    left: &Option<IntervalSet<B>>,
-) -> Option<IntervalSet<B>> {
+/// where something is left of that one.
+fn left_of_one<B: Width>(one: &IntervalSet<B>, rest: &IntervalSet<B>) -> Option<IntervalSet<B>> {
     one.in_whole();
-    let is_none = match left {
-        Some(rest) => rest.is_empty(),
-        None => other.is_empty(),
-    };
-    if is_none {
+    if rest.is_empty() {
         return Some(IntervalSet::empty(one.allocator()));
     }
     None
+}
+
+/// Returns what is left of a set in which just the members of another one, moved by a number, stay.
+fn left_of_moved<B: Width>(
+    z: &IntervalSet<B>,
+    rest: &IntervalSet<B>,
+    by: B,
+) -> Result<Option<IntervalSet<B>>, AllocError> {
+    z.in_whole();
+    rest.in_whole();
+    // as many as before are all
+    if rest.size() != z.size() {
+        return Ok(Some((rest + by)?));
+    }
+    Ok(None)
 }
 
 /// Returns the members of `x` that are a sum, or a difference, of a member of `a` and one of `b`, or `None` if all
