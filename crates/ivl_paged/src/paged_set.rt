@@ -13,19 +13,13 @@ mod first_fit;
 mod inclusion;
 mod interval_operands;
 mod iter;
-<<<<<<< HEAD
 mod list_operands;
-mod neighbours;
-mod overlaps;
-mod rank;
-mod set_operands;
-=======
 mod members;
 mod neighbours;
 mod overlaps;
 mod rank;
+mod set_operands;
 mod split_off;
->>>>>>> c6c3adb019ab2d5acc91c93487520c1c20dddd26
 mod text;
 mod walks;
 mod within;

@@ -81,11 +81,11 @@ impl<B: Width> Parts<B> for PageList<B> {
 
 /// The last value before page `i`, or the last one of the range if there is no such page. A value up to
 /// which no more than `i` pages start comes no later.
-fn last_before<B: Width>(pages: &PageList<B>, i: usize, value: B) -> B
+fn last_before<B: Width>(pages: &PageList<B>, i: usize, _value: B) -> B
     requires runs { IsRunListIn B.whole (flattened pages.now) }
-    requires in_range { IsBetween B.whole (B.value value) }
-    requires starts { (n : ℕ) × (n ≤ i) × StartsUpTo pages.now (B.value value) n }
-    ensures in_order { B.value value ≤ℤ B.value result }
+    requires in_range { IsBetween B.whole (B.value _value) }
+    requires starts { (n : ℕ) × (n ≤ i) × StartsUpTo pages.now (B.value _value) n }
+    ensures in_order { B.value _value ≤ℤ B.value result }
     ensures at_most { B.value result ≤ℤ B.whole.1 }
 {
     if i < pages.len() {

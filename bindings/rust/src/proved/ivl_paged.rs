@@ -5,20 +5,10 @@
 //! edit that changes the number of runs moves all those above it. A [`PagedSet`] moves the runs of
 //! one page. To contracts both are the same list of maximal runs.
 //!
-
-#[allow(unused_imports)]
-use crate::rattle::prelude::*;
-
-<<<<<<< HEAD
-//! A [`PagedSet`] has edits, queries by value, by rank and by room, the set operations, equality, text
-//! and the runs. For what only an `IntervalSet` has, convert by `to_set`, and back by `of_set`. Pages
-//! are split when they are full, joined with a neighbour when both have few runs, and removed when they
-//! are empty.
-=======
-//! A [`PagedSet`] has edits, queries by value, by rank, by room and within a window, equality, inclusion,
-//! text and the runs. To combine sets, convert by `to_set`, and back by `of_set`. Pages are split when
-//! they are full, joined with a neighbour when both have few runs, and removed when they are empty.
->>>>>>> c6c3adb019ab2d5acc91c93487520c1c20dddd26
+//! A [`PagedSet`] has edits, queries by value, by rank, by room and within a window, inclusion, the set
+//! operations, equality, text and the runs. For what only an `IntervalSet` has, convert by `to_set`, and
+//! back by `of_set`. Pages are split when they are full, joined with a neighbour when both have few runs,
+//! and removed when they are empty.
 //!
 //! ```
 //! use intervallum::proved::examples::*;
@@ -31,6 +21,9 @@ use crate::rattle::prelude::*;
 //!     Ok(())
 //! }
 //! ```
+
+#[allow(unused_imports)]
+use crate::rattle::prelude::*;
 
 mod combine;
 mod page;

@@ -9,11 +9,6 @@ use alloc::vec::Vec;
 /// Calls that a proved set has if its runs stand in one list.
 pub(super) trait Lacking<T: Width>: Sized {
     fn is_singleton(&self) -> bool;
-<<<<<<< HEAD
-    fn split_off(&mut self, value: T) -> Result<Self, AllocError>;
-=======
-    fn intersection(&self, interval: &Interval<T>) -> Result<Self, AllocError>;
->>>>>>> c6c3adb019ab2d5acc91c93487520c1c20dddd26
 }
 
 /// A proved set that is made of one list of runs.
@@ -49,22 +44,6 @@ fn made_of<T: Width>(intervals: Vec<Interval<T>>) -> Result<ProvedPagedSet<T>, A
 impl<T: Width> Lacking<T> for ProvedPagedSet<T> {
     fn is_singleton(&self) -> bool {
         self.interval_count() == 1 && self.first() == self.last()
-    }
-
-<<<<<<< HEAD
-    fn split_off(&mut self, value: T) -> Result<Self, AllocError> {
-        let greatest = T::max_value();
-        if value > greatest {
-            return Ok(ProvedPagedSet::new(Global));
-        }
-        let rest = Interval::new(value.max(T::min_value()), greatest);
-        let above = self.intersection(&rest)?;
-        self.remove_interval(rest)?;
-        Ok(above)
-=======
-    fn intersection(&self, interval: &Interval<T>) -> Result<Self, AllocError> {
-        made_of(runs_within(self, interval).map(|run| Intersection::intersection(&run, interval)).collect())
->>>>>>> c6c3adb019ab2d5acc91c93487520c1c20dddd26
     }
 }
 

@@ -80,6 +80,7 @@ pub(super) fn restrict_logged<B: Width>(
 
 /// What narrowing by a rule counts for: a sum one, and one more for each 256 pairs of runs of two of its
 /// domains; a rule of two variables one, and one more for each 256 runs of its domains.
+#[inline]
 pub(super) fn cost_of_rule<B: Width>(store: &Store<B>, rule: &Rule) -> u64
     requires { ArePresent (length store.now) rule.now }
     ensures cost { result ≡ cost_of rule.now store.now }

@@ -160,6 +160,7 @@ fn put<B: Width>(domains: &mut [IntervalSet<B>], i: usize, left: Option<Interval
 }
 
 /// Returns what narrowing leaves at each place of the rule, or `None` where no member is lost.
+#[inline]
 pub fn narrowed_at_places<B: Width>(
     domains: &[IntervalSet<B>],
     rule: &Rule,

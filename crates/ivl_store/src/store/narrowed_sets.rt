@@ -64,6 +64,7 @@ pub(super) fn narrowed_sets<B: Width>(
 /// assert!(rt; left_of_x == Some(IntervalSet::new(alloc, 2, 3)?));
 /// assert!(rt; left_of_y.is_none() && left_of_z.is_none());
 /// ```
+#[inline]
 pub fn narrowed_by_sum<B: Width>(
     x: &IntervalSet<B>,
     y: &IntervalSet<B>,

@@ -103,7 +103,7 @@ impl<B: Width> Parts<B> for PageList<B> {
 
 /// The last value before page `i`, or the last one of the range if there is no such page. A value up to
 /// which no more than `i` pages start comes no later.
-fn last_before<B: Width>(pages: &PageList<B>, i: usize, value: B) -> B {
+fn last_before<B: Width>(pages: &PageList<B>, i: usize, _value: B) -> B {
     if i < pages.len() {
         return pages.head(i).sub_in_range(B::one());
     }

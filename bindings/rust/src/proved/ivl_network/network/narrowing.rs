@@ -53,6 +53,7 @@ pub(super) fn restrict_logged<B: Width>(
 
 /// What narrowing by a rule counts for: a sum one, and one more for each 256 pairs of runs of two of its
 /// domains; a rule of two variables one, and one more for each 256 runs of its domains.
+#[inline]
 pub(super) fn cost_of_rule<B: Width>(store: &Store<B>, rule: &Rule) -> u64 {
     let c = rule.places();
     if c.y == c.z {

@@ -75,6 +75,7 @@ impl Queue {
 
     /// Updates the flags after the first rule narrowed the store, which is settled then. Others that
     /// name a variable which lost a member are no longer, but for those that take nothing.
+    #[inline]
     pub(super) fn settle<B: Width>(
         &mut self,
         i: usize,

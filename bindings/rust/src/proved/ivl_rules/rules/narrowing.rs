@@ -166,6 +166,7 @@ fn put<B: Width>(domains: &mut [IntervalSet<B>], i: usize, left: Option<Interval
 }
 
 /// Returns what narrowing leaves at each place of the rule, or `None` where no member is lost.
+#[inline]
 ///
 /// # Proved
 ///

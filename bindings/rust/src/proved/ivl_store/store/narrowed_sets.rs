@@ -64,6 +64,7 @@ pub(super) fn narrowed_sets<B: Width>(
 ///     Ok(())
 /// }
 /// ```
+#[inline]
 ///
 /// # Proved
 ///
