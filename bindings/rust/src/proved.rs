@@ -89,7 +89,7 @@ pub mod examples {
     pub use super::ivl_search::search::{
         Best, End, Found, Limits, SearchFault, all_distinct, count, greatest, least, solutions, try_solutions,
     };
-    pub use super::ivl_store::store::narrowed_sets::{narrowed_by, narrowed_to};
+    pub use super::ivl_store::store::narrowed_sets::{narrowed_by, narrowed_by_sum, narrowed_to};
     pub use super::ivl_store::store::{Constraint, Lost, Post, Store, StoreFault};
     pub use super::ivl_within::within::{
         Combined, add_within, differences_in_window, pair_in_window, results_in_set, results_unless_all, sub_within,
