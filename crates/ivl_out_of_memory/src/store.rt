@@ -53,10 +53,10 @@ const CUT_FIXED: &Family = &[&[(1, 1)], &[(1, 1), (4, 4)], &[(2, 2), (5, 5)], &[
 /// that leaves them if it is refused.
 const POSTED: [(u32, &Family); 5] = [
     (0, FRESH),
-    (15, NARROWED),
-    (16, CUT),
-    (18, CUT_NARROWED),
-    (20, CUT_ROUND),
+    (14, NARROWED),
+    (15, CUT),
+    (16, CUT_NARROWED),
+    (18, CUT_ROUND),
 ];
 
 /// How many posts the longest list has.
