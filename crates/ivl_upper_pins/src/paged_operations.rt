@@ -50,7 +50,10 @@ pub fn in_none<B: Width>(a: &PagedSet<B>) -> Result<PagedSet<B>, AllocError>
 }
 
 /// Returns the members of either set, of which the second is in one list.
-pub fn in_either_list<B: Width>(a: &PagedSet<B>, b: &IntervalSet<B>) -> Result<PagedSet<B>, AllocError>
+pub fn in_either_list<B: Width>(
+    a: &PagedSet<B>,
+    b: &IntervalSet<B>,
+) -> Result<PagedSet<B>, AllocError>
     ensures members { IfOk result (λ L. IsRunsOf L (Union (Covers a.now) (Covers b.now))) }
     ensures count { IfOk result (λ L. length L ≤ length a.now + length b.now) }
 {
@@ -58,7 +61,10 @@ pub fn in_either_list<B: Width>(a: &PagedSet<B>, b: &IntervalSet<B>) -> Result<P
 }
 
 /// Returns the members of both sets, of which the second is in one list.
-pub fn in_both_lists<B: Width>(a: &PagedSet<B>, b: &IntervalSet<B>) -> Result<PagedSet<B>, AllocError>
+pub fn in_both_lists<B: Width>(
+    a: &PagedSet<B>,
+    b: &IntervalSet<B>,
+) -> Result<PagedSet<B>, AllocError>
     ensures members { IfOk result (λ L. IsRunsOf L (Intersection (Covers a.now) (Covers b.now))) }
     ensures count { IfOk result (λ L. length L ≤ length a.now + length b.now) }
 {

@@ -42,9 +42,9 @@ impl<B: Width> Union<PagedSet<B>> for PagedSet<B> {
 
     ghost answers = { λ r S. IfOk r (λ L. IsRunsOf L S) };
 
-    /// Returns the members of either set. `O(n + m)`. Goes by windows in which
-    /// each set has about 16 pages: allocates the pages of the result, and lists of the runs in one
-    /// window. Fails only if allocation fails.
+    /// Returns the members of either set. `O(n + m)`. Goes by windows in which each set has about 16
+    /// pages: allocates the pages of the result, and lists of the runs in one window. Fails only if
+    /// allocation fails.
     ///
     /// ```
     /// let (mut a, mut b) = (PagedSet::new(alloc), PagedSet::new(alloc));
@@ -70,9 +70,9 @@ impl<B: Width> Intersection<PagedSet<B>> for PagedSet<B> {
 
     ghost answers = { λ r S. IfOk r (λ L. IsRunsOf L S) };
 
-    /// Returns the members of both sets. `O(n + m)`. Goes by windows in which
-    /// each set has about 16 pages: allocates the pages of the result, and lists of the runs in one
-    /// window. Fails only if allocation fails.
+    /// Returns the members of both sets. `O(n + m)`. Goes by windows in which each set has about 16
+    /// pages: allocates the pages of the result, and lists of the runs in one window. Fails only if
+    /// allocation fails.
     ///
     /// ```
     /// let (mut a, mut b) = (PagedSet::new(alloc), PagedSet::new(alloc));
@@ -98,9 +98,9 @@ impl<B: Width> Difference<PagedSet<B>> for PagedSet<B> {
 
     ghost answers = { λ r S. IfOk r (λ L. IsRunsOf L S) };
 
-    /// Returns the members that are not in `other`. `O(n + m)`. Goes by windows in which
-    /// each set has about 16 pages: allocates the pages of the result, and lists of the runs in one
-    /// window. Fails only if allocation fails.
+    /// Returns the members that are not in `other`. `O(n + m)`. Goes by windows in which each set has
+    /// about 16 pages: allocates the pages of the result, and lists of the runs in one window. Fails
+    /// only if allocation fails.
     ///
     /// ```
     /// let (mut a, mut b) = (PagedSet::new(alloc), PagedSet::new(alloc));
@@ -128,9 +128,9 @@ impl<B: Width> SymmetricDifference<PagedSet<B>> for PagedSet<B> {
 
     ghost answers = { λ r S. IfOk r (λ L. IsRunsOf L S) };
 
-    /// Returns the members of exactly one of the sets. `O(n + m)`. Goes by windows in which
-    /// each set has about 16 pages: allocates the pages of the result, and lists of the runs in one
-    /// window. Fails only if allocation fails.
+    /// Returns the members of exactly one of the sets. `O(n + m)`. Goes by windows in which each set
+    /// has about 16 pages: allocates the pages of the result, and lists of the runs in one window.
+    /// Fails only if allocation fails.
     ///
     /// ```
     /// let (mut a, mut b) = (PagedSet::new(alloc), PagedSet::new(alloc));

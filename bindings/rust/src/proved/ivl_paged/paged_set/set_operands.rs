@@ -40,9 +40,9 @@ impl<B: Width> PagedSet<B> {
 impl<B: Width> Union<PagedSet<B>> for PagedSet<B> {
     type Output = Result<PagedSet<B>, AllocError>;
 
-    /// Returns the members of either set. `O(n + m)`. Goes by windows in which
-    /// each set has about 16 pages: allocates the pages of the result, and lists of the runs in one
-    /// window. Fails only if allocation fails.
+    /// Returns the members of either set. `O(n + m)`. Goes by windows in which each set has about 16
+    /// pages: allocates the pages of the result, and lists of the runs in one window. Fails only if
+    /// allocation fails.
     ///
     /// ```
     /// use intervallum::proved::examples::*;
@@ -83,9 +83,9 @@ impl<B: Width> Union<PagedSet<B>> for PagedSet<B> {
 impl<B: Width> Intersection<PagedSet<B>> for PagedSet<B> {
     type Output = Result<PagedSet<B>, AllocError>;
 
-    /// Returns the members of both sets. `O(n + m)`. Goes by windows in which
-    /// each set has about 16 pages: allocates the pages of the result, and lists of the runs in one
-    /// window. Fails only if allocation fails.
+    /// Returns the members of both sets. `O(n + m)`. Goes by windows in which each set has about 16
+    /// pages: allocates the pages of the result, and lists of the runs in one window. Fails only if
+    /// allocation fails.
     ///
     /// ```
     /// use intervallum::proved::examples::*;
@@ -126,9 +126,9 @@ impl<B: Width> Intersection<PagedSet<B>> for PagedSet<B> {
 impl<B: Width> Difference<PagedSet<B>> for PagedSet<B> {
     type Output = Result<PagedSet<B>, AllocError>;
 
-    /// Returns the members that are not in `other`. `O(n + m)`. Goes by windows in which
-    /// each set has about 16 pages: allocates the pages of the result, and lists of the runs in one
-    /// window. Fails only if allocation fails.
+    /// Returns the members that are not in `other`. `O(n + m)`. Goes by windows in which each set has
+    /// about 16 pages: allocates the pages of the result, and lists of the runs in one window. Fails
+    /// only if allocation fails.
     ///
     /// ```
     /// use intervallum::proved::examples::*;
@@ -170,9 +170,9 @@ impl<B: Width> Difference<PagedSet<B>> for PagedSet<B> {
 impl<B: Width> SymmetricDifference<PagedSet<B>> for PagedSet<B> {
     type Output = Result<PagedSet<B>, AllocError>;
 
-    /// Returns the members of exactly one of the sets. `O(n + m)`. Goes by windows in which
-    /// each set has about 16 pages: allocates the pages of the result, and lists of the runs in one
-    /// window. Fails only if allocation fails.
+    /// Returns the members of exactly one of the sets. `O(n + m)`. Goes by windows in which each set
+    /// has about 16 pages: allocates the pages of the result, and lists of the runs in one window.
+    /// Fails only if allocation fails.
     ///
     /// ```
     /// use intervallum::proved::examples::*;
