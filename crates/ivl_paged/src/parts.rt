@@ -19,6 +19,54 @@ const WINDOW_PAGES: usize = 16;
 /// How many runs a window has about where they stand in one list.
 const WINDOW_RUNS: usize = WINDOW_PAGES * FIRST_RUNS;
 
+/// The end of the next window of pages, which begins with a value.
+pub(crate) fn end_of_window<B: Width>(pages: &PageList<B>, lower: B) -> B
+    requires runs { IsRunListIn B.whole (flattened pages.now) }
+    requires in_range { IsBetween B.whole (B.value lower) }
+    ensures in_order { B.value lower ≤ℤ B.value result }
+    ensures at_most { B.value result ≤ℤ B.whole.1 }
+{
+    let next = pages.starts_up_to(lower);
+    last_before(pages, next.saturating_add(WINDOW_PAGES), lower)
+}
+
+/// Writes the runs of the pages that a window meets into a list, in the place of what it has.
+pub(crate) fn gather_pages<B: Width>(
+    pages: &PageList<B>,
+    window: &Interval<B>,
+    list: &mut Vec<Interval<B>>,
+) -> Result<(), AllocError>
+    requires runs { IsRunListIn B.whole (flattened pages.now) }
+    requires filled { window.now.0 ≤ℤ window.now.1 }
+    ensures list { OnOk result (IsRunListIn B.whole list.new.items) }
+    ensures members { OnOk result (SameMembers
+        (Intersection (Covers list.new.items) (IsBetween window.now))
+        (Intersection (Covers (flattened pages.now)) (IsBetween window.now))) }
+{
+    let start = pages.starts_up_to(window.lower_bound()).saturating_sub(1);
+    let end = pages.starts_up_to(window.upper_bound());
+    list.clear();
+    for page in &pages.as_slice()[start..end] {
+        list.extend_from_slice(page.set().runs())?;
+    }
+    Ok(())
+}
+
+/// The last value before page `i`, or the last one of the range if there is no such page. A value up to
+/// which no more than `i` pages start comes no later.
+fn last_before<B: Width>(pages: &PageList<B>, i: usize, _value: B) -> B
+    requires runs { IsRunListIn B.whole (flattened pages.now) }
+    requires in_range { IsBetween B.whole (B.value _value) }
+    requires starts { (n : ℕ) × (n ≤ i) × StartsUpTo pages.now (B.value _value) n }
+    ensures in_order { B.value _value ≤ℤ B.value result }
+    ensures at_most { B.value result ≤ℤ B.whole.1 }
+{
+    if i < pages.len() {
+        return pages.head(i).sub_in_range(B::one());
+    }
+    B::max_value()
+}
+
 /// A set whose runs can be read window by window.
 pub(crate) trait Parts<B: Width> {
     /// The runs.
@@ -58,38 +106,4 @@ impl<B: Width> Parts<B> for IntervalSet<B> {
         list.extend_from_slice(self.runs_within(window))?;
         Ok(())
     }
-}
-
-impl<B: Width> Parts<B> for PageList<B> {
-    ghost runs = { flattened };
-
-    fn end_from(&self, lower: B) -> B {
-        let next = self.starts_up_to(lower);
-        last_before(self, next.saturating_add(WINDOW_PAGES), lower)
-    }
-
-    fn gather(&self, window: &Interval<B>, list: &mut Vec<Interval<B>>) -> Result<(), AllocError> {
-        let start = self.starts_up_to(window.lower_bound()).saturating_sub(1);
-        let end = self.starts_up_to(window.upper_bound());
-        list.clear();
-        for page in &self.as_slice()[start..end] {
-            list.extend_from_slice(page.set().runs())?;
-        }
-        Ok(())
-    }
-}
-
-/// The last value before page `i`, or the last one of the range if there is no such page. A value up to
-/// which no more than `i` pages start comes no later.
-fn last_before<B: Width>(pages: &PageList<B>, i: usize, _value: B) -> B
-    requires runs { IsRunListIn B.whole (flattened pages.now) }
-    requires in_range { IsBetween B.whole (B.value _value) }
-    requires starts { (n : ℕ) × (n ≤ i) × StartsUpTo pages.now (B.value _value) n }
-    ensures in_order { B.value _value ≤ℤ B.value result }
-    ensures at_most { B.value result ≤ℤ B.whole.1 }
-{
-    if i < pages.len() {
-        return pages.head(i).sub_in_range(B::one());
-    }
-    B::max_value()
 }

@@ -21,9 +21,9 @@ impl<B: Width> Union<IntervalSet<B>> for PagedSet<B> {
 
     ghost answers = { λ r S. IfOk r (λ L. IsRunsOf L S) };
 
-    /// Returns the members of either set. `O(n + m)`. Goes by windows in which
-    /// this set has about 16 pages: allocates the pages of the result, and lists of the runs in one
-    /// window. Fails only if allocation fails.
+    /// Returns the members of either set. `O(n + m)`. Goes by windows in which the paged set has
+    /// about 16 pages: allocates the pages of the result, and lists of the runs in one window. Fails
+    /// only if allocation fails.
     ///
     /// ```
     /// let mut a = PagedSet::new(alloc);
@@ -49,9 +49,9 @@ impl<B: Width> Intersection<IntervalSet<B>> for PagedSet<B> {
 
     ghost answers = { λ r S. IfOk r (λ L. IsRunsOf L S) };
 
-    /// Returns the members of both sets. `O(n + m)`. Goes by windows in which
-    /// this set has about 16 pages: allocates the pages of the result, and lists of the runs in one
-    /// window. Fails only if allocation fails.
+    /// Returns the members of both sets. `O(n + m)`. Goes by windows in which the paged set has about
+    /// 16 pages: allocates the pages of the result, and lists of the runs in one window. Fails only
+    /// if allocation fails.
     ///
     /// ```
     /// let mut a = PagedSet::new(alloc);
@@ -77,8 +77,8 @@ impl<B: Width> Difference<IntervalSet<B>> for PagedSet<B> {
 
     ghost answers = { λ r S. IfOk r (λ L. IsRunsOf L S) };
 
-    /// Returns the members that are not in `other`. `O(n + m)`. Goes by windows in which
-    /// this set has about 16 pages: allocates the pages of the result, and lists of the runs in one
+    /// Returns the members that are not in `other`. `O(n + m)`. Goes by windows in which the paged
+    /// set has about 16 pages: allocates the pages of the result, and lists of the runs in one
     /// window. Fails only if allocation fails.
     ///
     /// ```
@@ -107,8 +107,8 @@ impl<B: Width> SymmetricDifference<IntervalSet<B>> for PagedSet<B> {
 
     ghost answers = { λ r S. IfOk r (λ L. IsRunsOf L S) };
 
-    /// Returns the members of exactly one of the sets. `O(n + m)`. Goes by windows in which
-    /// this set has about 16 pages: allocates the pages of the result, and lists of the runs in one
+    /// Returns the members of exactly one of the sets. `O(n + m)`. Goes by windows in which the paged
+    /// set has about 16 pages: allocates the pages of the result, and lists of the runs in one
     /// window. Fails only if allocation fails.
     ///
     /// ```

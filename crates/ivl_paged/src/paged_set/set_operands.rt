@@ -6,7 +6,8 @@ ghost use Rattle.ivl_paged.specs.Operations.{KeptBy};
 
 use super::PagedSet;
 use crate::combine::{Operation, combined};
-use crate::parts::Parts;
+use crate::parts::{Parts, end_of_window, gather_pages};
+use intervallum::interval::Interval;
 use intervallum::interval_set::IntervalSet;
 use intervallum::ops::{Complement, Difference, Intersection, SymmetricDifference, Union};
 use intervallum::width::Width;
@@ -23,11 +24,23 @@ impl<B: Width> PagedSet<B> {
         ensures { IfOk result (λ L. IsRunsOf L (KeptBy op (Covers self.now) (Covers (T.runs other.now)))) }
     {
         self.in_whole();
-        let pages = combined(self.alloc, &self.pages, other, op)?;
+        let pages = combined(self.alloc, self, other, op)?;
         Ok(PagedSet {
             alloc: self.alloc,
             pages,
         })
+    }
+}
+
+impl<B: Width> Parts<B> for PagedSet<B> {
+    ghost runs = { λ L. L };
+
+    fn end_from(&self, lower: B) -> B {
+        end_of_window(&self.pages, lower)
+    }
+
+    fn gather(&self, window: &Interval<B>, list: &mut Vec<Interval<B>>) -> Result<(), AllocError> {
+        gather_pages(&self.pages, window, list)
     }
 }
 
@@ -42,9 +55,9 @@ impl<B: Width> Union<PagedSet<B>> for PagedSet<B> {
 
     ghost answers = { λ r S. IfOk r (λ L. IsRunsOf L S) };
 
-    /// Returns the members of either set. `O(n + m)`. Goes by windows in which
-    /// each set has about 16 pages: allocates the pages of the result, and lists of the runs in one
-    /// window. Fails only if allocation fails.
+    /// Returns the members of either set. `O(n + m)`. Goes by windows in which each set has about 16
+    /// pages: allocates the pages of the result, and lists of the runs in one window. Fails only if
+    /// allocation fails.
     ///
     /// ```
     /// let (mut a, mut b) = (PagedSet::new(alloc), PagedSet::new(alloc));
@@ -57,7 +70,7 @@ impl<B: Width> Union<PagedSet<B>> for PagedSet<B> {
         ensures runs_at_most { IfOk result (λ L. length L ≤ length self.now + length other.now) }
     {
         other.in_whole();
-        self.combined_with(&other.pages, Operation::Either)
+        self.combined_with(other, Operation::Either)
     }
 }
 
@@ -70,9 +83,9 @@ impl<B: Width> Intersection<PagedSet<B>> for PagedSet<B> {
 
     ghost answers = { λ r S. IfOk r (λ L. IsRunsOf L S) };
 
-    /// Returns the members of both sets. `O(n + m)`. Goes by windows in which
-    /// each set has about 16 pages: allocates the pages of the result, and lists of the runs in one
-    /// window. Fails only if allocation fails.
+    /// Returns the members of both sets. `O(n + m)`. Goes by windows in which each set has about 16
+    /// pages: allocates the pages of the result, and lists of the runs in one window. Fails only if
+    /// allocation fails.
     ///
     /// ```
     /// let (mut a, mut b) = (PagedSet::new(alloc), PagedSet::new(alloc));
@@ -85,7 +98,7 @@ impl<B: Width> Intersection<PagedSet<B>> for PagedSet<B> {
         ensures runs_at_most { IfOk result (λ L. length L ≤ length self.now + length other.now) }
     {
         other.in_whole();
-        self.combined_with(&other.pages, Operation::Both)
+        self.combined_with(other, Operation::Both)
     }
 }
 
@@ -98,9 +111,9 @@ impl<B: Width> Difference<PagedSet<B>> for PagedSet<B> {
 
     ghost answers = { λ r S. IfOk r (λ L. IsRunsOf L S) };
 
-    /// Returns the members that are not in `other`. `O(n + m)`. Goes by windows in which
-    /// each set has about 16 pages: allocates the pages of the result, and lists of the runs in one
-    /// window. Fails only if allocation fails.
+    /// Returns the members that are not in `other`. `O(n + m)`. Goes by windows in which each set has
+    /// about 16 pages: allocates the pages of the result, and lists of the runs in one window. Fails
+    /// only if allocation fails.
     ///
     /// ```
     /// let (mut a, mut b) = (PagedSet::new(alloc), PagedSet::new(alloc));
@@ -113,7 +126,7 @@ impl<B: Width> Difference<PagedSet<B>> for PagedSet<B> {
         ensures runs_at_most { IfOk result (λ L. length L ≤ length self.now + length other.now) }
     {
         other.in_whole();
-        self.combined_with(&other.pages, Operation::FirstAlone)
+        self.combined_with(other, Operation::FirstAlone)
     }
 }
 
@@ -128,9 +141,9 @@ impl<B: Width> SymmetricDifference<PagedSet<B>> for PagedSet<B> {
 
     ghost answers = { λ r S. IfOk r (λ L. IsRunsOf L S) };
 
-    /// Returns the members of exactly one of the sets. `O(n + m)`. Goes by windows in which
-    /// each set has about 16 pages: allocates the pages of the result, and lists of the runs in one
-    /// window. Fails only if allocation fails.
+    /// Returns the members of exactly one of the sets. `O(n + m)`. Goes by windows in which each set
+    /// has about 16 pages: allocates the pages of the result, and lists of the runs in one window.
+    /// Fails only if allocation fails.
     ///
     /// ```
     /// let (mut a, mut b) = (PagedSet::new(alloc), PagedSet::new(alloc));
@@ -143,7 +156,7 @@ impl<B: Width> SymmetricDifference<PagedSet<B>> for PagedSet<B> {
         ensures runs_at_most { IfOk result (λ L. length L ≤ length self.now + length other.now) }
     {
         other.in_whole();
-        self.combined_with(&other.pages, Operation::OneAlone)
+        self.combined_with(other, Operation::OneAlone)
     }
 }
 
@@ -173,7 +186,7 @@ impl<B: Width> Complement for PagedSet<B> {
         // the members of the range that the set does not have
         let all = IntervalSet::whole(self.alloc)?;
         all.in_whole();
-        let pages = combined(self.alloc, &all, &self.pages, Operation::FirstAlone)?;
+        let pages = combined(self.alloc, &all, self, Operation::FirstAlone)?;
         Ok(PagedSet {
             alloc: self.alloc,
             pages,

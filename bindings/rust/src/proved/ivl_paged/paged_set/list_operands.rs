@@ -23,9 +23,9 @@ use crate::rattle::std::alloc::AllocError;
 impl<B: Width> Union<IntervalSet<B>> for PagedSet<B> {
     type Output = Result<PagedSet<B>, AllocError>;
 
-    /// Returns the members of either set. `O(n + m)`. Goes by windows in which
-    /// this set has about 16 pages: allocates the pages of the result, and lists of the runs in one
-    /// window. Fails only if allocation fails.
+    /// Returns the members of either set. `O(n + m)`. Goes by windows in which the paged set has
+    /// about 16 pages: allocates the pages of the result, and lists of the runs in one window. Fails
+    /// only if allocation fails.
     ///
     /// ```
     /// use intervallum::proved::examples::*;
@@ -66,9 +66,9 @@ impl<B: Width> Union<IntervalSet<B>> for PagedSet<B> {
 impl<B: Width> Intersection<IntervalSet<B>> for PagedSet<B> {
     type Output = Result<PagedSet<B>, AllocError>;
 
-    /// Returns the members of both sets. `O(n + m)`. Goes by windows in which
-    /// this set has about 16 pages: allocates the pages of the result, and lists of the runs in one
-    /// window. Fails only if allocation fails.
+    /// Returns the members of both sets. `O(n + m)`. Goes by windows in which the paged set has about
+    /// 16 pages: allocates the pages of the result, and lists of the runs in one window. Fails only
+    /// if allocation fails.
     ///
     /// ```
     /// use intervallum::proved::examples::*;
@@ -109,8 +109,8 @@ impl<B: Width> Intersection<IntervalSet<B>> for PagedSet<B> {
 impl<B: Width> Difference<IntervalSet<B>> for PagedSet<B> {
     type Output = Result<PagedSet<B>, AllocError>;
 
-    /// Returns the members that are not in `other`. `O(n + m)`. Goes by windows in which
-    /// this set has about 16 pages: allocates the pages of the result, and lists of the runs in one
+    /// Returns the members that are not in `other`. `O(n + m)`. Goes by windows in which the paged
+    /// set has about 16 pages: allocates the pages of the result, and lists of the runs in one
     /// window. Fails only if allocation fails.
     ///
     /// ```
@@ -153,8 +153,8 @@ impl<B: Width> Difference<IntervalSet<B>> for PagedSet<B> {
 impl<B: Width> SymmetricDifference<IntervalSet<B>> for PagedSet<B> {
     type Output = Result<PagedSet<B>, AllocError>;
 
-    /// Returns the members of exactly one of the sets. `O(n + m)`. Goes by windows in which
-    /// this set has about 16 pages: allocates the pages of the result, and lists of the runs in one
+    /// Returns the members of exactly one of the sets. `O(n + m)`. Goes by windows in which the paged
+    /// set has about 16 pages: allocates the pages of the result, and lists of the runs in one
     /// window. Fails only if allocation fails.
     ///
     /// ```

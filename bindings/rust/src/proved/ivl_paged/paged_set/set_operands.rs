@@ -5,7 +5,8 @@
 use crate::rattle::prelude::*;
 use super::PagedSet;
 use crate::proved::ivl_paged::combine::{Operation, combined};
-use crate::proved::ivl_paged::parts::Parts;
+use crate::proved::ivl_paged::parts::{Parts, end_of_window, gather_pages};
+use crate::proved::intervallum::interval::Interval;
 use crate::proved::intervallum::interval_set::IntervalSet;
 use crate::proved::intervallum::ops::{Complement, Difference, Intersection, SymmetricDifference, Union};
 use crate::proved::intervallum::width::Width;
@@ -19,11 +20,26 @@ impl<B: Width> PagedSet<B> {
         op: Operation,
     ) -> Result<PagedSet<B>, AllocError> {
         self.in_whole();
-        let pages = combined(self.alloc, &self.pages, other, op)?;
+        let pages = combined(self.alloc, self, other, op)?;
         Ok(PagedSet {
             alloc: self.alloc,
             pages,
         })
+    }
+}
+
+/// Proved, with these words of the trait:
+///
+/// ```text
+/// runs = { λ L. L }
+/// ```
+impl<B: Width> Parts<B> for PagedSet<B> {
+    fn end_from(&self, lower: B) -> B {
+        end_of_window(&self.pages, lower)
+    }
+
+    fn gather(&self, window: &Interval<B>, list: &mut Vec<Interval<B>>) -> Result<(), AllocError> {
+        gather_pages(&self.pages, window, list)
     }
 }
 
@@ -40,9 +56,9 @@ impl<B: Width> PagedSet<B> {
 impl<B: Width> Union<PagedSet<B>> for PagedSet<B> {
     type Output = Result<PagedSet<B>, AllocError>;
 
-    /// Returns the members of either set. `O(n + m)`. Goes by windows in which
-    /// each set has about 16 pages: allocates the pages of the result, and lists of the runs in one
-    /// window. Fails only if allocation fails.
+    /// Returns the members of either set. `O(n + m)`. Goes by windows in which each set has about 16
+    /// pages: allocates the pages of the result, and lists of the runs in one window. Fails only if
+    /// allocation fails.
     ///
     /// ```
     /// use intervallum::proved::examples::*;
@@ -67,7 +83,7 @@ impl<B: Width> Union<PagedSet<B>> for PagedSet<B> {
     /// Words: [`IsRunsOf`](crate::definitions#IsRunsOf), [`Union`](crate::definitions#Union), [`Covers`](crate::definitions#Covers).
     fn union(&self, other: &PagedSet<B>) -> Result<PagedSet<B>, AllocError> {
         other.in_whole();
-        self.combined_with(&other.pages, Operation::Either)
+        self.combined_with(other, Operation::Either)
     }
 }
 
@@ -83,9 +99,9 @@ impl<B: Width> Union<PagedSet<B>> for PagedSet<B> {
 impl<B: Width> Intersection<PagedSet<B>> for PagedSet<B> {
     type Output = Result<PagedSet<B>, AllocError>;
 
-    /// Returns the members of both sets. `O(n + m)`. Goes by windows in which
-    /// each set has about 16 pages: allocates the pages of the result, and lists of the runs in one
-    /// window. Fails only if allocation fails.
+    /// Returns the members of both sets. `O(n + m)`. Goes by windows in which each set has about 16
+    /// pages: allocates the pages of the result, and lists of the runs in one window. Fails only if
+    /// allocation fails.
     ///
     /// ```
     /// use intervallum::proved::examples::*;
@@ -110,7 +126,7 @@ impl<B: Width> Intersection<PagedSet<B>> for PagedSet<B> {
     /// Words: [`IsRunsOf`](crate::definitions#IsRunsOf), [`Intersection`](crate::definitions#Intersection), [`Covers`](crate::definitions#Covers).
     fn intersection(&self, other: &PagedSet<B>) -> Result<PagedSet<B>, AllocError> {
         other.in_whole();
-        self.combined_with(&other.pages, Operation::Both)
+        self.combined_with(other, Operation::Both)
     }
 }
 
@@ -126,9 +142,9 @@ impl<B: Width> Intersection<PagedSet<B>> for PagedSet<B> {
 impl<B: Width> Difference<PagedSet<B>> for PagedSet<B> {
     type Output = Result<PagedSet<B>, AllocError>;
 
-    /// Returns the members that are not in `other`. `O(n + m)`. Goes by windows in which
-    /// each set has about 16 pages: allocates the pages of the result, and lists of the runs in one
-    /// window. Fails only if allocation fails.
+    /// Returns the members that are not in `other`. `O(n + m)`. Goes by windows in which each set has
+    /// about 16 pages: allocates the pages of the result, and lists of the runs in one window. Fails
+    /// only if allocation fails.
     ///
     /// ```
     /// use intervallum::proved::examples::*;
@@ -153,7 +169,7 @@ impl<B: Width> Difference<PagedSet<B>> for PagedSet<B> {
     /// Words: [`IsRunsOf`](crate::definitions#IsRunsOf), [`Without`](crate::definitions#Without), [`Covers`](crate::definitions#Covers).
     fn difference(&self, other: &PagedSet<B>) -> Result<PagedSet<B>, AllocError> {
         other.in_whole();
-        self.combined_with(&other.pages, Operation::FirstAlone)
+        self.combined_with(other, Operation::FirstAlone)
     }
 }
 
@@ -170,9 +186,9 @@ impl<B: Width> Difference<PagedSet<B>> for PagedSet<B> {
 impl<B: Width> SymmetricDifference<PagedSet<B>> for PagedSet<B> {
     type Output = Result<PagedSet<B>, AllocError>;
 
-    /// Returns the members of exactly one of the sets. `O(n + m)`. Goes by windows in which
-    /// each set has about 16 pages: allocates the pages of the result, and lists of the runs in one
-    /// window. Fails only if allocation fails.
+    /// Returns the members of exactly one of the sets. `O(n + m)`. Goes by windows in which each set
+    /// has about 16 pages: allocates the pages of the result, and lists of the runs in one window.
+    /// Fails only if allocation fails.
     ///
     /// ```
     /// use intervallum::proved::examples::*;
@@ -197,7 +213,7 @@ impl<B: Width> SymmetricDifference<PagedSet<B>> for PagedSet<B> {
     /// Words: [`IsRunsOf`](crate::definitions#IsRunsOf), [`SymmetricDifference`](crate::definitions#SymmetricDifference), [`Covers`](crate::definitions#Covers).
     fn symmetric_difference(&self, other: &PagedSet<B>) -> Result<PagedSet<B>, AllocError> {
         other.in_whole();
-        self.combined_with(&other.pages, Operation::OneAlone)
+        self.combined_with(other, Operation::OneAlone)
     }
 }
 
@@ -242,7 +258,7 @@ impl<B: Width> Complement for PagedSet<B> {
         // the members of the range that the set does not have
         let all = IntervalSet::whole(self.alloc)?;
         all.in_whole();
-        let pages = combined(self.alloc, &all, &self.pages, Operation::FirstAlone)?;
+        let pages = combined(self.alloc, &all, self, Operation::FirstAlone)?;
         Ok(PagedSet {
             alloc: self.alloc,
             pages,

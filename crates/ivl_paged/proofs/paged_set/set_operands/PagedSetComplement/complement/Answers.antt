@@ -5,7 +5,6 @@ use Rattle.ivl_paged.proofs.paged_set.set_operands.PagedSetComplement.complement
 
 pub returns-clause-runs_at_most : goal.returns-clause-runs_at_most
 returns-clause-runs_at_most g c =
-    let most = length_of_without c.in_ok-all.all (flattened c.self.inside.pages) (flattened c.in_ok-pages.pages) c.in_ok-pages.ensures in
+    let most = length_of_without c.in_ok-all.all c.args.self.now (flattened c.in_ok-pages.pages) c.in_ok-pages.ensures in
     let one = ap length c.in_ok-all.ensures in
-    let view = ap length c.self.view_is in
-    omega (arith, most, one, view)
+    omega (arith, most, one)

@@ -1,11 +1,6 @@
-use Rattle.std.proofs.Common.{◌+◌, ◌≤◌, List, ℤ, length, subst}
 use Rattle.std.proofs.lemmas.Result.{IfOk-weaker}
 use Rattle.ivl_merges.proofs.RunBounds.{length_of_one_alone}
-use Rattle.ivl_paged.specs.Pages.{flattened}
 use Rattle.ivl_paged.proofs.paged_set.set_operands.PagedSetSymmetricDifference.symmetric_difference.Goals as goal
 
 pub returns-clause-runs_at_most : goal.returns-clause-runs_at_most
-returns-clause-runs_at_most g c =
-    IfOk-weaker c.combined_with.result _ _
-    (λ L r. subst (λ (N : List (ℤ × ℤ)). length L ≤ length c.args.self.now + length N) c.other.view_is (length_of_one_alone c.args.self.now (flattened c.other.inside.pages) L r))
-    c.combined_with.ensures
+returns-clause-runs_at_most g c = IfOk-weaker c.combined_with.result _ _ (λ L r. length_of_one_alone c.args.self.now c.args.other.now L r) c.combined_with.ensures

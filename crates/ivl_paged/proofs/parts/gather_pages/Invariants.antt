@@ -1,6 +1,6 @@
 use Rattle.std.proofs.Common.{◌≡◌, take}
 use Rattle.ivl_paged.specs.Pages.{flattened}
-use Rattle.ivl_paged.proofs.parts.PageListParts.gather.Given as goal
+use Rattle.ivl_paged.proofs.parts.gather_pages.Given as goal
 
 -- the runs of the pages so far
 abbrev pub invariant-loop-page : goal.invariant-loop-page

@@ -4,7 +4,7 @@ use Rattle.ivl_laws.specs.Runs.{Covers, IsRunListIn}
 use Rattle.ivl_paged.specs.Pages.{StartsUpTo, flattened}
 use Rattle.ivl_paged.proofs.Combining.{gathered_members, gathered_runs}
 use Rattle.ivl_paged.proofs.Paging.{flattened_more}
-use Rattle.ivl_paged.proofs.parts.PageListParts.gather.Goals as goal
+use Rattle.ivl_paged.proofs.parts.gather_pages.Goals as goal
 
 pub loop-page-preserved : goal.loop-page-preserved
 loop-page-preserved g c =
@@ -15,7 +15,7 @@ loop-page-preserved g c =
 
 pub returns-clause-list : goal.returns-clause-list
 returns-clause-list g c =
-    let P = c.args.self.now in
+    let P = c.args.pages.now in
     let p : ℤ × ℤ = c.args.window.now in
     let i = c.saturating_sub-start.result in
     let n = c.starts_up_to-end.result - i in
@@ -28,7 +28,7 @@ returns-clause-list g c =
 
 pub returns-clause-members : goal.returns-clause-members
 returns-clause-members g c =
-    let P = c.args.self.now in
+    let P = c.args.pages.now in
     let p : ℤ × ℤ = c.args.window.now in
     let i = c.saturating_sub-start.result in
     let n = c.starts_up_to-end.result - i in
