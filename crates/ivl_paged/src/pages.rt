@@ -50,6 +50,22 @@ pub(crate) fn pages_of<B: Width>(
     Ok(pages)
 }
 
+/// The runs of a set that is given away: it is the one page if it has few of them.
+pub(crate) fn pages_from<B: Width>(
+    alloc: Global,
+    set: IntervalSet<B>,
+) -> Result<PageList<B>, AllocError>
+    requires { IsMaximal set }
+    ensures { IfOk result (λ pages. flattened pages ≡ set) }
+{
+    if set.is_empty() || MOST_RUNS <= set.interval_count() {
+        return pages_of(alloc, set.runs());
+    }
+    let mut pages = PageList::new(alloc);
+    pages.push(Page::of(set))?;
+    Ok(pages)
+}
+
 /// A page of some runs, of which there is one at least, with room for as many as a page has.
 fn page_of<B: Width>(alloc: Global, runs: &[Interval<B>]) -> Result<Page<B>, AllocError>
     requires runs { IsMaximal runs.now }
