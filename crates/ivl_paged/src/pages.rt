@@ -86,6 +86,38 @@ pub(crate) fn copy_of<B: Width>(alloc: Global, page: &Page<B>) -> Result<Page<B>
     page_of(alloc, page.set().runs())
 }
 
+/// Copies of pages, put behind what there is.
+fn copies_behind<B: Width>(
+    alloc: Global,
+    mut copies: PageList<B>,
+    pages: &[Page<B>],
+) -> Result<PageList<B>, AllocError>
+    ensures { IfOk result (λ all. flattened all ≡ flattened copies ++ flattened pages.now) }
+{
+    for page in pages {
+        copies.push(copy_of(alloc, page)?)?;
+    }
+    Ok(copies)
+}
+
+/// The members that are at least `v`, copied page by page.
+pub(crate) fn copy_above<B: Width>(
+    alloc: Global,
+    pages: &PageList<B>,
+    v: B,
+) -> Result<PageList<B>, AllocError>
+    requires { IsMaximal (flattened pages.now) }
+    ensures { IfOk result (λ above. IsRunsOf (flattened above) (AtLeast (B.value v) (Covers (flattened pages.now)))) }
+{
+    let count = pages.starts_up_to(v);
+    if count == 0 {
+        return copies_behind(alloc, PageList::new(alloc), pages.as_slice());
+    }
+    let high = pages.page(count - 1).set().shrink_left(v)?;
+    let copies = pages_from(alloc, high)?;
+    copies_behind(alloc, copies, &pages.as_slice()[count..])
+}
+
 /// How many members pages have together.
 pub(crate) fn size_of<B: Width>(pages: &[Page<B>]) -> B::Output
     requires { IsRunListIn B.whole (flattened pages.now) }
