@@ -123,6 +123,8 @@ fn ask_of_parts(value: i16, set: &Forms) {
     let above = Forms::of(below.split_off(value).unwrap());
     assert_eq!(above.model, below_model.split_off(&value));
     assert_eq!(Forms::of(below).model, below_model);
+    let given = PagedSet::from_set(above.list).unwrap();
+    assert!(given == above.paged && given.into_set().unwrap() == above.paged.into_set().unwrap());
 }
 
 /// Compares the shortest room for some numbers of members.

@@ -13,3 +13,4 @@ pub mod Walking
 pub mod Meeting
 pub mod Shortest
 pub mod MembersInPages
+pub mod Dividing

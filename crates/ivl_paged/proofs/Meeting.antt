@@ -7,7 +7,7 @@ use Rattle.std.proofs.lemmas.List.Elements.{All-append}
 use Rattle.ivl_laws.specs.Bounds.{width_of}
 use Rattle.ivl_laws.specs.Counts.{IsCountOf}
 use Rattle.ivl_laws.specs.Families.{set_at}
-use Rattle.ivl_laws.specs.Sets.{AtLeast, HasNone, HasSome, Intersection, IsBetween, IsSubset, SameMembers, Union, Without}
+use Rattle.ivl_laws.specs.Sets.{HasNone, HasSome, Intersection, IsBetween, IsSubset, SameMembers, Union, Without}
 use Rattle.ivl_laws.specs.Runs.{Covers, IsMaximal, IsRunListIn, IsRunsOf}
 use Rattle.ivl_laws.proofs.Counts.{IsCountOf-apart, IsCountOf-none, IsCountOf-same, count_is_monotone, in-append}
 use Rattle.ivl_laws.proofs.Intervals.{IsCountOf-width_of}
@@ -78,14 +78,6 @@ pub gaps_seen : (W S : ℤ → Type 0) (all met : List (ℤ × ℤ)) → IsRunsO
 gaps_seen W S all met a m z = (
   (λ (c, n). let w = (a.members z).0 c in (w, λ s. n ((m.members z).1 (z, w, one_run_of_member S z s)))),
   (λ (w, n). ((a.members z).1 w, λ c. n (of_one_run W S z ((m.members z).0 c)))),
-)
-
--- of the runs that meet a window up to the end of the range, the numbers from its start on are those of all
-pub cut_from_met : (whole p : ℤ × ℤ) (v : ℤ) (S : ℤ → Type 0) (met : List (ℤ × ℤ)) → SameMembers (IsBetween p) (AtLeast v (IsBetween whole)) → IsSubset S (IsBetween whole) → IsRunsOf met (OfRunsThatMeet (IsBetween p) S) →
-    SameMembers (AtLeast v (Covers met)) (AtLeast v S)
-cut_from_met whole p v S met w s m z = (
-  (λ (c, up). (of_one_run (IsBetween p) S z ((m.members z).0 c), up)),
-  (λ (c, up). ((m.members z).1 (z, (w z).1 (s z c, up), one_run_of_member S z c), up)),
 )
 
 -- ---- the pages that meet a window

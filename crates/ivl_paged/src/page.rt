@@ -77,6 +77,18 @@ impl<B: Width> Page<B> {
         &self.set
     }
 
+    /// The runs, as a set, for which the page is given away.
+    pub(crate) fn into_set(self) -> IntervalSet<B>
+        ensures { result ≡ self }
+    {
+        let Page {
+            head: _,
+            longest: _,
+            set,
+        } = self;
+        set
+    }
+
     /// Returns true exactly when each member lies in an interval.
     pub(crate) fn lies_within(&self, interval: &Interval<B>) -> bool
         requires { interval.now.0 ≤ℤ interval.now.1 }

@@ -91,6 +91,20 @@ impl<B: Width> PageList<B> {
         &self.pages[i]
     }
 
+    /// The only page.
+    pub(crate) fn into_only(self) -> Page<B>
+        requires { length self ≡ 1 }
+        ensures { self ≡ result ∷ [] }
+    {
+        let PageList {
+            heads,
+            mut pages,
+            count: _,
+        } = self;
+        drop(heads);
+        pages.pop().unwrap()
+    }
+
     /// The least member of page `i`.
     pub(crate) fn head(&self, i: usize) -> B
         requires { i < length self.now }

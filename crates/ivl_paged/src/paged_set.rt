@@ -8,6 +8,7 @@ ghost use Rattle.ivl_paged.specs.Pages.{flattened};
 mod best_fit;
 mod bounds;
 mod clone;
+mod conversions;
 mod equality;
 mod first_fit;
 mod inclusion;

@@ -63,6 +63,22 @@ pub(crate) fn push_runs<B: Width>(
     Ok(())
 }
 
+/// The runs of a set that is given away: it is the one page if it has few of them.
+pub(crate) fn pages_from<B: Width>(
+    alloc: Global,
+    set: IntervalSet<B>,
+) -> Result<PageList<B>, AllocError>
+    requires { IsMaximal set }
+    ensures { IfOk result (λ pages. flattened pages ≡ set) }
+{
+    if set.is_empty() || MOST_RUNS <= set.interval_count() {
+        return pages_of(alloc, set.runs());
+    }
+    let mut pages = PageList::new(alloc);
+    pages.push(Page::of(set))?;
+    Ok(pages)
+}
+
 /// A page of some runs, of which there is one at least, with room for as many as a page has.
 fn page_of<B: Width>(alloc: Global, runs: &[Interval<B>]) -> Result<Page<B>, AllocError>
     requires runs { IsMaximal runs.now }
@@ -81,6 +97,38 @@ pub(crate) fn copy_of<B: Width>(alloc: Global, page: &Page<B>) -> Result<Page<B>
     ensures { IfOk result (λ L. L ≡ page.now) }
 {
     page_of(alloc, page.set().runs())
+}
+
+/// Copies of pages, put behind what there is.
+fn copies_behind<B: Width>(
+    alloc: Global,
+    mut copies: PageList<B>,
+    pages: &[Page<B>],
+) -> Result<PageList<B>, AllocError>
+    ensures { IfOk result (λ all. flattened all ≡ flattened copies ++ flattened pages.now) }
+{
+    for page in pages {
+        copies.push(copy_of(alloc, page)?)?;
+    }
+    Ok(copies)
+}
+
+/// The members that are at least `v`, copied page by page.
+pub(crate) fn copy_above<B: Width>(
+    alloc: Global,
+    pages: &PageList<B>,
+    v: B,
+) -> Result<PageList<B>, AllocError>
+    requires { IsMaximal (flattened pages.now) }
+    ensures { IfOk result (λ above. IsRunsOf (flattened above) (AtLeast (B.value v) (Covers (flattened pages.now)))) }
+{
+    let count = pages.starts_up_to(v);
+    if count == 0 {
+        return copies_behind(alloc, PageList::new(alloc), pages.as_slice());
+    }
+    let high = pages.page(count - 1).set().shrink_left(v)?;
+    let copies = pages_from(alloc, high)?;
+    copies_behind(alloc, copies, &pages.as_slice()[count..])
 }
 
 /// How many members pages have together.

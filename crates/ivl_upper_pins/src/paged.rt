@@ -238,3 +238,10 @@ pub fn members_in<'a, B: Width>(set: &'a PagedSet<B>, interval: &Interval<B>) ->
 {
     set.members_within(interval)
 }
+
+/// Gives a list of runs away for pages, and these for a list.
+pub fn given_there_and_back<B: Width>(set: IntervalSet<B>) -> Result<IntervalSet<B>, AllocError>
+    ensures { IfOk result (λ L. L ≡ set) }
+{
+    PagedSet::from_set(set)?.into_set()
+}

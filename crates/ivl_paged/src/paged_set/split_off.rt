@@ -4,7 +4,7 @@ ghost use Rattle.ivl_laws.specs.Sets.{AtLeast, Below};
 ghost use Rattle.ivl_laws.specs.Runs.{Covers, IsRunsOf};
 
 use super::PagedSet;
-use super::within::listed;
+use crate::pages;
 use intervallum::interval::Interval;
 use intervallum::ops::{ShrinkLeft, Whole};
 use intervallum::width::Width;
@@ -14,8 +14,7 @@ impl<B: Width> PagedSet<B> {
     /// Removes the members that are at least `v`, which may be any value of its type, and returns
     /// them as a set of their own. The members below `v` stay.
     ///
-    /// Binary searches, and copies of the `k` runs that are returned, in one list and from there in
-    /// pages: `O(log n + k)`. The list is dropped at the end.
+    /// Binary search, and a copy of the `k` runs that are returned, page by page: `O(log n + k)`.
     ///
     /// # Errors
     ///
@@ -33,12 +32,14 @@ impl<B: Width> PagedSet<B> {
         ensures below { OnOk result (IsRunsOf self.new (Below (B.value v) (Covers self.old))) }
         ensures err { OnErr result (self.new ≡ self.old) }
     {
-        // members are in the range, so the cut goes up to its end and splits no run in two
         self.in_whole();
-        let cut = Interval::whole().shrink_left(v);
-        let met = listed(self.alloc, self.runs_within(&cut))?;
-        let above = PagedSet::of_set(&met.shrink_left(v)?)?;
-        self.remove_interval(cut).unwrap();
-        Ok(above)
+        let above = pages::copy_above(self.alloc, &self.pages, v)?;
+        // members are in the range, so the cut goes up to its end and splits no run in two
+        self.remove_interval(Interval::whole().shrink_left(v))
+            .unwrap();
+        Ok(PagedSet {
+            alloc: self.alloc,
+            pages: above,
+        })
     }
 }

@@ -77,10 +77,7 @@ impl<B: Width> PagedSet<B> {
 }
 
 /// The runs that are left, in one list.
-pub(super) fn listed<B: Width>(
-    alloc: Global,
-    mut left: Runs<'_, B>,
-) -> Result<IntervalSet<B>, AllocError>
+fn listed<B: Width>(alloc: Global, mut left: Runs<'_, B>) -> Result<IntervalSet<B>, AllocError>
     requires { IsMaximal left }
     ensures { IfOk result (λ L. L ≡ left.entry) }
 {

@@ -61,6 +61,17 @@ impl<B: Width> PageList<B> {
         &self.pages[i]
     }
 
+    /// The only page.
+    pub(crate) fn into_only(self) -> Page<B> {
+        let PageList {
+            heads,
+            mut pages,
+            count: _,
+        } = self;
+        drop(heads);
+        pages.pop().unwrap()
+    }
+
     /// The least member of page `i`.
     pub(crate) fn head(&self, i: usize) -> B {
         self.heads[i]

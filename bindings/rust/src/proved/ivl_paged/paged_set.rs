@@ -7,6 +7,7 @@ use crate::rattle::prelude::*;
 mod best_fit;
 mod bounds;
 mod clone;
+mod conversions;
 mod equality;
 mod first_fit;
 mod inclusion;

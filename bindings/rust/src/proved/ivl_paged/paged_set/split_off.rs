@@ -4,7 +4,7 @@
 #[allow(unused_imports)]
 use crate::rattle::prelude::*;
 use super::PagedSet;
-use super::within::listed;
+use crate::proved::ivl_paged::pages;
 use crate::proved::intervallum::interval::Interval;
 use crate::proved::intervallum::ops::{ShrinkLeft, Whole};
 use crate::proved::intervallum::width::Width;
@@ -14,8 +14,7 @@ impl<B: Width> PagedSet<B> {
     /// Removes the members that are at least `v`, which may be any value of its type, and returns
     /// them as a set of their own. The members below `v` stay.
     ///
-    /// Binary searches, and copies of the `k` runs that are returned, in one list and from there in
-    /// pages: `O(log n + k)`. The list is dropped at the end.
+    /// Binary search, and a copy of the `k` runs that are returned, page by page: `O(log n + k)`.
     ///
     /// # Errors
     ///
@@ -45,12 +44,14 @@ impl<B: Width> PagedSet<B> {
     ///
     /// Words: [`IsRunsOf`](crate::definitions#IsRunsOf), [`AtLeast`](crate::definitions#AtLeast), [`Covers`](crate::definitions#Covers), [`Below`](crate::definitions#Below).
     pub fn split_off(&mut self, v: B) -> Result<PagedSet<B>, AllocError> {
-        // members are in the range, so the cut goes up to its end and splits no run in two
         self.in_whole();
-        let cut = Interval::whole().shrink_left(v);
-        let met = listed(self.alloc, self.runs_within(&cut))?;
-        let above = PagedSet::of_set(&met.shrink_left(v)?)?;
-        self.remove_interval(cut).unwrap();
-        Ok(above)
+        let above = pages::copy_above(self.alloc, &self.pages, v)?;
+        // members are in the range, so the cut goes up to its end and splits no run in two
+        self.remove_interval(Interval::whole().shrink_left(v))
+            .unwrap();
+        Ok(PagedSet {
+            alloc: self.alloc,
+            pages: above,
+        })
     }
 }

@@ -111,10 +111,7 @@ impl<B: Width> PagedSet<B> {
 }
 
 /// The runs that are left, in one list.
-pub(super) fn listed<B: Width>(
-    alloc: Global,
-    mut left: Runs<'_, B>,
-) -> Result<IntervalSet<B>, AllocError> {
+fn listed<B: Width>(alloc: Global, mut left: Runs<'_, B>) -> Result<IntervalSet<B>, AllocError> {
     let mut list = Vec::new(alloc);
     'runs: while let Some(run) = left.next() {
         list.push(run)?;
