@@ -122,7 +122,7 @@ type Paged = PagedSet<i32>;
 type PagedEdit = fn(&mut Paged) -> Result<(), AllocError>;
 
 // Of pages: a run more, which splits a page of 127; runs split; pages joined and removed.
-const PAGED_EDITS: [(&str, PagedEdit); 10] = [
+const PAGED_EDITS: [(&str, PagedEdit); 17] = [
     ("insert", |a| a.insert(4).map(drop)),
     ("insert above all", |a| a.insert(100_000).map(drop)),
     ("insert_interval", |a| a.insert_interval(Interval::new(4, 6))),
@@ -133,7 +133,21 @@ const PAGED_EDITS: [(&str, PagedEdit); 10] = [
     ("remove_interval of most of a page", |a| a.remove_interval(Interval::new(8, 600))),
     ("take_first_fit", |a| Ok(_ = a.take_first_fit(3))),
     ("try_clone", |a| a.try_clone().map(|copy| *a = copy)),
+    ("union", |a| a.union(&others_of(a)?).map(|all| *a = all)),
+    ("difference", |a| a.difference(&others_of(a)?).map(|same| *a = same)),
+    ("symmetric_difference", |a| a.symmetric_difference(&others_of(a)?).map(|all| *a = all)),
+    ("intersection", |a| a.intersection(&a.to_set()?).map(|same| *a = same)),
+    ("gaps_within", |a| a.gaps_within(&Interval::new(5, 900)).map(drop)),
+    ("split_off", |a| a.split_off(900).map(drop)),
+    ("into_set and from_set", |a| a.try_clone()?.into_set().and_then(Paged::from_set).map(|same| *a = same)),
 ];
+
+/// The other numbers, but for some from 150,000 on.
+fn others_of(a: &Paged) -> Result<Paged, AllocError> {
+    let mut others = a.complement()?;
+    others.remove_interval(Interval::new(150_000, 250_000))?;
+    Ok(others)
+}
 
 fn is_same(a: &Paged, b: &Paged) -> bool {
     a == b && a.interval_count() == b.interval_count() && a.iter().count() == a.interval_count() && a.size() == b.size()

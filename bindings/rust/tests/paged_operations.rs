@@ -7,7 +7,8 @@ use std::collections::BTreeSet;
 
 type Model = BTreeSet<u16>;
 
-const STEPS: u32 = 100_000;
+// a tenth where nothing is optimized
+const STEPS: u32 = if cfg!(debug_assertions) { 10_000 } else { 100_000 };
 
 /// A generator of random numbers: xorshift64*.
 struct Random(u64);

@@ -6,7 +6,8 @@ use std::collections::BTreeSet;
 
 type Model = BTreeSet<i16>;
 
-const QUERIES: u32 = 100_000;
+// a tenth where nothing is optimized
+const QUERIES: u32 = if cfg!(debug_assertions) { 10_000 } else { 100_000 };
 
 /// A generator of random numbers: xorshift64*.
 struct Random(u64);

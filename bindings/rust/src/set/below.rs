@@ -2,7 +2,9 @@
 use super::conditions::memory;
 use super::{IntervalSet, PagedSet};
 use crate::proved::ivl_paged::PagedSet as ProvedPagedSet;
-use crate::proved::ops::{Cardinality, Complement, Difference, Intersection, IsEmpty, Overlap, Subset, SymmetricDifference, Union};
+use crate::proved::ops::{
+    Cardinality, Complement, Difference, Intersection, IsEmpty, Overlap, Subset, SymmetricDifference, Union,
+};
 use crate::proved::{AllocError, Global, Interval, IntervalSet as ProvedIntervalSet, width::Width};
 use core::ops::Deref;
 
@@ -179,20 +181,41 @@ pub trait Operand<T: Width> {
     fn has_some(&self, interval: &Interval<T>) -> bool;
 }
 
+/// The proved set that an operand has. A set that was empty from the start has none.
+enum Kind<'a, T: Width> {
+    List(&'a ProvedIntervalSet<T>),
+    Pages(&'a ProvedPagedSet<T>),
+    Empty,
+}
+
+fn kind_of<T: Width>(set: &impl Operand<T>) -> Kind<'_, T> {
+    match (set.listed(), set.paged()) {
+        (Some(list), _) => Kind::List(list),
+        (_, Some(pages)) => Kind::Pages(pages),
+        _ => Kind::Empty,
+    }
+}
+
 /// Returns true exactly when each member of the first set is one of the second.
 pub(super) fn is_within<T: Width>(a: &impl Operand<T>, b: &impl Operand<T>) -> bool {
-    match (a.listed(), b.listed()) {
-        (Some(a), Some(b)) => a.is_subset(b),
-        _ => !a.any_run(|run| !b.has_all(run)),
+    match (kind_of(a), kind_of(b)) {
+        (Kind::List(a), Kind::List(b)) => a.is_subset(b),
+        (Kind::List(a), Kind::Pages(b)) => b.is_superset_of_list(a),
+        (Kind::Pages(a), Kind::List(b)) => a.is_subset_of_list(b),
+        (Kind::Pages(a), Kind::Pages(b)) => a.is_subset(b),
+        (Kind::Empty, _) => true,
+        (_, Kind::Empty) => a.run_count() == 0,
     }
 }
 
 /// Returns true exactly when the sets have a common member.
 pub(super) fn have_common<T: Width>(a: &impl Operand<T>, b: &impl Operand<T>) -> bool {
-    match (a.listed(), b.listed()) {
-        (Some(a), Some(b)) => a.overlap(b),
-        _ if a.run_count() <= b.run_count() => a.any_run(|run| b.has_some(run)),
-        _ => b.any_run(|run| a.has_some(run)),
+    match (kind_of(a), kind_of(b)) {
+        (Kind::List(a), Kind::List(b)) => a.overlap(b),
+        (Kind::List(a), Kind::Pages(b)) => b.overlap(a),
+        (Kind::Pages(a), Kind::List(b)) => a.overlap(b),
+        (Kind::Pages(a), Kind::Pages(b)) => a.overlap(b),
+        (Kind::Empty, _) | (_, Kind::Empty) => false,
     }
 }
 

@@ -1,8 +1,13 @@
 //! Sets from sets.
 use super::conditions::{contract, cost, memory};
 use super::paged::OfList;
-use super::{AnySet, IntervalSet, PagedSet, Piece, below::{Operand as _, Operation, Proved as _}};
+use super::{
+    AnySet, IntervalSet, PagedSet, Piece,
+    below::{Operand as _, Operation, Proved as _},
+};
 use crate::proved::ops::Intersection;
+#[cfg(doc)] // the docs link to their methods
+use crate::proved::ops::{Complement, Difference, SymmetricDifference, Union};
 use crate::proved::{self, Global, width::Width};
 use alloc::vec::Vec;
 
@@ -21,7 +26,7 @@ macro_rules! combining {
             /// assert_eq!(a.difference(&b).to_string(), "[1..3]");
             /// assert_eq!(a.symmetric_difference(&b).to_string(), "{[1..3][6..9]}");
             /// ```
-            #[doc = contract!(lists $Set "union")]
+            #[doc = contract!($Set "union")]
             #[must_use]
             pub fn union(&self, other: &impl AnySet<T>) -> Self {
                 Self(Some(memory(self.as_proved().combined(other, Operation::Union))))
@@ -30,7 +35,7 @@ macro_rules! combining {
             /// Returns the members of both sets, as `&` does.
             #[doc = cost!($Set merge)]
             /// Of two `IntervalSet`s, `O(k log n)` if one has only `k` runs, far fewer than the other.
-            #[doc = contract!(lists $Set "intersection")]
+            #[doc = contract!($Set "intersection")]
             #[must_use]
             pub fn intersection(&self, other: &impl AnySet<T>) -> Self {
                 Self(Some(memory(self.as_proved().combined(other, Operation::Intersection))))
@@ -39,7 +44,7 @@ macro_rules! combining {
             /// Returns the members that are not in `other`.
             #[doc = cost!($Set merge)]
             /// Or less as for [`intersection`](Self::intersection). The operator `-` is not this call: it subtracts members.
-            #[doc = contract!(lists $Set "difference")]
+            #[doc = contract!($Set "difference")]
             #[must_use]
             pub fn difference(&self, other: &impl AnySet<T>) -> Self {
                 Self(Some(memory(self.as_proved().combined(other, Operation::Difference))))
@@ -47,7 +52,7 @@ macro_rules! combining {
 
             /// Returns the members of exactly one of the sets, as `^` does.
             #[doc = cost!($Set merge)]
-            #[doc = contract!(lists $Set "symmetric_difference")]
+            #[doc = contract!($Set "symmetric_difference")]
             #[must_use]
             pub fn symmetric_difference(&self, other: &impl AnySet<T>) -> Self {
                 Self(Some(memory(self.as_proved().combined(other, Operation::SymmetricDifference))))
@@ -97,7 +102,7 @@ macro_rules! combining {
             #[doc = concat!("# use intervallum::", stringify!($Set), ";")]
             #[doc = concat!("assert_eq!(", stringify!($Set), "::new(10u8, 254).complement().to_string(), \"[0..9]\");")]
             /// ```
-            #[doc = contract!(lists $Set "complement")]
+            #[doc = contract!($Set "complement")]
             #[must_use]
             pub fn complement(&self) -> Self {
                 Self(Some(memory(self.as_proved().others())))
@@ -120,7 +125,7 @@ macro_rules! combining {
 
             /// Returns the numbers of a range that are not members, and are within the limits.
             #[doc = cost!($Set part)]
-            #[doc = contract!(lists $Set "gaps_within")]
+            #[doc = contract!($Set "gaps_within")]
             #[must_use]
             pub fn gaps_within(&self, range: impl Piece<T>) -> Self {
                 let gaps = self.as_proved().gaps_within(&range.clamped());

@@ -68,13 +68,13 @@ macro_rules! cost {
     (IntervalSet part) => { "`O(log n + k)` for the `k` runs in it." };
     (PagedSet part) => { "`O(k log n)` for the `k` runs in it." };
     (IntervalSet size_within) => { "`O(log n + k)` for the `k` runs that overlap it." };
-    (PagedSet size_within) => { "Adds up the members of the pages up to its end." };
+    (PagedSet size_within) => { "Adds up the members of the pages that it overlaps." };
     (IntervalSet fit_from) => { "`O(log n + k)` for the `k` runs from `value` up to the first that is long enough." };
     (PagedSet fit_from) => { "Reads the runs of two pages, and one number of each page between." };
     (IntervalSet merge) => { "`O(n + m)`." };
     (IntervalSet sizes) => { "`O(n + m)`, or `O(k log (n + m))` for `k` runs beside more than sixteen times as many." };
     (PagedSet sizes) => { "`O(n + m)`, with a copy of the runs." };
-    (PagedSet merge) => { "`O(n + m)`, with a copy of the runs." };
+    (PagedSet merge) => { "`O(n + m)`; the runs of some pages at a time are copied." };
 }
 
 /// The link to the contract of a call, or what stands in its place for a paged set.

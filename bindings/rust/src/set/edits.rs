@@ -132,7 +132,7 @@ macro_rules! edits {
             /// assert_eq!(a.split_off(3).to_string(), "{[3..5][8..9]}");
             /// assert_eq!(a.to_string(), "[1..2]");
             /// ```
-            #[doc = contract!(lists $Set "split_off")]
+            #[doc = contract!($Set "split_off")]
             #[must_use = "`remove_interval(value..)` drops them"]
             pub fn split_off(&mut self, value: T) -> Self {
                 Self(Some(memory(self.edited().split_off(value))))

@@ -136,7 +136,7 @@ macro_rules! reads {
             /// assert!(a.includes(5..8) && !a.includes(2..=5) && a.overlaps(2..=5) && !a.overlaps(3..=4));
             /// assert!(!a.includes(255..) && !a.overlaps(255..));
             /// ```
-            #[doc = contract!(lists $Set "includes")]
+            #[doc = contract!($Set "includes")]
             #[must_use]
             pub fn includes(&self, range: impl Piece<T>) -> bool {
                 range.interval().is_some_and(|interval| self.has_all(&interval))
@@ -152,7 +152,7 @@ macro_rules! reads {
 
             /// Returns the number of members that lie in a range.
             #[doc = cost!($Set size_within)]
-            #[doc = contract!(lists $Set "size_within")]
+            #[doc = contract!($Set "size_within")]
             #[must_use]
             pub fn size_within(&self, range: impl Piece<T>) -> T::Output {
                 self.0.as_ref().map_or_else(SizeNumber::zero, |set| set.size_within(&range.clamped()))
@@ -257,7 +257,7 @@ macro_rules! reads {
             #[doc = concat!("let a = ", stringify!($Set), "::from([1..=9, 12..=14u8]);")]
             /// assert_eq!((a.best_fit(2), a.best_fit(4)), (Some(12..=13), Some(1..=4)));
             /// ```
-            #[doc = contract!(lists $Set "best_fit")]
+            #[doc = contract!($Set "best_fit")]
             #[must_use]
             #[track_caller]
             pub fn best_fit(&self, count: T::Output) -> Option<RangeInclusive<T>> {

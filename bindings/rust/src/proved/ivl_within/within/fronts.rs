@@ -203,7 +203,7 @@ fn next_of<B: Width>(run: Interval<B>, b: &[Interval<B>], op: Combined, place: u
 /// ensures { result ≡ pair_by op run (nth_by op b.now place) }
 /// ```
 ///
-/// Words: [`IsMaximal`](crate::definitions#IsMaximal), [`IsSubset`](crate::definitions#IsSubset), [`SumsBy`](crate::definitions#SumsBy), [`IsBetween`](crate::definitions#IsBetween), [`Covers`](crate::definitions#Covers), [`pair_by`](crate::definitions#pair_by).
+/// Words: [`IsMaximal`](crate::definitions#IsMaximal), [`IsSubset`](crate::definitions#IsSubset), [`SumsBy`](crate::definitions#SumsBy), [`IsBetween`](crate::definitions#IsBetween), [`Covers`](crate::definitions#Covers), [`pair_by`](crate::definitions#pair_by), [`nth_by`](crate::definitions#nth_by).
 pub fn result_at<B: Width>(
     run: Interval<B>,
     b: &[Interval<B>],

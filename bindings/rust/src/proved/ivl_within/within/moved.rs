@@ -24,7 +24,7 @@ use crate::rattle::std::alloc::AllocError;
 ///     (λ L. IsRunsOf L (Intersection (Covers x.now) (SumsBy op (Covers a.now) (Covers b.now))))) }
 /// ```
 ///
-/// Words: [`IsSubset`](crate::definitions#IsSubset), [`SumsBy`](crate::definitions#SumsBy), [`Covers`](crate::definitions#Covers), [`IsBetween`](crate::definitions#IsBetween), [`IsRunsOf`](crate::definitions#IsRunsOf), [`Intersection`](crate::definitions#Intersection).
+/// Words: [`HasOneRun`](crate::definitions#HasOneRun), [`IsSubset`](crate::definitions#IsSubset), [`SumsBy`](crate::definitions#SumsBy), [`Covers`](crate::definitions#Covers), [`IsBetween`](crate::definitions#IsBetween), [`IsRunsOf`](crate::definitions#IsRunsOf), [`Intersection`](crate::definitions#Intersection).
 pub fn results_by_moving<B: Width>(
     x: &IntervalSet<B>,
     a: &IntervalSet<B>,
