@@ -9,7 +9,7 @@ use Rattle.ivl_laws.proofs.Merging.{covers-append, covers-append_right}
 use Rattle.ivl_laws.proofs.Runs.{covered_after, covered_from, lower_end}
 use Rattle.intervallum.specs.Places.{EndBelow}
 use Rattle.intervallum.proofs.Windows.{below_all}
-use Rattle.ivl_paged.specs.Walks.{IsPassed, IsReadTo, put_back}
+use Rattle.ivl_paged.specs.Walks.{IsReadPast, IsReadTo, put_back}
 use Rattle.ivl_paged.proofs.Paging.{IsMaximal-second}
 
 -- ---- reading on
@@ -18,21 +18,21 @@ below_push : (v : ℤ) (L : List (ℤ × ℤ)) (p : ℤ × ℤ) → EndBelow v L
 below_push v [] p e h = (h, tt)
 below_push v (q ∷ L) p e h = (e.0, below_push v L p e.1 h)
 
-pub none_passed : (v : ℤ) (L : List (ℤ × ℤ)) → IsPassed v L L
+pub none_passed : (v : ℤ) (L : List (ℤ × ℤ)) → IsReadPast v L L
 none_passed v L = record { passed = []; list = refl; below = tt }
 
-pub one_passed : (v : ℤ) (L A B : List (ℤ × ℤ)) (p : ℤ × ℤ) → IsPassed v L A → A ≡ p ∷ B → p.1 <ℤ v → IsPassed v L B
+pub one_passed : (v : ℤ) (L A B : List (ℤ × ℤ)) (p : ℤ × ℤ) → IsReadPast v L A → A ≡ p ∷ B → p.1 <ℤ v → IsReadPast v L B
 one_passed v L A B p s e h = record {
   passed = s.passed ++ p ∷ [];
   list = s.list ∙ ap (λ (K : List (ℤ × ℤ)). s.passed ++ K) e ∙ sym (append_assoc s.passed (p ∷ []) B);
   below = below_push v s.passed p s.below h;
 }
 
-pub read_here : (v : ℤ) (L A B : List (ℤ × ℤ)) (p : ℤ × ℤ) → IsPassed v L A → A ≡ p ∷ B → v ≤ℤ p.1 → IsReadTo v L (Some p) B
-read_here v L A B p s e h = record { passed = subst (IsPassed v L) e s; next = h }
+pub read_here : (v : ℤ) (L A B : List (ℤ × ℤ)) (p : ℤ × ℤ) → IsReadPast v L A → A ≡ p ∷ B → v ≤ℤ p.1 → IsReadTo v L (Some p) B
+read_here v L A B p s e h = record { passed = subst (IsReadPast v L) e s; next = h }
 
-pub read_to_end : (v : ℤ) (L A B : List (ℤ × ℤ)) (r : Option (ℤ × ℤ)) → IsPassed v L A → YieldsFirst (λ (l : List (ℤ × ℤ)). l) A r B → ((x : ℤ × ℤ) → ¬ (r ≡ Some x)) → IsReadTo v L None B
-read_to_end v L A B None s y n = record { passed = subst (IsPassed v L) (y.0 ∙ sym y.1) s; next = y.1 }
+pub read_to_end : (v : ℤ) (L A B : List (ℤ × ℤ)) (r : Option (ℤ × ℤ)) → IsReadPast v L A → YieldsFirst (λ (l : List (ℤ × ℤ)). l) A r B → ((x : ℤ × ℤ) → ¬ (r ≡ Some x)) → IsReadTo v L None B
+read_to_end v L A B None s y n = record { passed = subst (IsReadPast v L) (y.0 ∙ sym y.1) s; next = y.1 }
 read_to_end v L A B (Some x) s y n = absurd (n x refl)
 
 pub in_hand_stays : (v : ℤ) (L : List (ℤ × ℤ)) (o : Option (ℤ × ℤ)) → IsSomeAnd o (λ run. v ≤ℤ run.1) → IsReadTo v (put_back o L) o L
