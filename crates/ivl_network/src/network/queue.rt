@@ -172,6 +172,7 @@ impl Queue {
     }
 
     /// Clears the flag of a rule that is settled, which then waits for the next round.
+    #[inline]
     fn clear(&mut self, k: usize)
         requires queue { IsRuleQueue self.old }
         requires in_list { k < length self.old.settled.items }

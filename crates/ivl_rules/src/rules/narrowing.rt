@@ -77,6 +77,7 @@ pub fn narrow<B: Width>(domains: &mut [IntervalSet<B>], rule: &Rule) -> Result<b
 /// domains[1] = IntervalSet::new(alloc, 4, 4)?;
 /// assert!(rt; !takes_nothing(&domains, &differ));
 /// ```
+#[inline(always)]
 pub fn takes_nothing<B: Width>(domains: &[IntervalSet<B>], rule: &Rule) -> bool
     requires different { AreDifferent rule.now }
     requires present { AllPresent (length domains.now) (places_of rule.now) }
@@ -112,6 +113,7 @@ fn are_at_most<B: Width>(x: &IntervalSet<B>, y: &IntervalSet<B>, by: &i64) -> bo
 
 /// Whether two sets have a member, and each member of both stands in a pair of which the first and `by` are not the
 /// second.
+#[inline(always)]
 fn are_differing<B: Width>(x: &IntervalSet<B>, y: &IntervalSet<B>, by: &i64) -> bool
     ensures { result ≡ true → AreLeftBy B.whole (IsNot by.now) x.now y.now None None }
 {
@@ -130,6 +132,7 @@ fn are_differing<B: Width>(x: &IntervalSet<B>, y: &IntervalSet<B>, by: &i64) -> 
 }
 
 /// Whether `x` does not have the number that the one of `y` and `by` make.
+#[inline(always)]
 fn lacks_moved<B: Width>(x: &IntervalSet<B>, y: &IntervalSet<B>, by: i128) -> bool
     requires single { (w : ℤ) × SameMembers (Covers y.now) (Only w) }
     requires small { IsSmall by }

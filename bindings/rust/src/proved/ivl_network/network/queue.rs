@@ -109,6 +109,7 @@ impl Queue {
     }
 
     /// Clears the flag of a rule that is settled, which then waits for the next round.
+    #[inline]
     fn clear(&mut self, k: usize) {
         self.settled[k] = false;
         self.later.push_reserved(k);

@@ -89,6 +89,7 @@ pub fn narrow<B: Width>(domains: &mut [IntervalSet<B>], rule: &Rule) -> Result<b
 ///     Ok(())
 /// }
 /// ```
+#[inline(always)]
 ///
 /// # Proved
 ///
@@ -129,6 +130,7 @@ fn are_at_most<B: Width>(x: &IntervalSet<B>, y: &IntervalSet<B>, by: &i64) -> bo
 
 /// Whether two sets have a member, and each member of both stands in a pair of which the first and `by` are not the
 /// second.
+#[inline(always)]
 fn are_differing<B: Width>(x: &IntervalSet<B>, y: &IntervalSet<B>, by: &i64) -> bool {
     x.in_whole();
     y.in_whole();
@@ -145,6 +147,7 @@ fn are_differing<B: Width>(x: &IntervalSet<B>, y: &IntervalSet<B>, by: &i64) -> 
 }
 
 /// Whether `x` does not have the number that the one of `y` and `by` make.
+#[inline(always)]
 fn lacks_moved<B: Width>(x: &IntervalSet<B>, y: &IntervalSet<B>, by: i128) -> bool {
     !has_number(x, y.lower().number() + by)
 }

@@ -100,6 +100,7 @@ pub(super) fn narrowed_without<B: Width>(
 }
 
 /// Whether a number is a member of `x`.
+#[inline(always)]
 pub(super) fn has_number<B: Width>(x: &IntervalSet<B>, number: i128) -> bool {
     x.in_whole();
     match B::from_number(number) {
