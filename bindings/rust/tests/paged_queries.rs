@@ -101,12 +101,12 @@ fn ask_of_runs(random: &mut Random, interval: &Interval<i16>, set: &Forms) {
     let met: Vec<_> = list.iter().filter(|run| meets(run, interval)).copied().collect();
     assert!(paged.runs_within(interval).eq(met.iter().copied()));
     assert!(paged.runs_within(interval).rev().eq(met.iter().rev().copied()));
-    let (mut left, mut rest) = (paged.runs_within(interval), met.as_slice());
-    while !rest.is_empty() {
+    let (mut left, mut rest) = (paged.runs_within(interval), met.iter());
+    while rest.len() > 0 {
         if random.below(2) == 0 {
-            assert_eq!(left.next(), rest.split_off_first().copied());
+            assert_eq!(left.next().as_ref(), rest.next());
         } else {
-            assert_eq!(left.next_back(), rest.split_off_last().copied());
+            assert_eq!(left.next_back().as_ref(), rest.next_back());
         }
     }
     assert!(left.next().is_none() && left.next_back().is_none());

@@ -20,6 +20,7 @@ use memory::{Watched, refusing};
 static ALLOCATOR: Watched = Watched;
 
 type Set = IntervalSet<i64>;
+type Made = fn() -> (Set, Set, Set);
 
 /// Refuses each request of a call in turn, over what `make` gives anew, until it makes no more; `is_right` looks at the answer and
 /// at what is left of the operand. Returns how many were refused, and how often that was told.
@@ -210,7 +211,7 @@ fn thirds(count: i64, step: i64) -> Set {
 #[test]
 fn sums_in_order() {
     // more runs of sums than of the set; then one operand is a single number
-    let cases: [fn() -> (Set, Set, Set); 2] =
+    let cases: [Made; 2] =
         [|| (thirds(2, 90), thirds(12, 10), thirds(2, 3)), || (thirds(2, 90), thirds(20, 7), thirds(1, 1))];
     for operands in cases {
         let (x, a, b) = operands();
@@ -226,7 +227,7 @@ fn sums_in_order() {
         );
         assert!(refused > 1 && told > 1, "{refused}, {told}");
     }
-    let cases: [fn() -> (Set, Set, Set); 2] =
+    let cases: [Made; 2] =
         [|| (thirds(2, 6), thirds(3, 6), thirds(2, 6)), || (thirds(2, 6), thirds(3, 6), thirds(1, 1))];
     for all in cases {
         let (refused, _) = each_refused(
