@@ -235,6 +235,7 @@ fn debug_builds_test_the_conditions_of_pages_maps_and_searches() {
     use intervallum::proved::ivl_store::store::Constraint;
 
     let paged = || PagedSet::of_set(&proved::IntervalSet::new(Global, 10u8, 20).unwrap()).unwrap();
+    let none = || PagedSet::<u8>::new(Global);
     let map = || IntervalMap::of(Global, Interval::new(10u8, 20), 'a').unwrap();
     let domains = || [proved::IntervalSet::new(Global, 0, 9).unwrap()];
     let twice = [Constraint { x: 0, y: 0, z: 0 }];
@@ -244,6 +245,9 @@ fn debug_builds_test_the_conditions_of_pages_maps_and_searches() {
         paged().first_fit(0) => "the condition of `first_fit` is broken: crate::proved::ivl_interval::width::SizeNumber::number(count) > 0";
         paged().first_fit_from(3, 0) => "the condition of `first_fit_from` is broken: crate::proved::ivl_interval::width::SizeNumber::number(count) > 0";
         paged().take_first_fit(0) => "the condition of `take_first_fit` is broken: crate::proved::ivl_interval::width::SizeNumber::number(count) > 0";
+        none().lower() => "the condition of `lower` is broken: !self.is_empty()";
+        none().upper() => "the condition of `upper` is broken: !self.is_empty()";
+        paged().best_fit(0) => "the condition of `best_fit` is broken: crate::proved::ivl_interval::width::SizeNumber::number(count) > 0";
         map().first_fit(Interval::new(1, 9), 0).is_ok() => "the condition of `first_fit` is broken: crate::proved::ivl_interval::width::SizeNumber::number(count) > 0";
         Network::<u8>::new(Global).require(Rule::Shifted { x: 1, y: 1, by: 0 }) => "the condition of `require` is broken: rule.is_over_different()";
         narrow(&mut domains(), &Rule::Differs { x: 0, y: 1, by: 0 }) => "the condition of `narrow` is broken: rule.is_over_different() && rule.first_unknown(domains.len()).is_none()";
