@@ -125,7 +125,7 @@ macro_rules! combining {
 
             /// Returns the numbers of a range that are not members, and are within the limits.
             #[doc = cost!($Set part)]
-            #[doc = contract!($Set "gaps_within")]
+            #[doc = contract!(lists $Set "gaps_within")]
             #[must_use]
             pub fn gaps_within(&self, range: impl Piece<T>) -> Self {
                 let gaps = self.as_proved().gaps_within(&range.clamped());

@@ -65,7 +65,7 @@ macro_rules! making {
             #[doc = concat!("# use intervallum::", stringify!($Set), ";")]
             #[doc = concat!("assert_eq!(", stringify!($Set), "::<i8>::whole().to_string(), \"[-127..127]\");")]
             /// ```
-            #[doc = contract!($Set "whole")]
+            #[doc = contract!(lists $Set "whole")]
             #[must_use]
             pub fn whole() -> Self {
                 Self::of_interval(Interval::new(T::min_value(), T::max_value()))
