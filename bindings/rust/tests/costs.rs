@@ -121,6 +121,15 @@ fn a_copy_into_a_set_uses_its_memory() {
         }
     });
     assert_eq!((told.allocations, told.held), (0, 0));
+    let mut root = intervallum::IntervalSet::from(long.try_clone().unwrap());
+    let (from, none) = (intervallum::IntervalSet::from(1..=9), intervallum::IntervalSet::<i64>::empty());
+    let (_, told) = cost(|| {
+        root.clone_from(&from);
+        assert!(root == from);
+        root.clone_from(&none);
+        assert!(root.is_empty());
+    });
+    assert_eq!((told.allocations, told.held), (0, 0));
     let mut set = short;
     let (_, told) = cost(|| set.try_clone_from(&long).unwrap());
     assert!(set == long);
