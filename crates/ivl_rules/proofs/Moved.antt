@@ -8,6 +8,7 @@ use Rattle.ivl_laws.specs.Runs.{Covers, IsRunListIn}
 use Rattle.ivl_laws.proofs.Merging.{covers-append, covers-append_left, covers-append_right}
 use Rattle.intervallum.proofs.Images.{open_here_seen}
 use Rattle.ivl_laws.specs.Bounds.{IsBoundRange}
+use Rattle.ivl_store.proofs.Lists.{covers_next}
 use Rattle.ivl_rules.specs.NarrowedSets.{IsSmall}
 use Rattle.ivl_rules.proofs.Windows.{IsClamped}
 use lib.Signed.{lt_z}
@@ -51,29 +52,6 @@ within_clamped whole n m r s z f g h k u v = (low f, high g)
     high (inl a) = let b = a.1 in omega (arith, ints)
     high (inr (inl a)) = let b = a.0 in absurd (omega (arith, ints))
     high (inr (inr a)) = let b = a.1 in omega (arith, ints)
-
--- ---- one run of a list
-
-pub covers_next : (L : List (ℤ × ℤ)) (i : ℕ) (p : ℤ × ℤ) → i < length L → p ≡ get_or L i p → (z : ℤ) → Covers (take (i + 1) L) z ↔ (Covers (take i L) z ⊎ IsBetween p z)
-covers_next L i p lt is z =
-    let n : i + 1 ≡ suc i = omega arith in
-    let e : take (i + 1) L ≡ take i L ++ p ∷ [] =
-    ap (λ m. take m L) n ∙ take-suc L i p lt ∙ ap (λ q. take i L ++ q ∷ []) (sym is) in
-    rw e (
-      (λ h. elim (covers-append (take i L) (p ∷ []) z h) [ inl k ↦ inl k | inr k ↦ elim k [ inl b ↦ inr b | inr n ↦ absurd n ] ]),
-      (λ h. elim h [ inl k ↦ covers-append_left (take i L) (p ∷ []) z k | inr b ↦ covers-append_right (take i L) (p ∷ []) z (inl b) ]),
-    )
-
-at_item : (L : List (ℤ × ℤ)) (i : ℕ) (p : ℤ × ℤ) → i < length L → (z : ℤ) → IsBetween (get_or L i p) z → Covers L z
-at_item [] i p lt z b = absurd (omega (arith, lt))
-at_item (q ∷ L) zero p lt z b = inl b
-at_item (q ∷ L) (suc i) p lt z b = inr (at_item L i p (omega (arith, lt)) z b)
-
-pub item_in_range : (whole : ℤ × ℤ) (L M : List (ℤ × ℤ)) (i : ℕ) (p : ℤ × ℤ) → L ≡ M → IsRunListIn whole M → i < length L → p ≡ get_or L i p → IsInRange whole p × (p.0 ≤ℤ p.1)
-item_in_range whole L M i p same r lt is =
-    let o = open_here_seen L M i p same r.maximal lt is in
-    let covered = λ (z : ℤ) (b : IsBetween p z). r.within z (subst (λ N. Covers N z) same (at_item L i p lt z (subst (λ q. IsBetween q z) is b))) in
-    (((covered p.0 (omega (arith, ints), o)).0, (covered p.1 (o, omega (arith, ints))).1), o)
 
 -- ---- a run that is moved
 

@@ -18,3 +18,4 @@ pub mod Rounds
 pub mod Settled
 pub mod Steps
 pub mod Totals
+pub mod Words

@@ -7,3 +7,4 @@ pub mod Posts
 pub mod Rounds
 pub mod Settled
 pub mod Solutions
+pub mod Words

@@ -20,6 +20,7 @@ ghost use Rattle.ivl_laws.specs.Families.{set_at};
 ghost use Rattle.ivl_laws.specs.Runs.{IsRunListIn};
 ghost use Rattle.ivl_store.specs.Posts.{HasEmpty};
 
+mod by_words;
 pub mod callers;
 mod constraint;
 mod costs;
@@ -30,6 +31,7 @@ mod post;
 mod posting;
 mod settled;
 mod swapping;
+mod words;
 
 pub use constraint::{Constraint, StoreFault};
 use intervallum::interval_set::IntervalSet;

@@ -7,6 +7,7 @@ ghost use Rattle.ivl_store.specs.Narrowing.{AllPresent};
 ghost use Rattle.ivl_within.specs.Within.{SumsBy};
 
 use super::Constraint;
+use super::by_words::narrowed_by_words;
 use intervallum::interval::Interval;
 use intervallum::interval_set::IntervalSet;
 use intervallum::ops::{Bounded, Cardinality, Intersection, IsEmpty, IsSingleton};
@@ -66,6 +67,37 @@ pub(super) fn narrowed_sets<B: Width>(
 /// ```
 #[inline]
 pub fn narrowed_by_sum<B: Width>(
+    x: &IntervalSet<B>,
+    y: &IntervalSet<B>,
+    z: &IntervalSet<B>,
+) -> Result<
+    (
+        Option<IntervalSet<B>>,
+        Option<IntervalSet<B>>,
+        Option<IntervalSet<B>>,
+    ),
+    AllocError,
+>
+    ensures at_x { IfOk result (λ r. IsLeftOf B.whole x.now (Differences (Covers z.now) (Covers y.now)) r.0) }
+    ensures at_y { IfOk result (λ r. IsLeftOf B.whole y.now (Differences (Covers z.now) (Covers x.now)) r.1) }
+    ensures at_z { IfOk result (λ r. IsLeftOf B.whole z.now (Sums (Covers x.now) (Covers y.now)) r.2) }
+{
+    if are_runs(x, y, z) {
+        return narrowed_one_by_one(x, y, z);
+    }
+    if let Some(left) = narrowed_by_words(x, y, z)? {
+        return Ok(left);
+    }
+    narrowed_one_by_one(x, y, z)
+}
+
+/// Whether each of three sets is one run, so that narrowing by bounds costs least.
+fn are_runs<B: Width>(x: &IntervalSet<B>, y: &IntervalSet<B>, z: &IntervalSet<B>) -> bool {
+    x.interval_count() == 1 && y.interval_count() == 1 && z.interval_count() == 1
+}
+
+/// Returns what narrowing leaves at x, y and z of a sum, found for one after another.
+fn narrowed_one_by_one<B: Width>(
     x: &IntervalSet<B>,
     y: &IntervalSet<B>,
     z: &IntervalSet<B>,

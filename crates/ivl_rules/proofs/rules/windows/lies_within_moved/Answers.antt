@@ -3,7 +3,7 @@ use Rattle.std.proofs.lemmas.Int.{to_z-of_z}
 use Rattle.std.proofs.lemmas.List.{take_all}
 use Rattle.std.specs.Prelude.{◌-ℤ◌}
 use Rattle.ivl_laws.specs.Runs.{Covers}
-use Rattle.ivl_rules.proofs.Moved.{covers_next, item_in_range}
+use Rattle.ivl_store.proofs.Lists.{covers_next, item_in_range}
 use Rattle.ivl_rules.proofs.rules.windows.lies_within_moved.Goals as goal
 
 pub has_moved_run-requires-clause-in_range : goal.has_moved_run-requires-clause-in_range

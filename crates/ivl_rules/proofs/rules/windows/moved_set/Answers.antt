@@ -5,7 +5,8 @@ use Rattle.std.proofs.lemmas.Result.{IfOk-weaker}
 use Rattle.std.specs.Prelude.{ℤ, ◌-ℤ◌}
 use Rattle.ivl_laws.specs.Runs.{Covers}
 use Rattle.ivl_laws.specs.Sets.{IsBetween}
-use Rattle.ivl_rules.proofs.Moved.{item_in_range, moved_more}
+use Rattle.ivl_store.proofs.Lists.{item_in_range}
+use Rattle.ivl_rules.proofs.Moved.{moved_more}
 use Rattle.ivl_rules.proofs.rules.windows.moved_set.Goals as goal
 
 pub moved_run-requires-clause-in_range : goal.moved_run-requires-clause-in_range

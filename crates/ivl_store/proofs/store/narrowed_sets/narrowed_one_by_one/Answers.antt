@@ -1,8 +1,8 @@
 use Rattle.ivl_laws.specs.Sets.{Differences, Sums}
 use Rattle.ivl_laws.specs.Runs.{Covers}
 use Rattle.ivl_store.proofs.NarrowedSets.{left_same, one_is_left, summed, sums_turned}
-use Rattle.ivl_store.proofs.store.narrowed_sets.narrowed_by_sum.Goals as goal
-use Rattle.ivl_store.proofs.store.narrowed_sets.narrowed_by_sum.Goals.{then-is_singleton-3, else-is_singleton-3+in_ok-left_of_z}
+use Rattle.ivl_store.proofs.store.narrowed_sets.narrowed_one_by_one.Goals as goal
+use Rattle.ivl_store.proofs.store.narrowed_sets.narrowed_one_by_one.Goals.{then-is_singleton-3, else-is_singleton-3+in_ok-left_of_z}
 
 pub returns-then-is_singleton-2-clause-at_z : goal.returns-then-is_singleton-2-clause-at_z
 returns-then-is_singleton-2-clause-at_z g c =

@@ -1,0 +1,207 @@
+//! Sums over sets whose members lie close together: bit `p` of a word stands for the number `p` above a base.
+ghost use Rattle.std.specs.Prelude.{◌≡◌, ◌≢◌, ◌↔◌, ◌⊎◌, ℕ, ◌+◌, ◌<◌, ◌≤◌, ℤ, ◌≤ℤ◌, ◌<ℤ◌, pos, ◌+ℤ◌, ◌-ℤ◌, IfOk};
+ghost use Rattle.ivl_laws.specs.Sets.{IsBetween, IsInRange};
+ghost use Rattle.ivl_laws.specs.Runs.{Covers, IsRunListIn, IsRunsOf};
+ghost use Rattle.ivl_store.specs.Words.{AreSupported, HasBit, InWord, IsNear, IsWordOf, SupportsAt};
+
+use intervallum::interval::Interval;
+use intervallum::interval_set::IntervalSet;
+use intervallum::ops::Range;
+use intervallum::sweep::coalesce;
+use intervallum::width::Width;
+use std::alloc::{AllocError, Global};
+
+/// The words of the sets at x, y and z of a sum.
+#[derive(Clone, Copy)]
+pub(super) struct Words {
+    pub x: u64,
+    pub y: u64,
+    pub z: u64,
+}
+
+/// The word whose bits from one place to another are set.
+fn bits_between(low: u32, high: u32) -> u64
+    requires in_order { low ≤ high }
+    requires fits { high < 64 }
+    ensures { (p : ℕ) → HasBit result p ↔ ((low ≤ p) × (p ≤ high)) }
+{
+    (u64::MAX >> (63 - high)) & (u64::MAX << low)
+}
+
+/// The word without one of its bits.
+fn without_bit(word: u64, place: u32) -> u64
+    requires { HasBit word place }
+    ensures left { (p : ℕ) → HasBit result p ↔ (HasBit word p × (p ≢ place)) }
+    ensures less { result < word }
+{
+    word & !bits_between(place, place)
+}
+
+/// The words with what is supported by bit `place` of `x`, where `y` and `z` are the words of the other sets.
+fn with_supported(kept: Words, place: u32, y: u64, z: u64) -> Words
+    requires { place < 64 }
+    ensures at_x { (p : ℕ) → HasBit result.x p ↔ (HasBit kept.x p ⊎ ((p ≡ place) × (q : ℕ) × SupportsAt y z place q)) }
+    ensures at_y { (q : ℕ) → HasBit result.y q ↔ (HasBit kept.y q ⊎ SupportsAt y z place q) }
+    ensures at_z { (r : ℕ) → HasBit result.z r ↔ (HasBit kept.z r ⊎ ((q : ℕ) × SupportsAt y z place q × (place + q ≡ r))) }
+{
+    let met = (z >> place) & y;
+    let one = if met == 0 { 0 } else { 1 << place };
+    Words {
+        x: kept.x | one,
+        y: kept.y | met,
+        z: kept.z | (met << place),
+    }
+}
+
+/// What is left of three sets of small numbers of which a sum holds.
+pub(super) fn supported(x: u64, y: u64, z: u64) -> Words
+    ensures { AreSupported x y z result.x result.y result.z }
+{
+    let mut kept = Words { x: 0, y: 0, z: 0 };
+    let mut rest = x;
+    'places: while rest != 0 {
+        let place = rest.trailing_zeros();
+        kept = with_supported(kept, place, y, z);
+        rest = without_bit(rest, place);
+    }
+    kept
+}
+
+/// How far a value stands above a base.
+pub(super) fn above<B: Width>(value: B, base: i128) -> i128
+    requires in_range { IsBetween B.whole (B.value value) }
+    requires near { IsNear base }
+    ensures { result ≡ B.value value -ℤ base }
+{
+    value.number() - base
+}
+
+/// The place of a number that has one.
+fn place_of(number: i128) -> u32
+    requires { (pos 0 ≤ℤ number) × (number ≤ℤ pos 63) }
+    ensures { pos result ≡ number }
+{
+    number as u32
+}
+
+/// The first place from a number on.
+fn first_place(number: i128) -> u32
+    requires { number ≤ℤ pos 63 }
+    ensures { ((number <ℤ pos 0) × (result ≡ 0)) ⊎ (pos result ≡ number) }
+{
+    if number < 0 {
+        return 0;
+    }
+    place_of(number)
+}
+
+/// The last place up to a number.
+fn last_place(number: i128) -> u32
+    requires { pos 0 ≤ℤ number }
+    ensures { ((pos 63 <ℤ number) × (result ≡ 63)) ⊎ ((number ≤ℤ pos 63) × (pos result ≡ number)) }
+{
+    if 63 < number {
+        return 63;
+    }
+    place_of(number)
+}
+
+/// The word of the numbers of a run, from a base on.
+fn word_of_run<B: Width>(run: Interval<B>, base: i128) -> u64
+    requires in_range { IsInRange B.whole run }
+    requires in_order { run.0 ≤ℤ run.1 }
+    requires near { IsNear base }
+    ensures { IsWordOf result base (IsBetween run) }
+{
+    let low = above(run.lower_bound(), base);
+    let high = above(run.upper_bound(), base);
+    if high < 0 || 63 < low {
+        return 0;
+    }
+    bits_between(first_place(low), last_place(high))
+}
+
+/// The word of a set, of its members from a base on.
+pub(super) fn word_of<B: Width>(runs: &[Interval<B>], base: i128) -> u64
+    requires runs { IsRunListIn B.whole runs.now }
+    requires near { IsNear base }
+    ensures { IsWordOf result base (Covers runs.now) }
+{
+    let mut word = 0;
+    for run in runs {
+        word |= word_of_run(*run, base);
+    }
+    word
+}
+
+/// The first and the last of some bits that are set, one after another, of which the first is the lowest.
+fn first_bits(word: u64) -> (u32, u32)
+    requires { word ≢ 0 }
+    ensures in_order { result.0 ≤ result.1 }
+    ensures fits { result.1 < 64 }
+    ensures set { (p : ℕ) → result.0 ≤ p → p ≤ result.1 → HasBit word p }
+{
+    if word == u64::MAX {
+        return (0, 63);
+    }
+    let low = word.trailing_zeros();
+    let count = (word >> low).trailing_ones();
+    (low, low + count - 1)
+}
+
+/// The word without the bits from one place to another.
+fn without_bits(word: u64, low: u32, high: u32) -> u64
+    requires in_order { low ≤ high }
+    requires fits { high < 64 }
+    requires set { HasBit word low }
+    ensures left { (p : ℕ) → HasBit result p ↔ (HasBit word p × (¬ ((low ≤ p) × (p ≤ high)))) }
+    ensures less { result < word }
+{
+    word & !bits_between(low, high)
+}
+
+/// How many runs the bits of a word make.
+fn count_runs(word: u64) -> usize {
+    (word & !(word << 1)).count_ones() as usize
+}
+
+/// The set of the numbers of a word, above a base.
+pub(super) fn set_of_word<B: Width>(
+    alloc: Global,
+    word: u64,
+    base: i128,
+) -> Result<IntervalSet<B>, AllocError>
+    requires near { IsNear base }
+    requires in_range { (p : ℕ) → HasBit word p → IsBetween B.whole (base +ℤ pos p) }
+    ensures { IfOk result (λ L. IsRunsOf L (InWord base word)) }
+{
+    let mut runs = Vec::with_capacity(alloc, count_runs(word))?;
+    let mut rest = word;
+    'runs: while rest != 0 {
+        let (low, high) = first_bits(rest);
+        runs.push(run_of(base, low, high))?;
+        rest = without_bits(rest, low, high);
+    }
+    coalesce(alloc, runs)
+}
+
+/// The run from one place to another above a base.
+fn run_of<B: Width>(base: i128, low: u32, high: u32) -> Interval<B>
+    requires near { IsNear base }
+    requires small { (low ≤ high) × (high < 64) }
+    requires first { IsBetween B.whole (base +ℤ pos low) }
+    requires last { IsBetween B.whole (base +ℤ pos high) }
+    ensures { result ≡ (base +ℤ pos low, base +ℤ pos high) }
+{
+    Interval::new(value_of(base, low), value_of(base, high))
+}
+
+/// The value that stands so far above a base.
+fn value_of<B: Width>(base: i128, place: u32) -> B
+    requires near { IsNear base }
+    requires small { place < 64 }
+    requires in_range { IsBetween B.whole (base +ℤ pos place) }
+    ensures { B.value result ≡ base +ℤ pos place }
+{
+    B::from_number(base + place as i128).unwrap()
+}
