@@ -79,8 +79,8 @@ const CALLS: [(&str, Call); 31] = [
     ("product with a value", |a, _| &*a * -3),
     ("to_interval_set", |_, _| [(5, 9), (1, 2), (20, 30)].to_interval_set(Global)),
     ("to_interval_set of many", |_, _| {
-        let many: [(i32, i32); 200] = std::array::from_fn(|i| (9 * (i as i32 * 77 % 200), 9 * (i as i32 * 77 % 200) + 8));
-        many.to_interval_set(Global)
+        let lowers: [i32; 200] = std::array::from_fn(|i| 9 * (i as i32 * 77 % 200));
+        lowers.map(|lower| (lower, lower + 7)).to_interval_set(Global)
     }),
     ("new", |_, _| Set::new(Global, 1, 2)),
     ("whole", |_, _| Set::whole(Global)),
