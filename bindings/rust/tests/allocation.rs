@@ -52,7 +52,7 @@ fn pairs(count: i32, step: i32, first: i32) -> Set {
     all.as_slice().to_interval_set(Global).unwrap()
 }
 
-const CALLS: [(&str, Call); 30] = [
+const CALLS: [(&str, Call); 31] = [
     ("try_clone", |a, _| a.try_clone()),
     ("try_clone_from", |a, b| a.try_clone_from(b).and_then(|()| a.try_clone())),
     ("union", |a, b| a.union(b)),
@@ -78,6 +78,10 @@ const CALLS: [(&str, Call); 30] = [
     ("sum with a value", |a, _| &*a + 3),
     ("product with a value", |a, _| &*a * -3),
     ("to_interval_set", |_, _| [(5, 9), (1, 2), (20, 30)].to_interval_set(Global)),
+    ("to_interval_set of many", |_, _| {
+        let lowers: [i32; 200] = std::array::from_fn(|i| 9 * (i as i32 * 77 % 200));
+        lowers.map(|lower| (lower, lower + 7)).to_interval_set(Global)
+    }),
     ("new", |_, _| Set::new(Global, 1, 2)),
     ("whole", |_, _| Set::whole(Global)),
     ("extend", |a, b| a.extend(b.iter().copied()).and_then(|()| a.try_clone())),

@@ -10,6 +10,7 @@ use intervallum::proved::ivl_buffers::set_calls::{OfOne, OfTwo, of_one, of_two};
 use intervallum::proved::ivl_buffers::{beside, lookup, reading, run_lists, sorted_lookup};
 use intervallum::proved::ivl_paged::PagedSet;
 use intervallum::proved::prelude::*;
+use intervallum::proved::sweep::coalesce;
 use std::cell::Cell;
 use std::cmp::Ordering;
 
@@ -147,6 +148,22 @@ fn sums_of_dense_sets_list_few_results() {
     assert_eq!(sums.interval_count(), 1);
     // all million results would take 16 MB
     assert!(told.most < 1 << 20, "{told:?}");
+}
+
+#[test]
+fn intervals_in_no_order_take_their_memory_twice_and_counts() {
+    for count in [10, 95, 96, 1_000, 10_000, 200_000] {
+        let list: Vec<Interval<i64>> =
+            (0..count).map(|i| 5 * (i * 48_271 % count)).map(|lower| Interval::new(lower, lower + 2)).collect();
+        let (set, told) = cost(|| coalesce(Global, list.into()).unwrap());
+        assert_eq!(set.size(), 3 * set.interval_count() as u64);
+        // beside the list: as many intervals again, and at most two counts for each
+        assert!(told.most <= (16 + 2 * 4) * count as isize && told.held <= 0, "{count}: {told:?}");
+        // runs in order become the set as they are
+        let runs: Vec<Interval<i64>> = set.iter().copied().collect();
+        let (same, told) = cost(|| coalesce(Global, runs.into()).unwrap());
+        assert!(same == set && told.allocations == 0, "{count}: {told:?}");
+    }
 }
 
 thread_local! {

@@ -40,3 +40,4 @@ pub mod MembersWithin
 pub mod Options
 pub mod Edges
 pub mod Merged
+pub mod Spreading

@@ -47,7 +47,8 @@ impl<B: Width> ToIntervalSet<B> for &[Interval<B>] {
     }
 
     /// Returns the set of the members of every interval, in any order. The intervals are unchanged.
-    /// `O(n log n)` for `n` intervals. Reserves at most `2 n` runs. Fails only if allocation fails.
+    /// `O(n log n)` for `n` intervals. Needs memory as `coalesce` of a copy does. Fails only if
+    /// allocation fails.
     ///
     /// ```
     /// let all = [Interval::new(3, 8), Interval::new(2, 5)];
@@ -68,9 +69,9 @@ impl<B: Width> ToIntervalSet<B> for Vec<Interval<B>> {
         true
     }
 
-    /// Returns the set of the members of every interval, in any order. The vector is consumed: if
-    /// its intervals are sorted and apart, the set takes over its memory. `O(n log n)` for `n`
-    /// intervals. Reserves at most `n` runs. Fails only if allocation fails.
+    /// Returns the set of the members of every interval, in any order, as `coalesce` does. The
+    /// vector is consumed: if its intervals are sorted and apart, the set takes over its memory.
+    /// `O(n log n)` for `n` intervals. Fails only if allocation fails.
     fn to_interval_set(self, alloc: Global) -> Result<IntervalSet<B>, AllocError> {
         coalesce(alloc, self)
     }
@@ -87,7 +88,7 @@ impl<B: Width, const N: usize> ToIntervalSet<B> for [Interval<B>; N] {
     }
 
     /// Returns the set of the members of every interval, in any order. `O(n log n)` for `n`
-    /// intervals. Reserves at most `2 n` runs. Fails only if allocation fails.
+    /// intervals. Needs memory as `coalesce` of a copy does. Fails only if allocation fails.
     ///
     /// ```
     /// let a = [Interval::new(3, 8), Interval::new(2, 5)].to_interval_set(alloc)?;

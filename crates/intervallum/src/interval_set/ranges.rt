@@ -93,8 +93,8 @@ impl<B: Width> ToIntervalSet<B> for &[RangeInclusive<B>] {
     }
 
     /// Returns the set of the numbers of every range, in any order; one whose start is above its end
-    /// adds nothing. The ranges are unchanged. `O(n log n)` for `n` ranges. Reserves at most `2 n`
-    /// runs. Fails only if allocation fails.
+    /// adds nothing. The ranges are unchanged. `O(n log n)` for `n` ranges. Needs memory
+    /// as `coalesce` does. Fails only if allocation fails.
     fn to_interval_set(self, alloc: Global) -> Result<IntervalSet<B>, AllocError> {
         of_ranges(alloc, self)
     }
@@ -111,8 +111,8 @@ impl<B: Width> ToIntervalSet<B> for Vec<RangeInclusive<B>> {
     }
 
     /// Returns the set of the numbers of every range, in any order; one whose start is above its end
-    /// adds nothing. The vector is consumed. `O(n log n)` for `n` ranges. Reserves at most `2 n`
-    /// runs. Fails only if allocation fails.
+    /// adds nothing. The vector is consumed. `O(n log n)` for `n` ranges. Needs memory
+    /// as `coalesce` does. Fails only if allocation fails.
     fn to_interval_set(self, alloc: Global) -> Result<IntervalSet<B>, AllocError> {
         of_ranges(alloc, self.as_slice())
     }
@@ -129,8 +129,8 @@ impl<B: Width, const N: usize> ToIntervalSet<B> for [RangeInclusive<B>; N] {
     }
 
     /// Returns the set of the numbers of every range, in any order; one whose start is above its end
-    /// adds nothing. `O(n log n)` for `n` ranges. Reserves at most `2 n` runs. Fails only if
-    /// allocation fails.
+    /// adds nothing. `O(n log n)` for `n` ranges. Needs memory as `coalesce` does. Fails only
+    /// if allocation fails.
     ///
     /// ```
     /// let hours = [12..=13u8, 8..=11].to_interval_set(alloc)?;

@@ -67,7 +67,8 @@ impl<B: Width> ToIntervalSet<B> for &[Interval<B>] {
     }
 
     /// Returns the set of the members of every interval, in any order. The intervals are unchanged.
-    /// `O(n log n)` for `n` intervals. Reserves at most `2 n` runs. Fails only if allocation fails.
+    /// `O(n log n)` for `n` intervals. Needs memory as `coalesce` of a copy does. Fails only if
+    /// allocation fails.
     ///
     /// ```
     /// use intervallum::proved::examples::*;
@@ -104,9 +105,9 @@ impl<B: Width> ToIntervalSet<B> for Vec<Interval<B>> {
         true
     }
 
-    /// Returns the set of the members of every interval, in any order. The vector is consumed: if
-    /// its intervals are sorted and apart, the set takes over its memory. `O(n log n)` for `n`
-    /// intervals. Reserves at most `n` runs. Fails only if allocation fails.
+    /// Returns the set of the members of every interval, in any order, as `coalesce` does. The
+    /// vector is consumed: if its intervals are sorted and apart, the set takes over its memory.
+    /// `O(n log n)` for `n` intervals. Fails only if allocation fails.
     ///
     /// # Proved
     ///
@@ -133,7 +134,7 @@ impl<B: Width, const N: usize> ToIntervalSet<B> for [Interval<B>; N] {
     }
 
     /// Returns the set of the members of every interval, in any order. `O(n log n)` for `n`
-    /// intervals. Reserves at most `2 n` runs. Fails only if allocation fails.
+    /// intervals. Needs memory as `coalesce` of a copy does. Fails only if allocation fails.
     ///
     /// ```
     /// use intervallum::proved::examples::*;

@@ -268,7 +268,8 @@ pub trait ToIntervalSet<B: Width> {
     /// pair are in the range. Check with `in_range`. Pairs may be in any order and overlap; a pair
     /// whose bounds cross adds nothing.
     ///
-    /// `O(n log n)` for `n` pairs. Reserves at most `2 n` runs. Fails only if allocation fails.
+    /// `O(n log n)` for `n` pairs. Needs memory as `coalesce` of a list of them does: for `2 n` runs
+    /// at a time, and at most `2 n` counts of 4 bytes. Fails only if allocation fails.
     ///
     /// ```
     /// use intervallum::proved::examples::*;
