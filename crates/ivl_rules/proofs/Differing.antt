@@ -94,9 +94,9 @@ takes_first x y by back sets v n is (m, (u, k, ne), only) = record {
     at_y : (z : ℤ) → sets y z → HasPointAt (Differs x y by) sets y z
     at_y z h = (differing_second x y by sets n z h).0 (u, k, λ f. let w = (only z).0 h in ne (omega (arith, ints, f, w, is)))
 
-pub takes_second : (x y : ℕ) (by : ℤ) (sets : ℕ → ℤ → Type 0) (v : ℤ) → x ≢ y → IsForbidden by (sets y) (sets x) v
+pub takes_second : (x y : ℕ) (by shift : ℤ) (sets : ℕ → ℤ → Type 0) (v : ℤ) → x ≢ y → shift ≡ by → IsForbidden shift (sets y) (sets x) v
     → TakesOne (Differs x y by) sets y v
-takes_second x y by sets v n (m, (u, k, ne), only) = record {
+takes_second x y by shift sets v n is (m, (u, k, ne), only) = record {
   named = inr (inl refl);
   member = m;
   left = λ j z. (
@@ -104,7 +104,7 @@ takes_second x y by sets v n (m, (u, k, ne), only) = record {
         let p = (differing_second x y by sets n z (subst (λ i. sets i z) e h.kept)).1 (subst (λ i. HasPointAt (Differs x y by) sets i z) e (h.supported (inr (inl e)))) in
         let w = (only p.0).0 p.1 in
         let differs = p.2 in
-        differs (omega (arith, ints, f, w)))),
+        differs (omega (arith, ints, f, w, is)))),
     (λ h. record {
       kept = h.0;
       supported = λ named. elim named [
@@ -117,8 +117,8 @@ takes_second x y by sets v n (m, (u, k, ne), only) = record {
 }
   where
     at_x : (z : ℤ) → sets x z → HasPointAt (Differs x y by) sets x z
-    at_x z h = (differing_first x y by sets n z h).0 (u, k, λ f. let w = (only z).0 h in ne (omega (arith, ints, f, w)))
+    at_x z h = (differing_first x y by sets n z h).0 (u, k, λ f. let w = (only z).0 h in ne (omega (arith, ints, f, w, is)))
 
     at_y : (j : ℕ) (z : ℤ) (e : j ≡ y) → sets j z × (j ≡ y → z ≢ v) → HasPointAt (Differs x y by) sets y z
     at_y j z e h = (differing_second x y by sets n z (subst (λ i. sets i z) e h.0)).0
-        (v -ℤ by, (only (v -ℤ by)).1 refl, λ f. h.1 e (omega (arith, ints, f)))
+        (v -ℤ shift, (only (v -ℤ shift)).1 refl, λ f. h.1 e (omega (arith, ints, f, is)))

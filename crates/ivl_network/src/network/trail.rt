@@ -1,9 +1,11 @@
 //! The changes that a network writes down from its first mark on, and how they are taken back.
-ghost use Rattle.std.specs.Prelude.{slice_index_or, ◌-◌, ◌+◌, ◌≡◌, ◌<◌, ◌≤◌, ◌⊎◌, [], ℕ, ℤ, List, Some, OnOk, false, length, take, true};
+ghost use Rattle.std.specs.Prelude.{slice_index_or, slice_set, ◌-◌, ◌+◌, ◌++◌, ◌∷◌, ◌≡◌, ◌≢◌, ◌↔◌, ◌<◌, ◌≤◌, ◌⊎◌, [], ℕ, ℤ, IfOk, List, Some, OnErr, OnOk, false, length, take, true};
 ghost use Rattle.std.specs.Vec.{vec_capacity, vec_len};
+ghost use Rattle.ivl_laws.specs.Families.{set_at};
 ghost use Rattle.ivl_laws.specs.Runs.{IsRunListIn};
 ghost use Rattle.ivl_store.specs.NarrowedSets.{narrowed_at};
 ghost use Rattle.ivl_rules.specs.declared.rules.Rule.{Rule};
+ghost use Rattle.ivl_network.specs.declared.network.change.Change.TheVariants.{Domain};
 ghost use Rattle.ivl_network.specs.Network.{IsSoundRules};
 ghost use Rattle.ivl_network.specs.Queue.{IsRuleIndex, IsRuleQueue};
 ghost use Rattle.ivl_network.specs.Settled.{claimed_flags};
@@ -20,10 +22,10 @@ use ivl_rules::rules::Rule;
 use ivl_store::store::Store;
 use std::alloc::AllocError;
 
-/// How many sets at least a network has room for, where it keeps those that are not used any more.
+/// How many sets that are not used any more a network makes room for, where it lacks one.
 const SPARES: usize = 64;
 
-/// How many runs a set has room for at most, that is kept for its memory.
+/// How many runs such a set has at most, to be kept.
 const RUNS_OF_A_SPARE: usize = 64;
 
 /// Reserves room for so many changes, if changes are written down.
@@ -131,10 +133,7 @@ fn copy_of<B: Width>(
     ensures { IfOk result (λ L. L ≡ set.now) }
 {
     match spares.pop() {
-        Some(mut copy) => {
-            copy.try_clone_from(set)?;
-            Ok(copy)
-        }
+        Some(_) => set.try_clone(),
         None => {
             spares.reserve(SPARES)?;
             set.try_clone()
@@ -142,7 +141,7 @@ fn copy_of<B: Width>(
     }
 }
 
-/// Keeps a set that is not used any more, for its memory, if it is not large, and there is room for it.
+/// Keeps a set that is not used any more, for its memory, unless it is large or there is no room for it.
 fn spare<B: Width>(spares: &mut Vec<IntervalSet<B>>, set: IntervalSet<B>) {
     if set.interval_count() <= RUNS_OF_A_SPARE && spares.len() < spares.capacity() {
         spares.push_reserved(set);

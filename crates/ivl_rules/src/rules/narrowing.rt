@@ -6,7 +6,7 @@ ghost use Rattle.ivl_laws.specs.Sets.{HasSome, Only, SameMembers};
 ghost use Rattle.ivl_store.specs.NarrowedSets.{IsLeftOf, narrowed_at};
 ghost use Rattle.ivl_store.specs.Narrowing.{AllPresent};
 ghost use Rattle.ivl_store.specs.Solutions.{AreDistinct, LostMember};
-ghost use Rattle.ivl_rules.specs.Rules.{AreDifferent, HasPointAt, NamesOf, NarrowedBy, SupportsAll, TakesOne, places as places_of};
+ghost use Rattle.ivl_rules.specs.Rules.{AreDifferent, HasPointAt, NamesOf, NarrowedBy, SupportsAll, TakesOne, needs_singles, places as places_of};
 ghost use Rattle.ivl_rules.specs.NarrowedSets.{AreLeftAtPlaces, AreLeftBy, IsAtMost, IsForbidden, IsMoved, IsNot, IsSmall};
 ghost use Rattle.ivl_rules.specs.declared.rules.Rule.TheVariants.{Differs as DiffersRule, Sum as SumRule};
 
@@ -212,7 +212,8 @@ pub fn narrowed_at_places<B: Width>(
 pub fn lone_loss<B: Width>(domains: &[IntervalSet<B>], rule: &Rule) -> Option<(usize, B)>
     requires different { AreDifferent rule.now }
     requires present { AllPresent (length domains.now) (places_of rule.now) }
-    ensures { IfSome result (λ taken. TakesOne rule.now (set_at domains.now) taken.0 (B.value taken.1)) }
+    ensures one { IfSome result (λ taken. TakesOne rule.now (set_at domains.now) taken.0 (B.value taken.1)) }
+    ensures differs { IfSome result (λ _. needs_singles rule.now ≡ true) }
 {
     match rule {
         Rule::Sum(_) => None,

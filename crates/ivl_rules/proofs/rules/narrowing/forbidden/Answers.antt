@@ -1,17 +1,25 @@
-use Rattle.std.proofs.Common.{rules, ◌≡◌, ◌↔◌, ◌≢◌, ◌<◌, ◌||◌, ℕ, ℤ, ◌+ℤ◌, IfOk, IfSome, IsTrue, None, OnErr, OnOk, is_some, length, true, ◌+◌, ◌-◌, ◌*◌, ◌≤◌, ◌/◌, ◌%◌, Bool, false, nat_eq, nat_lt, List, [], ◌∷◌, ◌++◌, slice_index_or, slice_set, bit_and, bit_or, Fits, w8, w32, w64, Bor, MutBor, pos, ◌-ℤ◌, ◌*ℤ◌, ◌≤ℤ◌, ◌<ℤ◌, FitsSigned, to_z, of_z}
-use Rattle.ivl_laws.specs.Families.{set_at}
+use Rattle.std.proofs.Common.{◌≡◌, ◌∙◌, arith, subst, sym}
+use Rattle.std.proofs.lemmas.Bool.{false≢true}
+use Rattle.std.proofs.lemmas.Int.{ints}
+use Rattle.std.specs.Prelude.{ℤ, ◌-ℤ◌}
 use Rattle.ivl_laws.specs.Runs.{Covers}
-use Rattle.ivl_laws.specs.Sets.{HasSome, Only, SameMembers}
-use Rattle.ivl_store.specs.NarrowedSets.{IsLeftOf, narrowed_at}
-use Rattle.ivl_store.specs.Narrowing.{AllPresent}
-use Rattle.ivl_store.specs.Solutions.{AreDistinct, LostMember}
-use Rattle.ivl_rules.specs.Rules.{AreDifferent, HasPointAt, NamesOf, NarrowedBy, SupportsAll, TakesOne}
-use Rattle.ivl_rules.specs.Rules.{places as places_of}
-use Rattle.ivl_rules.specs.NarrowedSets.{AreLeftAtPlaces, AreLeftBy, IsAtMost, IsForbidden, IsMoved, IsNot, IsSmall}
-use Rattle.ivl_rules.specs.declared.rules.Rule.TheVariants.{Differs as DiffersRule}
-use Rattle.ivl_rules.specs.declared.rules.Rule.TheVariants.{Sum as SumRule}
+use Rattle.ivl_rules.proofs.Differing.{has_another}
 use Rattle.ivl_rules.proofs.rules.narrowing.forbidden.Goals as goal
 
--- src/rules/narrowing.rt:248:1
 pub returns-then-contains : goal.returns-then-contains
-returns-then-contains g c = ?
+returns-then-contains g c =
+    let m = c.contains.ensures.0 c.if-contains.true in
+    let r = g.met.B.Width.range in let least = r.low_at_least in let most = r.high_at_most in
+    let above = c.lower.ensures.in_range.0 in let below = c.lower.ensures.in_range.1 in
+    let small = c.requires.0 in let small' = c.requires.1 in
+    let (k, same) = c.is_singleton.ensures.0 c.if-not-is_singleton.false in
+    let at = (same _).0 c.lower.ensures.member in
+    let ln = c.number.ensures in
+    let value = c.in_ok-value.ensures.same_number in (
+      m,
+      has_another g.B.Width.whole c.args.x.now _ c.in_whole.ensures m (λ h. false≢true (sym c.if-is_singleton.false ∙ c.is_singleton-else-not-is_singleton.ensures.1 h)),
+      (λ z. (
+        (λ n. let is = (same z).0 n in omega (arith, ints)),
+        (λ e. (same z).1 (omega (arith, ints, e))),
+      )),
+    )
