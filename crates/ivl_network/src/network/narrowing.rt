@@ -42,12 +42,12 @@ pub(super) fn narrow_logged<B: Width>(
     ensures past { OnOk result ((rules : List Rule) → KeepsPast marks.now trail.old.items trail.new.items store.old store.new rules) }
     ensures range { OnOk result (All (IsRunListIn B.whole) store.old) }
 {
-    if let Some((variable, value)) = lone_loss(store.domains(), rule) {
-        take_out_logged(store, trail, places, spares, marks, variable, value)?;
+    if let Some(taken) = lone_loss(store.domains(), rule) {
+        take_out_logged(store, trail, places, spares, marks, taken.0, taken.1)?;
         let c = rule.places();
         return Ok(Lost {
-            x: variable == c.x,
-            y: variable == c.y,
+            x: taken.0 == c.x,
+            y: taken.0 == c.y,
             z: false,
         });
     }

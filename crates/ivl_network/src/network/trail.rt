@@ -3,6 +3,7 @@ ghost use Rattle.std.specs.Prelude.{slice_index_or, slice_set, ◌-◌, ◌+◌,
 ghost use Rattle.std.specs.Vec.{vec_capacity, vec_len};
 ghost use Rattle.ivl_laws.specs.Families.{set_at};
 ghost use Rattle.ivl_laws.specs.Runs.{IsRunListIn};
+ghost use Rattle.ivl_laws.specs.Sets.{IsBetween};
 ghost use Rattle.ivl_store.specs.NarrowedSets.{narrowed_at};
 ghost use Rattle.ivl_rules.specs.declared.rules.Rule.{Rule};
 ghost use Rattle.ivl_network.specs.declared.network.change.Change.TheVariants.{Domain};
@@ -110,6 +111,7 @@ pub(super) fn take_out_logged<B: Width>(
     value: B,
 ) -> Result<(), AllocError>
     requires known { variable < length store.old }
+    requires in_range { IsBetween B.whole (B.value value) }
     requires room { (marks.now ≡ []) ⊎ (vec_len trail.old < vec_capacity trail.old) }
     ensures refused { OnErr result ((store.new ≡ store.old) × (trail.new.items ≡ trail.old.items)) }
     ensures taken { OnOk result ((i : ℕ) (v : ℤ) → set_at store.new i v ↔ (set_at store.old i v × (i ≡ variable → v ≢ B.value value))) }
