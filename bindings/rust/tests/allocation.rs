@@ -52,8 +52,9 @@ fn pairs(count: i32, step: i32, first: i32) -> Set {
     all.as_slice().to_interval_set(Global).unwrap()
 }
 
-const CALLS: [(&str, Call); 29] = [
+const CALLS: [(&str, Call); 30] = [
     ("try_clone", |a, _| a.try_clone()),
+    ("try_clone_from", |a, b| a.try_clone_from(b).and_then(|()| a.try_clone())),
     ("union", |a, b| a.union(b)),
     ("intersection", |a, b| a.intersection(b)),
     ("difference", |a, b| a.difference(b)),

@@ -109,6 +109,34 @@ fn a_set_copies_runs_and_nothing_more() {
 }
 
 #[test]
+fn a_copy_into_a_set_uses_its_memory() {
+    let (a, b) = lists();
+    let (long, other) = (reading::set_of(Global, &a).unwrap(), reading::set_of(Global, &b).unwrap());
+    let short = IntervalSet::new(Global, 1, 2).unwrap();
+    let mut set = long.try_clone().unwrap();
+    let (_, told) = cost(|| {
+        for from in [&short, &other, &IntervalSet::empty(Global), &long] {
+            set.try_clone_from(from).unwrap();
+            assert!(set == *from && set.size() == from.size());
+        }
+    });
+    assert_eq!((told.allocations, told.held), (0, 0));
+    let mut root = intervallum::IntervalSet::from(long.try_clone().unwrap());
+    let (from, none) = (intervallum::IntervalSet::from(1..=9), intervallum::IntervalSet::<i64>::empty());
+    let (_, told) = cost(|| {
+        root.clone_from(&from);
+        assert!(root == from);
+        root.clone_from(&none);
+        assert!(root.is_empty());
+    });
+    assert_eq!((told.allocations, told.held), (0, 0));
+    let mut set = short;
+    let (_, told) = cost(|| set.try_clone_from(&long).unwrap());
+    assert!(set == long);
+    assert_eq!((told.allocations, told.held), (1, 16 * (RUNS as isize - 1)));
+}
+
+#[test]
 fn sums_of_dense_sets_list_few_results() {
     let of = |step: i64| -> IntervalSet<i64> {
         let pairs: Vec<(i64, i64)> = (0..1_000).map(|i| (step * i, step * i + step / 2)).collect();

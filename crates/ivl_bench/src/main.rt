@@ -4,7 +4,8 @@
 //! `time SECONDS GREATEST_N`, prints one line per call: `name n ns_per_operation runs size`. With the argument
 //! `million`, prints the time of one union of two sets of a million runs, and the peak memory. With the
 //! argument `paged`, prints one line per edit or question of a set in pages, and of one in a list, at
-//! 1,000 to 1,000,000 runs: `name n ns_per_call answer`. With the arguments `store FILE`, prints the time
+//! 1,000 to 1,000,000 runs: `name n ns_per_call answer`, and then one per operation of two of them: `name n
+//! ns_per_run answer`. With the arguments `store FILE`, prints the time
 //! of an instance of the domain store.
 #![tactic(auto)]
 
@@ -18,6 +19,7 @@ mod many_runs;
 mod measures;
 mod stores;
 mod timing;
+mod whole_sets;
 
 use anyhow::{Context, Result, bail};
 use inputs::Inputs;
@@ -96,7 +98,7 @@ fn obey(
     match word {
         None => print_all_answers(rt),
         Some("million") => fresh::print_million(rt),
-        Some("paged") => many_runs::print_times(rt),
+        Some("paged") => print_paged_times(rt),
         Some("store") => print_store_times(rt, first),
         Some("time") => print_times(rt, first, second),
         Some(_) => bail!(
@@ -112,9 +114,15 @@ fn print_store_times(
     stores::print_times(rt, path.context("give the file of an instance")?)
 }
 
+fn print_paged_times(rt: &(impl Print + AllocGlobal + Clock)) -> Result<()> {
+    many_runs::print_times(rt)?;
+    whole_sets::print_times(rt)
+}
+
 fn print_all_answers(rt: &(impl Print + AllocGlobal + Files)) -> Result<()> {
     print_answers(rt, 10)?;
     print_answers(rt, 100)?;
     many_runs::print_answers(rt)?;
+    whole_sets::print_answers(rt)?;
     stores::print_answers(rt)
 }

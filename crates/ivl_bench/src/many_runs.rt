@@ -16,6 +16,9 @@ const SIZES: [u32; 4] = [1_000, 10_000, 100_000, 1_000_000];
 /// More members than a run of the sets has.
 const NO_ROOM: u64 = 9;
 
+/// As many members as the longest runs of the sets have.
+const ROOM: u64 = 8;
+
 /// A set that is edited run by run.
 trait Edited: Drop {
     fn copy(&self) -> Result<Self, AllocError>;
@@ -29,6 +32,13 @@ trait Edited: Drop {
     fn has(&self, value: i64) -> bool;
 
     fn has_room(&self) -> bool;
+
+    /// The greatest member of the shortest run that has so many, in as many numbers from its start on.
+    fn best_end(&self, count: u64) -> Option<i64>;
+
+    fn nth_value(&self, place: u64) -> Option<i64>;
+
+    fn count_below(&self, value: i64) -> u64;
 
     fn answer(&self) -> Answer;
 }
@@ -60,6 +70,21 @@ impl Edited for PagedSet<i64> {
 
     fn has_room(&self) -> bool {
         self.first_fit(NO_ROOM).is_some()
+    }
+
+    fn best_end(&self, count: u64) -> Option<i64> {
+        if count == 0 {
+            return None;
+        }
+        Some(self.best_fit(count)?.upper_bound())
+    }
+
+    fn nth_value(&self, place: u64) -> Option<i64> {
+        self.nth(place)
+    }
+
+    fn count_below(&self, value: i64) -> u64 {
+        self.rank(value)
     }
 
     fn answer(&self) -> Answer {
@@ -96,6 +121,21 @@ impl Edited for IntervalSet<i64> {
         self.first_fit(NO_ROOM).is_some()
     }
 
+    fn best_end(&self, count: u64) -> Option<i64> {
+        if count == 0 {
+            return None;
+        }
+        Some(self.best_fit(count)?.upper_bound())
+    }
+
+    fn nth_value(&self, place: u64) -> Option<i64> {
+        self.nth(place)
+    }
+
+    fn count_below(&self, value: i64) -> u64 {
+        self.rank(value)
+    }
+
     fn answer(&self) -> Answer {
         Answer::of_set(self)
     }
@@ -109,42 +149,51 @@ enum Act {
     PopFirst,
     Contains,
     FirstFit,
+    BestFit,
+    Nth,
+    Rank,
 }
 
-const ACTS: [(Act, &str); 5] = [
+const ACTS: [(Act, &str); 8] = [
     (Act::Insert, "insert"),
     (Act::Remove, "remove"),
     (Act::PopFirst, "pop_first"),
     (Act::Contains, "contains"),
     (Act::FirstFit, "first_fit"),
+    (Act::BestFit, "best_fit"),
+    (Act::Nth, "nth"),
+    (Act::Rank, "rank"),
 ];
 
-/// Does it with each of the values, and counts the questions that are answered with yes.
+/// Does it with each of the values, and adds up what the questions answer: 1 for yes, or a number.
 fn carry_out<S: Edited>(act: Act, set: &mut S, values: &[i64]) -> Result<u64, AllocError> {
-    let mut count: u64 = 0;
+    let mut sum: u64 = 0;
     for value in values {
-        count = count.saturating_add(u64::from(carry_out_one(act, set, *value)?));
+        sum = sum.wrapping_add(carry_out_one(act, set, *value)?);
     }
-    Ok(count)
+    Ok(sum)
 }
 
-fn carry_out_one<S: Edited>(act: Act, set: &mut S, value: i64) -> Result<bool, AllocError> {
+fn carry_out_one<S: Edited>(act: Act, set: &mut S, value: i64) -> Result<u64, AllocError> {
     match act {
         Act::Insert => set.insert_value(value)?,
         Act::Remove => set.remove_value(value)?,
         Act::PopFirst => set.pop(),
-        Act::Contains => return Ok(set.has(value)),
-        Act::FirstFit => return Ok(set.has_room()),
+        Act::Contains => return Ok(u64::from(set.has(value))),
+        Act::FirstFit => return Ok(u64::from(set.has_room())),
+        Act::BestFit => return Ok(set.best_end(ROOM).unwrap_or(0) as u64),
+        Act::Nth => return Ok(set.nth_value(value.unsigned_abs()).unwrap_or(0) as u64),
+        Act::Rank => return Ok(set.count_below(value)),
     }
-    Ok(false)
+    Ok(0)
 }
 
 /// The values that it is done with: one where the call reads the whole set.
 fn values_of(act: Act, lists: &Lists, most: usize) -> &[i64] {
     match act {
         Act::Insert | Act::Remove | Act::PopFirst => &lists.edits[..most.min(lists.edits.len())],
-        Act::Contains => &lists.probes,
-        Act::FirstFit => &lists.probes[..lists.probes.len().min(1)],
+        Act::Contains | Act::Nth | Act::Rank => &lists.probes,
+        Act::FirstFit | Act::BestFit => &lists.probes[..lists.probes.len().min(1)],
     }
 }
 
@@ -153,7 +202,7 @@ fn values_of(act: Act, lists: &Lists, most: usize) -> &[i64] {
 fn repetitions(act: Act) -> (usize, usize) {
     match act {
         Act::Insert | Act::Remove | Act::PopFirst => (3, 1),
-        Act::Contains | Act::FirstFit => (1, 60),
+        Act::Contains | Act::FirstFit | Act::BestFit | Act::Nth | Act::Rank => (1, 60),
     }
 }
 
@@ -184,19 +233,19 @@ fn timed<S: Edited>(
     passes: usize,
 ) -> Result<(Duration, Answer)> {
     let mut least = Duration::MAX;
-    let mut count = 0;
+    let mut sum = 0;
     for _ in 0..passes {
         let start = Instant::now(clock)?;
-        count = carry_out(act, &mut set, values)?;
+        sum = carry_out(act, &mut set, values)?;
         least = least.min(start.elapsed(clock)?);
     }
-    Ok((least, answer_of(act, &set, count)))
+    Ok((least, answer_of(act, &set, sum)))
 }
 
-fn answer_of<S: Edited>(act: Act, set: &S, count: u64) -> Answer {
+fn answer_of<S: Edited>(act: Act, set: &S, sum: u64) -> Answer {
     match act {
         Act::Insert | Act::Remove | Act::PopFirst => set.answer(),
-        Act::Contains | Act::FirstFit => Answer::Number(count),
+        Act::Contains | Act::FirstFit | Act::BestFit | Act::Nth | Act::Rank => Answer::Number(sum),
     }
 }
 
@@ -238,6 +287,6 @@ pub fn print_answers(rt: &(impl Print + AllocGlobal)) -> Result<()> {
 
 fn answer_after<S: Edited>(act: Act, set: &S, values: &[i64]) -> Result<Answer, AllocError> {
     let mut copy = set.copy()?;
-    let count = carry_out(act, &mut copy, values)?;
-    Ok(answer_of(act, &copy, count))
+    let sum = carry_out(act, &mut copy, values)?;
+    Ok(answer_of(act, &copy, sum))
 }

@@ -1,6 +1,6 @@
 //! The edits in place that allocate, each on a copy, with the runs that are expected afterwards.
 
-use crate::runs::{Runs, is_of};
+use crate::runs::{FIRST_RUNS, Runs, is_of};
 use intervallum::interval::Interval;
 use intervallum::interval_set::IntervalSet;
 use intervallum::ops::Range;
@@ -32,6 +32,7 @@ pub fn call(alloc: Global, name: &str, a: &IntervalSet<i32>) -> Option<Result<bo
         "remove_interval" => is_of(removed_interval(a), REMOVED_INTERVAL),
         "insert_interval_near" => is_of(inserted_near(a), INSERTED_INTERVAL),
         "remove_interval_near" => is_of(removed_near(a), REMOVED_INTERVAL),
+        "try_clone_from" => is_of(made_equal(alloc, a), FIRST_RUNS),
         "edit_in_place" => is_of(edited_in_place(a), EDITED),
         _ => return None,
     })
@@ -48,6 +49,14 @@ fn left(
         Some(error) if set == *before => Err(error),
         _ => Ok(set),
     }
+}
+
+/// A set of one run that becomes the copy of another.
+fn made_equal(alloc: Global, a: &IntervalSet<i32>) -> Result<IntervalSet<i32>, AllocError> {
+    let before = IntervalSet::new(alloc, 3, 4)?;
+    let mut set = before.try_clone()?;
+    let refusal = set.try_clone_from(a).err();
+    left(refusal, set, &before)
 }
 
 /// A copy, extended by two intervals in no order.

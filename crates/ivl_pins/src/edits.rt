@@ -44,6 +44,17 @@ pub fn set_loses_interval_near<B: Width>(
     set.remove_interval_near(interval, place)
 }
 
+/// Becomes the copy of another set.
+pub fn set_becomes_copy<B: Width>(
+    set: &mut IntervalSet<B>,
+    other: &IntervalSet<B>,
+) -> Result<(), AllocError>
+    ensures same { OnOk result (set.new ≡ other.now) }
+    ensures err { OnErr result (set.new ≡ set.old) }
+{
+    set.try_clone_from(other)
+}
+
 /// Adds a member again, which cannot fail.
 pub fn member_again<B: Width>(set: &mut IntervalSet<B>, value: B)
     requires in_range { IsBetween B.whole (B.value value) }

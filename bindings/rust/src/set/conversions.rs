@@ -60,12 +60,6 @@ macro_rules! conversions {
             }
         }
 
-        impl<T: Width> Clone for $Set<T> {
-            fn clone(&self) -> Self {
-                Self(self.0.as_ref().map(|set| memory(set.try_clone())))
-            }
-        }
-
         impl<T: Width> PartialEq for $Set<T> {
             fn eq(&self, other: &Self) -> bool {
                 match (&self.0, &other.0) {
@@ -101,6 +95,27 @@ macro_rules! conversions {
 
 conversions!(IntervalSet);
 conversions!(PagedSet);
+
+impl<T: Width> Clone for IntervalSet<T> {
+    fn clone(&self) -> Self {
+        Self(self.0.as_ref().map(|set| memory(set.try_clone())))
+    }
+
+    /// Makes the set equal to another, in the memory that it has where that suffices.
+    fn clone_from(&mut self, source: &Self) {
+        match (&mut self.0, &source.0) {
+            (Some(set), Some(other)) => memory(set.try_clone_from(other)),
+            (Some(set), None) => set.clear(),
+            (None, _) => *self = source.clone(),
+        }
+    }
+}
+
+impl<T: Width> Clone for PagedSet<T> {
+    fn clone(&self) -> Self {
+        Self(self.0.as_ref().map(|set| memory(set.try_clone())))
+    }
+}
 
 /// Compares the numbers of runs as lists.
 fn order<T: Width, R: Iterator<Item = RangeInclusive<T>>>(mut a: R, mut b: R) -> Ordering {

@@ -1,5 +1,5 @@
 //! Copies of a set.
-ghost use Rattle.std.specs.Prelude.{◌≡◌, IfOk};
+ghost use Rattle.std.specs.Prelude.{◌≡◌, IfOk, OnErr, OnOk};
 ghost use Rattle.ivl_laws.specs.Runs.{IsRunListIn};
 
 use super::IntervalSet;
@@ -21,6 +21,28 @@ impl<B: Width> IntervalSet<B> {
             intervals,
             size: self.size,
         })
+    }
+
+    /// Makes the set equal to another, in the memory that it has where that suffices. `O(n)`.
+    /// Reserves `n` runs if its capacity is less, and keeps the capacity otherwise. Fails only if
+    /// allocation fails; the set is then unchanged.
+    ///
+    /// ```
+    /// let a = IntervalSet::new(alloc, 1, 2)?;
+    /// let mut b = IntervalSet::new(alloc, 5, 9)?;
+    /// b.try_clone_from(&a)?;
+    /// assert!(rt; b == a);
+    /// ```
+    pub fn try_clone_from(&mut self, other: &IntervalSet<B>) -> Result<(), AllocError>
+        ensures same { OnOk result (self.new ≡ other.now) }
+        ensures err { OnErr result (self.new ≡ self.old) }
+    {
+        let missing = other.intervals.len().saturating_sub(self.intervals.len());
+        self.intervals.reserve(missing)?;
+        self.intervals.clear();
+        self.intervals.extend_from_slice(&other.intervals).unwrap();
+        self.size = other.size;
+        Ok(())
     }
 
     /// A copy of the set with room for one more run.
