@@ -134,13 +134,12 @@ fn copy_of<B: Width>(
 ) -> Result<IntervalSet<B>, AllocError>
     ensures { IfOk result (λ L. L ≡ set.now) }
 {
-    match spares.pop() {
-        Some(_) => set.try_clone(),
-        None => {
-            spares.reserve(SPARES)?;
-            set.try_clone()
-        }
+    if let Some(mut copy) = spares.pop() {
+        copy.try_clone_from(set)?;
+        return Ok(copy);
     }
+    spares.reserve(SPARES)?;
+    set.try_clone()
 }
 
 /// Keeps a set that is not used any more, for its memory, unless it is large or there is no room for it.
