@@ -6,7 +6,7 @@ use Rattle.ivl_laws.specs.Runs.{Covers, IsRunListIn}
 use Rattle.ivl_laws.specs.Sets.{HasSome, Only, SameMembers}
 use Rattle.ivl_rules.specs.declared.rules.Rule.TheVariants.{Differs}
 use Rattle.ivl_rules.specs.NarrowedSets.{AreLeftBy, IsForbidden, IsNot}
-use Rattle.ivl_rules.specs.Rules.{HasPointAt, NarrowedBy, TakesOne}
+use Rattle.ivl_rules.specs.Rules.{HasPointAt, TakesOne}
 use Rattle.ivl_rules.proofs.Points.{differing_first, differing_second}
 use Rattle.ivl_rules.proofs.Windows.{one_differs}
 
@@ -71,11 +71,14 @@ takes_first x y by back sets v n is (m, (u, k, ne), only) = record {
   named = inl refl;
   member = m;
   left = λ j z. (
-    (λ h. (h.kept, λ e f.
-        let p = (differing_first x y by sets n z (subst (λ i. sets i z) e h.kept)).1 (subst (λ i. HasPointAt (Differs x y by) sets i z) e (h.supported (inl e))) in
-        let w = (only p.0).0 p.1 in
-        let differs = p.2 in
-        differs (omega (arith, ints, f, w, is)))),
+    (λ h. (
+      h.kept,
+      λ e f.
+          let p = (differing_first x y by sets n z (subst (λ i. sets i z) e h.kept)).1 (subst (λ i. HasPointAt (Differs x y by) sets i z) e (h.supported (inl e))) in
+          let w = (only p.0).0 p.1 in
+          let differs = p.2 in
+          differs (omega (arith, ints, f, w, is)),
+    )),
     (λ h. record {
       kept = h.0;
       supported = λ named. elim named [
@@ -100,11 +103,14 @@ takes_second x y by shift sets v n is (m, (u, k, ne), only) = record {
   named = inr (inl refl);
   member = m;
   left = λ j z. (
-    (λ h. (h.kept, λ e f.
-        let p = (differing_second x y by sets n z (subst (λ i. sets i z) e h.kept)).1 (subst (λ i. HasPointAt (Differs x y by) sets i z) e (h.supported (inr (inl e)))) in
-        let w = (only p.0).0 p.1 in
-        let differs = p.2 in
-        differs (omega (arith, ints, f, w, is)))),
+    (λ h. (
+      h.kept,
+      λ e f.
+          let p = (differing_second x y by sets n z (subst (λ i. sets i z) e h.kept)).1 (subst (λ i. HasPointAt (Differs x y by) sets i z) e (h.supported (inr (inl e)))) in
+          let w = (only p.0).0 p.1 in
+          let differs = p.2 in
+          differs (omega (arith, ints, f, w, is)),
+    )),
     (λ h. record {
       kept = h.0;
       supported = λ named. elim named [

@@ -257,7 +257,11 @@ fn forbidden<B: Width>(x: &IntervalSet<B>, y: &IntervalSet<B>, by: i128) -> Opti
         return None;
     }
     let value = B::from_number(y.lower().number() + by)?;
-    if x.contains(&value) { Some(value) } else { None }
+    if x.contains(&value) {
+        Some(value)
+    } else {
+        None
+    }
 }
 
 /// Returns what is left of two sets where a member of the first and `by` are one of the second.

@@ -1,8 +1,5 @@
-use Rattle.std.proofs.Common.{◌≡◌, List, inr, subst, sym, true, false}
+use Rattle.std.proofs.Common.{sym, true, false}
 use Rattle.std.proofs.lemmas.Bool.{false≢true}
-use Rattle.std.specs.Prelude.{ℤ}
-use Rattle.ivl_store.specs.NarrowedSets.{narrowed_at}
-use Rattle.ivl_network.specs.Trail.{KeepsPast}
 use Rattle.ivl_network.proofs.Logging.{keeps_replaced}
 use Rattle.ivl_network.proofs.network.trail.replace_logged.Goals as goal
 

@@ -1,9 +1,8 @@
-use Rattle.std.proofs.Common.{◌≡◌, ◌∙◌, ◌++◌, ◌∷◌, [], ℕ, List, false, get_or, set, subst, sym, true}
+use Rattle.std.proofs.Common.{◌≡◌, ◌∙◌, [], List, false, get_or, set, subst, sym, true}
 use Rattle.std.proofs.lemmas.Bool.{false≢true}
 use Rattle.std.proofs.lemmas.Result.{on_ok_weaker}
 use Rattle.std.specs.Prelude.{ℤ}
 use Rattle.ivl_laws.specs.Families.{set_at}
-use Rattle.ivl_rules.specs.declared.rules.Rule.{Rule}
 use Rattle.ivl_within.proofs.Lists.{entry_seen}
 use Rattle.ivl_network.proofs.Logging.{keeps_replaced, on_ok_always, taken_one}
 use Rattle.ivl_network.proofs.network.trail.take_out_logged.Goals as goal

@@ -1,8 +1,6 @@
-use Rattle.std.proofs.Common.{◌≡◌, ◌∙◌, arith, subst, sym}
+use Rattle.std.proofs.Common.{◌∙◌, arith, sym}
 use Rattle.std.proofs.lemmas.Bool.{false≢true}
 use Rattle.std.proofs.lemmas.Int.{ints}
-use Rattle.std.specs.Prelude.{ℤ, ◌-ℤ◌}
-use Rattle.ivl_laws.specs.Runs.{Covers}
 use Rattle.ivl_rules.proofs.Differing.{has_another}
 use Rattle.ivl_rules.proofs.rules.narrowing.forbidden.Goals as goal
 

@@ -1,5 +1,5 @@
-use Rattle.std.proofs.Common.{◌≡◌, ◌∙◌, ◌↔◌, ◌<◌, List, [], ap, arith, get_or, length, set, subst, sym, IsTrue}
-use Rattle.std.specs.Prelude.{ℤ, ℕ}
+use Rattle.std.proofs.Common.{◌≡◌, ◌∙◌, ◌↔◌, ◌<◌, List, [], ap, arith, get_or, length, set, subst, IsTrue}
+use Rattle.std.specs.Prelude.{ℤ}
 use Rattle.std.proofs.lemmas.List.{get_or-set_same, get_or_default, length-set, set-get_or, set-set}
 use Rattle.ivl_laws.specs.Families.{set_at}
 use Rattle.ivl_laws.specs.Runs.{Covers, IsRunsOf}
