@@ -121,7 +121,8 @@ fn a_lone_loss_is_all_that_narrowing_takes() {
     let mut random = Random(0x9e37_79b9_7f4a_7c15);
     let mut told = 0;
     for _ in 0..ROUNDS {
-        let domains: Vec<Numbers> = (0..3).map(|_| numbers(&mut random)).collect();
+        let mut domains: Vec<Numbers> = (0..3).map(|_| numbers(&mut random)).collect();
+        domains[random.below(3) as usize].truncate(1);
         let rule = rule(&mut random);
         let sets: Vec<IntervalSet<i8>> = domains.iter().map(set).collect();
         let lost = taken(&rule, &domains);
@@ -131,7 +132,7 @@ fn a_lone_loss_is_all_that_narrowing_takes() {
         assert_eq!(answer, if is_lone { Some(lost[0]) } else { None }, "{rule:?} over {domains:?}");
         told += usize::from(is_lone);
     }
-    assert!(told > 0, "{told}");
+    assert!(told > ROUNDS / 400, "{told}");
 }
 
 #[test]
