@@ -230,7 +230,7 @@ fn debug_builds_test_the_conditions_of_pages_maps_and_searches() {
     use intervallum::proved::ivl_network::network::Network;
     use intervallum::proved::ivl_paged::PagedSet;
     use intervallum::proved::ivl_rules::rules::Rule;
-    use intervallum::proved::ivl_rules::rules::narrowing::{narrow, takes_nothing};
+    use intervallum::proved::ivl_rules::rules::narrowing::{lone_loss, narrow, takes_nothing};
     use intervallum::proved::ivl_search::search::{Limits, count, greatest, least, rules, solutions};
     use intervallum::proved::ivl_store::store::Constraint;
 
@@ -252,6 +252,7 @@ fn debug_builds_test_the_conditions_of_pages_maps_and_searches() {
         Network::<u8>::new(Global).require(Rule::Shifted { x: 1, y: 1, by: 0 }) => "the condition of `require` is broken: rule.is_over_different()";
         narrow(&mut domains(), &Rule::Differs { x: 0, y: 1, by: 0 }) => "the condition of `narrow` is broken: rule.is_over_different() && rule.first_unknown(domains.len()).is_none()";
         takes_nothing(&domains(), &Rule::Differs { x: 0, y: 1, by: 0 }) => "the condition of `takes_nothing` is broken: rule.is_over_different() && rule.first_unknown(domains.len()).is_none()";
+        lone_loss(&domains(), &Rule::Differs { x: 0, y: 1, by: 0 }) => "the condition of `lone_loss` is broken: rule.is_over_different() && rule.first_unknown(domains.len()).is_none()";
         solutions(Global, &domains(), &twice, limits()) => "the condition of `solutions` is broken: all_distinct(constraints)";
         count(Global, &domains(), &twice, limits()) => "the condition of `count` is broken: all_distinct(constraints)";
         least(Global, &domains(), &twice, 0, limits()) => "the condition of `least` is broken: all_distinct(constraints)";

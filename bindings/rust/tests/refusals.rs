@@ -6,7 +6,7 @@ use intervallum::proved::ivl_rules::rules::Rule;
 use intervallum::proved::ivl_rules::rules::narrowing::narrow;
 use intervallum::proved::ivl_search::search::{Best, End, Limits, SearchFault, count, greatest, least, solutions};
 use intervallum::proved::ivl_store::store::narrowed_sets::{narrowed_by, narrowed_to};
-use intervallum::proved::ivl_store::store::{Constraint, StoreFault};
+use intervallum::proved::ivl_store::store::{Constraint, Store, StoreFault};
 use intervallum::proved::ivl_within::within::{
     Combined, differences_in_window, results_in_set, results_unless_all, sums_in_window,
 };
@@ -270,6 +270,33 @@ fn sums_in_windows() {
 }
 
 /// Narrowing by a rule writes nothing before all that it needs is made.
+#[test]
+fn a_domain_that_loses_an_interval() {
+    let whole = || Set::new(Global, 0, 9).unwrap();
+    let left = [(0, 2), (5, 9)].to_interval_set(Global).unwrap();
+    let (refused, told) = each_refused(
+        || Store::new(Global, vec![whole(), whole()].into()),
+        |store| store.take_out(0, Interval::new(3, 4)),
+        |store, made, is_refused| {
+            assert!(store.domains()[1] == whole() && !store.has_empty());
+            if made.is_err() {
+                assert!(is_refused && store.domains()[0] == whole());
+                return false;
+            }
+            assert!(store.domains()[0] == left);
+            true
+        },
+    );
+    assert!(refused > 0 && told == refused);
+
+    let mut store = Store::new(Global, vec![whole()].into());
+    assert!(store.take_out(1, Interval::new(0, 9)).is_ok() && store.domains()[0] == whole());
+    assert!(store.take_out(0, Interval::new(-3, 20)).is_ok() && store.has_empty());
+    assert!(store.take_out(0, Interval::new(-3, 20)).is_ok() && store.has_empty());
+    store.replace(0, whole());
+    assert!(!store.has_empty());
+}
+
 #[test]
 fn narrowing_by_rules() {
     let given = || -> [Set; 3] {

@@ -2,7 +2,7 @@
 use intervallum::proved::Global;
 use intervallum::proved::interval_set::{IntervalSet, ToIntervalSet};
 use intervallum::proved::ivl_rules::rules::Rule;
-use intervallum::proved::ivl_rules::rules::narrowing::narrow;
+use intervallum::proved::ivl_rules::rules::narrowing::{lone_loss, narrow};
 use intervallum::proved::ivl_store::store::Constraint;
 
 // a debug build tests conditions, and takes a hundred times as long
@@ -102,6 +102,37 @@ fn narrowing_leaves_what_some_point_has() {
         lost_by[kind] += usize::from(lost);
     }
     assert!(lost_by.iter().all(|&times| times > ROUNDS / 40), "{lost_by:?}");
+}
+
+/// What a rule takes of the domains that it names: variables and numbers.
+fn taken(rule: &Rule, domains: &[Numbers]) -> Vec<(usize, i64)> {
+    let named = (0..3).filter(|&i| rule.names(i));
+    named
+        .flat_map(|i| {
+            let left = supported(rule, domains, i);
+            let lost: Numbers = domains[i].iter().copied().filter(|n| !left.contains(n)).collect();
+            lost.into_iter().map(move |n| (i, n))
+        })
+        .collect()
+}
+
+#[test]
+fn a_lone_loss_is_all_that_narrowing_takes() {
+    let mut random = Random(0x9e37_79b9_7f4a_7c15);
+    let mut told = 0;
+    for _ in 0..ROUNDS {
+        let mut domains: Vec<Numbers> = (0..3).map(|_| numbers(&mut random)).collect();
+        domains[random.below(3) as usize].truncate(1);
+        let rule = rule(&mut random);
+        let sets: Vec<IntervalSet<i8>> = domains.iter().map(set).collect();
+        let lost = taken(&rule, &domains);
+        let is_filled = (0..3).all(|i| !rule.names(i) || !domains[i].is_empty());
+        let is_lone = matches!(rule, Rule::Differs { .. }) && is_filled && lost.len() == 1;
+        let answer = lone_loss(&sets, &rule).map(|(variable, number)| (variable, number as i64));
+        assert_eq!(answer, if is_lone { Some(lost[0]) } else { None }, "{rule:?} over {domains:?}");
+        told += usize::from(is_lone);
+    }
+    assert!(told > ROUNDS / 400, "{told}");
 }
 
 #[test]

@@ -1,6 +1,6 @@
 -- Examples of what rules support, keep and leave of given families, and of what a network of rules keeps.
 use Rattle.std.proofs.Common.{◌≡◌, ◌+◌, ◌<◌, ◌≤◌, ℕ, zero, suc, inl, inr, refl, subst, sym, arith, true, false, List, [], ◌∷◌, get_or}
-use Rattle.std.specs.Prelude.{ℤ, pos, Contains, Some}
+use Rattle.std.specs.Prelude.{ℤ, pos, Contains}
 use Rattle.std.proofs.lemmas.Bool.{false≢true}
 use Rattle.std.proofs.lemmas.Int.{ints}
 use Rattle.std.proofs.lemmas.List.Elements.{All-nil, All-cons}

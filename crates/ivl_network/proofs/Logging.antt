@@ -1,7 +1,8 @@
 -- What the calls of a network leave of its trail and its marks.
-use Rattle.std.proofs.Common.{◌≡◌, ◌∙◌, ◌-◌, ◌<◌, ◌⊎◌, inl, inr, ℕ, ap, arith, get_or, length, List, [], ◌∷◌, ◌++◌, Bool, false, refl, set, subst, sym, take}
-use Rattle.std.specs.Prelude.{ℤ, All, map}
+use Rattle.std.proofs.Common.{◌≡◌, ◌≢◌, ◌↔◌, ◌∙◌, ◌-◌, ◌<◌, ◌⊎◌, inl, inr, ℕ, ap, arith, get_or, length, List, [], ◌∷◌, ◌++◌, Bool, false, refl, set, subst, sym, take}
+use Rattle.std.specs.Prelude.{ℤ, All, Err, Ok, OnOk, Result, map}
 use Rattle.std.proofs.lemmas.List.{length-set, take-map}
+use Rattle.ivl_laws.specs.Sets.{IsBetween, Only, SameMembers}
 use Rattle.ivl_network.specs.declared.network.change.Change.{Change}
 use Rattle.ivl_rules.specs.declared.rules.Rule.{Rule}
 use Rattle.ivl_network.specs.declared.network.change.Change.TheVariants.{Domain}
@@ -76,6 +77,18 @@ keeps_replaced {B} {O} marks trail v old d d' rules is_written back none = recor
       | inl e ↦ inl e
       | inr kept ↦ inr (kept_at_marks marks trail v old d d' rules back sound kept)
     ]
+
+-- one loses a number, and is written down or not
+pub taken_one : (run : ℤ × ℤ) (x : ℤ) (i : ℕ) (old new : ℕ → ℤ → Type 0) → SameMembers (IsBetween run) (Only x)
+    → ((j : ℕ) (v : ℤ) → new j v ↔ (old j v × (j ≡ i → ¬ (IsBetween run v)))) → (j : ℕ) (v : ℤ) → new j v ↔ (old j v × (j ≡ i → v ≢ x))
+taken_one run x i old new same h j v = (
+  (λ n. let u = (h j v).0 n in (u.0, λ e f. u.1 e ((same v).1 f))),
+  (λ u. (h j v).1 (u.0, λ e b. u.1 e ((same v).0 b))),
+)
+
+pub on_ok_always : {T E P : Type 0} (r : Result T E) → P → OnOk r P
+on_ok_always (Ok x) p = p
+on_ok_always (Err e) p = tt
 
 -- ---- a mark
 

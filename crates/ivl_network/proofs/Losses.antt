@@ -1,7 +1,8 @@
 -- Which sets a narrowing by a rule took members of.
-use Rattle.std.proofs.Common.{◌≡◌, ◌∙◌, ℕ, List, [], ap, inl, inr, length, refl, subst, sym}
-use Rattle.std.specs.Prelude.{ℤ, Option, Some, None, is_some}
-use Rattle.std.proofs.lemmas.Bool.{cases_eq}
+use Rattle.std.proofs.Common.{◌≡◌, ◌≢◌, ◌↔◌, ◌∙◌, ◌⊎◌, ℕ, List, [], ap, arith, eqb, false, inl, inr, length, refl, subst, sym, true}
+use Rattle.std.specs.Prelude.{ℤ, ◌||◌, Option, Some, None, is_some}
+use Rattle.std.proofs.lemmas.Bool.{cases_eq, false≢true}
+use Rattle.std.proofs.lemmas.Bool.Decides.{nat_tests}
 use Rattle.ivl_laws.specs.Families.{set_at}
 use Rattle.ivl_laws.specs.Runs.{Covers, IsRunListIn}
 use Rattle.ivl_store.specs.declared.store.constraint.Constraint.{Constraint}
@@ -11,7 +12,8 @@ use Rattle.ivl_store.specs.Narrowing.{AllPresent}
 use Rattle.ivl_store.specs.Settled.{AreLost, any_lost}
 use Rattle.ivl_store.proofs.Places.{after, is_none_of, kept_or, replaced-other}
 use Rattle.ivl_rules.specs.declared.rules.Rule.{Rule}
-use Rattle.ivl_rules.specs.Rules.{AreDifferent, places}
+use Rattle.ivl_rules.specs.declared.rules.Rule.TheVariants.{Sum, Shifted, AtMost, Differs}
+use Rattle.ivl_rules.specs.Rules.{AreDifferent, TakesOne, needs_singles, places}
 use Rattle.ivl_rules.specs.NarrowedSets.{AreLeftAtPlaces}
 use Rattle.ivl_rules.proofs.Places.{lost_is}
 
@@ -45,3 +47,43 @@ lost_after whole rule P old x y z lost d p left mx my mz = record {
       (sym (replaced-other _ (places rule).z i z (λ e. is_none_of z (sym mz ∙ nz e)) ∙ replaced-other _ (places rule).y i y (λ e. is_none_of y (sym my ∙ ny e))
       ∙ replaced-other old (places rule).x i x (λ e. is_none_of x (sym mx ∙ nx e)))) was);
 }
+
+-- ---- one number is taken, by a rule that needs single numbers
+
+-- such a rule has two variables
+singles_pair : (rule : Rule) → needs_singles rule ≡ true → (places rule).z ≡ (places rule).y
+singles_pair (Sum c) e = absurd (false≢true e)
+singles_pair (Shifted x y by) e = absurd (false≢true e)
+singles_pair (AtMost x y by) e = absurd (false≢true e)
+singles_pair (Differs x y by) e = refl
+
+is_set : (i a : ℕ) → i ≡ a → eqb i a ≡ true
+is_set i a e = grind (arith, nat_tests)
+
+either_set : (i a b : ℕ) → (i ≡ a) ⊎ (i ≡ b) → (eqb i a || (eqb i b || false)) ≡ true
+either_set i a b (inl e) = grind (arith, nat_tests)
+either_set i a b (inr e) = grind (arith, nat_tests)
+
+pub one_lost : (rule : Rule) (i : ℕ) (v : ℤ) (old new : ℕ → ℤ → Type 0) → needs_singles rule ≡ true → TakesOne rule old i v
+    → ((j : ℕ) (z : ℤ) → new j z ↔ (old j z × (j ≡ i → z ≢ v)))
+    → AreLost (places rule) (record { x = eqb i (places rule).x; y = eqb i (places rule).y; z = false }) old new
+one_lost rule i v old new single t left = record {
+  some = (
+    (λ _. record { variable = i; member = v; was = t.member; gone = (λ h. ((left i v).0 h).1 refl refl) }),
+    (λ _. either_set i (places rule).x (places rule).y named),
+  );
+  others = (λ j nx ny nz z m. (left j z).1 (m, λ e. absurd (unset j nx ny e)));
+}
+  where
+    named : (i ≡ (places rule).x) ⊎ (i ≡ (places rule).y)
+    named = elim t.named [
+      | inl e ↦ inl e
+      | inr (inl e) ↦ inr e
+      | inr (inr e) ↦ inr (e ∙ singles_pair rule single)
+    ]
+
+    unset : (j : ℕ) → (j ≡ (places rule).x → eqb i (places rule).x ≡ false) → (j ≡ (places rule).y → eqb i (places rule).y ≡ false) → j ≡ i → ⊥
+    unset j nx ny e = elim named [
+      | inl f ↦ false≢true (sym (nx (e ∙ f)) ∙ is_set i (places rule).x f)
+      | inr f ↦ false≢true (sym (ny (e ∙ f)) ∙ is_set i (places rule).y f)
+    ]

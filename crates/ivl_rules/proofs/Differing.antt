@@ -1,10 +1,13 @@
 -- Two sets of which each number of one differs from some number of the other.
-use Rattle.std.proofs.Common.{◌≢◌, arith, inl, inr, List, [], ◌∷◌}
+use Rattle.std.proofs.Common.{◌≡◌, ◌≢◌, ℕ, arith, inl, inr, refl, subst, sym, List, [], ◌∷◌}
 use Rattle.std.specs.Prelude.{ℤ, pos, ◌+ℤ◌, ◌-ℤ◌, ◌<ℤ◌, None}
 use Rattle.std.proofs.lemmas.Int.{ints, by_lt_z}
 use Rattle.ivl_laws.specs.Runs.{Covers, IsRunListIn}
 use Rattle.ivl_laws.specs.Sets.{HasSome, Only, SameMembers}
-use Rattle.ivl_rules.specs.NarrowedSets.{AreLeftBy, IsNot}
+use Rattle.ivl_rules.specs.declared.rules.Rule.TheVariants.{Differs}
+use Rattle.ivl_rules.specs.NarrowedSets.{AreLeftBy, IsForbidden, IsNot}
+use Rattle.ivl_rules.specs.Rules.{HasPointAt, TakesOne}
+use Rattle.ivl_rules.proofs.Points.{differing_first, differing_second}
 use Rattle.ivl_rules.proofs.Windows.{one_differs}
 
 -- runs with a member, but not with one alone, have two
@@ -50,3 +53,78 @@ two_differ whole X Y by runs_x runs_y some_x some_y many_x many_y =
       );
       second = (runs_y, λ w m. one_differs (Covers X) x.0 x.1 by w x.2 x.3 (λ e. let lt = x.4 in omega (arith, ints, e)));
     }
+
+-- ---- the number that a single one forbids
+
+-- a member of runs with more than one
+pub has_another : (whole : ℤ × ℤ) (s : List (ℤ × ℤ)) (v : ℤ) → IsRunListIn whole s → Covers s v → ¬ ((x : ℤ) × SameMembers (Covers s) (Only x))
+    → (u : ℤ) × Covers s u × (u ≢ v)
+has_another whole s v runs m many =
+    let t = two_members whole s runs (v, m) many in
+    let d = one_differs (Covers s) t.0 t.1 (pos 0) v t.2 t.3 (λ e. let lt = t.4 in omega (arith, ints, e)) in
+    (d.0, d.1, λ e. let n = d.2 in n (omega (arith, ints, e)))
+
+-- it is what the rule takes, of the first variable or of the second
+pub takes_first : (x y : ℕ) (by back : ℤ) (sets : ℕ → ℤ → Type 0) (v : ℤ) → x ≢ y → back ≡ (pos 0 -ℤ by) → IsForbidden back (sets x) (sets y) v
+    → TakesOne (Differs x y by) sets x v
+takes_first x y by back sets v n is (m, (u, k, ne), only) = record {
+  named = inl refl;
+  member = m;
+  left = λ j z. (
+    (λ h. (
+      h.kept,
+      λ e f.
+          let p = (differing_first x y by sets n z (subst (λ i. sets i z) e h.kept)).1 (subst (λ i. HasPointAt (Differs x y by) sets i z) e (h.supported (inl e))) in
+          let w = (only p.0).0 p.1 in
+          let differs = p.2 in
+          differs (omega (arith, ints, f, w, is)),
+    )),
+    (λ h. record {
+      kept = h.0;
+      supported = λ named. elim named [
+        | inl e ↦ subst (λ i. HasPointAt (Differs x y by) sets i z) (sym e) (at_x j z e h)
+        | inr (inl e) ↦ subst (λ i. HasPointAt (Differs x y by) sets i z) (sym e) (at_y z (subst (λ i. sets i z) e h.0))
+        | inr (inr e) ↦ subst (λ i. HasPointAt (Differs x y by) sets i z) (sym e) (at_y z (subst (λ i. sets i z) e h.0))
+      ];
+    }),
+  );
+}
+  where
+    at_x : (j : ℕ) (z : ℤ) (e : j ≡ x) → sets j z × (j ≡ x → z ≢ v) → HasPointAt (Differs x y by) sets x z
+    at_x j z e h = (differing_first x y by sets n z (subst (λ i. sets i z) e h.0)).0
+        (v -ℤ back, (only (v -ℤ back)).1 refl, λ f. h.1 e (omega (arith, ints, f, is)))
+
+    at_y : (z : ℤ) → sets y z → HasPointAt (Differs x y by) sets y z
+    at_y z h = (differing_second x y by sets n z h).0 (u, k, λ f. let w = (only z).0 h in ne (omega (arith, ints, f, w, is)))
+
+pub takes_second : (x y : ℕ) (by shift : ℤ) (sets : ℕ → ℤ → Type 0) (v : ℤ) → x ≢ y → shift ≡ by → IsForbidden shift (sets y) (sets x) v
+    → TakesOne (Differs x y by) sets y v
+takes_second x y by shift sets v n is (m, (u, k, ne), only) = record {
+  named = inr (inl refl);
+  member = m;
+  left = λ j z. (
+    (λ h. (
+      h.kept,
+      λ e f.
+          let p = (differing_second x y by sets n z (subst (λ i. sets i z) e h.kept)).1 (subst (λ i. HasPointAt (Differs x y by) sets i z) e (h.supported (inr (inl e)))) in
+          let w = (only p.0).0 p.1 in
+          let differs = p.2 in
+          differs (omega (arith, ints, f, w, is)),
+    )),
+    (λ h. record {
+      kept = h.0;
+      supported = λ named. elim named [
+        | inl e ↦ subst (λ i. HasPointAt (Differs x y by) sets i z) (sym e) (at_x z (subst (λ i. sets i z) e h.0))
+        | inr (inl e) ↦ subst (λ i. HasPointAt (Differs x y by) sets i z) (sym e) (at_y j z e h)
+        | inr (inr e) ↦ subst (λ i. HasPointAt (Differs x y by) sets i z) (sym e) (at_y j z e h)
+      ];
+    }),
+  );
+}
+  where
+    at_x : (z : ℤ) → sets x z → HasPointAt (Differs x y by) sets x z
+    at_x z h = (differing_first x y by sets n z h).0 (u, k, λ f. let w = (only z).0 h in ne (omega (arith, ints, f, w, is)))
+
+    at_y : (j : ℕ) (z : ℤ) (e : j ≡ y) → sets j z × (j ≡ y → z ≢ v) → HasPointAt (Differs x y by) sets y z
+    at_y j z e h = (differing_second x y by sets n z (subst (λ i. sets i z) e h.0)).0
+        (v -ℤ shift, (only (v -ℤ shift)).1 refl, λ f. h.1 e (omega (arith, ints, f, is)))

@@ -3,8 +3,10 @@
 --     AreLeftBy whole R X Y x y      what is left of two sets of the members that stand in R with one of the other
 --     IsSmall by      the number of a 64-bit type, or its opposite
 --     IsMoved by a b, IsAtMost by a b, IsNot by a b      a and `by` are b, at most b, or not b
-use Rattle.std.specs.Prelude.{◌≡◌, ◌≢◌, ◌^◌, ℕ, ℤ, pos, negsuc, ◌+ℤ◌, ◌≤ℤ◌, List, [], Option, None, slice_index_or}
+--     IsForbidden by S T v      S has v and another number, and T just that one which with `by` is v
+use Rattle.std.specs.Prelude.{◌≡◌, ◌≢◌, ◌^◌, ℕ, ℤ, pos, negsuc, ◌+ℤ◌, ◌-ℤ◌, ◌≤ℤ◌, List, [], Option, None, slice_index_or}
 use Rattle.ivl_laws.specs.Runs.{Covers}
+use Rattle.ivl_laws.specs.Sets.{Only, SameMembers}
 use Rattle.ivl_store.specs.declared.store.constraint.Constraint.{Constraint}
 use Rattle.ivl_store.specs.NarrowedSets.{IsLeftOf}
 
@@ -29,3 +31,6 @@ IsNot by a b = (a +ℤ by) ≢ b
 
 abbrev pub IsSmall : ℤ → Type 0
 IsSmall by = (negsuc (2 ^ 64) ≤ℤ by) × (by ≤ℤ pos (2 ^ 64))
+
+abbrev pub IsForbidden : ℤ → (ℤ → Type 0) → (ℤ → Type 0) → ℤ → Type 0
+IsForbidden by S T v = S v × ((u : ℤ) × S u × (u ≢ v)) × SameMembers T (Only (v -ℤ by))

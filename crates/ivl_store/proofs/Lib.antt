@@ -5,6 +5,7 @@ mod ExamplesRounds
 mod ExamplesStore
 pub mod Counting
 pub mod Counts
+pub mod Cutting
 pub mod Empties
 pub mod Families
 pub mod Lists

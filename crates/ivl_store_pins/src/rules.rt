@@ -1,14 +1,14 @@
 //! What callers learn of a rule.
-ghost use Rattle.std.specs.Prelude.{◌≡◌, ◌↔◌, ℕ, ℤ, IfOk, IsTrue, OnErr, OnOk, false, length, true};
+ghost use Rattle.std.specs.Prelude.{◌≡◌, ◌↔◌, ℕ, ℤ, IfOk, IfSome, IsTrue, OnErr, OnOk, false, length, true};
 ghost use Rattle.ivl_laws.specs.Families.{set_at};
 ghost use Rattle.ivl_store.specs.Narrowing.{AllPresent};
 ghost use Rattle.ivl_store.specs.Solutions.{LostMember};
-ghost use Rattle.ivl_rules.specs.Rules.{AreDifferent, HasPointAt, NamesOf, places};
+ghost use Rattle.ivl_rules.specs.Rules.{AreDifferent, HasPointAt, NamesOf, TakesOne, places};
 
 use intervallum::interval_set::IntervalSet;
 use intervallum::width::Width;
 use ivl_rules::rules::Rule;
-use ivl_rules::rules::narrowing::{narrow, takes_nothing};
+use ivl_rules::rules::narrowing::{lone_loss, narrow, takes_nothing};
 use std::alloc::AllocError;
 
 /// Narrows by a rule, and returns whether a member was lost: what is left of a domain that it names are its members
@@ -33,6 +33,15 @@ pub fn is_supported<B: Width>(domains: &[IntervalSet<B>], rule: &Rule) -> bool
     ensures { result ≡ true → (i : ℕ) → NamesOf rule.now i → (v : ℤ) → set_at domains.now i v → HasPointAt rule.now (set_at domains.now) i v }
 {
     takes_nothing(domains, rule)
+}
+
+/// The variable and the number that narrowing by a rule is known to take, and nothing else.
+pub fn only_loss<B: Width>(domains: &[IntervalSet<B>], rule: &Rule) -> Option<(usize, B)>
+    requires different { AreDifferent rule.now }
+    requires present { AllPresent (length domains.now) (places rule.now) }
+    ensures { IfSome result (λ taken. TakesOne rule.now (set_at domains.now) taken.0 (B.value taken.1)) }
+{
+    lone_loss(domains, rule)
 }
 
 /// Whether a rule of two numbers that differ, and one of two in order, look at single numbers alone.

@@ -1,11 +1,13 @@
 //! What the calls of a store mean.
 ghost use Rattle.std.specs.Prelude.{◌≡◌, ◌↔◌, ◌≤◌, ◌+◌, ◌++◌, ◌∷◌, [], false, true, ℕ, ℤ, All, Any, IfOk, IfSome, IsNone, IsTrue, OnErr, OnOk, length};
 ghost use Rattle.ivl_laws.specs.Families.{set_at};
+ghost use Rattle.ivl_laws.specs.Sets.{IsBetween};
 ghost use Rattle.ivl_store.specs.Measure.{total};
 ghost use Rattle.ivl_store.specs.Narrowing.{IsFixed};
 ghost use Rattle.ivl_store.specs.Posts.{AnswersPosts, IsLeftBy, constraints_of};
 ghost use Rattle.ivl_store.specs.Solutions.{AreDistinct, HasSolutionAt, IsCommonSolution, IsGreatestFamily, LostMember, Names};
 
+use intervallum::interval::Interval;
 use intervallum::interval_set::IntervalSet;
 use intervallum::width::Width;
 use ivl_store::store::callers::all_distinct;
@@ -38,6 +40,18 @@ pub fn has_no_point<B: Width>(store: &Store<B>) -> bool
     ensures { IsTrue result ↔ Any (λ L. L ≡ []) store.now }
 {
     store.has_empty()
+}
+
+/// Takes an interval out of a domain: this keeps its other members, and each other domain keeps all.
+pub fn without_interval<B: Width>(
+    store: &mut Store<B>,
+    variable: usize,
+    interval: Interval<B>,
+) -> Result<(), AllocError>
+    ensures taken { OnOk result ((i : ℕ) (v : ℤ) → set_at store.new i v ↔ (set_at store.old i v × (i ≡ variable → ¬ (IsBetween interval v)))) }
+    ensures refused { OnErr result (store.new ≡ store.old) }
+{
+    store.take_out(variable, interval)
 }
 
 /// Narrows by one constraint, and returns whether a member was lost: if it is between three variables,

@@ -12,12 +12,12 @@ ghost use Rattle.ivl_network.specs.Settled.{HasTwo};
 ghost use Rattle.ivl_network.specs.Trail.{KeepsPast};
 
 use super::change::Change;
-use super::trail::replace_logged;
+use super::trail::{replace_logged, take_out_logged};
 use intervallum::interval_set::IntervalSet;
 use intervallum::ops::{Bounded, IsEmpty};
 use intervallum::width::Width;
 use ivl_rules::rules::Rule;
-use ivl_rules::rules::narrowing::narrowed_at_places;
+use ivl_rules::rules::narrowing::{lone_loss, narrowed_at_places};
 use ivl_store::store::narrowed_sets::narrowed_to;
 use ivl_store::store::{Lost, Store};
 use std::alloc::AllocError;
@@ -27,6 +27,7 @@ pub(super) fn narrow_logged<B: Width>(
     store: &mut Store<B>,
     trail: &mut Vec<Change<B>>,
     places: &mut [usize],
+    spares: &mut Vec<IntervalSet<B>>,
     marks: &[usize],
     rule: &Rule,
 ) -> Result<Lost, AllocError>
@@ -41,6 +42,15 @@ pub(super) fn narrow_logged<B: Width>(
     ensures past { OnOk result ((rules : List Rule) → KeepsPast marks.now trail.old.items trail.new.items store.old store.new rules) }
     ensures range { OnOk result (All (IsRunListIn B.whole) store.old) }
 {
+    if let Some(taken) = lone_loss(store.domains(), rule) {
+        take_out_logged(store, trail, places, spares, marks, taken.0, taken.1)?;
+        let c = rule.places();
+        return Ok(Lost {
+            x: taken.0 == c.x,
+            y: taken.0 == c.y,
+            z: false,
+        });
+    }
     let (x, y, z) = narrowed_at_places(store.domains(), rule)?;
     let lost = Lost {
         x: x.is_some(),
@@ -48,9 +58,9 @@ pub(super) fn narrow_logged<B: Width>(
         z: z.is_some(),
     };
     let c = rule.places();
-    replace_logged(store, trail, places, marks, c.x, x);
-    replace_logged(store, trail, places, marks, c.y, y);
-    replace_logged(store, trail, places, marks, c.z, z);
+    replace_logged(store, trail, places, spares, marks, c.x, x);
+    replace_logged(store, trail, places, spares, marks, c.y, y);
+    replace_logged(store, trail, places, spares, marks, c.z, z);
     Ok(lost)
 }
 
@@ -60,6 +70,7 @@ pub(super) fn restrict_logged<B: Width>(
     store: &mut Store<B>,
     trail: &mut Vec<Change<B>>,
     places: &mut [usize],
+    spares: &mut Vec<IntervalSet<B>>,
     marks: &[usize],
     i: usize,
     allowed: &IntervalSet<B>,
@@ -74,7 +85,7 @@ pub(super) fn restrict_logged<B: Width>(
 {
     let left = narrowed_to(&store.domains()[i], allowed)?;
     let lost = left.is_some();
-    replace_logged(store, trail, places, marks, i, left);
+    replace_logged(store, trail, places, spares, marks, i, left);
     Ok(lost)
 }
 

@@ -1,9 +1,12 @@
 //! The changes that a network writes down from its first mark on, and how they are taken back.
-ghost use Rattle.std.specs.Prelude.{slice_index_or, ◌-◌, ◌+◌, ◌≡◌, ◌<◌, ◌≤◌, ◌⊎◌, [], ℕ, ℤ, List, Some, OnOk, false, length, take, true};
+ghost use Rattle.std.specs.Prelude.{slice_index_or, slice_set, ◌-◌, ◌+◌, ◌++◌, ◌∷◌, ◌≡◌, ◌≢◌, ◌↔◌, ◌<◌, ◌≤◌, ◌⊎◌, [], ℕ, ℤ, IfOk, List, Some, OnErr, OnOk, false, length, take, true};
 ghost use Rattle.std.specs.Vec.{vec_capacity, vec_len};
+ghost use Rattle.ivl_laws.specs.Families.{set_at};
 ghost use Rattle.ivl_laws.specs.Runs.{IsRunListIn};
+ghost use Rattle.ivl_laws.specs.Sets.{IsBetween};
 ghost use Rattle.ivl_store.specs.NarrowedSets.{narrowed_at};
 ghost use Rattle.ivl_rules.specs.declared.rules.Rule.{Rule};
+ghost use Rattle.ivl_network.specs.declared.network.change.Change.TheVariants.{Domain};
 ghost use Rattle.ivl_network.specs.Network.{IsSoundRules};
 ghost use Rattle.ivl_network.specs.Queue.{IsRuleIndex, IsRuleQueue};
 ghost use Rattle.ivl_network.specs.Settled.{claimed_flags};
@@ -12,11 +15,19 @@ ghost use Rattle.ivl_network.specs.Trail.{ArePresentIn, IsRuleKeptFrom, KeepsPas
 use super::change::Change;
 use super::index::Index;
 use super::queue::Queue;
+use intervallum::interval::Interval;
 use intervallum::interval_set::IntervalSet;
+use intervallum::ops::Singleton;
 use intervallum::width::Width;
 use ivl_rules::rules::Rule;
 use ivl_store::store::Store;
 use std::alloc::AllocError;
+
+/// How many sets that are not used any more a network makes room for, where it lacks one.
+const SPARES: usize = 64;
+
+/// How many runs such a set has at most, to be kept.
+const RUNS_OF_A_SPARE: usize = 64;
 
 /// Reserves room for so many changes, if changes are written down.
 pub(super) fn reserve_changes<B: Width>(
@@ -49,6 +60,7 @@ pub(super) fn replace_logged<B: Width>(
     store: &mut Store<B>,
     trail: &mut Vec<Change<B>>,
     places: &mut [usize],
+    spares: &mut Vec<IntervalSet<B>>,
     marks: &[usize],
     variable: usize,
     left: Option<IntervalSet<B>>,
@@ -65,10 +77,75 @@ pub(super) fn replace_logged<B: Width>(
         return;
     };
     if is_unkept(trail, marks, places, variable) {
-        if variable < places.len() {
-            places[variable] = trail.len().saturating_add(1);
-        }
-        trail.push_reserved(Change::Domain(variable, old));
+        write_down(trail, places, variable, old);
+    } else {
+        spare(spares, old);
+    }
+}
+
+/// Writes down the domain of a variable that is replaced.
+fn write_down<B: Width>(
+    trail: &mut Vec<Change<B>>,
+    places: &mut [usize],
+    variable: usize,
+    old: IntervalSet<B>,
+)
+    requires { vec_len trail.old < vec_capacity trail.old }
+    ensures written { trail.new.items ≡ trail.old.items ++ Domain variable old ∷ [] }
+    ensures capacity { vec_capacity trail.new ≡ vec_capacity trail.old }
+{
+    if variable < places.len() {
+        places[variable] = trail.len().saturating_add(1);
+    }
+    trail.push_reserved(Change::Domain(variable, old));
+}
+
+/// Takes a number out of a domain. Writes down what stood there, as [`replace_logged`] does.
+pub(super) fn take_out_logged<B: Width>(
+    store: &mut Store<B>,
+    trail: &mut Vec<Change<B>>,
+    places: &mut [usize],
+    spares: &mut Vec<IntervalSet<B>>,
+    marks: &[usize],
+    variable: usize,
+    value: B,
+) -> Result<(), AllocError>
+    requires known { variable < length store.old }
+    requires in_range { IsBetween B.whole (B.value value) }
+    requires room { (marks.now ≡ []) ⊎ (vec_len trail.old < vec_capacity trail.old) }
+    ensures refused { OnErr result ((store.new ≡ store.old) × (trail.new.items ≡ trail.old.items)) }
+    ensures taken { OnOk result ((i : ℕ) (v : ℤ) → set_at store.new i v ↔ (set_at store.old i v × (i ≡ variable → v ≢ B.value value))) }
+    ensures past { OnOk result ((rules : List Rule) → KeepsPast marks.now trail.old.items trail.new.items store.old store.new rules) }
+{
+    let single = Interval::singleton(value);
+    if !is_unkept(trail, marks, places, variable) {
+        return store.take_out(variable, single);
+    }
+    let old = copy_of(&store.domains()[variable], spares)?;
+    store.take_out(variable, single)?;
+    write_down(trail, places, variable, old);
+    Ok(())
+}
+
+/// A copy of a set, in the memory of one that is not used any more, if there is one.
+fn copy_of<B: Width>(
+    set: &IntervalSet<B>,
+    spares: &mut Vec<IntervalSet<B>>,
+) -> Result<IntervalSet<B>, AllocError>
+    ensures { IfOk result (λ L. L ≡ set.now) }
+{
+    if let Some(mut copy) = spares.pop() {
+        copy.try_clone_from(set)?;
+        return Ok(copy);
+    }
+    spares.reserve(SPARES)?;
+    set.try_clone()
+}
+
+/// Keeps a set that is not used any more, for its memory, unless it is large or there is no room for it.
+fn spare<B: Width>(spares: &mut Vec<IntervalSet<B>>, set: IntervalSet<B>) {
+    if set.interval_count() <= RUNS_OF_A_SPARE && spares.len() < spares.capacity() {
+        spares.push_reserved(set);
     }
 }
 
@@ -114,6 +191,7 @@ pub(super) fn revert_to<B: Width>(
     start: usize,
     wakes: bool,
     store: &mut Store<B>,
+    spares: &mut Vec<IntervalSet<B>>,
     rules: &mut Vec<Rule>,
     index: &mut Index,
     queue: &mut Queue,
@@ -131,7 +209,7 @@ pub(super) fn revert_to<B: Width>(
 {
     while trail.len() > start {
         if let Some(change) = trail.pop() {
-            take_back(change, wakes, store, rules, index, queue);
+            take_back(change, wakes, store, spares, rules, index, queue);
         }
     }
 }
@@ -142,6 +220,7 @@ fn take_back<B: Width>(
     change: Change<B>,
     wakes: bool,
     store: &mut Store<B>,
+    spares: &mut Vec<IntervalSet<B>>,
     rules: &mut Vec<Rule>,
     index: &mut Index,
     queue: &mut Queue,
@@ -157,7 +236,7 @@ fn take_back<B: Width>(
 {
     match change {
         Change::Domain(variable, set) => {
-            store.replace(variable, set);
+            put_back(store, spares, variable, set);
             queue.wake(wakes, false, false, variable, store, rules, index);
         }
         Change::Variable => {
@@ -169,6 +248,23 @@ fn take_back<B: Width>(
                 index.pop_rule(&rule);
                 queue.pop();
             }
+        }
+    }
+}
+
+/// Puts a domain back, if there is such a variable.
+fn put_back<B: Width>(
+    store: &mut Store<B>,
+    spares: &mut Vec<IntervalSet<B>>,
+    variable: usize,
+    set: IntervalSet<B>,
+)
+    ensures { store.new ≡ slice_set store.old variable set }
+{
+    set.in_whole();
+    if variable < store.domains().len() {
+        if let Some(old) = store.swap(variable, Some(set)) {
+            spare(spares, old);
         }
     }
 }

@@ -1,14 +1,14 @@
 //! Narrowing by one rule.
-ghost use Rattle.std.specs.Prelude.{◌≡◌, ◌↔◌, ◌≢◌, ◌<◌, ◌||◌, ℕ, ℤ, ◌+ℤ◌, IfOk, IsTrue, None, OnErr, OnOk, is_some, length, true};
+ghost use Rattle.std.specs.Prelude.{◌≡◌, ◌↔◌, ◌≢◌, ◌<◌, ◌||◌, ℕ, ℤ, ◌+ℤ◌, IfOk, IfSome, IsTrue, None, OnErr, OnOk, is_some, length, true};
 ghost use Rattle.ivl_laws.specs.Families.{set_at};
 ghost use Rattle.ivl_laws.specs.Runs.{Covers};
 ghost use Rattle.ivl_laws.specs.Sets.{HasSome, Only, SameMembers};
 ghost use Rattle.ivl_store.specs.NarrowedSets.{IsLeftOf, narrowed_at};
 ghost use Rattle.ivl_store.specs.Narrowing.{AllPresent};
 ghost use Rattle.ivl_store.specs.Solutions.{AreDistinct, LostMember};
-ghost use Rattle.ivl_rules.specs.Rules.{AreDifferent, HasPointAt, NamesOf, NarrowedBy, SupportsAll, places as places_of};
-ghost use Rattle.ivl_rules.specs.NarrowedSets.{AreLeftAtPlaces, AreLeftBy, IsAtMost, IsMoved, IsNot, IsSmall};
-ghost use Rattle.ivl_rules.specs.declared.rules.Rule.TheVariants.{Sum as SumRule};
+ghost use Rattle.ivl_rules.specs.Rules.{AreDifferent, HasPointAt, NamesOf, NarrowedBy, SupportsAll, TakesOne, needs_singles, places as places_of};
+ghost use Rattle.ivl_rules.specs.NarrowedSets.{AreLeftAtPlaces, AreLeftBy, IsAtMost, IsForbidden, IsMoved, IsNot, IsSmall};
+ghost use Rattle.ivl_rules.specs.declared.rules.Rule.TheVariants.{Differs as DiffersRule, Sum as SumRule};
 
 use super::Rule;
 use super::windows::{
@@ -16,7 +16,7 @@ use super::windows::{
     narrowed_without, shift_back_of, shift_of,
 };
 use intervallum::interval_set::IntervalSet;
-use intervallum::ops::{Bounded, IsEmpty, IsSingleton};
+use intervallum::ops::{Bounded, Contains, IsEmpty, IsSingleton};
 use intervallum::width::Width;
 use ivl_store::store::{Constraint, narrowed_sets};
 use std::alloc::AllocError;
@@ -193,6 +193,74 @@ pub fn narrowed_at_places<B: Width>(
             let (x, y) = narrowed_differing(&domains[*x], &domains[*y], by)?;
             Ok((x, y, None))
         }
+    }
+}
+
+/// Returns the variable and the number that narrowing by the rule takes, where that is found by a look-up: of a
+/// `Differs` where one domain is a single number and the other one has what that forbids, and more. Does not allocate.
+/// Of other rules, and of other domains, it returns `None`, whatever narrowing takes.
+///
+/// The caller must ensure that the rule names each of its variables once, and that each has a domain. Check with
+/// [`Rule::is_over_different`] and [`Rule::first_unknown`].
+///
+/// ```
+/// // x != y, where y is 4
+/// let domains = vec![in alloc; IntervalSet::new(alloc, 0, 9)?, IntervalSet::new(alloc, 4, 4)?]?;
+/// assert_eq!(rt; lone_loss(&domains, &Rule::Differs { x: 0, y: 1, by: 0 }), Some((0, 4)));
+/// ```
+#[inline]
+pub fn lone_loss<B: Width>(domains: &[IntervalSet<B>], rule: &Rule) -> Option<(usize, B)>
+    requires different { AreDifferent rule.now }
+    requires present { AllPresent (length domains.now) (places_of rule.now) }
+    ensures one { IfSome result (λ taken. TakesOne rule.now (set_at domains.now) taken.0 (B.value taken.1)) }
+    ensures differs { IfSome result (λ _. needs_singles rule.now ≡ true) }
+{
+    match rule {
+        Rule::Sum(_) => None,
+        Rule::Shifted { x: _, y: _, by: _ } => None,
+        Rule::AtMost { x: _, y: _, by: _ } => None,
+        Rule::Differs { x, y, by } => lost_of_differing(domains, *x, *y, by),
+    }
+}
+
+/// Returns the variable and the number that a `Differs` takes, where one of the two is a single number, and forbids
+/// that one of several of the other.
+#[inline]
+fn lost_of_differing<B: Width>(
+    domains: &[IntervalSet<B>],
+    x: usize,
+    y: usize,
+    by: &i64,
+) -> Option<(usize, B)>
+    requires different { x ≢ y }
+    requires present { (x < length domains.now) × (y < length domains.now) }
+    ensures { IfSome result (λ taken. TakesOne (DiffersRule x y by.now) (set_at domains.now) taken.0 (B.value taken.1)) }
+{
+    if let Some(value) = forbidden(&domains[x], &domains[y], shift_back_of(by)) {
+        return Some((x, value));
+    }
+    match forbidden(&domains[y], &domains[x], shift_of(by)) {
+        Some(value) => Some((y, value)),
+        None => None,
+    }
+}
+
+/// Returns the number that the one of `y` and `by` make, where `x` has it and others.
+#[inline]
+fn forbidden<B: Width>(x: &IntervalSet<B>, y: &IntervalSet<B>, by: i128) -> Option<B>
+    requires { IsSmall by }
+    ensures { IfSome result (λ value. IsForbidden by (Covers x.now) (Covers y.now) (B.value value)) }
+{
+    x.in_whole();
+    y.in_whole();
+    if !y.is_singleton() || x.is_singleton() {
+        return None;
+    }
+    let value = B::from_number(y.lower().number() + by)?;
+    if x.contains(&value) {
+        Some(value)
+    } else {
+        None
     }
 }
 

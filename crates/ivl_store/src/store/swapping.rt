@@ -1,12 +1,16 @@
 //! Domains that are replaced, so that what stood there can be put back.
-ghost use Rattle.std.specs.Prelude.{◌≡◌, ◌<◌, ◌-◌, ℤ, List, Option, Some, is_some, length, slice_set, take};
+ghost use Rattle.std.specs.Prelude.{◌≡◌, ◌↔◌, ◌<◌, ◌-◌, [], ℕ, ℤ, List, OnErr, OnOk, Option, Some, is_some, length, slice_index_or, slice_set, take};
+ghost use Rattle.ivl_laws.specs.Families.{set_at};
 ghost use Rattle.ivl_laws.specs.Runs.{IsRunListIn};
+ghost use Rattle.ivl_laws.specs.Sets.{IsBetween};
 ghost use Rattle.ivl_store.specs.NarrowedSets.{narrowed_at};
 
 use super::{Store, one_if};
+use intervallum::interval::Interval;
 use intervallum::interval_set::IntervalSet;
 use intervallum::ops::IsEmpty;
 use intervallum::width::Width;
+use std::alloc::AllocError;
 use std::mem;
 
 impl<B: Width> Store<B> {
@@ -61,6 +65,33 @@ impl<B: Width> Store<B> {
         let is = one_if(set.is_empty());
         self.empties = self.empties - was + is;
         mem::replace(&mut self.domains[i], set)
+    }
+
+    /// Takes the members of an interval out of a domain. Nothing changes if there is no such variable. Costs what
+    /// [`IntervalSet::remove_interval`] costs, and a look at how many domains are empty.
+    ///
+    /// # Errors
+    ///
+    /// Fails only if allocation fails. The store is unchanged after an error.
+    ///
+    /// ```
+    /// let mut store: Store<i32> = Store::new(alloc, vec![in alloc; IntervalSet::new(alloc, 0, 9)?]?);
+    /// store.take_out(0, Interval::new(3, 20))?;
+    /// assert!(rt; store.domains()[0] == IntervalSet::new(alloc, 0, 2)?);
+    /// ```
+    pub fn take_out(&mut self, i: usize, interval: Interval<B>) -> Result<(), AllocError>
+        ensures taken { OnOk result ((j : ℕ) (v : ℤ) → set_at self.new j v ↔ (set_at self.old j v × (j ≡ i → ¬ (IsBetween interval v)))) }
+        ensures back { slice_set self.new i (slice_index_or self.old i []) ≡ self.old }
+        ensures refused { OnErr result (self.new ≡ self.old) }
+    {
+        if i >= self.domains.len() {
+            return Ok(());
+        }
+        let was = one_if(self.domains[i].is_empty());
+        self.domains[i].remove_interval(interval)?;
+        let is = one_if(self.domains[i].is_empty());
+        self.empties = self.empties - was + is;
+        Ok(())
     }
 
     /// Drops the last variable, if there is one. `O(1)`, does not allocate.

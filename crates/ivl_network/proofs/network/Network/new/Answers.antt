@@ -3,7 +3,7 @@ use Rattle.ivl_network.proofs.network.Network.new.Goals as goal
 
 pub invariant_of-result : goal.invariant_of-result
 invariant_of-result g c =
-    rw (c.new-2.ensures ∙ c.new.ensures.items, c.new-3.ensures.items, c.new-6.ensures.items, c.new-8.ensures.items, c.new-9.ensures.items) (
+    rw (c.new-2.ensures ∙ c.new.ensures.items, c.new-3.ensures.items, c.new-6.ensures.items, c.new-9.ensures.items, c.new-10.ensures.items) (
       rw c.new-5.ensures.empty (record {
         different = (λ k d lt. absurd (omega (arith, lt)));
         present = (λ k d lt. absurd (omega (arith, lt)));

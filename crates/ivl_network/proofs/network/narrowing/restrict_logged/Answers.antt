@@ -1,5 +1,4 @@
-use Rattle.std.proofs.Common.{◌≡◌, List, [], ap, subst, get_or}
-use Rattle.std.specs.Prelude.{ℤ}
+use Rattle.std.proofs.Common.{◌≡◌, [], subst, get_or}
 use Rattle.ivl_laws.specs.Runs.{Covers}
 use Rattle.ivl_store.specs.NarrowedSets.{IsLeftOf}
 use Rattle.ivl_within.proofs.Lists.{entry_seen}

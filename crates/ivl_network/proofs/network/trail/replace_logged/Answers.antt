@@ -1,14 +1,11 @@
-use Rattle.std.proofs.Common.{◌≡◌, List, inr, subst, sym, true, false}
+use Rattle.std.proofs.Common.{sym, true, false}
 use Rattle.std.proofs.lemmas.Bool.{false≢true}
-use Rattle.std.specs.Prelude.{ℤ}
-use Rattle.ivl_store.specs.NarrowedSets.{narrowed_at}
-use Rattle.ivl_network.specs.Trail.{KeepsPast}
 use Rattle.ivl_network.proofs.Logging.{keeps_replaced}
 use Rattle.ivl_network.proofs.network.trail.replace_logged.Goals as goal
 
-pub returns-after-variable-places-clause-past : goal.returns-after-variable-places-clause-past
-returns-after-variable-places-clause-past g c = λ rules.
-    rw c.push_reserved.ensures.items (keeps_replaced c.args.marks.now c.args.trail.now.items c.args.variable c.in-Some.old c.args.store.now c.swap.new.self rules true c.in-Some.ensures.back
+pub returns-then-is_unkept-clause-past : goal.returns-then-is_unkept-clause-past
+returns-then-is_unkept-clause-past g c = λ rules.
+    rw c.write_down.ensures.written (keeps_replaced c.args.marks.now c.args.trail.now.items c.args.variable c.in-Some.old c.args.store.now c.swap.new.self rules true c.in-Some.ensures.back
     (λ f. absurd (false≢true (sym f))))
 
 pub returns-else-is_unkept-clause-past : goal.returns-else-is_unkept-clause-past

@@ -18,10 +18,10 @@ returns-in-Domain-clause-sound g c =
     let wakes = c.args.wakes in
     let before = c.args.queue.now.settled.items in
     let after = c.wake.new.self.settled.items in
-    rw c.replace.ensures (sound_replaced c.args.store.now rules (claimed_flags wakes before) (claimed_flags wakes after) c.in-Domain.variable c.in-Domain.set c.requires.sound
+    rw c.put_back.ensures (sound_replaced c.args.store.now rules (claimed_flags wakes before) (claimed_flags wakes after) c.in-Domain.variable c.in-Domain.set c.requires.sound
     (claimed_cleared wakes rules c.in-Domain.variable _ before after
-    (subst (λ (sets : List (List (ℤ × ℤ))). AreClearedRules wakes false false rules c.in-Domain.variable (set_at sets) before after) c.replace.ensures
-    (subst (λ (cs : List Rule). AreClearedRules wakes false false cs c.in-Domain.variable (set_at c.replace.new.self) before after) c.deref.ensures.value c.wake.ensures.cleared))))
+    (subst (λ (sets : List (List (ℤ × ℤ))). AreClearedRules wakes false false rules c.in-Domain.variable (set_at sets) before after) c.put_back.ensures
+    (subst (λ (cs : List Rule). AreClearedRules wakes false false cs c.in-Domain.variable (set_at c.put_back.new.store) before after) c.deref.ensures.value c.wake.ensures.cleared))))
 
 pub returns-in-Variable-clause-sound : goal.returns-in-Variable-clause-sound
 returns-in-Variable-clause-sound g c =
