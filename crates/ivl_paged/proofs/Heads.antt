@@ -132,6 +132,7 @@ span_of_least P v m some l = record {
   from = λ k z h c. let far = pages_ascend P 0 k v z m h l.0 c in omega (arith, ints, far);
   to = λ k z h c. absurd (omega (arith, h));
   above = λ k z h c. let far = pages_ascend P 0 k v z m (omega (arith, h)) l.0 c in omega (arith, ints, far);
+  last = λ several. absurd (omega (arith, several));
 }
 
 -- ---- the least number of a page after an edit

@@ -9,6 +9,7 @@ pub mod Widening
 pub mod Longest
 pub mod PageSearch
 pub mod Combining
+pub mod Touching
 pub mod Walking
 pub mod Meeting
 pub mod Shortest

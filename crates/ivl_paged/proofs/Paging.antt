@@ -193,6 +193,10 @@ is_page_span P u v a b i j m some o s t ei (le, one, which) =
       from = λ k z h c. s.above k z (omega (arith, h, ei)) c;
       to = λ k z h c. ends_below P v b k z m t (⊎_elim (λ e. omega (arith, e, h)) (λ e. absurd (omega (arith, e, h))) which) c;
       above = λ k z h c. t.above k z (omega (arith, h, le)) c;
+      last = λ several. ⊎_elim
+          (λ e. subst (λ (n : ℕ). (z : ℤ) × set_at P (n - 1) z × (z ≤ℤ v)) (sym e) (t.starts (omega (arith, several, e))))
+          (λ e. absurd (omega (arith, several, e)))
+          which;
     }
 
 -- the value v is in no page but the last of those that start up to it

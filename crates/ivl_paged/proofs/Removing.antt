@@ -18,7 +18,7 @@ use Rattle.ivl_paged.proofs.Paging.{IsMaximal-dropped, IsMaximal-first, covers_p
 
 -- ---- one page
 
-set_is : (P : List (List (ℤ × ℤ))) (i : ℕ) (M : List (ℤ × ℤ)) → i < length P → set P i M ≡ take i P ++ (M ∷ drop (i + 1) P)
+pub set_is : (P : List (List (ℤ × ℤ))) (i : ℕ) (M : List (ℤ × ℤ)) → i < length P → set P i M ≡ take i P ++ (M ∷ drop (i + 1) P)
 set_is [] i M h = absurd (omega arith)
 set_is (L ∷ P) zero M h = refl
 set_is (L ∷ P) (suc i) M h =
@@ -55,7 +55,7 @@ removed_once P Q p i j m s one c =
 
 -- ---- the first and the last of several
 
-take_within : (P X : List (List (ℤ × ℤ))) (a b : ℕ) → a ≤ b → b ≤ length P → take a (take b P ++ X) ≡ take a P
+pub take_within : (P X : List (List (ℤ × ℤ))) (a b : ℕ) → a ≤ b → b ≤ length P → take a (take b P ++ X) ≡ take a P
 take_within P X zero b h k = refl
 take_within [] X (suc a) b h k = absurd (omega arith)
 take_within (L ∷ P) X (suc a) zero h k = absurd (omega arith)
@@ -67,7 +67,7 @@ index_within (L ∷ P) X i zero h k = absurd (omega arith)
 index_within (L ∷ P) X zero (suc b) h k = refl
 index_within (L ∷ P) X (suc i) (suc b) h k = index_within P X i b (omega arith) (omega arith)
 
-drop_past : (P X : List (List (ℤ × ℤ))) (b : ℕ) → b ≤ length P → drop b (take b P ++ X) ≡ X
+pub drop_past : (P X : List (List (ℤ × ℤ))) (b : ℕ) → b ≤ length P → drop b (take b P ++ X) ≡ X
 drop_past P X b h = drop_at (take b P) X b (length-take-le b P h)
 
 -- of several pages the last one: a removal there cannot fail, since the interval does not lie inside a run
@@ -97,7 +97,7 @@ module _ (P Q R T : List (List (ℤ × ℤ))) (p : ℤ × ℤ) (i j : ℕ) (m : 
           longer (L ∷ A) B zero e = omega arith
           longer (L ∷ A) B (suc n) e = let k = longer A B n (omega (arith, e)) in omega (arith, k)
 
-  rest_is : R ≡ take (i + 1) P ++ (high.left ++ drop j P)
+  pub rest_is : R ≡ take (i + 1) P ++ (high.left ++ drop j P)
   rest_is =
       let X : List (List (ℤ × ℤ)) = high.left ++ drop (j - 1 + 1) P in
       let l = less in
@@ -107,7 +107,7 @@ module _ (P Q R T : List (List (ℤ × ℤ))) (p : ℤ × ℤ) (i j : ℕ) (m : 
       ∙ ap₂ (λ (A B : List (List (ℤ × ℤ))). A ++ B) (take_within P X (i + 1) (j - 1) less at_most) (drop_past P X (j - 1) at_most)
       ∙ ap (λ (n : ℕ). take (i + 1) P ++ (high.left ++ drop n P)) last
 
-  fits : i + 1 ≤ length P
+  pub fits : i + 1 ≤ length P
   fits = let h = at_most in let l = less in omega (arith, h, l)
 
   pub first_there : i < length R

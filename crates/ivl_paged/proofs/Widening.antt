@@ -3,12 +3,13 @@ use Rattle.std.proofs.Common.{◌≡◌, ⊎_elim, inl, inr, ◌<◌, ◌≤◌,
 use Rattle.std.specs.Prelude.{IsSomeAnd, MatchOption, None, Option, Some}
 use Rattle.std.proofs.lemmas.Int.{ints, by_lt_z}
 use Rattle.ivl_laws.specs.Counts.{IsIn}
-use Rattle.ivl_laws.specs.Sets.{IsBetween, Union, Without}
+use Rattle.ivl_laws.specs.Sets.{HasSome, Intersection, IsBetween, Union, Without}
 use Rattle.ivl_laws.specs.Runs.{Covers, IsMaximal, IsRunsOf}
 use Rattle.ivl_laws.proofs.Counts.{in_without, length-without, without}
 use Rattle.ivl_laws.proofs.Lengths.{decide_covers, length-starts, length_by_starts, start_of, starts}
 use Rattle.ivl_laws.proofs.Places.{start_in}
 use Rattle.ivl_laws.proofs.Products.{one_covers}
+use Rattle.intervallum.specs.Edits.{widened}
 use Rattle.intervallum.specs.Neighbours.{IsRunWith}
 use Rattle.intervallum.proofs.FirstFit.{in_one_run}
 
@@ -31,18 +32,18 @@ module _ (L R : List (ℤ × ℤ)) (p : ℤ × ℤ) (m : IsMaximal L) (filled : 
       let same = length-starts L in
       omega (arith, short, same)
 
-  -- the run that has the number above p does not start there any more
-  none_more_above : ¬ (Covers L (p.0 -ℤ pos 1)) → Covers L (p.1 +ℤ pos 1) → length R ≤ length L
-  none_more_above free c =
-      let (q, i, a, b) = in_one_run 1 L (p.1 +ℤ pos 1) (omega arith) m (λ z d. let low = d.0 in let high = d.1 in subst (Covers L) (omega (arith, ints, low, high)) c) in
+  -- the run that has a number of p, or the one above, does not start there any more, unless it is the first of p
+  none_more_there : (w : ℤ) → p.0 ≤ℤ w → w ≤ℤ (p.1 +ℤ pos 1) → ¬ (Covers L (p.0 -ℤ pos 1)) → Covers L w → length R ≤ length L
+  none_more_there w from to free c =
+      let (q, i, a, b) = in_one_run 1 L w (omega arith) m (λ z d. let low = d.0 in let high = d.1 in subst (Covers L) (omega (arith, ints, low, high)) c) in
       let low = a.0 in
       let high = a.1 in
       let h : IsIn (starts L) q.0 = start_in L q i in
       let other : (z : ℤ) → ¬ (z ≡ q.0) → IsIn (starts L) z → IsIn (p.0 ∷ without q.0 (starts L) h) z = λ z n s. inr (in_without q.0 z (starts L) h n s) in
       let first : (z : ℤ) → ¬ (Union (Covers L) (IsBetween p) (z -ℤ pos 1)) → q.0 ≤ℤ z → z ≤ℤ q.0 → IsIn (p.0 ∷ without q.0 (starts L) h) z = λ z n ge le. by_lt_z p.0 q.0
-      (λ lt. absurd (n (inr (omega (arith, ints, lt, ge), omega (arith, ints, low, le)))))
+      (λ lt. absurd (n (inr (omega (arith, ints, lt, ge), omega (arith, ints, low, le, to)))))
       (λ up. by_lt_z q.0 p.0
-      (λ lt. absurd (free (one_covers L q (p.0 -ℤ pos 1) i (omega (arith, ints, lt), omega (arith, ints, high, filled)))))
+      (λ lt. absurd (free (one_covers L q (p.0 -ℤ pos 1) i (omega (arith, ints, lt), omega (arith, ints, high, from)))))
       (λ down. inl (omega (arith, ints, ge, le, up, down)))) in
       let short = length_by_starts R (Union (Covers L) (IsBetween p)) (p.0 ∷ without q.0 (starts L) h) r
       (λ z u n. ⊎_elim (λ e. inl e) (λ s. by_lt_z z q.0
@@ -54,6 +55,18 @@ module _ (L R : List (ℤ × ℤ)) (p : ℤ × ℤ) (m : IsMaximal L) (filled : 
       let less = length-without q.0 (starts L) h in
       let same = length-starts L in
       omega (arith, short, less, same)
+
+  -- an interval that overlaps or touches a run adds none
+  pub none_more : HasSome (Intersection (Covers L) (IsBetween (widened p))) → length R ≤ length L
+  none_more (w, (c, b)) =
+      let low = b.0 in
+      let high = b.1 in
+      ⊎_elim
+      (λ below. none_more_below below)
+      (λ free. by_lt_z w p.0
+      (λ lt. absurd (free (subst (Covers L) (omega (arith, ints, low, lt)) c)))
+      (λ from. none_more_there w from high free c))
+      (decide_covers L (p.0 -ℤ pos 1))
 
   -- one run more: the interval is a run by itself
   pub alone_if_more : length L < length R → IsRunWith p.0 (Covers R) p
@@ -67,7 +80,7 @@ module _ (L R : List (ℤ × ℤ)) (p : ℤ × ℤ) (m : IsMaximal L) (filled : 
     free_above = λ c. ⊎_elim
         (λ d. ⊎_elim
         (λ e. let le = none_more_below e in omega (arith, more, le))
-        (λ free. let le = none_more_above free d in omega (arith, more, le))
+        (λ free. let le = none_more_there (p.1 +ℤ pos 1) (omega (arith, ints, filled)) (omega (arith, ints)) free d in omega (arith, more, le))
         (decide_covers L (p.0 -ℤ pos 1)))
         (λ b. let high = b.1 in omega (arith, ints, high))
         ((r.members (p.1 +ℤ pos 1)).0 c);

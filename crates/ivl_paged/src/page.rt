@@ -153,6 +153,8 @@ impl<B: Width> Page<B> {
         ensures ok { OnOk result (IsRunsOf self.new (Union (Covers self.old) (IsBetween interval))) }
         ensures was_member { IfOk result (λ was_member. IsTrue was_member ↔ Covers self.old interval.0) }
         ensures err { OnErr result (self.new ≡ self.old) }
+        // it cannot fail where it overlaps or touches a run
+        ensures in_place { HasSome (Intersection (Covers self.old) (IsBetween (widened interval))) → IsOk result }
     {
         let count = self.set.interval_count();
         let (place, run) = find_run(self.set.runs(), interval.lower_bound());

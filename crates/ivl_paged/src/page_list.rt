@@ -1,7 +1,7 @@
 //! The pages of a set, in order, beside a list of their least members and the number of their runs.
 ghost use Rattle.std.specs.Prelude.{◌≡◌, ◌==◌, ◌↔◌, ◌⊎◌, ◌+◌, ◌++◌, ◌<◌, ◌≤◌, ℤ, ◌≤ℤ◌, List, [], ◌∷◌, drop, length, set, slice_index_or, take, IfOk, IsOk, IsTrue, OnErr, OnOk, false};
 ghost use Rattle.ivl_laws.specs.Families.{set_at};
-ghost use Rattle.ivl_laws.specs.Sets.{HasSome, IsBetween, IsSubset, Only, Union, Without};
+ghost use Rattle.ivl_laws.specs.Sets.{HasSome, Intersection, IsBetween, IsSubset, Only, Union, Without};
 ghost use Rattle.ivl_laws.specs.Runs.{Covers, IsMaximal, IsRunsOf};
 ghost use Rattle.intervallum.specs.Edits.{widened};
 ghost use Rattle.intervallum.specs.Neighbours.{IsLeast};
@@ -223,10 +223,11 @@ impl<B: Width> PageList<B> {
     ) -> Result<bool, AllocError>
         requires filled { interval.0 ≤ℤ interval.1 }
         requires less { i < length self.old }
-        requires room { length (flattened self.old) < usize.MAX }
+        requires room { (length (flattened self.old) < usize.MAX) ⊎ HasSome (Intersection (set_at self.old i) (IsBetween (widened interval))) }
         ensures ok { OnOk result ((L : List (ℤ × ℤ)) × (self.new ≡ set self.old i L) × IsRunsOf L (Union (set_at self.old i) (IsBetween interval))) }
         ensures was_member { IfOk result (λ was_member. IsTrue was_member ↔ set_at self.old i interval.0) }
         ensures err { OnErr result (self.new ≡ self.old) }
+        ensures in_place { HasSome (Intersection (set_at self.old i) (IsBetween (widened interval))) → IsOk result }
     {
         let page = &mut self.pages[i];
         let others = self.count - page.interval_count();

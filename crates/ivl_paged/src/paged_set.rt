@@ -1,6 +1,6 @@
 //! A set of integers whose runs stand in pages.
 ghost use Rattle.std.specs.Prelude.{◌≡◌, ◌↔◌, ℤ, ◌≤ℤ◌, List, [], IfNone, IfOk, IfSome, IsOk, IsTrue, OnErr, OnOk, length};
-ghost use Rattle.ivl_laws.specs.Sets.{HasNone, IsBetween, IsSubset, Only, Union, Without};
+ghost use Rattle.ivl_laws.specs.Sets.{HasNone, HasSome, Intersection, IsBetween, IsSubset, Only, Union, Without};
 ghost use Rattle.ivl_laws.specs.Runs.{Covers, IsRunListIn, IsRunsOf};
 ghost use Rattle.intervallum.specs.Edits.{widened};
 ghost use Rattle.ivl_paged.specs.Pages.{flattened};
@@ -156,7 +156,8 @@ impl<B: Width> PagedSet<B> {
     ///
     /// # Errors
     ///
-    /// Fails only if allocation fails. The set is then unchanged.
+    /// Fails only if allocation fails, and never if the value or one beside it is a member. The set is
+    /// then unchanged.
     ///
     /// ```
     /// let mut a = PagedSet::new(alloc);
@@ -168,6 +169,8 @@ impl<B: Width> PagedSet<B> {
         ensures members { OnOk result (IsRunsOf self.new (Union (Covers self.old) (Only (B.value value)))) }
         ensures is_new { IfOk result (λ is_new. IsTrue is_new ↔ ¬ (Covers self.old (B.value value))) }
         ensures err { OnErr result (self.new ≡ self.old) }
+        // it cannot fail where the value, or one beside it, is a member
+        ensures in_place { HasSome (Intersection (Covers self.old) (IsBetween (widened (B.value value, B.value value)))) → IsOk result }
     {
         self.in_whole();
         let was_member = self.add(Interval::singleton(value))?;
@@ -181,7 +184,8 @@ impl<B: Width> PagedSet<B> {
     ///
     /// # Errors
     ///
-    /// Fails only if allocation fails. The set is then unchanged.
+    /// Fails only if allocation fails, and never unless the numbers on both sides are members: only then
+    /// is a run split. The set is then unchanged.
     ///
     /// ```
     /// let mut a = PagedSet::new(alloc);
@@ -192,6 +196,8 @@ impl<B: Width> PagedSet<B> {
         ensures members { OnOk result (IsRunsOf self.new (Without (Covers self.old) (Only (B.value value)))) }
         ensures was_member { IfOk result (λ was_member. IsTrue was_member ↔ Covers self.old (B.value value)) }
         ensures err { OnErr result (self.new ≡ self.old) }
+        // it cannot fail unless the value lies inside a run and splits it
+        ensures in_place { ¬ (IsSubset (IsBetween (widened (B.value value, B.value value))) (Covers self.old)) → IsOk result }
     {
         self.in_whole();
         if !Interval::in_range(value, value) {
@@ -203,12 +209,14 @@ impl<B: Width> PagedSet<B> {
     /// Adds the members of an interval, which may be empty.
     ///
     /// Binary search for the `k` pages that the interval overlaps or touches. In one page, moves
-    /// its runs; of several pages only the first and the last are read, and one page takes the
-    /// place of all: `O(log n)`, and the list of pages moves.
+    /// its runs; of several pages only the first and the last are read and changed, and those between
+    /// removed: `O(log n)`, and the list of pages moves if a page goes. Allocates only if a run is added,
+    /// or to split a page that is full.
     ///
     /// # Errors
     ///
-    /// Fails only if allocation fails. The set is then unchanged.
+    /// Fails only if allocation fails, and never if the interval overlaps or touches a run. The set is
+    /// then unchanged.
     ///
     /// ```
     /// let mut a = PagedSet::new(alloc);
@@ -219,6 +227,8 @@ impl<B: Width> PagedSet<B> {
         ensures ok { OnOk result (IsRunsOf self.new (Union (Covers self.old) (IsBetween interval))) }
         ensures err { OnErr result (self.new ≡ self.old) }
         ensures empty { HasNone (IsBetween interval) → IsOk result }
+        // it cannot fail where it overlaps or touches a run
+        ensures in_place { HasSome (Intersection (Covers self.old) (IsBetween (widened interval))) → IsOk result }
     {
         self.in_whole();
         if interval.is_empty() {
@@ -234,6 +244,7 @@ impl<B: Width> PagedSet<B> {
         ensures ok { OnOk result (IsRunsOf self.new (Union (Covers self.old) (IsBetween interval))) }
         ensures was_member { IfOk result (λ was_member. IsTrue was_member ↔ Covers self.old interval.0) }
         ensures err { OnErr result (self.new ≡ self.old) }
+        ensures in_place { HasSome (Intersection (Covers self.old) (IsBetween (widened interval))) → IsOk result }
     {
         interval.in_whole();
         if self.pages.is_empty() {

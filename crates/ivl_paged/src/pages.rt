@@ -3,16 +3,17 @@ ghost use Rattle.std.specs.Prelude.{◌≡◌, ◌↔◌, ◌⊎◌, ◌++◌, �
 ghost use Rattle.ivl_laws.specs.Bounds.{width_of};
 ghost use Rattle.ivl_laws.specs.Counts.{IsCountOf};
 ghost use Rattle.ivl_laws.specs.Families.{set_at};
-ghost use Rattle.ivl_laws.specs.Sets.{AtLeast, HasNone, Intersection, IsBetween, IsSubset, Only, Union, Without};
+ghost use Rattle.ivl_laws.specs.Sets.{AtLeast, HasNone, HasSome, Intersection, IsBetween, IsSubset, Only, Union, Without};
 ghost use Rattle.ivl_laws.specs.Runs.{Covers, IsMaximal, IsRunListIn, IsRunsOf};
 ghost use Rattle.intervallum.specs.Edits.{widened};
 ghost use Rattle.intervallum.specs.FirstFit.{FitsAt, IsFirstFit};
 ghost use Rattle.intervallum.specs.Neighbours.{IsLeast};
-ghost use Rattle.ivl_paged.specs.Pages.{IsPageCut, IsPageSpan, StartsUpTo, flattened};
+ghost use Rattle.ivl_paged.specs.Pages.{IsInsertSpan, IsPageCut, IsPageSpan, StartsUpTo, flattened};
 ghost use Rattle.ivl_paged.specs.Parts.{ArePagesMet, IsBetterOf, IsShortestRun};
 
 use crate::page::Page;
 use crate::page_list::PageList;
+use crate::touched::{is_more_uncounted, one_above, touches, with_run_above};
 use intervallum::interval::Interval;
 use intervallum::interval_set::IntervalSet;
 use intervallum::ops::{
@@ -300,17 +301,6 @@ fn starts_from<B: Width>(pages: &PageList<B>, start: usize, value: B) -> usize
     pages.starts_up_to(value)
 }
 
-/// The number after, or the number itself if it is the greatest of the range.
-fn one_above<B: Width>(value: B) -> B
-    requires { IsBetween B.whole (B.value value) }
-    ensures { (B.value result ≡ B.value value +ℤ pos 1) ⊎ ((B.value result ≡ B.value value) × (B.value value ≡ B.whole.1)) }
-{
-    match value.checked_add(B::one()) {
-        Some(above) => above,
-        None => value,
-    }
-}
-
 /// Puts an interval into the first page of a list that has none.
 pub(crate) fn push_first<B: Width>(
     alloc: Global,
@@ -338,11 +328,8 @@ pub(crate) fn insert_interval<B: Width>(
     ensures was_member { IfOk result (λ was_member. IsTrue was_member ↔ Covers (flattened pages.old) interval.0) }
     ensures ok { OnOk result (IsRunsOf (flattened pages.new) (Union (Covers (flattened pages.old)) (IsBetween interval))) }
     ensures err { OnErr result (flattened pages.new ≡ flattened pages.old) }
+    ensures in_place { HasSome (Intersection (Covers (flattened pages.old)) (IsBetween (widened interval))) → IsOk result }
 {
-    // no memory holds more runs than a `usize` counts
-    if pages.interval_count() == usize::MAX {
-        return Err(AllocError);
-    }
     interval.in_whole();
     let upper = one_above(interval.upper());
     let (start, end) = span(pages, interval.lower(), upper);
@@ -351,8 +338,9 @@ pub(crate) fn insert_interval<B: Width>(
     Ok(was_member)
 }
 
-/// Adds the members of an interval to the pages from `start` to before `end`. Returns true exactly when
-/// its first number was a member of the first of them.
+/// Adds the members of an interval to the pages from `start` to before `end`. Of several, the last one
+/// has a number that it overlaps or touches, and nothing is allocated. Returns true exactly when its
+/// first number was a member of the first of them.
 fn insert_between<B: Width>(
     pages: &mut PageList<B>,
     start: usize,
@@ -361,20 +349,68 @@ fn insert_between<B: Width>(
 ) -> Result<bool, AllocError>
     requires filled { interval.0 ≤ℤ interval.1 }
     requires runs { IsRunListIn B.whole (flattened pages.old) }
-    requires room { length (flattened pages.old) < usize.MAX }
-    requires span { (v : ℤ) × ((v ≡ interval.1 +ℤ pos 1) ⊎ ((v ≡ interval.1) × (interval.1 ≡ B.whole.1))) × IsPageSpan pages.old interval.0 v start end }
+    requires span { IsInsertSpan B.whole pages.old interval start end }
     ensures ok { OnOk result (IsRunsOf (flattened pages.new) (Union (Covers (flattened pages.old)) (IsBetween interval))) }
     ensures was_member { IfOk result (λ was_member. IsTrue was_member ↔ set_at pages.old start interval.0) }
     ensures err { OnErr result (flattened pages.new ≡ flattened pages.old) }
+    ensures in_place { HasSome (Intersection (Covers (flattened pages.old)) (IsBetween (widened interval))) → IsOk result }
 {
     if end - start == 1 {
-        return pages.insert_into(start, interval);
+        return insert_into_one(pages, start, interval);
     }
-    let was_member = pages.page(start).set().contains(&interval.lower());
-    let mut joined = pages.page(start).set().union(pages.page(end - 1).set())?;
-    joined.insert_interval(interval)?;
-    pages.replace(start, end, Page::of(joined));
-    Ok(was_member)
+    if touches(pages.page(start), &interval) {
+        return Ok(insert_over(pages, start, end, interval));
+    }
+    // the next page has a member, so it is touched
+    pages.head(start + 1);
+    insert_over(pages, start + 1, end, interval);
+    Ok(false)
+}
+
+/// Adds the members of an interval to page `i`. Returns true exactly when its first number was a member.
+fn insert_into_one<B: Width>(
+    pages: &mut PageList<B>,
+    i: usize,
+    interval: Interval<B>,
+) -> Result<bool, AllocError>
+    requires filled { interval.0 ≤ℤ interval.1 }
+    requires less { i < length pages.old }
+    ensures ok { OnOk result ((L : List (ℤ × ℤ)) × (pages.new ≡ set pages.old i L) × IsRunsOf L (Union (set_at pages.old i) (IsBetween interval))) }
+    ensures was_member { IfOk result (λ was_member. IsTrue was_member ↔ set_at pages.old i interval.0) }
+    ensures err { OnErr result (pages.new ≡ pages.old) }
+    ensures in_place { HasSome (Intersection (set_at pages.old i) (IsBetween (widened interval))) → IsOk result }
+{
+    // no memory holds more runs than a `usize` counts
+    if is_more_uncounted(pages.interval_count(), pages.page(i), &interval) {
+        return Err(AllocError);
+    }
+    pages.insert_into(i, interval)
+}
+
+/// Adds the members of an interval to the pages from `start` to before `end`, of which it touches the
+/// first and the last. The first gets it, with what it overlaps or touches of the last; the pages between
+/// go, and so does the last if nothing is left. Returns true exactly when its first number was a member
+/// of the first.
+fn insert_over<B: Width>(
+    pages: &mut PageList<B>,
+    start: usize,
+    end: usize,
+    interval: Interval<B>,
+) -> bool
+    requires filled { interval.0 ≤ℤ interval.1 }
+    requires runs { IsRunListIn B.whole (flattened pages.old) }
+    requires span { IsInsertSpan B.whole pages.old interval start end }
+    requires touched { HasSome (Intersection (set_at pages.old start) (IsBetween (widened interval))) }
+    ensures runs { IsRunsOf (flattened pages.new) (Union (Covers (flattened pages.old)) (IsBetween interval)) }
+    ensures was_member { IsTrue result ↔ set_at pages.old start interval.0 }
+{
+    if end - start == 1 {
+        return insert_into_one(pages, start, interval).unwrap();
+    }
+    let whole = with_run_above(pages.page(end - 1), &interval);
+    remove_from_one(pages, end - 1, whole).unwrap();
+    pages.take_out(start + 1, end - 1);
+    insert_into_one(pages, start, whole).unwrap()
 }
 
 /// Removes the members of an interval from pages of which there is one at least. Returns true exactly

@@ -1,10 +1,12 @@
-use Rattle.std.proofs.Common.{◌∙◌, List, ℤ, ap, arith, refl, subst}
+use Rattle.std.proofs.Common.{◌∙◌, List, ℤ, ap, arith, refl, subst, sym}
 use Rattle.ivl_laws.specs.Runs.{Covers, IsRunsOf}
-use Rattle.ivl_laws.specs.Sets.{IsBetween, Union}
+use Rattle.ivl_laws.specs.Sets.{HasSome, Intersection, IsBetween, Union}
 use Rattle.std.specs.Prelude.{MatchOption}
+use Rattle.intervallum.specs.Edits.{widened}
 use Rattle.intervallum.specs.Neighbours.{IsRunWith}
 use Rattle.std.specs.Int.{int_min}
 use Rattle.ivl_laws.proofs.Orders.{min_number}
+use Rattle.ivl_paged.proofs.Counting.{err_is_not_ok}
 use Rattle.ivl_paged.proofs.Heads.{least_of_union, lower_of}
 use Rattle.ivl_paged.proofs.Longest.{grown_part}
 use Rattle.ivl_paged.proofs.Widening.{alone_if_more, nothing_to_add}
@@ -29,3 +31,8 @@ invariant_of-self-2 g c = (
   grown_part c.run_after-joined.result c.self.inside.longest c.longer-self-inside.result (Covers c.self.inside.set) (Covers c.insert_interval_near.new.self) c.args.interval c.args.interval.0 refl c.self.invariant.1
       c.in_ok-insert_interval_near.ensures.ok.members c.requires c.run_after-joined.ensures c.longer-self-inside.ensures,
 )
+
+pub returns-in_err-insert_interval_near-clause-in_place : goal.returns-in_err-insert_interval_near-clause-in_place
+returns-in_err-insert_interval_near-clause-in_place g c = λ n.
+    absurd (err_is_not_ok c.insert_interval_near.result _ c.in_err-insert_interval_near.was
+    (c.insert_interval_near.ensures.in_place (subst (λ (L : List (ℤ × ℤ)). HasSome (Intersection (Covers L) (IsBetween (widened c.args.interval)))) (sym c.self.view_is) n)))

@@ -1,10 +1,12 @@
-use Rattle.std.proofs.Common.{List, ℤ, ap, arith, length, set, subst}
-use Rattle.ivl_laws.specs.Sets.{IsBetween, Union}
+use Rattle.std.proofs.Common.{⊎_elim, List, ℤ, ap, arith, length, set, subst, sym}
+use Rattle.ivl_laws.specs.Sets.{HasSome, Intersection, IsBetween, Union}
 use Rattle.ivl_laws.specs.Runs.{Covers, IsRunsOf}
+use Rattle.intervallum.specs.Edits.{widened}
 use Rattle.intervallum.proofs.Windows.{one_more_at_most}
 use Rattle.ivl_paged.specs.Pages.{flattened}
-use Rattle.ivl_paged.proofs.Counting.{kept_after, lent_within}
+use Rattle.ivl_paged.proofs.Counting.{err_is_not_ok, kept_after, lent_within}
 use Rattle.ivl_paged.proofs.Heads.{heads_there, lent_page}
+use Rattle.ivl_paged.proofs.Widening.{none_more}
 use Rattle.ivl_paged.proofs.page_list.PageList.insert_into.Goals as goal
 
 pub index_mut-requires : goal.index_mut-requires
@@ -17,8 +19,16 @@ pub overflow_add-self : goal.overflow_add-self
 overflow_add-self g c =
     let within = lent_within g.B.Width.value c.self.inside.heads.items c.self.inside.pages.items c.args.self.now c.index_mut-page.result.now c.args.i c.self.inside.count _ c.self.invariant c.self.view_is c.requires.less c.index_mut-page.ensures.value c.interval_count.ensures.count in
     let view = ap (λ (Q : List (List (ℤ × ℤ))). length (flattened Q)) c.self.view_is in
-    let most = one_more_at_most c.index_mut-page.result.now c.insert_interval.new.self c.args.interval (length c.index_mut-page.result.now) c.in_ok-was_member.ensures.ok (omega arith) in
-    omega (arith, within, view, most, c.interval_count.ensures.count, c.interval_count-2.ensures.count, c.self.invariant.1, c.requires.room)
+    let L = c.index_mut-page.result.now in
+    let made = c.in_ok-was_member.ensures.ok in
+    let page = lent_page c.self.inside.pages.items c.args.self.now L c.args.i c.self.view_is c.requires.less c.index_mut-page.ensures.value in
+    let ranges = c.self.ranges in
+    ⊎_elim
+    (λ room. let most = one_more_at_most L c.insert_interval.new.self c.args.interval (length L) made (omega arith) in
+    omega (arith, within, view, most, c.interval_count.ensures.count, c.interval_count-2.ensures.count, c.self.invariant.1, room))
+    (λ touched. let most = none_more L c.insert_interval.new.self c.args.interval c.interval_count.ensures.runs c.requires.filled made (subst (λ (M : List (ℤ × ℤ)). HasSome (Intersection (Covers M) (IsBetween (widened c.args.interval)))) (sym page) touched) in
+    omega (arith, within, most, c.interval_count.ensures.count, c.interval_count-2.ensures.count, ranges))
+    c.requires.room
 
 pub invariant_of-self-2 : goal.invariant_of-self-2
 invariant_of-self-2 g c =
@@ -32,3 +42,9 @@ returns-clause-ok g c =
       ap (λ (Q : List (List (ℤ × ℤ))). set Q c.args.i c.insert_interval.new.self) c.self.view_is,
       subst (λ (L : List (ℤ × ℤ)). IsRunsOf c.insert_interval.new.self (Union (Covers L) (IsBetween c.args.interval))) page c.in_ok-was_member.ensures.ok,
     )
+
+pub returns-in_err-was_member-clause-in_place : goal.returns-in_err-was_member-clause-in_place
+returns-in_err-was_member-clause-in_place g c = λ n.
+    let page = lent_page c.self.inside.pages.items c.args.self.now c.index_mut-page.result.now c.args.i c.self.view_is c.requires.less c.index_mut-page.ensures.value in
+    absurd (err_is_not_ok c.insert_interval.result _ c.in_err-was_member.was
+    (c.insert_interval.ensures.in_place (subst (λ (L : List (ℤ × ℤ)). HasSome (Intersection (Covers L) (IsBetween (widened c.args.interval)))) (sym page) n)))
