@@ -32,5 +32,6 @@ mod page_search;
 pub mod paged_set;
 mod pages;
 mod parts;
+mod touched;
 
 pub use paged_set::PagedSet;

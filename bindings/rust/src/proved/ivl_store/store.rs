@@ -26,6 +26,7 @@
 #[allow(unused_imports)]
 use crate::rattle::prelude::*;
 
+mod by_words;
 pub mod callers;
 mod constraint;
 mod costs;
@@ -36,6 +37,7 @@ mod post;
 mod posting;
 mod settled;
 mod swapping;
+mod words;
 
 pub use constraint::{Constraint, StoreFault};
 use crate::proved::intervallum::interval_set::IntervalSet;

@@ -4,6 +4,7 @@
 #[allow(unused_imports)]
 use crate::rattle::prelude::*;
 use super::Constraint;
+use super::by_words::narrowed_by_words;
 use crate::proved::intervallum::interval::Interval;
 use crate::proved::intervallum::interval_set::IntervalSet;
 use crate::proved::intervallum::ops::{Bounded, Cardinality, Intersection, IsEmpty, IsSingleton};
@@ -76,6 +77,33 @@ pub(super) fn narrowed_sets<B: Width>(
 ///
 /// Words: [`IsLeftOf`](crate::definitions#IsLeftOf), [`Differences`](crate::definitions#Differences), [`Covers`](crate::definitions#Covers), [`Sums`](crate::definitions#Sums).
 pub fn narrowed_by_sum<B: Width>(
+    x: &IntervalSet<B>,
+    y: &IntervalSet<B>,
+    z: &IntervalSet<B>,
+) -> Result<
+    (
+        Option<IntervalSet<B>>,
+        Option<IntervalSet<B>>,
+        Option<IntervalSet<B>>,
+    ),
+    AllocError,
+> {
+    if are_runs(x, y, z) {
+        return narrowed_one_by_one(x, y, z);
+    }
+    if let Some(left) = narrowed_by_words(x, y, z)? {
+        return Ok(left);
+    }
+    narrowed_one_by_one(x, y, z)
+}
+
+/// Whether each of three sets is one run, so that narrowing by bounds costs least.
+fn are_runs<B: Width>(x: &IntervalSet<B>, y: &IntervalSet<B>, z: &IntervalSet<B>) -> bool {
+    x.interval_count() == 1 && y.interval_count() == 1 && z.interval_count() == 1
+}
+
+/// Returns what narrowing leaves at x, y and z of a sum, found for one after another.
+fn narrowed_one_by_one<B: Width>(
     x: &IntervalSet<B>,
     y: &IntervalSet<B>,
     z: &IntervalSet<B>,

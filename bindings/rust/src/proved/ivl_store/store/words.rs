@@ -1,0 +1,143 @@
+// Written by bindings/rust/extract from crates/ivl_store/src/store/words.rt.
+//! Sums over sets whose members lie close together: bit `p` of a word stands for the number `p` above a base.
+
+#[allow(unused_imports)]
+use crate::rattle::prelude::*;
+use crate::proved::intervallum::interval::Interval;
+use crate::proved::intervallum::interval_set::IntervalSet;
+use crate::proved::intervallum::ops::Range;
+use crate::proved::intervallum::sweep::coalesce;
+use crate::proved::intervallum::width::Width;
+use crate::rattle::std::alloc::{AllocError, Global};
+
+/// The words of the sets at x, y and z of a sum.
+#[derive(Clone, Copy)]
+pub(super) struct Words {
+    pub x: u64,
+    pub y: u64,
+    pub z: u64,
+}
+
+/// The word whose bits from one place to another are set.
+fn bits_between(low: u32, high: u32) -> u64 {
+    (u64::MAX >> (63 - high)) & (u64::MAX << low)
+}
+
+/// The word without one of its bits.
+fn without_bit(word: u64, place: u32) -> u64 {
+    word & !bits_between(place, place)
+}
+
+/// The words with what is supported by bit `place` of `x`, where `y` and `z` are the words of the other sets.
+fn with_supported(kept: Words, place: u32, y: u64, z: u64) -> Words {
+    let met = (z >> place) & y;
+    let one = if met == 0 { 0 } else { 1 << place };
+    Words {
+        x: kept.x | one,
+        y: kept.y | met,
+        z: kept.z | (met << place),
+    }
+}
+
+/// What is left of three sets of small numbers of which a sum holds.
+pub(super) fn supported(x: u64, y: u64, z: u64) -> Words {
+    let mut kept = Words { x: 0, y: 0, z: 0 };
+    let mut rest = x;
+    'places: while rest != 0 {
+        let place = rest.trailing_zeros();
+        kept = with_supported(kept, place, y, z);
+        rest = without_bit(rest, place);
+    }
+    kept
+}
+
+/// How far a value stands above a base.
+pub(super) fn above<B: Width>(value: B, base: i128) -> i128 {
+    value.number() - base
+}
+
+/// The place of a number that has one.
+fn place_of(number: i128) -> u32 {
+    number as u32
+}
+
+/// The first place from a number on.
+fn first_place(number: i128) -> u32 {
+    if number < 0 {
+        return 0;
+    }
+    place_of(number)
+}
+
+/// The last place up to a number.
+fn last_place(number: i128) -> u32 {
+    if 63 < number {
+        return 63;
+    }
+    place_of(number)
+}
+
+/// The word of the numbers of a run, from a base on.
+fn word_of_run<B: Width>(run: Interval<B>, base: i128) -> u64 {
+    let low = above(run.lower_bound(), base);
+    let high = above(run.upper_bound(), base);
+    if high < 0 || 63 < low {
+        return 0;
+    }
+    bits_between(first_place(low), last_place(high))
+}
+
+/// The word of a set, of its members from a base on.
+pub(super) fn word_of<B: Width>(runs: &[Interval<B>], base: i128) -> u64 {
+    let mut word = 0;
+    for run in runs {
+        word |= word_of_run(*run, base);
+    }
+    word
+}
+
+/// The first and the last of some bits that are set, one after another, of which the first is the lowest.
+fn first_bits(word: u64) -> (u32, u32) {
+    if word == u64::MAX {
+        return (0, 63);
+    }
+    let low = word.trailing_zeros();
+    let count = (word >> low).trailing_ones();
+    (low, low + count - 1)
+}
+
+/// The word without the bits from one place to another.
+fn without_bits(word: u64, low: u32, high: u32) -> u64 {
+    word & !bits_between(low, high)
+}
+
+/// How many runs the bits of a word make.
+fn count_runs(word: u64) -> usize {
+    (word & !(word << 1)).count_ones() as usize
+}
+
+/// The set of the numbers of a word, above a base.
+pub(super) fn set_of_word<B: Width>(
+    alloc: Global,
+    word: u64,
+    base: i128,
+) -> Result<IntervalSet<B>, AllocError> {
+    let mut runs = Vec::with_capacity(alloc, count_runs(word))?;
+    let mut rest = word;
+    'runs: while rest != 0 {
+        let (low, high) = first_bits(rest);
+        runs.push(run_of(base, low, high))?;
+        rest = without_bits(rest, low, high);
+    }
+    coalesce(alloc, runs)
+}
+
+/// The run from one place to another above a base.
+fn run_of<B: Width>(base: i128, low: u32, high: u32) -> Interval<B> {
+    Interval::new(value_of(base, low), value_of(base, high))
+}
+
+/// The value that stands so far above a base.
+fn value_of<B: Width>(base: i128, place: u32) -> B {
+    B::from_number(base + place as i128).unwrap()
+}
