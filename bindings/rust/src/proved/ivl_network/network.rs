@@ -68,6 +68,9 @@ enum Step {
 ///
 /// Variables are named by their indexes from 0. Domains only lose members. A call that fails with
 /// [`StoreFault::Variable`] leaves the network unchanged.
+///
+/// A network that narrows by `Differs` keeps some sets that it does not use any more, 64 at most, each of
+/// at most 64 runs, for their memory.
 pub struct Network<B: Width> {
     store: Store<B>,
     rules: Vec<Rule>,
@@ -79,6 +82,8 @@ pub struct Network<B: Width> {
     trail: Vec<Change<B>>,
     // For each variable a place of the trail, one more than that at which its domain was kept last.
     places: Vec<usize>,
+    // Sets that are not used any more, for their memory.
+    spares: Vec<IntervalSet<B>>,
     // The places of the trail at which there is a mark.
     marks: Vec<usize>,
     // For each mark, whether all rules were settled at it.
@@ -112,6 +117,7 @@ impl<B: Width> Network<B> {
             queue: Queue::new(alloc),
             trail: Vec::new(alloc),
             places: Vec::new(alloc),
+            spares: Vec::new(alloc),
             marks: Vec::new(alloc),
             settled_at_marks: Vec::new(alloc),
         }
@@ -308,6 +314,7 @@ impl<B: Width> Network<B> {
             &mut self.store,
             &mut self.trail,
             &mut self.places,
+            &mut self.spares,
             &self.marks,
             variable,
             allowed,
@@ -533,6 +540,7 @@ impl<B: Width> Network<B> {
             &mut self.store,
             &mut self.trail,
             &mut self.places,
+            &mut self.spares,
             &self.marks,
             &rule,
         )?;
@@ -641,6 +649,7 @@ impl<B: Width> Network<B> {
             start,
             !were_settled,
             &mut self.store,
+            &mut self.spares,
             &mut self.rules,
             &mut self.index,
             &mut self.queue,

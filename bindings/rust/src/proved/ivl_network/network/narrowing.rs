@@ -4,12 +4,12 @@
 #[allow(unused_imports)]
 use crate::rattle::prelude::*;
 use super::change::Change;
-use super::trail::replace_logged;
+use super::trail::{replace_logged, take_out_logged};
 use crate::proved::intervallum::interval_set::IntervalSet;
 use crate::proved::intervallum::ops::{Bounded, IsEmpty};
 use crate::proved::intervallum::width::Width;
 use crate::proved::ivl_rules::rules::Rule;
-use crate::proved::ivl_rules::rules::narrowing::narrowed_at_places;
+use crate::proved::ivl_rules::rules::narrowing::{lone_loss, narrowed_at_places};
 use crate::proved::ivl_store::store::narrowed_sets::narrowed_to;
 use crate::proved::ivl_store::store::{Lost, Store};
 use crate::rattle::std::alloc::AllocError;
@@ -19,9 +19,19 @@ pub(super) fn narrow_logged<B: Width>(
     store: &mut Store<B>,
     trail: &mut Vec<Change<B>>,
     places: &mut [usize],
+    spares: &mut Vec<IntervalSet<B>>,
     marks: &[usize],
     rule: &Rule,
 ) -> Result<Lost, AllocError> {
+    if let Some(taken) = lone_loss(store.domains(), rule) {
+        take_out_logged(store, trail, places, spares, marks, taken.0, taken.1)?;
+        let c = rule.places();
+        return Ok(Lost {
+            x: taken.0 == c.x,
+            y: taken.0 == c.y,
+            z: false,
+        });
+    }
     let (x, y, z) = narrowed_at_places(store.domains(), rule)?;
     let lost = Lost {
         x: x.is_some(),
@@ -29,9 +39,9 @@ pub(super) fn narrow_logged<B: Width>(
         z: z.is_some(),
     };
     let c = rule.places();
-    replace_logged(store, trail, places, marks, c.x, x);
-    replace_logged(store, trail, places, marks, c.y, y);
-    replace_logged(store, trail, places, marks, c.z, z);
+    replace_logged(store, trail, places, spares, marks, c.x, x);
+    replace_logged(store, trail, places, spares, marks, c.y, y);
+    replace_logged(store, trail, places, spares, marks, c.z, z);
     Ok(lost)
 }
 
@@ -41,13 +51,14 @@ pub(super) fn restrict_logged<B: Width>(
     store: &mut Store<B>,
     trail: &mut Vec<Change<B>>,
     places: &mut [usize],
+    spares: &mut Vec<IntervalSet<B>>,
     marks: &[usize],
     i: usize,
     allowed: &IntervalSet<B>,
 ) -> Result<bool, AllocError> {
     let left = narrowed_to(&store.domains()[i], allowed)?;
     let lost = left.is_some();
-    replace_logged(store, trail, places, marks, i, left);
+    replace_logged(store, trail, places, spares, marks, i, left);
     Ok(lost)
 }
 

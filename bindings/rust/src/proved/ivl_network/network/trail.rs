@@ -6,11 +6,19 @@ use crate::rattle::prelude::*;
 use super::change::Change;
 use super::index::Index;
 use super::queue::Queue;
+use crate::proved::intervallum::interval::Interval;
 use crate::proved::intervallum::interval_set::IntervalSet;
+use crate::proved::intervallum::ops::Singleton;
 use crate::proved::intervallum::width::Width;
 use crate::proved::ivl_rules::rules::Rule;
 use crate::proved::ivl_store::store::Store;
 use crate::rattle::std::alloc::AllocError;
+
+/// How many sets that are not used any more a network makes room for, where it lacks one.
+const SPARES: usize = 64;
+
+/// How many runs such a set has at most, to be kept.
+const RUNS_OF_A_SPARE: usize = 64;
 
 /// Reserves room for so many changes, if changes are written down.
 pub(super) fn reserve_changes<B: Width>(
@@ -37,6 +45,7 @@ pub(super) fn replace_logged<B: Width>(
     store: &mut Store<B>,
     trail: &mut Vec<Change<B>>,
     places: &mut [usize],
+    spares: &mut Vec<IntervalSet<B>>,
     marks: &[usize],
     variable: usize,
     left: Option<IntervalSet<B>>,
@@ -45,10 +54,62 @@ pub(super) fn replace_logged<B: Width>(
         return;
     };
     if is_unkept(trail, marks, places, variable) {
-        if variable < places.len() {
-            places[variable] = trail.len().saturating_add(1);
-        }
-        trail.push_reserved(Change::Domain(variable, old));
+        write_down(trail, places, variable, old);
+    } else {
+        spare(spares, old);
+    }
+}
+
+/// Writes down the domain of a variable that is replaced.
+fn write_down<B: Width>(
+    trail: &mut Vec<Change<B>>,
+    places: &mut [usize],
+    variable: usize,
+    old: IntervalSet<B>,
+) {
+    if variable < places.len() {
+        places[variable] = trail.len().saturating_add(1);
+    }
+    trail.push_reserved(Change::Domain(variable, old));
+}
+
+/// Takes a number out of a domain. Writes down what stood there, as [`replace_logged`] does.
+pub(super) fn take_out_logged<B: Width>(
+    store: &mut Store<B>,
+    trail: &mut Vec<Change<B>>,
+    places: &mut [usize],
+    spares: &mut Vec<IntervalSet<B>>,
+    marks: &[usize],
+    variable: usize,
+    value: B,
+) -> Result<(), AllocError> {
+    let single = Interval::singleton(value);
+    if !is_unkept(trail, marks, places, variable) {
+        return store.take_out(variable, single);
+    }
+    let old = copy_of(&store.domains()[variable], spares)?;
+    store.take_out(variable, single)?;
+    write_down(trail, places, variable, old);
+    Ok(())
+}
+
+/// A copy of a set, in the memory of one that is not used any more, if there is one.
+fn copy_of<B: Width>(
+    set: &IntervalSet<B>,
+    spares: &mut Vec<IntervalSet<B>>,
+) -> Result<IntervalSet<B>, AllocError> {
+    if let Some(mut copy) = spares.pop() {
+        copy.try_clone_from(set)?;
+        return Ok(copy);
+    }
+    spares.reserve(SPARES)?;
+    set.try_clone()
+}
+
+/// Keeps a set that is not used any more, for its memory, unless it is large or there is no room for it.
+fn spare<B: Width>(spares: &mut Vec<IntervalSet<B>>, set: IntervalSet<B>) {
+    if set.interval_count() <= RUNS_OF_A_SPARE && spares.len() < spares.capacity() {
+        spares.push_reserved(set);
     }
 }
 
@@ -89,13 +150,14 @@ pub(super) fn revert_to<B: Width>(
     start: usize,
     wakes: bool,
     store: &mut Store<B>,
+    spares: &mut Vec<IntervalSet<B>>,
     rules: &mut Vec<Rule>,
     index: &mut Index,
     queue: &mut Queue,
 ) {
     while trail.len() > start {
         if let Some(change) = trail.pop() {
-            take_back(change, wakes, store, rules, index, queue);
+            take_back(change, wakes, store, spares, rules, index, queue);
         }
     }
 }
@@ -106,13 +168,14 @@ fn take_back<B: Width>(
     change: Change<B>,
     wakes: bool,
     store: &mut Store<B>,
+    spares: &mut Vec<IntervalSet<B>>,
     rules: &mut Vec<Rule>,
     index: &mut Index,
     queue: &mut Queue,
 ) {
     match change {
         Change::Domain(variable, set) => {
-            store.replace(variable, set);
+            put_back(store, spares, variable, set);
             queue.wake(wakes, false, false, variable, store, rules, index);
         }
         Change::Variable => {
@@ -124,6 +187,21 @@ fn take_back<B: Width>(
                 index.pop_rule(&rule);
                 queue.pop();
             }
+        }
+    }
+}
+
+/// Puts a domain back, if there is such a variable.
+fn put_back<B: Width>(
+    store: &mut Store<B>,
+    spares: &mut Vec<IntervalSet<B>>,
+    variable: usize,
+    set: IntervalSet<B>,
+) {
+    set.in_whole();
+    if variable < store.domains().len() {
+        if let Some(old) = store.swap(variable, Some(set)) {
+            spare(spares, old);
         }
     }
 }

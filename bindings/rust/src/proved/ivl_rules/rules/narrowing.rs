@@ -9,7 +9,7 @@ use super::windows::{
     narrowed_without, shift_back_of, shift_of,
 };
 use crate::proved::intervallum::interval_set::IntervalSet;
-use crate::proved::intervallum::ops::{Bounded, IsEmpty, IsSingleton};
+use crate::proved::intervallum::ops::{Bounded, Contains, IsEmpty, IsSingleton};
 use crate::proved::intervallum::width::Width;
 use crate::proved::ivl_store::store::{Constraint, narrowed_sets};
 use crate::rattle::std::alloc::AllocError;
@@ -205,6 +205,80 @@ pub fn narrowed_at_places<B: Width>(
             let (x, y) = narrowed_differing(&domains[*x], &domains[*y], by)?;
             Ok((x, y, None))
         }
+    }
+}
+
+/// Returns the variable and the number that narrowing by the rule takes, where that is found by a look-up: of a
+/// `Differs` where one domain is a single number and the other one has what that forbids, and more. Does not allocate.
+/// Of other rules, and of other domains, it returns `None`, whatever narrowing takes.
+///
+/// The caller must ensure that the rule names each of its variables once, and that each has a domain. Check with
+/// [`Rule::is_over_different`] and [`Rule::first_unknown`].
+///
+/// ```
+/// use intervallum::proved::examples::*;
+///
+/// fn main() -> Result<(), std::boxed::Box<dyn std::error::Error>> {
+///     let alloc = Global;
+///     // x != y, where y is 4
+///     let domains = Vec::from_array(alloc, [ IntervalSet::new(alloc, 0, 9)?, IntervalSet::new(alloc, 4, 4)?])?;
+///     assert_eq!(lone_loss(&domains, &Rule::Differs { x: 0, y: 1, by: 0 }), Some((0, 4)));
+///     Ok(())
+/// }
+/// ```
+#[inline]
+///
+/// # Proved
+///
+/// ```text
+/// requires different { AreDifferent rule.now }
+/// requires present { AllPresent (length domains.now) (places_of rule.now) }
+/// ensures one { IfSome result (λ taken. TakesOne rule.now (set_at domains.now) taken.0 (B.value taken.1)) }
+/// ensures differs { IfSome result (λ _. needs_singles rule.now ≡ true) }
+/// ```
+///
+/// Words: [`AreDifferent`](crate::definitions#AreDifferent), [`AllPresent`](crate::definitions#AllPresent), [`places_of`](crate::definitions#places), [`set_at`](crate::definitions#set_at), [`needs_singles`](crate::definitions#needs_singles).
+pub fn lone_loss<B: Width>(domains: &[IntervalSet<B>], rule: &Rule) -> Option<(usize, B)> {
+    debug_assert!({ #[allow(unused_imports)] use crate::proved::ivl_interval::ops::*; rule.is_over_different() && rule.first_unknown(domains.len()).is_none() }, "{}", "the condition of `lone_loss` is broken: rule.is_over_different() && rule.first_unknown(domains.len()).is_none()");
+    match rule {
+        Rule::Sum(_) => None,
+        Rule::Shifted { x: _, y: _, by: _ } => None,
+        Rule::AtMost { x: _, y: _, by: _ } => None,
+        Rule::Differs { x, y, by } => lost_of_differing(domains, *x, *y, by),
+    }
+}
+
+/// Returns the variable and the number that a `Differs` takes, where one of the two is a single number, and forbids
+/// that one of several of the other.
+#[inline]
+fn lost_of_differing<B: Width>(
+    domains: &[IntervalSet<B>],
+    x: usize,
+    y: usize,
+    by: &i64,
+) -> Option<(usize, B)> {
+    if let Some(value) = forbidden(&domains[x], &domains[y], shift_back_of(by)) {
+        return Some((x, value));
+    }
+    match forbidden(&domains[y], &domains[x], shift_of(by)) {
+        Some(value) => Some((y, value)),
+        None => None,
+    }
+}
+
+/// Returns the number that the one of `y` and `by` make, where `x` has it and others.
+#[inline]
+fn forbidden<B: Width>(x: &IntervalSet<B>, y: &IntervalSet<B>, by: i128) -> Option<B> {
+    x.in_whole();
+    y.in_whole();
+    if !y.is_singleton() || x.is_singleton() {
+        return None;
+    }
+    let value = B::from_number(y.lower().number() + by)?;
+    if x.contains(&value) {
+        Some(value)
+    } else {
+        None
     }
 }
 

@@ -6,7 +6,8 @@ use crate::rattle::prelude::*;
 use crate::proved::intervallum::interval::Interval;
 use crate::proved::intervallum::interval_set::IntervalSet;
 use crate::proved::intervallum::ops::{
-    Bounded, Cardinality, Contains, Difference, Empty, Intersection, IsEmpty, Range, Singleton,
+    Bounded, Cardinality, Contains, Difference, Empty, Intersection, IsEmpty, IsSingleton, Range,
+    Singleton,
 };
 use crate::proved::intervallum::sweep::coalesce;
 use crate::proved::intervallum::width::Width;
@@ -94,6 +95,9 @@ pub(super) fn narrowed_without<B: Width>(
     };
     if !x.contains(&value) {
         return Ok(None);
+    }
+    if x.is_singleton() {
+        return Ok(Some(IntervalSet::empty(x.allocator())));
     }
     let single = Interval::singleton(value);
     Ok(Some(x.difference(&single)?))

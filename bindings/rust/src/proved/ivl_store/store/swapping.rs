@@ -4,9 +4,11 @@
 #[allow(unused_imports)]
 use crate::rattle::prelude::*;
 use super::{Store, one_if};
+use crate::proved::intervallum::interval::Interval;
 use crate::proved::intervallum::interval_set::IntervalSet;
 use crate::proved::intervallum::ops::IsEmpty;
 use crate::proved::intervallum::width::Width;
+use crate::rattle::std::alloc::AllocError;
 use crate::rattle::std::mem;
 
 impl<B: Width> Store<B> {
@@ -79,6 +81,45 @@ impl<B: Width> Store<B> {
         let is = one_if(set.is_empty());
         self.empties = self.empties - was + is;
         mem::replace(&mut self.domains[i], set)
+    }
+
+    /// Takes the members of an interval out of a domain. Nothing changes if there is no such variable. Costs what
+    /// [`IntervalSet::remove_interval`] costs, and a look at how many domains are empty.
+    ///
+    /// # Errors
+    ///
+    /// Fails only if allocation fails. The store is unchanged after an error.
+    ///
+    /// ```
+    /// use intervallum::proved::examples::*;
+    ///
+    /// fn main() -> Result<(), std::boxed::Box<dyn std::error::Error>> {
+    ///     let alloc = Global;
+    ///     let mut store: Store<i32> = Store::new(alloc, Vec::from_array(alloc, [ IntervalSet::new(alloc, 0, 9)?])?);
+    ///     store.take_out(0, Interval::new(3, 20))?;
+    ///     assert!(store.domains()[0] == IntervalSet::new(alloc, 0, 2)?);
+    ///     Ok(())
+    /// }
+    /// ```
+    ///
+    /// # Proved
+    ///
+    /// ```text
+    /// ensures taken { OnOk result ((j : ℕ) (v : ℤ) → set_at self.new j v ↔ (set_at self.old j v × (j ≡ i → ¬ (IsBetween interval v)))) }
+    /// ensures back { slice_set self.new i (slice_index_or self.old i []) ≡ self.old }
+    /// ensures refused { OnErr result (self.new ≡ self.old) }
+    /// ```
+    ///
+    /// Words: [`set_at`](crate::definitions#set_at), [`IsBetween`](crate::definitions#IsBetween).
+    pub fn take_out(&mut self, i: usize, interval: Interval<B>) -> Result<(), AllocError> {
+        if i >= self.domains.len() {
+            return Ok(());
+        }
+        let was = one_if(self.domains[i].is_empty());
+        self.domains[i].remove_interval(interval)?;
+        let is = one_if(self.domains[i].is_empty());
+        self.empties = self.empties - was + is;
+        Ok(())
     }
 
     /// Drops the last variable, if there is one. `O(1)`, does not allocate.
