@@ -68,6 +68,9 @@ enum Step {
 ///
 /// Variables are named by their indexes from 0. Domains only lose members. A call that fails with
 /// [`StoreFault::Variable`] leaves the network unchanged.
+///
+/// A network that narrows by `Differs` keeps some sets that it does not use any more, 64 at most, each of
+/// at most 64 runs, for their memory.
 pub struct Network<B: Width> {
     store: Store<B>,
     rules: Vec<Rule>,
