@@ -10,6 +10,7 @@ mod clone;
 mod conversions;
 mod equality;
 mod first_fit;
+mod in_place;
 mod inclusion;
 mod interval_operands;
 mod iter;
@@ -18,6 +19,7 @@ mod members;
 mod neighbours;
 mod overlaps;
 mod rank;
+mod run_edits;
 mod set_operands;
 mod split_off;
 mod text;
@@ -199,7 +201,8 @@ impl<B: Width> PagedSet<B> {
     ///
     /// # Errors
     ///
-    /// Fails only if allocation fails. The set is then unchanged.
+    /// Fails only if allocation fails, and never if the value or one beside it is a member. The set is
+    /// then unchanged.
     ///
     /// ```
     /// use intervallum::proved::examples::*;
@@ -220,9 +223,10 @@ impl<B: Width> PagedSet<B> {
     /// ensures members { OnOk result (IsRunsOf self.new (Union (Covers self.old) (Only (B.value value)))) }
     /// ensures is_new { IfOk result (λ is_new. IsTrue is_new ↔ ¬ (Covers self.old (B.value value))) }
     /// ensures err { OnErr result (self.new ≡ self.old) }
+    /// ensures in_place { HasSome (Intersection (Covers self.old) (IsBetween (widened (B.value value, B.value value)))) → IsOk result }
     /// ```
     ///
-    /// Words: [`IsBetween`](crate::definitions#IsBetween), [`IsRunsOf`](crate::definitions#IsRunsOf), [`Union`](crate::definitions#Union), [`Covers`](crate::definitions#Covers), [`Only`](crate::definitions#Only).
+    /// Words: [`IsBetween`](crate::definitions#IsBetween), [`IsRunsOf`](crate::definitions#IsRunsOf), [`Union`](crate::definitions#Union), [`Covers`](crate::definitions#Covers), [`Only`](crate::definitions#Only), [`HasSome`](crate::definitions#HasSome), [`Intersection`](crate::definitions#Intersection), [`widened`](crate::definitions#widened).
     pub fn insert(&mut self, value: B) -> Result<bool, AllocError> {
         self.in_whole();
         let was_member = self.add(Interval::singleton(value))?;
@@ -236,7 +240,8 @@ impl<B: Width> PagedSet<B> {
     ///
     /// # Errors
     ///
-    /// Fails only if allocation fails. The set is then unchanged.
+    /// Fails only if allocation fails, and never unless the numbers on both sides are members: only then
+    /// is a run split. The set is then unchanged.
     ///
     /// ```
     /// use intervallum::proved::examples::*;
@@ -256,9 +261,10 @@ impl<B: Width> PagedSet<B> {
     /// ensures members { OnOk result (IsRunsOf self.new (Without (Covers self.old) (Only (B.value value)))) }
     /// ensures was_member { IfOk result (λ was_member. IsTrue was_member ↔ Covers self.old (B.value value)) }
     /// ensures err { OnErr result (self.new ≡ self.old) }
+    /// ensures in_place { ¬ (IsSubset (IsBetween (widened (B.value value, B.value value))) (Covers self.old)) → IsOk result }
     /// ```
     ///
-    /// Words: [`IsRunsOf`](crate::definitions#IsRunsOf), [`Without`](crate::definitions#Without), [`Covers`](crate::definitions#Covers), [`Only`](crate::definitions#Only).
+    /// Words: [`IsRunsOf`](crate::definitions#IsRunsOf), [`Without`](crate::definitions#Without), [`Covers`](crate::definitions#Covers), [`Only`](crate::definitions#Only), [`IsSubset`](crate::definitions#IsSubset), [`IsBetween`](crate::definitions#IsBetween), [`widened`](crate::definitions#widened).
     pub fn remove(&mut self, value: B) -> Result<bool, AllocError> {
         self.in_whole();
         if !Interval::in_range(value, value) {
@@ -270,12 +276,14 @@ impl<B: Width> PagedSet<B> {
     /// Adds the members of an interval, which may be empty.
     ///
     /// Binary search for the `k` pages that the interval overlaps or touches. In one page, moves
-    /// its runs; of several pages only the first and the last are read, and one page takes the
-    /// place of all: `O(log n)`, and the list of pages moves.
+    /// its runs; of several pages only the first and the last are read and changed, and those between
+    /// removed: `O(log n)`, and the list of pages moves if a page goes. Allocates only if a run is added,
+    /// or to split a page that is full.
     ///
     /// # Errors
     ///
-    /// Fails only if allocation fails. The set is then unchanged.
+    /// Fails only if allocation fails, and never if the interval overlaps or touches a run. The set is
+    /// then unchanged.
     ///
     /// ```
     /// use intervallum::proved::examples::*;
@@ -295,9 +303,10 @@ impl<B: Width> PagedSet<B> {
     /// ensures ok { OnOk result (IsRunsOf self.new (Union (Covers self.old) (IsBetween interval))) }
     /// ensures err { OnErr result (self.new ≡ self.old) }
     /// ensures empty { HasNone (IsBetween interval) → IsOk result }
+    /// ensures in_place { HasSome (Intersection (Covers self.old) (IsBetween (widened interval))) → IsOk result }
     /// ```
     ///
-    /// Words: [`IsRunsOf`](crate::definitions#IsRunsOf), [`Union`](crate::definitions#Union), [`Covers`](crate::definitions#Covers), [`IsBetween`](crate::definitions#IsBetween), [`HasNone`](crate::definitions#HasNone).
+    /// Words: [`IsRunsOf`](crate::definitions#IsRunsOf), [`Union`](crate::definitions#Union), [`Covers`](crate::definitions#Covers), [`IsBetween`](crate::definitions#IsBetween), [`HasNone`](crate::definitions#HasNone), [`HasSome`](crate::definitions#HasSome), [`Intersection`](crate::definitions#Intersection), [`widened`](crate::definitions#widened).
     pub fn insert_interval(&mut self, interval: Interval<B>) -> Result<(), AllocError> {
         self.in_whole();
         if interval.is_empty() {

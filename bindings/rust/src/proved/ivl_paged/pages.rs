@@ -5,6 +5,7 @@
 use crate::rattle::prelude::*;
 use crate::proved::ivl_paged::page::Page;
 use crate::proved::ivl_paged::page_list::PageList;
+use crate::proved::ivl_paged::touched::{is_more_uncounted, one_above, touches, with_run_above};
 use crate::proved::intervallum::interval::Interval;
 use crate::proved::intervallum::interval_set::IntervalSet;
 use crate::proved::intervallum::ops::{
@@ -223,14 +224,6 @@ fn starts_from<B: Width>(pages: &PageList<B>, start: usize, value: B) -> usize {
     pages.starts_up_to(value)
 }
 
-/// The number after, or the number itself if it is the greatest of the range.
-fn one_above<B: Width>(value: B) -> B {
-    match value.checked_add(B::one()) {
-        Some(above) => above,
-        None => value,
-    }
-}
-
 /// Puts an interval into the first page of a list that has none.
 pub(crate) fn push_first<B: Width>(
     alloc: Global,
@@ -247,10 +240,6 @@ pub(crate) fn insert_interval<B: Width>(
     pages: &mut PageList<B>,
     interval: Interval<B>,
 ) -> Result<bool, AllocError> {
-    // no memory holds more runs than a `usize` counts
-    if pages.interval_count() == usize::MAX {
-        return Err(AllocError);
-    }
     interval.in_whole();
     let upper = one_above(interval.upper());
     let (start, end) = span(pages, interval.lower(), upper);
@@ -259,8 +248,9 @@ pub(crate) fn insert_interval<B: Width>(
     Ok(was_member)
 }
 
-/// Adds the members of an interval to the pages from `start` to before `end`. Returns true exactly when
-/// its first number was a member of the first of them.
+/// Adds the members of an interval to the pages from `start` to before `end`. Of several, the last one
+/// has a number that it overlaps or touches, and nothing is allocated. Returns true exactly when its
+/// first number was a member of the first of them.
 fn insert_between<B: Width>(
     pages: &mut PageList<B>,
     start: usize,
@@ -268,13 +258,47 @@ fn insert_between<B: Width>(
     interval: Interval<B>,
 ) -> Result<bool, AllocError> {
     if end - start == 1 {
-        return pages.insert_into(start, interval);
+        return insert_into_one(pages, start, interval);
     }
-    let was_member = pages.page(start).set().contains(&interval.lower());
-    let mut joined = pages.page(start).set().union(pages.page(end - 1).set())?;
-    joined.insert_interval(interval)?;
-    pages.replace(start, end, Page::of(joined));
-    Ok(was_member)
+    if touches(pages.page(start), &interval) {
+        return Ok(insert_over(pages, start, end, interval));
+    }
+    // the next page has a member, so it is touched
+    pages.head(start + 1);
+    insert_over(pages, start + 1, end, interval);
+    Ok(false)
+}
+
+/// Adds the members of an interval to page `i`. Returns true exactly when its first number was a member.
+fn insert_into_one<B: Width>(
+    pages: &mut PageList<B>,
+    i: usize,
+    interval: Interval<B>,
+) -> Result<bool, AllocError> {
+    // no memory holds more runs than a `usize` counts
+    if is_more_uncounted(pages.interval_count(), pages.page(i), &interval) {
+        return Err(AllocError);
+    }
+    pages.insert_into(i, interval)
+}
+
+/// Adds the members of an interval to the pages from `start` to before `end`, of which it touches the
+/// first and the last. The first gets it, with what it overlaps or touches of the last; the pages between
+/// go, and so does the last if nothing is left. Returns true exactly when its first number was a member
+/// of the first.
+fn insert_over<B: Width>(
+    pages: &mut PageList<B>,
+    start: usize,
+    end: usize,
+    interval: Interval<B>,
+) -> bool {
+    if end - start == 1 {
+        return insert_into_one(pages, start, interval).unwrap();
+    }
+    let whole = with_run_above(pages.page(end - 1), &interval);
+    remove_from_one(pages, end - 1, whole).unwrap();
+    pages.take_out(start + 1, end - 1);
+    insert_into_one(pages, start, whole).unwrap()
 }
 
 /// Removes the members of an interval from pages of which there is one at least. Returns true exactly
