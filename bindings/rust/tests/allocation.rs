@@ -127,7 +127,7 @@ type Paged = PagedSet<i32>;
 type PagedEdit = fn(&mut Paged) -> Result<(), AllocError>;
 
 // Of pages: a run more, which splits a page of 127; runs split; pages joined and removed.
-const PAGED_EDITS: [(&str, PagedEdit); 17] = [
+const PAGED_EDITS: [(&str, PagedEdit); 26] = [
     ("insert", |a| a.insert(4).map(drop)),
     ("insert above all", |a| a.insert(100_000).map(drop)),
     ("insert_interval", |a| a.insert_interval(Interval::new(4, 6))),
@@ -142,6 +142,15 @@ const PAGED_EDITS: [(&str, PagedEdit); 17] = [
     ("difference", |a| a.difference(&others_of(a)?).map(|same| *a = same)),
     ("symmetric_difference", |a| a.symmetric_difference(&others_of(a)?).map(|all| *a = all)),
     ("intersection", |a| a.intersection(&a.to_set()?).map(|same| *a = same)),
+    ("union_with", |a| a.union_with(&others_of(a)?)),
+    ("union_with_list", |a| a.union_with_list(&others_of(a)?.to_set()?)),
+    ("union_with few", |a| a.union_with(&few(&[(-9, -9), (-5, -5), (4, 6), (16, 80), (99_990, 100_010), (400_000, 400_001)])?)),
+    ("difference_with", |a| a.difference_with(&others_of(a)?)),
+    ("difference_with_list", |a| a.difference_with_list(&others_of(a)?.to_set()?)),
+    ("difference_with few", |a| a.difference_with(&few(&[(1, 1), (10, 10), (19, 19), (28, 900), (1405, 1405)])?)),
+    ("intersect_with", |a| a.intersect_with(&others_of(a)?)),
+    ("intersect_with_list", |a| a.intersect_with_list(&a.to_set()?)),
+    ("intersect_with few", |a| a.intersect_with(&few(&[(1, 1), (10, 10), (28, 900), (1405, 1405)])?)),
     ("gaps_within", |a| a.gaps_within(&Interval::new(5, 900)).map(drop)),
     ("split_off", |a| a.split_off(900).map(drop)),
     ("into_set and from_set", |a| a.try_clone()?.into_set().and_then(Paged::from_set).map(|same| *a = same)),
@@ -152,6 +161,10 @@ fn others_of(a: &Paged) -> Result<Paged, AllocError> {
     let mut others = a.complement()?;
     others.remove_interval(Interval::new(150_000, 250_000))?;
     Ok(others)
+}
+
+fn few(runs: &[(i32, i32)]) -> Result<Paged, AllocError> {
+    Paged::from_set(runs.to_interval_set(Global)?)
 }
 
 fn is_same(a: &Paged, b: &Paged) -> bool {

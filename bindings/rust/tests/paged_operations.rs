@@ -159,3 +159,36 @@ fn an_answer_takes_edits() {
         assert!(joined.paged.to_set().unwrap() == joined.list);
     }
 }
+
+/// About `count` short runs in a sample, some of which touch its runs and some split them.
+fn few_in(random: &mut Random, sample: &Sample, count: u64) -> Sample {
+    let ends: Vec<u16> = runs(&sample.model).iter().flat_map(|run| [run.0, run.1]).collect();
+    let mut model = Model::new();
+    for _ in 0..count {
+        let near = ends.get(random.below(1 + ends.len() as u64) as usize).map_or(random.below(65_000), |end| u64::from(*end));
+        let lower = (near + random.below(5)).saturating_sub(2).min(65_534) as u16;
+        let most = if random.below(8) == 0 { 3_000 } else { 4 };
+        model.extend(lower..=lower.saturating_add(random.below(most) as u16).min(65_534));
+    }
+    Sample::of(model)
+}
+
+#[test]
+fn changes_in_place_as_a_btree_set_has_them() {
+    let mut random = Random(7);
+    for step in 0..STEPS / 20 {
+        let mut a = if step % 2 == 0 { sample(&mut random) } else { Sample::random(&mut random, 3_000, 0, 6) };
+        a.edit(&mut random);
+        let count = [0, 1, 3, 40, 300][random.below(5) as usize];
+        let b = if step % 3 == 0 { sample(&mut random) } else { few_in(&mut random, &a, count) };
+        let (mut paged, mut with_list) = (a.paged.try_clone().unwrap(), a.paged.try_clone().unwrap());
+        let (changed, model) = match random.below(3) {
+            0 => (paged.union_with(&b.paged).and(with_list.union_with_list(&b.list)), &a.model | &b.model),
+            1 => (paged.intersect_with(&b.paged).and(with_list.intersect_with_list(&b.list)), &a.model & &b.model),
+            _ => (paged.difference_with(&b.paged).and(with_list.difference_with_list(&b.list)), &a.model - &b.model),
+        };
+        changed.unwrap();
+        same(&paged, &model);
+        same(&with_list, &model);
+    }
+}

@@ -15,3 +15,4 @@ pub mod Meeting
 pub mod Shortest
 pub mod MembersInPages
 pub mod Dividing
+pub mod InPlace

@@ -5,7 +5,7 @@
 //! one page. To contracts both are the same list of maximal runs.
 //!
 //! A [`PagedSet`] has edits, queries by value, by rank, by room and within a window, inclusion, the set
-//! operations, equality, text and the runs. For what only an `IntervalSet` has, convert by `to_set`, and
+//! operations (as new sets and in place), equality, text and the runs. For what only an `IntervalSet` has, convert by `to_set`, and
 //! back by `of_set`. Pages are split when they are full, joined with a neighbour when both have few runs,
 //! and removed when they are empty.
 //!

@@ -22,7 +22,7 @@ pub(crate) fn one_above<B: Width>(value: B) -> B
 }
 
 /// The number before, or the number itself if it is the least of the range.
-fn one_below<B: Width>(value: B) -> B
+pub(crate) fn one_below<B: Width>(value: B) -> B
     requires { IsBetween B.whole (B.value value) }
     ensures { (B.value result ≡ B.value value -ℤ pos 1) ⊎ ((B.value result ≡ B.value value) × (B.value value ≡ B.whole.0)) }
 {

@@ -66,6 +66,12 @@ pub(super) trait Proved<T: Width>: Sized {
     /// What an operation makes of the set and another one.
     fn combined(&self, other: &impl Operand<T>, op: Operation) -> Result<Self, AllocError>;
 
+    /// Puts what an operation makes of the set and another one in its place.
+    fn change(&mut self, other: &impl Operand<T>, op: Operation) -> Result<(), AllocError> {
+        *self = self.combined(other, op)?;
+        Ok(())
+    }
+
     /// The numbers within the limits that are not members.
     fn others(&self) -> Result<Self, AllocError>;
 
@@ -130,6 +136,22 @@ impl<T: Width> Proved<T> for ProvedPagedSet<T> {
         match other.paged() {
             Some(other) => by_name!(op, self, other),
             None => by_name!(op, self, &*other.list()),
+        }
+    }
+
+    // in place, if the other set has far fewer runs
+    fn change(&mut self, other: &impl Operand<T>, op: Operation) -> Result<(), AllocError> {
+        match (op, other.paged()) {
+            (Operation::Union, Some(pages)) => self.union_with(pages),
+            (Operation::Union, None) => self.union_with_list(&other.list()),
+            (Operation::Intersection, Some(pages)) => self.intersect_with(pages),
+            (Operation::Intersection, None) => self.intersect_with_list(&other.list()),
+            (Operation::Difference, Some(pages)) => self.difference_with(pages),
+            (Operation::Difference, None) => self.difference_with_list(&other.list()),
+            (Operation::SymmetricDifference, _) => {
+                *self = self.combined(other, op)?;
+                Ok(())
+            }
         }
     }
 

@@ -1,4 +1,5 @@
 //! Operators: `|`, `&`, `^` and `!` of sets, and the arithmetic `+`, `-` and `*` of their members.
+use super::below::{Operation, Proved as _};
 use super::conditions::{Told, broken, memory, numbers_between, unless_broken, within_range};
 use super::{AnySet, IntervalSet, PagedSet};
 use crate::proved::{ops::Fits, width::Width};
@@ -101,11 +102,11 @@ macro_rules! set_operator {
 
 /// Edits a set by one of few runs in place.
 macro_rules! changes {
-    ($Set:ident) => {
+    ($Set:ident $most_edits:expr) => {
         impl<T: Width> $Set<T> {
             /// Returns true if edits by the runs of another set are less work than one pass over both.
             fn is_far_longer(&self, other: &impl AnySet<T>) -> bool {
-                other.run_count() <= MOST_EDITS && other.run_count().saturating_mul(MUCH) <= self.interval_count()
+                other.run_count() <= $most_edits && other.run_count().saturating_mul(MUCH) <= self.interval_count()
             }
 
             /// Adds the members of another set.
@@ -116,18 +117,18 @@ macro_rules! changes {
                         false
                     });
                 } else {
-                    *self = self.union(other);
+                    memory(self.edited().change(other, Operation::Union));
                 }
             }
 
             /// Removes what is not in another set.
             fn intersect(&mut self, other: &impl AnySet<T>) {
-                *self = self.intersection(other);
+                memory(self.edited().change(other, Operation::Intersection));
             }
 
             /// Removes what is in another set, and adds what is in it alone.
             fn differ(&mut self, other: &impl AnySet<T>) {
-                *self = self.symmetric_difference(other);
+                memory(self.edited().change(other, Operation::SymmetricDifference));
             }
         }
 
@@ -155,8 +156,9 @@ macro_rules! changes {
 const MUCH: usize = 16;
 const MOST_EDITS: usize = 16;
 
-changes!(IntervalSet);
-changes!(PagedSet);
+changes!(IntervalSet MOST_EDITS);
+// its own calls choose
+changes!(PagedSet 0);
 
 /// The arithmetic of members: the conditions, the checked forms, and the operators.
 macro_rules! arithmetic {

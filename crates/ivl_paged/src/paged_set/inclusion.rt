@@ -28,7 +28,8 @@ impl<B: Width> Subset for PagedSet<B> {
 
 impl<B: Width> PagedSet<B> {
     /// Returns true exactly when each member of `other` is a member, so always if `other` is empty.
-    /// Costs as much as `other.is_subset`: `O(n + m)`. Does not allocate.
+    /// Costs as much as `other.is_subset`: `O(n + m)`, or `O(k log n)` if `other` has only `k` runs, far
+    /// fewer (a 16th). Does not allocate.
     ///
     /// ```
     /// let a = PagedSet::of_set(&IntervalSet::new(alloc, 0, 10)?)?;
@@ -42,7 +43,8 @@ impl<B: Width> PagedSet<B> {
     }
 
     /// Returns true exactly when each member is a member of `list`, whose runs stand in one list.
-    /// Costs as much as with another set in pages: `O(n + m)`. Does not allocate.
+    /// Costs as much as with another set in pages: `O(n + m)`, or `O(k log m)` if the set has only `k`
+    /// runs, far fewer (a 16th). Does not allocate.
     ///
     /// ```
     /// let a = PagedSet::of_set(&IntervalSet::new(alloc, 1, 2)?)?;
@@ -56,7 +58,8 @@ impl<B: Width> PagedSet<B> {
     }
 
     /// Returns true exactly when each member of `list`, whose runs stand in one list, is a member.
-    /// Costs as much as with another set in pages: `O(n + m)`. Does not allocate.
+    /// Costs as much as with another set in pages: `O(n + m)`, or `O(k log n)` if the list has only `k`
+    /// runs, far fewer (a 16th). Does not allocate.
     ///
     /// ```
     /// let a = PagedSet::of_set(&IntervalSet::new(alloc, 0, 10)?)?;

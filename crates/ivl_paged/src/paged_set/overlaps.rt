@@ -36,7 +36,8 @@ impl<B: Width> Disjoint<IntervalSet<B>> for PagedSet<B> {
     ghost other_members = { Covers };
 
     /// Returns true exactly when no number is a member of both. Costs as much as with another set in
-    /// pages: `O(n + m)`. Does not allocate.
+    /// pages: `O(n + m)`, or `O(k log n)` if one of both has only `k` runs, far fewer (a 16th). Does not
+    /// allocate.
     ///
     /// ```
     /// let a = PagedSet::of_set(&IntervalSet::new(alloc, 1, 2)?)?;
@@ -77,7 +78,8 @@ impl<B: Width> Overlap<IntervalSet<B>> for PagedSet<B> {
     ghost other_members = { Covers };
 
     /// Returns true exactly when some number is a member of both. Costs as much as with another set in
-    /// pages: `O(n + m)`. Does not allocate.
+    /// pages: `O(n + m)`, or `O(k log n)` if one of both has only `k` runs, far fewer (a 16th). Does not
+    /// allocate.
     ///
     /// ```
     /// let a = PagedSet::of_set(&IntervalSet::new(alloc, 1, 2)?)?;

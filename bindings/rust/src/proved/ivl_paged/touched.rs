@@ -17,7 +17,7 @@ pub(crate) fn one_above<B: Width>(value: B) -> B {
 }
 
 /// The number before, or the number itself if it is the least of the range.
-fn one_below<B: Width>(value: B) -> B {
+pub(crate) fn one_below<B: Width>(value: B) -> B {
     match value.checked_sub(B::one()) {
         Some(below) => below,
         None => value,

@@ -56,7 +56,8 @@ impl<B: Width> Disjoint<PagedSet<B>> for PagedSet<B> {
 /// Words: [`Covers`](crate::definitions#Covers).
 impl<B: Width> Disjoint<IntervalSet<B>> for PagedSet<B> {
     /// Returns true exactly when no number is a member of both. Costs as much as with another set in
-    /// pages: `O(n + m)`. Does not allocate.
+    /// pages: `O(n + m)`, or `O(k log n)` if one of both has only `k` runs, far fewer (a 16th). Does not
+    /// allocate.
     ///
     /// ```
     /// use intervallum::proved::examples::*;
@@ -129,7 +130,8 @@ impl<B: Width> Overlap<PagedSet<B>> for PagedSet<B> {
 /// Words: [`Covers`](crate::definitions#Covers).
 impl<B: Width> Overlap<IntervalSet<B>> for PagedSet<B> {
     /// Returns true exactly when some number is a member of both. Costs as much as with another set in
-    /// pages: `O(n + m)`. Does not allocate.
+    /// pages: `O(n + m)`, or `O(k log n)` if one of both has only `k` runs, far fewer (a 16th). Does not
+    /// allocate.
     ///
     /// ```
     /// use intervallum::proved::examples::*;
