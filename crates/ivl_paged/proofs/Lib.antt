@@ -14,3 +14,4 @@ pub mod Meeting
 pub mod Shortest
 pub mod MembersInPages
 pub mod Dividing
+pub mod Bounding

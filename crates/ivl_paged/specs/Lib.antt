@@ -2,3 +2,4 @@ pub mod Pages
 pub mod Operations
 pub mod Parts
 pub mod Walks
+pub mod Longests
