@@ -3,7 +3,6 @@ use Rattle.std.proofs.Common.{◌≡◌, ◌⊎◌, ⊎_elim, inl, inr, ℕ, zer
 use Rattle.std.specs.Prelude.{All, MatchOption, Option, max, min, replicate}
 use Rattle.std.proofs.lemmas.List.{drop-drop, get_or_default, get_or-append_right, get_or-replicate, get_or-drop, get_or-set_same, get_or-take, get_or_append_left, length-drop, length-replicate, length-set, length-take, replicate-append-replicate, take_rest}
 use Rattle.std.proofs.lemmas.List.Elements.{All-more}
-use Rattle.ivl_laws.specs.Families.{set_at}
 use Rattle.ivl_laws.specs.Runs.{Covers}
 use Rattle.ivl_laws.proofs.Merging.{covers-append_left, covers-append_right}
 use Rattle.intervallum.specs.FirstFit.{FitsAt}

@@ -1,5 +1,4 @@
-use Rattle.std.proofs.Common.{◌≡◌, ◌+◌, ◌<◌, length, get_or, take, arith}
-use Rattle.ivl_paged.specs.Longests.{total}
+use Rattle.std.proofs.Common.{arith}
 use Rattle.ivl_paged.proofs.Bounding.{group_found, group_there, total_more}
 use Rattle.ivl_paged.proofs.longests.find.Goals as goal
 

@@ -1,4 +1,4 @@
-use Rattle.std.proofs.Common.{◌≤◌, arith}
+use Rattle.std.proofs.Common.{arith}
 use Rattle.intervallum.proofs.FirstFit.{at_least_by_count, below_by_count}
 use Rattle.ivl_paged.proofs.longests.greater.Goals as goal
 

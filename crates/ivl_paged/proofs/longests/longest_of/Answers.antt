@@ -1,4 +1,3 @@
-use Rattle.std.proofs.Common.{arith}
 use Rattle.ivl_paged.proofs.Bounding.{short_all, short_next, short_none}
 use Rattle.ivl_paged.proofs.longests.longest_of.Goals as goal
 

@@ -1,4 +1,4 @@
-use Rattle.std.proofs.Common.{◌∙◌, ◌++◌, ◌∷◌, [], ◌-◌, List, ap, arith}
+use Rattle.std.proofs.Common.{◌∙◌, ◌++◌, ◌∷◌, [], ◌-◌, ap, arith}
 use Rattle.ivl_paged.proofs.Bounding.{pushed_behind, pushed_in_last}
 use Rattle.ivl_paged.proofs.longests.Longests.push.Goals as goal
 

@@ -1,4 +1,4 @@
-use Rattle.std.proofs.Common.{◌∙◌, ap, length, arith}
+use Rattle.std.proofs.Common.{◌∙◌, ap, length}
 use Rattle.ivl_paged.proofs.Bounding.{length_of_cut, taken_out}
 use Rattle.ivl_paged.proofs.longests.Longests.take_out.Goals as goal
 

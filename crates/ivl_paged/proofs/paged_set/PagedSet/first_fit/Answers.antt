@@ -1,7 +1,6 @@
-use Rattle.std.proofs.Common.{◌≡◌, ℤ, List, drop, subst}
+use Rattle.std.proofs.Common.{ℤ, List, subst}
 use Rattle.ivl_laws.specs.Runs.{Covers}
 use Rattle.intervallum.proofs.FirstFit.{IsFitOf}
-use Rattle.ivl_paged.specs.Pages.{flattened}
 use Rattle.ivl_paged.proofs.paged_set.PagedSet.first_fit.Goals as goal
 
 pub returns : goal.returns
