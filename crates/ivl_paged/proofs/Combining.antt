@@ -269,3 +269,11 @@ less_left l u n end o lt e =
     let all = width_of-filled (l, end) (omega (arith, ints, o, lt)) in
     let rest = width_of-filled (n, end) (omega (arith, ints, lt, e)) in
     omega (arith, ints, all, rest, o, e)
+
+-- ---- before the first window
+
+pub nothing_below : (S : ℤ → Type 0) (whole : ℤ × ℤ) (v : ℤ) → v ≡ whole.0 → IsSubset S (IsBetween whole) → IsRunsOf [] (Below v S)
+nothing_below S whole v e within = record {
+  maximal = tt;
+  members = λ z. ((λ a. absurd a), (λ b. let low = (within z b.0).0 in let up = b.1 in absurd (omega (arith, ints, e, low, up))));
+}

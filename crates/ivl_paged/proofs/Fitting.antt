@@ -2,7 +2,7 @@
 use Rattle.std.proofs.Common.{◌≡◌, ◌⊎◌, ⊎_elim, inl, inr, ℕ, zero, suc, ◌+◌, ◌-◌, ◌<◌, ◌≤◌, ℤ, pos, ◌+ℤ◌, ◌-ℤ◌, ◌≤ℤ◌, Bool, true, false, cond, List, [], ◌∷◌, ◌++◌, length, length-drop, get_or, take, take_all, drop, Some, None, refl, sym, ap, subst, ◌∙◌, arith}
 use Rattle.std.specs.Prelude.{Option, MatchOption}
 use Rattle.std.proofs.lemmas.Int.{ints, by_lt_z}
-use Rattle.std.proofs.lemmas.List.{drop_more}
+use Rattle.std.proofs.lemmas.List.{drop_more, get_or-drop}
 use Rattle.ivl_laws.specs.Bounds.{width_of}
 use Rattle.ivl_laws.specs.Counts.{IsIn}
 use Rattle.ivl_laws.specs.Sets.{AtLeast, IsBetween, IsSubset, SameMembers, Union}
@@ -16,6 +16,7 @@ use Rattle.intervallum.specs.Neighbours.{IsRunWith}
 use Rattle.intervallum.specs.FirstFit.{FitsAt, IsFirstFit}
 use Rattle.intervallum.proofs.FirstFit.{IsFitOf, fit_of_members, fit_of_same, in_one_run}
 use Rattle.intervallum.proofs.Ranks.{more_is, none_taken}
+use Rattle.ivl_paged.specs.Longests.{HasLong, IsNextLong}
 use Rattle.ivl_paged.specs.Pages.{IsLongest, StartsUpTo, flattened}
 use Rattle.ivl_paged.proofs.Paging.{IsMaximal-dropped, covers_dropped, covers_taken, cut_at, ends_below, order_of, parts_apart, taken_covers}
 
@@ -24,7 +25,7 @@ use Rattle.ivl_paged.proofs.Paging.{IsMaximal-dropped, covers_dropped, covers_ta
 none_fit : (S : ℤ → Type 0) (v : ℤ) → FitsAt 0 S v
 none_fit S v z b = let low = b.0 in let high = b.1 in absurd (omega (arith, ints))
 
-fewer_fit : (m n : ℕ) (S : ℤ → Type 0) (v : ℤ) → m ≤ n → FitsAt n S v → FitsAt m S v
+pub fewer_fit : (m n : ℕ) (S : ℤ → Type 0) (v : ℤ) → m ≤ n → FitsAt n S v → FitsAt m S v
 fewer_fit m n S v h f z b = let low = b.0 in let high = b.1 in f z (low, omega (arith, ints, high, h))
 
 pub longest_of_none : (L : List (ℤ × ℤ)) (n : ℕ) → n ≡ 0 → IsLongest n (Covers (take 0 L))
@@ -204,28 +205,60 @@ page_first P i d h = ap flattened (drop_more P i d h)
 open_page : (P : List (List (ℤ × ℤ))) (L : List (ℤ × ℤ)) (i : ℕ) → IsMaximal (flattened P) → i < length P → L ≡ get_or P i [] → IsMaximal (L ++ flattened (drop (i + 1) P))
 open_page P L i m h e = subst (λ (K : List (ℤ × ℤ)). IsMaximal (K ++ flattened (drop (i + 1) P))) (sym e) (subst IsMaximal (page_first P i [] h) (IsMaximal-dropped P i m))
 
--- page L is too short
-pub fits_past_page : (n longest : ℕ) (P : List (List (ℤ × ℤ))) (L : List (ℤ × ℤ)) (i : ℕ) → 0 < n → i < length P → IsMaximal (flattened P) → L ≡ get_or P i [] → IsLongest longest (Covers L) → longest < n →
-    FitsAsPages n P i → FitsAsPages n P (i + 1)
-fits_past_page n longest P L i some h m e most less f o k =
-    f o (subst (λ (K : List (ℤ × ℤ)). IsFitOf n (Covers K) o) (ap (λ (K : List (ℤ × ℤ)). K ++ flattened (drop (i + 1) P)) e ∙ sym (page_first P i [] h))
-    (fit_in_second n L (flattened (drop (i + 1) P)) o some (open_page P L i m h e) (λ v g. let le = most.most n v g in omega (arith, le, less)) k))
+-- page i has no room
+fits_past_page : (n : ℕ) (P : List (List (ℤ × ℤ))) (i : ℕ) → 0 < n → i < length P → IsMaximal (flattened P) → ¬ (HasLong n P i) → FitsAsPages n P i → FitsAsPages n P (i + 1)
+fits_past_page n P i some h m none f o k =
+    let L = get_or P i [] in
+    f o (subst (λ (K : List (ℤ × ℤ)). IsFitOf n (Covers K) o) (sym (page_first P i [] h))
+    (fit_in_second n L (flattened (drop (i + 1) P)) o some (open_page P L i m h refl) (λ v g. none (v, g)) k))
 
--- page L is long enough
-pub fits_in_page : (n longest : ℕ) (P : List (List (ℤ × ℤ))) (L : List (ℤ × ℤ)) (i : ℕ) (o : Option (ℤ × ℤ)) → 0 < n → i < length P → IsMaximal (flattened P) → L ≡ get_or P i [] → IsLongest longest (Covers L) → n ≤ longest →
-    IsFitOf n (Covers L) o → FitsAsPages n P i → IsFitOf n (Covers (flattened P)) o
-fits_in_page n longest P L i None some h m e most le k f = absurd (k most.fits.0 (fewer_fit n longest (Covers L) most.fits.0 le most.fits.1))
-fits_in_page n longest P L i (Some run) some h m e most le k f =
-    f (Some run) (subst (λ (K : List (ℤ × ℤ)). IsFirstFit n (Covers K) run) (ap (λ (K : List (ℤ × ℤ)). K ++ flattened (drop (i + 1) P)) e ∙ sym (page_first P i [] h))
-    (fit_in_first n L (flattened (drop (i + 1) P)) run some (open_page P L i m h e) k))
+-- no page from place `from` on to before place i has room
+fits_past_pages : (n : ℕ) (P : List (List (ℤ × ℤ))) (i : ℕ) → 0 < n → i ≤ length P → IsMaximal (flattened P) → ((k : ℕ) → k < i → ¬ (HasLong n P k)) → FitsAsPages n P i
+fits_past_pages n P zero some h m none = fits_as_all_pages n P
+fits_past_pages n P (suc i) some h m none =
+    let next : i + 1 ≡ suc i = omega arith in
+    subst (λ (j : ℕ). FitsAsPages n P j) next (fits_past_page n P i some (omega (arith, h)) m (none i (omega arith)) (fits_past_pages n P i some (omega (arith, h)) m (λ k less. none k (omega (arith, less)))))
 
-pub no_page_fits : (n : ℕ) (P : List (List (ℤ × ℤ))) (i : ℕ) → 0 < n → length P ≤ i → FitsAsPages n P i → IsFitOf n (Covers (flattened P)) None
+-- page L has room
+fits_in_page : (n : ℕ) (P : List (List (ℤ × ℤ))) (i : ℕ) (o : Option (ℤ × ℤ)) → 0 < n → i < length P → IsMaximal (flattened P) → HasLong n P i → IsFitOf n (Covers (get_or P i [])) o → FitsAsPages n P i → IsFitOf n (Covers (flattened P)) o
+fits_in_page n P i None some h m long k f = absurd (k long.0 long.1)
+fits_in_page n P i (Some run) some h m long k f =
+    let L = get_or P i [] in
+    f (Some run) (subst (λ (K : List (ℤ × ℤ)). IsFirstFit n (Covers K) run) (sym (page_first P i [] h)) (fit_in_first n L (flattened (drop (i + 1) P)) run some (open_page P L i m h refl) k))
+
+no_page_fits : (n : ℕ) (P : List (List (ℤ × ℤ))) (i : ℕ) → 0 < n → length P ≤ i → FitsAsPages n P i → IsFitOf n (Covers (flattened P)) None
 no_page_fits n P i some h f = f None (λ v g. let (k, le, c) = covers_dropped P i v (first_of n v _ some g) in beyond P k v (omega (arith, le, h)) c)
   where
     beyond : (Q : List (List (ℤ × ℤ))) (k : ℕ) (z : ℤ) → length Q ≤ k → Covers (get_or Q k []) z → ⊥
     beyond [] k z h c = c
     beyond (L ∷ Q) zero z h c = absurd (omega arith)
     beyond (L ∷ Q) (suc k) z h c = beyond Q k z (omega arith) c
+
+-- ---- the pages from place `from` on
+
+long_at : (n : ℕ) (P : List (List (ℤ × ℤ))) (i k : ℕ) → get_or (drop i P) k [] ≡ get_or P (i + k) []
+long_at n P i k = get_or-drop i P k []
+
+pub fit_of_next : (n : ℕ) (P : List (List (ℤ × ℤ))) (L : List (ℤ × ℤ)) (from i : ℕ) (o : Option (ℤ × ℤ)) → 0 < n → IsMaximal (flattened P) → IsNextLong n P from i → L ≡ get_or P i [] → IsFitOf n (Covers L) o → IsFitOf n (Covers (flattened (drop from P))) o
+fit_of_next n P L from i o some m p e k =
+    let D = drop from P in
+    let low = p.from in
+    let less = p.less in
+    let left = length-drop from P in
+    let there : from + (i - from) ≡ i = omega (arith, low) in
+    let here : get_or D (i - from) [] ≡ get_or P i [] = long_at n P from (i - from) ∙ ap (λ (j : ℕ). get_or P j []) there in
+    let long : HasLong n D (i - from) = (p.long.0, subst (λ (K : List (ℤ × ℤ)). FitsAt n (Covers K) p.long.0) (sym here) p.long.1) in
+    fits_in_page n D (i - from) o some (omega (arith, low, less, left)) (IsMaximal-dropped P from m) long (subst (λ (K : List (ℤ × ℤ)). IsFitOf n (Covers K) o) (e ∙ sym here) k)
+    (fits_past_pages n D (i - from) some (omega (arith, low, less, left)) (IsMaximal-dropped P from m)
+    (λ j lt l. p.passed (from + j) (omega arith) (omega (arith, lt, low)) (l.0, subst (λ (K : List (ℤ × ℤ)). FitsAt n (Covers K) l.0) (long_at n P from j) l.1)))
+
+pub fit_of_none : (n : ℕ) (P : List (List (ℤ × ℤ))) (from : ℕ) → 0 < n → IsMaximal (flattened P) → ((k : ℕ) → from ≤ k → k < length P → ¬ (HasLong n P k)) → IsFitOf n (Covers (flattened (drop from P))) None
+fit_of_none n P from some m none =
+    let D = drop from P in
+    let left = length-drop from P in
+    no_page_fits n D (length D) some (omega arith)
+    (fits_past_pages n D (length D) some (omega arith) (IsMaximal-dropped P from m)
+    (λ j lt l. none (from + j) (omega arith) (omega (arith, lt, left)) (l.0, subst (λ (K : List (ℤ × ℤ)). FitsAt n (Covers K) l.0) (long_at n P from j) l.1)))
 
 -- ---- the members from a number on
 

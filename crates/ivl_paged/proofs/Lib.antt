@@ -16,3 +16,4 @@ pub mod Shortest
 pub mod MembersInPages
 pub mod Dividing
 pub mod InPlace
+pub mod Bounding

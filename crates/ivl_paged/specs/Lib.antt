@@ -3,3 +3,4 @@ pub mod Operations
 pub mod Parts
 pub mod Walks
 pub mod InPlace
+pub mod Longests

@@ -17,6 +17,7 @@
 #![tactic(auto)]
 
 mod combine;
+mod longests;
 mod page;
 mod page_list;
 mod page_search;

@@ -1,12 +1,15 @@
-//! The pages of a set, in order, beside a list of their least members and the number of their runs.
-ghost use Rattle.std.specs.Prelude.{◌≡◌, ◌==◌, ◌↔◌, ◌⊎◌, ◌+◌, ◌++◌, ◌<◌, ◌≤◌, ℤ, ◌≤ℤ◌, List, [], ◌∷◌, drop, length, set, slice_index_or, take, IfOk, IsOk, IsTrue, OnErr, OnOk, false};
+//! The pages of a set, in order, beside a list of their least members, what no run of them exceeds, and the number of
+//! their runs.
+ghost use Rattle.std.specs.Prelude.{ℕ, MatchOption, ◌≡◌, ◌==◌, ◌↔◌, ◌⊎◌, ◌+◌, ◌++◌, ◌<◌, ◌≤◌, ℤ, ◌≤ℤ◌, List, [], ◌∷◌, drop, length, set, slice_index_or, take, IfOk, IsOk, IsTrue, OnErr, OnOk, false};
 ghost use Rattle.ivl_laws.specs.Families.{set_at};
 ghost use Rattle.ivl_laws.specs.Sets.{HasSome, Intersection, IsBetween, IsSubset, Only, Union, Without};
 ghost use Rattle.ivl_laws.specs.Runs.{Covers, IsMaximal, IsRunsOf};
 ghost use Rattle.intervallum.specs.Edits.{widened};
 ghost use Rattle.intervallum.specs.Neighbours.{IsLeast};
+ghost use Rattle.ivl_paged.specs.Longests.{AreBounded, HasLong, IsNextLong};
 ghost use Rattle.ivl_paged.specs.Pages.{AreHeads, StartsUpTo, flattened};
 
+use crate::longests::Longests;
 use crate::page::Page;
 use intervallum::interval::Interval;
 use intervallum::width::Width;
@@ -19,6 +22,8 @@ use std::marker::Model;
 pub(crate) struct PageList<B: Width> {
     heads: Vec<B>,
     pages: Vec<Page<B>>,
+    /// What no run of each page exceeds.
+    longests: Longests<B>,
     /// How many runs the pages have together.
     count: usize,
 }
@@ -28,7 +33,7 @@ impl<B: Width> Model for PageList<B> {
 
     ghost view = { λ l. l.pages.items };
 
-    ghost invariant = { λ l. AreHeads B.value l.heads.items l.pages.items × (l.count ≡ length (flattened l.pages.items)) };
+    ghost invariant = { λ l. (AreHeads B.value l.heads.items l.pages.items × (l.count ≡ length (flattened l.pages.items))) × AreBounded l.longests l.pages.items };
 }
 
 impl<B: Width> PageList<B> {
@@ -39,6 +44,7 @@ impl<B: Width> PageList<B> {
         PageList {
             heads: Vec::new(alloc),
             pages: Vec::new(alloc),
+            longests: Longests::new(alloc),
             count: 0,
         }
     }
@@ -50,6 +56,7 @@ impl<B: Width> PageList<B> {
         Ok(PageList {
             heads: Vec::with_capacity(alloc, capacity)?,
             pages: Vec::with_capacity(alloc, capacity)?,
+            longests: Longests::new(alloc),
             count: 0,
         })
     }
@@ -99,9 +106,11 @@ impl<B: Width> PageList<B> {
         let PageList {
             heads,
             mut pages,
+            longests,
             count: _,
         } = self;
         drop(heads);
+        drop(longests);
         pages.pop().unwrap()
     }
 
@@ -111,6 +120,23 @@ impl<B: Width> PageList<B> {
         ensures { IsLeast (B.value result) (set_at self.now i) }
     {
         self.heads[i]
+    }
+
+    /// The first page from page `from` on that has a run of `count` numbers.
+    pub(crate) fn next_with(&self, from: usize, count: B::Output) -> Option<usize>
+        ensures { MatchOption result
+            ((k : ℕ) → from ≤ k → k < length self.now → ¬ (HasLong (B.Output.size count) self.now k))
+            (IsNextLong (B.Output.size count) self.now from) }
+    {
+        let pages = self.pages.as_slice();
+        let mut place = from;
+        'groups: while let Some((start, end)) = self.longests.next_with(place, count, pages.len()) {
+            if let Some(i) = first_with(&pages[start..end], count) {
+                return Some(start + i);
+            }
+            place = end;
+        }
+        None
     }
 
     /// How many pages start at a value or below. Binary search.
@@ -148,7 +174,9 @@ impl<B: Width> PageList<B> {
             return Err(AllocError);
         };
         self.heads.reserve(1)?;
-        self.pages.push(page)?;
+        self.pages.reserve(1)?;
+        self.longests.push(page.longest())?;
+        self.pages.push_reserved(page);
         self.heads.push_reserved(head);
         self.count = count;
         Ok(())
@@ -167,6 +195,8 @@ impl<B: Width> PageList<B> {
         self.heads.insert(i + 1, head).unwrap();
         self.heads[i] = low.head();
         self.pages[i] = low;
+        let is_divided = self.longests.widen(i);
+        self.longests.settle(i, is_divided, self.pages.as_slice());
         Ok(())
     }
 
@@ -180,8 +210,11 @@ impl<B: Width> PageList<B> {
         self.take_out(start + 1, end);
         let others = self.count - self.pages[start].interval_count();
         self.count = others + page.interval_count();
+        let before = self.pages[start].longest();
+        let after = page.longest();
         self.heads[start] = page.head();
         self.pages[start] = page;
+        self.longests.raise(start, before, after);
     }
 
     /// Takes out page `i`.
@@ -192,6 +225,8 @@ impl<B: Width> PageList<B> {
         self.count -= self.pages[i].interval_count();
         self.heads.remove(i);
         self.pages.remove(i);
+        self.longests.take_out(i, i + 1);
+        self.longests.read_beside(i, self.pages.as_slice());
     }
 
     /// Takes out the pages from `start` to before `end`.
@@ -203,6 +238,8 @@ impl<B: Width> PageList<B> {
         self.count = runs_beside(&self.pages[start..end], self.count);
         drop(self.heads.drain(start..end));
         drop(self.pages.drain(start..end));
+        self.longests.take_out(start, end);
+        self.longests.read_beside(start, self.pages.as_slice());
     }
 
     /// Takes out all pages.
@@ -211,6 +248,7 @@ impl<B: Width> PageList<B> {
     {
         self.heads.clear();
         self.pages.clear();
+        self.longests.clear();
         self.count = 0;
     }
 
@@ -231,9 +269,12 @@ impl<B: Width> PageList<B> {
     {
         let page = &mut self.pages[i];
         let others = self.count - page.interval_count();
+        let before = page.longest();
         let was_member = page.insert_interval(interval)?;
+        let after = page.longest();
         self.heads[i] = page.head();
         self.count = others + page.interval_count();
+        self.longests.raise(i, before, after);
         Ok(was_member)
     }
 
@@ -258,9 +299,12 @@ impl<B: Width> PageList<B> {
         }
         let page = &mut self.pages[i];
         let others = self.count - page.interval_count();
+        let before = page.longest();
         let was_member = page.remove_interval(interval)?;
+        let after = page.longest();
         self.heads[i] = page.head();
         self.count = others + page.interval_count();
+        self.longests.lower(i, before, after, self.pages.as_slice());
         Ok(was_member)
     }
 
@@ -273,9 +317,12 @@ impl<B: Width> PageList<B> {
     {
         let page = &mut self.pages[i];
         let others = self.count - page.interval_count();
+        let before = page.longest();
         let least = page.pop_first();
+        let after = page.longest();
         self.heads[i] = page.head();
         self.count = others + page.interval_count();
+        self.longests.lower(i, before, after, self.pages.as_slice());
         least
     }
 }
@@ -299,4 +346,18 @@ fn runs_beside<B: Width>(pages: &[Page<B>], count: usize) -> usize
         others -= page.interval_count();
     }
     others
+}
+
+/// The first page that has a run of `count` numbers.
+fn first_with<B: Width>(pages: &[Page<B>], count: B::Output) -> Option<usize>
+    ensures { MatchOption result
+        ((k : ℕ) → k < length pages.now → ¬ (HasLong (B.Output.size count) pages.now k))
+        (IsNextLong (B.Output.size count) pages.now 0) }
+{
+    for i in 0..pages.len() {
+        if pages[i].longest() >= count {
+            return Some(i);
+        }
+    }
+    None
 }

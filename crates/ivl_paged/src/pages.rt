@@ -159,20 +159,20 @@ pub(crate) fn next_within<B: Width>(pages: &[Page<B>], count: usize, v: B) -> Op
     pages[count - 1].set().next_from(v)
 }
 
-/// The lowest `count` consecutive members of pages. Pages whose longest run is shorter are not read.
-pub(crate) fn fit_in<B: Width>(pages: &[Page<B>], count: B::Output) -> Option<Interval<B>>
+/// The lowest `count` consecutive members of the pages from page `place` on.
+pub(crate) fn fit_from<B: Width>(
+    pages: &PageList<B>,
+    place: usize,
+    count: B::Output,
+) -> Option<Interval<B>>
     requires above_zero { 0 < B.Output.size count }
     requires runs { IsMaximal (flattened pages.now) }
     ensures { MatchOption result
-        ((v : ℤ) → ¬ (FitsAt (B.Output.size count) (Covers (flattened pages.now)) v))
-        (IsFirstFit (B.Output.size count) (Covers (flattened pages.now))) }
+        ((v : ℤ) → ¬ (FitsAt (B.Output.size count) (Covers (flattened (drop place pages.now))) v))
+        (IsFirstFit (B.Output.size count) (Covers (flattened (drop place pages.now)))) }
 {
-    for page in pages {
-        if page.longest() >= count {
-            return page.set().first_fit(count);
-        }
-    }
-    None
+    let i = pages.next_with(place, count)?;
+    pages.page(i).set().first_fit(count)
 }
 
 /// The shortest run that has `count` numbers, the lowest of these, if one has so many. Pages whose longest

@@ -13,8 +13,8 @@ impl<B: Width> PagedSet<B> {
     /// Returns the lowest interval of exactly `count` consecutive members, or `None` if there is
     /// none. The caller must ensure that `count` is above 0. Check with `count.number() > 0`.
     ///
-    /// Reads how long the longest run of each page is, up to the first that is long enough, and
-    /// scans that page: `O(n / page)`. Does not allocate.
+    /// Passes the groups of pages where no run is so long, reads how long the longest run of each page of
+    /// the first other group is, and scans one page: `O(n / page / group)`. Does not allocate.
     ///
     /// ```
     /// let mut a: PagedSet<i32> = PagedSet::new(alloc);
@@ -29,7 +29,7 @@ impl<B: Width> PagedSet<B> {
             ((v : ℤ) → ¬ (FitsAt (B.Output.size count) (Covers self.now) v))
             (IsFirstFit (B.Output.size count) (Covers self.now)) }
     {
-        pages::fit_in(self.pages.as_slice(), count)
+        pages::fit_from(&self.pages, 0, count)
     }
 
     /// Returns the lowest interval of exactly `count` consecutive members that are all at least
@@ -37,7 +37,7 @@ impl<B: Width> PagedSet<B> {
     /// that `count` is above 0. Check with `count.number() > 0`.
     ///
     /// Finds `v` by binary search, scans its page, and goes on as [`PagedSet::first_fit`] does:
-    /// `O(n / page)`. Does not allocate.
+    /// `O(n / page / group)`. Does not allocate.
     ///
     /// ```
     /// let mut a: PagedSet<i32> = PagedSet::new(alloc);
@@ -54,7 +54,7 @@ impl<B: Width> PagedSet<B> {
         let place = self.pages.starts_up_to(v);
         match pages::fit_within(self.pages.as_slice(), place, v, count) {
             Some(run) => Some(run),
-            None => pages::fit_in(&self.pages.as_slice()[place..], count),
+            None => pages::fit_from(&self.pages, place, count),
         }
     }
 

@@ -1,8 +1,10 @@
 // Written by bindings/rust/extract from crates/ivl_paged/src/page_list.rt.
-//! The pages of a set, in order, beside a list of their least members and the number of their runs.
+//! The pages of a set, in order, beside a list of their least members, what no run of them exceeds, and the number of
+//! their runs.
 
 #[allow(unused_imports)]
 use crate::rattle::prelude::*;
+use crate::proved::ivl_paged::longests::Longests;
 use crate::proved::ivl_paged::page::Page;
 use crate::proved::intervallum::interval::Interval;
 use crate::proved::intervallum::width::Width;
@@ -13,6 +15,8 @@ use crate::rattle::std::hint::select_unpredictable;
 pub(crate) struct PageList<B: Width> {
     heads: Vec<B>,
     pages: Vec<Page<B>>,
+    /// What no run of each page exceeds.
+    longests: Longests<B>,
     /// How many runs the pages have together.
     count: usize,
 }
@@ -23,6 +27,7 @@ impl<B: Width> PageList<B> {
         PageList {
             heads: Vec::new(alloc),
             pages: Vec::new(alloc),
+            longests: Longests::new(alloc),
             count: 0,
         }
     }
@@ -32,6 +37,7 @@ impl<B: Width> PageList<B> {
         Ok(PageList {
             heads: Vec::with_capacity(alloc, capacity)?,
             pages: Vec::with_capacity(alloc, capacity)?,
+            longests: Longests::new(alloc),
             count: 0,
         })
     }
@@ -66,15 +72,30 @@ impl<B: Width> PageList<B> {
         let PageList {
             heads,
             mut pages,
+            longests,
             count: _,
         } = self;
         drop(heads);
+        drop(longests);
         pages.pop().unwrap()
     }
 
     /// The least member of page `i`.
     pub(crate) fn head(&self, i: usize) -> B {
         self.heads[i]
+    }
+
+    /// The first page from page `from` on that has a run of `count` numbers.
+    pub(crate) fn next_with(&self, from: usize, count: B::Output) -> Option<usize> {
+        let pages = self.pages.as_slice();
+        let mut place = from;
+        'groups: while let Some((start, end)) = self.longests.next_with(place, count, pages.len()) {
+            if let Some(i) = first_with(&pages[start..end], count) {
+                return Some(start + i);
+            }
+            place = end;
+        }
+        None
     }
 
     /// How many pages start at a value or below. Binary search.
@@ -106,7 +127,9 @@ impl<B: Width> PageList<B> {
             return Err(AllocError);
         };
         self.heads.reserve(1)?;
-        self.pages.push(page)?;
+        self.pages.reserve(1)?;
+        self.longests.push(page.longest())?;
+        self.pages.push_reserved(page);
         self.heads.push_reserved(head);
         self.count = count;
         Ok(())
@@ -120,6 +143,8 @@ impl<B: Width> PageList<B> {
         self.heads.insert(i + 1, head).unwrap();
         self.heads[i] = low.head();
         self.pages[i] = low;
+        let is_divided = self.longests.widen(i);
+        self.longests.settle(i, is_divided, self.pages.as_slice());
         Ok(())
     }
 
@@ -128,8 +153,11 @@ impl<B: Width> PageList<B> {
         self.take_out(start + 1, end);
         let others = self.count - self.pages[start].interval_count();
         self.count = others + page.interval_count();
+        let before = self.pages[start].longest();
+        let after = page.longest();
         self.heads[start] = page.head();
         self.pages[start] = page;
+        self.longests.raise(start, before, after);
     }
 
     /// Takes out page `i`.
@@ -137,6 +165,8 @@ impl<B: Width> PageList<B> {
         self.count -= self.pages[i].interval_count();
         self.heads.remove(i);
         self.pages.remove(i);
+        self.longests.take_out(i, i + 1);
+        self.longests.read_beside(i, self.pages.as_slice());
     }
 
     /// Takes out the pages from `start` to before `end`.
@@ -144,12 +174,15 @@ impl<B: Width> PageList<B> {
         self.count = runs_beside(&self.pages[start..end], self.count);
         drop(self.heads.drain(start..end));
         drop(self.pages.drain(start..end));
+        self.longests.take_out(start, end);
+        self.longests.read_beside(start, self.pages.as_slice());
     }
 
     /// Takes out all pages.
     pub(crate) fn clear(&mut self) {
         self.heads.clear();
         self.pages.clear();
+        self.longests.clear();
         self.count = 0;
     }
 
@@ -162,9 +195,12 @@ impl<B: Width> PageList<B> {
     ) -> Result<bool, AllocError> {
         let page = &mut self.pages[i];
         let others = self.count - page.interval_count();
+        let before = page.longest();
         let was_member = page.insert_interval(interval)?;
+        let after = page.longest();
         self.heads[i] = page.head();
         self.count = others + page.interval_count();
+        self.longests.raise(i, before, after);
         Ok(was_member)
     }
 
@@ -181,9 +217,12 @@ impl<B: Width> PageList<B> {
         }
         let page = &mut self.pages[i];
         let others = self.count - page.interval_count();
+        let before = page.longest();
         let was_member = page.remove_interval(interval)?;
+        let after = page.longest();
         self.heads[i] = page.head();
         self.count = others + page.interval_count();
+        self.longests.lower(i, before, after, self.pages.as_slice());
         Ok(was_member)
     }
 
@@ -191,9 +230,12 @@ impl<B: Width> PageList<B> {
     pub(crate) fn pop_from(&mut self, i: usize) -> B {
         let page = &mut self.pages[i];
         let others = self.count - page.interval_count();
+        let before = page.longest();
         let least = page.pop_first();
+        let after = page.longest();
         self.heads[i] = page.head();
         self.count = others + page.interval_count();
+        self.longests.lower(i, before, after, self.pages.as_slice());
         least
     }
 }
@@ -210,4 +252,14 @@ fn runs_beside<B: Width>(pages: &[Page<B>], count: usize) -> usize {
         others -= page.interval_count();
     }
     others
+}
+
+/// The first page that has a run of `count` numbers.
+fn first_with<B: Width>(pages: &[Page<B>], count: B::Output) -> Option<usize> {
+    for i in 0..pages.len() {
+        if pages[i].longest() >= count {
+            return Some(i);
+        }
+    }
+    None
 }

@@ -1,12 +1,13 @@
-use Rattle.std.proofs.Common.{⊎_elim, arith}
+use Rattle.std.proofs.Common.{⊎_elim, ℤ, List, subst, sym, arith}
 use Rattle.std.specs.Prelude.{◌≤ℤ◌, ◌<ℤ◌}
 use Rattle.std.proofs.lemmas.Int.{ints}
-use Rattle.ivl_laws.specs.Sets.{IsBetween}
-use Rattle.ivl_laws.specs.Runs.{Covers}
+use Rattle.ivl_laws.specs.Sets.{Below, IsBetween}
+use Rattle.ivl_laws.specs.Runs.{Covers, IsRunsOf}
 use Rattle.ivl_laws.proofs.Orders.{le_number, min_number, not_le_number}
 use Rattle.ivl_laws.proofs.Ranges.{IsRunListIn-runs}
+use Rattle.ivl_paged.specs.Operations.{KeptBy}
 use Rattle.ivl_paged.specs.Pages.{flattened}
-use Rattle.ivl_paged.proofs.Combining.{kept_within, less_left, piece_there, window_is_above, window_is_last, window_is_next}
+use Rattle.ivl_paged.proofs.Combining.{kept_within, less_left, nothing_below, piece_there, window_is_above, window_is_last, window_is_next}
 use Rattle.ivl_paged.proofs.Heads.{lower_of}
 use Rattle.ivl_paged.proofs.combine.combined.Goals as goal
 
@@ -72,4 +73,16 @@ windows-preserved g c =
       in_range = (omega (arith, ints, order, low, next, one), omega (arith, ints, less, next, one));
       made = window_is_next _ (flattened c.windows.pages) c.in_ok-piece.piece (v c.windows.lower) (v c.min-upper.result) c.windows.invariant.made piece (flattened c.put.new.pages) (v c.add_in_range-lower.result) order
           (omega (arith, ints, next, one)) c.in_ok-put.ensures;
+    }
+
+pub windows-init : goal.windows-init
+windows-init g c =
+    let v = g.B.Width.value c.min_value-lower.result in
+    let e = c.min_value-lower.ensures in
+    let r = g.met.B.Width.range in
+    let S = KeptBy c.args.op (Covers (g.S.Parts.runs c.args.first.now)) (Covers (g.T.Parts.runs c.args.second.now)) in
+    let none = kept_within c.args.op (Covers (g.S.Parts.runs c.args.first.now)) (Covers (g.T.Parts.runs c.args.second.now)) (IsBetween g.B.Width.whole) c.requires.first.within c.requires.second.within in
+    record {
+      in_range = (omega (arith, ints, e), let low = r.low_at_most in let high = r.high_at_least in omega (arith, ints, e, low, high));
+      made = subst (λ (P : List (List (ℤ × ℤ))). IsRunsOf (flattened P) (Below v S)) (sym c.new-pages.ensures) (nothing_below S g.B.Width.whole v e none);
     }

@@ -12,8 +12,8 @@ impl<B: Width> PagedSet<B> {
     /// Returns the lowest interval of exactly `count` consecutive members, or `None` if there is
     /// none. The caller must ensure that `count` is above 0. Check with `count.number() > 0`.
     ///
-    /// Reads how long the longest run of each page is, up to the first that is long enough, and
-    /// scans that page: `O(n / page)`. Does not allocate.
+    /// Passes the groups of pages where no run is so long, reads how long the longest run of each page of
+    /// the first other group is, and scans one page: `O(n / page / group)`. Does not allocate.
     ///
     /// ```
     /// use intervallum::proved::examples::*;
@@ -41,7 +41,7 @@ impl<B: Width> PagedSet<B> {
     /// Words: [`FitsAt`](crate::definitions#FitsAt), [`Covers`](crate::definitions#Covers), [`IsFirstFit`](crate::definitions#IsFirstFit).
     pub fn first_fit(&self, count: B::Output) -> Option<Interval<B>> {
         debug_assert!({ #[allow(unused_imports)] use crate::proved::ivl_interval::ops::*; crate::proved::ivl_interval::width::SizeNumber::number(count) > 0 }, "{}", "the condition of `first_fit` is broken: crate::proved::ivl_interval::width::SizeNumber::number(count) > 0");
-        pages::fit_in(self.pages.as_slice(), count)
+        pages::fit_from(&self.pages, 0, count)
     }
 
     /// Returns the lowest interval of exactly `count` consecutive members that are all at least
@@ -49,7 +49,7 @@ impl<B: Width> PagedSet<B> {
     /// that `count` is above 0. Check with `count.number() > 0`.
     ///
     /// Finds `v` by binary search, scans its page, and goes on as [`PagedSet::first_fit`] does:
-    /// `O(n / page)`. Does not allocate.
+    /// `O(n / page / group)`. Does not allocate.
     ///
     /// ```
     /// use intervallum::proved::examples::*;
@@ -79,7 +79,7 @@ impl<B: Width> PagedSet<B> {
         let place = self.pages.starts_up_to(v);
         match pages::fit_within(self.pages.as_slice(), place, v, count) {
             Some(run) => Some(run),
-            None => pages::fit_in(&self.pages.as_slice()[place..], count),
+            None => pages::fit_from(&self.pages, place, count),
         }
     }
 

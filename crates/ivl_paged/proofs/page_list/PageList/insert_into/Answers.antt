@@ -4,20 +4,21 @@ use Rattle.ivl_laws.specs.Runs.{Covers, IsRunsOf}
 use Rattle.intervallum.specs.Edits.{widened}
 use Rattle.intervallum.proofs.Windows.{one_more_at_most}
 use Rattle.ivl_paged.specs.Pages.{flattened}
+use Rattle.ivl_paged.proofs.Bounding.{bounded_grown, bounds_there, longest_bounded}
 use Rattle.ivl_paged.proofs.Counting.{err_is_not_ok, kept_after, lent_within}
 use Rattle.ivl_paged.proofs.Heads.{heads_there, lent_page}
 use Rattle.ivl_paged.proofs.Widening.{none_more}
 use Rattle.ivl_paged.proofs.page_list.PageList.insert_into.Goals as goal
 
 pub index_mut-requires : goal.index_mut-requires
-index_mut-requires g c = let there = heads_there g.B.Width.value c.self.inside.heads.items c.self.inside.pages.items c.args.self.now c.args.i c.self.invariant.0 c.self.view_is c.requires.less in omega (arith, there)
+index_mut-requires g c = let there = heads_there g.B.Width.value c.self.inside.heads.items c.self.inside.pages.items c.args.self.now c.args.i c.self.invariant.0.0 c.self.view_is c.requires.less in omega (arith, there)
 
 pub overflow_sub-others : goal.overflow_sub-others
-overflow_sub-others g c = lent_within g.B.Width.value c.self.inside.heads.items c.self.inside.pages.items c.args.self.now c.index_mut-page.result.now c.args.i c.self.inside.count _ c.self.invariant c.self.view_is c.requires.less c.index_mut-page.ensures.value c.interval_count.ensures.count
+overflow_sub-others g c = lent_within g.B.Width.value c.self.inside.heads.items c.self.inside.pages.items c.args.self.now c.index_mut-page.result.now c.args.i c.self.inside.count _ c.self.invariant.0 c.self.view_is c.requires.less c.index_mut-page.ensures.value c.interval_count.ensures.count
 
 pub overflow_add-self : goal.overflow_add-self
 overflow_add-self g c =
-    let within = lent_within g.B.Width.value c.self.inside.heads.items c.self.inside.pages.items c.args.self.now c.index_mut-page.result.now c.args.i c.self.inside.count _ c.self.invariant c.self.view_is c.requires.less c.index_mut-page.ensures.value c.interval_count.ensures.count in
+    let within = lent_within g.B.Width.value c.self.inside.heads.items c.self.inside.pages.items c.args.self.now c.index_mut-page.result.now c.args.i c.self.inside.count _ c.self.invariant.0 c.self.view_is c.requires.less c.index_mut-page.ensures.value c.interval_count.ensures.count in
     let view = ap (λ (Q : List (List (ℤ × ℤ))). length (flattened Q)) c.self.view_is in
     let L = c.index_mut-page.result.now in
     let made = c.in_ok-was_member.ensures.ok in
@@ -25,15 +26,17 @@ overflow_add-self g c =
     let ranges = c.self.ranges in
     ⊎_elim
     (λ room. let most = one_more_at_most L c.insert_interval.new.self c.args.interval (length L) made (omega arith) in
-    omega (arith, within, view, most, c.interval_count.ensures.count, c.interval_count-2.ensures.count, c.self.invariant.1, room))
+    omega (arith, within, view, most, c.interval_count.ensures.count, c.interval_count-2.ensures.count, c.self.invariant.0.1, room))
     (λ touched. let most = none_more L c.insert_interval.new.self c.args.interval c.interval_count.ensures.runs c.requires.filled made (subst (λ (M : List (ℤ × ℤ)). HasSome (Intersection (Covers M) (IsBetween (widened c.args.interval)))) (sym page) touched) in
     omega (arith, within, most, c.interval_count.ensures.count, c.interval_count-2.ensures.count, ranges))
     c.requires.room
 
 pub invariant_of-self-2 : goal.invariant_of-self-2
-invariant_of-self-2 g c =
-    kept_after g.B.Width.value c.self.inside.heads.items c.self.inside.pages.items c.args.self.now c.index_mut-page.result.now c.args.i c.self.inside.count _ c.self.invariant c.self.view_is c.requires.less c.index_mut-page.ensures.value c.interval_count.ensures.count
-    c.insert_interval.new.self c.head.result _ c.head.ensures c.interval_count-2.ensures.count
+invariant_of-self-2 g c = (
+  kept_after g.B.Width.value c.self.inside.heads.items c.self.inside.pages.items c.args.self.now c.index_mut-page.result.now c.args.i c.self.inside.count _ c.self.invariant.0 c.self.view_is c.requires.less c.index_mut-page.ensures.value c.interval_count.ensures.count
+      c.insert_interval.new.self c.head.result _ c.head.ensures c.interval_count-2.ensures.count,
+  bounded_grown c.self.inside.longests c.raise.new.self c.self.inside.pages.items c.args.i (g.B.Output.SizeNumber.size c.longest-after.result) c.insert_interval.new.self c.self.invariant.1 c.raise.ensures.others c.longest-after.ensures c.raise.ensures.here,
+)
 
 pub returns-clause-ok : goal.returns-clause-ok
 returns-clause-ok g c =
@@ -48,3 +51,9 @@ returns-in_err-was_member-clause-in_place g c = λ n.
     let page = lent_page c.self.inside.pages.items c.args.self.now c.index_mut-page.result.now c.args.i c.self.view_is c.requires.less c.index_mut-page.ensures.value in
     absurd (err_is_not_ok c.insert_interval.result _ c.in_err-was_member.was
     (c.insert_interval.ensures.in_place (subst (λ (L : List (ℤ × ℤ)). HasSome (Intersection (Covers L) (IsBetween (widened c.args.interval)))) (sym page) n)))
+
+pub raise-requires-clause-less : goal.raise-requires-clause-less
+raise-requires-clause-less g c = bounds_there c.self.inside.longests c.self.inside.pages.items c.args.self.now c.args.i c.self.invariant.1 c.self.view_is c.requires.less
+
+pub raise-requires-clause-bounded : goal.raise-requires-clause-bounded
+raise-requires-clause-bounded g c = longest_bounded c.self.inside.longests c.self.inside.pages.items c.args.self.now c.args.i (g.B.Output.SizeNumber.size c.longest-before.result) c.index_mut-page.result.now c.self.invariant.1 c.self.view_is c.requires.less c.index_mut-page.ensures.value c.longest-before.ensures

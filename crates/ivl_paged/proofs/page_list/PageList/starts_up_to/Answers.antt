@@ -9,7 +9,7 @@ use Rattle.ivl_paged.proofs.page_list.PageList.starts_up_to.Goals as goal
 
 pub search-init : goal.search-init
 search-init g c =
-    let same = heads_length g.B.Width.value c.self.inside.heads.items c.self.inside.pages.items c.self.invariant.0 in
+    let same = heads_length g.B.Width.value c.self.inside.heads.items c.self.inside.pages.items c.self.invariant.0.0 in
     let view = ap (λ (Q : List (List (ℤ × ℤ))). length Q) c.self.view_is in
     let heads = ap length c.as_slice-heads.ensures.value in
     (search_begins c.args.self.now (g.B.Width.value c.args.value) (length c.as_slice-heads.result.now) (omega (arith, same, view, heads)), omega (arith, same, view, heads), omega (arith, ints))
@@ -27,7 +27,7 @@ search-preserved g c =
     let less : m < length c.self.inside.pages.items = let most = inv.at_most in omega (arith, some, most, view) in
     let head : c.index-heads-first.result ≡ get_or c.self.inside.heads.items m c.index-heads-first.result = c.index-heads-first.is ∙ ap (λ H. get_or H m c.index-heads-first.result) c.as_slice-heads.ensures.value in
     let there = subst (λ (Q : List (List (ℤ × ℤ))). IsLeast (g.B.Width.value (get_or c.self.inside.heads.items m c.index-heads-first.result)) (set_at Q m)) c.self.view_is
-    (head_at g.B.Width.value c.self.inside.heads.items c.self.inside.pages.items m c.index-heads-first.result c.self.invariant.0 less) in
+    (head_at g.B.Width.value c.self.inside.heads.items c.self.inside.pages.items m c.index-heads-first.result c.self.invariant.0.0 less) in
     let here = subst (λ x. IsLeast (g.B.Width.value x) (set_at P m)) (sym head) there in (
       search_goes P v (g.B.Width.value c.index-heads-first.result) c.search.first left half c.select_unpredictable-first.result m c.le-is_up_to.result
           c.requires inv (omega (arith, some)) (omega arith) (omega arith) (omega arith) refl here

@@ -1,18 +1,11 @@
-use Rattle.std.proofs.Common.{ℤ, List, None, sym, subst, take}
+use Rattle.std.proofs.Common.{ℤ, List, None, subst, take}
 use Rattle.ivl_laws.specs.Sets.{AtLeast}
-use Rattle.ivl_laws.specs.Runs.{Covers, IsMaximal}
+use Rattle.ivl_laws.specs.Runs.{Covers}
 use Rattle.intervallum.specs.FirstFit.{IsFirstFit}
 use Rattle.intervallum.proofs.FirstFit.{IsFitOf}
 use Rattle.ivl_paged.specs.Pages.{StartsUpTo, flattened}
-use Rattle.ivl_paged.proofs.Paging.{IsMaximal-dropped}
-use Rattle.ivl_paged.proofs.Fitting.{fit_from_above, fit_from_below, rest_of_pages}
+use Rattle.ivl_paged.proofs.Fitting.{fit_from_above, fit_from_below}
 use Rattle.ivl_paged.proofs.paged_set.PagedSet.first_fit_from.Goals as goal
-
-pub fit_in-requires-clause-runs : goal.fit_in-requires-clause-runs
-fit_in-requires-clause-runs g c =
-    let P = c.self.inside.pages in
-    let k = c.starts_up_to-place.result in
-    subst IsMaximal (sym (rest_of_pages P c.as_slice-in-None.result.now k c.as_slice-in-None.ensures.value)) (IsMaximal-dropped P k c.self.invariant.maximal)
 
 pub returns-in-Some : goal.returns-in-Some
 returns-in-Some g c =
@@ -31,6 +24,6 @@ returns-in-None g c =
     let v = g.B.Width.value c.args.v in
     let k = c.starts_up_to-place.result in
     let s : StartsUpTo P v k = c.starts_up_to-place.ensures in
-    fit_from_above n P c.args.self.now v k c.requires c.self.invariant.maximal c.self.view_is s c.fit_in.result
+    fit_from_above n P c.args.self.now v k c.requires c.self.invariant.maximal c.self.view_is s c.fit_from.result
     (subst (λ (N : List (List (ℤ × ℤ))). IsFitOf n (AtLeast v (Covers (flattened (take k N)))) None) c.as_slice.ensures.value c.in-None.ensures)
-    (subst (λ (L : List (ℤ × ℤ)). IsFitOf n (Covers L) c.fit_in.result) (rest_of_pages P c.as_slice-in-None.result.now k c.as_slice-in-None.ensures.value) c.fit_in.ensures)
+    c.fit_from.ensures

@@ -1,8 +1,10 @@
 use Rattle.std.proofs.Common.{⊎_elim, ℤ, subst}
 use Rattle.ivl_laws.specs.Sets.{AtLeast, IsBetween, SameMembers}
 use Rattle.ivl_laws.specs.Runs.{Covers}
+use Rattle.ivl_laws.proofs.Ranges.{IsRunListIn-runs}
 use Rattle.ivl_laws.proofs.SetLaws.{IsRunsOf-same}
 use Rattle.intervallum.proofs.Splitting.{cut_is_last, rest_is_below}
+use Rattle.ivl_paged.specs.Pages.{flattened}
 use Rattle.ivl_paged.proofs.paged_set.PagedSet.split_off.Goals as goal
 
 pub unwrap-requires : goal.unwrap-requires
@@ -17,3 +19,7 @@ returns-clause-below g c =
     IsRunsOf-same _ _ c.remove_interval.new.self
     (rest_is_below g.B.Width.whole c.shrink_left.result (g.B.Width.value c.args.v) (Covers c.args.self.now) cut c.in_whole.ensures.within)
     (rw c.unwrap.ensures at c.remove_interval.ensures.ok)
+
+pub invariant_of-result : goal.invariant_of-result
+invariant_of-result g c =
+    IsRunListIn-runs g.B.Width.whole (flattened c.in_ok-above.above) (AtLeast (g.B.Width.value c.args.v) (Covers (flattened c.self.inside.pages))) c.in_ok-above.ensures (λ z s. c.self.invariant.within z s.0)
