@@ -6,28 +6,28 @@ use Rattle.std.proofs.lemmas.List.Elements.{All-more}
 use Rattle.ivl_laws.specs.Runs.{Covers}
 use Rattle.ivl_laws.proofs.Merging.{covers-append_left, covers-append_right}
 use Rattle.intervallum.specs.FirstFit.{FitsAt}
-use Rattle.ivl_paged.specs.Longests.{AreAtMost, AreBounded, HasLong, IsGroup, IsNextLong, IsNextPart, NoneLonger, bounds_of, cut, total}
+use Rattle.ivl_paged.specs.Longests.{AreAtMost, AreBounded, HasLong, IsGroup, IsNextLong, IsNextPart, NoneLonger, bounds_of, cut, place_count}
 use Rattle.ivl_paged.specs.Pages.{IsLongest}
 use Rattle.ivl_paged.proofs.Fitting.{fewer_fit}
 use Rattle.ivl_paged.proofs.Paging.{order_of}
 
 -- ---- where a group is found
 
-total_all : (N : List ℕ) (g : ℕ) → length N ≤ g → total (take g N) ≡ total N
-total_all N g h = ap total (take_all g N h)
+total_all : (N : List ℕ) (g : ℕ) → length N ≤ g → place_count (take g N) ≡ place_count N
+total_all N g h = ap place_count (take_all g N h)
 
-pub group_there : (N : List ℕ) (i g left : ℕ) → i < total N → i ≡ total (take g N) + left → g < length N
+pub group_there : (N : List ℕ) (i g left : ℕ) → i < place_count N → i ≡ place_count (take g N) + left → g < length N
 group_there N i g left less is = ⊎_elim (λ lt. lt) (λ le. absurd (let e = total_all N g le in omega (arith, less, is, e))) (order_of g (length N))
 
-pub total_more : (N : List ℕ) (g : ℕ) → g < length N → total (take (g + 1) N) ≡ total (take g N) + get_or N g 0
+pub total_more : (N : List ℕ) (g : ℕ) → g < length N → place_count (take (g + 1) N) ≡ place_count (take g N) + get_or N g 0
 total_more [] g h = absurd (omega arith)
 total_more (n ∷ N) zero h = omega arith
 total_more (n ∷ N) (suc g) h =
     let more : suc g + 1 ≡ suc (g + 1) = omega arith in
     let e = total_more N g (omega (arith, h)) in
-    ap (λ (k : ℕ). total (take k (n ∷ N))) more ∙ omega (arith, e)
+    ap (λ (k : ℕ). place_count (take k (n ∷ N))) more ∙ omega (arith, e)
 
-pub group_found : (N : List ℕ) (i g left : ℕ) → i ≡ total (take g N) + left → g < length N → left < get_or N g 0 → IsGroup N i g left
+pub group_found : (N : List ℕ) (i g left : ℕ) → i ≡ place_count (take g N) + left → g < length N → left < get_or N g 0 → IsGroup N i g left
 group_found [] i g left is h less = absurd (omega (arith, h))
 group_found (n ∷ N) i zero left is h less = (omega (arith, is), less)
 group_found (n ∷ N) i (suc g) left is h less = (omega (arith, is), group_found N (i - n) g left (omega (arith, is)) (omega (arith, h)) less)
@@ -37,7 +37,7 @@ group_is_there [] i g left h = absurd h
 group_is_there (n ∷ N) i zero left h = omega arith
 group_is_there (n ∷ N) i (suc g) left h = let e = group_is_there N (i - n) g left h.1 in omega (arith, e)
 
-pub group_within : (N : List ℕ) (i g left : ℕ) → IsGroup N i g left → (left < get_or N g 0) × (left ≤ i) × ((i - left) + get_or N g 0 ≤ total N)
+pub group_within : (N : List ℕ) (i g left : ℕ) → IsGroup N i g left → (left < get_or N g 0) × (left ≤ i) × ((i - left) + get_or N g 0 ≤ place_count N)
 group_within [] i g left h = absurd h
 group_within (n ∷ N) i zero left h = let a = h.0 in let b = h.1 in (b, omega (arith, a), omega (arith, a, b))
 group_within (n ∷ N) i (suc g) left h =
@@ -48,7 +48,7 @@ group_within (n ∷ N) i (suc g) left h =
 -- ---- what the bounds are
 
 module _ {X : Type 0} (size : X → ℕ) where
-  pub length_bounds : (N : List ℕ) (M : List X) → length N ≡ length M → length (bounds_of size N M) ≡ total N
+  pub length_bounds : (N : List ℕ) (M : List X) → length N ≡ length M → length (bounds_of size N M) ≡ place_count N
   length_bounds [] M e = refl
   length_bounds (n ∷ N) [] e = absurd (omega (arith, e))
   length_bounds (n ∷ N) (x ∷ M) e =
@@ -353,11 +353,11 @@ short_all P i n h = subst (λ (Q : List (List (ℤ × ℤ))). All (λ L. NoneLon
 -- ---- a place of the bounds, as a caller sees them
 
 module _ {X : Type 0} (size : X → ℕ) (N : List ℕ) (M : List X) (A : List ℕ) (e : length N ≡ length M) (view : bounds_of size N M ≡ A) where
-  pub counted : total N ≡ length A
+  pub counted : place_count N ≡ length A
   counted = sym (length_bounds size N M e) ∙ ap length view
 
-  pub place_counted : (i : ℕ) (K : List ℕ) → i < length A → K ≡ N → i < total K
-  place_counted i K less same = let n = counted in subst (λ (J : List ℕ). i < total J) (sym same) (omega (arith, less, n))
+  pub place_counted : (i : ℕ) (K : List ℕ) → i < length A → K ≡ N → i < place_count K
+  place_counted i K less same = let n = counted in subst (λ (J : List ℕ). i < place_count J) (sym same) (omega (arith, less, n))
 
   pub has_group : (i g left : ℕ) (K : List ℕ) → K ≡ N → IsGroup K i g left → IsGroup N i g left
   has_group i g left K same h = subst (λ (J : List ℕ). IsGroup J i g left) same h
@@ -446,7 +446,7 @@ module _ {X : Type 0} (size : X → ℕ) (N N' : List ℕ) (M M' : List X) (g n 
 
 -- ---- a search among the groups
 
-pub total_part : (N : List ℕ) (g : ℕ) → g < length N → total (take g N) + get_or N g 0 ≤ total N
+pub total_part : (N : List ℕ) (g : ℕ) → g < length N → place_count (take g N) + get_or N g 0 ≤ place_count N
 total_part [] g h = absurd (omega (arith, h))
 total_part (n ∷ N) zero h = omega arith
 total_part (n ∷ N) (suc g) h = let le = total_part N g (omega (arith, h)) in omega (arith, le)
@@ -460,7 +460,7 @@ module _ {X : Type 0} (size : X → ℕ) (N : List ℕ) (M : List X) (e : length
   none_passed k a b = absurd (omega (arith, b))
 
   -- the next group has only places before, or a lower number
-  pub passed_more : (start g c : ℕ) (x : X) → g < length N → start ≡ total (take g N) → c ≡ get_or N g 0 → x ≡ get_or M g x → Passed size N M from n start → (start + c ≤ from) ⊎ (size x < n) → Passed size N M from n (start + c)
+  pub passed_more : (start g c : ℕ) (x : X) → g < length N → start ≡ place_count (take g N) → c ≡ get_or N g 0 → x ≡ get_or M g x → Passed size N M from n start → (start + c ≤ from) ⊎ (size x < n) → Passed size N M from n (start + c)
   passed_more start g c x there is here at p (inl far) k a b = absurd (omega (arith, far, a, b))
   passed_more start g c x there is here at p (inr low) k a b = ⊎_elim (λ lt. p k a lt)
       (λ le. let group = group_found N k g (k - start) (omega (arith, le, is)) there (omega (arith, le, b, here)) in
@@ -468,7 +468,7 @@ module _ {X : Type 0} (size : X → ℕ) (N : List ℕ) (M : List X) (e : length
       subst (λ (j : ℕ). j < n) (sym (same ∙ ap size (sym at))) low)
       (order_of k start)
 
-  pub next_part : (start g c a : ℕ) → g < length N → start ≡ total (take g N) → c ≡ get_or N g 0 → a ≡ max start from → from < start + c → Passed size N M from n start → IsNextPart (bounds_of size N M) from n (a, start + c)
+  pub next_part : (start g c a : ℕ) → g < length N → start ≡ place_count (take g N) → c ≡ get_or N g 0 → a ≡ max start from → from < start + c → Passed size N M from n start → IsNextPart (bounds_of size N M) from n (a, start + c)
   next_part start g c a there is here top on p = record {
     from = omega (arith, top);
     in_order = omega (arith, top, on);
@@ -477,7 +477,7 @@ module _ {X : Type 0} (size : X → ℕ) (N : List ℕ) (M : List X) (e : length
     passed = λ k low lt. p k low (omega (arith, lt, top, low));
   }
 
-  pub all_passed : (start g : ℕ) → length N ≤ g → start ≡ total (take g N) → Passed size N M from n start → (k : ℕ) → from ≤ k → k < length (bounds_of size N M) → get_or (bounds_of size N M) k 0 < n
+  pub all_passed : (start g : ℕ) → length N ≤ g → start ≡ place_count (take g N) → Passed size N M from n start → (k : ℕ) → from ≤ k → k < length (bounds_of size N M) → get_or (bounds_of size N M) k 0 < n
   all_passed start g h is p k a b = let all = total_all N g h in let many = length_bounds size N M e in p k a (omega (arith, is, all, many, b))
 
 -- ---- what a list of pages keeps of its bounds A

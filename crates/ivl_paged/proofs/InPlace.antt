@@ -3,6 +3,7 @@ use Rattle.std.proofs.Common.{◌≡◌, ◌⊎◌, ⊎_elim, inl, inr, ℕ, zer
 use Rattle.std.specs.Prelude.{All, Bool, Err, Ok, OnErr, OnOk, Result, false, is_err, true}
 use Rattle.std.proofs.lemmas.Int.{ints}
 use Rattle.std.proofs.lemmas.List.Elements.{All-append, All-get_or}
+use Rattle.std.proofs.lemmas.List.{take_more}
 use Rattle.ivl_laws.specs.Sets.{Complement, HasSome, Intersection, IsBetween, IsSubset, Union, Without}
 use Rattle.ivl_laws.specs.Runs.{Covers, IsMaximal, IsRunsOf}
 use Rattle.ivl_laws.proofs.Lengths.{decide_covers}
@@ -13,13 +14,6 @@ use Rattle.intervallum.specs.Edits.{widened}
 use Rattle.ivl_paged.specs.InPlace.{AreCut, AreTouching, IsAddedIfApart, IsRemovedIfInside}
 
 -- ---- one element more
-
-take_more : (L : List (ℤ × ℤ)) (k : ℕ) (x : ℤ × ℤ) → k < length L → x ≡ get_or L k x → take (k + 1) L ≡ take k L ++ x ∷ []
-take_more [] k x h e = absurd (omega arith)
-take_more (q ∷ L) zero x h e = ap (λ (y : ℤ × ℤ). y ∷ []) (sym e)
-take_more (q ∷ L) (suc k) x h e =
-    let n : suc k + 1 ≡ suc (k + 1) = omega arith in
-    ap (λ (n : ℕ). take n (q ∷ L)) n ∙ ap (λ (M : List (ℤ × ℤ)). q ∷ M) (take_more L k x (omega arith) e)
 
 all_more : (F : ℤ × ℤ → Type 0) (L : List (ℤ × ℤ)) (x : ℤ × ℤ) → All F L → F x → All F (L ++ x ∷ [])
 all_more F L x a f = All-append F L (x ∷ []) a (single F x f)
@@ -34,16 +28,16 @@ all_weaker F G L w a k d h = w (get_or L k d) (a k d h)
 -- x is the element at place k
 module _ (L : List (ℤ × ℤ)) (k : ℕ) (x : ℤ × ℤ) (h : k < length L) (e : x ≡ get_or L k x) where
   all_next : (F : ℤ × ℤ → Type 0) → All F (take k L) → F x → All F (take (k + 1) L)
-  all_next F a f = subst (All F) (sym (take_more L k x h e)) (all_more F (take k L) x a f)
+  all_next F a f = subst (All F) (sym (take_more L k x h ∙ ap (λ (y : ℤ × ℤ). take k L ++ y ∷ []) (sym e))) (all_more F (take k L) x a f)
 
   pub all_there : (F : ℤ × ℤ → Type 0) → All F L → F x
   all_there F a = subst F (sym e) (All-get_or F L k x h a)
 
   covers_next : (z : ℤ) → Covers (take (k + 1) L) z → Covers (take k L) z ⊎ IsBetween x z
-  covers_next z c = ⊎_elim inl (λ d. ⊎_elim inr (λ f. absurd f) d) (covers-append (take k L) (x ∷ []) z (subst (λ (M : List (ℤ × ℤ)). Covers M z) (take_more L k x h e) c))
+  covers_next z c = ⊎_elim inl (λ d. ⊎_elim inr (λ f. absurd f) d) (covers-append (take k L) (x ∷ []) z (subst (λ (M : List (ℤ × ℤ)). Covers M z) (take_more L k x h ∙ ap (λ (y : ℤ × ℤ). take k L ++ y ∷ []) (sym e)) c))
 
   next_covers : (z : ℤ) → Covers (take k L) z ⊎ IsBetween x z → Covers (take (k + 1) L) z
-  next_covers z u = subst (λ (M : List (ℤ × ℤ)). Covers M z) (sym (take_more L k x h e))
+  next_covers z u = subst (λ (M : List (ℤ × ℤ)). Covers M z) (sym (take_more L k x h ∙ ap (λ (y : ℤ × ℤ). take k L ++ y ∷ []) (sym e)))
       (⊎_elim (covers-append_left (take k L) (x ∷ []) z) (λ b. covers-append_right (take k L) (x ∷ []) z (inl b)) u)
 
   there : (z : ℤ) → IsBetween x z → Covers L z

@@ -1,5 +1,5 @@
 -- How long the runs of pages are at most, by groups of pages that stand in a row.
---     total N      the sum of the elements of N
+--     place_count N      the sum of the elements of N
 --     bounds_of size N M      the number of each element of M, as often as the element of N at its place says
 --     cut s e N      of places in groups of as many as N says, those from s to before e are taken out
 --     IsGroup N i g left      of places in groups of as many as N says, place i is in group g, and `left` places of it are before
@@ -14,9 +14,9 @@ use Rattle.ivl_laws.specs.Families.{set_at}
 use Rattle.ivl_laws.specs.Runs.{Covers}
 use Rattle.intervallum.specs.FirstFit.{FitsAt}
 
-abbrev pub total : List ℕ → ℕ
-total [] = 0
-total (n ∷ N) = n + total N
+abbrev pub place_count : List ℕ → ℕ
+place_count [] = 0
+place_count (n ∷ N) = n + place_count N
 
 abbrev pub bounds_of : {X : Type 0} → (X → ℕ) → List ℕ → List X → List ℕ
 bounds_of size [] M = []

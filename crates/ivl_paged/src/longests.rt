@@ -1,7 +1,7 @@
 //! For each page a number that no run of it exceeds, which is the same for the pages of a group.
 ghost use Rattle.std.specs.Prelude.{◌≡◌, ◌⊎◌, ℕ, ◌+◌, ◌<◌, ◌≤◌, List, [], ◌∷◌, ◌++◌, All, IsTrue, drop, false, length, take, slice_index_or, MatchOption, OnErr, OnOk};
 ghost use Rattle.ivl_laws.specs.Runs.{Covers};
-ghost use Rattle.ivl_paged.specs.Longests.{AreAtMost, AreBounded, IsGroup, IsNextPart, NoneLonger, bounds_of, cut, total};
+ghost use Rattle.ivl_paged.specs.Longests.{AreAtMost, AreBounded, IsGroup, IsNextPart, NoneLonger, bounds_of, cut, place_count};
 
 use crate::page::Page;
 use intervallum::width::{SizeNumber, Width};
@@ -191,7 +191,7 @@ fn next_group<N: SizeNumber>(
     places: usize,
 ) -> Option<(usize, usize)>
     requires same { length counts.now ≡ length mosts.now }
-    requires all { total counts.now ≡ places }
+    requires all { place_count counts.now ≡ places }
     ensures { MatchOption result
         ((k : ℕ) → from ≤ k → k < length (bounds_of N.size counts.now mosts.now) → slice_index_or (bounds_of N.size counts.now mosts.now) k 0 < N.size count)
         (IsNextPart (bounds_of N.size counts.now mosts.now) from (N.size count)) }
@@ -220,7 +220,7 @@ fn may_have<N: SizeNumber>(from: usize, end: usize, most: N, count: N) -> bool
 
 /// The group of place `i`, and how many places of it are before.
 fn find(counts: &[usize], i: usize) -> (usize, usize)
-    requires { i < total counts.now }
+    requires { i < place_count counts.now }
     ensures { IsGroup counts.now i result.0 result.1 }
 {
     let mut group = 0;

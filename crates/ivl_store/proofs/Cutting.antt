@@ -42,8 +42,3 @@ cut_there run Ls i new lt is j v = elim (cases_eq j i) [
         (λ u. subst (λ s. Covers s v) (sym there) u.0),
       ))
 ]
-
--- what holds anyway holds after an error
-pub on_err_always : {T E P : Type 0} (r : Result T E) → P → OnErr r P
-on_err_always (Ok x) p = tt
-on_err_always (Err e) p = p

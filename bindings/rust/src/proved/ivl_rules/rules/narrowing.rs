@@ -237,7 +237,7 @@ pub fn narrowed_at_places<B: Width>(
 /// ensures differs { IfSome result (λ _. needs_singles rule.now ≡ true) }
 /// ```
 ///
-/// Words: [`AreDifferent`](crate::definitions#AreDifferent), [`AllPresent`](crate::definitions#AllPresent), [`places_of`](crate::definitions#places), [`set_at`](crate::definitions#set_at), [`needs_singles`](crate::definitions#needs_singles).
+/// Words: [`AreDifferent`](crate::definitions#AreDifferent), [`AllPresent`](crate::definitions#AllPresent), [`places_of`](crate::definitions#places), [`TakesOne`](crate::definitions#TakesOne), [`set_at`](crate::definitions#set_at), [`needs_singles`](crate::definitions#needs_singles).
 pub fn lone_loss<B: Width>(domains: &[IntervalSet<B>], rule: &Rule) -> Option<(usize, B)> {
     debug_assert!({ #[allow(unused_imports)] use crate::proved::ivl_interval::ops::*; rule.is_over_different() && rule.first_unknown(domains.len()).is_none() }, "{}", "the condition of `lone_loss` is broken: rule.is_over_different() && rule.first_unknown(domains.len()).is_none()");
     match rule {

@@ -1,18 +1,22 @@
 use Rattle.std.proofs.Common.{◌≡◌, ◌∙◌, ◌↔◌, ◌<◌, List, [], ap, arith, get_or, length, set, subst, IsTrue}
-use Rattle.std.specs.Prelude.{ℤ}
+use Rattle.std.specs.Prelude.{ℤ, Result, Ok, Err, OnErr}
 use Rattle.std.proofs.lemmas.List.{get_or-set_same, get_or_default, length-set, set-get_or, set-set}
 use Rattle.ivl_laws.specs.Families.{set_at}
 use Rattle.ivl_laws.specs.Runs.{Covers, IsRunsOf}
 use Rattle.ivl_laws.specs.Sets.{IsBetween, Without}
-use Rattle.ivl_store.proofs.Cutting.{all_cut, cut_there, empties_at_most, on_err_always}
+use Rattle.ivl_store.proofs.Cutting.{all_cut, cut_there, empties_at_most}
 use Rattle.ivl_store.proofs.Empties.{empties_set}
 use Rattle.ivl_store.proofs.store.Store.take_out.Goals as goal
 
 pub returns-in_err-remove_interval-clause-refused : goal.returns-in_err-remove_interval-clause-refused
 returns-in_err-remove_interval-clause-refused g c =
     let items = c.self.inside.domains.items in
-    on_err_always c.from_residual.result
+    always c.from_residual.result
     (ap (λ s. set items c.args.i s) (c.in_err-remove_interval.ensures.err ∙ c.index_mut.ensures.value) ∙ set-get_or items c.args.i c.index_mut.result.now ∙ c.self.view_is)
+  where
+    always : {T E P : Type 0} (r : Result T E) → P → OnErr r P
+    always (Ok x) p = tt
+    always (Err e) p = p
 
 pub overflow_add-self : goal.overflow_add-self
 overflow_add-self g c =
