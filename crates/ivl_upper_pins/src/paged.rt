@@ -1,7 +1,7 @@
 //! What the calls of a paged set mean, as a caller learns it; [`run_set`](crate::run_set) has those that both kinds of set have. None of these needs a hand-written proof.
-ghost use Rattle.std.specs.Prelude.{◌≡◌, ◌↔◌, ◌⊎◌, ◌≤ℤ◌, ℤ, pos, ◌+ℤ◌, [], ◌∷◌, IfOk, IsTrue, MatchOption, OnErr, OnOk, length};
+ghost use Rattle.std.specs.Prelude.{◌≡◌, ◌↔◌, ◌⊎◌, ◌≤ℤ◌, ℤ, pos, ◌+ℤ◌, ◌-ℤ◌, [], ◌∷◌, IfOk, IsTrue, MatchOption, OnErr, OnOk, length};
 ghost use Rattle.ivl_laws.specs.Counts.{IsCountOf, IsIn};
-ghost use Rattle.ivl_laws.specs.Sets.{AtLeast, Below, HasNone, HasSome, Intersection, IsBetween, IsSubset, SameMembers, Without};
+ghost use Rattle.ivl_laws.specs.Sets.{AtLeast, Below, HasNone, HasSome, Intersection, IsBetween, IsSubset, SameMembers, Union, Without};
 ghost use Rattle.ivl_laws.specs.Runs.{Covers, IsRunsOf};
 ghost use Rattle.intervallum.specs.FirstFit.{FitsAt, IsFirstFit};
 ghost use Rattle.intervallum.specs.Fits.{IsBestFit};
@@ -32,6 +32,14 @@ pub fn cut_in_place<B: Width>(set: &mut PagedSet<B>, interval: Interval<B>)
     ensures { IsRunsOf set.new (Without (Covers set.old) (IsBetween interval)) }
 {
     set.remove_interval(interval).unwrap();
+}
+
+/// Adds an interval that begins right above a member, which cannot fail.
+pub fn grow_in_place<B: Width>(set: &mut PagedSet<B>, interval: Interval<B>)
+    requires { Covers set.old (interval.0 -ℤ pos 1) × (interval.0 ≤ℤ interval.1) }
+    ensures { IsRunsOf set.new (Union (Covers set.old) (IsBetween interval)) }
+{
+    set.insert_interval(interval).unwrap();
 }
 
 /// Takes the lowest `count` consecutive members, if `count` is tested to be above 0.

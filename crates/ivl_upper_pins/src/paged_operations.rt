@@ -1,5 +1,5 @@
 //! What the set operations of a paged set mean, as a caller learns it. None of these needs a hand-written proof.
-ghost use Rattle.std.specs.Prelude.{◌+◌, ◌≤◌, IfOk, length};
+ghost use Rattle.std.specs.Prelude.{◌≡◌, ◌+◌, ◌≤◌, IfOk, OnErr, OnOk, length};
 ghost use Rattle.ivl_laws.specs.Sets.{Complement, Intersection, SymmetricDifference, Union, Without};
 ghost use Rattle.ivl_laws.specs.Runs.{Covers, IsRunsOf};
 
@@ -85,4 +85,52 @@ pub fn in_one_list<B: Width>(a: &PagedSet<B>, b: &IntervalSet<B>) -> Result<Page
     ensures count { IfOk result (λ L. length L ≤ length a.now + length b.now) }
 {
     a.symmetric_difference(b)
+}
+
+/// Adds the members of the second set.
+pub fn gains_all<B: Width>(a: &mut PagedSet<B>, b: &PagedSet<B>) -> Result<(), AllocError>
+    ensures members { OnOk result (IsRunsOf a.new (Union (Covers a.old) (Covers b.now))) }
+    ensures err { OnErr result (a.new ≡ a.old) }
+{
+    a.union_with(b)
+}
+
+/// Adds the members of a list.
+pub fn gains_list<B: Width>(a: &mut PagedSet<B>, b: &IntervalSet<B>) -> Result<(), AllocError>
+    ensures members { OnOk result (IsRunsOf a.new (Union (Covers a.old) (Covers b.now))) }
+    ensures err { OnErr result (a.new ≡ a.old) }
+{
+    a.union_with_list(b)
+}
+
+/// Removes the members of the second set.
+pub fn loses_all<B: Width>(a: &mut PagedSet<B>, b: &PagedSet<B>) -> Result<(), AllocError>
+    ensures members { OnOk result (IsRunsOf a.new (Without (Covers a.old) (Covers b.now))) }
+    ensures err { OnErr result (a.new ≡ a.old) }
+{
+    a.difference_with(b)
+}
+
+/// Removes the members of a list.
+pub fn loses_list<B: Width>(a: &mut PagedSet<B>, b: &IntervalSet<B>) -> Result<(), AllocError>
+    ensures members { OnOk result (IsRunsOf a.new (Without (Covers a.old) (Covers b.now))) }
+    ensures err { OnErr result (a.new ≡ a.old) }
+{
+    a.difference_with_list(b)
+}
+
+/// Keeps the members of the second set.
+pub fn keeps_common<B: Width>(a: &mut PagedSet<B>, b: &PagedSet<B>) -> Result<(), AllocError>
+    ensures members { OnOk result (IsRunsOf a.new (Intersection (Covers a.old) (Covers b.now))) }
+    ensures err { OnErr result (a.new ≡ a.old) }
+{
+    a.intersect_with(b)
+}
+
+/// Keeps the members of a list.
+pub fn keeps_of_list<B: Width>(a: &mut PagedSet<B>, b: &IntervalSet<B>) -> Result<(), AllocError>
+    ensures members { OnOk result (IsRunsOf a.new (Intersection (Covers a.old) (Covers b.now))) }
+    ensures err { OnErr result (a.new ≡ a.old) }
+{
+    a.intersect_with_list(b)
 }
