@@ -144,7 +144,9 @@ const PAGED_EDITS: [(&str, PagedEdit); 26] = [
     ("intersection", |a| a.intersection(&a.to_set()?).map(|same| *a = same)),
     ("union_with", |a| a.union_with(&others_of(a)?)),
     ("union_with_list", |a| a.union_with_list(&others_of(a)?.to_set()?)),
-    ("union_with few", |a| a.union_with(&few(&[(-9, -9), (-5, -5), (4, 6), (16, 80), (99_990, 100_010), (400_000, 400_001)])?)),
+    ("union_with few", |a| {
+        a.union_with(&few(&[(-9, -9), (-5, -5), (4, 6), (16, 80), (99_990, 100_010), (400_000, 400_001)])?)
+    }),
     ("difference_with", |a| a.difference_with(&others_of(a)?)),
     ("difference_with_list", |a| a.difference_with_list(&others_of(a)?.to_set()?)),
     ("difference_with few", |a| a.difference_with(&few(&[(1, 1), (10, 10), (19, 19), (28, 900), (1405, 1405)])?)),

@@ -165,7 +165,8 @@ fn few_in(random: &mut Random, sample: &Sample, count: u64) -> Sample {
     let ends: Vec<u16> = runs(&sample.model).iter().flat_map(|run| [run.0, run.1]).collect();
     let mut model = Model::new();
     for _ in 0..count {
-        let near = ends.get(random.below(1 + ends.len() as u64) as usize).map_or(random.below(65_000), |end| u64::from(*end));
+        let near =
+            ends.get(random.below(1 + ends.len() as u64) as usize).map_or(random.below(65_000), |end| u64::from(*end));
         let lower = (near + random.below(5)).saturating_sub(2).min(65_534) as u16;
         let most = if random.below(8) == 0 { 3_000 } else { 4 };
         model.extend(lower..=lower.saturating_add(random.below(most) as u16).min(65_534));
