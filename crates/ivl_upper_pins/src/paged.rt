@@ -87,6 +87,17 @@ pub fn there_and_back<B: Width>(set: &IntervalSet<B>) -> Result<IntervalSet<B>, 
     paged.try_clone()?.to_set()
 }
 
+/// Returns the set with an interval added, which may be empty.
+pub fn with_interval<B: Width>(
+    mut set: PagedSet<B>,
+    interval: Interval<B>,
+) -> Result<PagedSet<B>, AllocError>
+    ensures { IfOk result (λ L. IsRunsOf L (Union (Covers set) (IsBetween interval))) }
+{
+    set.insert_interval(interval)?;
+    Ok(set)
+}
+
 /// Returns the set of an interval, whether it is empty or not.
 pub fn set_of_interval<B: Width>(
     alloc: Global,
@@ -94,9 +105,7 @@ pub fn set_of_interval<B: Width>(
 ) -> Result<PagedSet<B>, AllocError>
     ensures { IfOk result (λ L. IsRunsOf L (IsBetween interval)) }
 {
-    let mut set = PagedSet::new(alloc);
-    set.insert_interval(interval)?;
-    Ok(set)
+    with_interval(PagedSet::new(alloc), interval)
 }
 
 /// Returns the whole range, as one run.
