@@ -181,8 +181,12 @@ fn carry_out_one<S: Edited>(act: Act, set: &mut S, value: i64) -> Result<u64, Al
         Act::PopFirst => set.pop(),
         Act::Contains => return Ok(u64::from(set.has(value))),
         Act::FirstFit => return Ok(u64::from(set.has_room())),
-        Act::BestFit => return Ok(set.best_end(ROOM).unwrap_or(0) as u64),
-        Act::Nth => return Ok(set.nth_value(value.unsigned_abs()).unwrap_or(0) as u64),
+        Act::BestFit => return Ok(set.best_end(ROOM).unwrap_or(0).unsigned_abs()),
+        Act::Nth => return Ok(
+            set.nth_value(value.unsigned_abs())
+                .unwrap_or(0)
+                .unsigned_abs(),
+        ),
         Act::Rank => return Ok(set.count_below(value)),
     }
     Ok(0)
