@@ -1,5 +1,5 @@
 //! What narrowing leaves of a domain; `None` stands for a domain that loses no member.
-ghost use Rattle.std.specs.Prelude.{◌≡◌, ◌∷◌, [], ℤ, IfOk, None, Some, length, unwrap_or};
+ghost use Rattle.std.specs.Prelude.{◌≡◌, ◌∷◌, [], ℤ, ◌≤ℤ◌, IfOk, None, Some, length, true, unwrap_or};
 ghost use Rattle.ivl_laws.specs.Sets.{Differences, HasNone, HasSome, IsBetween, IsSubset, Only, SameMembers, Sums};
 ghost use Rattle.ivl_laws.specs.Runs.{Covers, IsRunListIn};
 ghost use Rattle.ivl_store.specs.NarrowedSets.{AreLeftAt, IsLeftOf};
@@ -83,7 +83,7 @@ pub fn narrowed_by_sum<B: Width>(
     ensures at_z { IfOk result (λ r. IsLeftOf B.whole z.now (Sums (Covers x.now) (Covers y.now)) r.2) }
 {
     if are_runs(x, y, z) {
-        return narrowed_one_by_one(x, y, z);
+        return narrowed_runs(x, y, z);
     }
     if let Some(left) = narrowed_by_words(x, y, z)? {
         return Ok(left);
@@ -92,8 +92,51 @@ pub fn narrowed_by_sum<B: Width>(
 }
 
 /// Whether each of three sets is one run, so that narrowing by bounds costs least.
-fn are_runs<B: Width>(x: &IntervalSet<B>, y: &IntervalSet<B>, z: &IntervalSet<B>) -> bool {
+fn are_runs<B: Width>(x: &IntervalSet<B>, y: &IntervalSet<B>, z: &IntervalSet<B>) -> bool
+    ensures { result ≡ true → (length x.now ≡ 1) × (length y.now ≡ 1) × (length z.now ≡ 1) }
+{
     x.interval_count() == 1 && y.interval_count() == 1 && z.interval_count() == 1
+}
+
+/// Returns what narrowing leaves at x, y and z of a sum, of which each is one run, by their bounds.
+fn narrowed_runs<B: Width>(
+    x: &IntervalSet<B>,
+    y: &IntervalSet<B>,
+    z: &IntervalSet<B>,
+) -> Result<
+    (
+        Option<IntervalSet<B>>,
+        Option<IntervalSet<B>>,
+        Option<IntervalSet<B>>,
+    ),
+    AllocError,
+>
+    requires x { length x.now ≡ 1 }
+    requires y { length y.now ≡ 1 }
+    requires z { length z.now ≡ 1 }
+    ensures at_x { IfOk result (λ r. IsLeftOf B.whole x.now (Differences (Covers z.now) (Covers y.now)) r.0) }
+    ensures at_y { IfOk result (λ r. IsLeftOf B.whole y.now (Differences (Covers z.now) (Covers x.now)) r.1) }
+    ensures at_z { IfOk result (λ r. IsLeftOf B.whole z.now (Sums (Covers x.now) (Covers y.now)) r.2) }
+{
+    let run_of_x = only_run(x);
+    let run_of_y = only_run(y);
+    let run_of_z = only_run(z);
+    let in_x = pair_in_window(run_of_z, run_of_y, Combined::Difference, run_of_x);
+    let in_y = pair_in_window(run_of_z, run_of_x, Combined::Difference, run_of_y);
+    let in_z = pair_in_window(run_of_x, run_of_y, Combined::Sum, run_of_z);
+    let left_of_x = narrowed_run(x, run_of_x, in_x)?;
+    let left_of_y = narrowed_run(y, run_of_y, in_y)?;
+    let left_of_z = narrowed_run(z, run_of_z, in_z)?;
+    Ok((left_of_x, left_of_y, left_of_z))
+}
+
+/// The run of a set that has one.
+fn only_run<B: Width>(set: &IntervalSet<B>) -> Interval<B>
+    requires { length set.now ≡ 1 }
+    ensures is { set.now ≡ result ∷ [] }
+    ensures filled { result.0 ≤ℤ result.1 }
+{
+    set.iter().as_slice()[0]
 }
 
 /// Returns what narrowing leaves at x, y and z of a sum, found for one after another.

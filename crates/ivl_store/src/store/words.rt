@@ -121,6 +121,35 @@ fn word_of_run<B: Width>(run: Interval<B>, base: i128) -> u64
     bits_between(first_place(low), last_place(high))
 }
 
+/// The word of the numbers of a run, all of which have a place.
+fn word_of_run_within<B: Width>(run: Interval<B>, base: i128) -> u64
+    requires in_range { IsInRange B.whole run }
+    requires in_order { run.0 ≤ℤ run.1 }
+    requires near { IsNear base }
+    requires first { base ≤ℤ run.0 }
+    requires last { run.1 ≤ℤ (base +ℤ pos 63) }
+    ensures { IsWordOf result base (IsBetween run) }
+{
+    let low = place_of(above(run.lower_bound(), base));
+    let high = place_of(above(run.upper_bound(), base));
+    bits_between(low, high)
+}
+
+/// The word of a set, all of whose members have a place.
+pub(super) fn word_within<B: Width>(runs: &[Interval<B>], base: i128) -> u64
+    requires runs { IsRunListIn B.whole runs.now }
+    requires near { IsNear base }
+    requires first { (v : ℤ) → Covers runs.now v → base ≤ℤ v }
+    requires last { (v : ℤ) → Covers runs.now v → v ≤ℤ (base +ℤ pos 63) }
+    ensures { IsWordOf result base (Covers runs.now) }
+{
+    let mut word = 0;
+    for run in runs {
+        word |= word_of_run_within(*run, base);
+    }
+    word
+}
+
 /// The word of a set, of its members from a base on.
 pub(super) fn word_of<B: Width>(runs: &[Interval<B>], base: i128) -> u64
     requires runs { IsRunListIn B.whole runs.now }
