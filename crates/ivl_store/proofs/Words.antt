@@ -109,6 +109,14 @@ only_bit k p h = elim (cases_lt p k) [
   ]
 ]
 
+-- and so has 1, shifted
+pub one_bit : (place p : ℕ) → place < 64 → HasBit (1 * 2 ^ place % 18446744073709551616) p ↔ (p ≡ place)
+one_bit place p low =
+    let is : 1 * 2 ^ place % 18446744073709551616 ≡ 2 ^ place = one_shl place 64 low in (
+      (λ h. only_bit place p (subst (λ n. HasBit n p) is h)),
+      (λ e. subst (λ n. HasBit n p) (sym is) (subst (λ j. HasBit (2 ^ place) j) (sym e) (bit_at-pow_same place))),
+    )
+
 module _ (y z place : ℕ) (fits-y : y < top) (fits-z : z < top) (low : place < 64) where
   abbrev met : ℕ
   met = bit_and (z / 2 ^ place) y
@@ -142,15 +150,14 @@ module _ (y z place : ℕ) (fits-y : y < top) (fits-z : z < top) (low : place < 
           ]),
         )
         | inr some ↦ (
-            let is : one ≡ 2 ^ place = some.1 ∙ one_shl place 64 low in
             let lowest = bit_at-trailing_zeros w64 met (positive met some.0) met_fits in (
               (λ h. elim (either.0 h) [
                 | inl u ↦ inl u
-                | inr u ↦ inr (only_bit place p (subst (λ n. HasBit n p) is u), trailing_zeros w64 met, (met_bits _).0 lowest.1)
+                | inr u ↦ inr ((one_bit place p low).0 (subst (λ n. HasBit n p) some.1 u), trailing_zeros w64 met, (met_bits _).0 lowest.1)
               ]),
               (λ h. elim h [
                 | inl u ↦ either.1 (inl u)
-                | inr u ↦ either.1 (inr (subst (λ n. HasBit n p) (sym is) (subst (λ j. HasBit (2 ^ place) j) (sym u.0) (bit_at-pow_same place))))
+                | inr u ↦ either.1 (inr (subst (λ n. HasBit n p) (sym some.1) ((one_bit place p low).1 u.0)))
               ]),
             ))
       ]

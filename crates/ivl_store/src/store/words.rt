@@ -28,13 +28,21 @@ fn bits_between(low: u32, high: u32) -> u64
     (u64::MAX >> (63 - high)) & (u64::MAX << low)
 }
 
+/// The word of one bit.
+fn bit(place: u32) -> u64
+    requires { place < 64 }
+    ensures { (p : ℕ) → HasBit result p ↔ (p ≡ place) }
+{
+    1 << place
+}
+
 /// The word without one of its bits.
 fn without_bit(word: u64, place: u32) -> u64
     requires { HasBit word place }
     ensures left { (p : ℕ) → HasBit result p ↔ (HasBit word p × (p ≢ place)) }
     ensures less { result < word }
 {
-    word & !bits_between(place, place)
+    word & !bit(place)
 }
 
 /// The words with what is supported by bit `place` of `x`, where `y` and `z` are the words of the other sets.
