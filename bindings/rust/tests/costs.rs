@@ -62,18 +62,18 @@ fn calls_on_lists_do_not_allocate() {
     assert_eq!(told.allocations, 0);
 }
 
-/// A paged set of `count` runs that come in no order.
-fn paged(count: u64) -> PagedSet<u64> {
+/// A paged set of `count` runs that come in no order, of numbers below twice a prime.
+fn paged(count: u64, prime: u64) -> PagedSet<u64> {
     let mut set = PagedSet::new(Global);
     for i in 0..count {
-        let _ = set.insert(2 * (i * 48_271 % 65_537)).unwrap();
+        let _ = set.insert(2 * (i * 48_271 % prime)).unwrap();
     }
     set
 }
 
 #[test]
 fn pages_are_small_and_well_filled() {
-    let (set, told) = cost(|| paged(65_536));
+    let (set, told) = cost(|| paged(65_536, 65_537));
     let runs = set.interval_count() as isize;
     assert!(runs > 65_000);
     // an edit moves a page, and so no allocation but that of the list of pages has room for many runs
@@ -81,6 +81,19 @@ fn pages_are_small_and_well_filled() {
     assert!(told.largest <= list, "{told:?}");
     // pages of one run each would hold some 100 bytes a run
     assert!(told.held <= runs * 16 * 8 / 5, "{told:?}");
+}
+
+#[test]
+fn a_million_runs_in_pages_take_half_as_much_again() {
+    let (mut set, told) = cost(|| paged(1_000_000, 1_000_003));
+    let runs = set.interval_count() as isize;
+    assert_eq!(runs, 1_000_000);
+    assert!(told.held <= runs * 16 * 3 / 2, "{told:?}");
+    // pages that are used up go soon
+    let (_, popped) = cost(|| (0..500_000).for_each(|_| assert!(set.pop_first().is_some())));
+    let left = set.interval_count() as isize;
+    assert_eq!(left, 500_000);
+    assert!(told.held + popped.held <= left * 16 * 7 / 4, "{told:?} {popped:?}");
 }
 
 #[test]
