@@ -33,7 +33,7 @@ module _ (whole : ℤ × ℤ) (L N R : List (ℤ × ℤ)) (W : ℤ × ℤ) (n mo
       (λ z. (⊎_elim (λ s. covers-append_left L N z s) (λ s. covers-append_right L N z s), (λ s. covers-append L N z s)))
       (IsCountOf-apart (Covers L) (Covers N) n more (λ z s t. let far = below z z s t in omega (arith, ints)) c k)
 
-  adds_behind : AddsPart whole L (L ++ N) R W n more greatest
+  pub adds_behind : AddsPart whole L (L ++ N) R W n more greatest
   adds_behind =
       let total = (count_is_total_width (L ++ N) (n + more) list.maximal).0 counts in
       let most = total_width-le whole (L ++ N) list.maximal list.within in

@@ -31,6 +31,7 @@ pub mod Offsets
 pub mod IntervalOperands
 pub mod Ranks
 pub mod CutRuns
+pub mod Pushing
 pub mod Lopsided
 pub mod Members
 pub mod MemberCounts

@@ -1,6 +1,6 @@
 //! What the in-place edits of a set mean, as a caller learns it: the members before and after, and
 //! that a set is unchanged after an error.
-ghost use Rattle.std.specs.Prelude.{◌≡◌, ℤ, pos, ◌+ℤ◌, ◌-ℤ◌, ◌≤ℤ◌, OnErr, OnOk};
+ghost use Rattle.std.specs.Prelude.{◌≡◌, ◌++◌, ◌∷◌, [], ℤ, pos, ◌+ℤ◌, ◌-ℤ◌, ◌≤ℤ◌, ◌<ℤ◌, OnErr, OnOk};
 ghost use Rattle.ivl_laws.specs.Sets.{IsBetween, SameMembers, Union, Without};
 ghost use Rattle.ivl_laws.specs.Runs.{Covers, IsRunsOf};
 
@@ -42,6 +42,19 @@ pub fn set_loses_interval_near<B: Width>(
     ensures err { OnErr result (set.new ≡ set.old) }
 {
     set.remove_interval_near(interval, place)
+}
+
+/// Gains a run behind its members.
+pub fn set_gains_run<B: Width>(
+    set: &mut IntervalSet<B>,
+    run: Interval<B>,
+) -> Result<(), AllocError>
+    requires filled { run.0 ≤ℤ run.1 }
+    requires apart { (v : ℤ) → Covers set.old v → (v +ℤ pos 1) <ℤ run.0 }
+    ensures runs { OnOk result (set.new ≡ set.old ++ run ∷ []) }
+    ensures err { OnErr result (set.new ≡ set.old) }
+{
+    set.push_run(run)
 }
 
 /// Becomes the copy of another set.

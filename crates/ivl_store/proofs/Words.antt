@@ -5,7 +5,7 @@ use Rattle.std.proofs.lemmas.Nat.{and_le_l, one_shl, pow_pos, shr-shr}
 use Rattle.std.proofs.lemmas.Int.{ints}
 use Rattle.std.proofs.Math.Nat.{div-le_self, le-div_iff_mul-le}
 use Rattle.std.proofs.lemmas.Nat.Bits.{bit_at-lt, bit_at-pow_other, bit_at-pow_same, bit_at-trailing_ones, bit_at-trailing_zeros, bit_at-zero, bit_at_above, bit_at_and, bit_at_cat_high, bit_at_cat_low, bit_at_mask_below, bit_at_mask_inside, bit_at_not, bit_at_ones, bit_at_ones_above, bit_at_or, ones_shl, ones_shr, same_from_bits}
-use Rattle.std.specs.Prelude.{◌^◌, min, max, Some, ℤ, pos, negsuc, ◌+ℤ◌, ◌-ℤ◌, ◌≤ℤ◌}
+use Rattle.std.specs.Prelude.{◌^◌, min, max, Some, ℤ, pos, negsuc, ◌+ℤ◌, ◌-ℤ◌, ◌≤ℤ◌, ◌<ℤ◌}
 use Rattle.std.specs.Int.{bit_at, bit_not, trailing_ones, trailing_zeros}
 use native.Mathlib.Nat.{mod-eq_of_lt}
 use mir.Syntax.{w128}
@@ -298,6 +298,12 @@ found_all x y z X Y Z f = record {
 pub lowest : (w : ℕ) → w < top → w ≢ 0 → (trailing_zeros w64 w < 64) × HasBit w (trailing_zeros w64 w)
 lowest w fits some = let h = bit_at-trailing_zeros w64 w (positive w some) fits in (h.0, h.1)
 
+pub from_lowest : (w : ℕ) → w < top → w ≢ 0 → (p : ℕ) → HasBit w p → trailing_zeros w64 w ≤ p
+from_lowest w fits some p h = elim (cases_lt p (trailing_zeros w64 w)) [
+  | inl below ↦ absurd (let none = (bit_at-trailing_zeros w64 w (positive w some) fits).2 p below in omega (arith, none, h))
+  | inr from ↦ from
+]
+
 -- the bits of a word from a place on
 pub shifted_bits : (w low p : ℕ) → HasBit (w / 2 ^ low) p ↔ HasBit w (low + p)
 shifted_bits w low p = let e = ap (λ n. n % 2) (shr-shr w low p) in ((λ h. sym e ∙ h), (λ h. e ∙ h))
@@ -323,12 +329,14 @@ module _ (w count : ℕ) (fits : w < top) (some : w ≢ 0) (not_all : w ≢ 1844
   abbrev low : ℕ
   low = trailing_zeros w64 w
 
-  rest_ones : (0 < trailing_ones w64 (w / 2 ^ low)) × (trailing_ones w64 (w / 2 ^ low) < 64) × ((p : ℕ) → p < trailing_ones w64 (w / 2 ^ low) → HasBit (w / 2 ^ low) p)
-  rest_ones = ones (w / 2 ^ low)
-      (let most = div-le_self w (2 ^ low) in
+  rest_below : w / 2 ^ low + 1 < top
+  rest_below =
+      let most = div-le_self w (2 ^ low) in
       let less : w < 18446744073709551615 = elim (cases_lt w 18446744073709551615) [ inl l ↦ l | inr from ↦ absurd (not_all (omega (arith, fits, from))) ] in
-      omega (arith, most, less))
-      ((shifted_bits w low 0).1 (subst (λ p. HasBit w p) (let e : low ≡ low + 0 = omega arith in e) (lowest w fits some).1))
+      omega (arith, most, less)
+
+  rest_ones : (0 < trailing_ones w64 (w / 2 ^ low)) × (trailing_ones w64 (w / 2 ^ low) < 64) × ((p : ℕ) → p < trailing_ones w64 (w / 2 ^ low) → HasBit (w / 2 ^ low) p)
+  rest_ones = ones (w / 2 ^ low) rest_below ((shifted_bits w low 0).1 (subst (λ p. HasBit w p) (let e : low ≡ low + 0 = omega arith in e) (lowest w fits some).1))
 
   pub some_bits : 0 < count
   some_bits = let h = rest_ones.0 in omega (arith, h, is)
@@ -337,6 +345,13 @@ module _ (w count : ℕ) (fits : w < top) (some : w ≢ 0) (not_all : w ≢ 1844
   first_bits_set p from to =
       let e : low + (p - low) ≡ p = omega (arith, from) in
       subst (λ n. HasBit w n) e ((shifted_bits w low (p - low)).0 (rest_ones.2 (p - low) (omega (arith, is, from, to, some_bits))))
+
+  pub first_bits_end : ¬ (HasBit w (low + count - 1 + 1))
+  first_bits_end h =
+      let e : low + count - 1 + 1 ≡ low + trailing_ones w64 (w / 2 ^ low) = omega (arith, is, some_bits) in
+      let none = (bit_at-trailing_ones w64 (w / 2 ^ low) rest_below).1 in
+      let one = (shifted_bits w low (trailing_ones w64 (w / 2 ^ low))).1 (subst (λ p. HasBit w p) e h) in
+      omega (arith, none, one)
 
   pub first_bits_fit : low + count - 1 < 64
   first_bits_fit = place_fits w (low + count - 1) fits (first_bits_set (low + count - 1) (omega (arith, some_bits)) (omega arith))
@@ -372,21 +387,30 @@ nat_of (negsuc n) h = absurd (omega (arith, ints))
 pub place_above : (base v : ℤ) → base ≤ℤ v → (p : ℕ) × (v ≡ base +ℤ pos p)
 place_above base v h = let d = nat_of (v -ℤ base) (omega (arith, ints)) in (d.0, let e = d.1 in omega (arith, ints))
 
--- the runs of the bits that are not left
+-- the runs of the bits that are not left, below those that are
 pub record Taken (base : ℤ) (word rest : ℕ) (L : List (ℤ × ℤ)) : Type 0 where
   pub left : (p : ℕ) → HasBit rest p → HasBit word p
+  pub apart : (p : ℕ) (v : ℤ) → HasBit rest p → Covers L v → (v +ℤ pos 1) <ℤ (base +ℤ pos p)
   pub members : (v : ℤ) → Covers L v ↔ ((p : ℕ) × HasBit word p × (¬ (HasBit rest p)) × (v ≡ base +ℤ pos p))
 
 pub taken_none : (base : ℤ) (word : ℕ) → Taken base word word []
 taken_none base word = record {
   left = λ p h. h;
+  apart = λ p v h m. absurd m;
   members = λ v. ((λ h. absurd h), (λ h. absurd (h.2 h.1)));
 }
 
 pub taken_next : (base : ℤ) (word rest rest' low high : ℕ) (L M : List (ℤ × ℤ)) → Taken base word rest L → M ≡ L ++ (base +ℤ pos low, base +ℤ pos high) ∷ []
-    → ((p : ℕ) → low ≤ p → p ≤ high → HasBit rest p) → ((p : ℕ) → HasBit rest' p ↔ (HasBit rest p × (¬ ((low ≤ p) × (p ≤ high))))) → Taken base word rest' M
-taken_next base word rest rest' low high L M t is set gone = record {
+    → ((p : ℕ) → low ≤ p → p ≤ high → HasBit rest p) → ((p : ℕ) → HasBit rest p → low ≤ p) → ¬ (HasBit rest (high + 1))
+    → ((p : ℕ) → HasBit rest' p ↔ (HasBit rest p × (¬ ((low ≤ p) × (p ≤ high))))) → Taken base word rest' M
+taken_next base word rest rest' low high L M t is set from_low ends gone = record {
   left = λ p h. t.left p ((gone p).0 h).0;
+  apart = λ p v h m.
+      let u = (gone p).0 h in
+      elim ((part_pushed L M (base +ℤ pos low, base +ℤ pos high) is v).0 m) [
+        | inl before ↦ t.apart p v u.0 before
+        | inr now ↦ (let far = beyond p u.0 u.1 in let to = now.1 in omega (arith, ints))
+      ];
   members = λ v.
       let pushed = part_pushed L M (base +ℤ pos low, base +ℤ pos high) is v in (
         (λ h. elim (pushed.0 h) [
@@ -400,6 +424,15 @@ taken_next base word rest rest' low high L M t is set gone = record {
       );
 }
   where
+    beyond : (p : ℕ) → HasBit rest p → ¬ ((low ≤ p) × (p ≤ high)) → high + 1 < p
+    beyond p h out = elim (cases_lt high p) [
+      | inl above ↦ elim (cases_lt (high + 1) p) [
+        | inl far ↦ far
+        | inr near ↦ absurd (ends (subst (HasBit rest) (let e : p ≡ high + 1 = omega (arith, above, near) in e) h))
+      ]
+      | inr to ↦ absurd (out (from_low p h, to))
+    ]
+
     within : (v : ℤ) → IsBetween (base +ℤ pos low, base +ℤ pos high) v → (p : ℕ) × HasBit word p × (¬ (HasBit rest' p)) × (v ≡ base +ℤ pos p)
     within v b =
         let from = b.0 in let to = b.1 in

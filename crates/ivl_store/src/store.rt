@@ -30,6 +30,7 @@ mod narrowing;
 mod post;
 mod posting;
 mod settled;
+mod spares;
 mod swapping;
 mod words;
 
@@ -39,6 +40,7 @@ use intervallum::ops::IsEmpty;
 use intervallum::width::Width;
 pub use post::Post;
 pub use settled::Lost;
+pub use spares::Spares;
 use std::alloc::{AllocError, Global};
 use std::marker::Model;
 

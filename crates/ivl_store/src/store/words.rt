@@ -1,5 +1,5 @@
 //! Sums over sets whose members lie close together: bit `p` of a word stands for the number `p` above a base.
-ghost use Rattle.std.specs.Prelude.{◌≡◌, ◌≢◌, ◌↔◌, ◌⊎◌, ℕ, ◌+◌, ◌<◌, ◌≤◌, ℤ, ◌≤ℤ◌, ◌<ℤ◌, pos, ◌+ℤ◌, ◌-ℤ◌, IfOk};
+ghost use Rattle.std.specs.Prelude.{◌≡◌, ◌≢◌, ◌↔◌, ◌⊎◌, [], ℕ, ◌+◌, ◌<◌, ◌≤◌, ℤ, ◌≤ℤ◌, ◌<ℤ◌, pos, ◌+ℤ◌, ◌-ℤ◌, IfOk};
 ghost use Rattle.ivl_laws.specs.Sets.{IsBetween, IsInRange};
 ghost use Rattle.ivl_laws.specs.Runs.{Covers, IsRunListIn, IsRunsOf};
 ghost use Rattle.ivl_store.specs.Words.{AreSupported, HasBit, InWord, IsNear, IsWordOf, SupportsAt};
@@ -7,9 +7,8 @@ ghost use Rattle.ivl_store.specs.Words.{AreSupported, HasBit, InWord, IsNear, Is
 use intervallum::interval::Interval;
 use intervallum::interval_set::IntervalSet;
 use intervallum::ops::Range;
-use intervallum::sweep::coalesce;
 use intervallum::width::Width;
-use std::alloc::{AllocError, Global};
+use std::alloc::AllocError;
 
 /// The words of the sets at x, y and z of a sum.
 #[derive(Clone, Copy)]
@@ -171,12 +170,15 @@ pub(super) fn word_of<B: Width>(runs: &[Interval<B>], base: i128) -> u64
     word
 }
 
-/// The first and the last of some bits that are set, one after another, of which the first is the lowest.
+/// The first and the last of some bits that are set, one after another, of which the first is the lowest, and no bit
+/// follows the last.
 fn first_bits(word: u64) -> (u32, u32)
     requires { word ≢ 0 }
     ensures in_order { result.0 ≤ result.1 }
     ensures fits { result.1 < 64 }
     ensures set { (p : ℕ) → result.0 ≤ p → p ≤ result.1 → HasBit word p }
+    ensures lowest { (p : ℕ) → HasBit word p → result.0 ≤ p }
+    ensures ends { ¬ (HasBit word (result.1 + 1)) }
 {
     if word == u64::MAX {
         return (0, 63);
@@ -197,29 +199,26 @@ fn without_bits(word: u64, low: u32, high: u32) -> u64
     word & !bits_between(low, high)
 }
 
-/// How many runs the bits of a word make.
-fn count_runs(word: u64) -> usize {
-    (word & !(word << 1)).count_ones() as usize
-}
-
-/// The set of the numbers of a word, above a base.
+/// The set of the numbers of a word, above a base, in the memory of an empty set.
 pub(super) fn set_of_word<B: Width>(
-    alloc: Global,
+    empty: IntervalSet<B>,
     word: u64,
     base: i128,
 ) -> Result<IntervalSet<B>, AllocError>
+    requires empty { empty ≡ [] }
     requires near { IsNear base }
     requires in_range { (p : ℕ) → HasBit word p → IsBetween B.whole (base +ℤ pos p) }
     ensures { IfOk result (λ L. IsRunsOf L (InWord base word)) }
 {
-    let mut runs = Vec::with_capacity(alloc, count_runs(word))?;
+    let mut set = empty;
     let mut rest = word;
     'runs: while rest != 0 {
         let (low, high) = first_bits(rest);
-        runs.push(run_of(base, low, high))?;
+        set.push_run(run_of(base, low, high))?;
         rest = without_bits(rest, low, high);
     }
-    coalesce(alloc, runs)
+    set.in_whole();
+    Ok(set)
 }
 
 /// The run from one place to another above a base.

@@ -8,5 +8,5 @@ returns-then-eq g c =
 
 pub returns : goal.returns
 returns g c =
-    run_left g.B.Width.whole c.args.x.now c.in_ok-of.field-0 c.args.run c.args.left c.in_whole.ensures c.requires.one_run c.requires.within
-    (iff_false c.eq.ensures.members c.if-eq.false) c.in_ok-of.ensures.members
+    run_left g.B.Width.whole c.args.x.now c.in_ok-set_of_run.field-0 c.args.run c.args.left c.in_whole.ensures c.requires.one_run c.requires.within
+    (iff_false c.eq.ensures.members c.if-eq.false) c.in_ok-set_of_run.ensures

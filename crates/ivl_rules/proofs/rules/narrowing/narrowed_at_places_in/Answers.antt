@@ -6,7 +6,7 @@ use Rattle.ivl_store.specs.Narrowing.{AllPresent}
 use Rattle.ivl_rules.specs.Rules.{AreDifferent, HasPointAt, places}
 use Rattle.ivl_rules.specs.NarrowedSets.{AreLeftAtPlaces, AreLeftBy, IsAtMost, IsMoved, IsNot}
 use Rattle.ivl_rules.proofs.Points.{left_at_most, left_differing, left_moved}
-use Rattle.ivl_rules.proofs.rules.narrowing.narrowed_at_places.Goals as goal
+use Rattle.ivl_rules.proofs.rules.narrowing.narrowed_at_places_in.Goals as goal
 
 pub returns-in_ok-x-in-Shifted : goal.returns-in_ok-x-in-Shifted
 returns-in_ok-x-in-Shifted g c =

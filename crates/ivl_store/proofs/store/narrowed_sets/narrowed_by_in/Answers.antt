@@ -6,14 +6,14 @@ use Rattle.ivl_laws.specs.Runs.{Covers, IsMaximal, IsRunsOf}
 use Rattle.ivl_within.specs.Within.{SumsBy}
 use Rattle.intervallum.proofs.Equality.{differ_by_size, same_by_size}
 use Rattle.ivl_store.proofs.NarrowedSets.{keeps_all_within, keeps_some_within, left_same, one_run, runs_keep}
-use Rattle.ivl_store.proofs.store.narrowed_sets.narrowed_by.Goals as goal
-use Rattle.ivl_store.proofs.store.narrowed_sets.narrowed_by.Goals.{then-ne, else-ne}
+use Rattle.ivl_store.proofs.store.narrowed_sets.narrowed_by_in.Goals as goal
+use Rattle.ivl_store.proofs.store.narrowed_sets.narrowed_by_in.Goals.{then-ne, else-ne}
 
 pub narrowed_run-requires-clause-one_run : goal.narrowed_run-requires-clause-one_run
 narrowed_run-requires-clause-one_run g c = one_run _ _ _ (c.as_slice-runs.ensures.value ∙ c.iter.ensures.rest) c.if-runs-eq1.true c.index-runs-0.is
 
 pub narrowed_run-requires-clause-within : goal.narrowed_run-requires-clause-within
-narrowed_run-requires-clause-within g c = λ z b. ((c.pair_in_window.ensures z).0 b).1
+narrowed_run-requires-clause-within g c = λ z b. ((c.pair_in_window-kept.ensures z).0 b).1
 
 pub returns-then-second-eq1 : goal.returns-then-second-eq1
 returns-then-second-eq1 g c =
@@ -24,8 +24,8 @@ returns-then-second-eq1 g c =
     let filled = (subst IsMaximal a c.iter-2.ensures.runs.maximal).0 in
     let filled' = (subst IsMaximal b c.iter-3.ensures.runs.maximal).0 in
     IfOk-weaker c.narrowed_run.result _ _
-    (λ left h. left_same w c.args.x.now (IsBetween c.pair_in_window.result) (SumsBy c.args.op (Covers c.args.a.now) (Covers c.args.b.now)) left
-    (runs_keep c.args.op _ _ _ _ _ _ c.pair_in_window.result x a b filled filled' c.pair_in_window.ensures) h) c.narrowed_run.ensures
+    (λ left h. left_same w c.args.x.now (IsBetween c.pair_in_window-kept.result) (SumsBy c.args.op (Covers c.args.a.now) (Covers c.args.b.now)) left
+    (runs_keep c.args.op _ _ _ _ _ _ c.pair_in_window-kept.result x a b filled filled' c.pair_in_window-kept.ensures) h) c.narrowed_run.ensures
 
 pub returns : goal.returns
 returns g c =
