@@ -1,11 +1,11 @@
 //! Networks of every kind of rule beside plain lists of numbers: what is left when all is settled, marks and errors. Then what a
 //! budget buys, and that lines leave nothing behind: what is kept to take one back goes with its mark.
-use intervallum::proved::Global;
+use intervallum::proved::{Global, Interval};
 use intervallum::proved::interval_set::{IntervalSet, ToIntervalSet};
 use intervallum::proved::ivl_network::network::{Network, Settled};
 use intervallum::proved::ivl_rules::rules::Rule;
 use intervallum::proved::ivl_store::store::{Constraint, StoreFault};
-use intervallum::proved::ops::Cardinality;
+use intervallum::proved::ops::{Cardinality, Range};
 
 mod memory;
 use memory::{Watched, cost};
@@ -141,6 +141,10 @@ fn step(random: &mut Random, model: &mut Model, marks: &mut Vec<(Model, bool)>, 
             let (i, allowed) = (random.below(count), numbers(random));
             assert_eq!(network.restrict(i, &set(&allowed)), Ok(()));
             model.domains[i].retain(|n| allowed.contains(n));
+            let (j, lower) = (random.below(count), random.below(8) as i64 - 8);
+            let upper = lower + 6 + random.below(12) as i64;
+            assert_eq!(network.restrict_to_interval(j, Interval::new(lower as i8, upper as i8)), Ok(()));
+            model.domains[j].retain(|n| (lower..=upper).contains(n));
         }
         6 => {
             assert_eq!(network.mark(), Ok(marks.len()));
@@ -208,7 +212,7 @@ fn networks_leave_what_the_rules_support() {
 #[test]
 fn rules_that_take_nothing_are_not_looked_at_again() {
     let cut = |network: &mut Network<i8>, variable, low, high| {
-        network.restrict(variable, &IntervalSet::new(Global, low, high).unwrap()).unwrap();
+        network.restrict_to_interval(variable, Interval::new(low, high)).unwrap();
         is_settled(network)
     };
     for (rule, leaves, wakes) in [
@@ -299,6 +303,7 @@ fn unknown_variables_are_told_and_nothing_changes() {
     assert_eq!(network.require(Rule::Sum(Constraint { x: 0, y: 7, z: 5 })), Err(StoreFault::Variable(7)));
     assert_eq!(network.require(Rule::Differs { x: 2, y: 1, by: 0 }), Err(StoreFault::Variable(2)));
     assert_eq!(network.restrict(2, &IntervalSet::new(Global, 0, 1).unwrap()), Err(StoreFault::Variable(2)));
+    assert_eq!(network.restrict_to_interval(2, Interval::new(0, 1)), Err(StoreFault::Variable(2)));
     assert_eq!((network.rules(), network.domains().len()), (&[before][..], 2));
     assert!(!network.undo_to(0));
 }

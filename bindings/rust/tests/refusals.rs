@@ -136,11 +136,14 @@ fn edits_of_a_network() {
         }
     };
     type Edit = fn(&mut Network<i64>) -> Result<bool, StoreFault>;
-    let edits: [(&str, Edit); 3] = [
+    let edits: [(&str, Edit); 4] = [
         ("require", |network| network.require(Rule::AtMost { x: 4, y: 0, by: 0 }).map(|()| network.rules().len() == 5)),
         ("restrict", |network| {
             let odd = [(1, 1), (3, 3), (5, 5)].to_interval_set(Global).map_err(|_| StoreFault::Memory)?;
             network.restrict(0, &odd).map(|()| network.domains()[0].is_subset(&odd))
+        }),
+        ("restrict_to_interval", |network| {
+            network.restrict_to_interval(0, Interval::new(1, 5)).map(|()| network.domains()[0].upper() <= 5)
         }),
         ("add_variable", |network| {
             let domain = Set::new(Global, 7, 9).map_err(|_| StoreFault::Memory)?;

@@ -18,6 +18,7 @@
 ghost use Rattle.std.specs.Prelude.{Contains, HoldsAt, take, ◌≡◌, ◌↔◌, ◌⊎◌, ◌<◌, ◌≤◌, ◌++◌, ◌+◌, ◌∷◌, [], ℕ, ℤ, List, All, Any, Err, IfErr, IfOk, IsTrue, MatchOption, OnErr, OnOk, Some, false, length, true};
 ghost use Rattle.ivl_laws.specs.Families.{set_at};
 ghost use Rattle.ivl_laws.specs.Runs.{Covers, IsRunListIn};
+ghost use Rattle.ivl_laws.specs.Sets.{IsBetween};
 ghost use Rattle.ivl_store.specs.Narrowing.{first_unknown};
 ghost use Rattle.ivl_network.specs.Network.{AreNarrowedTo, AreRuleNarrowings, IsCutAt, IsRuleRequired, work_of_rules};
 ghost use Rattle.ivl_store.specs.Posts.{HasEmpty};
@@ -26,6 +27,7 @@ ghost use Rattle.ivl_rules.specs.Rules.{AreDifferent, places as places_of};
 ghost use Rattle.ivl_network.specs.Costs.{AreRulesCounted, cost_of_rule as cost_of};
 ghost use Rattle.ivl_network.specs.Families.{ArePresent, IsCommonPoint, IsFixedBy, IsGreatestUnder, KeepsUnder};
 
+use intervallum::interval::Interval;
 use intervallum::interval_set::IntervalSet;
 use intervallum::width::Width;
 use ivl_rules::rules::Rule;
@@ -33,6 +35,7 @@ use ivl_store::store::{Store, StoreFault};
 use std::alloc::{AllocError, Global};
 use std::marker::Model;
 
+mod allowed;
 mod change;
 mod index;
 pub mod laws;
@@ -40,6 +43,7 @@ mod narrowing;
 mod queue;
 mod trail;
 
+use allowed::Allowed;
 use change::Change;
 use index::Index;
 use narrowing::{cost_of_rule, narrow_logged, restrict_logged};
@@ -263,6 +267,43 @@ impl<B: Width> Network<B> {
         ensures marked { self.new.marked ≡ self.old.marked }
         ensures kept_count { length self.new.domains ≡ length self.old.domains }
         ensures cut { OnOk result (IsCutAt variable (Covers allowed.now) (set_at self.old.domains) (set_at self.new.domains)) }
+        ensures refused { OnErr result (self.new ≡ self.old) }
+    {
+        self.cut(variable, allowed)
+    }
+
+    /// Cuts a domain to its members in this interval, which may be empty, as [`Network::restrict`] does to those in
+    /// a set. Costs a look at the ends of the domain and, where it loses a member, a binary search, a copy of what is
+    /// left and a pass over the rules that name the variable.
+    ///
+    /// # Errors
+    ///
+    /// Those of [`Network::restrict`].
+    ///
+    /// ```
+    /// let mut network: Network<i32> = Network::new(alloc);
+    /// network.add_variable(IntervalSet::new(alloc, 0, 9)?)?;
+    /// network.restrict_to_interval(0, Interval::new(5, 20))?;
+    /// assert!(rt; network.domains()[0] == IntervalSet::new(alloc, 5, 9)?);
+    /// ```
+    pub fn restrict_to_interval(&mut self, variable: usize, allowed: Interval<B>) -> Result<(), StoreFault>
+        ensures unknown { (i : ℕ) → (result ≡ Err (StoreFault.Variable i)) ↔ ((i ≡ variable) × (length self.old.domains ≤ variable)) }
+        ensures rules { self.new.rules ≡ self.old.rules }
+        ensures marked { self.new.marked ≡ self.old.marked }
+        ensures kept_count { length self.new.domains ≡ length self.old.domains }
+        ensures cut { OnOk result (IsCutAt variable (IsBetween allowed) (set_at self.old.domains) (set_at self.new.domains)) }
+        ensures refused { OnErr result (self.new ≡ self.old) }
+    {
+        self.cut(variable, &allowed)
+    }
+
+    /// Cuts a domain to its members that are allowed.
+    fn cut<A: Allowed<B>>(&mut self, variable: usize, allowed: &A) -> Result<(), StoreFault>
+        ensures unknown { (i : ℕ) → (result ≡ Err (StoreFault.Variable i)) ↔ ((i ≡ variable) × (length self.old.domains ≤ variable)) }
+        ensures rules { self.new.rules ≡ self.old.rules }
+        ensures marked { self.new.marked ≡ self.old.marked }
+        ensures kept_count { length self.new.domains ≡ length self.old.domains }
+        ensures cut { OnOk result (IsCutAt variable (A.members allowed.now) (set_at self.old.domains) (set_at self.new.domains)) }
         ensures refused { OnErr result (self.new ≡ self.old) }
     {
         if variable >= self.store.domains().len() {

@@ -130,8 +130,8 @@ in_range whole (s ∷ sets) a zero v h = (All-head (IsRunListIn whole) s sets a)
 in_range whole (s ∷ sets) a (suc i) v h = in_range whole sets (All-tail (IsRunListIn whole) s sets a) i v h
 
 -- a cut to the numbers of the range that have a property is one to all numbers that have it
-pub cut_in_range : (whole : ℤ × ℤ) (old new : List (List (ℤ × ℤ))) (variable : ℕ) (part : List (ℤ × ℤ)) (S : ℤ → Type 0) → All (IsRunListIn whole) old
-    → SameMembers (Covers part) (Intersection (IsBetween whole) S) → IsCutAt variable (Covers part) (set_at old) (set_at new)
+pub cut_in_range : (whole : ℤ × ℤ) (old new : List (List (ℤ × ℤ))) (variable : ℕ) (part S : ℤ → Type 0) → All (IsRunListIn whole) old
+    → SameMembers part (Intersection (IsBetween whole) S) → IsCutAt variable part (set_at old) (set_at new)
     → IsCutAt variable S (set_at old) (set_at new)
 cut_in_range whole old new variable part S ranges same cut i v = (
   (λ h. let k = (cut i v).0 h in (k.0, λ e. ((same v).0 (k.1 e)).1)),

@@ -2,12 +2,14 @@
 ghost use Rattle.std.specs.Prelude.{◌≡◌, ◌≢◌, ◌↔◌, ◌<◌, ◌≤◌, ◌+◌, ◌∷◌, [], ℕ, ℤ, List, All, Any, Contains, IfOk, IsTrue, OnErr, OnOk, length};
 ghost use Rattle.ivl_laws.specs.Families.{set_at};
 ghost use Rattle.ivl_laws.specs.Runs.{Covers};
+ghost use Rattle.ivl_laws.specs.Sets.{IsBetween};
 ghost use Rattle.ivl_rules.specs.declared.rules.Rule.{Rule};
 ghost use Rattle.ivl_rules.specs.Rules.{AreDifferent};
 ghost use Rattle.ivl_network.specs.Costs.{AreRulesCounted, cost_of_rule};
 ghost use Rattle.ivl_network.specs.Families.{IsCommonPoint, IsGreatestUnder};
 ghost use Rattle.ivl_network.specs.Network.{IsRuleRequired, work_of_rules};
 
+use intervallum::interval::Interval;
 use intervallum::interval_set::IntervalSet;
 use intervallum::width::Width;
 use ivl_network::network::{Network, Settled};
@@ -70,6 +72,20 @@ pub fn cut_to<B: Width>(
     ensures refused { OnErr result (network.new ≡ network.old) }
 {
     network.restrict(variable, allowed)
+}
+
+/// Cuts a domain to its members from a value on, up to another. The other domains stay.
+pub fn cut_between<B: Width>(
+    network: &mut Network<B>,
+    variable: usize,
+    allowed: Interval<B>,
+) -> Result<(), StoreFault>
+    ensures cut { OnOk result ((v : ℤ) → set_at network.new.domains variable v ↔ (set_at network.old.domains variable v × IsBetween allowed v)) }
+    ensures others { OnOk result ((i : ℕ) → i ≢ variable → (v : ℤ) → set_at network.new.domains i v ↔ set_at network.old.domains i v) }
+    ensures rules { network.new.rules ≡ network.old.rules }
+    ensures refused { OnErr result (network.new ≡ network.old) }
+{
+    network.restrict_to_interval(variable, allowed)
 }
 
 /// Narrows within a budget of narrowings, and returns whether all is narrowed, which it is where the

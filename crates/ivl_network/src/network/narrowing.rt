@@ -2,7 +2,7 @@
 ghost use Rattle.std.specs.Prelude.{◌≡◌, ◌↔◌, ◌⊎◌, ◌<◌, ◌≤◌, ◌+◌, ◌-◌, ◌/◌, ◌^◌, [], ℕ, ℤ, List, All, IfOk, OnErr, OnOk, false, true, length, min, slice_index_or};
 ghost use Rattle.std.specs.Vec.{vec_capacity, vec_len};
 ghost use Rattle.ivl_laws.specs.Families.{set_at};
-ghost use Rattle.ivl_laws.specs.Runs.{Covers, IsRunListIn};
+ghost use Rattle.ivl_laws.specs.Runs.{IsRunListIn};
 ghost use Rattle.ivl_store.specs.Settled.{AreLost, any_lost};
 ghost use Rattle.ivl_rules.specs.declared.rules.Rule.{Rule};
 ghost use Rattle.ivl_rules.specs.Rules.{AreDifferent, NarrowedBy, places as places_of};
@@ -11,6 +11,7 @@ ghost use Rattle.ivl_network.specs.Families.{ArePresent};
 ghost use Rattle.ivl_network.specs.Settled.{HasTwo};
 ghost use Rattle.ivl_network.specs.Trail.{KeepsPast};
 
+use super::allowed::Allowed;
 use super::change::Change;
 use super::trail::{replace_logged, take_out_logged};
 use intervallum::interval_set::IntervalSet;
@@ -18,7 +19,6 @@ use intervallum::ops::{Bounded, IsEmpty};
 use intervallum::width::Width;
 use ivl_rules::rules::Rule;
 use ivl_rules::rules::narrowing::{lone_loss, narrowed_at_places};
-use ivl_store::store::narrowed_sets::narrowed_to;
 use ivl_store::store::{Lost, Store};
 use std::alloc::AllocError;
 
@@ -66,24 +66,24 @@ pub(super) fn narrow_logged<B: Width>(
 
 /// Keeps the members of one domain that are allowed, and writes down what takes that back. Returns false if all
 /// members stay.
-pub(super) fn restrict_logged<B: Width>(
+pub(super) fn restrict_logged<B: Width, A: Allowed<B>>(
     store: &mut Store<B>,
     trail: &mut Vec<Change<B>>,
     places: &mut [usize],
     spares: &mut Vec<IntervalSet<B>>,
     marks: &[usize],
     i: usize,
-    allowed: &IntervalSet<B>,
+    allowed: &A,
 ) -> Result<bool, AllocError>
     requires known { i < length store.old }
     requires room { (marks.now ≡ []) ⊎ (vec_len trail.old < vec_capacity trail.old) }
     ensures refused { OnErr result ((store.new ≡ store.old) × (trail.new.items ≡ trail.old.items)) }
     ensures kept_count { length store.new ≡ length store.old }
-    ensures cut { OnOk result ((j : ℕ) (v : ℤ) → set_at store.new j v ↔ (set_at store.old j v × (j ≡ i → Covers allowed.now v))) }
+    ensures cut { OnOk result ((j : ℕ) (v : ℤ) → set_at store.new j v ↔ (set_at store.old j v × (j ≡ i → A.members allowed.now v))) }
     ensures lost { IfOk result (λ lost. lost ≡ false → store.new ≡ store.old) }
     ensures past { OnOk result ((rules : List Rule) → KeepsPast marks.now trail.old.items trail.new.items store.old store.new rules) }
 {
-    let left = narrowed_to(&store.domains()[i], allowed)?;
+    let left = allowed.left_of(&store.domains()[i])?;
     let lost = left.is_some();
     replace_logged(store, trail, places, spares, marks, i, left);
     Ok(lost)

@@ -1,5 +1,5 @@
 //! What a search does with narrowed domains, and where it cuts one.
-ghost use Rattle.std.specs.Prelude.{◌≡◌, ◌≢◌, ◌<◌, IfOk, IfSome, MatchOption, None, length, ℤ};
+ghost use Rattle.std.specs.Prelude.{◌≡◌, ◌≢◌, ◌<◌, IfSome, MatchOption, None, length, ℤ};
 ghost use Rattle.ivl_laws.specs.Families.{set_at};
 ghost use Rattle.ivl_laws.specs.Runs.{Covers};
 ghost use Rattle.ivl_laws.specs.Sets.{Above, Below, HasNone, HasSome, Intersection, IsBetween, Only, SameMembers};
@@ -8,10 +8,10 @@ ghost use Rattle.ivl_network.specs.Settled.{HasTwo};
 ghost use Rattle.ivl_search.specs.Halves.{IsMiddle};
 ghost use Rattle.ivl_search.specs.Nodes.{IsNodeOf};
 
+use intervallum::interval::Interval;
 use intervallum::interval_set::IntervalSet;
-use intervallum::ops::{Cardinality, IsEmpty, IsSingleton};
+use intervallum::ops::{Cardinality, Empty, IsEmpty, IsSingleton, Range};
 use intervallum::width::{SizeNumber, Width};
-use std::alloc::{AllocError, Global};
 
 /// Which numbers of a variable are better. A search looks for them first.
 #[derive(Clone, Copy, Debug)]
@@ -138,42 +138,37 @@ pub(super) fn middle<B: Width>(domain: &IntervalSet<B>, wanted: Wanted) -> Optio
     }
 }
 
-/// The numbers of a part at a value.
-pub(super) fn part_of<B: Width>(
-    alloc: Global,
-    value: B,
-    wanted: Wanted,
-    part: Part,
-) -> Result<IntervalSet<B>, AllocError>
+/// The numbers of a part at a value, in the range.
+pub(super) fn part_of<B: Width>(value: B, wanted: Wanted, part: Part) -> Interval<B>
     requires { IsBetween B.whole (B.value value) }
-    ensures { IfOk result (λ L. SameMembers (Covers L) (Intersection (IsBetween B.whole) (IsInPart wanted part (B.value value)))) }
+    ensures { SameMembers (IsBetween result) (Intersection (IsBetween B.whole) (IsInPart wanted part (B.value value))) }
 {
     match (wanted, part) {
-        (Wanted::Least, Part::Better) | (Wanted::Greatest, Part::Worse) => below(alloc, value),
-        (Wanted::Greatest, Part::Better) | (Wanted::Least, Part::Worse) => above(alloc, value),
-        (Wanted::Least, Part::AsGood) => IntervalSet::new(alloc, B::min_value(), value),
-        (Wanted::Greatest, Part::AsGood) => IntervalSet::new(alloc, value, B::max_value()),
+        (Wanted::Least, Part::Better) | (Wanted::Greatest, Part::Worse) => below(value),
+        (Wanted::Greatest, Part::Better) | (Wanted::Least, Part::Worse) => above(value),
+        (Wanted::Least, Part::AsGood) => Interval::new(B::min_value(), value),
+        (Wanted::Greatest, Part::AsGood) => Interval::new(value, B::max_value()),
     }
 }
 
 /// The numbers above a value.
-fn above<B: Width>(alloc: Global, value: B) -> Result<IntervalSet<B>, AllocError>
+fn above<B: Width>(value: B) -> Interval<B>
     requires { IsBetween B.whole (B.value value) }
-    ensures { IfOk result (λ L. SameMembers (Covers L) (Above (B.value value) (IsBetween B.whole))) }
+    ensures { SameMembers (IsBetween result) (Above (B.value value) (IsBetween B.whole)) }
 {
     match value.checked_add(B::one()) {
-        Some(next) => IntervalSet::new(alloc, next, B::max_value()),
-        None => Ok(IntervalSet::empty(alloc)),
+        Some(next) => Interval::new(next, B::max_value()),
+        None => Interval::empty(),
     }
 }
 
 /// The numbers below a value.
-fn below<B: Width>(alloc: Global, value: B) -> Result<IntervalSet<B>, AllocError>
+fn below<B: Width>(value: B) -> Interval<B>
     requires { IsBetween B.whole (B.value value) }
-    ensures { IfOk result (λ L. SameMembers (Covers L) (Below (B.value value) (IsBetween B.whole))) }
+    ensures { SameMembers (IsBetween result) (Below (B.value value) (IsBetween B.whole)) }
 {
     match value.checked_sub(B::one()) {
-        Some(last) => IntervalSet::new(alloc, B::min_value(), last),
-        None => Ok(IntervalSet::empty(alloc)),
+        Some(last) => Interval::new(B::min_value(), last),
+        None => Interval::empty(),
     }
 }

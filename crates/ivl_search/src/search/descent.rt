@@ -59,16 +59,16 @@ pub(super) fn search<B: Width>(
         match advance(network, wanted)? {
             Node::Unsettled => {}
             Node::Open(variable, value) => {
-                let cut = enter(alloc, network, variable, value, wanted)?;
+                let cut = enter(network, variable, value, wanted)?;
                 path.push(cut)?;
             }
-            Node::Dead => if !go_back(alloc, network, &mut path, wanted)? {
+            Node::Dead => if !go_back(network, &mut path, wanted)? {
                 return Ok(End::All);
             },
             Node::Leaf => {
                 keep(alloc, network.domains(), found)?;
                 left.solutions -= 1;
-                if !go_back(alloc, network, &mut path, wanted)? {
+                if !go_back(network, &mut path, wanted)? {
                     return Ok(End::All);
                 }
             }
@@ -80,7 +80,6 @@ pub(super) fn search<B: Width>(
 
 /// Goes back to the last cut, and into its other part. Returns false if there is no cut.
 fn go_back<B: Width>(
-    alloc: Global,
     network: &mut Network<B>,
     path: &mut Vec<Cut<B>>,
     wanted: Wanted,
@@ -95,7 +94,7 @@ fn go_back<B: Width>(
 {
     match path.pop() {
         Some(cut) => {
-            leave(alloc, network, cut, wanted)?;
+            leave(network, cut, wanted)?;
             Ok(true)
         }
         None => Ok(false),

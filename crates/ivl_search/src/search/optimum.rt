@@ -91,12 +91,12 @@ fn best_of<B: Width>(
         match point {
             Some(point) => {
                 let value = point[variable];
-                keep_part(alloc, network, variable, value, wanted, Part::Better)?;
+                keep_part(network, variable, value, wanted, Part::Better)?;
                 left.solutions -= 1;
                 best = Some(point);
             }
             None if end == End::All => {
-                keep_part(alloc, network, variable, half, wanted, Part::Worse)?;
+                keep_part(network, variable, half, wanted, Part::Worse)?;
             }
             None => return Ok(Best { point: best, end }),
         }
@@ -157,7 +157,7 @@ fn one_solution<B: Width>(
         × (nodes.old ≤ nodes.new + nodes_enough B.whole network.old.rules good)
         × (one.end ≡ End.Nodes → (nodes.new ≡ 0) × (nodes.old < nodes_enough B.whole network.old.rules good))) }
 {
-    let cut = enter(alloc, network, variable, value, wanted)?;
+    let cut = enter(network, variable, value, wanted)?;
     let mut left = Limits {
         solutions: 1,
         nodes: *nodes,

@@ -65,7 +65,6 @@ pub(super) struct Cut<B> {
 
 /// Marks the network, and cuts a domain to its members that are as good as a value.
 pub(super) fn enter<B: Width>(
-    alloc: Global,
     network: &mut Network<B>,
     variable: usize,
     value: B,
@@ -81,7 +80,7 @@ pub(super) fn enter<B: Width>(
     ensures unsettled { OnOk result (network.new.unsettled ≤ length network.new.rules) }
 {
     let mark = network.mark()?;
-    keep_part(alloc, network, variable, value, wanted, Part::AsGood)?;
+    keep_part(network, variable, value, wanted, Part::AsGood)?;
     Ok(Cut {
         mark,
         variable,
@@ -91,7 +90,6 @@ pub(super) fn enter<B: Width>(
 
 /// Takes back what came after a cut, and cuts the domain to its other part.
 pub(super) fn leave<B: Width>(
-    alloc: Global,
     network: &mut Network<B>,
     cut: Cut<B>,
     wanted: Wanted,
@@ -104,13 +102,12 @@ pub(super) fn leave<B: Width>(
     ensures unsettled { OnOk result (network.new.unsettled ≤ length network.new.rules) }
 {
     network.undo_to(cut.mark);
-    keep_part(alloc, network, cut.variable, cut.value, wanted, Part::Worse)?;
+    keep_part(network, cut.variable, cut.value, wanted, Part::Worse)?;
     Ok(())
 }
 
 /// Cuts a domain to its members in a part at a value.
 pub(super) fn keep_part<B: Width>(
-    alloc: Global,
     network: &mut Network<B>,
     variable: usize,
     value: B,
@@ -125,10 +122,10 @@ pub(super) fn keep_part<B: Width>(
     ensures runs { OnOk result (All (IsRunListIn B.whole) network.new.domains) }
     ensures unsettled { OnOk result (network.new.unsettled ≤ length network.new.rules) }
 {
-    let allowed = part_of(alloc, value, wanted, part)?;
+    let allowed = part_of(value, wanted, part);
     // for the prover: the domains are lists of runs within the range
     network.domains();
-    let cut = network.restrict(variable, &allowed);
+    let cut = network.restrict_to_interval(variable, allowed);
     // for the prover: so are they now, and no more rules are unsettled than there are
     network.domains();
     network.rules();

@@ -25,12 +25,14 @@
 
 #[allow(unused_imports)]
 use crate::rattle::prelude::*;
+use crate::proved::intervallum::interval::Interval;
 use crate::proved::intervallum::interval_set::IntervalSet;
 use crate::proved::intervallum::width::Width;
 use crate::proved::ivl_rules::rules::Rule;
 use crate::proved::ivl_store::store::{Store, StoreFault};
 use crate::rattle::std::alloc::{AllocError, Global};
 
+mod allowed;
 mod change;
 mod index;
 
@@ -38,6 +40,7 @@ mod narrowing;
 mod queue;
 mod trail;
 
+use allowed::Allowed;
 use change::Change;
 use index::Index;
 use narrowing::{cost_of_rule, narrow_logged, restrict_logged};
@@ -306,6 +309,48 @@ impl<B: Width> Network<B> {
     ///
     /// Words: [`IsCutAt`](crate::definitions#IsCutAt), [`Covers`](crate::definitions#Covers), [`set_at`](crate::definitions#set_at).
     pub fn restrict(&mut self, variable: usize, allowed: &IntervalSet<B>) -> Result<(), StoreFault> {
+        self.cut(variable, allowed)
+    }
+
+    /// Cuts a domain to its members in this interval, which may be empty, as [`Network::restrict`] does to those in
+    /// a set. Costs a look at the ends of the domain and, where it loses a member, a binary search, a copy of what is
+    /// left and a pass over the rules that name the variable.
+    ///
+    /// # Errors
+    ///
+    /// Those of [`Network::restrict`].
+    ///
+    /// ```
+    /// use intervallum::proved::examples::*;
+    ///
+    /// fn main() -> Result<(), std::boxed::Box<dyn std::error::Error>> {
+    ///     let alloc = Global;
+    ///     let mut network: Network<i32> = Network::new(alloc);
+    ///     network.add_variable(IntervalSet::new(alloc, 0, 9)?)?;
+    ///     network.restrict_to_interval(0, Interval::new(5, 20))?;
+    ///     assert!(network.domains()[0] == IntervalSet::new(alloc, 5, 9)?);
+    ///     Ok(())
+    /// }
+    /// ```
+    ///
+    /// # Proved
+    ///
+    /// ```text
+    /// ensures unknown { (i : ℕ) → (result ≡ Err (StoreFault.Variable i)) ↔ ((i ≡ variable) × (length self.old.domains ≤ variable)) }
+    /// ensures rules { self.new.rules ≡ self.old.rules }
+    /// ensures marked { self.new.marked ≡ self.old.marked }
+    /// ensures kept_count { length self.new.domains ≡ length self.old.domains }
+    /// ensures cut { OnOk result (IsCutAt variable (IsBetween allowed) (set_at self.old.domains) (set_at self.new.domains)) }
+    /// ensures refused { OnErr result (self.new ≡ self.old) }
+    /// ```
+    ///
+    /// Words: [`IsCutAt`](crate::definitions#IsCutAt), [`IsBetween`](crate::definitions#IsBetween), [`set_at`](crate::definitions#set_at).
+    pub fn restrict_to_interval(&mut self, variable: usize, allowed: Interval<B>) -> Result<(), StoreFault> {
+        self.cut(variable, &allowed)
+    }
+
+    /// Cuts a domain to its members that are allowed.
+    fn cut<A: Allowed<B>>(&mut self, variable: usize, allowed: &A) -> Result<(), StoreFault> {
         if variable >= self.store.domains().len() {
             return Err(StoreFault::Variable(variable));
         }

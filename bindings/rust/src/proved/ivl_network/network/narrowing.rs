@@ -3,6 +3,7 @@
 
 #[allow(unused_imports)]
 use crate::rattle::prelude::*;
+use super::allowed::Allowed;
 use super::change::Change;
 use super::trail::{replace_logged, take_out_logged};
 use crate::proved::intervallum::interval_set::IntervalSet;
@@ -10,7 +11,6 @@ use crate::proved::intervallum::ops::{Bounded, IsEmpty};
 use crate::proved::intervallum::width::Width;
 use crate::proved::ivl_rules::rules::Rule;
 use crate::proved::ivl_rules::rules::narrowing::{lone_loss, narrowed_at_places};
-use crate::proved::ivl_store::store::narrowed_sets::narrowed_to;
 use crate::proved::ivl_store::store::{Lost, Store};
 use crate::rattle::std::alloc::AllocError;
 
@@ -47,16 +47,16 @@ pub(super) fn narrow_logged<B: Width>(
 
 /// Keeps the members of one domain that are allowed, and writes down what takes that back. Returns false if all
 /// members stay.
-pub(super) fn restrict_logged<B: Width>(
+pub(super) fn restrict_logged<B: Width, A: Allowed<B>>(
     store: &mut Store<B>,
     trail: &mut Vec<Change<B>>,
     places: &mut [usize],
     spares: &mut Vec<IntervalSet<B>>,
     marks: &[usize],
     i: usize,
-    allowed: &IntervalSet<B>,
+    allowed: &A,
 ) -> Result<bool, AllocError> {
-    let left = narrowed_to(&store.domains()[i], allowed)?;
+    let left = allowed.left_of(&store.domains()[i])?;
     let lost = left.is_some();
     replace_logged(store, trail, places, spares, marks, i, left);
     Ok(lost)

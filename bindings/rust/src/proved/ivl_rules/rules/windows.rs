@@ -67,9 +67,33 @@ fn moved_run<B: Width>(run: Interval<B>, by: i128) -> Interval<B> {
     Interval::new(clamped(low), clamped(high))
 }
 
-/// Returns the members of `x` in an interval, or `None` if all are. Allocates only where some are
-/// lost and some are left.
-pub(super) fn narrowed_to_window<B: Width>(
+/// Returns the members of `x` in an interval, or `None` if all are. A look at the ends of `x` and, where some are
+/// lost, a binary search and a copy of what is left.
+///
+/// # Errors
+///
+/// Fails only if allocation fails.
+///
+/// ```
+/// use intervallum::proved::examples::*;
+///
+/// fn main() -> Result<(), std::boxed::Box<dyn std::error::Error>> {
+///     let alloc = Global;
+///     let x = IntervalSet::new(alloc, 0, 9)?;
+///     assert!(narrowed_to_window(&x, Interval::new(5, 20))? == Some(IntervalSet::new(alloc, 5, 9)?));
+///     assert!(narrowed_to_window(&x, Interval::new(-5, 20))?.is_none());
+///     Ok(())
+/// }
+/// ```
+///
+/// # Proved
+///
+/// ```text
+/// ensures { IfOk result (IsLeftOf B.whole x.now (IsBetween window)) }
+/// ```
+///
+/// Words: [`IsLeftOf`](crate::definitions#IsLeftOf), [`IsBetween`](crate::definitions#IsBetween).
+pub fn narrowed_to_window<B: Width>(
     x: &IntervalSet<B>,
     window: Interval<B>,
 ) -> Result<Option<IntervalSet<B>>, AllocError> {

@@ -3,10 +3,10 @@
 
 #[allow(unused_imports)]
 use crate::rattle::prelude::*;
+use crate::proved::intervallum::interval::Interval;
 use crate::proved::intervallum::interval_set::IntervalSet;
-use crate::proved::intervallum::ops::{Cardinality, IsEmpty, IsSingleton};
+use crate::proved::intervallum::ops::{Cardinality, Empty, IsEmpty, IsSingleton, Range};
 use crate::proved::intervallum::width::{SizeNumber, Width};
-use crate::rattle::std::alloc::{AllocError, Global};
 
 /// Which numbers of a variable are better. A search looks for them first.
 #[derive(Clone, Copy, Debug)]
@@ -112,33 +112,28 @@ pub(super) fn middle<B: Width>(domain: &IntervalSet<B>, wanted: Wanted) -> Optio
     }
 }
 
-/// The numbers of a part at a value.
-pub(super) fn part_of<B: Width>(
-    alloc: Global,
-    value: B,
-    wanted: Wanted,
-    part: Part,
-) -> Result<IntervalSet<B>, AllocError> {
+/// The numbers of a part at a value, in the range.
+pub(super) fn part_of<B: Width>(value: B, wanted: Wanted, part: Part) -> Interval<B> {
     match (wanted, part) {
-        (Wanted::Least, Part::Better) | (Wanted::Greatest, Part::Worse) => below(alloc, value),
-        (Wanted::Greatest, Part::Better) | (Wanted::Least, Part::Worse) => above(alloc, value),
-        (Wanted::Least, Part::AsGood) => IntervalSet::new(alloc, B::min_value(), value),
-        (Wanted::Greatest, Part::AsGood) => IntervalSet::new(alloc, value, B::max_value()),
+        (Wanted::Least, Part::Better) | (Wanted::Greatest, Part::Worse) => below(value),
+        (Wanted::Greatest, Part::Better) | (Wanted::Least, Part::Worse) => above(value),
+        (Wanted::Least, Part::AsGood) => Interval::new(B::min_value(), value),
+        (Wanted::Greatest, Part::AsGood) => Interval::new(value, B::max_value()),
     }
 }
 
 /// The numbers above a value.
-fn above<B: Width>(alloc: Global, value: B) -> Result<IntervalSet<B>, AllocError> {
+fn above<B: Width>(value: B) -> Interval<B> {
     match value.checked_add(B::one()) {
-        Some(next) => IntervalSet::new(alloc, next, B::max_value()),
-        None => Ok(IntervalSet::empty(alloc)),
+        Some(next) => Interval::new(next, B::max_value()),
+        None => Interval::empty(),
     }
 }
 
 /// The numbers below a value.
-fn below<B: Width>(alloc: Global, value: B) -> Result<IntervalSet<B>, AllocError> {
+fn below<B: Width>(value: B) -> Interval<B> {
     match value.checked_sub(B::one()) {
-        Some(last) => IntervalSet::new(alloc, B::min_value(), last),
-        None => Ok(IntervalSet::empty(alloc)),
+        Some(last) => Interval::new(B::min_value(), last),
+        None => Interval::empty(),
     }
 }

@@ -3,7 +3,7 @@
 
 #[allow(unused_imports)]
 use crate::rattle::prelude::*;
-use super::words::{Words, above, set_of_word, supported, word_of};
+use super::words::{Words, above, set_of_word, supported, word_of, word_within};
 use crate::proved::intervallum::interval_set::IntervalSet;
 use crate::proved::intervallum::ops::{Bounded, IsEmpty};
 use crate::proved::intervallum::width::Width;
@@ -64,6 +64,11 @@ fn word_of_set<B: Width>(set: &IntervalSet<B>, base: i128) -> u64 {
     word_of(set.iter().as_slice(), base)
 }
 
+/// The word of a set, all of whose members lie from a base on to 63 above.
+fn word_of_close_set<B: Width>(set: &IntervalSet<B>, base: i128) -> u64 {
+    word_within(set.iter().as_slice(), base)
+}
+
 /// What narrowing leaves at x, y and z of a sum, where x and y begin at these bases and their sums have at most 64 numbers between the least and the
 /// greatest.
 fn left_by_words<B: Width>(
@@ -82,8 +87,8 @@ fn left_by_words<B: Width>(
     AllocError,
 > {
     let z_base = sum_of(x_base, y_base);
-    let xs = word_of_set(x, x_base);
-    let ys = word_of_set(y, y_base);
+    let xs = word_of_close_set(x, x_base);
+    let ys = word_of_close_set(y, y_base);
     let zs = word_of_set(z, z_base);
     let kept = supported_by(xs, ys, zs, by_x);
     let left_of_x = left_of_word(x, x_base, xs, kept.x)?;
@@ -106,6 +111,7 @@ fn supported_by(x: u64, y: u64, z: u64, by_x: bool) -> Words {
 }
 
 /// Returns the set of the word `left` in place of a set that has the word `had`, or `None` if that is all of it.
+#[inline(always)]
 fn left_of_word<B: Width>(
     set: &IntervalSet<B>,
     base: i128,
@@ -120,6 +126,7 @@ fn left_of_word<B: Width>(
 }
 
 /// Whether the word `left` has all members of a set that has the word `had`.
+#[inline(always)]
 fn keeps_all<B: Width>(set: &IntervalSet<B>, base: i128, had: u64, left: u64) -> bool {
     set.in_whole();
     if left != had || above(set.lower(), base) < 0 {

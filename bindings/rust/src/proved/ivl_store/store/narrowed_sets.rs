@@ -89,7 +89,7 @@ pub fn narrowed_by_sum<B: Width>(
     AllocError,
 > {
     if are_runs(x, y, z) {
-        return narrowed_one_by_one(x, y, z);
+        return narrowed_runs(x, y, z);
     }
     if let Some(left) = narrowed_by_words(x, y, z)? {
         return Ok(left);
@@ -100,6 +100,36 @@ pub fn narrowed_by_sum<B: Width>(
 /// Whether each of three sets is one run, so that narrowing by bounds costs least.
 fn are_runs<B: Width>(x: &IntervalSet<B>, y: &IntervalSet<B>, z: &IntervalSet<B>) -> bool {
     x.interval_count() == 1 && y.interval_count() == 1 && z.interval_count() == 1
+}
+
+/// Returns what narrowing leaves at x, y and z of a sum, of which each is one run, by their bounds.
+fn narrowed_runs<B: Width>(
+    x: &IntervalSet<B>,
+    y: &IntervalSet<B>,
+    z: &IntervalSet<B>,
+) -> Result<
+    (
+        Option<IntervalSet<B>>,
+        Option<IntervalSet<B>>,
+        Option<IntervalSet<B>>,
+    ),
+    AllocError,
+> {
+    let run_of_x = only_run(x);
+    let run_of_y = only_run(y);
+    let run_of_z = only_run(z);
+    let in_x = pair_in_window(run_of_z, run_of_y, Combined::Difference, run_of_x);
+    let in_y = pair_in_window(run_of_z, run_of_x, Combined::Difference, run_of_y);
+    let in_z = pair_in_window(run_of_x, run_of_y, Combined::Sum, run_of_z);
+    let left_of_x = narrowed_run(x, run_of_x, in_x)?;
+    let left_of_y = narrowed_run(y, run_of_y, in_y)?;
+    let left_of_z = narrowed_run(z, run_of_z, in_z)?;
+    Ok((left_of_x, left_of_y, left_of_z))
+}
+
+/// The run of a set that has one.
+fn only_run<B: Width>(set: &IntervalSet<B>) -> Interval<B> {
+    set.iter().as_slice()[0]
 }
 
 /// Returns what narrowing leaves at x, y and z of a sum, found for one after another.

@@ -23,9 +23,14 @@ fn bits_between(low: u32, high: u32) -> u64 {
     (u64::MAX >> (63 - high)) & (u64::MAX << low)
 }
 
+/// The word of one bit.
+fn bit(place: u32) -> u64 {
+    1 << place
+}
+
 /// The word without one of its bits.
 fn without_bit(word: u64, place: u32) -> u64 {
-    word & !bits_between(place, place)
+    word & !bit(place)
 }
 
 /// The words with what is supported by bit `place` of `x`, where `y` and `z` are the words of the other sets.
@@ -85,6 +90,22 @@ fn word_of_run<B: Width>(run: Interval<B>, base: i128) -> u64 {
         return 0;
     }
     bits_between(first_place(low), last_place(high))
+}
+
+/// The word of the numbers of a run, all of which have a place.
+fn word_of_run_within<B: Width>(run: Interval<B>, base: i128) -> u64 {
+    let low = place_of(above(run.lower_bound(), base));
+    let high = place_of(above(run.upper_bound(), base));
+    bits_between(low, high)
+}
+
+/// The word of a set, all of whose members have a place.
+pub(super) fn word_within<B: Width>(runs: &[Interval<B>], base: i128) -> u64 {
+    let mut word = 0;
+    for run in runs {
+        word |= word_of_run_within(*run, base);
+    }
+    word
 }
 
 /// The word of a set, of its members from a base on.

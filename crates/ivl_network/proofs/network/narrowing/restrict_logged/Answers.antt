@@ -1,5 +1,4 @@
 use Rattle.std.proofs.Common.{◌≡◌, [], subst, get_or}
-use Rattle.ivl_laws.specs.Runs.{Covers}
 use Rattle.ivl_store.specs.NarrowedSets.{IsLeftOf}
 use Rattle.ivl_within.proofs.Lists.{entry_seen}
 use Rattle.ivl_store.proofs.Places.{cut_after}
@@ -9,5 +8,5 @@ pub returns-clause-cut : goal.returns-clause-cut
 returns-clause-cut g c =
     let old = c.args.store.now in
     let read : c.index-domains-i.result ≡ get_or old c.args.i [] = entry_seen _ _ _ _ c.domains.ensures.same c.requires.known c.index-domains-i.is in
-    rw c.replace_logged.ensures.put (cut_after g.B.Width.whole old c.args.i (Covers c.args.allowed.now) c.in_ok-left.left c.requires.known
-    (subst (λ L. IsLeftOf g.B.Width.whole L (Covers c.args.allowed.now) c.in_ok-left.left) read c.in_ok-left.ensures))
+    rw c.replace_logged.ensures.put (cut_after g.B.Width.whole old c.args.i (g.A.Allowed.members c.args.allowed.now) c.in_ok-left.left c.requires.known
+    (subst (λ L. IsLeftOf g.B.Width.whole L (g.A.Allowed.members c.args.allowed.now) c.in_ok-left.left) read c.in_ok-left.ensures))

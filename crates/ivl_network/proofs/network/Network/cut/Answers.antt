@@ -1,13 +1,12 @@
 use Rattle.std.proofs.Common.{◌∙◌, ap, subst}
 use Rattle.ivl_laws.specs.Families.{set_at}
-use Rattle.ivl_laws.specs.Runs.{Covers}
 use Rattle.ivl_network.specs.Network.{IsCutAt, IsSoundRules, RulesState}
 use Rattle.ivl_network.specs.Trail.{KeepsPast}
 use Rattle.ivl_network.proofs.Indexes.{index_of_count}
 use Rattle.ivl_network.proofs.Marks.{marks_same}
 use Rattle.ivl_network.proofs.Narrowings.{sound_moved}
 use Rattle.ivl_network.proofs.Settled.{settled_cut}
-use Rattle.ivl_network.proofs.network.Network.restrict.Goals as goal
+use Rattle.ivl_network.proofs.network.Network.cut.Goals as goal
 
 pub invariant_of-self-2 : goal.invariant_of-self-2
 invariant_of-self-2 g c =
@@ -42,4 +41,4 @@ returns-clause-marked g c =
 
 pub returns-clause-cut : goal.returns-clause-cut
 returns-clause-cut g c =
-    subst (λ (s : RulesState). IsCutAt c.args.variable (Covers c.args.allowed.now) (set_at s.domains) (set_at c.restrict_logged.new.store)) c.self.view_is c.in_ok-lost.ensures.cut
+    subst (λ (s : RulesState). IsCutAt c.args.variable (g.A.Allowed.members c.args.allowed.now) (set_at s.domains) (set_at c.restrict_logged.new.store)) c.self.view_is c.in_ok-lost.ensures.cut
