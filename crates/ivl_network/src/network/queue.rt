@@ -1,5 +1,5 @@
 //! The rules that have to be looked at again.
-ghost use Rattle.std.specs.Prelude.{◌≡◌, ◌+◌, ◌-◌, ◌<◌, ◌∷◌, ◌++◌, [], ℕ, ℤ, All, Bool, HoldsAt, IsNone, IsTrue, ◌↔◌, List, MatchOption, OnErr, OnOk, false, true, length, slice_index_or, slice_set, take};
+ghost use Rattle.std.specs.Prelude.{◌≡◌, ◌+◌, ◌-◌, ◌<◌, ◌∷◌, ◌++◌, [], ℕ, ℤ, All, HoldsAt, IsNone, IsTrue, ◌↔◌, List, MatchOption, OnErr, OnOk, false, true, length, slice_index_or, slice_set, take};
 ghost use Rattle.std.specs.Vec.{vec_capacity};
 ghost use Rattle.ivl_laws.specs.Families.{set_at};
 ghost use Rattle.ivl_laws.specs.Sets.{HasSome};
@@ -263,7 +263,7 @@ impl Queue {
     {
         let last = index.last(singles, variable);
         if last > 0 {
-            self.wake_from(last, keeps_one, variable, store, rules, index);
+            self.wake_from(last, singles, keeps_one, variable, store, rules, index);
         }
     }
 
@@ -271,6 +271,7 @@ impl Queue {
     fn wake_from<B: Width>(
         &mut self,
         last: usize,
+        singles: bool,
         keeps_one: bool,
         variable: usize,
         store: &Store<B>,
@@ -282,12 +283,13 @@ impl Queue {
         requires present { All (ArePresent (length store.now)) rules.now }
         requires index { (count : ℕ) × IsRuleIndex count rules.now index.now }
         requires one_each { length self.old.settled.items ≡ length rules.now }
-        requires list { (singles : Bool) × IsLastNamingRule singles rules.now variable (length rules.now) last × (keeps_one ≡ true → singles ≡ true) }
+        requires list { IsLastNamingRule singles rules.now variable (length rules.now) last }
+        requires kind { keeps_one ≡ true → singles ≡ true }
         ensures queue { IsRuleQueue self.new }
-        ensures cleared { (singles : Bool) → IsLastNamingRule singles rules.now variable (length rules.now) last
-            → AreClearedListed singles rules.now variable (StaysBeside keeps_one variable (set_at store.now)) self.old.settled.items self.new.settled.items }
+        ensures cleared { AreClearedListed singles rules.now variable (StaysBeside keeps_one variable (set_at store.now)) self.old.settled.items self.new.settled.items }
         ensures round { self.new.round.items ≡ self.old.round.items }
     {
+        prove!(!keeps_one || singles);
         let mut place = last;
         while place > 0 {
             let k = place - 1;

@@ -1,14 +1,12 @@
-use Rattle.std.proofs.Common.{◌≡◌, Bool, length}
+use Rattle.std.proofs.Common.{◌≡◌}
 use Rattle.ivl_laws.specs.Families.{set_at}
-use Rattle.ivl_network.specs.Queue.{IsLastNamingRule, IsRuleQueue}
+use Rattle.ivl_network.specs.Queue.{IsRuleQueue}
 use Rattle.ivl_network.specs.Settled.{StaysBeside}
 use Rattle.ivl_network.proofs.Queues.{WokenSoFar}
 use Rattle.ivl_network.proofs.network.queue.Queue.wake_from.Given as goal
 
 abbrev pub invariant-loop-place : goal.invariant-loop-place
-invariant-loop-place g l = IsRuleQueue l.self
-    × ((singles : Bool) → IsLastNamingRule singles l.rules l.variable (length l.rules) l.last
-    → WokenSoFar singles l.rules l.variable (StaysBeside l.keeps_one l.variable (set_at l.store)) l.fn.self.settled.items l.self.settled.items l.place)
+invariant-loop-place g l = IsRuleQueue l.self × WokenSoFar l.singles l.rules l.variable (StaysBeside l.keeps_one l.variable (set_at l.store)) l.fn.self.settled.items l.self.settled.items l.place
     × (l.self.round.items ≡ l.fn.self.round.items)
 
 abbrev pub decreases-loop-place : goal.decreases-loop-place
