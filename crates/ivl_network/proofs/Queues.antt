@@ -219,7 +219,7 @@ none_woken s rules variable Stays flags place last = record {
 }
 
 -- some rule, where one is asked for that plays no part
-any_rule : Rule
+pub any_rule : Rule
 any_rule = Sum (record { x = 0; y = 0; z = 0 })
 
 -- the next place is a lower one

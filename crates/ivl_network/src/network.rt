@@ -46,7 +46,7 @@ mod trail;
 use allowed::Allowed;
 use change::Change;
 use index::Index;
-use narrowing::{cost_of_rule, narrow_logged, restrict_logged};
+use narrowing::{cost_at, narrow_logged, restrict_logged};
 use queue::Queue;
 use trail::{clear_unmarked, is_logging, log_change, reserve_changes, revert_to};
 
@@ -132,6 +132,28 @@ impl<B: Width> Network<B> {
             marks: Vec::new(alloc),
             settled_at_marks: Vec::new(alloc),
         }
+    }
+
+    /// Makes room for so many more variables and rules: adding them to a network without a mark reallocates nothing
+    /// but the list of the domains.
+    ///
+    /// # Errors
+    ///
+    /// Fails only if allocation fails. The network is unchanged whatever the result.
+    ///
+    /// ```
+    /// let mut network: Network<i32> = Network::new(alloc);
+    /// network.reserve(2, 1)?;
+    /// assert!(rt; network.domains().is_empty() && network.rules().is_empty());
+    /// ```
+    pub fn reserve(&mut self, variables: usize, rules: usize) -> Result<(), AllocError>
+        ensures same { self.new ≡ self.old }
+    {
+        self.places.reserve(variables)?;
+        self.index.reserve(variables, rules)?;
+        self.rules.reserve(rules)?;
+        self.queue.reserve(rules)?;
+        Ok(())
     }
 
     /// Returns the domains, in the order of the variables. `O(1)`, does not allocate.
@@ -547,8 +569,9 @@ impl<B: Width> Network<B> {
         let Some(i) = self.queue.first() else {
             return Ok(Step::Settled);
         };
-        let rule = self.rules[i];
-        let cost = cost_of_rule(&self.store, &rule);
+        let rule = &self.rules[i];
+        let c = rule.places();
+        let cost = cost_at(&self.store, &c);
         if cost > left {
             return Ok(Step::Costly);
         }
@@ -559,10 +582,11 @@ impl<B: Width> Network<B> {
             &mut self.places,
             &mut self.spares,
             &self.marks,
-            &rule,
+            rule,
+            &c,
         )?;
         self.queue
-            .settle(i, lost, &self.store, &self.rules, &self.index);
+            .settle(i, lost, &c, &self.store, &self.rules, &self.index);
         Ok(Step::Made(cost))
     }
 

@@ -29,6 +29,13 @@ pub fn network_of_one<B: Width>(
     Ok(network)
 }
 
+/// Makes room for variables and rules, and returns whether there was memory for that. Nothing changes.
+pub fn has_room_for<B: Width>(network: &mut Network<B>, variables: usize, rules: usize) -> bool
+    ensures { network.new ≡ network.old }
+{
+    network.reserve(variables, rules).is_ok()
+}
+
 /// Returns the numbers of domains and of rules, and whether a domain is empty.
 pub fn shape_of<B: Width>(network: &Network<B>) -> (usize, usize, bool)
     ensures domains { result.0 ≡ length network.now.domains }

@@ -40,6 +40,16 @@ impl Index {
         }
     }
 
+    /// Reserves room for so many more variables and rules.
+    pub(super) fn reserve(&mut self, variables: usize, rules: usize) -> Result<(), AllocError>
+        ensures same { (count : ℕ) (cs : List Rule) → IsRuleIndex count cs self.old → IsRuleIndex count cs self.new }
+    {
+        self.lasts.reserve(variables)?;
+        self.single_lasts.reserve(variables)?;
+        self.links.reserve(rules)?;
+        Ok(())
+    }
+
     /// Reserves room for one more variable.
     pub(super) fn reserve_variable(&mut self) -> Result<(), AllocError>
         ensures same { (count : ℕ) (rules : List Rule) → IsRuleIndex count rules self.old → IsRuleIndex count rules self.new }

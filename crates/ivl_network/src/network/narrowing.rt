@@ -3,6 +3,7 @@ ghost use Rattle.std.specs.Prelude.{◌≡◌, ◌↔◌, ◌⊎◌, ◌<◌, �
 ghost use Rattle.std.specs.Vec.{vec_capacity, vec_len};
 ghost use Rattle.ivl_laws.specs.Families.{set_at};
 ghost use Rattle.ivl_laws.specs.Runs.{IsRunListIn};
+ghost use Rattle.ivl_store.specs.Narrowing.{AllPresent};
 ghost use Rattle.ivl_store.specs.Settled.{AreLost, any_lost};
 ghost use Rattle.ivl_rules.specs.declared.rules.Rule.{Rule};
 ghost use Rattle.ivl_rules.specs.Rules.{AreDifferent, NarrowedBy, places as places_of};
@@ -19,10 +20,10 @@ use intervallum::ops::{Bounded, IsEmpty};
 use intervallum::width::Width;
 use ivl_rules::rules::Rule;
 use ivl_rules::rules::narrowing::{lone_loss, narrowed_at_places};
-use ivl_store::store::{Lost, Store};
+use ivl_store::store::{Constraint, Lost, Store};
 use std::alloc::AllocError;
 
-/// Narrows by a rule, and writes down what takes that back.
+/// Narrows by a rule at these places, and writes down what takes that back.
 pub(super) fn narrow_logged<B: Width>(
     store: &mut Store<B>,
     trail: &mut Vec<Change<B>>,
@@ -30,7 +31,9 @@ pub(super) fn narrow_logged<B: Width>(
     spares: &mut Vec<IntervalSet<B>>,
     marks: &[usize],
     rule: &Rule,
+    c: &Constraint,
 ) -> Result<Lost, AllocError>
+    requires places { c.now ≡ places_of rule.now }
     requires different { AreDifferent rule.now }
     requires present { ArePresent (length store.old) rule.now }
     requires room { (marks.now ≡ []) ⊎ (vec_len trail.old + 3 ≤ vec_capacity trail.old) }
@@ -44,7 +47,6 @@ pub(super) fn narrow_logged<B: Width>(
 {
     if let Some(taken) = lone_loss(store.domains(), rule) {
         take_out_logged(store, trail, places, spares, marks, taken.0, taken.1)?;
-        let c = rule.places();
         return Ok(Lost {
             x: taken.0 == c.x,
             y: taken.0 == c.y,
@@ -57,7 +59,6 @@ pub(super) fn narrow_logged<B: Width>(
         y: y.is_some(),
         z: z.is_some(),
     };
-    let c = rule.places();
     replace_logged(store, trail, places, spares, marks, c.x, x);
     replace_logged(store, trail, places, spares, marks, c.y, y);
     replace_logged(store, trail, places, spares, marks, c.z, z);
@@ -89,19 +90,18 @@ pub(super) fn restrict_logged<B: Width, A: Allowed<B>>(
     Ok(lost)
 }
 
-/// What narrowing by a rule counts for: a sum one, and one more for each 256 pairs of runs of two of its
+/// What narrowing by a rule at these places counts for: a sum one, and one more for each 256 pairs of runs of two of its
 /// domains; a rule of two variables one, and one more for each 256 runs of its domains.
 #[inline]
-pub(super) fn cost_of_rule<B: Width>(store: &Store<B>, rule: &Rule) -> u64
-    requires { ArePresent (length store.now) rule.now }
-    ensures cost { result ≡ cost_of rule.now store.now }
+pub(super) fn cost_at<B: Width>(store: &Store<B>, c: &Constraint) -> u64
+    requires { AllPresent (length store.now) c.now }
+    ensures cost { (rule : Rule) → c.now ≡ places_of rule → result ≡ cost_of rule store.now }
     ensures positive { 0 < result }
 {
-    let c = rule.places();
     if c.y == c.z {
         return cost_of_two(store, c.x, c.y);
     }
-    store.cost_of(&c)
+    store.cost_of(c)
 }
 
 fn cost_of_two<B: Width>(store: &Store<B>, x: usize, y: usize) -> u64

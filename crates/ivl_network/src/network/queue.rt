@@ -3,7 +3,8 @@ ghost use Rattle.std.specs.Prelude.{◌≡◌, ◌+◌, ◌-◌, ◌<◌, ◌∷
 ghost use Rattle.std.specs.Vec.{vec_capacity};
 ghost use Rattle.ivl_laws.specs.Families.{set_at};
 ghost use Rattle.ivl_laws.specs.Sets.{HasSome};
-ghost use Rattle.ivl_network.specs.Queue.{IsRuleIndex, IsRuleQueue, Removes, unsettled_count};
+ghost use Rattle.ivl_network.specs.Queue.{IsLastNamingRule, IsRuleIndex, IsRuleQueue, Removes, unsettled_count};
+ghost use Rattle.ivl_store.specs.Narrowing.{AllPresent};
 ghost use Rattle.ivl_store.specs.Settled.{AreLost, any_lost};
 ghost use Rattle.ivl_rules.specs.Rules.{AreDifferent, NamesOf, NarrowedBy, needs_singles, places as places_of};
 ghost use Rattle.ivl_network.specs.Families.{ArePresent};
@@ -15,7 +16,7 @@ use intervallum::ops::{IsEmpty, IsSingleton};
 use intervallum::width::Width;
 use ivl_rules::rules::Rule;
 use ivl_rules::rules::narrowing::takes_nothing;
-use ivl_store::store::{Lost, Store};
+use ivl_store::store::{Constraint, Lost, Store};
 use std::alloc::{AllocError, Global};
 use std::mem;
 
@@ -38,6 +39,21 @@ impl Queue {
             round: Vec::new(alloc),
             later: Vec::new(alloc),
         }
+    }
+
+    /// Reserves room for so many more rules.
+    pub(super) fn reserve(&mut self, rules: usize) -> Result<(), AllocError>
+        requires { IsRuleQueue self.old }
+        ensures queue { IsRuleQueue self.new }
+        ensures settled { self.new.settled.items ≡ self.old.settled.items }
+    {
+        let count = self.settled.len();
+        self.settled.reserve(rules)?;
+        self.round
+            .reserve((count - self.round.len()).saturating_add(rules))?;
+        self.later
+            .reserve((count - self.later.len()).saturating_add(rules))?;
+        Ok(())
     }
 
     /// Adds a rule after the others, not settled.
@@ -108,13 +124,14 @@ impl Queue {
         self.round.is_empty() && self.later.is_empty()
     }
 
-    /// Updates the flags after the first rule narrowed the store, which is settled then. Others that
+    /// Updates the flags after the first rule, at these places, narrowed the store. It is settled then. Others that
     /// name a variable which lost a member are no longer, but for those that take nothing.
     #[inline]
     pub(super) fn settle<B: Width>(
         &mut self,
         i: usize,
         lost: Lost,
+        c: &Constraint,
         store: &Store<B>,
         rules: &[Rule],
         index: &Index,
@@ -125,6 +142,8 @@ impl Queue {
         requires index { (count : ℕ) × IsRuleIndex count rules.now index.now }
         requires one_each { length self.old.settled.items ≡ length rules.now }
         requires in_list { i < length rules.now }
+        requires places { HoldsAt (λ rule. c.now ≡ places_of rule) rules.now i }
+        requires known { AllPresent (length store.now) c.now }
         requires unset { slice_index_or self.old.settled.items i false ≡ false }
         requires first { (front : List ℕ) × (self.old.round.items ≡ front ++ i ∷ []) }
         ensures queue { IsRuleQueue self.new }
@@ -134,7 +153,6 @@ impl Queue {
             → HoldsAt (λ c. AreLost (places_of c) lost (set_at old) (set_at store.now)) rules.now i
             → AreSettledRules rules.now self.old.settled.items (set_at old) → AreSettledRules rules.now self.new.settled.items (set_at store.now) }
     {
-        let c = rules[i].places();
         let alone = is_one_at_most(lost);
         self.wake(lost.x, true, alone, c.x, store, rules, index);
         self.wake(lost.y, true, alone, c.y, store, rules, index);
@@ -188,6 +206,7 @@ impl Queue {
     /// Clears the flags of the rules that name the variable, if it has changed, but for those that take
     /// nothing from the domains of the store: `only_lost` says that the change took members and added none,
     /// and `alone` that no other domain has changed with it.
+    #[inline(always)]
     pub(super) fn wake<B: Width>(
         &mut self,
         changed: bool,
@@ -222,6 +241,7 @@ impl Queue {
     /// Clears the flags of the rules of one list that name the variable, but for those that take nothing
     /// from the domains of the store and, where the variable alone lost members and keeps one, those whose
     /// other variable is a single number.
+    #[inline(always)]
     fn wake_listed<B: Width>(
         &mut self,
         singles: bool,
@@ -241,10 +261,40 @@ impl Queue {
         ensures cleared { AreClearedListed singles rules.now variable (StaysBeside keeps_one variable (set_at store.now)) self.old.settled.items self.new.settled.items }
         ensures round { self.new.round.items ≡ self.old.round.items }
     {
-        let mut place = index.last(singles, variable);
+        let last = index.last(singles, variable);
+        if last > 0 {
+            self.wake_from(last, singles, keeps_one, variable, store, rules, index);
+        }
+    }
+
+    /// Clears flags as [`Queue::wake_listed`] does, by a walk from the place of the last rule of the list.
+    fn wake_from<B: Width>(
+        &mut self,
+        last: usize,
+        singles: bool,
+        keeps_one: bool,
+        variable: usize,
+        store: &Store<B>,
+        rules: &[Rule],
+        index: &Index,
+    )
+        requires queue { IsRuleQueue self.old }
+        requires different { All AreDifferent rules.now }
+        requires present { All (ArePresent (length store.now)) rules.now }
+        requires index { (count : ℕ) × IsRuleIndex count rules.now index.now }
+        requires one_each { length self.old.settled.items ≡ length rules.now }
+        requires list { IsLastNamingRule singles rules.now variable (length rules.now) last }
+        requires kind { keeps_one ≡ true → singles ≡ true }
+        ensures queue { IsRuleQueue self.new }
+        ensures cleared { AreClearedListed singles rules.now variable (StaysBeside keeps_one variable (set_at store.now)) self.old.settled.items self.new.settled.items }
+        ensures round { self.new.round.items ≡ self.old.round.items }
+    {
+        prove!(!keeps_one || singles);
+        let mut place = last;
         while place > 0 {
             let k = place - 1;
-            if self.settled[k] && !stays_settled(&rules[k], keeps_one, variable, store) {
+            let rule = &rules[k];
+            if self.settled[k] && !stays_settled(rule, keeps_one, variable, store) {
                 self.clear(k);
             }
             place = index.last_before(rules, k, variable);

@@ -56,6 +56,7 @@ pub(super) fn log_change<B: Width>(trail: &mut Vec<Change<B>>, is_kept: bool, ch
 
 /// Puts what is left in place of a domain, if it lost a member. Writes down the set that stood there, if changes are
 /// written down and the trail does not have one of this variable since the last mark.
+#[inline(always)]
 pub(super) fn replace_logged<B: Width>(
     store: &mut Store<B>,
     trail: &mut Vec<Change<B>>,
@@ -73,7 +74,30 @@ pub(super) fn replace_logged<B: Width>(
     ensures count { vec_len trail.new ≤ vec_len trail.old + 1 }
     ensures capacity { vec_capacity trail.new ≡ vec_capacity trail.old }
 {
-    let Some(old) = store.swap(variable, left) else {
+    if let Some(set) = left {
+        put_logged(store, trail, places, spares, marks, variable, set);
+    }
+}
+
+/// Puts a set in place of a domain, and writes that down as [`replace_logged`] does.
+fn put_logged<B: Width>(
+    store: &mut Store<B>,
+    trail: &mut Vec<Change<B>>,
+    places: &mut [usize],
+    spares: &mut Vec<IntervalSet<B>>,
+    marks: &[usize],
+    variable: usize,
+    set: IntervalSet<B>,
+)
+    requires known { variable < length store.old }
+    requires range { IsRunListIn B.whole set }
+    requires room { (marks.now ≡ []) ⊎ (vec_len trail.old < vec_capacity trail.old) }
+    ensures put { store.new ≡ slice_set store.old variable set }
+    ensures past { (rules : List Rule) → KeepsPast marks.now trail.old.items trail.new.items store.old store.new rules }
+    ensures count { vec_len trail.new ≤ vec_len trail.old + 1 }
+    ensures capacity { vec_capacity trail.new ≡ vec_capacity trail.old }
+{
+    let Some(old) = store.swap(variable, Some(set)) else {
         return;
     };
     if is_unkept(trail, marks, places, variable) {

@@ -47,6 +47,7 @@ pub(super) fn network_of<B: Width>(
     ensures solutions { IfOk result (λ network. (point : List ℤ) → SolvesRules rules.now domains.now point ↔ SolvesRules network.rules domains.now point) }
 {
     let mut network = Network::new(alloc);
+    network.reserve(domains.len(), rules.len())?;
     add_variables(&mut network, domains)?;
     require_all(&mut network, rules)?;
     // for the prover: the rules name variables of the network

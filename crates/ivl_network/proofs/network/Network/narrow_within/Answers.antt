@@ -8,6 +8,7 @@ use Rattle.ivl_network.specs.Families.{ArePresent, IsFixedBy}
 use Rattle.ivl_rules.specs.Rules.{NarrowedBy, places}
 use Rattle.ivl_network.specs.Network.{AreRuleNarrowings, IsSoundRules, RulesState, work_of_rules}
 use Rattle.ivl_network.specs.Queue.{unsettled_count}
+use Rattle.ivl_store.specs.Narrowing.{AllPresent}
 use Rattle.ivl_store.specs.Settled.{AreLost, any_lost}
 use Rattle.ivl_network.specs.Settled.{AreSettledRules}
 use Rattle.ivl_network.proofs.Costs.{counted_one}
@@ -24,8 +25,8 @@ pub returns-clause-narrowed : goal.returns-clause-narrowed
 returns-clause-narrowed g c = λ _ _.
     let cs = c.self.inside.rules.items in
     let lt : c.in-Some.i < length cs = (let a = c.in-Some.ensures.first.0 in let b = c.self.invariant.0.settled.one_each in omega (arith, a, b)) in
-    let at = λ (d : Rule). get_or_default cs c.in-Some.i d c.index.result.now lt ∙ sym c.index.ensures in
-    let first = c.index.result.now in
+    let at = λ (d : Rule). get_or_default cs c.in-Some.i d c.index-rule.result.now lt ∙ sym c.index-rule.ensures in
+    let first = c.index-rule.result.now in
     subst (λ (s : RulesState). AreRuleNarrowings s.rules 1 (set_at s.domains) (set_at c.narrow_logged.new.store)) c.self.view_is
     (one_narrowing cs c.in-Some.i first (set_at c.self.inside.store) (set_at c.narrow_logged.new.store) lt
     (subst (λ k. (j : ℕ) (v : ℤ) → set_at c.narrow_logged.new.store j v ↔ NarrowedBy k (set_at c.self.inside.store) j v) (sym (at first)) c.in_ok-lost.ensures.narrowed))
@@ -45,7 +46,7 @@ invariant_of-self-2 g c =
     let inside = c.self.inside in
     let cs = inside.rules.items in
     let lt : c.in-Some.i < length cs = (let a = c.in-Some.ensures.first.0 in let b = c.self.invariant.0.settled.one_each in omega (arith, a, b)) in
-    let at = λ (d : Rule). sym (get_or_default cs c.in-Some.i d c.index.result.now lt ∙ sym c.index.ensures) in
+    let at = λ (d : Rule). sym (get_or_default cs c.in-Some.i d c.index-rule.result.now lt ∙ sym c.index-rule.ensures) in
     let moved = rw c.deref-3.ensures.value at c.settle.ensures.settled in
     let sound : IsSoundRules c.narrow_logged.new.store cs c.settle.new.self.settled.items = sound_moved inside.store c.narrow_logged.new.store cs inside.queue.settled.items c.settle.new.self.settled.items c.narrow_logged.ensures.kept_count
     (moved inside.store
@@ -77,14 +78,14 @@ returns-clause-counted g c = λ cost e.
     let inside = c.self.inside in
     let cs = inside.rules.items in
     let lt : c.in-Some.i < length cs = (let a = c.in-Some.ensures.first.0 in let b = c.self.invariant.0.settled.one_each in omega (arith, a, b)) in
-    let is : c.cost_of_rule-cost.result ≡ cost = cc in
-    let positive = c.cost_of_rule-cost.ensures.positive in
+    let is : c.cost_at-cost.result ≡ cost = cc in
+    let positive = c.cost_at-cost.ensures.positive in
     let within = c.if-cost-left.false in
     subst (λ (s : RulesState). (0 < cost) × (cost ≤ c.args.left) × (d : Rule) × AreRulesCounted s.rules (d ∷ []) cost s.domains c.narrow_logged.new.store) c.self.view_is (
       omega (arith, is, positive),
       omega (arith, is, within),
-      c.index.result.now,
-      counted_one cs c.in-Some.i c.index.result.now cost inside.store c.narrow_logged.new.store lt (sym c.index.ensures) c.in_ok-lost.ensures.narrowed (sym is ∙ c.cost_of_rule-cost.ensures.cost),
+      c.index-rule.result.now,
+      counted_one cs c.in-Some.i c.index-rule.result.now cost inside.store c.narrow_logged.new.store lt (sym c.index-rule.ensures) c.in_ok-lost.ensures.narrowed (sym is ∙ c.cost_at-cost.ensures.cost c.index-rule.result.now c.places-c.ensures),
     )
 
 pub returns-then-cost-left-clause-costly : goal.returns-then-cost-left-clause-costly
@@ -92,18 +93,18 @@ returns-then-cost-left-clause-costly g c = λ _.
     let cs = c.self.inside.rules.items in
     let lt : c.in-Some.i < length cs = (let a = c.in-Some.ensures.first.0 in let b = c.self.invariant.0.settled.one_each in omega (arith, a, b)) in
     let above = c.if-cost-left.true in
-    let cost = c.cost_of_rule-cost.ensures.cost in (
+    let cost = c.cost_at-cost.ensures.cost c.index-rule.result.now c.places-c.ensures in (
       state_is _ _ _ _ _ _ _ _ refl refl (ap unsettled_count c.first.ensures.settled) refl ∙ c.self.view_is,
-      c.index.result.now,
-      subst (λ (s : RulesState). Contains s.rules c.index.result.now) c.self.view_is (c.in-Some.i, lt, sym c.index.ensures),
-      subst (λ (s : RulesState). c.args.left < cost_of_rule c.index.result.now s.domains) c.self.view_is (omega (arith, above, cost)),
+      c.index-rule.result.now,
+      subst (λ (s : RulesState). Contains s.rules c.index-rule.result.now) c.self.view_is (c.in-Some.i, lt, sym c.index-rule.ensures),
+      subst (λ (s : RulesState). c.args.left < cost_of_rule c.index-rule.result.now s.domains) c.self.view_is (omega (arith, above, cost)),
     )
 
-pub cost_of_rule-cost-requires : goal.cost_of_rule-cost-requires
-cost_of_rule-cost-requires g c =
+pub cost_at-cost-requires : goal.cost_at-cost-requires
+cost_at-cost-requires g c =
     let cs = c.self.inside.rules.items in
     let lt : c.in-Some.i < length cs = (let a = c.in-Some.ensures.first.0 in let b = c.self.invariant.0.settled.one_each in omega (arith, a, b)) in
-    subst (ArePresent (length c.self.inside.store)) (sym c.index.ensures) (c.self.invariant.0.present c.in-Some.i c.index.result.now lt)
+    subst (AllPresent (length c.self.inside.store)) (sym c.places-c.ensures) (subst (ArePresent (length c.self.inside.store)) (sym c.index-rule.ensures) (c.self.invariant.0.present c.in-Some.i c.index-rule.result.now lt))
 
 pub returns-in_default-clause-done : goal.returns-in_default-clause-done
 returns-in_default-clause-done g c = ((λ _. ap (λ (s : RulesState). s.unsettled) (sym c.self.view_is) ∙ c.first.ensures.none.0 (search rules)), (λ _. refl))

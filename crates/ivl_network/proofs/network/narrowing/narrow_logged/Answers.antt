@@ -14,25 +14,25 @@ use Rattle.ivl_network.proofs.network.narrowing.narrow_logged.Goals as goal
 
 pub returns-clause-narrowed : goal.returns-clause-narrowed
 returns-clause-narrowed g c =
-    let rule = c.args.rule.now in let old = c.args.store.now in let k = c.places-c-2.result in
+    let rule = c.args.rule.now in let old = c.args.store.now in let k = c.args.c.now in
     let e : c.replace_logged-3.new.store ≡ after (places rule) old c.in_ok-x.x c.in_ok-x.y c.in_ok-x.z =
     c.replace_logged-3.ensures.put ∙ ap (λ s. narrowed_at s k.z c.in_ok-x.z) (c.replace_logged-2.ensures.put ∙ ap (λ s. narrowed_at s k.y c.in_ok-x.y) c.replace_logged.ensures.put)
-    ∙ ap (λ (p : Constraint). after p old c.in_ok-x.x c.in_ok-x.y c.in_ok-x.z) c.places-c-2.ensures in
+    ∙ ap (λ (p : Constraint). after p old c.in_ok-x.x c.in_ok-x.y c.in_ok-x.z) c.requires.places in
     let left = subst (λ s. AreLeftAtPlaces g.B.Width.whole (places rule) (HasPointAt rule (set_at s)) s c.in_ok-x.x c.in_ok-x.y c.in_ok-x.z) c.domains-2.ensures.same c.in_ok-x.ensures in
     rw e (narrowed_after g.B.Width.whole rule old _ _ _ c.requires.different c.requires.present left)
 
 pub returns-clause-lost : goal.returns-clause-lost
 returns-clause-lost g c =
-    let rule = c.args.rule.now in let old = c.args.store.now in let k = c.places-c-2.result in
+    let rule = c.args.rule.now in let old = c.args.store.now in let k = c.args.c.now in
     let e : c.replace_logged-3.new.store ≡ after (places rule) old c.in_ok-x.x c.in_ok-x.y c.in_ok-x.z =
     c.replace_logged-3.ensures.put ∙ ap (λ s. narrowed_at s k.z c.in_ok-x.z) (c.replace_logged-2.ensures.put ∙ ap (λ s. narrowed_at s k.y c.in_ok-x.y) c.replace_logged.ensures.put)
-    ∙ ap (λ (p : Constraint). after p old c.in_ok-x.x c.in_ok-x.y c.in_ok-x.z) c.places-c-2.ensures in
+    ∙ ap (λ (p : Constraint). after p old c.in_ok-x.x c.in_ok-x.y c.in_ok-x.z) c.requires.places in
     let left = subst (λ s. AreLeftAtPlaces g.B.Width.whole (places rule) (HasPointAt rule (set_at s)) s c.in_ok-x.x c.in_ok-x.y c.in_ok-x.z) c.domains-2.ensures.same c.in_ok-x.ensures in
     rw e (lost_after g.B.Width.whole rule (HasPointAt rule (set_at old)) old _ _ _ _ c.requires.different c.requires.present left c.is_some.ensures c.is_some-2.ensures c.is_some-3.ensures)
 
 pub returns-clause-same : goal.returns-clause-same
 returns-clause-same g c = λ none.
-    let k = c.places-c-2.result in let old = c.args.store.now in
+    let k = c.args.c.now in let old = c.args.store.now in
     c.replace_logged-3.ensures.put ∙ ap (λ s. narrowed_at s k.z c.in_ok-x.z) (c.replace_logged-2.ensures.put ∙ ap (λ s. narrowed_at s k.y c.in_ok-x.y) c.replace_logged.ensures.put)
     ∙ none_after k old c.in_ok-x.x c.in_ok-x.y c.in_ok-x.z _ c.is_some.ensures c.is_some-2.ensures c.is_some-3.ensures none
 
@@ -59,5 +59,5 @@ returns-in-Some-clause-lost g c =
     let new = c.take_out_logged.new.store in
     let one = subst (λ (sets : List (List (ℤ × ℤ))). TakesOne rule (set_at sets) c.in-Some.taken.0 (g.B.Width.value c.in-Some.taken.1)) c.domains.ensures.same c.in-Some.ensures.one in
     subst (λ (p : Constraint). AreLost (places rule) (record { x = eqb c.in-Some.taken.0 p.x; y = eqb c.in-Some.taken.0 p.y; z = false }) (set_at old) (set_at new))
-    (sym c.places-c.ensures)
+    (sym c.requires.places)
     (one_lost rule c.in-Some.taken.0 (g.B.Width.value c.in-Some.taken.1) (set_at old) (set_at new) c.in-Some.ensures.differs one c.in_ok-take_out_logged.ensures.taken)

@@ -1,7 +1,7 @@
 use Rattle.std.proofs.Common.{sym, true, false}
 use Rattle.std.proofs.lemmas.Bool.{false≢true}
 use Rattle.ivl_network.proofs.Logging.{keeps_replaced}
-use Rattle.ivl_network.proofs.network.trail.replace_logged.Goals as goal
+use Rattle.ivl_network.proofs.network.trail.put_logged.Goals as goal
 
 pub returns-then-is_unkept-clause-past : goal.returns-then-is_unkept-clause-past
 returns-then-is_unkept-clause-past g c = λ rules.
