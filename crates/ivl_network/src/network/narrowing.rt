@@ -15,7 +15,6 @@ ghost use Rattle.ivl_network.specs.Trail.{KeepsPast};
 use super::allowed::Allowed;
 use super::change::Change;
 use super::trail::{replace_logged, take_out_logged};
-use intervallum::interval_set::IntervalSet;
 use intervallum::ops::{Bounded, IsEmpty};
 use intervallum::width::Width;
 use ivl_rules::rules::Rule;

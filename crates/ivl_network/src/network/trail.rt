@@ -78,7 +78,7 @@ fn put_logged<B: Width>(
     store: &mut Store<B>,
     trail: &mut Vec<Change<B>>,
     places: &mut [usize],
-    spares: &mut Vec<IntervalSet<B>>,
+    spares: &mut Spares<B>,
     marks: &[usize],
     variable: usize,
     set: IntervalSet<B>,

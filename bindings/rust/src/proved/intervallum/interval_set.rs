@@ -26,6 +26,7 @@ mod members;
 mod members_within;
 mod neighbours;
 mod operators;
+mod push_run;
 mod ranges;
 mod rank;
 pub(crate) mod run_lists;

@@ -29,7 +29,7 @@ use crate::proved::intervallum::interval::Interval;
 use crate::proved::intervallum::interval_set::IntervalSet;
 use crate::proved::intervallum::width::Width;
 use crate::proved::ivl_rules::rules::Rule;
-use crate::proved::ivl_store::store::{Store, StoreFault};
+use crate::proved::ivl_store::store::{Spares, Store, StoreFault};
 use crate::rattle::std::alloc::{AllocError, Global};
 
 mod allowed;
@@ -43,7 +43,7 @@ mod trail;
 use allowed::Allowed;
 use change::Change;
 use index::Index;
-use narrowing::{cost_of_rule, narrow_logged, restrict_logged};
+use narrowing::{cost_at, narrow_logged, restrict_logged};
 use queue::Queue;
 use trail::{clear_unmarked, is_logging, log_change, reserve_changes, revert_to};
 
@@ -72,8 +72,8 @@ enum Step {
 /// Variables are named by their indexes from 0. Domains only lose members. A call that fails with
 /// [`StoreFault::Variable`] leaves the network unchanged.
 ///
-/// A network that narrows by `Differs` keeps some sets that it does not use any more, 64 at most, each of
-/// at most 64 runs, for their memory.
+/// A network that was marked, or for which room was reserved, keeps some sets that it does not use any more, 64 at
+/// most, each of at most 64 runs, for their memory.
 pub struct Network<B: Width> {
     store: Store<B>,
     rules: Vec<Rule>,
@@ -86,7 +86,7 @@ pub struct Network<B: Width> {
     // For each variable a place of the trail, one more than that at which its domain was kept last.
     places: Vec<usize>,
     // Sets that are not used any more, for their memory.
-    spares: Vec<IntervalSet<B>>,
+    spares: Spares<B>,
     // The places of the trail at which there is a mark.
     marks: Vec<usize>,
     // For each mark, whether all rules were settled at it.
@@ -120,10 +120,43 @@ impl<B: Width> Network<B> {
             queue: Queue::new(alloc),
             trail: Vec::new(alloc),
             places: Vec::new(alloc),
-            spares: Vec::new(alloc),
+            spares: Spares::new(alloc),
             marks: Vec::new(alloc),
             settled_at_marks: Vec::new(alloc),
         }
+    }
+
+    /// Makes room for so many more variables and rules: adding them to a network without a mark reallocates nothing
+    /// but the list of the domains.
+    ///
+    /// # Errors
+    ///
+    /// Fails only if allocation fails. The network is unchanged whatever the result.
+    ///
+    /// ```
+    /// use intervallum::proved::examples::*;
+    ///
+    /// fn main() -> Result<(), std::boxed::Box<dyn std::error::Error>> {
+    ///     let alloc = Global;
+    ///     let mut network: Network<i32> = Network::new(alloc);
+    ///     network.reserve(2, 1)?;
+    ///     assert!(network.domains().is_empty() && network.rules().is_empty());
+    ///     Ok(())
+    /// }
+    /// ```
+    ///
+    /// # Proved
+    ///
+    /// ```text
+    /// ensures same { self.new ≡ self.old }
+    /// ```
+    pub fn reserve(&mut self, variables: usize, rules: usize) -> Result<(), AllocError> {
+        self.spares.make_room()?;
+        self.places.reserve(variables)?;
+        self.index.reserve(variables, rules)?;
+        self.rules.reserve(rules)?;
+        self.queue.reserve(rules)?;
+        Ok(())
     }
 
     /// Returns the domains, in the order of the variables. `O(1)`, does not allocate.
@@ -575,8 +608,9 @@ impl<B: Width> Network<B> {
         let Some(i) = self.queue.first() else {
             return Ok(Step::Settled);
         };
-        let rule = self.rules[i];
-        let cost = cost_of_rule(&self.store, &rule);
+        let rule = &self.rules[i];
+        let c = rule.places();
+        let cost = cost_at(&self.store, &c);
         if cost > left {
             return Ok(Step::Costly);
         }
@@ -587,10 +621,11 @@ impl<B: Width> Network<B> {
             &mut self.places,
             &mut self.spares,
             &self.marks,
-            &rule,
+            rule,
+            &c,
         )?;
         self.queue
-            .settle(i, lost, &self.store, &self.rules, &self.index);
+            .settle(i, lost, &c, &self.store, &self.rules, &self.index);
         Ok(Step::Made(cost))
     }
 
@@ -606,7 +641,8 @@ impl<B: Width> Network<B> {
     /// Marks the network as it is, and returns the index of the mark. From the first mark on the
     /// network keeps domains that are replaced, until the marks are undone or dropped: what a cut or a
     /// narrowing replaces, if it replaces a domain for the first time since the last mark. `O(1)`
-    /// amortized; no domain is copied.
+    /// amortized; no domain is copied. The first mark makes room for the sets that are kept for their
+    /// memory.
     ///
     /// # Errors
     ///
@@ -638,6 +674,7 @@ impl<B: Width> Network<B> {
     /// ```
     pub fn mark(&mut self) -> Result<usize, AllocError> {
         let mark = self.marks.len();
+        self.spares.make_room()?;
         self.settled_at_marks.reserve(1)?;
         self.marks.push(self.trail.len())?;
         self.settled_at_marks.push_reserved(self.queue.is_empty());

@@ -36,6 +36,7 @@ mod narrowing;
 mod post;
 mod posting;
 mod settled;
+mod spares;
 mod swapping;
 mod words;
 
@@ -45,6 +46,7 @@ use crate::proved::intervallum::ops::IsEmpty;
 use crate::proved::intervallum::width::Width;
 pub use post::Post;
 pub use settled::Lost;
+pub use spares::Spares;
 use crate::rattle::std::alloc::{AllocError, Global};
 
 /// The domains of some variables: a set of numbers for each. A contract sees the list of their run

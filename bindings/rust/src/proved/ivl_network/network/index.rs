@@ -33,6 +33,14 @@ impl Index {
         }
     }
 
+    /// Reserves room for so many more variables and rules.
+    pub(super) fn reserve(&mut self, variables: usize, rules: usize) -> Result<(), AllocError> {
+        self.lasts.reserve(variables)?;
+        self.single_lasts.reserve(variables)?;
+        self.links.reserve(rules)?;
+        Ok(())
+    }
+
     /// Reserves room for one more variable.
     pub(super) fn reserve_variable(&mut self) -> Result<(), AllocError> {
         self.lasts.reserve(1)?;

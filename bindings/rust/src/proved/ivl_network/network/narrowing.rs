@@ -6,39 +6,37 @@ use crate::rattle::prelude::*;
 use super::allowed::Allowed;
 use super::change::Change;
 use super::trail::{replace_logged, take_out_logged};
-use crate::proved::intervallum::interval_set::IntervalSet;
 use crate::proved::intervallum::ops::{Bounded, IsEmpty};
 use crate::proved::intervallum::width::Width;
 use crate::proved::ivl_rules::rules::Rule;
-use crate::proved::ivl_rules::rules::narrowing::{lone_loss, narrowed_at_places};
-use crate::proved::ivl_store::store::{Lost, Store};
+use crate::proved::ivl_rules::rules::narrowing::{lone_loss, narrowed_at_places_in};
+use crate::proved::ivl_store::store::{Constraint, Lost, Spares, Store};
 use crate::rattle::std::alloc::AllocError;
 
-/// Narrows by a rule, and writes down what takes that back.
+/// Narrows by a rule at these places, and writes down what takes that back.
 pub(super) fn narrow_logged<B: Width>(
     store: &mut Store<B>,
     trail: &mut Vec<Change<B>>,
     places: &mut [usize],
-    spares: &mut Vec<IntervalSet<B>>,
+    spares: &mut Spares<B>,
     marks: &[usize],
     rule: &Rule,
+    c: &Constraint,
 ) -> Result<Lost, AllocError> {
     if let Some(taken) = lone_loss(store.domains(), rule) {
         take_out_logged(store, trail, places, spares, marks, taken.0, taken.1)?;
-        let c = rule.places();
         return Ok(Lost {
             x: taken.0 == c.x,
             y: taken.0 == c.y,
             z: false,
         });
     }
-    let (x, y, z) = narrowed_at_places(store.domains(), rule)?;
+    let (x, y, z) = narrowed_at_places_in(store.domains(), rule, spares)?;
     let lost = Lost {
         x: x.is_some(),
         y: y.is_some(),
         z: z.is_some(),
     };
-    let c = rule.places();
     replace_logged(store, trail, places, spares, marks, c.x, x);
     replace_logged(store, trail, places, spares, marks, c.y, y);
     replace_logged(store, trail, places, spares, marks, c.z, z);
@@ -51,7 +49,7 @@ pub(super) fn restrict_logged<B: Width, A: Allowed<B>>(
     store: &mut Store<B>,
     trail: &mut Vec<Change<B>>,
     places: &mut [usize],
-    spares: &mut Vec<IntervalSet<B>>,
+    spares: &mut Spares<B>,
     marks: &[usize],
     i: usize,
     allowed: &A,
@@ -62,15 +60,14 @@ pub(super) fn restrict_logged<B: Width, A: Allowed<B>>(
     Ok(lost)
 }
 
-/// What narrowing by a rule counts for: a sum one, and one more for each 256 pairs of runs of two of its
+/// What narrowing by a rule at these places counts for: a sum one, and one more for each 256 pairs of runs of two of its
 /// domains; a rule of two variables one, and one more for each 256 runs of its domains.
 #[inline]
-pub(super) fn cost_of_rule<B: Width>(store: &Store<B>, rule: &Rule) -> u64 {
-    let c = rule.places();
+pub(super) fn cost_at<B: Width>(store: &Store<B>, c: &Constraint) -> u64 {
     if c.y == c.z {
         return cost_of_two(store, c.x, c.y);
     }
-    store.cost_of(&c)
+    store.cost_of(c)
 }
 
 fn cost_of_two<B: Width>(store: &Store<B>, x: usize, y: usize) -> u64 {

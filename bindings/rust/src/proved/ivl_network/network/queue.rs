@@ -9,7 +9,7 @@ use crate::proved::intervallum::ops::{IsEmpty, IsSingleton};
 use crate::proved::intervallum::width::Width;
 use crate::proved::ivl_rules::rules::Rule;
 use crate::proved::ivl_rules::rules::narrowing::takes_nothing;
-use crate::proved::ivl_store::store::{Lost, Store};
+use crate::proved::ivl_store::store::{Constraint, Lost, Store};
 use crate::rattle::std::alloc::{AllocError, Global};
 use crate::rattle::std::mem;
 
@@ -28,6 +28,17 @@ impl Queue {
             round: Vec::new(alloc),
             later: Vec::new(alloc),
         }
+    }
+
+    /// Reserves room for so many more rules.
+    pub(super) fn reserve(&mut self, rules: usize) -> Result<(), AllocError> {
+        let count = self.settled.len();
+        self.settled.reserve(rules)?;
+        self.round
+            .reserve((count - self.round.len()).saturating_add(rules))?;
+        self.later
+            .reserve((count - self.later.len()).saturating_add(rules))?;
+        Ok(())
     }
 
     /// Adds a rule after the others, not settled.
@@ -73,18 +84,18 @@ impl Queue {
         self.round.is_empty() && self.later.is_empty()
     }
 
-    /// Updates the flags after the first rule narrowed the store, which is settled then. Others that
+    /// Updates the flags after the first rule, at these places, narrowed the store. It is settled then. Others that
     /// name a variable which lost a member are no longer, but for those that take nothing.
     #[inline]
     pub(super) fn settle<B: Width>(
         &mut self,
         i: usize,
         lost: Lost,
+        c: &Constraint,
         store: &Store<B>,
         rules: &[Rule],
         index: &Index,
     ) {
-        let c = rules[i].places();
         let alone = is_one_at_most(lost);
         self.wake(lost.x, true, alone, c.x, store, rules, index);
         self.wake(lost.y, true, alone, c.y, store, rules, index);
@@ -118,6 +129,7 @@ impl Queue {
     /// Clears the flags of the rules that name the variable, if it has changed, but for those that take
     /// nothing from the domains of the store: `only_lost` says that the change took members and added none,
     /// and `alone` that no other domain has changed with it.
+    #[inline(always)]
     pub(super) fn wake<B: Width>(
         &mut self,
         changed: bool,
@@ -142,6 +154,7 @@ impl Queue {
     /// Clears the flags of the rules of one list that name the variable, but for those that take nothing
     /// from the domains of the store and, where the variable alone lost members and keeps one, those whose
     /// other variable is a single number.
+    #[inline(always)]
     fn wake_listed<B: Width>(
         &mut self,
         singles: bool,
@@ -151,10 +164,29 @@ impl Queue {
         rules: &[Rule],
         index: &Index,
     ) {
-        let mut place = index.last(singles, variable);
+        let last = index.last(singles, variable);
+        if last > 0 {
+            self.wake_from(last, singles, keeps_one, variable, store, rules, index);
+        }
+    }
+
+    /// Clears flags as [`Queue::wake_listed`] does, by a walk from the place of the last rule of the list.
+    fn wake_from<B: Width>(
+        &mut self,
+        last: usize,
+        singles: bool,
+        keeps_one: bool,
+        variable: usize,
+        store: &Store<B>,
+        rules: &[Rule],
+        index: &Index,
+    ) {
+        debug_assert!(!keeps_one || singles);
+        let mut place = last;
         while place > 0 {
             let k = place - 1;
-            if self.settled[k] && !stays_settled(&rules[k], keeps_one, variable, store) {
+            let rule = &rules[k];
+            if self.settled[k] && !stays_settled(rule, keeps_one, variable, store) {
                 self.clear(k);
             }
             place = index.last_before(rules, k, variable);

@@ -11,14 +11,8 @@ use crate::proved::intervallum::interval_set::IntervalSet;
 use crate::proved::intervallum::ops::Singleton;
 use crate::proved::intervallum::width::Width;
 use crate::proved::ivl_rules::rules::Rule;
-use crate::proved::ivl_store::store::Store;
+use crate::proved::ivl_store::store::{Spares, Store};
 use crate::rattle::std::alloc::AllocError;
-
-/// How many sets that are not used any more a network makes room for, where it lacks one.
-const SPARES: usize = 64;
-
-/// How many runs such a set has at most, to be kept.
-const RUNS_OF_A_SPARE: usize = 64;
 
 /// Reserves room for so many changes, if changes are written down.
 pub(super) fn reserve_changes<B: Width>(
@@ -41,22 +35,38 @@ pub(super) fn log_change<B: Width>(trail: &mut Vec<Change<B>>, is_kept: bool, ch
 
 /// Puts what is left in place of a domain, if it lost a member. Writes down the set that stood there, if changes are
 /// written down and the trail does not have one of this variable since the last mark.
+#[inline(always)]
 pub(super) fn replace_logged<B: Width>(
     store: &mut Store<B>,
     trail: &mut Vec<Change<B>>,
     places: &mut [usize],
-    spares: &mut Vec<IntervalSet<B>>,
+    spares: &mut Spares<B>,
     marks: &[usize],
     variable: usize,
     left: Option<IntervalSet<B>>,
 ) {
-    let Some(old) = store.swap(variable, left) else {
+    if let Some(set) = left {
+        put_logged(store, trail, places, spares, marks, variable, set);
+    }
+}
+
+/// Puts a set in place of a domain, and writes that down as [`replace_logged`] does.
+fn put_logged<B: Width>(
+    store: &mut Store<B>,
+    trail: &mut Vec<Change<B>>,
+    places: &mut [usize],
+    spares: &mut Spares<B>,
+    marks: &[usize],
+    variable: usize,
+    set: IntervalSet<B>,
+) {
+    let Some(old) = store.swap(variable, Some(set)) else {
         return;
     };
     if is_unkept(trail, marks, places, variable) {
         write_down(trail, places, variable, old);
     } else {
-        spare(spares, old);
+        spares.keep(old);
     }
 }
 
@@ -78,7 +88,7 @@ pub(super) fn take_out_logged<B: Width>(
     store: &mut Store<B>,
     trail: &mut Vec<Change<B>>,
     places: &mut [usize],
-    spares: &mut Vec<IntervalSet<B>>,
+    spares: &mut Spares<B>,
     marks: &[usize],
     variable: usize,
     value: B,
@@ -96,21 +106,11 @@ pub(super) fn take_out_logged<B: Width>(
 /// A copy of a set, in the memory of one that is not used any more, if there is one.
 fn copy_of<B: Width>(
     set: &IntervalSet<B>,
-    spares: &mut Vec<IntervalSet<B>>,
+    spares: &mut Spares<B>,
 ) -> Result<IntervalSet<B>, AllocError> {
-    if let Some(mut copy) = spares.pop() {
-        copy.try_clone_from(set)?;
-        return Ok(copy);
-    }
-    spares.reserve(SPARES)?;
-    set.try_clone()
-}
-
-/// Keeps a set that is not used any more, for its memory, unless it is large or there is no room for it.
-fn spare<B: Width>(spares: &mut Vec<IntervalSet<B>>, set: IntervalSet<B>) {
-    if set.interval_count() <= RUNS_OF_A_SPARE && spares.len() < spares.capacity() {
-        spares.push_reserved(set);
-    }
+    let mut copy = spares.take(set.allocator());
+    copy.try_clone_from(set)?;
+    Ok(copy)
 }
 
 /// Whether there is a mark, and the trail does not have a domain of the variable since the last one: a look at where
@@ -150,7 +150,7 @@ pub(super) fn revert_to<B: Width>(
     start: usize,
     wakes: bool,
     store: &mut Store<B>,
-    spares: &mut Vec<IntervalSet<B>>,
+    spares: &mut Spares<B>,
     rules: &mut Vec<Rule>,
     index: &mut Index,
     queue: &mut Queue,
@@ -168,7 +168,7 @@ fn take_back<B: Width>(
     change: Change<B>,
     wakes: bool,
     store: &mut Store<B>,
-    spares: &mut Vec<IntervalSet<B>>,
+    spares: &mut Spares<B>,
     rules: &mut Vec<Rule>,
     index: &mut Index,
     queue: &mut Queue,
@@ -194,14 +194,14 @@ fn take_back<B: Width>(
 /// Puts a domain back, if there is such a variable.
 fn put_back<B: Width>(
     store: &mut Store<B>,
-    spares: &mut Vec<IntervalSet<B>>,
+    spares: &mut Spares<B>,
     variable: usize,
     set: IntervalSet<B>,
 ) {
     set.in_whole();
     if variable < store.domains().len() {
         if let Some(old) = store.swap(variable, Some(set)) {
-            spare(spares, old);
+            spares.keep(old);
         }
     }
 }

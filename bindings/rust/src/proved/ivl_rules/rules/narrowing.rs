@@ -11,7 +11,7 @@ use super::windows::{
 use crate::proved::intervallum::interval_set::IntervalSet;
 use crate::proved::intervallum::ops::{Bounded, Contains, IsEmpty, IsSingleton};
 use crate::proved::intervallum::width::Width;
-use crate::proved::ivl_store::store::{Constraint, narrowed_sets};
+use crate::proved::ivl_store::store::{Constraint, Spares, narrowed_sets};
 use crate::rattle::std::alloc::AllocError;
 
 /// Narrows by a rule: a domain that it names keeps its members that are in a point of the domains which satisfies the
@@ -191,8 +191,37 @@ pub fn narrowed_at_places<B: Width>(
     ),
     AllocError,
 > {
+    let mut spares = Spares::new(domains[rule.places().x].allocator());
+    narrowed_at_places_in(domains, rule, &mut spares)
+}
+
+/// Returns what [`narrowed_at_places`] returns. What a sum leaves is made in the memory of spare sets, as
+/// [`narrowed_by_sum_in`](crate::proved::ivl_store::store::narrowed_sets::narrowed_by_sum_in) does.
+#[inline]
+///
+/// # Proved
+///
+/// ```text
+/// requires different { AreDifferent rule.now }
+/// requires present { AllPresent (length domains.now) (places_of rule.now) }
+/// ensures { IfOk result (λ r. AreLeftAtPlaces B.whole (places_of rule.now) (HasPointAt rule.now (set_at domains.now)) domains.now r.0 r.1 r.2) }
+/// ```
+///
+/// Words: [`AreDifferent`](crate::definitions#AreDifferent), [`AllPresent`](crate::definitions#AllPresent), [`places_of`](crate::definitions#places), [`AreLeftAtPlaces`](crate::definitions#AreLeftAtPlaces), [`HasPointAt`](crate::definitions#HasPointAt), [`set_at`](crate::definitions#set_at).
+pub fn narrowed_at_places_in<B: Width>(
+    domains: &[IntervalSet<B>],
+    rule: &Rule,
+    spares: &mut Spares<B>,
+) -> Result<
+    (
+        Option<IntervalSet<B>>,
+        Option<IntervalSet<B>>,
+        Option<IntervalSet<B>>,
+    ),
+    AllocError,
+> {
     match rule {
-        Rule::Sum(c) => narrowed_by_sum(domains, c),
+        Rule::Sum(c) => narrowed_by_sum(domains, c, spares),
         Rule::Shifted { x, y, by } => {
             let (x, y) = narrowed_moved(&domains[*x], &domains[*y], by)?;
             Ok((x, y, None))
@@ -355,6 +384,7 @@ fn narrowed_from<B: Width>(
 fn narrowed_by_sum<B: Width>(
     domains: &[IntervalSet<B>],
     c: &Constraint,
+    spares: &mut Spares<B>,
 ) -> Result<
     (
         Option<IntervalSet<B>>,
@@ -363,5 +393,5 @@ fn narrowed_by_sum<B: Width>(
     ),
     AllocError,
 > {
-    narrowed_sets::narrowed_by_sum(&domains[c.x], &domains[c.y], &domains[c.z])
+    narrowed_sets::narrowed_by_sum_in(&domains[c.x], &domains[c.y], &domains[c.z], spares)
 }

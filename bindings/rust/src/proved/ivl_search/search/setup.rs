@@ -34,6 +34,7 @@ pub(super) fn network_of<B: Width>(
     rules: &[Rule],
 ) -> Result<Network<B>, AllocError> {
     let mut network = Network::new(alloc);
+    network.reserve(domains.len(), rules.len())?;
     add_variables(&mut network, domains)?;
     require_all(&mut network, rules)?;
     // for the prover: the rules name variables of the network

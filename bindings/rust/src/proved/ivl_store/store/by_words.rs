@@ -3,6 +3,7 @@
 
 #[allow(unused_imports)]
 use crate::rattle::prelude::*;
+use super::spares::Spares;
 use super::words::{Words, above, set_of_word, supported, word_of, word_within};
 use crate::proved::intervallum::interval_set::IntervalSet;
 use crate::proved::intervallum::ops::{Bounded, IsEmpty};
@@ -15,6 +16,7 @@ pub(super) fn narrowed_by_words<B: Width>(
     x: &IntervalSet<B>,
     y: &IntervalSet<B>,
     z: &IntervalSet<B>,
+    spares: &mut Spares<B>,
 ) -> Result<
     Option<
         (
@@ -38,7 +40,7 @@ pub(super) fn narrowed_by_words<B: Width>(
     if 63 < x_span + y_span {
         return Ok(None);
     }
-    let left = left_by_words(x, y, z, x_base, y_base, x_span <= y_span)?;
+    let left = left_by_words(x, y, z, x_base, y_base, x_span <= y_span, spares)?;
     Ok(Some(left))
 }
 
@@ -78,6 +80,7 @@ fn left_by_words<B: Width>(
     x_base: i128,
     y_base: i128,
     by_x: bool,
+    spares: &mut Spares<B>,
 ) -> Result<
     (
         Option<IntervalSet<B>>,
@@ -91,9 +94,9 @@ fn left_by_words<B: Width>(
     let ys = word_of_close_set(y, y_base);
     let zs = word_of_set(z, z_base);
     let kept = supported_by(xs, ys, zs, by_x);
-    let left_of_x = left_of_word(x, x_base, xs, kept.x)?;
-    let left_of_y = left_of_word(y, y_base, ys, kept.y)?;
-    let left_of_z = left_of_word(z, z_base, zs, kept.z)?;
+    let left_of_x = left_of_word(x, x_base, xs, kept.x, spares)?;
+    let left_of_y = left_of_word(y, y_base, ys, kept.y, spares)?;
+    let left_of_z = left_of_word(z, z_base, zs, kept.z, spares)?;
     Ok((left_of_x, left_of_y, left_of_z))
 }
 
@@ -117,12 +120,14 @@ fn left_of_word<B: Width>(
     base: i128,
     had: u64,
     left: u64,
+    spares: &mut Spares<B>,
 ) -> Result<Option<IntervalSet<B>>, AllocError> {
     set.in_whole();
     if keeps_all(set, base, had, left) {
         return Ok(None);
     }
-    Ok(Some(set_of_word(set.allocator(), left, base)?))
+    let empty = spares.take(set.allocator());
+    Ok(Some(set_of_word(empty, left, base)?))
 }
 
 /// Whether the word `left` has all members of a set that has the word `had`.

@@ -5,6 +5,7 @@
 use crate::rattle::prelude::*;
 use super::Constraint;
 use super::by_words::narrowed_by_words;
+use super::spares::Spares;
 use crate::proved::intervallum::interval::Interval;
 use crate::proved::intervallum::interval_set::IntervalSet;
 use crate::proved::intervallum::ops::{Bounded, Cardinality, Intersection, IsEmpty, IsSingleton};
@@ -46,7 +47,8 @@ pub(super) fn narrowed_sets<B: Width>(
 /// Returns the members of `x` that are a difference of a member of `z` and one of `y`, those of `y` that are one of a
 /// member of `z` and one of `x`, and those of `z` that are a sum of both, or `None` in place of a set of which all
 /// are. Costs what [`narrowed_by`] costs, for each of the three; where `x` or `y` is a single number, for one of them,
-/// and where that makes `z` lose members, a copy of what is left.
+/// and where that makes `z` lose members, a copy of what is left. Sets of which the sums of `x` and `y` lie within 64
+/// numbers are narrowed by words of 64 bits: a look at each run, and one at each member of the narrower of `x` and `y`.
 ///
 /// # Errors
 ///
@@ -88,13 +90,63 @@ pub fn narrowed_by_sum<B: Width>(
     ),
     AllocError,
 > {
+    let mut spares = Spares::new(x.allocator());
+    narrowed_by_sum_in(x, y, z, &mut spares)
+}
+
+/// Returns what [`narrowed_by_sum`] returns. A set that is made by words, or that is a single run, is made in the memory
+/// of a spare one, as long as there is one.
+///
+/// # Errors
+///
+/// Fails only if allocation fails.
+///
+/// ```
+/// use intervallum::proved::examples::*;
+///
+/// fn main() -> Result<(), std::boxed::Box<dyn std::error::Error>> {
+///     let alloc = Global;
+///     let mut spares = Spares::new(alloc);
+///     spares.make_room()?;
+///     spares.keep(IntervalSet::new(alloc, 1, 1)?);
+///     let (x, y) = (IntervalSet::new(alloc, 0, 9)?, IntervalSet::new(alloc, 3, 3)?);
+///     let z = IntervalSet::new(alloc, 5, 6)?;
+///     let (left_of_x, _, _) = narrowed_by_sum_in(&x, &y, &z, &mut spares)?;
+///     assert!(left_of_x == Some(IntervalSet::new(alloc, 2, 3)?));
+///     Ok(())
+/// }
+/// ```
+#[inline]
+///
+/// # Proved
+///
+/// ```text
+/// ensures at_x { IfOk result (λ r. IsLeftOf B.whole x.now (Differences (Covers z.now) (Covers y.now)) r.0) }
+/// ensures at_y { IfOk result (λ r. IsLeftOf B.whole y.now (Differences (Covers z.now) (Covers x.now)) r.1) }
+/// ensures at_z { IfOk result (λ r. IsLeftOf B.whole z.now (Sums (Covers x.now) (Covers y.now)) r.2) }
+/// ```
+///
+/// Words: [`IsLeftOf`](crate::definitions#IsLeftOf), [`Differences`](crate::definitions#Differences), [`Covers`](crate::definitions#Covers), [`Sums`](crate::definitions#Sums).
+pub fn narrowed_by_sum_in<B: Width>(
+    x: &IntervalSet<B>,
+    y: &IntervalSet<B>,
+    z: &IntervalSet<B>,
+    spares: &mut Spares<B>,
+) -> Result<
+    (
+        Option<IntervalSet<B>>,
+        Option<IntervalSet<B>>,
+        Option<IntervalSet<B>>,
+    ),
+    AllocError,
+> {
     if are_runs(x, y, z) {
-        return narrowed_runs(x, y, z);
+        return narrowed_runs(x, y, z, spares);
     }
-    if let Some(left) = narrowed_by_words(x, y, z)? {
+    if let Some(left) = narrowed_by_words(x, y, z, spares)? {
         return Ok(left);
     }
-    narrowed_one_by_one(x, y, z)
+    narrowed_one_by_one(x, y, z, spares)
 }
 
 /// Whether each of three sets is one run, so that narrowing by bounds costs least.
@@ -107,6 +159,7 @@ fn narrowed_runs<B: Width>(
     x: &IntervalSet<B>,
     y: &IntervalSet<B>,
     z: &IntervalSet<B>,
+    spares: &mut Spares<B>,
 ) -> Result<
     (
         Option<IntervalSet<B>>,
@@ -121,9 +174,9 @@ fn narrowed_runs<B: Width>(
     let in_x = pair_in_window(run_of_z, run_of_y, Combined::Difference, run_of_x);
     let in_y = pair_in_window(run_of_z, run_of_x, Combined::Difference, run_of_y);
     let in_z = pair_in_window(run_of_x, run_of_y, Combined::Sum, run_of_z);
-    let left_of_x = narrowed_run(x, run_of_x, in_x)?;
-    let left_of_y = narrowed_run(y, run_of_y, in_y)?;
-    let left_of_z = narrowed_run(z, run_of_z, in_z)?;
+    let left_of_x = narrowed_run(x, run_of_x, in_x, spares)?;
+    let left_of_y = narrowed_run(y, run_of_y, in_y, spares)?;
+    let left_of_z = narrowed_run(z, run_of_z, in_z, spares)?;
     Ok((left_of_x, left_of_y, left_of_z))
 }
 
@@ -137,6 +190,7 @@ fn narrowed_one_by_one<B: Width>(
     x: &IntervalSet<B>,
     y: &IntervalSet<B>,
     z: &IntervalSet<B>,
+    spares: &mut Spares<B>,
 ) -> Result<
     (
         Option<IntervalSet<B>>,
@@ -146,18 +200,18 @@ fn narrowed_one_by_one<B: Width>(
     AllocError,
 > {
     if y.is_singleton() {
-        return narrowed_by_number(x, y, z);
+        return narrowed_by_number(x, y, z, spares);
     }
     if x.is_singleton() {
-        let (left_of_y, left_of_x, left_of_z) = narrowed_by_number(y, x, z)?;
+        let (left_of_y, left_of_x, left_of_z) = narrowed_by_number(y, x, z, spares)?;
         return Ok((left_of_x, left_of_y, left_of_z));
     }
-    let left_of_x = narrowed_by(x, z, y, Combined::Difference)?;
-    let left_of_y = narrowed_by(y, z, x, Combined::Difference)?;
+    let left_of_x = narrowed_by_in(x, z, y, Combined::Difference, spares)?;
+    let left_of_y = narrowed_by_in(y, z, x, Combined::Difference, spares)?;
     let left_of_z = if z.is_singleton() {
         left_of_one(z, rest_of(y, &left_of_y))
     } else {
-        narrowed_by(z, x, y, Combined::Sum)?
+        narrowed_by_in(z, x, y, Combined::Sum, spares)?
     };
     Ok((left_of_x, left_of_y, left_of_z))
 }
@@ -168,6 +222,7 @@ fn narrowed_by_number<B: Width>(
     x: &IntervalSet<B>,
     y: &IntervalSet<B>,
     z: &IntervalSet<B>,
+    spares: &mut Spares<B>,
 ) -> Result<
     (
         Option<IntervalSet<B>>,
@@ -176,7 +231,7 @@ fn narrowed_by_number<B: Width>(
     ),
     AllocError,
 > {
-    let left_of_x = narrowed_by(x, z, y, Combined::Difference)?;
+    let left_of_x = narrowed_by_in(x, z, y, Combined::Difference, spares)?;
     let rest = rest_of(x, &left_of_x);
     let left_of_y = left_of_one(y, rest);
     let left_of_z = left_of_moved(z, rest, y.lower())?;
@@ -253,12 +308,25 @@ pub fn narrowed_by<B: Width>(
     b: &IntervalSet<B>,
     op: Combined,
 ) -> Result<Option<IntervalSet<B>>, AllocError> {
+    let mut spares = Spares::new(x.allocator());
+    narrowed_by_in(x, a, b, op, &mut spares)
+}
+
+/// Returns what [`narrowed_by`] returns, in the memory of a spare set where each is a single run.
+fn narrowed_by_in<B: Width>(
+    x: &IntervalSet<B>,
+    a: &IntervalSet<B>,
+    b: &IntervalSet<B>,
+    op: Combined,
+    spares: &mut Spares<B>,
+) -> Result<Option<IntervalSet<B>>, AllocError> {
     let runs = x.iter().as_slice();
     let first = a.iter().as_slice();
     let second = b.iter().as_slice();
     if runs.len() == 1 && first.len() == 1 && second.len() == 1 {
         let run = runs[0];
-        return narrowed_run(x, run, pair_in_window(first[0], second[0], op, run));
+        let kept = pair_in_window(first[0], second[0], op, run);
+        return narrowed_run(x, run, kept, spares);
     }
     let Some(left) = results_unless_all(x, a, b, op)? else {
         return Ok(None);
@@ -276,12 +344,27 @@ fn narrowed_run<B: Width>(
     x: &IntervalSet<B>,
     run: Interval<B>,
     left: Interval<B>,
+    spares: &mut Spares<B>,
 ) -> Result<Option<IntervalSet<B>>, AllocError> {
     x.in_whole();
     if left == run {
         return Ok(None);
     }
-    Ok(Some(IntervalSet::of(x.allocator(), left)?))
+    let empty = spares.take(x.allocator());
+    Ok(Some(set_of_run(empty, left)?))
+}
+
+/// The set of an interval, in the memory of an empty set.
+fn set_of_run<B: Width>(
+    empty: IntervalSet<B>,
+    run: Interval<B>,
+) -> Result<IntervalSet<B>, AllocError> {
+    let mut set = empty;
+    if run.is_empty() {
+        return Ok(set);
+    }
+    set.push_run(run)?;
+    Ok(set)
 }
 
 /// Returns the members of `x` that are in another set, or `None` if all are. Costs an intersection.

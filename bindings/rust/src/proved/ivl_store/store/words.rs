@@ -6,9 +6,8 @@ use crate::rattle::prelude::*;
 use crate::proved::intervallum::interval::Interval;
 use crate::proved::intervallum::interval_set::IntervalSet;
 use crate::proved::intervallum::ops::Range;
-use crate::proved::intervallum::sweep::coalesce;
 use crate::proved::intervallum::width::Width;
-use crate::rattle::std::alloc::{AllocError, Global};
+use crate::rattle::std::alloc::AllocError;
 
 /// The words of the sets at x, y and z of a sum.
 #[derive(Clone, Copy)]
@@ -117,7 +116,8 @@ pub(super) fn word_of<B: Width>(runs: &[Interval<B>], base: i128) -> u64 {
     word
 }
 
-/// The first and the last of some bits that are set, one after another, of which the first is the lowest.
+/// The first and the last of some bits that are set, one after another, of which the first is the lowest, and no bit
+/// follows the last.
 fn first_bits(word: u64) -> (u32, u32) {
     if word == u64::MAX {
         return (0, 63);
@@ -132,25 +132,21 @@ fn without_bits(word: u64, low: u32, high: u32) -> u64 {
     word & !bits_between(low, high)
 }
 
-/// How many runs the bits of a word make.
-fn count_runs(word: u64) -> usize {
-    (word & !(word << 1)).count_ones() as usize
-}
-
-/// The set of the numbers of a word, above a base.
+/// The set of the numbers of a word, above a base, in the memory of an empty set.
 pub(super) fn set_of_word<B: Width>(
-    alloc: Global,
+    empty: IntervalSet<B>,
     word: u64,
     base: i128,
 ) -> Result<IntervalSet<B>, AllocError> {
-    let mut runs = Vec::with_capacity(alloc, count_runs(word))?;
+    let mut set = empty;
     let mut rest = word;
     'runs: while rest != 0 {
         let (low, high) = first_bits(rest);
-        runs.push(run_of(base, low, high))?;
+        set.push_run(run_of(base, low, high))?;
         rest = without_bits(rest, low, high);
     }
-    coalesce(alloc, runs)
+    set.in_whole();
+    Ok(set)
 }
 
 /// The run from one place to another above a base.
