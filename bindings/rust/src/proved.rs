@@ -85,12 +85,13 @@ pub mod examples {
     pub use super::ivl_paged::PagedSet;
     pub use super::ivl_rules::rules::Rule;
     pub use super::ivl_rules::rules::narrowing::{lone_loss, narrow, takes_nothing};
+    pub use super::ivl_rules::rules::windows::narrowed_to_window;
     pub use super::ivl_search::search::rules::all_different;
     pub use super::ivl_search::search::{
         Best, End, Found, Limits, SearchFault, all_distinct, count, greatest, least, solutions, try_solutions,
     };
-    pub use super::ivl_store::store::narrowed_sets::{narrowed_by, narrowed_by_sum, narrowed_to};
-    pub use super::ivl_store::store::{Constraint, Lost, Post, Store, StoreFault};
+    pub use super::ivl_store::store::narrowed_sets::{narrowed_by, narrowed_by_sum, narrowed_by_sum_in, narrowed_to};
+    pub use super::ivl_store::store::{Constraint, Lost, Post, Spares, Store, StoreFault};
     pub use super::ivl_within::within::{
         Combined, add_within, differences_in_window, pair_in_window, results_in_set, results_unless_all, sub_within,
         sums_in_window,

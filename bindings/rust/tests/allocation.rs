@@ -52,7 +52,7 @@ fn pairs(count: i32, step: i32, first: i32) -> Set {
     all.as_slice().to_interval_set(Global).unwrap()
 }
 
-const CALLS: [(&str, Call); 31] = [
+const CALLS: [(&str, Call); 32] = [
     ("try_clone", |a, _| a.try_clone()),
     ("try_clone_from", |a, b| a.try_clone_from(b).and_then(|()| a.try_clone())),
     ("union", |a, b| a.union(b)),
@@ -85,6 +85,7 @@ const CALLS: [(&str, Call); 31] = [
     ("new", |_, _| Set::new(Global, 1, 2)),
     ("whole", |_, _| Set::whole(Global)),
     ("extend", |a, b| a.extend(b.iter().copied()).and_then(|()| a.try_clone())),
+    ("push_run", |a, _| a.push_run(Interval::new(2_000, 2_001)).and_then(|()| a.try_clone())),
     ("insert", |a, _| a.insert(1000).and_then(|_| a.try_clone())),
     ("remove_interval", |a, _| a.remove_interval(Interval::new(1, 1)).and_then(|_| a.try_clone())),
 ];

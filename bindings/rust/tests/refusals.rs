@@ -4,9 +4,10 @@ use intervallum::proved::Global;
 use intervallum::proved::ivl_network::network::{Network, Settled};
 use intervallum::proved::ivl_rules::rules::Rule;
 use intervallum::proved::ivl_rules::rules::narrowing::narrow;
+use intervallum::proved::ivl_rules::rules::windows::narrowed_to_window;
 use intervallum::proved::ivl_search::search::{Best, End, Limits, SearchFault, count, greatest, least, solutions};
 use intervallum::proved::ivl_store::store::narrowed_sets::{narrowed_by, narrowed_to};
-use intervallum::proved::ivl_store::store::{Constraint, Store, StoreFault};
+use intervallum::proved::ivl_store::store::{Constraint, Spares, Store, StoreFault};
 use intervallum::proved::ivl_within::within::{
     Combined, differences_in_window, results_in_set, results_unless_all, sums_in_window,
 };
@@ -136,7 +137,7 @@ fn edits_of_a_network() {
         }
     };
     type Edit = fn(&mut Network<i64>) -> Result<bool, StoreFault>;
-    let edits: [(&str, Edit); 4] = [
+    let edits: [(&str, Edit); 5] = [
         ("require", |network| network.require(Rule::AtMost { x: 4, y: 0, by: 0 }).map(|()| network.rules().len() == 5)),
         ("restrict", |network| {
             let odd = [(1, 1), (3, 3), (5, 5)].to_interval_set(Global).map_err(|_| StoreFault::Memory)?;
@@ -145,6 +146,7 @@ fn edits_of_a_network() {
         ("restrict_to_interval", |network| {
             network.restrict_to_interval(0, Interval::new(1, 5)).map(|()| network.domains()[0].upper() <= 5)
         }),
+        ("reserve", |network| network.reserve(100, 100).map(|()| true).map_err(|_| StoreFault::Memory)),
         ("add_variable", |network| {
             let domain = Set::new(Global, 7, 9).map_err(|_| StoreFault::Memory)?;
             network.add_variable(domain).map(|place| place == 6).map_err(|_| StoreFault::Memory)
@@ -339,13 +341,24 @@ fn narrowing_by_rules() {
         },
     );
     assert!(refused > 1 && told > 1);
+    type Narrows = fn(&mut [Set; 3]) -> Result<Option<Set>, AllocError>;
+    let narrowings: [Narrows; 2] =
+        [|[x, a, _]| narrowed_to(x, a), |[x, _, _]| narrowed_to_window(x, Interval::new(9, 50))];
+    for narrowed in narrowings {
+        let (refused, told) = each_refused(
+            given,
+            |domains| narrowed(domains),
+            |domains, made, _| {
+                assert!(*domains == given());
+                made.is_ok_and(|left| left.is_some())
+            },
+        );
+        assert!(refused > 0 && told > 0);
+    }
     let (refused, told) = each_refused(
-        given,
-        |[x, a, _]| narrowed_to(x, a),
-        |domains, made, _| {
-            assert!(*domains == given());
-            made.is_ok_and(|left| left.is_some())
-        },
+        || Spares::<i64>::new(Global),
+        |spares| spares.make_room(),
+        |_, made, _| made.is_ok(),
     );
-    assert!(refused > 0 && told > 0);
+    assert!(refused == 1 && told == 1);
 }

@@ -309,7 +309,11 @@ impl<B: Width> Network<B> {
     /// network.restrict_to_interval(0, Interval::new(5, 20))?;
     /// assert!(rt; network.domains()[0] == IntervalSet::new(alloc, 5, 9)?);
     /// ```
-    pub fn restrict_to_interval(&mut self, variable: usize, allowed: Interval<B>) -> Result<(), StoreFault>
+    pub fn restrict_to_interval(
+        &mut self,
+        variable: usize,
+        allowed: Interval<B>,
+    ) -> Result<(), StoreFault>
         ensures unknown { (i : ℕ) → (result ≡ Err (StoreFault.Variable i)) ↔ ((i ≡ variable) × (length self.old.domains ≤ variable)) }
         ensures rules { self.new.rules ≡ self.old.rules }
         ensures marked { self.new.marked ≡ self.old.marked }

@@ -45,10 +45,7 @@ pub fn set_loses_interval_near<B: Width>(
 }
 
 /// Gains a run behind its members.
-pub fn set_gains_run<B: Width>(
-    set: &mut IntervalSet<B>,
-    run: Interval<B>,
-) -> Result<(), AllocError>
+pub fn set_gains_run<B: Width>(set: &mut IntervalSet<B>, run: Interval<B>) -> Result<(), AllocError>
     requires filled { run.0 ≤ℤ run.1 }
     requires apart { (v : ℤ) → Covers set.old v → (v +ℤ pos 1) <ℤ run.0 }
     ensures runs { OnOk result (set.new ≡ set.old ++ run ∷ []) }
