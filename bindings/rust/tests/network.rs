@@ -1,11 +1,11 @@
 //! Networks of every kind of rule beside plain lists of numbers: what is left when all is settled, marks and errors. Then what a
 //! budget buys, and that lines leave nothing behind: what is kept to take one back goes with its mark.
-use intervallum::proved::{Global, Interval};
 use intervallum::proved::interval_set::{IntervalSet, ToIntervalSet};
 use intervallum::proved::ivl_network::network::{Network, Settled};
 use intervallum::proved::ivl_rules::rules::Rule;
 use intervallum::proved::ivl_store::store::{Constraint, StoreFault};
 use intervallum::proved::ops::{Cardinality, Range};
+use intervallum::proved::{Global, Interval};
 
 mod memory;
 use memory::{Watched, cost};

@@ -355,10 +355,7 @@ fn narrowing_by_rules() {
         );
         assert!(refused > 0 && told > 0);
     }
-    let (refused, told) = each_refused(
-        || Spares::<i64>::new(Global),
-        |spares| spares.make_room(),
-        |_, made, _| made.is_ok(),
-    );
+    let (refused, told) =
+        each_refused(|| Spares::<i64>::new(Global), |spares| spares.make_room(), |_, made, _| made.is_ok());
     assert!(refused == 1 && told == 1);
 }
