@@ -378,7 +378,11 @@ impl<B: Width> Network<B> {
     /// ```
     ///
     /// Words: [`IsCutAt`](crate::definitions#IsCutAt), [`IsBetween`](crate::definitions#IsBetween), [`set_at`](crate::definitions#set_at).
-    pub fn restrict_to_interval(&mut self, variable: usize, allowed: Interval<B>) -> Result<(), StoreFault> {
+    pub fn restrict_to_interval(
+        &mut self,
+        variable: usize,
+        allowed: Interval<B>,
+    ) -> Result<(), StoreFault> {
         self.cut(variable, &allowed)
     }
 
