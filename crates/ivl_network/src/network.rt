@@ -29,7 +29,7 @@ ghost use Rattle.ivl_network.specs.Families.{ArePresent, IsCommonPoint, IsFixedB
 use intervallum::interval_set::IntervalSet;
 use intervallum::width::Width;
 use ivl_rules::rules::Rule;
-use ivl_store::store::{Store, StoreFault};
+use ivl_store::store::{Spares, Store, StoreFault};
 use std::alloc::{AllocError, Global};
 use std::marker::Model;
 
@@ -71,8 +71,8 @@ enum Step {
 /// Variables are named by their indexes from 0. Domains only lose members. A call that fails with
 /// [`StoreFault::Variable`] leaves the network unchanged.
 ///
-/// A network that narrows by `Differs` keeps some sets that it does not use any more, 64 at most, each of
-/// at most 64 runs, for their memory.
+/// A network that was marked keeps some sets that it does not use any more, 64 at most, each of at most 64
+/// runs, for their memory.
 #[derive(Drop)]
 pub struct Network<B: Width> {
     store: Store<B>,
@@ -86,7 +86,7 @@ pub struct Network<B: Width> {
     // For each variable a place of the trail, one more than that at which its domain was kept last.
     places: Vec<usize>,
     // Sets that are not used any more, for their memory.
-    spares: Vec<IntervalSet<B>>,
+    spares: Spares<B>,
     // The places of the trail at which there is a mark.
     marks: Vec<usize>,
     // For each mark, whether all rules were settled at it.
@@ -124,7 +124,7 @@ impl<B: Width> Network<B> {
             queue: Queue::new(alloc),
             trail: Vec::new(alloc),
             places: Vec::new(alloc),
-            spares: Vec::new(alloc),
+            spares: Spares::new(alloc),
             marks: Vec::new(alloc),
             settled_at_marks: Vec::new(alloc),
         }
@@ -540,7 +540,8 @@ impl<B: Width> Network<B> {
     /// Marks the network as it is, and returns the index of the mark. From the first mark on the
     /// network keeps domains that are replaced, until the marks are undone or dropped: what a cut or a
     /// narrowing replaces, if it replaces a domain for the first time since the last mark. `O(1)`
-    /// amortized; no domain is copied.
+    /// amortized; no domain is copied. The first mark makes room for the sets that are kept for their
+    /// memory.
     ///
     /// # Errors
     ///
@@ -562,6 +563,7 @@ impl<B: Width> Network<B> {
         ensures err { OnErr result (self.new ≡ self.old) }
     {
         let mark = self.marks.len();
+        self.spares.make_room()?;
         self.settled_at_marks.reserve(1)?;
         self.marks.push(self.trail.len())?;
         self.settled_at_marks.push_reserved(self.queue.is_empty());

@@ -11,7 +11,7 @@ use intervallum::interval::Interval;
 use intervallum::interval_set::IntervalSet;
 use intervallum::width::Width;
 use ivl_store::store::callers::all_distinct;
-use ivl_store::store::{Constraint, Post, Store, StoreFault};
+use ivl_store::store::{Constraint, Post, Spares, Store, StoreFault};
 use std::alloc::{AllocError, Global};
 
 /// Returns a store with these domains, and their number.
@@ -107,4 +107,11 @@ pub fn posted<B: Width>(
     ensures none { IfOk result (λ o. IsNone o → ¬ (All AreDistinct (constraints_of posts.now)) × (store.new ≡ store.old)) }
 {
     store.try_post_all(posts)
+}
+
+/// Takes a set that is not used any more, which has no member then.
+pub fn empty_of_spares<B: Width>(spares: &mut Spares<B>, alloc: Global) -> IntervalSet<B>
+    ensures { result ≡ [] }
+{
+    spares.take(alloc)
 }

@@ -17,9 +17,9 @@ use intervallum::interval_set::IntervalSet;
 use intervallum::ops::{Bounded, IsEmpty};
 use intervallum::width::Width;
 use ivl_rules::rules::Rule;
-use ivl_rules::rules::narrowing::{lone_loss, narrowed_at_places};
+use ivl_rules::rules::narrowing::{lone_loss, narrowed_at_places_in};
 use ivl_store::store::narrowed_sets::narrowed_to;
-use ivl_store::store::{Lost, Store};
+use ivl_store::store::{Lost, Spares, Store};
 use std::alloc::AllocError;
 
 /// Narrows by a rule, and writes down what takes that back.
@@ -27,7 +27,7 @@ pub(super) fn narrow_logged<B: Width>(
     store: &mut Store<B>,
     trail: &mut Vec<Change<B>>,
     places: &mut [usize],
-    spares: &mut Vec<IntervalSet<B>>,
+    spares: &mut Spares<B>,
     marks: &[usize],
     rule: &Rule,
 ) -> Result<Lost, AllocError>
@@ -51,7 +51,7 @@ pub(super) fn narrow_logged<B: Width>(
             z: false,
         });
     }
-    let (x, y, z) = narrowed_at_places(store.domains(), rule)?;
+    let (x, y, z) = narrowed_at_places_in(store.domains(), rule, spares)?;
     let lost = Lost {
         x: x.is_some(),
         y: y.is_some(),
@@ -70,7 +70,7 @@ pub(super) fn restrict_logged<B: Width>(
     store: &mut Store<B>,
     trail: &mut Vec<Change<B>>,
     places: &mut [usize],
-    spares: &mut Vec<IntervalSet<B>>,
+    spares: &mut Spares<B>,
     marks: &[usize],
     i: usize,
     allowed: &IntervalSet<B>,

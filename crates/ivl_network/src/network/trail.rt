@@ -20,14 +20,8 @@ use intervallum::interval_set::IntervalSet;
 use intervallum::ops::Singleton;
 use intervallum::width::Width;
 use ivl_rules::rules::Rule;
-use ivl_store::store::Store;
+use ivl_store::store::{Spares, Store};
 use std::alloc::AllocError;
-
-/// How many sets that are not used any more a network makes room for, where it lacks one.
-const SPARES: usize = 64;
-
-/// How many runs such a set has at most, to be kept.
-const RUNS_OF_A_SPARE: usize = 64;
 
 /// Reserves room for so many changes, if changes are written down.
 pub(super) fn reserve_changes<B: Width>(
@@ -60,7 +54,7 @@ pub(super) fn replace_logged<B: Width>(
     store: &mut Store<B>,
     trail: &mut Vec<Change<B>>,
     places: &mut [usize],
-    spares: &mut Vec<IntervalSet<B>>,
+    spares: &mut Spares<B>,
     marks: &[usize],
     variable: usize,
     left: Option<IntervalSet<B>>,
@@ -79,7 +73,7 @@ pub(super) fn replace_logged<B: Width>(
     if is_unkept(trail, marks, places, variable) {
         write_down(trail, places, variable, old);
     } else {
-        spare(spares, old);
+        spares.keep(old);
     }
 }
 
@@ -105,7 +99,7 @@ pub(super) fn take_out_logged<B: Width>(
     store: &mut Store<B>,
     trail: &mut Vec<Change<B>>,
     places: &mut [usize],
-    spares: &mut Vec<IntervalSet<B>>,
+    spares: &mut Spares<B>,
     marks: &[usize],
     variable: usize,
     value: B,
@@ -130,23 +124,13 @@ pub(super) fn take_out_logged<B: Width>(
 /// A copy of a set, in the memory of one that is not used any more, if there is one.
 fn copy_of<B: Width>(
     set: &IntervalSet<B>,
-    spares: &mut Vec<IntervalSet<B>>,
+    spares: &mut Spares<B>,
 ) -> Result<IntervalSet<B>, AllocError>
     ensures { IfOk result (λ L. L ≡ set.now) }
 {
-    if let Some(mut copy) = spares.pop() {
-        copy.try_clone_from(set)?;
-        return Ok(copy);
-    }
-    spares.reserve(SPARES)?;
-    set.try_clone()
-}
-
-/// Keeps a set that is not used any more, for its memory, unless it is large or there is no room for it.
-fn spare<B: Width>(spares: &mut Vec<IntervalSet<B>>, set: IntervalSet<B>) {
-    if set.interval_count() <= RUNS_OF_A_SPARE && spares.len() < spares.capacity() {
-        spares.push_reserved(set);
-    }
+    let mut copy = spares.take(set.allocator());
+    copy.try_clone_from(set)?;
+    Ok(copy)
 }
 
 /// Whether there is a mark, and the trail does not have a domain of the variable since the last one: a look at where
@@ -191,7 +175,7 @@ pub(super) fn revert_to<B: Width>(
     start: usize,
     wakes: bool,
     store: &mut Store<B>,
-    spares: &mut Vec<IntervalSet<B>>,
+    spares: &mut Spares<B>,
     rules: &mut Vec<Rule>,
     index: &mut Index,
     queue: &mut Queue,
@@ -220,7 +204,7 @@ fn take_back<B: Width>(
     change: Change<B>,
     wakes: bool,
     store: &mut Store<B>,
-    spares: &mut Vec<IntervalSet<B>>,
+    spares: &mut Spares<B>,
     rules: &mut Vec<Rule>,
     index: &mut Index,
     queue: &mut Queue,
@@ -255,7 +239,7 @@ fn take_back<B: Width>(
 /// Puts a domain back, if there is such a variable.
 fn put_back<B: Width>(
     store: &mut Store<B>,
-    spares: &mut Vec<IntervalSet<B>>,
+    spares: &mut Spares<B>,
     variable: usize,
     set: IntervalSet<B>,
 )
@@ -264,7 +248,7 @@ fn put_back<B: Width>(
     set.in_whole();
     if variable < store.domains().len() {
         if let Some(old) = store.swap(variable, Some(set)) {
-            spare(spares, old);
+            spares.keep(old);
         }
     }
 }
