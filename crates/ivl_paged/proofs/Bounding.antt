@@ -1,12 +1,12 @@
 -- Bounds of the runs of pages, by groups: where a group is found, and what an edit of the groups does to the bounds.
-use Rattle.std.proofs.Common.{◌≡◌, ◌⊎◌, ⊎_elim, inl, inr, ℕ, zero, suc, ◌+◌, ◌-◌, ◌<◌, ◌≤◌, ℤ, List, [], ◌∷◌, ◌++◌, length, length-append, get_or, take, take_all, drop, set, refl, sym, ap, subst, ◌∙◌, append_assoc, append-nil, arith}
+use Rattle.std.proofs.Common.{◌≡◌, ◌⊎◌, ⊎_elim, inl, inr, ℕ, zero, suc, ◌+◌, ◌-◌, ◌<◌, ◌≤◌, ℤ, List, [], ◌∷◌, ◌++◌, length, length-append, get_or, take, take_all, drop, set, refl, sym, ap, subst, ◌∙◌, append_assoc, append-nil, arith, Some, None}
 use Rattle.std.specs.Prelude.{All, MatchOption, Option, max, min, replicate}
 use Rattle.std.proofs.lemmas.List.{drop-drop, get_or_default, get_or-append_right, get_or-replicate, get_or-drop, get_or-set_same, get_or-take, get_or_append_left, length-drop, length-replicate, length-set, length-take, replicate-append-replicate, take_rest}
 use Rattle.std.proofs.lemmas.List.Elements.{All-more}
 use Rattle.ivl_laws.specs.Runs.{Covers}
 use Rattle.ivl_laws.proofs.Merging.{covers-append_left, covers-append_right}
 use Rattle.intervallum.specs.FirstFit.{FitsAt}
-use Rattle.ivl_paged.specs.Longests.{AreAtMost, AreBounded, HasLong, IsGroup, IsNextLong, IsNextPart, NoneLonger, bounds_of, cut, place_count}
+use Rattle.ivl_paged.specs.Longests.{AreAtMost, AreBounded, HasLong, IsGroup, IsNextLong, IsNextLongPart, IsNextPart, NoneLonger, bounds_of, cut, place_count}
 use Rattle.ivl_paged.specs.Pages.{IsLongest}
 use Rattle.ivl_paged.proofs.Fitting.{fewer_fit}
 use Rattle.ivl_paged.proofs.Paging.{order_of}
@@ -539,9 +539,30 @@ none_long_next P i m n L less is most lt so_far k h l = ⊎_elim (λ a. so_far k
     absurd (omega (arith, fits, lt)))
     (order_of k i)
 
+-- the greater of two numbers of which each is 0, or a page has it
+pub long_next : (P : List (List (ℤ × ℤ))) (i a b n : ℕ) (L : List (ℤ × ℤ)) → i < length P → L ≡ get_or P i L → (a ≡ 0) ⊎ ((k : ℕ) × HasLong a P k) → IsLongest b (Covers L) → (n ≡ a) ⊎ (n ≡ b) →
+    (n ≡ 0) ⊎ ((k : ℕ) × HasLong n P k)
+long_next P i a b n L less is so_far most (inl e) = subst (λ (m : ℕ). (m ≡ 0) ⊎ ((k : ℕ) × HasLong m P k)) (sym e) so_far
+long_next P i a b n L less is so_far most (inr e) = inr (i, subst (λ (m : ℕ). HasLong m P i) (sym e) (is_long P i b b L less is most (omega arith)))
+
 -- the bounds say it
 pub none_long_below : (A : List ℕ) (P : List (List (ℤ × ℤ))) (n k : ℕ) → AreBounded A P → k < length P → get_or A k 0 < n → ¬ (HasLong n P k)
 none_long_below A P n k h less low l = let le = bounded_at A P k [] h less n l.0 l.1 in absurd (omega (arith, le, low))
+
+pub part_of_pages : (A : List ℕ) (P : List (List (ℤ × ℤ))) (from n : ℕ) (o : Option (ℕ × ℕ)) → AreBounded A P → MatchOption o ((k : ℕ) → from ≤ k → k < length A → get_or A k 0 < n) (IsNextPart A from n) →
+    MatchOption o ((k : ℕ) → from ≤ k → k < length P → ¬ (HasLong n P k)) (IsNextLongPart n P from)
+part_of_pages A P from n None h e = λ k a less. let same = bounded_length A P h in none_long_below A P n k h less (e k a (omega (arith, same, less)))
+part_of_pages A P from n (Some r) h p =
+    let same = bounded_length A P h in
+    let order = p.in_order in
+    let most = p.at_most in
+    record {
+      from = p.from;
+      in_order = p.in_order;
+      on = p.on;
+      at_most = omega (arith, same, most);
+      passed = λ k a lt. none_long_below A P n k h (omega (arith, lt, order, most, same)) (p.passed k a lt);
+    }
 
 module _ (A : List ℕ) (P : List (List (ℤ × ℤ))) (from n place : ℕ) (h : AreBounded A P) (le : from ≤ place) (so_far : (k : ℕ) → from ≤ k → k < place → ¬ (HasLong n P k)) where
   pub none_long_at_all : ((k : ℕ) → place ≤ k → k < length A → get_or A k 0 < n) → (k : ℕ) → from ≤ k → k < length P → ¬ (HasLong n P k)

@@ -17,3 +17,5 @@ pub mod MembersInPages
 pub mod Dividing
 pub mod InPlace
 pub mod Bounding
+pub mod Rests
+pub mod LongestRun

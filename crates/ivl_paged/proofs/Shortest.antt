@@ -1,7 +1,8 @@
 -- The shortest run that has room, page by page.
-use Rattle.std.proofs.Common.{◌≡◌, ◌⊎◌, ⊎_elim, inl, inr, ℕ, ◌+◌, ◌<◌, ◌≤◌, ℤ, pos, ◌+ℤ◌, ◌-ℤ◌, ◌≤ℤ◌, List, ◌++◌, length, get_or, take, take_all, Some, None, refl, sym, subst, ◌∙◌, arith}
+use Rattle.std.proofs.Common.{◌≡◌, ◌⊎◌, ⊎_elim, inl, inr, ℕ, zero, suc, ◌+◌, ◌-◌, ◌<◌, ◌≤◌, ℤ, pos, ◌+ℤ◌, ◌-ℤ◌, ◌≤ℤ◌, List, [], ◌++◌, length, get_or, take, take_all, Some, None, refl, sym, subst, ◌∙◌, arith}
 use Rattle.std.specs.Prelude.{MatchOption, Option}
 use Rattle.std.proofs.lemmas.Bool.{cases_lt}
+use Rattle.std.proofs.lemmas.List.{get_or_default}
 use Rattle.std.proofs.lemmas.Int.{ints, by_lt_z}
 use Rattle.ivl_laws.specs.Bounds.{width_of}
 use Rattle.ivl_laws.specs.Sets.{AtLeast}
@@ -15,10 +16,11 @@ use Rattle.intervallum.specs.FirstFit.{FitsAt, IsFirstFit}
 use Rattle.intervallum.specs.Fits.{IsBestFit}
 use Rattle.intervallum.specs.Neighbours.{IsRunWith}
 use Rattle.intervallum.proofs.Fits.{run_is_listed}
+use Rattle.ivl_paged.specs.Longests.{HasLong}
 use Rattle.ivl_paged.specs.Pages.{flattened}
 use Rattle.ivl_paged.specs.Parts.{IsBetterOf, IsShorterOf, IsShortestRun}
 use Rattle.ivl_paged.proofs.Fitting.{first_of, fits_in_part}
-use Rattle.ivl_paged.proofs.Paging.{covers_taken, flattened_more, parts_apart}
+use Rattle.ivl_paged.proofs.Paging.{IsMaximal-taken, covers_taken, flattened_more, parts_apart}
 
 -- ---- a run and the numbers that it has room for
 
@@ -192,6 +194,24 @@ best_with_next n P L i best r some h m is a b =
     let more : flattened (take (i + 1) P) ≡ flattened (take i P) ++ L = flattened_more P i L h ∙ subst (λ (K : List (ℤ × ℤ)). flattened (take i P) ++ get_or P i L ≡ flattened (take i P) ++ K) (sym is) refl in
     subst (λ (K : List (ℤ × ℤ)). IsBestSoFar n (Covers K) r) (sym more)
     (best_of_both n (flattened (take i P)) L some (subst IsMaximal more m) best b.other r a b.of_set b.shorter)
+
+-- pages with no such run change nothing
+pub best_past : (n : ℕ) (P : List (List (ℤ × ℤ))) (i j : ℕ) (best : Option (ℤ × ℤ)) → 0 < n → i ≤ j → j ≤ length P → IsMaximal (flattened P) → ((k : ℕ) → i ≤ k → k < j → ¬ (HasLong n P k)) →
+    IsBestSoFar n (Covers (flattened (take i P))) best → IsBestSoFar n (Covers (flattened (take j P))) best
+best_past n P i j best some le most m none b = subst (λ (k : ℕ). IsBestSoFar n (Covers (flattened (take k P))) best) (omega (arith, le)) (go (j - i) (omega (arith, le)))
+  where
+    unchanged : (o : Option (ℤ × ℤ)) → IsShorterOf o None o
+    unchanged None = refl
+    unchanged (Some p) = refl
+
+    go : (d : ℕ) → i + d ≤ j → IsBestSoFar n (Covers (flattened (take (i + d) P))) best
+    go zero h = subst (λ (k : ℕ). IsBestSoFar n (Covers (flattened (take k P))) best) (omega arith) b
+    go (suc d) h =
+        let here : i + d < length P = omega (arith, h, most) in
+        let before = go d (omega (arith, h)) in
+        let not_here : IsBetterOf n best (Covers (get_or P (i + d) [])) best = record { other = None; of_set = λ v f. none (i + d) (omega arith) (omega (arith, h)) (v, f); shorter = unchanged best } in
+        subst (λ (k : ℕ). IsBestSoFar n (Covers (flattened (take k P))) best) (omega arith)
+        (best_with_next n P (get_or P (i + d) []) (i + d) best best some here (IsMaximal-taken P (i + d + 1) m) (sym (get_or_default P (i + d) _ [] here)) before not_here)
 
 pub best_in_all : (n : ℕ) (P : List (List (ℤ × ℤ))) (i : ℕ) (o : Option (ℤ × ℤ)) → length P ≤ i → IsBestSoFar n (Covers (flattened (take i P))) o → IsBestSoFar n (Covers (flattened P)) o
 best_in_all n P i o h = subst (λ (Q : List (List (ℤ × ℤ))). IsBestSoFar n (Covers (flattened Q)) o) (take_all i P h)

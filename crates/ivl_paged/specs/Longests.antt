@@ -8,6 +8,7 @@
 --     AreBounded A P      A has an element for each page of P, which no run of the page exceeds
 --     HasLong n P k      page k of P has n numbers in a row
 --     IsNextLong n P i k      page k of P, from place i on, is the first that has
+--     IsNextLongPart n P i r      from i on, the pages of P before place r.0 have no n numbers in a row; r.1 is a higher place
 --     IsNextPart A i n r      from i on, the elements of A before place r.0 are below n; r.1 is a higher place
 use Rattle.std.specs.Prelude.{◌≡◌, ℕ, zero, suc, ◌+◌, ◌-◌, ◌<◌, ◌≤◌, ℤ, List, [], ◌∷◌, ◌++◌, length, min, replicate, slice_index_or}
 use Rattle.ivl_laws.specs.Families.{set_at}
@@ -64,3 +65,11 @@ pub record IsNextLong (n : ℕ) (P : List (List (ℤ × ℤ))) (i k : ℕ) : Typ
   pub less : k < length P
   pub long : HasLong n P k
   pub passed : (j : ℕ) → i ≤ j → j < k → ¬ (HasLong n P j)
+
+-- from place r.0 to before place r.1 some pages may have n numbers in a row
+pub record IsNextLongPart (n : ℕ) (P : List (List (ℤ × ℤ))) (i : ℕ) (r : ℕ × ℕ) : Type 0 where
+  pub from : i ≤ r.0
+  pub in_order : r.0 ≤ r.1
+  pub on : i < r.1
+  pub at_most : r.1 ≤ length P
+  pub passed : (k : ℕ) → i ≤ k → k < r.0 → ¬ (HasLong n P k)

@@ -1,7 +1,7 @@
 //! For each page a number that no run of it exceeds, which is the same for the pages of a group.
 ghost use Rattle.std.specs.Prelude.{◌≡◌, ◌⊎◌, ℕ, ◌+◌, ◌<◌, ◌≤◌, List, [], ◌∷◌, ◌++◌, All, IsTrue, drop, false, length, take, slice_index_or, MatchOption, OnErr, OnOk};
 ghost use Rattle.ivl_laws.specs.Runs.{Covers};
-ghost use Rattle.ivl_paged.specs.Longests.{AreAtMost, AreBounded, IsGroup, IsNextPart, NoneLonger, bounds_of, cut, place_count};
+ghost use Rattle.ivl_paged.specs.Longests.{AreAtMost, AreBounded, HasLong, IsGroup, IsNextPart, NoneLonger, bounds_of, cut, place_count};
 
 use crate::page::Page;
 use intervallum::width::{SizeNumber, Width};
@@ -236,6 +236,7 @@ fn find(counts: &[usize], i: usize) -> (usize, usize)
 fn greater<N: SizeNumber>(x: N, y: N) -> N
     ensures at_least_x { N.size x ≤ N.size result }
     ensures at_least_y { N.size y ≤ N.size result }
+    ensures either { (N.size result ≡ N.size x) ⊎ (N.size result ≡ N.size y) }
 {
     if x >= y { x } else { y }
 }
@@ -292,9 +293,10 @@ fn remove_empty<N: SizeNumber>(counts: &mut Vec<usize>, mosts: &mut Vec<N>)
     }
 }
 
-/// A number that no run of some pages exceeds: how many members the longest has.
-fn longest_of<B: Width>(pages: &[Page<B>]) -> B::Output
-    ensures { All (λ L. NoneLonger (B.Output.size result) (Covers L)) pages.now }
+/// How many members the longest run of some pages has: no run exceeds it. 0 if there is no page.
+pub(crate) fn longest_of<B: Width>(pages: &[Page<B>]) -> B::Output
+    ensures most { All (λ L. NoneLonger (B.Output.size result) (Covers L)) pages.now }
+    ensures has { (B.Output.size result ≡ 0) ⊎ ((k : ℕ) × HasLong (B.Output.size result) pages.now k) }
 {
     let mut most = <B::Output as SizeNumber>::zero();
     for page in pages {

@@ -6,7 +6,7 @@ ghost use Rattle.ivl_laws.specs.Sets.{HasSome, Intersection, IsBetween, IsSubset
 ghost use Rattle.ivl_laws.specs.Runs.{Covers, IsMaximal, IsRunsOf};
 ghost use Rattle.intervallum.specs.Edits.{widened};
 ghost use Rattle.intervallum.specs.Neighbours.{IsLeast};
-ghost use Rattle.ivl_paged.specs.Longests.{AreBounded, HasLong, IsNextLong};
+ghost use Rattle.ivl_paged.specs.Longests.{AreBounded, HasLong, IsNextLong, IsNextLongPart};
 ghost use Rattle.ivl_paged.specs.Pages.{AreHeads, StartsUpTo, flattened};
 
 use crate::longests::Longests;
@@ -17,11 +17,17 @@ use std::alloc::{AllocError, Global};
 use std::hint::select_unpredictable;
 use std::marker::Model;
 
-/// Pages, beside a list of their least members: a search reads it, and no page.
+/// If of so many pages more than one is gone, the others move to the place of those.
+const SHARE: usize = 16;
+
+/// Pages, beside a list of their least members: a search reads it, and no page. The first of both lists may be
+/// gone: then they stand there still, so that the others do not move.
 #[derive(Drop)]
 pub(crate) struct PageList<B: Width> {
     heads: Vec<B>,
     pages: Vec<Page<B>>,
+    /// How many of the first pages are gone.
+    gone: usize,
     /// What no run of each page exceeds.
     longests: Longests<B>,
     /// How many runs the pages have together.
@@ -31,9 +37,10 @@ pub(crate) struct PageList<B: Width> {
 impl<B: Width> Model for PageList<B> {
     ghost Value = { List (List (ℤ × ℤ)) };
 
-    ghost view = { λ l. l.pages.items };
+    ghost view = { λ l. drop l.gone l.pages.items };
 
-    ghost invariant = { λ l. (AreHeads B.value l.heads.items l.pages.items × (l.count ≡ length (flattened l.pages.items))) × AreBounded l.longests l.pages.items };
+    ghost invariant = { λ l. (AreHeads B.value (drop l.gone l.heads.items) (drop l.gone l.pages.items) × (l.count ≡ length (flattened (drop l.gone l.pages.items))))
+        × AreBounded l.longests (drop l.gone l.pages.items) × (l.gone ≤ length l.heads.items) × (l.gone ≤ length l.pages.items) };
 }
 
 impl<B: Width> PageList<B> {
@@ -44,6 +51,7 @@ impl<B: Width> PageList<B> {
         PageList {
             heads: Vec::new(alloc),
             pages: Vec::new(alloc),
+            gone: 0,
             longests: Longests::new(alloc),
             count: 0,
         }
@@ -56,6 +64,7 @@ impl<B: Width> PageList<B> {
         Ok(PageList {
             heads: Vec::with_capacity(alloc, capacity)?,
             pages: Vec::with_capacity(alloc, capacity)?,
+            gone: 0,
             longests: Longests::new(alloc),
             count: 0,
         })
@@ -66,14 +75,14 @@ impl<B: Width> PageList<B> {
         ensures value { result ≡ length self.now }
         ensures fits { length self.now < usize.MAX }
     {
-        self.pages.len()
+        self.pages.len() - self.gone
     }
 
     /// Returns true exactly when there is no page.
     pub(crate) fn is_empty(&self) -> bool
         ensures { result ≡ (length self.now == 0) }
     {
-        self.pages.is_empty()
+        self.len() == 0
     }
 
     /// How many runs the pages have together.
@@ -87,7 +96,7 @@ impl<B: Width> PageList<B> {
     pub(crate) fn as_slice(&self) -> &[Page<B>]
         ensures value { result.now ≡ self.now }
     {
-        self.pages.as_slice()
+        rest(&self.pages, self.gone)
     }
 
     /// Page `i`.
@@ -95,7 +104,7 @@ impl<B: Width> PageList<B> {
         requires { i < length self.now }
         ensures { result.now ≡ slice_index_or self.now i result.now }
     {
-        &self.pages[i]
+        &self.pages[self.gone + i]
     }
 
     /// The only page.
@@ -106,6 +115,7 @@ impl<B: Width> PageList<B> {
         let PageList {
             heads,
             mut pages,
+            gone: _,
             longests,
             count: _,
         } = self;
@@ -119,7 +129,7 @@ impl<B: Width> PageList<B> {
         requires { i < length self.now }
         ensures { IsLeast (B.value result) (set_at self.now i) }
     {
-        self.heads[i]
+        self.heads[self.gone + i]
     }
 
     /// The first page from page `from` on that has a run of `count` numbers.
@@ -128,7 +138,7 @@ impl<B: Width> PageList<B> {
             ((k : ℕ) → from ≤ k → k < length self.now → ¬ (HasLong (B.Output.size count) self.now k))
             (IsNextLong (B.Output.size count) self.now from) }
     {
-        let pages = self.pages.as_slice();
+        let pages = rest(&self.pages, self.gone);
         let mut place = from;
         'groups: while let Some((start, end)) = self.longests.next_with(place, count, pages.len()) {
             if let Some(i) = first_with(&pages[start..end], count) {
@@ -139,12 +149,22 @@ impl<B: Width> PageList<B> {
         None
     }
 
+    /// The next pages of one group, from page `from` on, of which one may have a run of `count` numbers.
+    pub(crate) fn next_part(&self, from: usize, count: B::Output) -> Option<(usize, usize)>
+        ensures { MatchOption result
+            ((k : ℕ) → from ≤ k → k < length self.now → ¬ (HasLong (B.Output.size count) self.now k))
+            (IsNextLongPart (B.Output.size count) self.now from) }
+    {
+        let pages = rest(&self.pages, self.gone);
+        self.longests.next_with(from, count, pages.len())
+    }
+
     /// How many pages start at a value or below. Binary search.
     pub(crate) fn starts_up_to(&self, value: B) -> usize
         requires { IsMaximal (flattened self.now) }
         ensures { StartsUpTo self.now (B.value value) result }
     {
-        let heads = self.heads.as_slice();
+        let heads = rest(&self.heads, self.gone);
         let mut first = 0;
         let mut left = heads.len();
         let mut last = value;
@@ -191,12 +211,15 @@ impl<B: Width> PageList<B> {
     {
         let head = high.head();
         self.heads.reserve(1)?;
-        self.pages.insert(i + 1, high)?;
-        self.heads.insert(i + 1, head).unwrap();
-        self.heads[i] = low.head();
-        self.pages[i] = low;
+        let place = self.gone + i;
+        let next = self.gone + (i + 1);
+        self.pages.insert(next, high)?;
+        self.heads.insert(next, head).unwrap();
+        self.heads[place] = low.head();
+        self.pages[place] = low;
         let is_divided = self.longests.widen(i);
-        self.longests.settle(i, is_divided, self.pages.as_slice());
+        self.longests
+            .settle(i, is_divided, rest(&self.pages, self.gone));
         Ok(())
     }
 
@@ -208,12 +231,13 @@ impl<B: Width> PageList<B> {
         ensures { flattened self.new ≡ flattened (take start self.old) ++ (page ++ flattened (drop end self.old)) }
     {
         self.take_out(start + 1, end);
-        let others = self.count - self.pages[start].interval_count();
+        let place = self.gone + start;
+        let others = self.count - self.pages[place].interval_count();
         self.count = others + page.interval_count();
-        let before = self.pages[start].longest();
+        let before = self.pages[place].longest();
         let after = page.longest();
-        self.heads[start] = page.head();
-        self.pages[start] = page;
+        self.heads[place] = page.head();
+        self.pages[place] = page;
         self.longests.raise(start, before, after);
     }
 
@@ -222,11 +246,40 @@ impl<B: Width> PageList<B> {
         requires { i < length self.old }
         ensures { self.new ≡ take i self.old ++ drop (i + 1) self.old }
     {
-        self.count -= self.pages[i].interval_count();
-        self.heads.remove(i);
-        self.pages.remove(i);
+        if i == 0 {
+            self.remove_first();
+            return;
+        }
+        let place = self.gone + i;
+        self.count -= self.pages[place].interval_count();
+        self.heads.remove(place);
+        self.pages.remove(place);
         self.longests.take_out(i, i + 1);
-        self.longests.read_beside(i, self.pages.as_slice());
+        self.longests.read_beside(i, rest(&self.pages, self.gone));
+    }
+
+    /// Takes out the first page.
+    fn remove_first(&mut self)
+        requires { 0 < length self.old }
+        ensures { self.new ≡ drop 1 self.old }
+    {
+        self.count -= self.pages[self.gone].interval_count();
+        self.gone += 1;
+        self.longests.take_out(0, 1);
+        self.longests.read_beside(0, rest(&self.pages, self.gone));
+        self.move_together();
+    }
+
+    /// Moves the pages to the place of those that are gone, if these are many.
+    fn move_together(&mut self)
+        ensures { self.new ≡ self.old }
+    {
+        if self.gone <= self.pages.len() / SHARE {
+            return;
+        }
+        drop(self.heads.drain(..self.gone));
+        drop(self.pages.drain(..self.gone));
+        self.gone = 0;
     }
 
     /// Takes out the pages from `start` to before `end`.
@@ -235,11 +288,14 @@ impl<B: Width> PageList<B> {
         requires at_most { end ≤ length self.old }
         ensures { self.new ≡ take start self.old ++ drop end self.old }
     {
-        self.count = runs_beside(&self.pages[start..end], self.count);
-        drop(self.heads.drain(start..end));
-        drop(self.pages.drain(start..end));
+        self.count = runs_beside(&rest(&self.pages, self.gone)[start..end], self.count);
+        let low = self.gone + start;
+        let high = self.gone + end;
+        drop(self.heads.drain(low..high));
+        drop(self.pages.drain(low..high));
         self.longests.take_out(start, end);
-        self.longests.read_beside(start, self.pages.as_slice());
+        self.longests
+            .read_beside(start, rest(&self.pages, self.gone));
     }
 
     /// Takes out all pages.
@@ -248,6 +304,7 @@ impl<B: Width> PageList<B> {
     {
         self.heads.clear();
         self.pages.clear();
+        self.gone = 0;
         self.longests.clear();
         self.count = 0;
     }
@@ -267,12 +324,13 @@ impl<B: Width> PageList<B> {
         ensures err { OnErr result (self.new ≡ self.old) }
         ensures in_place { HasSome (Intersection (set_at self.old i) (IsBetween (widened interval))) → IsOk result }
     {
-        let page = &mut self.pages[i];
+        let place = self.gone + i;
+        let page = &mut self.pages[place];
         let others = self.count - page.interval_count();
         let before = page.longest();
         let was_member = page.insert_interval(interval)?;
         let after = page.longest();
-        self.heads[i] = page.head();
+        self.heads[place] = page.head();
         self.count = others + page.interval_count();
         self.longests.raise(i, before, after);
         Ok(was_member)
@@ -294,17 +352,19 @@ impl<B: Width> PageList<B> {
         ensures in_place { ¬ (IsSubset (IsBetween (widened interval)) (set_at self.old i)) → IsOk result }
     {
         // no memory holds more runs than a `usize` counts
-        if is_split_uncounted(self.count, &self.pages[i], &interval) {
+        if is_split_uncounted(self.count, &self.pages[self.gone + i], &interval) {
             return Err(AllocError);
         }
-        let page = &mut self.pages[i];
+        let place = self.gone + i;
+        let page = &mut self.pages[place];
         let others = self.count - page.interval_count();
         let before = page.longest();
         let was_member = page.remove_interval(interval)?;
         let after = page.longest();
-        self.heads[i] = page.head();
+        self.heads[place] = page.head();
         self.count = others + page.interval_count();
-        self.longests.lower(i, before, after, self.pages.as_slice());
+        self.longests
+            .lower(i, before, after, rest(&self.pages, self.gone));
         Ok(was_member)
     }
 
@@ -315,16 +375,26 @@ impl<B: Width> PageList<B> {
         ensures least { IsLeast (B.value result) (set_at self.old i) }
         ensures rest { (L : List (ℤ × ℤ)) × (self.new ≡ set self.old i L) × IsRunsOf L (Without (set_at self.old i) (Only (B.value result))) }
     {
-        let page = &mut self.pages[i];
+        let place = self.gone + i;
+        let page = &mut self.pages[place];
         let others = self.count - page.interval_count();
         let before = page.longest();
         let least = page.pop_first();
         let after = page.longest();
-        self.heads[i] = page.head();
+        self.heads[place] = page.head();
         self.count = others + page.interval_count();
-        self.longests.lower(i, before, after, self.pages.as_slice());
+        self.longests
+            .lower(i, before, after, rest(&self.pages, self.gone));
         least
     }
+}
+
+/// The items of a list without the first `gone`.
+fn rest<T>(items: &Vec<T>, gone: usize) -> &[T]
+    requires { gone ≤ length items.now.items }
+    ensures { result.now ≡ drop gone items.now.items }
+{
+    &items[gone..]
 }
 
 /// Whether an edit would split a run of a page, where there are as many runs as a `usize` counts.

@@ -14,8 +14,9 @@ impl<B: Width> PagedSet<B> {
     /// lowest of these if there are several; `None` if no run has so many. The caller must ensure
     /// that `count` is above 0. Check with `count.number() > 0`.
     ///
-    /// Reads how long the longest run of each page is, and scans those pages where it is long enough:
-    /// `O(n)`. Does not allocate.
+    /// Passes the groups of pages where no run is so long, reads how long the longest run of each other page
+    /// is, and scans those pages where it is long enough: `O(n)`, and `O(n / page / group)` where few are.
+    /// Does not allocate.
     ///
     /// ```
     /// let list: IntervalSet<i32> = [(1, 9), (12, 14), (20, 22)].to_interval_set(alloc)?;
@@ -30,7 +31,7 @@ impl<B: Width> PagedSet<B> {
             ((v : ℤ) → ¬ (FitsAt (B.Output.size count) (Covers self.now) v))
             (IsBestFit (B.Output.size count) (Covers self.now)) }
     {
-        let run = pages::shortest_run(self.pages.as_slice(), count)?;
+        let run = pages::shortest_run(&self.pages, count)?;
         self.first_fit_from(run.lower_bound(), count)
     }
 }

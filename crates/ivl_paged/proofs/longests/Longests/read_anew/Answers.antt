@@ -32,4 +32,4 @@ index_mut-requires g c =
     omega (arith, there, c.self.invariant)
 
 pub returns : goal.returns
-returns g c = read_group g.B.Output.SizeNumber.size c.self.inside.counts.items c.self.inside.mosts.items c.args.self.now c.self.invariant c.self.view_is c.args.i c.find-group.result.0 c.find-group.result.1 c.index.result.now c.longest_of.result c.args.pages.now (has_group g.B.Output.SizeNumber.size c.self.inside.counts.items c.self.inside.mosts.items c.args.self.now c.self.invariant c.self.view_is c.args.i c.find-group.result.0 c.find-group.result.1 c.as_slice.result.now c.as_slice.ensures.value c.find-group.ensures) c.index.ensures c.requires c.longest_of.ensures
+returns g c = read_group g.B.Output.SizeNumber.size c.self.inside.counts.items c.self.inside.mosts.items c.args.self.now c.self.invariant c.self.view_is c.args.i c.find-group.result.0 c.find-group.result.1 c.index.result.now c.longest_of.result c.args.pages.now (has_group g.B.Output.SizeNumber.size c.self.inside.counts.items c.self.inside.mosts.items c.args.self.now c.self.invariant c.self.view_is c.args.i c.find-group.result.0 c.find-group.result.1 c.as_slice.result.now c.as_slice.ensures.value c.find-group.ensures) c.index.ensures c.requires c.longest_of.ensures.most

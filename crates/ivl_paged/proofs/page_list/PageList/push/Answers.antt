@@ -1,16 +1,25 @@
-use Rattle.std.proofs.Common.{◌∙◌, ◌∷◌, [], ap, arith, length, length-append, ◌++◌, refl}
+use Rattle.std.proofs.Common.{◌∙◌, ◌∷◌, [], ap, arith, length, length-append, ◌++◌, refl, drop}
 use Rattle.ivl_paged.specs.Pages.{flattened}
 use Rattle.ivl_paged.proofs.Bounding.{bounded_more}
 use Rattle.ivl_paged.proofs.Heads.{heads_push}
 use Rattle.ivl_paged.proofs.Paging.{flattened-append}
+use Rattle.std.proofs.lemmas.List.{drop-append-le}
 use Rattle.ivl_paged.proofs.page_list.PageList.push.Goals as goal
 
 pub invariant_of-self-2 : goal.invariant_of-self-2
 invariant_of-self-2 g c =
-    let P = c.self.inside.pages.items in
+    let P = drop c.self.inside.gone c.self.inside.pages.items in
     let all = ap length (flattened-append P (c.args.page ∷ [])) ∙ length-append (flattened P) (flattened (c.args.page ∷ [])) in
     let one = length-append c.args.page [] in
-    rw (c.push_reserved.ensures.items, c.push_reserved-2.ensures.items, c.reserve.ensures.items, c.reserve-2.ensures.items) (
-      (heads_push g.B.Width.value c.self.inside.heads.items P c.head-head.result c.args.page c.self.invariant.0.0 c.head-head.ensures, omega (arith, all, one, c.self.invariant.0.1)),
+    let pages = drop-append-le c.self.inside.gone c.self.inside.pages.items (c.args.page ∷ []) c.self.invariant.3 in
+    let heads = drop-append-le c.self.inside.gone c.self.inside.heads.items (c.head-head.result ∷ []) c.self.invariant.2 in
+    let n = length-append c.self.inside.pages.items (c.args.page ∷ []) in
+    let m = length-append c.self.inside.heads.items (c.head-head.result ∷ []) in
+    let low = c.self.invariant.2 in
+    let high = c.self.invariant.3 in
+    rw (c.push_reserved.ensures.items, c.push_reserved-2.ensures.items, c.reserve.ensures.items, c.reserve-2.ensures.items, pages, heads) (
+      (heads_push g.B.Width.value (drop c.self.inside.gone c.self.inside.heads.items) P c.head-head.result c.args.page c.self.invariant.0.0 c.head-head.ensures, omega (arith, all, one, c.self.invariant.0.1)),
       bounded_more c.self.inside.longests c.push.new.self P (P ++ c.args.page ∷ []) (g.B.Output.SizeNumber.size c.longest.result) c.args.page c.self.invariant.1 c.longest.ensures c.in_ok-push.ensures.ok refl,
+      omega (arith, m, low),
+      omega (arith, n, high),
     )
