@@ -1,13 +1,14 @@
 -- Operations by windows: the parts of two sets in a window, and what is put behind the pages so far.
-use Rattle.std.proofs.Common.{◌≡◌, ⊎_elim, inl, inr, ℕ, ◌+◌, ◌-◌, ◌<◌, ◌≤◌, ℤ, pos, ◌+ℤ◌, ◌≤ℤ◌, ◌<ℤ◌, List, [], ◌∷◌, ◌++◌, length, get_or, take, drop, sym, ap, ap₂, subst, ◌∙◌, arith, append_assoc, append-nil, take_all}
-use Rattle.std.proofs.lemmas.List.{drop-drop, drop_all}
+use Rattle.std.proofs.Common.{◌≡◌, ⊎_elim, inl, inr, ℕ, ◌+◌, ◌-◌, ◌<◌, ◌≤◌, ℤ, pos, ◌+ℤ◌, ◌≤ℤ◌, ◌<ℤ◌, List, [], ◌∷◌, ◌++◌, length, get_or, take, drop, sym, ap, subst, ◌∙◌, arith, take_all}
+use Rattle.std.proofs.lemmas.List.{drop-drop}
 use Rattle.std.proofs.lemmas.Int.{ints, by_lt_z}
 use Rattle.ivl_laws.specs.Bounds.{width_of}
 use Rattle.ivl_laws.specs.Families.{set_at}
 use Rattle.ivl_laws.specs.Sets.{Below, Intersection, IsBetween, IsSubset, SameMembers, Union, Without}
 use Rattle.ivl_laws.specs.Runs.{Covers, IsMaximal, IsRunListIn, IsRunsOf}
 use Rattle.ivl_laws.proofs.Intervals.{width_of-filled}
-use Rattle.ivl_laws.proofs.Runs.{covered_after, covered_from, lower_end, runs_are_unique}
+use Rattle.ivl_laws.proofs.Runs.{covered_after, covered_from, lower_end}
+use Rattle.ivl_laws.proofs.SetLaws.{IsRunsOf-same}
 use Rattle.ivl_laws.proofs.Merging.{covers-append, covers-append_left, covers-append_right}
 use Rattle.intervallum.specs.Neighbours.{IsGreatest}
 use Rattle.ivl_merges.specs.Order.{IsBelow}
@@ -16,7 +17,7 @@ use Rattle.ivl_paged.specs.Operations.{KeptBy}
 use Rattle.ivl_paged.specs.declared.combine.Operation.{Operation}
 use Rattle.ivl_paged.specs.declared.combine.Operation.TheVariants.{Either, Both, FirstAlone, OneAlone}
 use Rattle.ivl_paged.specs.Pages.{StartsUpTo, flattened}
-use Rattle.ivl_paged.proofs.Paging.{IsMaximal-dropped, IsMaximal-second, IsMaximal-taken, covers_dropped, covers_taken, cut_at, ends_below, flattened-append, flattened_more, order_of, page_of, pages_ascend}
+use Rattle.ivl_paged.proofs.Paging.{IsMaximal-dropped, IsMaximal-taken, covers_dropped, covers_taken, cut_at, ends_below, flattened_more, order_of, page_of, pages_ascend, parts_apart}
 
 -- ---- the pages that meet a window
 
@@ -96,41 +97,14 @@ kept_in_window OneAlone S T A B W a b z =
       (λ (c, w). ⊎_elim (λ s. inl (f.1 (s, w))) (λ t. inr (g.1 (t, w))) c),
     )
 
--- A and B have in a window what S and T have there
-pub kept_alike : (op : Operation) (S T A B W : ℤ → Type 0) → SameMembers (Intersection A W) (Intersection S W) → SameMembers (Intersection B W) (Intersection T W) →
-    SameMembers (Intersection (KeptBy op A B) W) (Intersection (KeptBy op S T) W)
-kept_alike op S T A B W a b z =
-    let f = kept_in_window op S T (Intersection A W) (Intersection B W) W a b z in
-    let g = kept_in_window op A B (Intersection A W) (Intersection B W) W (λ x. ((λ c. c), (λ c. c))) (λ x. ((λ c. c), (λ c. c))) z in
-    ((λ c. f.0 (g.1 c)), (λ c. g.0 (f.1 c)))
-
--- A has in the window p what S has there, and B what T has
-pub piece_there : (op : Operation) (S T : ℤ → Type 0) (A B A' B' K : List (ℤ × ℤ)) (p : ℤ × ℤ) (l u : ℤ) → p ≡ (l, u) → A' ≡ A → B' ≡ B → SameMembers (Intersection (Covers A) (IsBetween p)) (Intersection S (IsBetween p)) →
-    SameMembers (Intersection (Covers B) (IsBetween p)) (Intersection T (IsBetween p)) → IsRunsOf K (Intersection (KeptBy op (Covers A') (Covers B')) (IsBetween p)) → IsRunsOf K (Intersection (KeptBy op S T) (IsBetween (l, u)))
+-- A has what S has in the window p, and B what T has there
+pub piece_there : (op : Operation) (S T : ℤ → Type 0) (A B A' B' K : List (ℤ × ℤ)) (p : ℤ × ℤ) (l u : ℤ) → p ≡ (l, u) → A' ≡ A → B' ≡ B → IsRunsOf A (Intersection S (IsBetween p)) →
+    IsRunsOf B (Intersection T (IsBetween p)) → IsRunsOf K (KeptBy op (Covers A') (Covers B')) → IsRunsOf K (Intersection (KeptBy op S T) (IsBetween (l, u)))
 piece_there op S T A B A' B' K p l u same e f a b made =
-    let there = kept_alike op S T (Covers A) (Covers B) (IsBetween p) a b in
-    let k : IsRunsOf K (Intersection (KeptBy op (Covers A) (Covers B)) (IsBetween p)) =
-    subst (λ (L : List (ℤ × ℤ)). IsRunsOf K (Intersection (KeptBy op (Covers L) (Covers B)) (IsBetween p))) e (subst (λ (L : List (ℤ × ℤ)). IsRunsOf K (Intersection (KeptBy op (Covers A') (Covers L)) (IsBetween p))) f made) in
-    subst (λ (q : ℤ × ℤ). IsRunsOf K (Intersection (KeptBy op S T) (IsBetween q))) same (record {
-      maximal = k.maximal;
-      members = λ z. ((λ c. (there z).0 ((k.members z).0 c)), (λ c. (k.members z).1 ((there z).1 c)));
-    })
-
--- L has the runs of M, which has the members of S
-pub kept_inside : (L M : List (ℤ × ℤ)) (S W : ℤ → Type 0) → IsRunsOf M S → IsRunsOf L (Covers M) → IsSubset (Covers L) W → IsRunsOf L (Intersection S W)
-kept_inside L M S W m l within = record {
-  maximal = l.maximal;
-  members = λ z. ((λ c. ((m.members z).0 ((l.members z).0 c), within z c)), (λ (s, w). (l.members z).1 ((m.members z).1 s)));
-}
-
-pub kept_cut : (K L M : List (ℤ × ℤ)) (S W : ℤ → Type 0) → IsRunsOf M S → IsRunsOf L (Covers M) → IsRunsOf K (Intersection (Covers L) W) → IsRunsOf K (Intersection S W)
-kept_cut K L M S W m l k = record {
-  maximal = k.maximal;
-  members = λ z. (
-    (λ c. let (d, w) = (k.members z).0 c in ((m.members z).0 ((l.members z).0 d), w)),
-    (λ (s, w). (k.members z).1 ((l.members z).1 ((m.members z).1 s), w)),
-  );
-}
+    let k : IsRunsOf K (KeptBy op (Covers A) (Covers B)) =
+    subst (λ (L : List (ℤ × ℤ)). IsRunsOf K (KeptBy op (Covers L) (Covers B))) e (subst (λ (L : List (ℤ × ℤ)). IsRunsOf K (KeptBy op (Covers A') (Covers L))) f made) in
+    subst (λ (q : ℤ × ℤ). IsRunsOf K (Intersection (KeptBy op S T) (IsBetween q))) same
+    (IsRunsOf-same _ _ K (kept_in_window op S T (Covers A) (Covers B) (IsBetween p) a.members b.members) k)
 
 pub kept_within : (op : Operation) (S T W : ℤ → Type 0) → IsSubset S W → IsSubset T W → IsSubset (KeptBy op S T) W
 kept_within Either S T W s t z c = ⊎_elim (s z) (t z) c
@@ -190,6 +164,22 @@ appended A B m n far = record {
   members = λ z. (covers-append A B z, ⊎_elim (covers-append_left A B z) (covers-append_right A B z));
 }
 
+-- A has what the first k pages have in W, and K what the next one has there
+pub gathered_more : (P : List (List (ℤ × ℤ))) (k : ℕ) (A K L : List (ℤ × ℤ)) (W : ℤ → Type 0) → IsMaximal (flattened P) → k < length P → L ≡ get_or P k L → IsRunsOf A (Intersection (Covers (flattened (take k P))) W) →
+    IsRunsOf K (Intersection (Covers L) W) → IsRunsOf (A ++ K) (Intersection (Covers (flattened (take (k + 1) P))) W)
+gathered_more P k A K L W m h is a b =
+    let F = flattened (take k P) in
+    let e : flattened (take (k + 1) P) ≡ F ++ L = flattened_more P k L h ∙ ap (λ (M : List (ℤ × ℤ)). F ++ M) (sym is) in
+    let ascend : IsMaximal (F ++ L) = subst IsMaximal e (IsMaximal-taken P (k + 1) m) in
+    let all = appended A K a.maximal b.maximal (λ x y c d. parts_apart F L x y ascend ((a.members x).0 c).0 ((b.members y).0 d).0) in
+    subst (λ (M : List (ℤ × ℤ)). IsRunsOf (A ++ K) (Intersection (Covers M) W)) (sym e) (record {
+      maximal = all.maximal;
+      members = λ z. (
+        (λ c. ⊎_elim (λ f. let (g, w) = (a.members z).0 f in (covers-append_left F L z g, w)) (λ f. let (g, w) = (b.members z).0 f in (covers-append_right F L z g, w)) ((all.members z).0 c)),
+        (λ (c, w). (all.members z).1 (⊎_elim (λ f. inl ((a.members z).1 (f, w))) (λ f. inr ((b.members z).1 (f, w))) (covers-append F L z c))),
+      );
+    })
+
 -- the first run of K is put in P, which makes A, and taken from K, which leaves B
 module _ (P K A B rest : List (ℤ × ℤ)) (run : ℤ × ℤ) (k : IsMaximal K) (e : K ≡ run ∷ rest) (above : IsBelow (pos 1) (Covers P) (Covers K))
     (put : IsRunsOf A (Union (Covers P) (IsBetween run))) (left : IsRunsOf B (Without (Covers K) (IsBetween run))) where
@@ -241,27 +231,20 @@ module _ (P K A B rest : List (ℤ × ℤ)) (run : ℤ × ℤ) (k : IsMaximal K)
         );
       }
 
--- a page of the runs K behind the others
-pub page_behind : (P : List (List (ℤ × ℤ))) (K L : List (ℤ × ℤ)) → L ≡ K → flattened (P ++ L ∷ []) ≡ flattened P ++ K
-page_behind P K L e = flattened-append P (L ∷ []) ∙ ap (λ (M : List (ℤ × ℤ)). flattened P ++ M) (append-nil L ∙ e)
-
--- J has the runs of the last page and of K
-pub joined_last : (P : List (List (ℤ × ℤ))) (A K J L : List (ℤ × ℤ)) (n : ℕ) → n + 1 ≡ length P → A ≡ get_or P n [] → IsMaximal (flattened P ++ K) → IsRunsOf J (Union (Covers A) (Covers K)) → L ≡ J →
-    flattened ((take n P ++ drop (n + 1) P) ++ L ∷ []) ≡ flattened P ++ K
-joined_last P A K J L n last e m r f =
-    let T = flattened (take n P) in
-    let none : drop (n + 1) P ≡ [] = drop_all (n + 1) P (omega (arith, last)) in
-    let parts : flattened P ≡ T ++ A =
-    ap flattened (sym (take_all (n + 1) P (omega (arith, last)))) ∙ flattened_more P n [] (omega (arith, last)) ∙ ap (λ (M : List (ℤ × ℤ)). T ++ M) (sym e) in
-    let all : flattened P ++ K ≡ T ++ (A ++ K) = ap (λ (M : List (ℤ × ℤ)). M ++ K) parts ∙ append_assoc T A K in
-    let open_both : IsMaximal (A ++ K) = IsMaximal-second T (A ++ K) (subst IsMaximal all m) in
-    let same : J ≡ A ++ K = runs_are_unique J (A ++ K) r.maximal open_both (λ z. (
-      (λ c. ⊎_elim (λ a. covers-append_left A K z a) (λ b. covers-append_right A K z b) ((r.members z).0 c)),
-      (λ c. (r.members z).1 (covers-append A K z c)),
-    )) in
-    flattened-append (take n P ++ drop (n + 1) P) (L ∷ [])
-    ∙ ap₂ (λ (M N : List (ℤ × ℤ)). M ++ N) (ap (λ (D : List (List (ℤ × ℤ))). flattened (take n P ++ D)) none ∙ ap flattened (append-nil (take n P))) (append-nil L ∙ f ∙ same)
-    ∙ sym all
+-- what is left of K without its first run
+pub rest_left : (K B rest : List (ℤ × ℤ)) (run : ℤ × ℤ) → IsMaximal K → K ≡ run ∷ rest → B ≡ take (length K - 1) (drop 1 K) → IsRunsOf B (Without (Covers K) (IsBetween run))
+rest_left K B rest run m e f =
+    let n : IsMaximal (run ∷ rest) = subst IsMaximal e m in
+    let there : take (length (run ∷ rest) - 1) rest ≡ rest = take_all (length (run ∷ rest) - 1) rest (omega arith) in
+    let g : B ≡ rest = f ∙ ap (λ (L : List (ℤ × ℤ)). take (length L - 1) (drop 1 L)) e ∙ there in
+    let left : IsRunsOf rest (Without (Covers (run ∷ rest)) (IsBetween run)) = record {
+      maximal = n.2;
+      members = λ z. (
+        (λ c. (inr c, λ b. let far = covered_after run.1 rest z n.1 n.2 c in let up = b.1 in omega (arith, ints, far, up))),
+        (λ (c, out). ⊎_elim (λ b. absurd (out b)) (λ r. r) c),
+      );
+    } in
+    subst (λ (L : List (ℤ × ℤ)). IsRunsOf L (Without (Covers K) (IsBetween run))) (sym g) (subst (λ (L : List (ℤ × ℤ)). IsRunsOf rest (Without (Covers L) (IsBetween run))) (sym e) left)
 
 -- fewer numbers are left above the next window
 pub less_left : (l u n end : ℤ) → l ≤ℤ u → u <ℤ end → n ≡ u +ℤ pos 1 → width_of (n, end) < width_of (l, end)

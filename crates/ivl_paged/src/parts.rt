@@ -1,14 +1,15 @@
 //! Sets whose runs can be read window by window.
-ghost use Rattle.std.specs.Prelude.{ℕ, ◌≤◌, ℤ, ◌≤ℤ◌, List, OnOk};
-ghost use Rattle.ivl_laws.specs.Sets.{Intersection, IsBetween, SameMembers};
-ghost use Rattle.ivl_laws.specs.Runs.{Covers, IsRunListIn};
+ghost use Rattle.std.specs.Prelude.{◌≡◌, ℕ, ◌++◌, ◌≤◌, ℤ, ◌≤ℤ◌, List, OnOk};
+ghost use Rattle.ivl_laws.specs.Sets.{Intersection, IsBetween};
+ghost use Rattle.ivl_laws.specs.Runs.{Covers, IsRunListIn, IsRunsOf};
 ghost use Rattle.ivl_paged.specs.Pages.{StartsUpTo, flattened};
 
+use crate::page::Page;
 use crate::page_list::PageList;
 use crate::pages::FIRST_RUNS;
 use intervallum::interval::Interval;
 use intervallum::interval_set::IntervalSet;
-use intervallum::ops::Range;
+use intervallum::ops::{Intersection, Range};
 use intervallum::width::Width;
 use std::alloc::AllocError;
 
@@ -30,7 +31,7 @@ pub(crate) fn end_of_window<B: Width>(pages: &PageList<B>, lower: B) -> B
     last_before(pages, next.saturating_add(WINDOW_PAGES), lower)
 }
 
-/// Writes the runs of the pages that a window meets into a list, in the place of what it has.
+/// Writes the runs of what pages have in a window into a list, in the place of what it has.
 pub(crate) fn gather_pages<B: Width>(
     pages: &PageList<B>,
     window: &Interval<B>,
@@ -38,18 +39,32 @@ pub(crate) fn gather_pages<B: Width>(
 ) -> Result<(), AllocError>
     requires runs { IsRunListIn B.whole (flattened pages.now) }
     requires filled { window.now.0 ≤ℤ window.now.1 }
-    ensures list { OnOk result (IsRunListIn B.whole list.new.items) }
-    ensures members { OnOk result (SameMembers
-        (Intersection (Covers list.new.items) (IsBetween window.now))
-        (Intersection (Covers (flattened pages.now)) (IsBetween window.now))) }
+    ensures { OnOk result (IsRunsOf list.new.items (Intersection (Covers (flattened pages.now)) (IsBetween window.now))) }
 {
     let start = pages.starts_up_to(window.lower_bound()).saturating_sub(1);
     let end = pages.starts_up_to(window.upper_bound());
     list.clear();
     for page in &pages.as_slice()[start..end] {
-        list.extend_from_slice(page.set().runs())?;
+        push_part(list, page, window)?;
     }
     Ok(())
+}
+
+/// Puts the runs of what a page has in a window behind those of a list.
+fn push_part<B: Width>(
+    list: &mut Vec<Interval<B>>,
+    page: &Page<B>,
+    window: &Interval<B>,
+) -> Result<(), AllocError>
+    requires { window.now.0 ≤ℤ window.now.1 }
+    ensures { OnOk result ((K : List (ℤ × ℤ)) × (list.new.items ≡ list.old.items ++ K) × IsRunsOf K (Intersection (Covers page.now) (IsBetween window.now))) }
+{
+    if page.lies_within(window) {
+        return list.extend_from_slice(page.set().runs());
+    }
+    // so it is for the first page and the last one at most
+    let part = page.set().intersection(window)?;
+    list.extend_from_slice(part.runs())
 }
 
 /// The last value before page `i`, or the last one of the range if there is no such page. A value up to
@@ -79,15 +94,11 @@ pub(crate) trait Parts<B: Width> {
         ensures in_order { B.value lower ≤ℤ B.value result }
         ensures at_most { B.value result ≤ℤ B.whole.1 };
 
-    /// Writes the runs that meet a window into a list, in the place of what it has. Some may lie beside
-    /// the window.
+    /// Writes the runs of what the set has in a window into a list, in the place of what it has.
     fn gather(&self, window: &Interval<B>, list: &mut Vec<Interval<B>>) -> Result<(), AllocError>
         requires runs { IsRunListIn B.whole (runs self.now) }
         requires filled { window.now.0 ≤ℤ window.now.1 }
-        ensures list { OnOk result (IsRunListIn B.whole list.new.items) }
-        ensures members { OnOk result (SameMembers
-            (Intersection (Covers list.new.items) (IsBetween window.now))
-            (Intersection (Covers (runs self.now)) (IsBetween window.now))) };
+        ensures { OnOk result (IsRunsOf list.new.items (Intersection (Covers (runs self.now)) (IsBetween window.now))) };
 }
 
 impl<B: Width> Parts<B> for IntervalSet<B> {
@@ -102,8 +113,8 @@ impl<B: Width> Parts<B> for IntervalSet<B> {
     }
 
     fn gather(&self, window: &Interval<B>, list: &mut Vec<Interval<B>>) -> Result<(), AllocError> {
+        let part = self.intersection(window)?;
         list.clear();
-        list.extend_from_slice(self.runs_within(window))?;
-        Ok(())
+        list.extend_from_slice(part.runs())
     }
 }

@@ -3,14 +3,11 @@
 
 #[allow(unused_imports)]
 use crate::rattle::prelude::*;
-use crate::proved::ivl_paged::page::Page;
 use crate::proved::ivl_paged::page_list::PageList;
-use crate::proved::ivl_paged::pages::{self, FIRST_RUNS, MOST_RUNS};
+use crate::proved::ivl_paged::pages;
 use crate::proved::ivl_paged::parts::Parts;
 use crate::proved::intervallum::interval::Interval;
-use crate::proved::intervallum::interval_set::IntervalSet;
-use crate::proved::intervallum::ops::{Bounded, Intersection, IsEmpty, Range, Union};
-use crate::proved::intervallum::sweep::coalesce;
+use crate::proved::intervallum::ops::{Bounded, Range};
 use crate::proved::intervallum::width::Width;
 use crate::proved::ivl_merges::merges::{difference, intersection, symmetric_difference, union};
 use crate::rattle::std::alloc::{AllocError, Global};
@@ -41,14 +38,15 @@ pub(crate) fn combined<B: Width, S: Parts<B>, T: Parts<B>>(
 ) -> Result<PageList<B>, AllocError> {
     let mut pages = PageList::new(alloc);
     let (mut a, mut b) = (Vec::new(alloc), Vec::new(alloc));
+    let mut made = Vec::new(alloc);
     let mut lower = B::min_value();
     'windows: loop {
         let upper = first.end_from(lower).min(second.end_from(lower));
         let window = Interval::new(lower, upper);
         first.gather(&window, &mut a)?;
         second.gather(&window, &mut b)?;
-        let piece = piece_of(alloc, &a, &b, &window, op)?;
-        put(alloc, &mut pages, piece)?;
+        merge(&a, &b, op, &mut made)?;
+        put(alloc, &mut pages, &made)?;
         if B::max_value() <= upper {
             return Ok(pages);
         }
@@ -56,83 +54,58 @@ pub(crate) fn combined<B: Width, S: Parts<B>, T: Parts<B>>(
     }
 }
 
-/// What an operation makes of two lists of runs, in a window.
-fn piece_of<B: Width>(
-    alloc: Global,
-    first: &[Interval<B>],
-    second: &[Interval<B>],
-    window: &Interval<B>,
-    op: Operation,
-) -> Result<IntervalSet<B>, AllocError> {
-    let made = merged(alloc, first, second, op)?;
-    let set = coalesce(alloc, made)?;
-    if lies_within(&set, window) {
-        return Ok(set);
-    }
-    set.intersection(window)
-}
-
-/// Whether each member of a set lies in a window.
-fn lies_within<B: Width>(set: &IntervalSet<B>, window: &Interval<B>) -> bool {
-    if set.is_empty() {
-        return true;
-    }
-    window.lower_bound() <= set.lower() && set.upper() <= window.upper_bound()
-}
-
-/// The runs that an operation makes of two lists of runs.
-fn merged<B: Width>(
-    alloc: Global,
+/// Writes the runs that an operation makes of two lists of runs into a list, in the place of what it has.
+fn merge<B: Width>(
     first: &[Interval<B>],
     second: &[Interval<B>],
     op: Operation,
-) -> Result<Vec<Interval<B>>, AllocError> {
+    made: &mut Vec<Interval<B>>,
+) -> Result<(), AllocError> {
     // no memory holds more runs than a `usize` counts
     let room = first.len().checked_add(second.len()).ok_or(AllocError)?;
-    let mut runs = Vec::with_capacity(alloc, room)?;
+    made.clear();
+    made.reserve(room)?;
     match op {
         Operation::Either => {
-            union(first, second, &mut runs);
-            Ok(runs)
+            union(first, second, made);
+            Ok(())
         }
         Operation::Both => {
-            intersection(first, second, &mut runs);
-            Ok(runs)
+            intersection(first, second, made);
+            Ok(())
         }
         Operation::FirstAlone => {
-            difference(first, second, &mut runs);
-            Ok(runs)
+            difference(first, second, made);
+            Ok(())
         }
         Operation::OneAlone => {
-            symmetric_difference(first, second, &mut runs);
-            Ok(runs)
+            symmetric_difference(first, second, made);
+            Ok(())
         }
     }
 }
 
-/// Puts the members of a set, which are above those of pages, behind them.
+/// Puts the runs of a list, which are above those of pages, behind them.
 fn put<B: Width>(
     alloc: Global,
     pages: &mut PageList<B>,
-    mut piece: IntervalSet<B>,
+    piece: &[Interval<B>],
 ) -> Result<(), AllocError> {
-    piece.in_whole();
-    let Some(run) = touching_run(pages, &piece) else {
+    let Some(run) = touching_run(pages, piece) else {
         return put_apart(alloc, pages, piece);
     };
     pages::insert_interval(pages, run)?;
-    piece.remove_interval(run)?;
-    put_apart(alloc, pages, piece)
+    put_apart(alloc, pages, &piece[1..])
 }
 
-/// The first run of a set, if no number is missing between it and the last one of pages, which is below
+/// The first run of a list, if no number is missing between it and the last one of pages, which is below
 /// it.
-fn touching_run<B: Width>(pages: &PageList<B>, piece: &IntervalSet<B>) -> Option<Interval<B>> {
+fn touching_run<B: Width>(pages: &PageList<B>, piece: &[Interval<B>]) -> Option<Interval<B>> {
     let count = pages.len();
     if count == 0 {
         return None;
     }
-    let (run, _) = piece.runs().split_first()?;
+    let (run, _) = piece.split_first()?;
     let last = pages.page(count - 1).set().upper();
     if last < run.lower().sub_in_range(B::one()) {
         return None;
@@ -140,37 +113,14 @@ fn touching_run<B: Width>(pages: &PageList<B>, piece: &IntervalSet<B>) -> Option
     Some(*run)
 }
 
-/// Puts the runs of a set behind those of pages, between which a number is missing.
+/// Puts the runs of a list behind those of pages, between which a number is missing.
 fn put_apart<B: Width>(
     alloc: Global,
     pages: &mut PageList<B>,
-    piece: IntervalSet<B>,
+    piece: &[Interval<B>],
 ) -> Result<(), AllocError> {
-    if piece.is_empty() {
-        return Ok(());
-    }
-    if piece.interval_count() >= MOST_RUNS {
-        return pages::push_runs(alloc, pages, piece.runs());
-    }
-    if has_room(pages, piece.interval_count()) {
-        return join_last(pages, &piece);
-    }
-    pages.push(Page::of(piece))
-}
-
-/// Whether there is a last page, and it has few runs with so many more.
-fn has_room<B: Width>(pages: &PageList<B>, count: usize) -> bool {
-    let len = pages.len();
-    if len == 0 {
-        return false;
-    }
-    pages.page(len - 1).interval_count().saturating_add(count) <= FIRST_RUNS
-}
-
-/// Puts the runs of a set into the last page, behind its own.
-fn join_last<B: Width>(pages: &mut PageList<B>, piece: &IntervalSet<B>) -> Result<(), AllocError> {
-    let last = pages.len() - 1;
-    let joined = pages.page(last).set().union(piece)?;
-    pages.remove(last);
-    pages.push(Page::of(joined))
+    let count = pages.len();
+    pages::push_runs(alloc, pages, piece)?;
+    pages::join_if_few(pages, count.saturating_sub(1));
+    Ok(())
 }

@@ -389,7 +389,7 @@ fn join_neighbours<B: Width>(pages: &mut PageList<B>, i: usize) {
 }
 
 /// Joins page `i` with the one after it, if there is one and both have few runs together.
-fn join_if_few<B: Width>(pages: &mut PageList<B>, i: usize) {
+pub(crate) fn join_if_few<B: Width>(pages: &mut PageList<B>, i: usize) {
     if pages.len() < 2 || pages.len() - 2 < i {
         return;
     }

@@ -3,11 +3,12 @@
 
 #[allow(unused_imports)]
 use crate::rattle::prelude::*;
+use crate::proved::ivl_paged::page::Page;
 use crate::proved::ivl_paged::page_list::PageList;
 use crate::proved::ivl_paged::pages::FIRST_RUNS;
 use crate::proved::intervallum::interval::Interval;
 use crate::proved::intervallum::interval_set::IntervalSet;
-use crate::proved::intervallum::ops::Range;
+use crate::proved::intervallum::ops::{Intersection, Range};
 use crate::proved::intervallum::width::Width;
 use crate::rattle::std::alloc::AllocError;
 
@@ -24,7 +25,7 @@ pub(crate) fn end_of_window<B: Width>(pages: &PageList<B>, lower: B) -> B {
     last_before(pages, next.saturating_add(WINDOW_PAGES), lower)
 }
 
-/// Writes the runs of the pages that a window meets into a list, in the place of what it has.
+/// Writes the runs of what pages have in a window into a list, in the place of what it has.
 pub(crate) fn gather_pages<B: Width>(
     pages: &PageList<B>,
     window: &Interval<B>,
@@ -34,9 +35,23 @@ pub(crate) fn gather_pages<B: Width>(
     let end = pages.starts_up_to(window.upper_bound());
     list.clear();
     for page in &pages.as_slice()[start..end] {
-        list.extend_from_slice(page.set().runs())?;
+        push_part(list, page, window)?;
     }
     Ok(())
+}
+
+/// Puts the runs of what a page has in a window behind those of a list.
+fn push_part<B: Width>(
+    list: &mut Vec<Interval<B>>,
+    page: &Page<B>,
+    window: &Interval<B>,
+) -> Result<(), AllocError> {
+    if page.lies_within(window) {
+        return list.extend_from_slice(page.set().runs());
+    }
+    // so it is for the first page and the last one at most
+    let part = page.set().intersection(window)?;
+    list.extend_from_slice(part.runs())
 }
 
 /// The last value before page `i`, or the last one of the range if there is no such page. A value up to
@@ -70,21 +85,17 @@ pub(crate) trait Parts<B: Width> {
     /// Words: [`IsRunListIn`](crate::definitions#IsRunListIn), [`IsBetween`](crate::definitions#IsBetween).
     fn end_from(&self, lower: B) -> B;
 
-    /// Writes the runs that meet a window into a list, in the place of what it has. Some may lie beside
-    /// the window.
+    /// Writes the runs of what the set has in a window into a list, in the place of what it has.
     ///
     /// # Proved
     ///
     /// ```text
     /// requires runs { IsRunListIn B.whole (runs self.now) }
     /// requires filled { window.now.0 ≤ℤ window.now.1 }
-    /// ensures list { OnOk result (IsRunListIn B.whole list.new.items) }
-    /// ensures members { OnOk result (SameMembers
-    ///     (Intersection (Covers list.new.items) (IsBetween window.now))
-    ///     (Intersection (Covers (runs self.now)) (IsBetween window.now))) }
+    /// ensures { OnOk result (IsRunsOf list.new.items (Intersection (Covers (runs self.now)) (IsBetween window.now))) }
     /// ```
     ///
-    /// Words: [`IsRunListIn`](crate::definitions#IsRunListIn), [`SameMembers`](crate::definitions#SameMembers), [`Intersection`](crate::definitions#Intersection), [`Covers`](crate::definitions#Covers), [`IsBetween`](crate::definitions#IsBetween).
+    /// Words: [`IsRunListIn`](crate::definitions#IsRunListIn), [`IsRunsOf`](crate::definitions#IsRunsOf), [`Intersection`](crate::definitions#Intersection), [`Covers`](crate::definitions#Covers), [`IsBetween`](crate::definitions#IsBetween).
     fn gather(&self, window: &Interval<B>, list: &mut Vec<Interval<B>>) -> Result<(), AllocError>;
 }
 
@@ -103,8 +114,8 @@ impl<B: Width> Parts<B> for IntervalSet<B> {
     }
 
     fn gather(&self, window: &Interval<B>, list: &mut Vec<Interval<B>>) -> Result<(), AllocError> {
+        let part = self.intersection(window)?;
         list.clear();
-        list.extend_from_slice(self.runs_within(window))?;
-        Ok(())
+        list.extend_from_slice(part.runs())
     }
 }

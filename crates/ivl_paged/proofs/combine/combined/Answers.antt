@@ -2,7 +2,7 @@ use Rattle.std.proofs.Common.{⊎_elim, ℤ, List, subst, sym, arith}
 use Rattle.std.specs.Prelude.{◌≤ℤ◌, ◌<ℤ◌}
 use Rattle.std.proofs.lemmas.Int.{ints}
 use Rattle.ivl_laws.specs.Sets.{Below, IsBetween}
-use Rattle.ivl_laws.specs.Runs.{Covers, IsRunsOf}
+use Rattle.ivl_laws.specs.Runs.{Covers, IsMaximal, IsRunsOf}
 use Rattle.ivl_laws.proofs.Orders.{le_number, min_number, not_le_number}
 use Rattle.ivl_laws.proofs.Ranges.{IsRunListIn-runs}
 use Rattle.ivl_paged.specs.Operations.{KeptBy}
@@ -16,23 +16,28 @@ put-requires-clause-runs g c =
     IsRunListIn-runs g.B.Width.whole (flattened c.windows.pages) _ c.windows.invariant.made
     (λ z m. kept_within c.args.op _ _ (IsBetween g.B.Width.whole) c.requires.first.within c.requires.second.within z m.0)
 
+pub put-requires-clause-piece : goal.put-requires-clause-piece
+put-requires-clause-piece g c = subst IsMaximal (sym c.deref-in-windows-2.ensures.value) c.in_ok-merge.ensures.maximal
+
 pub put-requires-clause-above : goal.put-requires-clause-above
 put-requires-clause-above g c =
     let v = g.B.Width.value in
+    let made = subst (λ (L : List (ℤ × ℤ)). IsRunsOf L (KeptBy c.args.op (Covers c.deref.result.now) (Covers c.deref-in-windows.result.now))) (sym c.deref-in-windows-2.ensures.value) c.in_ok-merge.ensures in
     let piece = piece_there c.args.op (Covers (g.S.Parts.runs c.args.first.now)) (Covers (g.T.Parts.runs c.args.second.now)) c.gather.new.list.items c.gather-in-windows.new.list.items c.deref.result.now c.deref-in-windows.result.now
-    c.in_ok-piece.piece c.new-window.result (v c.windows.lower) (v c.min-upper.result) c.new-window.ensures.value c.deref.ensures.value c.deref-in-windows.ensures.value
-    c.in_ok-gather.ensures.members c.in_ok-gather-2.ensures.members c.in_ok-piece.ensures in
-    window_is_above _ (flattened c.windows.pages) c.in_ok-piece.piece (v c.windows.lower) (v c.min-upper.result) c.windows.invariant.made piece
+    c.deref-in-windows-2.result.now c.new-window.result (v c.windows.lower) (v c.min-upper.result) c.new-window.ensures.value c.deref.ensures.value c.deref-in-windows.ensures.value
+    c.in_ok-gather.ensures c.in_ok-gather-2.ensures made in
+    window_is_above _ (flattened c.windows.pages) c.deref-in-windows-2.result.now (v c.windows.lower) (v c.min-upper.result) c.windows.invariant.made piece
 
 pub returns-then-le : goal.returns-then-le
 returns-then-le g c =
     let v = g.B.Width.value in
+    let made = subst (λ (L : List (ℤ × ℤ)). IsRunsOf L (KeptBy c.args.op (Covers c.deref.result.now) (Covers c.deref-in-windows.result.now))) (sym c.deref-in-windows-2.ensures.value) c.in_ok-merge.ensures in
     let piece = piece_there c.args.op (Covers (g.S.Parts.runs c.args.first.now)) (Covers (g.T.Parts.runs c.args.second.now)) c.gather.new.list.items c.gather-in-windows.new.list.items c.deref.result.now c.deref-in-windows.result.now
-    c.in_ok-piece.piece c.new-window.result (v c.windows.lower) (v c.min-upper.result) c.new-window.ensures.value c.deref.ensures.value c.deref-in-windows.ensures.value
-    c.in_ok-gather.ensures.members c.in_ok-gather-2.ensures.members c.in_ok-piece.ensures in
+    c.deref-in-windows-2.result.now c.new-window.result (v c.windows.lower) (v c.min-upper.result) c.new-window.ensures.value c.deref.ensures.value c.deref-in-windows.ensures.value
+    c.in_ok-gather.ensures c.in_ok-gather-2.ensures made in
     let last = (le_number g.met.B.Width.ordered _ _ _ c.le.ensures).0 c.if-le.true in
     let end = c.max_value.ensures in
-    window_is_last _ (flattened c.windows.pages) c.in_ok-piece.piece (v c.windows.lower) (v c.min-upper.result) c.windows.invariant.made piece (flattened c.put.new.pages) g.B.Width.whole
+    window_is_last _ (flattened c.windows.pages) c.deref-in-windows-2.result.now (v c.windows.lower) (v c.min-upper.result) c.windows.invariant.made piece (flattened c.put.new.pages) g.B.Width.whole
     (kept_within c.args.op _ _ (IsBetween g.B.Width.whole) c.requires.first.within c.requires.second.within) (omega (arith, ints, last, end)) c.in_ok-put.ensures
 
 pub add_in_range-lower-requires : goal.add_in_range-lower-requires
@@ -64,14 +69,15 @@ windows-preserved g c =
     let order : v c.windows.lower ≤ℤ v c.min-upper.result =
     ⊎_elim (λ e. let o = c.end_from.ensures.in_order in omega (arith, ints, e, o)) (λ e. let o = c.end_from-in-windows.ensures.in_order in omega (arith, ints, e, o)) least.2 in
     let less : v c.min-upper.result <ℤ g.B.Width.whole.1 = let l = not_le_number g.met.B.Width.ordered _ _ _ c.le.ensures c.if-le.false in let m = c.max_value.ensures in omega (arith, ints, l, m) in
+    let made = subst (λ (L : List (ℤ × ℤ)). IsRunsOf L (KeptBy c.args.op (Covers c.deref.result.now) (Covers c.deref-in-windows.result.now))) (sym c.deref-in-windows-2.ensures.value) c.in_ok-merge.ensures in
     let piece = piece_there c.args.op (Covers (g.S.Parts.runs c.args.first.now)) (Covers (g.T.Parts.runs c.args.second.now)) c.gather.new.list.items c.gather-in-windows.new.list.items c.deref.result.now c.deref-in-windows.result.now
-    c.in_ok-piece.piece c.new-window.result (v c.windows.lower) (v c.min-upper.result) c.new-window.ensures.value c.deref.ensures.value c.deref-in-windows.ensures.value
-    c.in_ok-gather.ensures.members c.in_ok-gather-2.ensures.members c.in_ok-piece.ensures in
+    c.deref-in-windows-2.result.now c.new-window.result (v c.windows.lower) (v c.min-upper.result) c.new-window.ensures.value c.deref.ensures.value c.deref-in-windows.ensures.value
+    c.in_ok-gather.ensures c.in_ok-gather-2.ensures made in
     let next = c.add_in_range-lower.ensures in
     let one = c.one.ensures in
     let low = c.windows.invariant.in_range.0 in record {
       in_range = (omega (arith, ints, order, low, next, one), omega (arith, ints, less, next, one));
-      made = window_is_next _ (flattened c.windows.pages) c.in_ok-piece.piece (v c.windows.lower) (v c.min-upper.result) c.windows.invariant.made piece (flattened c.put.new.pages) (v c.add_in_range-lower.result) order
+      made = window_is_next _ (flattened c.windows.pages) c.deref-in-windows-2.result.now (v c.windows.lower) (v c.min-upper.result) c.windows.invariant.made piece (flattened c.put.new.pages) (v c.add_in_range-lower.result) order
           (omega (arith, ints, next, one)) c.in_ok-put.ensures;
     }
 

@@ -1,8 +1,14 @@
-use Rattle.std.proofs.Common.{◌∙◌, ap}
-use Rattle.std.proofs.lemmas.Result.{on_ok_weaker}
+use Rattle.std.proofs.Common.{◌∙◌, subst, sym}
+use Rattle.ivl_laws.specs.Runs.{IsMaximal}
 use Rattle.ivl_paged.specs.Pages.{flattened}
-use Rattle.ivl_paged.proofs.Combining.{page_behind}
+use Rattle.ivl_paged.proofs.Paging.{IsMaximal-second}
 use Rattle.ivl_paged.proofs.combine.put_apart.Goals as goal
 
+pub push_runs-requires : goal.push_runs-requires
+push_runs-requires g c = IsMaximal-second (flattened c.args.pages.now) c.args.piece.now c.requires
+
+pub join_if_few-requires : goal.join_if_few-requires
+join_if_few-requires g c = subst IsMaximal (sym c.in_ok-push_runs.ensures) c.requires
+
 pub returns : goal.returns
-returns g c = on_ok_weaker c.push.result (λ made. ap flattened made ∙ page_behind c.args.pages.now c.args.piece c.of.result c.of.ensures) c.push.ensures.ok
+returns g c = c.join_if_few.ensures ∙ c.in_ok-push_runs.ensures

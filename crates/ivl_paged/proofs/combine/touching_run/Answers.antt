@@ -18,7 +18,7 @@ sub_in_range-requires g c =
     let n = c.len-count.result - 1 in
     let at : n + 1 ≡ length P = omega (arith, c.len-count.ensures.value, c.if-count-eq0.false) in
     let page : c.set.result.now ≡ get_or P n [] = c.set.ensures.same ∙ c.page.ensures ∙ get_or_default P n _ [] (omega (arith, at)) in
-    let first : K ≡ run ∷ rest = sym c.runs.ensures.same ∙ c.in_ok-run.ensures.cases.0 in
+    let first : K ≡ run ∷ rest = c.in_ok-run.ensures.cases.0 in
     let v = g.B.Width.value in
     let there : Covers K (v c.lower.result) = subst (λ (L : List (ℤ × ℤ)). Covers L (v c.lower.result)) (sym first) (inl c.lower.ensures.member) in
     let below : (v c.upper-last.result +ℤ pos 1) ≤ℤ v c.lower.result =
@@ -37,7 +37,7 @@ returns-then-lt g c =
     let n = c.len-count.result - 1 in
     let at : n + 1 ≡ length P = omega (arith, c.len-count.ensures.value, c.if-count-eq0.false) in
     let page : c.set.result.now ≡ get_or P n [] = c.set.ensures.same ∙ c.page.ensures ∙ get_or_default P n _ [] (omega (arith, at)) in
-    let first : K ≡ run ∷ rest = sym c.runs.ensures.same ∙ c.in_ok-run.ensures.cases.0 in
+    let first : K ≡ run ∷ rest = c.in_ok-run.ensures.cases.0 in
     let v = g.B.Width.value in
     let last = v c.upper-last.result in
     let greatest : IsGreatest last (Covers c.set.result.now) = (c.upper-last.ensures.member, c.upper-last.ensures.greatest) in
@@ -45,5 +45,5 @@ returns-then-lt g c =
     let less = c.sub_in_range.ensures in
     let one = c.one.ensures in
     let value = c.lower.ensures.value in
-    apart_from_last P K rest run n last c.requires.runs c.runs.ensures.runs.maximal at first
+    apart_from_last P K rest run n last c.requires.runs c.requires.piece at first
     (subst (λ (L : List (ℤ × ℤ)). IsGreatest last (Covers L)) page greatest) (omega (arith, ints, lt, less, one, value))

@@ -1,7 +1,7 @@
-use Rattle.std.proofs.Common.{refl}
+use Rattle.std.proofs.Common.{◌∙◌, refl}
 use Rattle.ivl_laws.specs.Sets.{Intersection, SymmetricDifference, Union, Without}
 use Rattle.intervallum.proofs.Merged.{list_of_pairs, merged_runs, no_pairs}
-use Rattle.ivl_paged.proofs.combine.merged.Goals as goal
+use Rattle.ivl_paged.proofs.combine.merge.Goals as goal
 
 pub union-requires-clause-first : goal.union-requires-clause-first
 union-requires-clause-first g c = list_of_pairs g.B.Width.whole c.args.first.now c.args.first.now refl c.requires.first
@@ -13,7 +13,7 @@ pub returns-in-Either : goal.returns-in-Either
 returns-in-Either g c = rw c.in-Either.is (merged_runs Union c.args.first.now c.args.second.now c.args.first.now c.args.second.now c.union.new.out.items _ refl refl c.union.ensures)
 
 pub union-requires-clause-empty : goal.union-requires-clause-empty
-union-requires-clause-empty g c = no_pairs c.in_ok-runs.runs.items c.in_ok-runs.ensures.items
+union-requires-clause-empty g c = no_pairs c.reserve.new.self.items (c.reserve.ensures.items ∙ c.clear.ensures.items)
 
 pub intersection-requires-clause-first : goal.intersection-requires-clause-first
 intersection-requires-clause-first g c = list_of_pairs g.B.Width.whole c.args.first.now c.args.first.now refl c.requires.first
@@ -25,7 +25,7 @@ pub returns-in-Both : goal.returns-in-Both
 returns-in-Both g c = rw c.in-Both.is (merged_runs Intersection c.args.first.now c.args.second.now c.args.first.now c.args.second.now c.intersection.new.out.items _ refl refl c.intersection.ensures)
 
 pub intersection-requires-clause-empty : goal.intersection-requires-clause-empty
-intersection-requires-clause-empty g c = no_pairs c.in_ok-runs.runs.items c.in_ok-runs.ensures.items
+intersection-requires-clause-empty g c = no_pairs c.reserve.new.self.items (c.reserve.ensures.items ∙ c.clear.ensures.items)
 
 pub difference-requires-clause-first : goal.difference-requires-clause-first
 difference-requires-clause-first g c = list_of_pairs g.B.Width.whole c.args.first.now c.args.first.now refl c.requires.first
@@ -37,7 +37,7 @@ pub returns-in-FirstAlone : goal.returns-in-FirstAlone
 returns-in-FirstAlone g c = rw c.in-FirstAlone.is (merged_runs Without c.args.first.now c.args.second.now c.args.first.now c.args.second.now c.difference.new.out.items _ refl refl c.difference.ensures)
 
 pub difference-requires-clause-empty : goal.difference-requires-clause-empty
-difference-requires-clause-empty g c = no_pairs c.in_ok-runs.runs.items c.in_ok-runs.ensures.items
+difference-requires-clause-empty g c = no_pairs c.reserve.new.self.items (c.reserve.ensures.items ∙ c.clear.ensures.items)
 
 pub symmetric_difference-requires-clause-first : goal.symmetric_difference-requires-clause-first
 symmetric_difference-requires-clause-first g c = list_of_pairs g.B.Width.whole c.args.first.now c.args.first.now refl c.requires.first
