@@ -218,8 +218,8 @@ fn remove_empty<N: SizeNumber>(counts: &mut Vec<usize>, mosts: &mut Vec<N>) {
     }
 }
 
-/// A number that no run of some pages exceeds: how many members the longest has.
-fn longest_of<B: Width>(pages: &[Page<B>]) -> B::Output {
+/// How many members the longest run of some pages has: no run exceeds it. 0 if there is no page.
+pub(crate) fn longest_of<B: Width>(pages: &[Page<B>]) -> B::Output {
     let mut most = <B::Output as SizeNumber>::zero();
     for page in pages {
         most = greater(most, page.longest());

@@ -11,10 +11,16 @@ use crate::proved::intervallum::width::Width;
 use crate::rattle::std::alloc::{AllocError, Global};
 use crate::rattle::std::hint::select_unpredictable;
 
-/// Pages, beside a list of their least members: a search reads it, and no page.
+/// If of so many pages more than one is gone, the others move to the place of those.
+const SHARE: usize = 16;
+
+/// Pages, beside a list of their least members: a search reads it, and no page. The first of both lists may be
+/// gone: then they stand there still, so that the others do not move.
 pub(crate) struct PageList<B: Width> {
     heads: Vec<B>,
     pages: Vec<Page<B>>,
+    /// How many of the first pages are gone.
+    gone: usize,
     /// What no run of each page exceeds.
     longests: Longests<B>,
     /// How many runs the pages have together.
@@ -27,6 +33,7 @@ impl<B: Width> PageList<B> {
         PageList {
             heads: Vec::new(alloc),
             pages: Vec::new(alloc),
+            gone: 0,
             longests: Longests::new(alloc),
             count: 0,
         }
@@ -37,6 +44,7 @@ impl<B: Width> PageList<B> {
         Ok(PageList {
             heads: Vec::with_capacity(alloc, capacity)?,
             pages: Vec::with_capacity(alloc, capacity)?,
+            gone: 0,
             longests: Longests::new(alloc),
             count: 0,
         })
@@ -44,12 +52,12 @@ impl<B: Width> PageList<B> {
 
     /// How many pages there are.
     pub(crate) fn len(&self) -> usize {
-        self.pages.len()
+        self.pages.len() - self.gone
     }
 
     /// Returns true exactly when there is no page.
     pub(crate) fn is_empty(&self) -> bool {
-        self.pages.is_empty()
+        self.len() == 0
     }
 
     /// How many runs the pages have together.
@@ -59,12 +67,12 @@ impl<B: Width> PageList<B> {
 
     /// The pages.
     pub(crate) fn as_slice(&self) -> &[Page<B>] {
-        self.pages.as_slice()
+        rest(&self.pages, self.gone)
     }
 
     /// Page `i`.
     pub(crate) fn page(&self, i: usize) -> &Page<B> {
-        &self.pages[i]
+        &self.pages[self.gone + i]
     }
 
     /// The only page.
@@ -72,6 +80,7 @@ impl<B: Width> PageList<B> {
         let PageList {
             heads,
             mut pages,
+            gone: _,
             longests,
             count: _,
         } = self;
@@ -82,12 +91,12 @@ impl<B: Width> PageList<B> {
 
     /// The least member of page `i`.
     pub(crate) fn head(&self, i: usize) -> B {
-        self.heads[i]
+        self.heads[self.gone + i]
     }
 
     /// The first page from page `from` on that has a run of `count` numbers.
     pub(crate) fn next_with(&self, from: usize, count: B::Output) -> Option<usize> {
-        let pages = self.pages.as_slice();
+        let pages = rest(&self.pages, self.gone);
         let mut place = from;
         'groups: while let Some((start, end)) = self.longests.next_with(place, count, pages.len()) {
             if let Some(i) = first_with(&pages[start..end], count) {
@@ -98,9 +107,15 @@ impl<B: Width> PageList<B> {
         None
     }
 
+    /// The next pages of one group, from page `from` on, of which one may have a run of `count` numbers.
+    pub(crate) fn next_part(&self, from: usize, count: B::Output) -> Option<(usize, usize)> {
+        let pages = rest(&self.pages, self.gone);
+        self.longests.next_with(from, count, pages.len())
+    }
+
     /// How many pages start at a value or below. Binary search.
     pub(crate) fn starts_up_to(&self, value: B) -> usize {
-        let heads = self.heads.as_slice();
+        let heads = rest(&self.heads, self.gone);
         let mut first = 0;
         let mut left = heads.len();
         let mut last = value;
@@ -139,49 +154,81 @@ impl<B: Width> PageList<B> {
     pub(crate) fn split(&mut self, i: usize, low: Page<B>, high: Page<B>) -> Result<(), AllocError> {
         let head = high.head();
         self.heads.reserve(1)?;
-        self.pages.insert(i + 1, high)?;
-        self.heads.insert(i + 1, head).unwrap();
-        self.heads[i] = low.head();
-        self.pages[i] = low;
+        let place = self.gone + i;
+        let next = self.gone + (i + 1);
+        self.pages.insert(next, high)?;
+        self.heads.insert(next, head).unwrap();
+        self.heads[place] = low.head();
+        self.pages[place] = low;
         let is_divided = self.longests.widen(i);
-        self.longests.settle(i, is_divided, self.pages.as_slice());
+        self.longests
+            .settle(i, is_divided, rest(&self.pages, self.gone));
         Ok(())
     }
 
     /// Puts one page in the place of those from `start` to before `end`.
     pub(crate) fn replace(&mut self, start: usize, end: usize, page: Page<B>) {
         self.take_out(start + 1, end);
-        let others = self.count - self.pages[start].interval_count();
+        let place = self.gone + start;
+        let others = self.count - self.pages[place].interval_count();
         self.count = others + page.interval_count();
-        let before = self.pages[start].longest();
+        let before = self.pages[place].longest();
         let after = page.longest();
-        self.heads[start] = page.head();
-        self.pages[start] = page;
+        self.heads[place] = page.head();
+        self.pages[place] = page;
         self.longests.raise(start, before, after);
     }
 
     /// Takes out page `i`.
     pub(crate) fn remove(&mut self, i: usize) {
-        self.count -= self.pages[i].interval_count();
-        self.heads.remove(i);
-        self.pages.remove(i);
+        if i == 0 {
+            self.remove_first();
+            return;
+        }
+        let place = self.gone + i;
+        self.count -= self.pages[place].interval_count();
+        self.heads.remove(place);
+        self.pages.remove(place);
         self.longests.take_out(i, i + 1);
-        self.longests.read_beside(i, self.pages.as_slice());
+        self.longests.read_beside(i, rest(&self.pages, self.gone));
+    }
+
+    /// Takes out the first page.
+    fn remove_first(&mut self) {
+        self.count -= self.pages[self.gone].interval_count();
+        self.gone += 1;
+        self.longests.take_out(0, 1);
+        self.longests.read_beside(0, rest(&self.pages, self.gone));
+        self.move_together();
+    }
+
+    /// Moves the pages to the place of those that are gone, if these are many.
+    fn move_together(&mut self) {
+        if self.gone <= self.pages.len() / SHARE {
+            return;
+        }
+        drop(self.heads.drain(..self.gone));
+        drop(self.pages.drain(..self.gone));
+        self.gone = 0;
     }
 
     /// Takes out the pages from `start` to before `end`.
     pub(crate) fn take_out(&mut self, start: usize, end: usize) {
-        self.count = runs_beside(&self.pages[start..end], self.count);
-        drop(self.heads.drain(start..end));
-        drop(self.pages.drain(start..end));
+        self.count = runs_beside(&rest(&self.pages, self.gone)[start..end], self.count);
+        let low = self.gone + start;
+        let high = self.gone + end;
+        drop(self.heads.drain(low..high));
+        drop(self.pages.drain(low..high));
         self.longests.take_out(start, end);
-        self.longests.read_beside(start, self.pages.as_slice());
+        self.longests
+            .read_beside(start, rest(&self.pages, self.gone));
     }
 
     /// Takes out all pages.
     pub(crate) fn clear(&mut self) {
         self.heads.clear();
         self.pages.clear();
+        self.gone = 0;
         self.longests.clear();
         self.count = 0;
     }
@@ -193,12 +240,13 @@ impl<B: Width> PageList<B> {
         i: usize,
         interval: Interval<B>,
     ) -> Result<bool, AllocError> {
-        let page = &mut self.pages[i];
+        let place = self.gone + i;
+        let page = &mut self.pages[place];
         let others = self.count - page.interval_count();
         let before = page.longest();
         let was_member = page.insert_interval(interval)?;
         let after = page.longest();
-        self.heads[i] = page.head();
+        self.heads[place] = page.head();
         self.count = others + page.interval_count();
         self.longests.raise(i, before, after);
         Ok(was_member)
@@ -212,32 +260,41 @@ impl<B: Width> PageList<B> {
         interval: Interval<B>,
     ) -> Result<bool, AllocError> {
         // no memory holds more runs than a `usize` counts
-        if is_split_uncounted(self.count, &self.pages[i], &interval) {
+        if is_split_uncounted(self.count, &self.pages[self.gone + i], &interval) {
             return Err(AllocError);
         }
-        let page = &mut self.pages[i];
+        let place = self.gone + i;
+        let page = &mut self.pages[place];
         let others = self.count - page.interval_count();
         let before = page.longest();
         let was_member = page.remove_interval(interval)?;
         let after = page.longest();
-        self.heads[i] = page.head();
+        self.heads[place] = page.head();
         self.count = others + page.interval_count();
-        self.longests.lower(i, before, after, self.pages.as_slice());
+        self.longests
+            .lower(i, before, after, rest(&self.pages, self.gone));
         Ok(was_member)
     }
 
     /// Removes and returns the least member of page `i`, which has another.
     pub(crate) fn pop_from(&mut self, i: usize) -> B {
-        let page = &mut self.pages[i];
+        let place = self.gone + i;
+        let page = &mut self.pages[place];
         let others = self.count - page.interval_count();
         let before = page.longest();
         let least = page.pop_first();
         let after = page.longest();
-        self.heads[i] = page.head();
+        self.heads[place] = page.head();
         self.count = others + page.interval_count();
-        self.longests.lower(i, before, after, self.pages.as_slice());
+        self.longests
+            .lower(i, before, after, rest(&self.pages, self.gone));
         least
     }
+}
+
+/// The items of a list without the first `gone`.
+fn rest<T>(items: &Vec<T>, gone: usize) -> &[T] {
+    &items[gone..]
 }
 
 /// Whether an edit would split a run of a page, where there are as many runs as a `usize` counts.

@@ -15,6 +15,7 @@ mod inclusion;
 mod interval_operands;
 mod iter;
 mod list_operands;
+mod longest_run;
 mod members;
 mod neighbours;
 mod overlaps;

@@ -132,12 +132,29 @@ pub(crate) fn fit_from<B: Width>(
     pages.page(i).set().first_fit(count)
 }
 
-/// The shortest run that has `count` numbers, the lowest of these, if one has so many. Pages whose longest
-/// run is shorter are not read.
-pub(crate) fn shortest_run<B: Width>(pages: &[Page<B>], count: B::Output) -> Option<Interval<B>> {
+/// The shortest run that has `count` numbers, the lowest of these, if one has so many. Groups of pages where no
+/// run is so long are passed.
+pub(crate) fn shortest_run<B: Width>(pages: &PageList<B>, count: B::Output) -> Option<Interval<B>> {
     let mut best = None;
-    for page in pages {
-        best = better_of(best, page, count);
+    let mut place = 0;
+    'parts: while let Some((start, end)) = pages.next_part(place, count) {
+        best = shortest_up_to(best, pages.as_slice(), start, end, count);
+        place = end;
+    }
+    best
+}
+
+/// The shortest run of the first `end` pages that has `count` numbers, where that of the first `start` is known.
+fn shortest_up_to<B: Width>(
+    known: Option<Interval<B>>,
+    pages: &[Page<B>],
+    start: usize,
+    end: usize,
+    count: B::Output,
+) -> Option<Interval<B>> {
+    let mut best = known;
+    for i in start..end {
+        best = better_of(best, &pages[i], count);
     }
     best
 }

@@ -13,8 +13,9 @@ impl<B: Width> PagedSet<B> {
     /// lowest of these if there are several; `None` if no run has so many. The caller must ensure
     /// that `count` is above 0. Check with `count.number() > 0`.
     ///
-    /// Reads how long the longest run of each page is, and scans those pages where it is long enough:
-    /// `O(n)`. Does not allocate.
+    /// Passes the groups of pages where no run is so long, reads how long the longest run of each other page
+    /// is, and scans those pages where it is long enough: `O(n)`, and `O(n / page / group)` where few are.
+    /// Does not allocate.
     ///
     /// ```
     /// use intervallum::proved::examples::*;
@@ -42,7 +43,7 @@ impl<B: Width> PagedSet<B> {
     /// Words: [`FitsAt`](crate::definitions#FitsAt), [`Covers`](crate::definitions#Covers), [`IsBestFit`](crate::definitions#IsBestFit).
     pub fn best_fit(&self, count: B::Output) -> Option<Interval<B>> {
         debug_assert!({ #[allow(unused_imports)] use crate::proved::ivl_interval::ops::*; crate::proved::ivl_interval::width::SizeNumber::number(count) > 0 }, "{}", "the condition of `best_fit` is broken: crate::proved::ivl_interval::width::SizeNumber::number(count) > 0");
-        let run = pages::shortest_run(self.pages.as_slice(), count)?;
+        let run = pages::shortest_run(&self.pages, count)?;
         self.first_fit_from(run.lower_bound(), count)
     }
 }
