@@ -17,3 +17,4 @@ pub mod MembersInPages
 pub mod Dividing
 pub mod InPlace
 pub mod Bounding
+pub mod Freeing
