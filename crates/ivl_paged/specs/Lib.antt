@@ -4,3 +4,4 @@ pub mod Parts
 pub mod Walks
 pub mod InPlace
 pub mod Longests
+pub mod Gaps

@@ -17,6 +17,7 @@
 #![tactic(auto)]
 
 mod combine;
+mod gaps;
 mod longests;
 mod page;
 mod page_list;

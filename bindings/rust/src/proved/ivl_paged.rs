@@ -26,6 +26,7 @@
 use crate::rattle::prelude::*;
 
 mod combine;
+mod gaps;
 mod longests;
 mod page;
 mod page_list;

@@ -6,6 +6,7 @@ ghost use Rattle.ivl_paged.specs.Operations.{KeptBy};
 
 use super::PagedSet;
 use crate::combine::{Operation, combined};
+use crate::gaps::gaps_of;
 use crate::parts::{Parts, end_of_window, gather_pages};
 use intervallum::interval::Interval;
 use intervallum::interval_set::IntervalSet;
@@ -169,9 +170,9 @@ impl<B: Width> Complement for PagedSet<B> {
 
     ghost answers = { λ r S. IfOk r (λ L. IsRunsOf L S) };
 
-    /// Returns the complement within the range of the type. `O(n)`. Goes by windows in which the set has
-    /// about 16 pages: allocates the pages of the result, and lists of the runs in one window. Fails only
-    /// if allocation fails.
+    /// Returns the complement within the range of the type. `O(n)`. Goes page by page, and allocates the
+    /// pages of the result, which have no room for more runs: the first edit of each moves its runs. Fails
+    /// only if allocation fails.
     ///
     /// ```
     /// let mut a = PagedSet::new(alloc);
@@ -183,10 +184,7 @@ impl<B: Width> Complement for PagedSet<B> {
         ensures runs_at_most { IfOk result (λ L. length L ≤ length self.now + 1) }
     {
         self.in_whole();
-        // the members of the range that the set does not have
-        let all = IntervalSet::whole(self.alloc)?;
-        all.in_whole();
-        let pages = combined(self.alloc, &all, self, Operation::FirstAlone)?;
+        let pages = gaps_of(self.alloc, &self.pages)?;
         Ok(PagedSet {
             alloc: self.alloc,
             pages,

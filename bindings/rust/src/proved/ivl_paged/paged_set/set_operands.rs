@@ -5,6 +5,7 @@
 use crate::rattle::prelude::*;
 use super::PagedSet;
 use crate::proved::ivl_paged::combine::{Operation, combined};
+use crate::proved::ivl_paged::gaps::gaps_of;
 use crate::proved::ivl_paged::parts::{Parts, end_of_window, gather_pages};
 use crate::proved::intervallum::interval::Interval;
 use crate::proved::intervallum::interval_set::IntervalSet;
@@ -229,9 +230,9 @@ impl<B: Width> SymmetricDifference<PagedSet<B>> for PagedSet<B> {
 impl<B: Width> Complement for PagedSet<B> {
     type Output = Result<PagedSet<B>, AllocError>;
 
-    /// Returns the complement within the range of the type. `O(n)`. Goes by windows in which the set has
-    /// about 16 pages: allocates the pages of the result, and lists of the runs in one window. Fails only
-    /// if allocation fails.
+    /// Returns the complement within the range of the type. `O(n)`. Goes page by page, and allocates the
+    /// pages of the result, which have no room for more runs: the first edit of each moves its runs. Fails
+    /// only if allocation fails.
     ///
     /// ```
     /// use intervallum::proved::examples::*;
@@ -255,10 +256,7 @@ impl<B: Width> Complement for PagedSet<B> {
     /// Words: [`IsRunsOf`](crate::definitions#IsRunsOf), [`Complement`](crate::definitions#Complement), [`Covers`](crate::definitions#Covers).
     fn complement(&self) -> Result<PagedSet<B>, AllocError> {
         self.in_whole();
-        // the members of the range that the set does not have
-        let all = IntervalSet::whole(self.alloc)?;
-        all.in_whole();
-        let pages = combined(self.alloc, &all, self, Operation::FirstAlone)?;
+        let pages = gaps_of(self.alloc, &self.pages)?;
         Ok(PagedSet {
             alloc: self.alloc,
             pages,
