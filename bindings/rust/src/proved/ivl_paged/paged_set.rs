@@ -46,7 +46,8 @@ use crate::rattle::std::alloc::{AllocError, Global};
 /// page and at 16 in a row: `O(log n)`. An edit in one page moves the runs of that page. A page that
 /// gets 128 is split in two, which moves both lists; if there is no memory for that, the page grows. A
 /// page that gets at most half of that is joined with a neighbour if both then have at most 96. A page
-/// is removed when it is empty.
+/// is removed when it is empty; the first one is passed over and keeps its memory, until there is one such
+/// for each 16 others.
 ///
 /// If an allocation fails, the set is unchanged.
 ///
@@ -378,8 +379,8 @@ impl<B: Width> PagedSet<B> {
     }
 
     /// Removes and returns the least member, or returns `None` if the set is empty. Searches nothing:
-    /// `O(1)`, where the runs of the first page may move, and the list of pages if that page then has no
-    /// runs. Never fails.
+    /// `O(1)`, where the runs of the first page may move. A page that then has no runs is passed over; once
+    /// there is one for each 16 others, the list of pages moves. Never fails.
     ///
     /// ```
     /// use intervallum::proved::examples::*;
