@@ -10,7 +10,7 @@ use Rattle.ivl_laws.proofs.SetLaws.{IsRunsOf-same}
 use Rattle.ivl_merges.proofs.RunBounds.{length_of_without}
 use Rattle.intervallum.specs.Neighbours.{IsLeast}
 use Rattle.ivl_merges.specs.Order.{IsBelow}
-use Rattle.ivl_paged.specs.Gaps.{AreGaps, IsAfter, IsBefore, IsGap, IsGapPage}
+use Rattle.ivl_paged.specs.Gaps.{AreGaps, IsAfter, IsBefore, IsLeftBefore, IsGapPage}
 use Rattle.ivl_paged.specs.Pages.{flattened}
 use Rattle.ivl_paged.proofs.Combining.{appended}
 use Rattle.ivl_paged.proofs.Paging.{covers_page, flattened-append, order_of, page_of, pages_ascend}
@@ -53,18 +53,18 @@ module _ (whole : ℤ × ℤ) (P : List (List (ℤ × ℤ))) (i : ℕ) (K : List
   under_next z c j y le d = ⊎_elim
       (λ last. absurd (beyond P j y (omega (arith, le, last.0)) d))
       (λ (v, least, is). by_lt_z z v
-          (λ lt. let low = least_of_rest P (i + 1) j v y r.maximal least le d in omega (arith, ints, lt, low))
-          (λ ge. absurd (((g.members.members z).0 c).1 (subst (λ (p : ℤ × ℤ). IsBetween p z) (sym is) (ge, (in_range z c).1)))))
+      (λ lt. let low = least_of_rest P (i + 1) j v y r.maximal least le d in omega (arith, ints, lt, low))
+      (λ ge. absurd (((g.members.members z).0 c).1 (subst (λ (p : ℤ × ℤ). IsBetween p z) (sym is) (ge, (in_range z c).1)))))
       g.is_after
 
-  is_after_none : (z : ℤ) → IsGap whole P (i + 1) z → ¬ (IsBetween g.after z)
+  is_after_none : (z : ℤ) → IsLeftBefore whole P (i + 1) z → ¬ (IsBetween g.after z)
   is_after_none z h b = ⊎_elim
       (λ last. last.1 z b)
       (λ (v, least, is). let low = (subst (λ (p : ℤ × ℤ). IsBetween p z) is b).0 in let lt = h.1 (i + 1) v (omega arith) least.0 in omega (arith, ints, low, lt))
       g.is_after
 
   -- where no page before page i has z
-  is_gap : (z : ℤ) → Covers K z → ((j : ℕ) → j < i → ¬ (set_at P j z)) → IsGap whole P (i + 1) z
+  is_gap : (z : ℤ) → Covers K z → ((j : ℕ) → j < i → ¬ (set_at P j z)) → IsLeftBefore whole P (i + 1) z
   is_gap z c none = (
     (
       in_range z c,
@@ -79,10 +79,10 @@ module _ (whole : ℤ × ℤ) (P : List (List (ℤ × ℤ))) (i : ℕ) (K : List
     under_next z c,
   )
 
-  in_gaps : (z : ℤ) → IsGap whole P (i + 1) z → ¬ (IsBetween g.before z) → Covers K z
+  in_gaps : (z : ℤ) → IsLeftBefore whole P (i + 1) z → ¬ (IsBetween g.before z) → Covers K z
   in_gaps z h out = (g.members.members z).1 (((h.0.0, λ d. h.0.1 (covers_page P i z d)), out), is_after_none z h)
 
-  first_gaps : i ≡ 0 → IsRunsOf K (IsGap whole P (i + 1))
+  first_gaps : i ≡ 0 → IsRunsOf K (IsLeftBefore whole P (i + 1))
   first_gaps e = record {
     maximal = g.members.maximal;
     members = λ z. (
@@ -92,14 +92,14 @@ module _ (whole : ℤ × ℤ) (P : List (List (ℤ × ℤ))) (i : ℕ) (K : List
   }
 
   -- G are the gaps before page i, whose least member is v
-  module _ (G : List (ℤ × ℤ)) (v : ℤ) (a : IsRunsOf G (IsGap whole P i)) (least : IsLeast v (set_at P i)) (is : g.before ≡ (whole.0, v)) where
+  module _ (G : List (ℤ × ℤ)) (v : ℤ) (a : IsRunsOf G (IsLeftBefore whole P i)) (least : IsLeast v (set_at P i)) (is : g.before ≡ (whole.0, v)) where
     over : (z : ℤ) → Covers K z → v <ℤ z
     over z c = by_lt_z v z (λ lt. lt) (λ le. absurd (((g.members.members z).0 c).0.1 (subst (λ (p : ℤ × ℤ). IsBetween p z) (sym is) ((in_range z c).0, le))))
 
     gaps_apart : IsBelow (pos 2) (Covers G) (Covers K)
     gaps_apart x y c d = let lt = ((a.members x).0 c).1 i v (omega arith) least.0 in let more = over y d in omega (arith, ints, lt, more)
 
-    next_gaps : IsRunsOf (G ++ K) (IsGap whole P (i + 1))
+    next_gaps : IsRunsOf (G ++ K) (IsLeftBefore whole P (i + 1))
     next_gaps =
         let all = appended G K a.maximal g.members.maximal gaps_apart in record {
           maximal = all.maximal;
@@ -112,20 +112,23 @@ module _ (whole : ℤ × ℤ) (P : List (List (ℤ × ℤ))) (i : ℕ) (K : List
                 (λ lt. inl ((a.members z).1 (h.0, λ j y le s. let low = least_of_rest P i j v y r.maximal least le s in omega (arith, ints, lt, low))))
                 (λ ge. inr (in_gaps z h (λ b.
                 let up = (subst (λ (p : ℤ × ℤ). IsBetween p z) is b).1 in
-                h.0.1 (covers_page P i z (subst (set_at P i) (omega (arith, ints, ge, up)) least.0)))))))
+                h.0.1 (covers_page P i z (subst (set_at P i) (omega (arith, ints, ge, up)) least.0))))))),
           );
         }
 
   pub more_gaps : (G : List (ℤ × ℤ)) → AreGaps whole P i G → AreGaps whole P (i + 1) (G ++ K)
-  more_gaps G a = inr (omega arith, ⊎_elim
-      (λ (e, none). subst (λ (M : List (ℤ × ℤ)). IsRunsOf (M ++ K) (IsGap whole P (i + 1))) (sym none) (first_gaps e))
-      (λ (h, b). ⊎_elim (λ f. absurd (omega (arith, h, f.0))) (λ (v, more, least, is). next_gaps G v b least is) g.is_before)
-      a)
+  more_gaps G a = inr (
+    omega arith,
+    ⊎_elim
+        (λ (e, none). subst (λ (M : List (ℤ × ℤ)). IsRunsOf (M ++ K) (IsLeftBefore whole P (i + 1))) (sym none) (first_gaps e))
+        (λ (h, b). ⊎_elim (λ f. absurd (omega (arith, h, f.0))) (λ (v, more, least, is). next_gaps G v b least is) g.is_before)
+        a,
+  )
 
 pub all_gaps : (whole : ℤ × ℤ) (P : List (List (ℤ × ℤ))) (i : ℕ) (G : List (ℤ × ℤ)) → 0 < length P → length P ≤ i → AreGaps whole P i G → IsRunsOf G (Complement whole (Covers (flattened P)))
 all_gaps whole P i G some end a = ⊎_elim
     (λ f. absurd (omega (arith, some, end, f.0)))
-    (λ (h, b). IsRunsOf-same (IsGap whole P i) (Complement whole (Covers (flattened P))) G (λ z. ((λ k. k.0), (λ k. (k, λ j y le s. absurd (beyond P j y (omega (arith, end, le)) s))))) b)
+    (λ (h, b). IsRunsOf-same (IsLeftBefore whole P i) (Complement whole (Covers (flattened P))) G (λ z. ((λ k. k.0), (λ k. (k, λ j y le s. absurd (beyond P j y (omega (arith, end, le)) s))))) b)
     a
 
 -- ---- the whole range

@@ -17,9 +17,6 @@ pub mod MembersInPages
 pub mod Dividing
 pub mod InPlace
 pub mod Bounding
-<<<<<<< HEAD
 pub mod Rests
 pub mod LongestRun
-=======
 pub mod Freeing
->>>>>>> 6741b7cca9f1d4ccf0d5d5609ffb2949766e2b9b

@@ -1,5 +1,5 @@
 -- What lies between pages.
---     IsGap whole P i z      z is in the range and in no page, and below the members of page i and of those after it
+--     IsLeftBefore whole P i z      z is in the range and in no page, and below the members of page i and of those after it
 --     AreGaps whole P i G      G has these numbers for place i, or none if i is 0
 --     IsGapPage whole P i K      K has the numbers of the range that lie behind those of page i, before the next page; of the first page also those before it
 use Rattle.std.specs.Prelude.{◌≡◌, ◌⊎◌, ℕ, ◌+◌, ◌<◌, ◌≤◌, ℤ, ◌<ℤ◌, List, [], length}
@@ -10,11 +10,11 @@ use Rattle.intervallum.specs.Neighbours.{IsLeast}
 use Rattle.ivl_paged.specs.Pages.{flattened}
 
 -- the numbers that the pages before place i leave free, and the first page the numbers before it
-abbrev pub IsGap : ℤ × ℤ → List (List (ℤ × ℤ)) → ℕ → ℤ → Type 0
-IsGap whole P i z = Complement whole (Covers (flattened P)) z × ((j : ℕ) (y : ℤ) → i ≤ j → set_at P j y → z <ℤ y)
+abbrev pub IsLeftBefore : ℤ × ℤ → List (List (ℤ × ℤ)) → ℕ → ℤ → Type 0
+IsLeftBefore whole P i z = Complement whole (Covers (flattened P)) z × ((j : ℕ) (y : ℤ) → i ≤ j → set_at P j y → z <ℤ y)
 
 abbrev pub AreGaps : ℤ × ℤ → List (List (ℤ × ℤ)) → ℕ → List (ℤ × ℤ) → Type 0
-AreGaps whole P i G = ((i ≡ 0) × (G ≡ [])) ⊎ ((0 < i) × IsRunsOf G (IsGap whole P i))
+AreGaps whole P i G = ((i ≡ 0) × (G ≡ [])) ⊎ ((0 < i) × IsRunsOf G (IsLeftBefore whole P i))
 
 -- the numbers up to the least one of a page, unless it is the first
 abbrev pub IsBefore : ℤ × ℤ → List (List (ℤ × ℤ)) → ℕ → ℤ × ℤ → Type 0

@@ -32,10 +32,7 @@ pub(crate) fn gaps_of<B: Width>(
 
 /// The numbers of the range that are in none of some pages, of which there is one at least. The gaps
 /// behind the runs of each page are a page, and the first of these has what lies before the first run too.
-fn gaps_between<B: Width>(
-    alloc: Global,
-    pages: &PageList<B>,
-) -> Result<PageList<B>, AllocError>
+fn gaps_between<B: Width>(alloc: Global, pages: &PageList<B>) -> Result<PageList<B>, AllocError>
     requires some { 0 < length pages.now }
     requires runs { IsRunListIn B.whole (flattened pages.now) }
     ensures { IfOk result (λ gaps. IsRunsOf (flattened gaps) (Complement B.whole (Covers (flattened pages.now)))) }

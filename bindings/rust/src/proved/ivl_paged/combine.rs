@@ -27,7 +27,7 @@ pub(crate) enum Operation {
 
 /// What an operation makes of two sets, in pages.
 ///
-/// A window begins where the last one ended. The runs of both sets that meet it are put into two lists,
+/// A window begins where the last one ended. What both sets have in it is put into two lists,
 /// and what the operation makes of these in the window is put behind the pages so far. The runs of a set
 /// that lie there are at most those of some pages.
 pub(crate) fn combined<B: Width, S: Parts<B>, T: Parts<B>>(

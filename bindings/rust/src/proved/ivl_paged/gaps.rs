@@ -27,10 +27,7 @@ pub(crate) fn gaps_of<B: Width>(
 
 /// The numbers of the range that are in none of some pages, of which there is one at least. The gaps
 /// behind the runs of each page are a page, and the first of these has what lies before the first run too.
-fn gaps_between<B: Width>(
-    alloc: Global,
-    pages: &PageList<B>,
-) -> Result<PageList<B>, AllocError> {
+fn gaps_between<B: Width>(alloc: Global, pages: &PageList<B>) -> Result<PageList<B>, AllocError> {
     let mut gaps = PageList::new(alloc);
     for i in 0..pages.len() {
         let part = gaps_beside(pages, i)?;
