@@ -1,5 +1,5 @@
 -- The numbers that pages leave free, page by page.
-use Rattle.std.proofs.Common.{◌≡◌, ⊎_elim, inl, inr, ℕ, ◌+◌, ◌<◌, ◌≤◌, ℤ, pos, ◌≤ℤ◌, List, [], ◌∷◌, ◌++◌, get_or, length, refl, sym, ap, subst, ◌∙◌, append-nil, arith}
+use Rattle.std.proofs.Common.{◌≡◌, ⊎_elim, inl, inr, ℕ, ◌+◌, ◌<◌, ◌≤◌, ℤ, pos, ◌≤ℤ◌, List, [], ◌∷◌, ◌++◌, get_or, length, sym, ap, subst, ◌∙◌, append-nil, arith}
 use Rattle.std.specs.Prelude.{◌<ℤ◌}
 use Rattle.std.proofs.lemmas.Int.{ints, by_lt_z}
 use Rattle.ivl_laws.specs.Families.{set_at}
@@ -7,7 +7,6 @@ use Rattle.ivl_laws.specs.Sets.{Complement, IsBetween, Without}
 use Rattle.ivl_laws.specs.Runs.{Covers, IsMaximal, IsRunListIn, IsRunsOf}
 use Rattle.ivl_laws.proofs.Ranges.{IsRunsOf-one}
 use Rattle.ivl_laws.proofs.SetLaws.{IsRunsOf-same}
-use Rattle.ivl_merges.proofs.RunBounds.{length_of_without}
 use Rattle.intervallum.specs.Neighbours.{IsLeast}
 use Rattle.ivl_merges.specs.Order.{IsBelow}
 use Rattle.ivl_paged.specs.Gaps.{AreGaps, IsAfter, IsBefore, IsLeftBefore, IsGapPage}
@@ -138,10 +137,3 @@ pub gaps_of_none : (whole : ℤ × ℤ) (P : List (List (ℤ × ℤ))) (G : List
 gaps_of_none whole P G none o e = subst (λ (L : List (ℤ × ℤ)). IsRunsOf L (Complement whole (Covers (flattened P)))) (sym e)
     (IsRunsOf-same (IsBetween whole) (Complement whole (Covers (flattened P))) (whole ∷ [])
     (λ z. ((λ b. (b, λ c. let (k, h, s) = page_of P z c in omega (arith, h, none))), (λ c. c.0))) (IsRunsOf-one whole o))
-
-pub length_of_gaps : (whole : ℤ × ℤ) (L G : List (ℤ × ℤ)) → IsRunsOf G (Complement whole (Covers L)) → length G ≤ length L + 1
-length_of_gaps whole L G r =
-    let most = length_of_without (whole ∷ []) L G (IsRunsOf-same (Complement whole (Covers L)) (Without (Covers (whole ∷ [])) (Covers L)) G
-    (λ z. ((λ s. (inl s.0, s.1)), (λ s. (⊎_elim (λ b. b) (λ f. absurd f) s.0, s.1)))) r) in
-    let one : length (whole ∷ []) ≡ 1 = refl in
-    omega (arith, most, one)
