@@ -1,6 +1,8 @@
 -- What lies between pages.
 --     IsLeftBefore whole P i z      z is in the range and in no page, and below the members of page i and of those after it
 --     AreGaps whole P i G      G has these numbers for place i, or none if i is 0
+--     IsBefore whole P i p      p has the numbers up to the least one of page i, or none if that is the first
+--     IsAfter whole P i p      p has the numbers from the least one of the next page on, or none if there is none
 --     IsGapPage whole P i K      K has the numbers of the range that lie behind those of page i, before the next page; of the first page also those before it
 use Rattle.std.specs.Prelude.{◌≡◌, ◌⊎◌, ℕ, ◌+◌, ◌<◌, ◌≤◌, ℤ, ◌<ℤ◌, List, [], length}
 use Rattle.ivl_laws.specs.Families.{set_at}
