@@ -1,75 +1,62 @@
--- The longest of the runs that were read so far.
-use Rattle.std.proofs.Common.{◌≡◌, ◌∙◌, ◌<◌, ◌≤◌, ℕ, ℤ, ◌≤ℤ◌, List, [], ◌∷◌, ◌++◌, refl, sym, subst, ap, arith, append_assoc, append-nil}
-use Rattle.std.specs.Prelude.{All, Contains}
+-- The lowest of the longest runs of a set, among its runs as they are listed.
+use Rattle.std.proofs.Common.{◌≡◌, ⊎_elim, inl, inr, ◌<◌, ◌≤◌, ℕ, ℤ, ◌≤ℤ◌, ◌<ℤ◌, List, [], ◌∷◌, Some, None, refl, sym, ap, arith}
+use Rattle.std.specs.Prelude.{All, IfSome, MatchOption, Option}
 use Rattle.std.proofs.lemmas.Int.{ints}
-use Rattle.std.proofs.lemmas.List.Elements.{All-append, All-cons, All-nil, All-weaker, Contains-append_right}
+use Rattle.std.proofs.lemmas.List.Elements.{All-cons, All-nil}
 use Rattle.ivl_laws.specs.Bounds.{width_of}
-use Rattle.ivl_laws.specs.Sets.{HasSome, IsBetween}
+use Rattle.ivl_laws.specs.Counts.{IsIn}
+use Rattle.ivl_laws.specs.Runs.{Covers, IsMaximal}
+use Rattle.ivl_laws.proofs.Intervals.{width_of-filled}
+use Rattle.ivl_laws.proofs.Products.{one_covers, open_in}
+use Rattle.intervallum.specs.FirstFit.{FitsAt, IsFirstFit}
+use Rattle.intervallum.specs.Neighbours.{IsRunWith}
+use Rattle.intervallum.proofs.Fits.{run_is_listed}
+use Rattle.ivl_paged.specs.Longests.{NoneLonger}
+use Rattle.ivl_paged.proofs.Fitting.{fewer_fit}
+use Rattle.ivl_paged.proofs.Paging.{order_of, parts_apart}
 use Rattle.ivl_blocks.specs.Answering.{IsLongestRun}
 
--- L is what was read and the rest R, and the run is the longest of what was read
-pub record IsLongestSoFar (L R : List (ℤ × ℤ)) (run : ℤ × ℤ) : Type 0 where
-  pub seen : List (ℤ × ℤ)
-  pub parts : L ≡ seen ++ R
-  pub longest : IsLongestRun seen run
+all_listed : (F : (ℤ × ℤ) → Type 0) (L : List (ℤ × ℤ)) → ((q : ℤ × ℤ) → IsIn L q → F q) → All F L
+all_listed F [] h = All-nil F
+all_listed F (q ∷ L) h = All-cons F q L (h q (inl refl)) (all_listed F L (λ r i. h r (inr i)))
 
-none_shorter : (n : ℕ) → All (λ q. width_of q < n) []
-none_shorter n = All-nil (λ q. width_of q < n)
-
-none_longer : (n : ℕ) → All (λ q. width_of q ≤ n) []
-none_longer n = All-nil (λ q. width_of q ≤ n)
-
-pub longest_first : (L R : List (ℤ × ℤ)) (p : ℤ × ℤ) → L ≡ p ∷ R → IsLongestSoFar L R p
-longest_first L R p e = record {
-  seen = p ∷ [];
-  parts = e;
-  longest = record { before = []; after = []; parts = refl; shorter = none_shorter (width_of p); not_longer = none_longer (width_of p) };
+-- no run is longer, and those that start lower are shorter
+first_in_list : (L : List (ℤ × ℤ)) (p : ℤ × ℤ) → IsMaximal L → IsIn L p → ((q : ℤ × ℤ) → IsIn L q → width_of q ≤ width_of p) → ((q : ℤ × ℤ) → IsIn L q → q.0 <ℤ p.0 → width_of q < width_of p) → IsLongestRun L p
+first_in_list [] p m i most low = absurd i
+first_in_list (q ∷ L) p m (inl e) most low = record {
+  before = [];
+  after = L;
+  parts = ap (λ r. r ∷ L) (sym e);
+  shorter = All-nil (λ r. width_of r < width_of p);
+  not_longer = all_listed (λ r. width_of r ≤ width_of p) L (λ r i. most r (inr i));
 }
+first_in_list (q ∷ L) p m (inr i) most low =
+    let rest = first_in_list L p m.2 i (λ r j. most r (inr j)) (λ r j. low r (inr j)) in
+    let far = parts_apart (q ∷ []) L q.0 p.0 m (inl (omega (arith, ints), m.0)) (one_covers L p p.0 i (omega (arith, ints), open_in L p m.2 i)) in
+    record {
+      before = q ∷ rest.before;
+      after = rest.after;
+      parts = ap (λ (K : List (ℤ × ℤ)). q ∷ K) rest.parts;
+      shorter = All-cons (λ r. width_of r < width_of p) q rest.before (low q (inl refl) (omega (arith, ints, far))) rest.shorter;
+      not_longer = rest.not_longer;
+    }
 
-all_at_most : (L : List (ℤ × ℤ)) (run : ℤ × ℤ) → IsLongestRun L run → All (λ q. width_of q ≤ width_of run) L
-all_at_most L run s =
-    let P = λ (q : ℤ × ℤ). width_of q ≤ width_of run in
-    subst (λ (K : List (ℤ × ℤ)). All P K) (sym s.parts)
-    (All-append P s.before (run ∷ s.after) (All-weaker (λ q. width_of q < width_of run) P (λ q lt. omega (arith, lt)) s.before s.shorter) (All-cons P run s.after (omega arith) s.not_longer))
+listed_fits : (L : List (ℤ × ℤ)) (q : ℤ × ℤ) → IsMaximal L → IsIn L q → FitsAt (width_of q) (Covers L) q.0
+listed_fits L q m i z b = let width = width_of-filled q (open_in L q m i) in one_covers L q z i (b.0, omega (arith, ints, b.1, width))
 
--- one more run is read, which is longer or is not
-module _ (L R S : List (ℤ × ℤ)) (run p : ℤ × ℤ) (s : IsLongestSoFar L R run) (e : R ≡ p ∷ S) where
-  read_further : L ≡ (s.seen ++ p ∷ []) ++ S
-  read_further = s.parts ∙ ap (λ (K : List (ℤ × ℤ)). s.seen ++ K) e ∙ sym (append_assoc s.seen (p ∷ []) S)
+longest_is_listed : (L : List (ℤ × ℤ)) (p : ℤ × ℤ) → IsMaximal L → IsRunWith p.0 (Covers L) p → NoneLonger (width_of p) (Covers L) → IsFirstFit (width_of p) (Covers L) p → IsLongestRun L p
+longest_is_listed L p m run most first = first_in_list L p m (run_is_listed L p.0 p m run)
+    (λ q i. most (width_of q) q.0 (listed_fits L q m i))
+    (λ q i lower. ⊎_elim
+    (λ less. less)
+    (λ le. let low = first.lowest q.0 (fewer_fit (width_of p) (width_of q) (Covers L) q.0 le (listed_fits L q m i)) in absurd (omega (arith, ints, low, lower)))
+    (order_of (width_of q) (width_of p)))
 
-  pub longest_is_new : width_of run < width_of p → IsLongestSoFar L S p
-  longest_is_new lt = record {
-    seen = s.seen ++ p ∷ [];
-    parts = read_further;
-    longest = record {
-      before = s.seen;
-      after = [];
-      parts = refl;
-      shorter = All-weaker (λ q. width_of q ≤ width_of run) (λ q. width_of q < width_of p) (λ q le. omega (arith, le, lt)) s.seen (all_at_most s.seen run s.longest);
-      not_longer = none_longer (width_of p);
-    };
-  }
+pub longest_in_list : (L : List (ℤ × ℤ)) (o : Option (ℤ × ℤ)) → IsMaximal L → MatchOption o (L ≡ []) (λ p. IsRunWith p.0 (Covers L) p) → IfSome o (λ p. NoneLonger (width_of p) (Covers L)) →
+    IfSome o (λ p. IsFirstFit (width_of p) (Covers L) p) → MatchOption o (L ≡ []) (IsLongestRun L)
+longest_in_list L None m run most first = run
+longest_in_list L (Some p) m run most first = longest_is_listed L p m run most first
 
-  pub longest_stays : width_of p ≤ width_of run → IsLongestSoFar L S run
-  longest_stays le = record {
-    seen = s.seen ++ p ∷ [];
-    parts = read_further;
-    longest = record {
-      before = s.longest.before;
-      after = s.longest.after ++ p ∷ [];
-      parts = ap (λ (K : List (ℤ × ℤ)). K ++ p ∷ []) s.longest.parts ∙ append_assoc s.longest.before (run ∷ s.longest.after) (p ∷ []);
-      shorter = s.longest.shorter;
-      not_longer = All-append (λ q. width_of q ≤ width_of run) s.longest.after (p ∷ []) s.longest.not_longer (All-cons (λ q. width_of q ≤ width_of run) p [] le (none_longer (width_of run)));
-    };
-  }
-
-pub longest_of_all : (L R : List (ℤ × ℤ)) (run : ℤ × ℤ) → IsLongestSoFar L R run → R ≡ [] → IsLongestRun L run
-longest_of_all L R run s e =
-    subst (λ (K : List (ℤ × ℤ)). IsLongestRun K run) (sym (s.parts ∙ ap (λ (K : List (ℤ × ℤ)). s.seen ++ K) e ∙ append-nil s.seen)) s.longest
-
-pub longest_is_filled : (L : List (ℤ × ℤ)) (run : ℤ × ℤ) → IsLongestRun L run → All (λ p. HasSome (IsBetween p)) L → run.0 ≤ℤ run.1
-longest_is_filled L run s filled =
-    let here : Contains (run ∷ s.after) run = (0, omega arith, refl) in
-    let (k, h, e) = subst (λ (K : List (ℤ × ℤ)). Contains K run) (sym s.parts) (Contains-append_right s.before (run ∷ s.after) run here) in
-    let (z, b) = subst (λ (p : ℤ × ℤ). HasSome (IsBetween p)) e (filled k run h) in
-    omega (arith, ints, b.0, b.1)
+pub longest_is_filled : (L : List (ℤ × ℤ)) (o : Option (ℤ × ℤ)) → MatchOption o (L ≡ []) (λ p. IsRunWith p.0 (Covers L) p) → IfSome o (λ p. p.0 ≤ℤ p.1)
+longest_is_filled L None run = tt
+longest_is_filled L (Some p) run = run.holds.1

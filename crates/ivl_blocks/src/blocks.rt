@@ -10,7 +10,6 @@ ghost use Rattle.ivl_lines.specs.Words.{words_between};
 ghost use Rattle.ivl_blocks.specs.Answering.{AnswersLine, IsLongestRun, ShowsFree, ShowsLongest};
 
 use intervallum::interval::Interval;
-use intervallum::ops::Cardinality;
 use ivl_allocator::{all_free, give, take, write_run};
 use ivl_lines::{AnswersCommands, SessionFault, next_word, serve};
 use ivl_paged::PagedSet;
@@ -128,17 +127,11 @@ fn show_longest<W: Write>(free: &PagedSet<u64>, words: &str, writer: &mut W) -> 
     }
 }
 
-/// Returns the lowest of the longest runs, or `None` if there is none. `O(n)` for `n` runs.
+/// Returns the lowest of the longest runs, or `None` if there is none. `O(n / page)` for `n` runs.
 fn longest(free: &PagedSet<u64>) -> Option<Interval<u64>>
     ensures run { MatchOption result (free.now ≡ []) (IsLongestRun free.now) }
     ensures filled { IfSome result (λ run. run.0 ≤ℤ run.1) }
 {
-    let mut left = free.iter();
-    let mut longest = left.next()?;
-    'runs: while let Some(run) = left.next() {
-        if longest.size() < run.size() {
-            longest = run;
-        }
-    }
-    Some(longest)
+    free.in_whole();
+    free.longest_run()
 }

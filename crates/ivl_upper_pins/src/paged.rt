@@ -1,11 +1,13 @@
 //! What the calls of a paged set mean, as a caller learns it; [`run_set`](crate::run_set) has those that both kinds of set have. None of these needs a hand-written proof.
-ghost use Rattle.std.specs.Prelude.{◌≡◌, ◌↔◌, ◌⊎◌, ◌≤ℤ◌, ℤ, pos, ◌+ℤ◌, ◌-ℤ◌, [], ◌∷◌, IfOk, IsTrue, MatchOption, OnErr, OnOk, length};
+ghost use Rattle.std.specs.Prelude.{◌≡◌, ◌↔◌, ◌⊎◌, ◌≤◌, ◌≤ℤ◌, ℕ, ℤ, pos, ◌+ℤ◌, ◌-ℤ◌, [], ◌∷◌, IfOk, IfSome, IsTrue, MatchOption, OnErr, OnOk, length};
+ghost use Rattle.ivl_laws.specs.Bounds.{width_of};
 ghost use Rattle.ivl_laws.specs.Counts.{IsCountOf, IsIn};
 ghost use Rattle.ivl_laws.specs.Sets.{AtLeast, Below, HasNone, HasSome, Intersection, IsBetween, IsSubset, SameMembers, Union, Without};
 ghost use Rattle.ivl_laws.specs.Runs.{Covers, IsRunsOf};
 ghost use Rattle.intervallum.specs.FirstFit.{FitsAt, IsFirstFit};
 ghost use Rattle.intervallum.specs.Fits.{IsBestFit};
 ghost use Rattle.intervallum.specs.Members.{IsAscending};
+ghost use Rattle.intervallum.specs.Neighbours.{IsRunWith};
 ghost use Rattle.intervallum.specs.Windows.{OfRunsThatMeet};
 
 use intervallum::interval::Interval;
@@ -237,6 +239,15 @@ pub fn tightest_if_some<B: Width>(set: &PagedSet<B>, count: B::Output) -> Option
     } else {
         None
     }
+}
+
+/// Returns the lowest of the longest runs.
+pub fn widest<B: Width>(set: &PagedSet<B>) -> Option<Interval<B>>
+    ensures run { MatchOption result (set.now ≡ []) (λ run. IsRunWith run.0 (Covers set.now) run) }
+    ensures longest { IfSome result (λ run. (n : ℕ) (v : ℤ) → FitsAt n (Covers set.now) v → n ≤ width_of run) }
+    ensures lowest { IfSome result (λ run. IsFirstFit (width_of run) (Covers set.now) run) }
+{
+    set.longest_run()
 }
 
 /// Divides a set at a value.
