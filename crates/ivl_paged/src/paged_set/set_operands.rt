@@ -9,7 +9,6 @@ use crate::combine::{Operation, combined};
 use crate::gaps::gaps_of;
 use crate::parts::{Parts, end_of_window, gather_pages};
 use intervallum::interval::Interval;
-use intervallum::interval_set::IntervalSet;
 use intervallum::ops::{Complement, Difference, Intersection, SymmetricDifference, Union};
 use intervallum::width::Width;
 use std::alloc::AllocError;

@@ -4,7 +4,6 @@
 #[allow(unused_imports)]
 use crate::rattle::prelude::*;
 use crate::proved::intervallum::interval::Interval;
-use crate::proved::intervallum::ops::Cardinality;
 use crate::proved::ivl_allocator::{all_free, give, take, write_run};
 use crate::proved::ivl_lines::{AnswersCommands, SessionFault, next_word, serve};
 use crate::proved::ivl_paged::PagedSet;
@@ -86,14 +85,8 @@ fn show_longest<W: Write>(free: &PagedSet<u64>, words: &str, writer: &mut W) -> 
     }
 }
 
-/// Returns the lowest of the longest runs, or `None` if there is none. `O(n)` for `n` runs.
+/// Returns the lowest of the longest runs, or `None` if there is none. `O(n / page)` for `n` runs.
 fn longest(free: &PagedSet<u64>) -> Option<Interval<u64>> {
-    let mut left = free.iter();
-    let mut longest = left.next()?;
-    'runs: while let Some(run) = left.next() {
-        if longest.size() < run.size() {
-            longest = run;
-        }
-    }
-    Some(longest)
+    free.in_whole();
+    free.longest_run()
 }

@@ -8,7 +8,6 @@ use crate::proved::ivl_paged::combine::{Operation, combined};
 use crate::proved::ivl_paged::gaps::gaps_of;
 use crate::proved::ivl_paged::parts::{Parts, end_of_window, gather_pages};
 use crate::proved::intervallum::interval::Interval;
-use crate::proved::intervallum::interval_set::IntervalSet;
 use crate::proved::intervallum::ops::{Complement, Difference, Intersection, SymmetricDifference, Union};
 use crate::proved::intervallum::width::Width;
 use crate::rattle::std::alloc::AllocError;
