@@ -128,7 +128,7 @@ fn ask_of_parts(value: i16, set: &Forms) {
     assert!(given == above.paged && given.into_set().unwrap() == above.paged.into_set().unwrap());
 }
 
-/// Compares the shortest room for some numbers of members.
+/// Compares the shortest room for some numbers of members, and the longest run.
 fn ask_of_room(set: &Forms) {
     for count in (1..12u16).chain([40, 400, 8001]) {
         let long_enough = set.list.iter().filter(|run| run.size() >= count);
@@ -136,6 +136,9 @@ fn ask_of_room(set: &Forms) {
         let fit = shortest.map(|run| Interval::new(run.lower(), run.lower() + (count - 1) as i16));
         assert_eq!(set.paged.best_fit(count), fit, "{count}");
     }
+    // `max_by_key` takes the last of several
+    let longest = set.list.iter().rev().max_by_key(|run| run.size());
+    assert_eq!(set.paged.longest_run(), longest.copied());
 }
 
 /// Compares the answers about two sets.

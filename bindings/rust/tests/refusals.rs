@@ -347,7 +347,7 @@ fn narrowing_by_rules() {
     for narrowed in narrowings {
         let (refused, told) = each_refused(
             given,
-            |domains| narrowed(domains),
+            narrowed,
             |domains, made, _| {
                 assert!(*domains == given());
                 made.is_ok_and(|left| left.is_some())
