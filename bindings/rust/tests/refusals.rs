@@ -345,14 +345,10 @@ fn narrowing_by_rules() {
     let narrowings: [Narrows; 2] =
         [|[x, a, _]| narrowed_to(x, a), |[x, _, _]| narrowed_to_window(x, Interval::new(9, 50))];
     for narrowed in narrowings {
-        let (refused, told) = each_refused(
-            given,
-            narrowed,
-            |domains, made, _| {
-                assert!(*domains == given());
-                made.is_ok_and(|left| left.is_some())
-            },
-        );
+        let (refused, told) = each_refused(given, narrowed, |domains, made, _| {
+            assert!(*domains == given());
+            made.is_ok_and(|left| left.is_some())
+        });
         assert!(refused > 0 && told > 0);
     }
     let (refused, told) =
