@@ -18,5 +18,7 @@ pub mod Dividing
 pub mod InPlace
 pub mod Bounding
 pub mod Rests
+pub mod Retaining
 pub mod LongestRun
 pub mod Freeing
+pub mod Totals

@@ -4,7 +4,7 @@ use Rattle.std.specs.Prelude.{Err, Ok, OnErr, OnOk, Result, Some, slice_get}
 use Rattle.std.proofs.Math.Seq.{take-add}
 use Rattle.std.proofs.lemmas.Int.{ints, by_lt_z}
 use Rattle.ivl_laws.specs.Families.{set_at}
-use Rattle.ivl_laws.specs.Sets.{AtLeast, Below, HasSome, IsBetween, IsSubset, SameMembers, Union, Without}
+use Rattle.ivl_laws.specs.Sets.{AtLeast, Below, HasSome, IsBetween, IsSubset, Union, Without}
 use Rattle.ivl_laws.specs.Runs.{Covers, IsMaximal, IsRunListIn, IsRunsOf}
 use Rattle.ivl_laws.proofs.Runs.{covered_after, lower_end, runs_are_unique}
 use Rattle.ivl_laws.proofs.Lengths.{free_below}
@@ -550,18 +550,11 @@ flattened_more (L ∷ P) (suc i) d h =
     ∙ ap (λ (N : List (ℤ × ℤ)). L ++ N) (flattened_more P i d (omega arith))
     ∙ sym (append_assoc L (flattened (take i P)) (get_or P i d))
 
--- the runs of all pages in one list
-pub one_list : (P : List (List (ℤ × ℤ))) (N R L : List (ℤ × ℤ)) → IsMaximal (flattened P) → flattened P ≡ N → R ≡ flattened P → IsRunsOf L (Covers R) → L ≡ N
-one_list P N R L m e f r = runs_are_unique L (flattened P) r.maximal m (subst (λ (K : List (ℤ × ℤ)). SameMembers (Covers L) (Covers K)) f r.members) ∙ e
-
 -- the first page has a member
 pub has_page : (P : List (List (ℤ × ℤ))) (N L : List (ℤ × ℤ)) (z : ℤ) → L ≡ get_or P 0 [] → flattened P ≡ N → Covers L z → Covers N z
 has_page P N L z e f c = subst (λ (M : List (ℤ × ℤ)). Covers M z) f (covers_page P 0 z (subst (λ (M : List (ℤ × ℤ)). Covers M z) e c))
 
--- the runs of a page, and that it has a member
-pub page_runs : (R L K : List (ℤ × ℤ)) → IsMaximal R → K ≡ R → IsRunsOf L (Covers K) → L ≡ R
-page_runs R L K m e r = runs_are_unique L R r.maximal m (subst (λ (M : List (ℤ × ℤ)). SameMembers (Covers L) (Covers M)) e r.members)
-
+-- a page with a run has a member
 pub page_filled : (R : List (ℤ × ℤ)) → IsMaximal R → 0 < length R → HasSome (Covers R)
 page_filled [] m h = absurd (omega arith)
 page_filled (p ∷ R) m h = (p.0, inl (lower_end p m.0))

@@ -199,10 +199,6 @@ hull_of_none N r crossed none = record {
 -- ---- counts
 
 -- the members of the first i pages
-pub counts_no_page : (P : List (List (ℤ × ℤ))) (n : ℕ) → n ≡ 0 → IsCountOf n (Covers (flattened (take 0 P)))
-counts_no_page P n e = subst (λ (k : ℕ). IsCountOf k (Covers (flattened (take 0 P)))) (sym e)
-    (IsCountOf-none (Covers (flattened (take 0 P))) (λ z c. let (k, lt, a) = covers_taken P 0 z c in omega (arith, lt)))
-
 pub counts_next_page : (P : List (List (ℤ × ℤ))) (i : ℕ) (L : List (ℤ × ℤ)) (k n : ℕ) → IsMaximal (flattened P) → i < length P → L ≡ get_or P i [] →
     IsCountOf k (Covers (flattened (take i P))) → IsCountOf n (Covers L) → IsCountOf (k + n) (Covers (flattened (take (i + 1) P)))
 counts_next_page P i L k n m h is a b = IsCountOf-same (Union (Covers (flattened (take i P))) (Covers L)) (Covers (flattened (take (i + 1) P))) (k + n)
@@ -229,10 +225,6 @@ counts_fit whole P i k greatest r h a =
 
 pub counts_all_pages : (P : List (List (ℤ × ℤ))) (i k : ℕ) → length P ≤ i → IsCountOf k (Covers (flattened (take i P))) → IsCountOf k (Covers (flattened P))
 counts_all_pages P i k h a = subst (λ (Q : List (List (ℤ × ℤ))). IsCountOf k (Covers (flattened Q))) (take_all i P h) a
-
-pub taken_is_run_list : (whole : ℤ × ℤ) (P Q : List (List (ℤ × ℤ))) (i : ℕ) → Q ≡ take i P → IsRunListIn whole (flattened P) → IsMaximal (flattened (take i P)) → IsRunListIn whole (flattened Q)
-taken_is_run_list whole P Q i e r m = subst (λ (K : List (List (ℤ × ℤ))). IsRunListIn whole (flattened K)) (sym e)
-    (record { maximal = m; within = λ z c. let (j, lt, d) = covers_taken P i z c in r.within z (covers_page P j z d) })
 
 -- the members below v are those of the pages before the last that starts up to v, and some of that page
 pub ranks_seen : (P : List (List (ℤ × ℤ))) (N L : List (ℤ × ℤ)) (v : ℤ) (n a b : ℕ) → IsMaximal (flattened P) → flattened P ≡ N → StartsUpTo P v n → 0 < n → L ≡ get_or P (n - 1) [] →

@@ -5,3 +5,4 @@ pub mod Walks
 pub mod InPlace
 pub mod Longests
 pub mod Gaps
+pub mod Sizes

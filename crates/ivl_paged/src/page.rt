@@ -1,5 +1,5 @@
 //! One page: a few of the runs of a set.
-ghost use Rattle.std.specs.Prelude.{◌≡◌, ◌↔◌, ◌⊎◌, ◌<◌, ◌≤◌, ℕ, ℤ, ◌≤ℤ◌, ◌<ℤ◌, IsSomeAnd, IsTrue, List, IfOk, IsOk, MatchOption, None, OnErr, OnOk, length};
+ghost use Rattle.std.specs.Prelude.{◌≡◌, ◌↔◌, ◌⊎◌, ◌<◌, ◌≤◌, ℕ, ℤ, ◌≤ℤ◌, ◌<ℤ◌, IsSomeAnd, IsTrue, List, IfOk, IsOk, MatchOption, None, OnErr, OnOk, length, sum_by};
 ghost use Rattle.ivl_laws.specs.Bounds.{width_of};
 ghost use Rattle.ivl_laws.specs.Sets.{HasSome, Intersection, IsBetween, IsSubset, Only, Union, Without};
 ghost use Rattle.ivl_laws.specs.Counts.{IsCountOf};
@@ -14,7 +14,7 @@ use crate::page_search::{find_run, run_before};
 use intervallum::interval::Interval;
 use intervallum::interval_set::IntervalSet;
 use intervallum::ops::{Bounded, Cardinality, Empty, Singleton};
-use intervallum::width::Width;
+use intervallum::width::{SizeNumber, Width};
 use std::alloc::AllocError;
 use std::hint::select_unpredictable;
 use std::marker::Model;
@@ -67,6 +67,14 @@ impl<B: Width> Page<B> {
         ensures runs { IsMaximal self.now }
     {
         self.set.interval_count()
+    }
+
+    /// How many members there are.
+    pub(crate) fn member_count(&self) -> u128
+        ensures { result ≡ sum_by width_of self.now }
+    {
+        self.set.in_whole();
+        self.set.size().number()
     }
 
     /// The runs, as a set, which has a member.

@@ -1,6 +1,6 @@
-//! The pages of a set, in order, beside a list of their least members, what no run of them exceeds, and the number of
-//! their runs.
-ghost use Rattle.std.specs.Prelude.{ℕ, MatchOption, ◌≡◌, ◌==◌, ◌↔◌, ◌⊎◌, ◌+◌, ◌++◌, ◌<◌, ◌≤◌, ℤ, ◌≤ℤ◌, List, [], ◌∷◌, drop, length, set, slice_index_or, take, IfOk, IsOk, IsTrue, OnErr, OnOk, false};
+//! The pages of a set, in order, beside a list of their least members, what no run of them exceeds, and the numbers of
+//! their members and runs.
+ghost use Rattle.std.specs.Prelude.{ℕ, MatchOption, ◌≡◌, ◌==◌, ◌↔◌, ◌⊎◌, ◌+◌, ◌%◌, ◌^◌, ◌++◌, ◌<◌, ◌≤◌, ℤ, ◌≤ℤ◌, List, [], ◌∷◌, drop, length, set, slice_index_or, take, IfOk, IsOk, IsTrue, OnErr, OnOk, false};
 ghost use Rattle.ivl_laws.specs.Families.{set_at};
 ghost use Rattle.ivl_laws.specs.Sets.{HasSome, Intersection, IsBetween, IsSubset, Only, Union, Without};
 ghost use Rattle.ivl_laws.specs.Runs.{Covers, IsMaximal, IsRunsOf};
@@ -8,9 +8,11 @@ ghost use Rattle.intervallum.specs.Edits.{widened};
 ghost use Rattle.intervallum.specs.Neighbours.{IsLeast};
 ghost use Rattle.ivl_paged.specs.Longests.{AreBounded, HasLong, IsNextLong, IsNextLongPart};
 ghost use Rattle.ivl_paged.specs.Pages.{AreHeads, StartsUpTo, flattened};
+ghost use Rattle.ivl_paged.specs.Sizes.{AreSizes, member_total};
 
 use crate::longests::Longests;
 use crate::page::Page;
+use crate::sizes;
 use intervallum::interval::Interval;
 use intervallum::width::Width;
 use std::alloc::{AllocError, Global};
@@ -30,6 +32,8 @@ pub(crate) struct PageList<B: Width> {
     gone: usize,
     /// What no run of each page exceeds.
     longests: Longests<B>,
+    /// How many members each group of pages has, where those that are gone count too.
+    sizes: Vec<u128>,
     /// How many runs the pages have together.
     count: usize,
 }
@@ -40,7 +44,8 @@ impl<B: Width> Model for PageList<B> {
     ghost view = { λ l. drop l.gone l.pages.items };
 
     ghost invariant = { λ l. (AreHeads B.value (drop l.gone l.heads.items) (drop l.gone l.pages.items) × (l.count ≡ length (flattened (drop l.gone l.pages.items))))
-        × AreBounded l.longests (drop l.gone l.pages.items) × (l.gone ≤ length l.heads.items) × (l.gone ≤ length l.pages.items) };
+        × AreBounded l.longests (drop l.gone l.pages.items) × (l.gone ≤ length l.heads.items) × (l.gone ≤ length l.pages.items)
+        × AreSizes l.sizes.items l.pages.items };
 }
 
 impl<B: Width> PageList<B> {
@@ -53,6 +58,7 @@ impl<B: Width> PageList<B> {
             pages: Vec::new(alloc),
             gone: 0,
             longests: Longests::new(alloc),
+            sizes: Vec::new(alloc),
             count: 0,
         }
     }
@@ -66,6 +72,7 @@ impl<B: Width> PageList<B> {
             pages: Vec::with_capacity(alloc, capacity)?,
             gone: 0,
             longests: Longests::new(alloc),
+            sizes: Vec::new(alloc),
             count: 0,
         })
     }
@@ -117,10 +124,12 @@ impl<B: Width> PageList<B> {
             mut pages,
             gone: _,
             longests,
+            sizes,
             count: _,
         } = self;
         drop(heads);
         drop(longests);
+        drop(sizes);
         pages.pop().unwrap()
     }
 
@@ -130,6 +139,34 @@ impl<B: Width> PageList<B> {
         ensures { IsLeast (B.value result) (set_at self.now i) }
     {
         self.heads[self.gone + i]
+    }
+
+    /// How many members the first `i` pages have together, less a multiple of 2 ^ 128. Reads a number for each group
+    /// of some 64 pages, and the pages of one group.
+    pub(crate) fn size_before(&self, i: usize) -> u128
+        requires { i ≤ length self.now }
+        ensures { result ≡ member_total (take i self.now) % 2 ^ 128 }
+    {
+        let sizes = self.sizes.as_slice();
+        let pages = self.pages.as_slice();
+        let all = sizes::total_to(sizes, pages, self.gone + i);
+        all.wrapping_sub(sizes::total_to(sizes, pages, self.gone))
+    }
+
+    /// A page before which there are no more than `count` members, and how many of these are left. Passes groups of
+    /// some 64 pages while it can.
+    pub(crate) fn pass_groups(&self, count: u128) -> (usize, u128)
+        requires { member_total self.now < 2 ^ 128 }
+        ensures at_most { result.0 ≤ length self.now }
+        ensures left { member_total (take result.0 self.now) + result.1 ≡ count }
+    {
+        let (place, left) = sizes::pass_groups(
+            self.sizes.as_slice(),
+            self.pages.as_slice(),
+            self.gone,
+            count,
+        );
+        (place - self.gone, left)
     }
 
     /// The first page from page `from` on that has a run of `count` numbers.
@@ -195,7 +232,9 @@ impl<B: Width> PageList<B> {
         };
         self.heads.reserve(1)?;
         self.pages.reserve(1)?;
+        sizes::make_room(&mut self.sizes, self.pages.len())?;
         self.longests.push(page.longest())?;
+        sizes::change(&mut self.sizes, self.pages.len(), 0, page.member_count());
         self.pages.push_reserved(page);
         self.heads.push_reserved(head);
         self.count = count;
@@ -211,6 +250,7 @@ impl<B: Width> PageList<B> {
     {
         let head = high.head();
         self.heads.reserve(1)?;
+        sizes::make_room(&mut self.sizes, self.pages.len())?;
         let place = self.gone + i;
         let next = self.gone + (i + 1);
         self.pages.insert(next, high)?;
@@ -220,6 +260,7 @@ impl<B: Width> PageList<B> {
         let is_divided = self.longests.widen(i);
         self.longests
             .settle(i, is_divided, rest(&self.pages, self.gone));
+        sizes::read_from(&mut self.sizes, self.pages.as_slice(), place);
         Ok(())
     }
 
@@ -236,6 +277,8 @@ impl<B: Width> PageList<B> {
         self.count = others + page.interval_count();
         let before = self.pages[place].longest();
         let after = page.longest();
+        let members = self.pages[place].member_count();
+        sizes::change(&mut self.sizes, place, members, page.member_count());
         self.heads[place] = page.head();
         self.pages[place] = page;
         self.longests.raise(start, before, after);
@@ -256,6 +299,7 @@ impl<B: Width> PageList<B> {
         self.pages.remove(place);
         self.longests.take_out(i, i + 1);
         self.longests.read_beside(i, rest(&self.pages, self.gone));
+        sizes::read_from(&mut self.sizes, self.pages.as_slice(), place);
     }
 
     /// Takes out the first page.
@@ -280,6 +324,7 @@ impl<B: Width> PageList<B> {
         drop(self.heads.drain(..self.gone));
         drop(self.pages.drain(..self.gone));
         self.gone = 0;
+        sizes::read_from(&mut self.sizes, self.pages.as_slice(), 0);
     }
 
     /// Takes out the pages from `start` to before `end`.
@@ -288,6 +333,9 @@ impl<B: Width> PageList<B> {
         requires at_most { end ≤ length self.old }
         ensures { self.new ≡ take start self.old ++ drop end self.old }
     {
+        if start == end {
+            return;
+        }
         self.count = runs_beside(&rest(&self.pages, self.gone)[start..end], self.count);
         let low = self.gone + start;
         let high = self.gone + end;
@@ -296,6 +344,7 @@ impl<B: Width> PageList<B> {
         self.longests.take_out(start, end);
         self.longests
             .read_beside(start, rest(&self.pages, self.gone));
+        sizes::read_from(&mut self.sizes, self.pages.as_slice(), low);
     }
 
     /// Takes out all pages.
@@ -306,6 +355,7 @@ impl<B: Width> PageList<B> {
         self.pages.clear();
         self.gone = 0;
         self.longests.clear();
+        self.sizes.clear();
         self.count = 0;
     }
 
@@ -328,8 +378,10 @@ impl<B: Width> PageList<B> {
         let page = &mut self.pages[place];
         let others = self.count - page.interval_count();
         let before = page.longest();
+        let members = page.member_count();
         let was_member = page.insert_interval(interval)?;
         let after = page.longest();
+        sizes::change(&mut self.sizes, place, members, page.member_count());
         self.heads[place] = page.head();
         self.count = others + page.interval_count();
         self.longests.raise(i, before, after);
@@ -359,8 +411,10 @@ impl<B: Width> PageList<B> {
         let page = &mut self.pages[place];
         let others = self.count - page.interval_count();
         let before = page.longest();
+        let members = page.member_count();
         let was_member = page.remove_interval(interval)?;
         let after = page.longest();
+        sizes::change(&mut self.sizes, place, members, page.member_count());
         self.heads[place] = page.head();
         self.count = others + page.interval_count();
         self.longests
@@ -379,8 +433,10 @@ impl<B: Width> PageList<B> {
         let page = &mut self.pages[place];
         let others = self.count - page.interval_count();
         let before = page.longest();
+        let members = page.member_count();
         let least = page.pop_first();
         let after = page.longest();
+        sizes::change(&mut self.sizes, place, members, page.member_count());
         self.heads[place] = page.head();
         self.count = others + page.interval_count();
         self.longests

@@ -21,6 +21,7 @@ mod members;
 mod neighbours;
 mod overlaps;
 mod rank;
+mod retain;
 mod run_edits;
 mod set_operands;
 mod split_off;
@@ -33,7 +34,6 @@ use crate::pages;
 use intervallum::interval::Interval;
 use intervallum::interval_set::IntervalSet;
 use intervallum::ops::{Collection, IsEmpty, Singleton};
-use intervallum::sweep::coalesce;
 use intervallum::width::Width;
 pub use iter::Runs;
 pub use members::Members;
@@ -396,6 +396,6 @@ impl<B: Width> PagedSet<B> {
         for page in self.pages.as_slice() {
             runs.extend_from_slice(page.set().iter().as_slice())?;
         }
-        coalesce(self.alloc, runs)
+        Ok(IntervalSet::from_runs(runs))
     }
 }

@@ -19,7 +19,6 @@ use intervallum::interval_set::IntervalSet;
 use intervallum::ops::{
     Bounded, Cardinality, Contains, IsEmpty, ShrinkLeft, Singleton, StrictShrinkRight, Union,
 };
-use intervallum::sweep::coalesce;
 use intervallum::width::{SizeNumber, Width};
 use std::alloc::{AllocError, Global};
 
@@ -80,20 +79,22 @@ pub(crate) fn pages_from<B: Width>(
     Ok(pages)
 }
 
-/// A page of some runs, of which there is one at least, with room for as many as a page has.
+/// A page of some runs, of which there is one at least, with room for as many as a page has, unless
+/// they are few.
 fn page_of<B: Width>(alloc: Global, runs: &[Interval<B>]) -> Result<Page<B>, AllocError>
     requires runs { IsMaximal runs.now }
     requires some { 0 < length runs.now }
     ensures { IfOk result (λ L. L ≡ runs.now) }
 {
-    let mut list = Vec::with_capacity(alloc, MOST_RUNS)?;
+    let is_small = runs.len() < MOST_RUNS / 2;
+    let room = if is_small { runs.len() } else { MOST_RUNS };
+    let mut list = Vec::with_capacity(alloc, room)?;
     list.extend_from_slice(runs)?;
-    let set = coalesce(alloc, list)?;
-    Ok(Page::of(set))
+    Ok(Page::of(IntervalSet::from_runs(list)))
 }
 
-/// A copy of a page, with room for as many runs as a page has, so that the first edit of the copy does
-/// not move it.
+/// A copy of a page, with room for as many runs as a page has, unless it has few, so that the first
+/// edit of the copy does not move it.
 pub(crate) fn copy_of<B: Width>(alloc: Global, page: &Page<B>) -> Result<Page<B>, AllocError>
     ensures { IfOk result (λ L. L ≡ page.now) }
 {
@@ -130,18 +131,6 @@ pub(crate) fn copy_above<B: Width>(
     let high = pages.page(count - 1).set().shrink_left(v)?;
     let copies = pages_from(alloc, high)?;
     copies_behind(alloc, copies, &pages.as_slice()[count..])
-}
-
-/// How many members pages have together.
-pub(crate) fn size_of<B: Width>(pages: &[Page<B>]) -> B::Output
-    requires { IsRunListIn B.whole (flattened pages.now) }
-    ensures { IsCountOf (B.Output.size result) (Covers (flattened pages.now)) }
-{
-    let mut count = <B::Output as SizeNumber>::zero();
-    for page in pages {
-        count = count.add_in_range(page.set().size());
-    }
-    count
 }
 
 /// The least member that is at least `v` in the first `count` pages, which are those that start at

@@ -63,7 +63,8 @@ fn is_same<B: Width>(run: Interval<B>, other: Interval<B>) -> bool
 /// The intervals are a list of runs: none is empty, they ascend, and a number is missing between
 /// neighbours.
 pub(crate) fn are_runs<B: Width>(list: &[Interval<B>]) -> bool
-    ensures { IsTrue result → IsRunListIn B.whole list.now }
+    ensures test { IsTrue result ↔ IsMaximal list.now }
+    ensures range { IsTrue result → IsRunListIn B.whole list.now }
 {
     let Some((first, rest)) = list.split_first() else {
         return true;
@@ -82,6 +83,17 @@ pub(crate) fn are_runs<B: Width>(list: &[Interval<B>]) -> bool
         last = *run;
     }
     true
+}
+
+/// Runs are in the range, as each interval is. This does nothing: its contract is the fact.
+pub(super) fn are_in_whole<B: Width>(runs: &[Interval<B>])
+    requires { IsMaximal runs.now }
+    ensures { IsRunListIn B.whole runs.now }
+{
+    if !runs.is_empty() {
+        runs[0].in_whole();
+        runs[runs.len() - 1].in_whole();
+    }
 }
 
 /// How many numbers runs cover.

@@ -5,7 +5,6 @@ ghost use Rattle.ivl_laws.specs.Sets.{Below};
 ghost use Rattle.ivl_laws.specs.Runs.{Covers};
 
 use super::PagedSet;
-use crate::pages;
 use intervallum::ops::Cardinality;
 use intervallum::width::{SizeNumber, Width};
 
@@ -23,8 +22,8 @@ impl<B: Width> PagedSet<B> {
         self.pages.interval_count()
     }
 
-    /// Returns the number of members. Adds up what each page has: `O(n / page)`. Never overflows.
-    /// Does not allocate.
+    /// Returns the number of members. Adds up what each group of 64 pages has, then each page of one group:
+    /// `O(n / (64 page) + 64)`. Never overflows. Does not allocate.
     ///
     /// ```
     /// let mut a: PagedSet<i32> = PagedSet::new(alloc);
@@ -34,11 +33,13 @@ impl<B: Width> PagedSet<B> {
     pub fn size(&self) -> B::Output
         ensures { IsCountOf (B.Output.size result) (Covers self.now) }
     {
-        pages::size_of(self.pages.as_slice())
+        let size = self.pages.size_before(self.pages.len());
+        B::Output::from_number(size).unwrap()
     }
 
-    /// Returns the number of members below `v`, which may be any value of its type. Adds up what
-    /// each page below has, and scans one page: `O(n / page)`. Does not allocate.
+    /// Returns the number of members below `v`, which may be any value of its type. Adds up what each group of
+    /// 64 pages below has, then each page of one group, and scans one page: `O(n / (64 page) + 64 + page)`. Does not
+    /// allocate.
     ///
     /// ```
     /// let mut a: PagedSet<i32> = PagedSet::new(alloc);
@@ -52,14 +53,14 @@ impl<B: Width> PagedSet<B> {
         if count == 0 {
             return <B::Output as SizeNumber>::zero();
         }
-        let below = pages::size_of(&self.pages.as_slice()[..count - 1]);
+        let below = self.pages.size_before(count - 1);
         let here = self.pages.page(count - 1).set().rank(v);
-        below.add_in_range(here)
+        B::Output::from_number(below).unwrap().add_in_range(here)
     }
 
     /// Returns the member with exactly `i` members below it, or `None` if the set has no more than
-    /// `i` members. Reads how many each page has, and scans one page: `O(n / page)`. Does not
-    /// allocate.
+    /// `i` members. Reads how many each group of 64 pages has, then each page of one group, and scans one page:
+    /// `O(n / (64 page) + 64 + page)`. Does not allocate.
     ///
     /// ```
     /// let mut a: PagedSet<i32> = PagedSet::new(alloc);
@@ -71,8 +72,11 @@ impl<B: Width> PagedSet<B> {
             ((n : ℕ) → IsCountOf n (Covers self.now) → n ≤ B.Output.size i)
             (λ x. Covers self.now (B.value x) × IsCountOf (B.Output.size i) (Below (B.value x) (Covers self.now))) }
     {
-        let mut left = i;
-        for page in self.pages.as_slice() {
+        let (start, behind) = self.pages.pass_groups(i.number());
+        let mut left = B::Output::from_number(behind).unwrap();
+        let pages = self.pages.as_slice();
+        for k in start..pages.len() {
+            let page = &pages[k];
             match left.checked_sub(page.set().size()) {
                 Some(rest) => left = rest,
                 None => return page.set().nth(left),

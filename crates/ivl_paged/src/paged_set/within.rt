@@ -11,7 +11,6 @@ use crate::pages;
 use intervallum::interval::Interval;
 use intervallum::interval_set::IntervalSet;
 use intervallum::ops::{Difference, IsEmpty};
-use intervallum::sweep::coalesce;
 use intervallum::width::{SizeNumber, Width};
 use std::alloc::{AllocError, Global};
 
@@ -85,5 +84,5 @@ fn listed<B: Width>(alloc: Global, mut left: Runs<'_, B>) -> Result<IntervalSet<
     'runs: while let Some(run) = left.next() {
         list.push(run)?;
     }
-    coalesce(alloc, list)
+    Ok(IntervalSet::from_runs(list))
 }

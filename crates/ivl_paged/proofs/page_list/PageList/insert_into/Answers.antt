@@ -10,6 +10,7 @@ use Rattle.ivl_paged.proofs.Heads.{lent_page}
 use Rattle.ivl_paged.proofs.Widening.{none_more}
 use Rattle.std.proofs.lemmas.List.{drop-set-add, length-set, set-get_or}
 use Rattle.ivl_paged.proofs.Rests.{head_place, item_of_rest, page_place}
+use Rattle.ivl_paged.proofs.Totals.{page_set}
 use Rattle.ivl_paged.proofs.page_list.PageList.insert_into.Goals as goal
 
 pub index_mut-requires : goal.index_mut-requires
@@ -49,6 +50,7 @@ invariant_of-self-2 g c =
       bounded_grown c.self.inside.longests c.raise.new.self (drop c.self.inside.gone c.self.inside.pages.items) c.args.i (g.B.Output.SizeNumber.size c.longest-after.result) c.insert_interval.new.self c.self.invariant.1 c.raise.ensures.others c.longest-after.ensures c.raise.ensures.here,
       omega (arith, m, low),
       omega (arith, n, high),
+      c.change.ensures c.self.inside.pages.items (set c.self.inside.pages.items (c.self.inside.gone + c.args.i) L) c.self.invariant.4 (page_set c.self.inside.pages.items c.index_mut-page.result.now L (c.self.inside.gone + c.args.i) _ _ (page_place g.B.Width.value c.self.inside.heads.items c.self.inside.pages.items c.args.self.now c.self.inside.gone c.args.i c.self.invariant.0.0 c.self.view_is c.requires.less) c.index_mut-page.ensures.value c.member_count-members.ensures c.member_count.ensures),
     )
 
 pub returns-clause-ok : goal.returns-clause-ok
@@ -82,3 +84,9 @@ pub returns-clause-was_member : goal.returns-clause-was_member
 returns-clause-was_member g c =
     let page = lent_page (drop c.self.inside.gone c.self.inside.pages.items) c.args.self.now c.index_mut-page.result.now c.args.i c.self.view_is c.requires.less (item_of_rest c.self.inside.pages.items c.self.inside.gone c.args.i c.index_mut-page.result.now c.index_mut-page.ensures.value) in
     subst (λ (L : List (ℤ × ℤ)). IsTrue c.in_ok-was_member.was_member ↔ Covers L c.args.interval.0) page c.in_ok-was_member.ensures.was_member
+
+pub change-requires : goal.change-requires
+change-requires g c =
+    let page = page_place g.B.Width.value c.self.inside.heads.items c.self.inside.pages.items c.args.self.now c.self.inside.gone c.args.i c.self.invariant.0.0 c.self.view_is c.requires.less in
+    let most = c.self.invariant.4.enough in
+    omega (arith, page, most)

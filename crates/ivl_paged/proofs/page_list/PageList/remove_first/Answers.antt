@@ -42,6 +42,7 @@ invariant_of-self g c =
       bounded_as c.read_beside.new.self (drop 1 P) c.rest.result.now (c.rest.ensures ∙ sym (drop-drop 1 c.self.inside.gone c.self.inside.pages.items)) c.read_beside.ensures,
       omega (arith, head),
       omega (arith, page),
+      c.self.invariant.4,
     )
 
 pub returns : goal.returns

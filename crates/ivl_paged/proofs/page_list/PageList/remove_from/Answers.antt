@@ -8,6 +8,7 @@ use Rattle.ivl_paged.proofs.Counting.{err_is_not_ok, fits_after_split, kept_afte
 use Rattle.ivl_paged.proofs.Heads.{lent_page}
 use Rattle.std.proofs.lemmas.List.{drop-set-add, length-set}
 use Rattle.ivl_paged.proofs.Rests.{head_place, item_of_rest, page_place}
+use Rattle.ivl_paged.proofs.Totals.{page_set}
 use Rattle.ivl_paged.proofs.page_list.PageList.remove_from.Goals as goal
 
 pub index_mut-requires : goal.index_mut-requires
@@ -49,6 +50,7 @@ invariant_of-self-2 g c =
       bounded_as c.lower.new.self (set (drop c.self.inside.gone c.self.inside.pages.items) c.args.i c.remove_interval.new.self) c.rest.result.now (c.rest.ensures ∙ drop-set-add c.self.inside.gone c.self.inside.pages.items c.args.i c.remove_interval.new.self) c.lower.ensures,
       omega (arith, m, low),
       omega (arith, n, high),
+      c.change.ensures c.self.inside.pages.items (set c.self.inside.pages.items (c.self.inside.gone + c.args.i) L) c.self.invariant.4 (page_set c.self.inside.pages.items c.index_mut-page.result.now L (c.self.inside.gone + c.args.i) _ _ (page_place g.B.Width.value c.self.inside.heads.items c.self.inside.pages.items c.args.self.now c.self.inside.gone c.args.i c.self.invariant.0.0 c.self.view_is c.requires.less) c.index_mut-page.ensures.value c.member_count-members.ensures c.member_count.ensures),
     )
 
 pub returns-in_err-was_member-clause-err : goal.returns-in_err-was_member-clause-err
@@ -84,3 +86,9 @@ pub lower-requires-clause-bounded : goal.lower-requires-clause-bounded
 lower-requires-clause-bounded g c =
     bounded_shrunk c.self.inside.longests (drop c.self.inside.gone c.self.inside.pages.items) c.args.self.now c.rest.result.now c.args.i c.index_mut-page.result.now c.remove_interval.new.self c.self.invariant.1 c.self.view_is c.requires.less (item_of_rest c.self.inside.pages.items c.self.inside.gone c.args.i c.index_mut-page.result.now c.index_mut-page.ensures.value)
     (λ z m. ((c.in_ok-was_member.ensures.ok.members z).0 m).0) (c.rest.ensures ∙ drop-set-add c.self.inside.gone c.self.inside.pages.items c.args.i c.remove_interval.new.self)
+
+pub change-requires : goal.change-requires
+change-requires g c =
+    let page = page_place g.B.Width.value c.self.inside.heads.items c.self.inside.pages.items c.args.self.now c.self.inside.gone c.args.i c.self.invariant.0.0 c.self.view_is c.requires.less in
+    let most = c.self.invariant.4.enough in
+    omega (arith, page, most)

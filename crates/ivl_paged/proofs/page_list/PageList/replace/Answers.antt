@@ -5,6 +5,7 @@ use Rattle.ivl_paged.proofs.Counting.{count_after, kept_after, lent_within}
 use Rattle.ivl_paged.proofs.Paging.{page_there, replace_pages}
 use Rattle.std.proofs.lemmas.List.{drop-set-add}
 use Rattle.ivl_paged.proofs.Rests.{gone_set, head_place, item_of_rest, page_place}
+use Rattle.ivl_paged.proofs.Totals.{page_set}
 use Rattle.ivl_paged.proofs.page_list.PageList.replace.Goals as goal
 
 pub overflow_sub-others : goal.overflow_sub-others
@@ -43,6 +44,7 @@ invariant_of-self g c =
       bounded_grown c.self.inside.longests c.raise.new.self (drop c.self.inside.gone c.self.inside.pages.items) c.args.start (g.B.Output.SizeNumber.size c.longest-after.result) c.args.page c.self.invariant.1 c.raise.ensures.others c.longest-after.ensures c.raise.ensures.here,
       gone_set c.self.inside.heads.items c.self.inside.gone (c.self.inside.gone + c.args.start) c.head.result c.self.invariant.2,
       gone_set c.self.inside.pages.items c.self.inside.gone (c.self.inside.gone + c.args.start) c.args.page c.self.invariant.3,
+      c.change.ensures c.self.inside.pages.items (set c.self.inside.pages.items (c.self.inside.gone + c.args.start) c.args.page) c.self.invariant.4 (page_set c.self.inside.pages.items c.index-3.result.now c.args.page (c.self.inside.gone + c.args.start) _ _ (page_place g.B.Width.value c.self.inside.heads.items c.self.inside.pages.items c.take_out.new.self c.self.inside.gone c.args.start c.self.invariant.0.0 c.self.view_is (page_there c.args.self.now c.take_out.new.self c.args.start c.args.end c.requires.in_order c.requires.at_most c.take_out.ensures)) c.index-3.ensures c.member_count-members.ensures c.member_count.ensures),
     )
 
 pub returns : goal.returns
@@ -77,3 +79,14 @@ pub index_mut-requires-2 : goal.index_mut-requires-2
 index_mut-requires-2 g c =
     let page = page_place g.B.Width.value c.self.inside.heads.items c.self.inside.pages.items c.take_out.new.self c.self.inside.gone c.args.start c.self.invariant.0.0 c.self.view_is (page_there c.args.self.now c.take_out.new.self c.args.start c.args.end c.requires.in_order c.requires.at_most c.take_out.ensures) in
     omega (arith, page)
+
+pub index-requires-3 : goal.index-requires-3
+index-requires-3 g c =
+    let page = page_place g.B.Width.value c.self.inside.heads.items c.self.inside.pages.items c.take_out.new.self c.self.inside.gone c.args.start c.self.invariant.0.0 c.self.view_is (page_there c.args.self.now c.take_out.new.self c.args.start c.args.end c.requires.in_order c.requires.at_most c.take_out.ensures) in
+    omega (arith, page)
+
+pub change-requires : goal.change-requires
+change-requires g c =
+    let page = page_place g.B.Width.value c.self.inside.heads.items c.self.inside.pages.items c.take_out.new.self c.self.inside.gone c.args.start c.self.invariant.0.0 c.self.view_is (page_there c.args.self.now c.take_out.new.self c.args.start c.args.end c.requires.in_order c.requires.at_most c.take_out.ensures) in
+    let most = c.self.invariant.4.enough in
+    omega (arith, page, most)

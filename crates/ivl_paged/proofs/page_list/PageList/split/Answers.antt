@@ -1,9 +1,12 @@
-use Rattle.std.proofs.Common.{◌∙◌, ◌<◌, ◌+◌, [], List, ℤ, ap, arith, length, subst, sym, get_or, set, take, drop, ◌++◌, ◌∷◌}
+use Rattle.std.proofs.Common.{◌∙◌, ◌<◌, ◌+◌, [], List, ℤ, ap, arith, length, subst, sym, get_or, set, take, drop, ◌++◌, ◌∷◌, length-append, length-take, length-drop}
+use Rattle.std.proofs.lemmas.List.{length-set}
 use Rattle.ivl_paged.specs.Pages.{flattened}
+use Rattle.ivl_paged.specs.Sizes.{AreSizes}
 use Rattle.ivl_paged.proofs.Bounding.{bounded_as, bounded_length, bounded_split, bounds_there}
 use Rattle.ivl_paged.proofs.Heads.{heads_insert, heads_set}
 use Rattle.ivl_paged.proofs.Paging.{split_page}
 use Rattle.ivl_paged.proofs.Rests.{gone_split, head_place, page_place, rest_split}
+use Rattle.ivl_paged.proofs.Totals.{kept_split}
 use Rattle.ivl_paged.proofs.page_list.PageList.split.Goals as goal
 
 pub insert-requires : goal.insert-requires
@@ -39,6 +42,7 @@ invariant_of-self-2 g c =
       bounded_as c.settle.new.self (set (take (i + 1) P ++ c.args.high ∷ drop (i + 1) P) i c.args.low) c.rest.result.now (c.rest.ensures ∙ ap (λ (Q : List (List (ℤ × ℤ))). drop c.self.inside.gone (set Q (c.self.inside.gone + i) c.args.low)) c.in_ok-insert.ensures.items ∙ rest_split c.self.inside.pages.items c.self.inside.gone i c.args.low c.args.high page) c.settle.ensures,
       gone_split c.self.inside.heads.items c.self.inside.gone (c.self.inside.gone + (i + 1)) (c.self.inside.gone + i) c.head.result c.head-head.result c.self.invariant.2,
       gone_split c.self.inside.pages.items c.self.inside.gone (c.self.inside.gone + (i + 1)) (c.self.inside.gone + i) c.args.low c.args.high c.self.invariant.3,
+      subst (λ (Q : List (List (ℤ × ℤ))). AreSizes c.read_from.new.sizes.items Q) (c.as_slice.ensures.value ∙ ap (λ (Q : List (List (ℤ × ℤ))). set Q (c.self.inside.gone + i) c.args.low) c.in_ok-insert.ensures.items) c.read_from.ensures,
     )
 
 pub widen-is_divided-requires-clause-less : goal.widen-is_divided-requires-clause-less
@@ -68,3 +72,31 @@ returns g c =
     let parts = c.requires.parts ∙ ap (λ (Q : List (List (ℤ × ℤ))). get_or Q i []) (sym c.self.view_is) in
     let page = page_place g.B.Width.value c.self.inside.heads.items c.self.inside.pages.items c.args.self.now c.self.inside.gone i c.self.invariant.0.0 c.self.view_is c.requires.less in
     rw (c.in_ok-insert.ensures.items, rest_split c.self.inside.pages.items c.self.inside.gone i c.args.low c.args.high page) (split_page P c.args.low c.args.high i less parts ∙ ap flattened c.self.view_is)
+
+pub make_room-requires : goal.make_room-requires
+make_room-requires g c = let most = c.self.invariant.4.enough in omega (arith, most)
+
+pub read_from-requires : goal.read_from-requires
+read_from-requires g c =
+    let P = c.self.inside.pages.items in
+    let place = c.self.inside.gone + c.args.i in
+    let page = page_place g.B.Width.value c.self.inside.heads.items c.self.inside.pages.items c.args.self.now c.self.inside.gone c.args.i c.self.invariant.0.0 c.self.view_is c.requires.less in
+    let made = c.as_slice.ensures.value ∙ ap (λ (Q : List (List (ℤ × ℤ))). set Q place c.args.low) c.in_ok-insert.ensures.items in
+    record {
+      room =
+          let all = ap length made in
+          let n = length-set (take (c.self.inside.gone + (c.args.i + 1)) P ++ c.args.high ∷ drop (c.self.inside.gone + (c.args.i + 1)) P) place c.args.low in
+          let both = length-append (take (c.self.inside.gone + (c.args.i + 1)) P) (c.args.high ∷ drop (c.self.inside.gone + (c.args.i + 1)) P) in
+          let low = length-take (c.self.inside.gone + (c.args.i + 1)) P in
+          let high = length-drop (c.self.inside.gone + (c.args.i + 1)) P in
+          let most = c.in_ok-make_room.ensures.room in
+          omega (arith, all, n, both, low, high, most, page);
+      kept = (P, c.make_room.ensures.same P c.self.invariant.4, kept_split P c.as_slice.result.now place (c.self.inside.gone + (c.args.i + 1)) c.args.low c.args.high (omega arith) page made);
+    }
+
+pub invariant_of-self-in_err-make_room : goal.invariant_of-self-in_err-make_room
+invariant_of-self-in_err-make_room g c = rw c.reserve.ensures.items (c.self.invariant.0, c.self.invariant.1, c.self.invariant.2, c.self.invariant.3, c.make_room.ensures.same c.self.inside.pages.items c.self.invariant.4)
+
+pub invariant_of-self-in_err-insert : goal.invariant_of-self-in_err-insert
+invariant_of-self-in_err-insert g c =
+    rw (c.reserve.ensures.items, c.in_err-insert.ensures.items) (c.self.invariant.0, c.self.invariant.1, c.self.invariant.2, c.self.invariant.3, c.make_room.ensures.same c.self.inside.pages.items c.self.invariant.4)

@@ -5,5 +5,5 @@ use Rattle.ivl_paged.specs.Pages.{flattened}
 use Rattle.ivl_paged.proofs.paged_set.PagedSet.nth.Given as goal
 
 -- the members of the pages so far, and those that are left to pass
-abbrev pub invariant-loop-page : goal.invariant-loop-page
-invariant-loop-page g l = (m : ℕ) × (m + g.B.Output.SizeNumber.size l.left ≡ g.B.Output.SizeNumber.size l.fn.i) × IsCountOf m (Covers (flattened (take l.page-index l.page-items)))
+abbrev pub invariant-loop-k : goal.invariant-loop-k
+invariant-loop-k g l = (m : ℕ) × (m + g.B.Output.SizeNumber.size l.left ≡ g.B.Output.SizeNumber.size l.fn.i) × IsCountOf m (Covers (flattened (take l.k l.pages)))
