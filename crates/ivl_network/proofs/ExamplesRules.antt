@@ -1,5 +1,5 @@
 -- Examples of what rules support, keep and leave of given families, and of what a network of rules keeps.
-use Rattle.std.proofs.Common.{◌≡◌, ◌+◌, ◌<◌, ◌≤◌, ℕ, zero, suc, inl, inr, refl, subst, sym, arith, true, false, List, [], ◌∷◌, get_or}
+use Rattle.std.proofs.Common.{◌≡◌, ◌+◌, ◌*◌, ◌<◌, ◌≤◌, ℕ, zero, suc, inl, inr, refl, subst, sym, arith, true, false, List, [], ◌∷◌, get_or}
 use Rattle.std.specs.Prelude.{ℤ, pos, Contains}
 use Rattle.std.proofs.lemmas.Bool.{false≢true}
 use Rattle.std.proofs.lemmas.Int.{ints}
@@ -14,7 +14,7 @@ use Rattle.ivl_rules.proofs.Narrowings.{HasPointAt-mono, narrowing_keeps}
 use Rattle.ivl_network.specs.Families.{AllSupport, ArePresent, IsCommonPoint, IsFixedBy, IsGreatestUnder, KeepsUnder}
 use Rattle.ivl_store.specs.Measure.{count_from}
 use Rattle.ivl_network.specs.Network.{AreRuleNarrowings, IsCutAt, IsRuleRequired, work_of_rules}
-use Rattle.ivl_network.specs.Queue.{IsLastNamingRule, IsListed, Removes, times_in, unsettled_count, waits}
+use Rattle.ivl_network.specs.Queue.{IsLastNamingRule, IsListed, IsListedAt, Removes, times_in, unsettled_count, waits}
 use Rattle.ivl_network.specs.Settled.{AreSettledRules}
 use Rattle.ivl_network.specs.Trail.{revert_rule, rules_past_at}
 use Rattle.ivl_network.specs.declared.network.change.Change.TheVariants.{Domain, Require}
@@ -157,25 +157,25 @@ first_required = inr ((λ c. let lt = c.1 in omega arith), refl)
 required_again : IsRuleRequired before (before ∷ []) (before ∷ [])
 required_again = inl ((0, omega arith, refl), refl)
 
--- the rule is the last that names variable 1, and none names variable 2; it does not need single numbers
-last_of_1 : IsLastNamingRule false (before ∷ []) 1 1 1
-last_of_1 = record { low = omega arith; names = names; none = (λ k d low high. absurd (omega arith)) }
+-- the rule is the last that names variable 1, at its last place, and none names variable 2; it does not need single numbers
+last_of_1 : IsLastNamingRule false (before ∷ []) 1 1 3
+last_of_1 = record { low = (λ some. omega arith); names = names; none = (λ k d low high. absurd (omega arith)) }
   where
-    names : (k : ℕ) (d : Rule) → k + 1 ≡ 1 → IsListed false 1 (get_or (before ∷ []) k d)
-    names zero d e = (inr (inl refl), refl)
-    names (suc k) d e = absurd (omega arith)
+    names : (k : ℕ) (d : Rule) → 0 < 3 → 4 * k ≤ 3 → 3 < 4 * k + 4 → IsListedAt false k 1 3 (get_or (before ∷ []) k d)
+    names zero d some low high = (inr (inr (refl, refl)), refl)
+    names (suc k) d some low high = absurd (omega arith)
 
 none_of_2 : IsLastNamingRule false (before ∷ []) 2 1 0
-none_of_2 = record { low = omega arith; names = (λ k d e. absurd (omega arith)); none = none }
+none_of_2 = record { low = (λ some. absurd (omega arith)); names = (λ k d some. absurd (omega arith)); none = none }
   where
-    none : (k : ℕ) (d : Rule) → 0 ≤ k → k < 1 → IsListed false 2 (get_or (before ∷ []) k d) → ⊥
+    none : (k : ℕ) (d : Rule) → 0 ≤ 4 * k → k < 1 → IsListed false 2 (get_or (before ∷ []) k d) → ⊥
     none zero d low high named = elim named.0 [ inl e ↦ omega arith | inr (inl e) ↦ omega arith | inr (inr e) ↦ omega arith ]
     none (suc k) d low high named = omega arith
 
 none_needs_singles : IsLastNamingRule true (before ∷ []) 1 1 0
-none_needs_singles = record { low = omega arith; names = (λ k d e. absurd (omega arith)); none = none }
+none_needs_singles = record { low = (λ some. absurd (omega arith)); names = (λ k d some. absurd (omega arith)); none = none }
   where
-    none : (k : ℕ) (d : Rule) → 0 ≤ k → k < 1 → IsListed true 1 (get_or (before ∷ []) k d) → ⊥
+    none : (k : ℕ) (d : Rule) → 0 ≤ 4 * k → k < 1 → IsListed true 1 (get_or (before ∷ []) k d) → ⊥
     none zero d low high listed = false≢true listed.1
     none (suc k) d low high listed = omega arith
 

@@ -1,16 +1,17 @@
 -- The lists of the rules that name a variable, where a rule is added or dropped.
-use Rattle.std.proofs.Common.{◌≡◌, ◌∙◌, ◌+◌, ◌-◌, ◌<◌, ◌≤◌, ◌⊎◌, inl, inr, Bool, true, false, ℕ, ap, arith, get_or, length, List, [], ◌∷◌, ◌++◌, refl, set, subst, sym, take}
+use Rattle.std.proofs.Common.{◌≡◌, ◌∙◌, ◌+◌, ◌-◌, ◌*◌, ◌/◌, ◌<◌, ◌≤◌, ◌⊎◌, inl, inr, Bool, true, false, ℕ, ap, arith, get_or, length, List, [], ◌∷◌, ◌++◌, refl, set, subst, sym, take}
 use Rattle.std.specs.Prelude.{ℤ, All, Contains, Option, Some, None}
 use Rattle.std.proofs.Math.ListN.{get_or-append, get_or-eq_default}
 use Rattle.std.proofs.lemmas.Bool.{cases_eq, cases_lt, false≢true}
-use Rattle.std.proofs.lemmas.List.{get_or_default, get_or_push, get_or-take, length-set, length-take, length_push, get_or-set_other, get_or-set_same}
+use Rattle.std.proofs.lemmas.List.{get_or_default, get_or_push, get_or-take, length-append, length-set, length-take, length_push, get_or-set_other, get_or-set_same}
 use Rattle.ivl_network.specs.declared.network.index.Index.{Index}
-use Rattle.ivl_network.specs.declared.network.index.Links.{Links}
 use Rattle.ivl_rules.specs.declared.rules.Rule.{Rule}
+use Rattle.ivl_rules.specs.declared.rules.Rule.TheVariants.{Sum}
 use Rattle.ivl_store.specs.declared.store.constraint.Constraint.{Constraint}
 use Rattle.ivl_store.specs.NarrowedSets.{narrowed_at}
 use Rattle.ivl_network.specs.Families.{ArePresent}
-use Rattle.ivl_network.specs.Queue.{AreRuleLinks, IsLastNamingRule, IsListed, IsRuleIndex, lasts_of}
+use Rattle.ivl_network.specs.Queue.{IsLastNamingRule, IsListed, IsListedAt, IsRuleIndex, IsRulePlace, lasts_of}
+use Rattle.ivl_laws.proofs.Places.{get_or-append_right}
 use Rattle.ivl_rules.specs.Rules.{NamesOf, needs_singles, places}
 use Rattle.ivl_store.specs.Narrowing.{AllPresent}
 use Rattle.ivl_store.specs.Solutions.{Names}
@@ -43,36 +44,54 @@ put_at lasts c a b d P p at_x at_y at_z other i =
       ])
     ]
 
+-- ---- the places of a rule
+
+-- they lie between those of the others
+place_between : (c : Rule) (k i place : ℕ) → IsRulePlace k i place c → (4 * k < place) × (place < 4 * k + 4)
+place_between c k i place at = elim at [
+  | inl e ↦ (let p = e.0 in (omega (arith, p), omega (arith, p)))
+  | inr (inl e) ↦ (let p = e.0 in (omega (arith, p), omega (arith, p)))
+  | inr (inr e) ↦ (let p = e.0 in (omega (arith, p), omega (arith, p)))
+]
+
+-- the rule names the variable
+pub listed_there : (s : Bool) (k i place : ℕ) (c : Rule) → IsListedAt s k i place c → IsListed s i c
+listed_there s k i place c h = (elim h.0 [ inl e ↦ inl e.1 | inr (inl e) ↦ inr (inl e.1) | inr (inr e) ↦ inr (inr e.1) ], h.1)
+
 -- ---- one more rule
 
 -- which plays no part among those before it
 more : (s : Bool) (cs : List Rule) (c : Rule) (i before place : ℕ) → before ≤ length cs → IsLastNamingRule s cs i before place → IsLastNamingRule s (cs ++ c ∷ []) i before place
 more s cs c i before place le n = record {
   low = n.low;
-  names = (λ k d e. subst (IsListed s i) (sym (get_or-append cs (c ∷ []) d k (let l = n.low in omega (arith, e, l, le)))) (n.names k d e));
+  names = (λ k d pos from to. subst (IsListedAt s k i place) (sym (get_or-append cs (c ∷ []) d k (let l = n.low pos in omega (arith, from, l, le)))) (n.names k d pos from to));
   none = (λ k d from to h. n.none k d from to (subst (IsListed s i) (get_or-append cs (c ∷ []) d k (omega (arith, to, le))) h));
 }
 
 -- it is the last that is listed at its variables
-newest : (s : Bool) (cs : List Rule) (c : Rule) (i n place : ℕ) → IsListed s i c → n ≡ length (cs ++ c ∷ []) → place ≡ n → IsLastNamingRule s (cs ++ c ∷ []) i n place
-newest s cs c i n place listed e at = record {
-  low = omega (arith, at);
-  names = (λ k d f. subst (IsListed s i) (sym (get_or_push cs c d k (let l = length_push cs c in omega (arith, l, e, at, f)))) listed);
-  none = (λ k d from to. absurd (omega (arith, from, to, at)));
-}
+newest : (s : Bool) (cs : List Rule) (c : Rule) (i place : ℕ) → IsListedAt s (length cs) i place c → IsLastNamingRule s (cs ++ c ∷ []) i (length (cs ++ c ∷ [])) place
+newest s cs c i place at =
+    let l = length_push cs c in let b = place_between c (length cs) i place at.0 in let above = b.0 in let below = b.1 in
+    record {
+      low = (λ pos. omega (arith, below, l));
+      names = (λ k d pos from to.
+          let here : k ≡ length cs = omega (arith, from, to, above, below) in
+          subst (λ j. IsListedAt s j i place (get_or (cs ++ c ∷ []) k d)) (sym here) (subst (IsListedAt s (length cs) i place) (sym (get_or_push cs c d k (sym here))) at));
+      none = (λ k d from to. absurd (omega (arith, from, to, l, above)));
+    }
 
 -- and in no other list
-not_newest : (s : Bool) (cs : List Rule) (c : Rule) (i n place : ℕ) → (IsListed s i c → ⊥) → n ≡ length (cs ++ c ∷ []) → IsLastNamingRule s cs i (length cs) place
-    → IsLastNamingRule s (cs ++ c ∷ []) i n place
-not_newest s cs c i n place not e was =
+not_newest : (s : Bool) (cs : List Rule) (c : Rule) (i place : ℕ) → (IsListed s i c → ⊥) → IsLastNamingRule s cs i (length cs) place
+    → IsLastNamingRule s (cs ++ c ∷ []) i (length (cs ++ c ∷ [])) place
+not_newest s cs c i place not was =
     let l = length_push cs c in
     let m = more s cs c i (length cs) place (omega arith) was in
     record {
-      low = (let w = was.low in omega (arith, w, l, e));
+      low = (λ pos. let w = was.low pos in omega (arith, w, l));
       names = m.names;
       none = (λ k d from to h. elim (cases_eq k (length cs)) [
         | inl at ↦ not (subst (IsListed s i) (get_or_push cs c d k (sym at)) h)
-        | inr ne ↦ m.none k d from (omega (arith, to, l, e, ne)) h
+        | inr ne ↦ m.none k d from (omega (arith, to, l, ne)) h
       ]);
     }
 
@@ -81,22 +100,23 @@ not_newest s cs c i n place not e was =
 fewer : (s : Bool) (cs : List Rule) (c : Rule) (i before place : ℕ) → before ≤ length cs → IsLastNamingRule s (cs ++ c ∷ []) i before place → IsLastNamingRule s cs i before place
 fewer s cs c i before place le n = record {
   low = n.low;
-  names = (λ k d e. subst (IsListed s i) (get_or-append cs (c ∷ []) d k (let l = n.low in omega (arith, e, l, le))) (n.names k d e));
+  names = (λ k d pos from to. subst (IsListedAt s k i place) (get_or-append cs (c ∷ []) d k (let l = n.low pos in omega (arith, from, l, le))) (n.names k d pos from to));
   none = (λ k d from to h. n.none k d from to (subst (IsListed s i) (sym (get_or-append cs (c ∷ []) d k (omega (arith, to, le)))) h));
 }
 
-was_not_newest : (s : Bool) (cs : List Rule) (c : Rule) (i n place : ℕ) → (IsListed s i c → ⊥) → n ≡ length (cs ++ c ∷ []) → IsLastNamingRule s (cs ++ c ∷ []) i n place
+was_not_newest : (s : Bool) (cs : List Rule) (c : Rule) (i place : ℕ) → (IsListed s i c → ⊥) → IsLastNamingRule s (cs ++ c ∷ []) i (length (cs ++ c ∷ [])) place
     → IsLastNamingRule s cs i (length cs) place
-was_not_newest s cs c i n place not e was =
+was_not_newest s cs c i place not was =
     let l = length_push cs c in
-    let le : place ≤ length cs = elim (cases_eq place (length cs + 1)) [
-      | inl at ↦ absurd (not (subst (IsListed s i) (get_or_push cs c c (length cs) refl) (was.names (length cs) c (sym at))))
-      | inr ne ↦ (let w = was.low in omega (arith, w, l, e, ne))
-    ] in
+    let low : 0 < place → place < 4 * length cs = (λ pos. elim (cases_lt place (4 * length cs)) [
+      | inl lt ↦ lt
+      | inr ge ↦ absurd (not (subst (IsListed s i) (get_or_push cs c c (length cs) refl)
+          (listed_there s (length cs) i place _ (was.names (length cs) c pos ge (let w = was.low pos in omega (arith, w, l))))))
+    ]) in
     record {
-      low = le;
-      names = (λ k d f. subst (IsListed s i) (get_or-append cs (c ∷ []) d k (omega (arith, f, le))) (was.names k d f));
-      none = (λ k d from to h. was.none k d from (omega (arith, to, l, e)) (subst (IsListed s i) (sym (get_or-append cs (c ∷ []) d k to)) h));
+      low = low;
+      names = (λ k d pos from to. subst (IsListedAt s k i place) (get_or-append cs (c ∷ []) d k (let w = low pos in omega (arith, from, w))) (was.names k d pos from to));
+      none = (λ k d from to h. was.none k d from (omega (arith, to, l)) (subst (IsListed s i) (sym (get_or-append cs (c ∷ []) d k to)) h));
     }
 
 -- ---- the index
@@ -116,9 +136,9 @@ pub same_index : (count : ℕ) (cs : List Rule) (index index' : Index) → ((s :
     → IsRuleIndex count cs index → IsRuleIndex count cs index'
 same_index count cs index index' e f was = record {
   one_each = (λ s. ap length (e s) ∙ was.one_each s);
-  one_link_each = ap length f ∙ was.one_link_each;
+  four_each = ap length f ∙ was.four_each;
   lasts = (λ s i. subst (λ l. IsLastNamingRule s cs i (length cs) (get_or l i 0)) (sym (e s)) (was.lasts s i));
-  links = (λ k d l lt. subst (λ ls. AreRuleLinks cs (get_or cs k d) k (get_or ls k l)) (sym f) (was.links k d l lt));
+  links = (λ s k i place d lt at. subst (λ ls. IsLastNamingRule s cs i k (get_or ls place 0)) (sym f) (was.links s k i place d lt at));
 }
 
 -- a variable that is not there is named by none
@@ -129,7 +149,7 @@ pub variable_pushed : (count : ℕ) (cs : List Rule) (index index' : Index) → 
     → IsRuleIndex count cs index → IsRuleIndex (count + 1) cs index'
 variable_pushed count cs index index' e f was = record {
   one_each = (λ s. let n = length_push (lasts_of s index) 0 in let one = was.one_each s in ap length (e s) ∙ omega (arith, n, one));
-  one_link_each = ap length f ∙ was.one_link_each;
+  four_each = ap length f ∙ was.four_each;
   lasts = (λ s i. subst (λ l. IsLastNamingRule s cs i (length cs) (get_or l i 0)) (sym (e s)) (elim (cases_lt i (length (lasts_of s index))) [
     | inl lt ↦ subst (λ p. IsLastNamingRule s cs i (length cs) p) (sym (get_or-append (lasts_of s index) (0 ∷ []) 0 i lt)) (was.lasts s i)
     | inr le ↦ (let none = absent_last s count cs index i was le in elim (cases_eq i (length (lasts_of s index))) [
@@ -138,14 +158,14 @@ variable_pushed count cs index index' e f was = record {
           (sym (get_or-eq_default (lasts_of s index ++ 0 ∷ []) 0 (let n = length_push (lasts_of s index) 0 in omega (arith, n, le, ne)))) none
     ])
   ]));
-  links = (λ k d l lt. subst (λ ls. AreRuleLinks cs (get_or cs k d) k (get_or ls k l)) (sym f) (was.links k d l lt));
+  links = (λ s k i place d lt at. subst (λ ls. IsLastNamingRule s cs i k (get_or ls place 0)) (sym f) (was.links s k i place d lt at));
 }
 
 -- where no rule names a variable
 unnamed_last : (s : Bool) (n : ℕ) (cs : List Rule) (i : ℕ) → All (ArePresent n) cs → n ≤ i → IsLastNamingRule s cs i (length cs) 0
 unnamed_last s n cs i present le = record {
-  low = omega arith;
-  names = (λ k d e. absurd (omega (arith, e)));
+  low = (λ pos. absurd (omega (arith, pos)));
+  names = (λ k d pos. absurd (omega (arith, pos)));
   none = (λ k d from lt h. let p = present k d lt in let x = p.0 in let y = p.1 in let z = p.2 in elim h.0 [
     | inl e ↦ omega (arith, e, x, le)
     | inr (inl e) ↦ omega (arith, e, y, le)
@@ -157,14 +177,14 @@ pub variable_popped : (count : ℕ) (cs : List Rule) (index index' : Index) → 
     → index'.links.items ≡ index.links.items → IsRuleIndex count cs index → All (ArePresent (count - 1)) cs → IsRuleIndex (count - 1) cs index'
 variable_popped count cs index index' e f was present = record {
   one_each = (λ s. let one = was.one_each s in let n = length-take (length (lasts_of s index) - 1) (lasts_of s index) in ap length (e s) ∙ omega (arith, n, one));
-  one_link_each = ap length f ∙ was.one_link_each;
+  four_each = ap length f ∙ was.four_each;
   lasts = (λ s i. subst (λ l. IsLastNamingRule s cs i (length cs) (get_or l i 0)) (sym (e s)) (elim (cases_lt i (length (lasts_of s index) - 1)) [
     | inl lt ↦ subst (λ p. IsLastNamingRule s cs i (length cs) p) (sym (get_or-take (length (lasts_of s index) - 1) (lasts_of s index) i 0 lt)) (was.lasts s i)
     | inr le ↦ subst (λ p. IsLastNamingRule s cs i (length cs) p)
         (sym (get_or-eq_default (take (length (lasts_of s index) - 1) (lasts_of s index)) 0 (let n = length-take (length (lasts_of s index) - 1) (lasts_of s index) in omega (arith, n, le))))
         (unnamed_last s (count - 1) cs i present (let one = was.one_each s in omega (arith, one, le)))
   ]));
-  links = (λ k d l lt. subst (λ ls. AreRuleLinks cs (get_or cs k d) k (get_or ls k l)) (sym f) (was.links k d l lt));
+  links = (λ s k i place d lt at. subst (λ ls. IsLastNamingRule s cs i k (get_or ls place 0)) (sym f) (was.links s k i place d lt at));
 }
 
 -- places are put at three variables of the list of one kind, and the other list stays
@@ -205,113 +225,125 @@ put_lasts s c x y z index index' P p present at_x at_y at_z others t i = elim (s
   | inr ne ↦ subst (λ l. P t i (get_or l i 0)) (sym (p.other t ne)) (others t i (λ h. ne h.0))
 ]
 
--- the last places of a rule's kind are those of the rules before it, and it takes their place
-index_pushed_at : (count : ℕ) (cs : List Rule) (c : Rule) (s : Bool) (index index' : Index) (links : Links) (place : ℕ) → needs_singles c ≡ s → ArePresent (length (lasts_of s index)) c
-    → links.x ≡ get_or (lasts_of s index) (places c).x 0 → links.y ≡ get_or (lasts_of s index) (places c).y 0 → links.z ≡ get_or (lasts_of s index) (places c).z 0
-    → index'.links.items ≡ index.links.items ++ links ∷ [] → place ≡ length index'.links.items
-    → IsPutAt s (places c) place place place index index' → IsRuleIndex count cs index → IsRuleIndex count (cs ++ c ∷ []) index'
-index_pushed_at count cs c s index index' links place is present at_x at_y at_z f at put was =
-    let n = length_push cs c in
-    let m = length_push index.links.items links in
-    let one = was.one_link_each in
-    let top : place ≡ length (cs ++ c ∷ []) = at ∙ ap length f ∙ omega (arith, n, m, one) in
-    let before : (i q : ℕ) → q ≡ get_or (lasts_of s index) i 0 → IsLastNamingRule (needs_singles c) (cs ++ c ∷ []) i (length cs) q =
-    (λ i q e. subst (λ t. IsLastNamingRule t (cs ++ c ∷ []) i (length cs) q) (sym is) (subst (λ r. IsLastNamingRule s (cs ++ c ∷ []) i (length cs) r) (sym e) (more s cs c i (length cs) _ (omega arith) (was.lasts s i)))) in
+-- four more links, of which three hold these places
+pub record HasFourMore (links links' : List ℕ) (x y z : ℕ) : Type 0 where
+  pub count : length links' ≡ length links + 4
+  pub same : (place : ℕ) → place < length links → get_or links' place 0 ≡ get_or links place 0
+  pub at_x : get_or links' (length links + 1) 0 ≡ x
+  pub at_y : get_or links' (length links + 2) 0 ≡ y
+  pub at_z : get_or links' (length links + 3) 0 ≡ z
+
+pub four_more : (links links' : List ℕ) (x y z : ℕ) → links' ≡ links ++ 0 ∷ x ∷ y ∷ z ∷ [] → HasFourMore links links' x y z
+four_more links links' x y z e = record {
+  count = ap length e ∙ length-append links (0 ∷ x ∷ y ∷ z ∷ []);
+  same = (λ place lt. ap (λ ls. get_or ls place 0) e ∙ get_or-append links (0 ∷ x ∷ y ∷ z ∷ []) 0 place lt);
+  at_x = ap (λ ls. get_or ls (length links + 1) 0) e ∙ get_or-append_right links (0 ∷ x ∷ y ∷ z ∷ []) (length links + 1) 1 0 refl;
+  at_y = ap (λ ls. get_or ls (length links + 2) 0) e ∙ get_or-append_right links (0 ∷ x ∷ y ∷ z ∷ []) (length links + 2) 2 0 refl;
+  at_z = ap (λ ls. get_or ls (length links + 3) 0) e ∙ get_or-append_right links (0 ∷ x ∷ y ∷ z ∷ []) (length links + 3) 3 0 refl;
+}
+
+pub four_fewer : (links links' : List ℕ) (start x y z : ℕ) → start + 4 ≡ length links → links' ≡ take start links
+    → x ≡ get_or links (start + 1) 0 → y ≡ get_or links (start + 2) 0 → z ≡ get_or links (start + 3) 0 → HasFourMore links' links x y z
+four_fewer links links' start x y z n e of_x of_y of_z =
+    let count : length links' ≡ start = (let m = length-take start links in ap length e ∙ omega (arith, m, n)) in
     record {
-      one_each = put_lengths s (places c) place place place index index' count put was.one_each;
-      one_link_each = sym at ∙ top;
-      lasts = put_lasts s (places c) place place place index index' (λ t j q. IsLastNamingRule t (cs ++ c ∷ []) j (length (cs ++ c ∷ [])) q) put present
-          (newest s cs c (places c).x _ place (inl refl, is) refl top) (newest s cs c (places c).y _ place (inr (inl refl), is) refl top) (newest s cs c (places c).z _ place (inr (inr refl), is) refl top)
-          (λ t j not. not_newest t cs c j _ _ (λ h. not (sym h.1 ∙ is, h.0)) refl (was.lasts t j));
-      links = (λ k d l lt. subst (λ ls. AreRuleLinks (cs ++ c ∷ []) (get_or (cs ++ c ∷ []) k d) k (get_or ls k l)) (sym f) (elim (cases_eq k (length cs)) [
-        | inl here ↦ subst (λ g. AreRuleLinks (cs ++ c ∷ []) g k (get_or (index.links.items ++ links ∷ []) k l)) (sym (get_or_push cs c d k (sym here)))
-            (subst (λ g. AreRuleLinks (cs ++ c ∷ []) c k g) (sym (get_or_push index.links.items links l k (omega (arith, here, one))))
-            (subst (λ b. AreRuleLinks (cs ++ c ∷ []) c b links) (sym here)
-            (record { at_x = before (places c).x links.x at_x; at_y = before (places c).y links.y at_y; at_z = before (places c).z links.z at_z })))
-        | inr ne ↦ (let below : k < length cs = omega (arith, lt, n, ne) in
-            subst (λ g. AreRuleLinks (cs ++ c ∷ []) g k (get_or (index.links.items ++ links ∷ []) k l)) (sym (get_or-append cs (c ∷ []) d k below))
-            (subst (λ g. AreRuleLinks (cs ++ c ∷ []) (get_or cs k d) k g) (sym (get_or-append index.links.items (links ∷ []) l k (omega (arith, below, one))))
-            (let old = was.links k d l below in record {
-              at_x = more _ cs c _ k _ (omega (arith, below)) old.at_x;
-              at_y = more _ cs c _ k _ (omega (arith, below)) old.at_y;
-              at_z = more _ cs c _ k _ (omega (arith, below)) old.at_z;
-            })))
-      ]));
+      count = omega (arith, count, n);
+      same = (λ place lt. sym (ap (λ ls. get_or ls place 0) e ∙ get_or-take start links place 0 (omega (arith, lt, count))));
+      at_x = ap (λ m. get_or links (m + 1) 0) count ∙ sym of_x;
+      at_y = ap (λ m. get_or links (m + 2) 0) count ∙ sym of_y;
+      at_z = ap (λ m. get_or links (m + 3) 0) count ∙ sym of_z;
     }
 
-index_popped_at : (count : ℕ) (cs : List Rule) (c : Rule) (s : Bool) (index index' : Index) (links : Links) → needs_singles c ≡ s → ArePresent (length (lasts_of s index)) c
-    → index.links.items ≡ index'.links.items ++ links ∷ [] → IsPutAt s (places c) links.x links.y links.z index index'
-    → IsRuleIndex count (cs ++ c ∷ []) index → IsRuleIndex count cs index'
-index_popped_at count cs c s index index' links is present f put was =
+-- what stands at a place of the new rule
+more_at : (links links' : List ℕ) (x y z n i place : ℕ) (c : Rule) (P : ℕ → ℕ → Type 0) → HasFourMore links links' x y z → length links ≡ 4 * n
+    → P (places c).x x → P (places c).y y → P (places c).z z → IsRulePlace n i place c → P i (get_or links' place 0)
+more_at links links' x y z n i place c P added four of_x of_y of_z at = elim at [
+  | inl e ↦ (let p = e.0 in let here : place ≡ length links + 1 = omega (arith, p, four) in
+      subst (λ j. P j (get_or links' place 0)) (sym e.1) (subst (P (places c).x) (sym (ap (λ m. get_or links' m 0) here ∙ added.at_x)) of_x))
+  | inr (inl e) ↦ (let p = e.0 in let here : place ≡ length links + 2 = omega (arith, p, four) in
+      subst (λ j. P j (get_or links' place 0)) (sym e.1) (subst (P (places c).y) (sym (ap (λ m. get_or links' m 0) here ∙ added.at_y)) of_y))
+  | inr (inr e) ↦ (let p = e.0 in let here : place ≡ length links + 3 = omega (arith, p, four) in
+      subst (λ j. P j (get_or links' place 0)) (sym e.1) (subst (P (places c).z) (sym (ap (λ m. get_or links' m 0) here ∙ added.at_z)) of_z))
+]
+
+-- the last places of a rule's kind are those of the rules before it, and it takes their place
+index_pushed_at : (count : ℕ) (cs : List Rule) (c : Rule) (s : Bool) (index index' : Index) (start : ℕ) → needs_singles c ≡ s → ArePresent (length (lasts_of s index)) c
+    → start ≡ length index.links.items
+    → HasFourMore index.links.items index'.links.items (get_or (lasts_of s index) (places c).x 0) (get_or (lasts_of s index) (places c).y 0) (get_or (lasts_of s index) (places c).z 0)
+    → IsPutAt s (places c) (start + 1) (start + 2) (start + 3) index index' → IsRuleIndex count cs index → IsRuleIndex count (cs ++ c ∷ []) index'
+index_pushed_at count cs c s index index' start is present at links put was =
     let n = length_push cs c in
-    let m = length_push index'.links.items links in
-    let one = was.one_link_each in
-    let g = ap length f in
-    let same : length index'.links.items ≡ length cs = omega (arith, n, m, one, g) in
-    let here : AreRuleLinks (cs ++ c ∷ []) c (length cs) links =
-    subst (λ a. AreRuleLinks (cs ++ c ∷ []) a (length cs) links) (get_or_push cs c c (length cs) refl)
-    (subst (λ a. AreRuleLinks (cs ++ c ∷ []) (get_or (cs ++ c ∷ []) (length cs) c) (length cs) a) (get_or_push index'.links.items links links (length cs) same)
-    (subst (λ a. AreRuleLinks (cs ++ c ∷ []) (get_or (cs ++ c ∷ []) (length cs) c) (length cs) (get_or a (length cs) links)) f (was.links (length cs) c links (omega (arith, n))))) in
-    let before : (i q : ℕ) → IsLastNamingRule (needs_singles c) (cs ++ c ∷ []) i (length cs) q → IsLastNamingRule s cs i (length cs) q =
-    (λ i q l. fewer s cs c i (length cs) q (omega arith) (subst (λ t. IsLastNamingRule t (cs ++ c ∷ []) i (length cs) q) is l)) in
+    let m = links.count in
+    let four = was.four_each in
+    let before : (i : ℕ) → IsLastNamingRule s (cs ++ c ∷ []) i (length cs) (get_or (lasts_of s index) i 0) = (λ i. more s cs c i (length cs) _ (omega arith) (was.lasts s i)) in
     record {
-      one_each = put_lengths s (places c) links.x links.y links.z index index' count put was.one_each;
-      one_link_each = same;
-      lasts = put_lasts s (places c) links.x links.y links.z index index' (λ t j q. IsLastNamingRule t cs j (length cs) q) put present
-          (before (places c).x links.x here.at_x) (before (places c).y links.y here.at_y) (before (places c).z links.z here.at_z)
-          (λ t j not. was_not_newest t cs c j _ _ (λ h. not (sym h.1 ∙ is, h.0)) refl (was.lasts t j));
-      links = (λ k d l lt.
-          let old = was.links k d l (omega (arith, n, lt)) in
-          let a : get_or (cs ++ c ∷ []) k d ≡ get_or cs k d = get_or-append cs (c ∷ []) d k lt in
-          let b : get_or index.links.items k l ≡ get_or index'.links.items k l = ap (λ ls. get_or ls k l) f ∙ get_or-append index'.links.items (links ∷ []) l k (omega (arith, lt, same)) in
-          let now : AreRuleLinks (cs ++ c ∷ []) (get_or cs k d) k (get_or index'.links.items k l) =
-          subst (λ g. AreRuleLinks (cs ++ c ∷ []) g k (get_or index'.links.items k l)) a (subst (λ g. AreRuleLinks (cs ++ c ∷ []) (get_or (cs ++ c ∷ []) k d) k g) b old) in
-          record {
-            at_x = fewer _ cs c _ k _ (omega (arith, lt)) now.at_x;
-            at_y = fewer _ cs c _ k _ (omega (arith, lt)) now.at_y;
-            at_z = fewer _ cs c _ k _ (omega (arith, lt)) now.at_z;
-          });
+      one_each = put_lengths s (places c) (start + 1) (start + 2) (start + 3) index index' count put was.one_each;
+      four_each = omega (arith, n, m, four);
+      lasts = put_lasts s (places c) (start + 1) (start + 2) (start + 3) index index' (λ t j q. IsLastNamingRule t (cs ++ c ∷ []) j (length (cs ++ c ∷ [])) q) put present
+          (newest s cs c (places c).x _ (inl (omega (arith, at, four), refl), is)) (newest s cs c (places c).y _ (inr (inl (omega (arith, at, four), refl)), is))
+          (newest s cs c (places c).z _ (inr (inr (omega (arith, at, four), refl)), is))
+          (λ t j not. not_newest t cs c j _ (λ h. not (sym h.1 ∙ is, h.0)) (was.lasts t j));
+      links = (λ t k i place d lt listed. elim (cases_eq k (length cs)) [
+        | inl here ↦ (let of_it = subst (IsListedAt t k i place) (get_or_push cs c d k (sym here)) listed in
+            subst (λ u. IsLastNamingRule u (cs ++ c ∷ []) i k (get_or index'.links.items place 0)) (sym is ∙ of_it.1)
+            (subst (λ b. IsLastNamingRule s (cs ++ c ∷ []) i b (get_or index'.links.items place 0)) (sym here)
+            (more_at index.links.items index'.links.items _ _ _ (length cs) i place c (λ j q. IsLastNamingRule s (cs ++ c ∷ []) j (length cs) q) links four
+            (before (places c).x) (before (places c).y) (before (places c).z) (subst (λ b. IsRulePlace b i place c) here of_it.0))))
+        | inr ne ↦ (let below : k < length cs = omega (arith, lt, n, ne) in
+            let of_old = subst (IsListedAt t k i place) (get_or-append cs (c ∷ []) d k below) listed in
+            let top = (place_between (get_or cs k d) k i place of_old.0).1 in
+            subst (λ q. IsLastNamingRule t (cs ++ c ∷ []) i k q) (sym (links.same place (omega (arith, top, below, four))))
+            (more t cs c i k _ (omega (arith, below)) (was.links t k i place d below of_old)))
+      ]);
+    }
+
+index_popped_at : (count : ℕ) (cs : List Rule) (c : Rule) (s : Bool) (index index' : Index) (x y z : ℕ) → needs_singles c ≡ s → ArePresent (length (lasts_of s index)) c
+    → HasFourMore index'.links.items index.links.items x y z → IsPutAt s (places c) x y z index index'
+    → IsRuleIndex count (cs ++ c ∷ []) index → IsRuleIndex count cs index'
+index_popped_at count cs c s index index' x y z is present links put was =
+    let n = length_push cs c in
+    let m = links.count in
+    let four = was.four_each in
+    let same : length index'.links.items ≡ 4 * length cs = omega (arith, n, m, four) in
+    let before : (i place q : ℕ) → IsRulePlace (length cs) i place c → get_or index.links.items place 0 ≡ q → IsLastNamingRule s cs i (length cs) q =
+    (λ i place q at e. subst (λ r. IsLastNamingRule s cs i (length cs) r) e (fewer s cs c i (length cs) _ (omega arith)
+    (was.links s (length cs) i place c (omega (arith, n)) (subst (IsListedAt s (length cs) i place) (sym (get_or_push cs c c (length cs) refl)) (at, is))))) in
+    record {
+      one_each = put_lengths s (places c) x y z index index' count put was.one_each;
+      four_each = same;
+      lasts = put_lasts s (places c) x y z index index' (λ t j q. IsLastNamingRule t cs j (length cs) q) put present
+          (before (places c).x (4 * length cs + 1) x (inl (refl, refl)) (ap (λ a. get_or index.links.items (a + 1) 0) (sym same) ∙ links.at_x))
+          (before (places c).y (4 * length cs + 2) y (inr (inl (refl, refl))) (ap (λ a. get_or index.links.items (a + 2) 0) (sym same) ∙ links.at_y))
+          (before (places c).z (4 * length cs + 3) z (inr (inr (refl, refl))) (ap (λ a. get_or index.links.items (a + 3) 0) (sym same) ∙ links.at_z))
+          (λ t j not. was_not_newest t cs c j _ (λ h. not (sym h.1 ∙ is, h.0)) (was.lasts t j));
+      links = (λ t k i place d lt listed.
+          let top = (place_between (get_or cs k d) k i place listed.0).1 in
+          subst (λ q. IsLastNamingRule t cs i k q) (links.same place (omega (arith, top, lt, same)))
+          (fewer t cs c i k _ (omega (arith, lt)) (was.links t k i place d (omega (arith, n, lt)) (subst (IsListedAt t k i place) (sym (get_or-append cs (c ∷ []) d k lt)) listed))));
     }
 
 -- the same where the places were read before
-pub index_pushed : (count : ℕ) (cs : List Rule) (c : Rule) (p : Constraint) (s : Bool) (index index' : Index) (links : Links) (place : ℕ) → p ≡ places c → needs_singles c ≡ s
-    → ArePresent (length (lasts_of (needs_singles c) index)) c
-    → links ≡ record { x = get_or (lasts_of s index) p.x 0; y = get_or (lasts_of s index) p.y 0; z = get_or (lasts_of s index) p.z 0 }
-    → index'.links.items ≡ index.links.items ++ links ∷ [] → place ≡ length index'.links.items → IsPutAt s p place place place index index'
-    → IsRuleIndex count cs index → IsRuleIndex count (cs ++ c ∷ []) index'
-index_pushed count cs c p s index index' links place at is present read f top put was =
-    index_pushed_at count cs c s index index' links place is (subst (λ t. ArePresent (length (lasts_of t index)) c) is present)
-    (ap (λ (l : Links). l.x) read ∙ ap (λ (q : Constraint). get_or (lasts_of s index) q.x 0) at)
-    (ap (λ (l : Links). l.y) read ∙ ap (λ (q : Constraint). get_or (lasts_of s index) q.y 0) at)
-    (ap (λ (l : Links). l.z) read ∙ ap (λ (q : Constraint). get_or (lasts_of s index) q.z 0) at)
-    f top (subst (λ (q : Constraint). IsPutAt s q place place place index index') at put) was
+pub index_pushed : (count : ℕ) (cs : List Rule) (c : Rule) (p : Constraint) (s : Bool) (index index' : Index) (start : ℕ) → p ≡ places c → needs_singles c ≡ s
+    → ArePresent (length (lasts_of (needs_singles c) index)) c → start ≡ length index.links.items
+    → index'.links.items ≡ index.links.items ++ 0 ∷ get_or (lasts_of s index) p.x 0 ∷ get_or (lasts_of s index) p.y 0 ∷ get_or (lasts_of s index) p.z 0 ∷ []
+    → IsPutAt s p (start + 1) (start + 2) (start + 3) index index' → IsRuleIndex count cs index → IsRuleIndex count (cs ++ c ∷ []) index'
+index_pushed count cs c p s index index' start at is present top links put was =
+    let lasts = lasts_of s index in
+    index_pushed_at count cs c s index index' start is (subst (λ t. ArePresent (length (lasts_of t index)) c) is present) top
+    (subst (λ (q : Constraint). HasFourMore index.links.items index'.links.items (get_or lasts q.x 0) (get_or lasts q.y 0) (get_or lasts q.z 0)) at (four_more index.links.items index'.links.items _ _ _ links))
+    (subst (λ (q : Constraint). IsPutAt s q (start + 1) (start + 2) (start + 3) index index') at put) was
 
-pub index_popped : (count : ℕ) (cs : List Rule) (c : Rule) (p : Constraint) (s : Bool) (index index' : Index) (links : Links) → p ≡ places c → needs_singles c ≡ s
+pub index_popped : (count : ℕ) (cs : List Rule) (c : Rule) (p : Constraint) (s : Bool) (index index' : Index) (x y z : ℕ) → p ≡ places c → needs_singles c ≡ s
     → ArePresent (length (lasts_of (needs_singles c) index)) c
-    → index.links.items ≡ index'.links.items ++ links ∷ [] → IsPutAt s p links.x links.y links.z index index'
+    → HasFourMore index'.links.items index.links.items x y z → IsPutAt s p x y z index index'
     → IsRuleIndex count (cs ++ c ∷ []) index → IsRuleIndex count cs index'
-index_popped count cs c p s index index' links at is present f put was =
-    index_popped_at count cs c s index index' links is (subst (λ t. ArePresent (length (lasts_of t index)) c) is present) f
-    (subst (λ (q : Constraint). IsPutAt s q links.x links.y links.z index index') at put) was
+index_popped count cs c p s index index' x y z at is present links put was =
+    index_popped_at count cs c s index index' x y z is (subst (λ t. ArePresent (length (lasts_of t index)) c) is present) links
+    (subst (λ (q : Constraint). IsPutAt s q x y z index index') at put) was
 
-pub links_at : (count : ℕ) (cs : List Rule) (index : Index) (k : ℕ) (d : Rule) (links : Links) → IsRuleIndex count cs index → k < length cs
-    → links ≡ get_or index.links.items k links → AreRuleLinks cs (get_or cs k d) k links
-links_at count cs index k d links was lt e = subst (λ l. AreRuleLinks cs (get_or cs k d) k l) (sym e) (was.links k d links lt)
-
--- the first of three variables that is this one
-pub linked_x : (cs : List Rule) (c : Rule) (i k : ℕ) (links : Links) → AreRuleLinks cs c k links → i ≡ (places c).x → IsLastNamingRule (needs_singles c) cs i k links.x
-linked_x cs c i k links s e = subst (λ j. IsLastNamingRule (needs_singles c) cs j k links.x) (sym e) s.at_x
-
-pub linked_y : (cs : List Rule) (c : Rule) (i k : ℕ) (links : Links) → AreRuleLinks cs c k links → i ≡ (places c).y → IsLastNamingRule (needs_singles c) cs i k links.y
-linked_y cs c i k links s e = subst (λ j. IsLastNamingRule (needs_singles c) cs j k links.y) (sym e) s.at_y
-
-pub linked_z : (cs : List Rule) (c : Rule) (i k : ℕ) (links : Links) → AreRuleLinks cs c k links → NamesOf c i → (i ≡ (places c).x → ⊥) → (i ≡ (places c).y → ⊥)
-    → IsLastNamingRule (needs_singles c) cs i k links.z
-linked_z cs c i k links s names nx ny = elim names [
-  | inl e ↦ absurd (nx e)
-  | inr (inl e) ↦ absurd (ny e)
-  | inr (inr e) ↦ subst (λ j. IsLastNamingRule (needs_singles c) cs j k links.z) (sym e) s.at_z
-]
+-- an index of no more than three numbers has no rule
+pub no_rule_left : (count n : ℕ) (cs : List Rule) (c : Rule) (index : Index) → n ≡ length index.links.items → n < 4 → IsRuleIndex count (cs ++ c ∷ []) index → ⊥
+no_rule_left count n cs c index e lt was = let l = length_push cs c in let four = was.four_each in omega (arith, l, four, e, lt)
 
 -- as many variables
 pub index_of_count : (count count' : ℕ) (cs : List Rule) (index : Index) → count' ≡ count → IsRuleIndex count cs index → IsRuleIndex count' cs index
@@ -332,12 +364,32 @@ present_last count cs cs' c index e present s =
 
 -- ---- a walk over the rules that name a variable
 
+-- some rule, where one is asked for that plays no part
+pub any_rule : Rule
+any_rule = Sum (record { x = 0; y = 0; z = 0 })
+
+-- the place before one at which a walk is
+pub next_place : (count : ℕ) (cs : List Rule) (index : Index) (s : Bool) (i place next : ℕ) → IsRuleIndex count cs index → (0 < place → place < 4 * length cs)
+    → ((k : ℕ) (d : Rule) → 0 < place → 4 * k ≤ place → place < 4 * k + 4 → IsListedAt s k i place (get_or cs k d)) → 0 < place → next ≡ get_or index.links.items place 0
+    → IsLastNamingRule s cs i (place / 4) next
+next_place count cs index s i place next was low names pos e =
+    let below = low pos in
+    subst (λ q. IsLastNamingRule s cs i (place / 4) q) (sym e)
+    (was.links s (place / 4) i place any_rule (omega (arith, below)) (names (place / 4) any_rule pos (omega arith) (omega arith)))
+
+-- it is a lower one
+pub next_is_lower : (s : Bool) (cs : List Rule) (i place next : ℕ) → 0 < place → IsLastNamingRule s cs i (place / 4) next → next < place
+next_is_lower s cs i place next pos n = elim (cases_lt 0 next) [
+  | inl some ↦ (let low = n.low some in omega (arith, low))
+  | inr none ↦ omega (arith, none, pos)
+]
+
 -- each from a place on is not the one that is looked for
 pub record NotFrom (cs : List Rule) (c : Rule) (i place : ℕ) : Type 0 where
-  pub low : place ≤ length cs
+  pub low : 0 < place → place < 4 * length cs
   pub named : NamesOf c i
-  pub names : (k : ℕ) (d : Rule) → k + 1 ≡ place → IsListed (needs_singles c) i (get_or cs k d)
-  pub none : (k : ℕ) (d : Rule) → place ≤ k → k < length cs → get_or cs k d ≡ c → ⊥
+  pub names : (k : ℕ) (d : Rule) → 0 < place → 4 * k ≤ place → place < 4 * k + 4 → IsListedAt (needs_singles c) k i place (get_or cs k d)
+  pub none : (k : ℕ) (d : Rule) → place ≤ 4 * k → k < length cs → get_or cs k d ≡ c → ⊥
 
 pub not_at_first : (cs : List Rule) (c : Rule) (i place : ℕ) → i ≡ (places c).z → IsLastNamingRule (needs_singles c) cs i (length cs) place → NotFrom cs c i place
 not_at_first cs c i place e s = record {
@@ -348,22 +400,19 @@ not_at_first cs c i place e s = record {
 }
 
 pub not_at_next : (cs : List Rule) (c : Rule) (i place next : ℕ) (e : Rule) → NotFrom cs c i place → 0 < place
-    → ((d : Rule) → IsLastNamingRule (needs_singles (get_or cs (place - 1) d)) cs i (place - 1) next)
-    → (get_or cs (place - 1) e ≡ c → ⊥) → NotFrom cs c i next
-not_at_next cs c i place next e s pos last not =
-    let n = subst (λ t. IsLastNamingRule t cs i (place - 1) next) (s.names (place - 1) e (omega (arith, pos))).1 (last e) in
-    record {
-      low = (let a = n.low in let b = s.low in omega (arith, a, b));
-      named = s.named;
-      names = n.names;
-      none = (λ k d from to f. elim (cases_eq k (place - 1)) [
-        | inl at ↦ not (sym (ap (λ j. get_or cs j e) at) ∙ get_or_default cs k e d to ∙ f)
-        | inr ne ↦ elim (cases_lt k place) [
-          | inl lt ↦ n.none k d from (omega (arith, lt, ne)) (subst (IsListed (needs_singles c) i) (sym f) (s.named, refl))
-          | inr ge ↦ s.none k d ge to f
-        ]
-      ]);
-    }
+    → IsLastNamingRule (needs_singles c) cs i (place / 4) next → (get_or cs (place / 4) e ≡ c → ⊥) → NotFrom cs c i next
+not_at_next cs c i place next e s pos n not = record {
+  low = (λ some. let a = n.low some in let b = s.low pos in omega (arith, a, b));
+  named = s.named;
+  names = n.names;
+  none = (λ k d from to f. elim (cases_eq k (place / 4)) [
+    | inl at ↦ not (sym (ap (λ m. get_or cs m e) at) ∙ get_or_default cs k e d to ∙ f)
+    | inr ne ↦ elim (cases_lt k (place / 4)) [
+      | inl lt ↦ n.none k d from lt (subst (IsListed (needs_singles c) i) (sym f) (s.named, refl))
+      | inr ge ↦ s.none k d (omega (arith, ge, ne)) to f
+    ]
+  ]);
+}
 
 pub not_there : (cs : List Rule) (c : Rule) (i place : ℕ) → NotFrom cs c i place → place ≤ 0 → Contains cs c → ⊥
 not_there cs c i place s end h = s.none h.0 c (omega (arith, end)) h.1 h.2

@@ -1,5 +1,5 @@
 -- The queue of the rules that are not settled.
-use Rattle.std.proofs.Common.{◌≡◌, ◌∙◌, ◌+◌, ◌-◌, ◌<◌, ◌≤◌, ◌⊎◌, inl, inr, ℕ, ap, arith, cond, get_or, length, List, [], ◌∷◌, ◌++◌, Bool, true, false, refl, set, subst, sym, suc, eqb, take}
+use Rattle.std.proofs.Common.{◌≡◌, ◌∙◌, ◌+◌, ◌-◌, ◌*◌, ◌/◌, ◌<◌, ◌≤◌, ◌⊎◌, inl, inr, ℕ, ap, arith, cond, get_or, length, List, [], ◌∷◌, ◌++◌, Bool, true, false, refl, set, subst, sym, suc, eqb, take}
 use Rattle.std.specs.Prelude.{ℤ, not}
 use Rattle.std.specs.Vec.{vec_capacity}
 use Rattle.std.proofs.Math.ListN.{get_or-append, get_or-eq_default}
@@ -7,12 +7,11 @@ use Rattle.std.proofs.lemmas.Bool.{cases_eq, cases_lt, false≢true}
 use Rattle.std.proofs.lemmas.List.{get_or-set_other, get_or-set_same, get_or_push, length-set, length_push, get_or_default, take_all, take_more}
 use Rattle.std.proofs.lemmas.List.Sums.{count_by-le-length, sum_by_push, sum_by-append, sum_by-set}
 use Rattle.ivl_network.specs.declared.network.queue.Queue.{Queue}
-use Rattle.ivl_network.specs.Queue.{IsLastNamingRule, IsListed, IsRuleQueue, Removes, times_in, unsettled_count, waits}
+use Rattle.ivl_network.specs.Queue.{IsLastNamingRule, IsListed, IsListedAt, IsRuleQueue, Removes, times_in, unsettled_count, waits}
 use Rattle.ivl_network.specs.Families.{IsFixedBy}
 use Rattle.ivl_network.specs.Settled.{AreClearedListed, AreClearedRules, StillDiffers}
 use Rattle.ivl_rules.specs.Rules.{NamesOf, needs_singles}
 use Rattle.ivl_rules.specs.declared.rules.Rule.{Rule}
-use Rattle.ivl_rules.specs.declared.rules.Rule.TheVariants.{Sum}
 
 -- ---- flags, and numbers in a list
 
@@ -201,11 +200,11 @@ popped_round queue queue' false k false s e m at f g room room_later =
 
 -- those that are listed at the variable have none from this place on, but where they stay
 pub record WokenSoFar (singles : Bool) (rules : List Rule) (variable : ℕ) (Stays : Rule → Type 0) (before after : List Bool) (place : ℕ) : Type 0 where
-  pub low : place ≤ length rules
-  pub names : (k : ℕ) (d : Rule) → k + 1 ≡ place → IsListed singles variable (get_or rules k d)
+  pub low : 0 < place → place < 4 * length rules
+  pub names : (k : ℕ) (d : Rule) → 0 < place → 4 * k ≤ place → place < 4 * k + 4 → IsListedAt singles k variable place (get_or rules k d)
   pub same_count : length after ≡ length before
   pub only_cleared : (k : ℕ) → get_or after k false ≡ true → get_or before k false ≡ true
-  pub left : (k : ℕ) (d : Rule) → place ≤ k → k < length rules → get_or after k false ≡ true → IsListed singles variable (get_or rules k d)
+  pub left : (k : ℕ) (d : Rule) → place ≤ 4 * k → k < length rules → get_or after k false ≡ true → IsListed singles variable (get_or rules k d)
       → Stays (get_or rules k d)
 
 pub none_woken : (s : Bool) (rules : List Rule) (variable : ℕ) (Stays : Rule → Type 0) (flags : List Bool) (place : ℕ) → IsLastNamingRule s rules variable (length rules) place
@@ -218,54 +217,42 @@ none_woken s rules variable Stays flags place last = record {
   left = (λ k d from lt m listed. absurd (last.none k d from lt listed));
 }
 
--- some rule, where one is asked for that plays no part
-pub any_rule : Rule
-any_rule = Sum (record { x = 0; y = 0; z = 0 })
-
--- the next place is a lower one
-pub next_is_lower : (rules : List Rule) (i k place : ℕ) → ((d : Rule) → IsLastNamingRule (needs_singles (get_or rules k d)) rules i k place) → place ≤ k
-next_is_lower rules i k place last = (last any_rule).low
-
 -- a flag at this place that stays
 pub one_left : (s : Bool) (rules : List Rule) (variable : ℕ) (Stays : Rule → Type 0) (before after : List Bool) (place next : ℕ)
     → WokenSoFar s rules variable Stays before after place → 0 < place
-    → ((d : Rule) → get_or after (place - 1) false ≡ true → Stays (get_or rules (place - 1) d))
-    → ((d : Rule) → IsLastNamingRule (needs_singles (get_or rules (place - 1) d)) rules variable (place - 1) next) → WokenSoFar s rules variable Stays before after next
+    → ((d : Rule) → get_or after (place / 4) false ≡ true → Stays (get_or rules (place / 4) d))
+    → IsLastNamingRule s rules variable (place / 4) next → WokenSoFar s rules variable Stays before after next
 one_left s rules variable Stays before after place next so_far pos stays last = record {
-  low = (let a = (last any_rule).low in let b = so_far.low in omega (arith, a, b));
-  names = (listed any_rule).names;
+  low = (λ some. let a = last.low some in let b = so_far.low pos in omega (arith, a, b));
+  names = last.names;
   same_count = so_far.same_count;
   only_cleared = so_far.only_cleared;
-  left = (λ k d from lt m is. elim (cases_lt k place) [
-    | inl below ↦ elim (cases_eq k (place - 1)) [
-      | inl e ↦ subst (λ j. Stays (get_or rules j d)) (sym e) (stays d (subst (λ j. get_or after j false ≡ true) e m))
-      | inr ne ↦ absurd ((listed any_rule).none k d from (omega (arith, below, ne)) is)
+  left = (λ k d from lt m is. elim (cases_eq k (place / 4)) [
+    | inl e ↦ subst (λ j. Stays (get_or rules j d)) (sym e) (stays d (subst (λ j. get_or after j false ≡ true) e m))
+    | inr ne ↦ elim (cases_lt k (place / 4)) [
+      | inl below ↦ absurd (last.none k d from below is)
+      | inr above ↦ so_far.left k d (omega (arith, above, ne)) lt m is
     ]
-    | inr ge ↦ so_far.left k d ge lt m is
   ]);
 }
-  where
-    listed : (d : Rule) → IsLastNamingRule s rules variable (place - 1) next
-    listed d = subst (λ t. IsLastNamingRule t rules variable (place - 1) next) (so_far.names (place - 1) d (omega (arith, pos))).1 (last d)
 
 -- a flag at this place that is cleared
 pub one_woken : (s : Bool) (rules : List Rule) (variable : ℕ) (Stays : Rule → Type 0) (before after : List Bool) (place next : ℕ)
-    → WokenSoFar s rules variable Stays before after place → 0 < place → place - 1 < length after
-    → ((d : Rule) → IsLastNamingRule (needs_singles (get_or rules (place - 1) d)) rules variable (place - 1) next)
-    → WokenSoFar s rules variable Stays before (set after (place - 1) false) next
+    → WokenSoFar s rules variable Stays before after place → 0 < place → place / 4 < length after
+    → IsLastNamingRule s rules variable (place / 4) next → WokenSoFar s rules variable Stays before (set after (place / 4) false) next
 one_woken s rules variable Stays before after place next so_far pos within =
-    one_left s rules variable Stays before (set after (place - 1) false) place next (record {
+    one_left s rules variable Stays before (set after (place / 4) false) place next (record {
       low = so_far.low;
       names = so_far.names;
-      same_count = length-set after (place - 1) false ∙ so_far.same_count;
+      same_count = length-set after (place / 4) false ∙ so_far.same_count;
       only_cleared = (λ k m. so_far.only_cleared k (was k m));
       left = (λ k d from lt m. so_far.left k d from lt (was k m));
-    }) pos (λ d m. absurd (false≢true (sym (get_or-set_same after (place - 1) false false within) ∙ m)))
+    }) pos (λ d m. absurd (false≢true (sym (get_or-set_same after (place / 4) false false within) ∙ m)))
   where
-    was : (k : ℕ) → get_or (set after (place - 1) false) k false ≡ true → get_or after k false ≡ true
-    was k m = elim (cases_eq k (place - 1)) [
-      | inl e ↦ absurd (false≢true (sym (ap (λ i. get_or (set after (place - 1) false) i false) e ∙ get_or-set_same after (place - 1) false false within) ∙ m))
-      | inr ne ↦ sym (get_or-set_other after (place - 1) k false false ne) ∙ m
+    was : (k : ℕ) → get_or (set after (place / 4) false) k false ≡ true → get_or after k false ≡ true
+    was k m = elim (cases_eq k (place / 4)) [
+      | inl e ↦ absurd (false≢true (sym (ap (λ i. get_or (set after (place / 4) false) i false) e ∙ get_or-set_same after (place / 4) false false within) ∙ m))
+      | inr ne ↦ sym (get_or-set_other after (place / 4) k false false ne) ∙ m
     ]
 
 pub all_woken : (s : Bool) (rules : List Rule) (variable : ℕ) (Stays : Rule → Type 0) (before after : List Bool) (place : ℕ) → WokenSoFar s rules variable Stays before after place

@@ -4,19 +4,19 @@
 --     times_in k list      how often the number stands in the list
 --     Removes k old new told      one k is taken from the list, or, if that is what is told, there is none and the list stays
 --     IsListed singles i rule      the rule names variable i, and is one of those that need single numbers, or one of the others, as told
---     IsLastNamingRule singles rules i before place      place k + 1 where rule k is the last of the first `before` that is listed so, and place 0 where none is
---     AreRuleLinks rules rule before links      such places of the rule's own kind for its variables
+--     IsRulePlace k i place rule      a place that rule k has for a variable i that it names: 4 k + 1 for its x, 4 k + 2 for its y, 4 k + 3 for its z
+--     IsListedAt singles k i place rule      such a place of a rule that is one of those that need single numbers, or one of the others, as told
+--     IsLastNamingRule singles rules i before place      such a place of the last of the first `before` rules that has one, and 0 where none has
 --     lasts_of singles index      the places that an index has for the variables, of the rules of one kind
---     IsRuleIndex count rules index      for each of so many variables the last rule of each kind that names it, and for each rule those before it that are of
---         its kind and name the same
+--     IsRuleIndex count rules index      for each of so many variables the last rule of each kind that names it, and for each place of a rule the last rule
+--         before it that is of its kind and names the same
 --     IsRuleQueue queue      each rule that is not settled stands in the queue once, and nothing else does; there is room for all rules
-use Rattle.std.specs.Prelude.{◌≡◌, ◌<◌, ◌≤◌, ◌+◌, ℕ, Bool, true, false, List, [], ◌∷◌, eqb, if◌then◌else◌, length, not, slice_index_or}
+use Rattle.std.specs.Prelude.{◌≡◌, ◌<◌, ◌≤◌, ◌+◌, ◌*◌, ◌⊎◌, ℕ, Bool, true, false, List, [], ◌∷◌, eqb, if◌then◌else◌, length, not, slice_index_or}
 use Rattle.std.specs.List.{count_by}
 use Rattle.std.specs.Vec.{vec_capacity}
 use Rattle.ivl_rules.specs.declared.rules.Rule.{Rule}
 use Rattle.ivl_rules.specs.Rules.{NamesOf, needs_singles, places}
 use Rattle.ivl_network.specs.declared.network.index.Index.{Index}
-use Rattle.ivl_network.specs.declared.network.index.Links.{Links}
 use Rattle.ivl_network.specs.declared.network.queue.Queue.{Queue}
 
 abbrev pub unsettled_count : List Bool → ℕ
@@ -35,15 +35,17 @@ Removes k old new false = (new ≡ old) × (times_in k old ≡ 0)
 abbrev pub IsListed : Bool → ℕ → Rule → Type 0
 IsListed singles variable rule = NamesOf rule variable × (needs_singles rule ≡ singles)
 
-pub record IsLastNamingRule (singles : Bool) (rules : List Rule) (variable before place : ℕ) : Type 0 where
-  pub low : place ≤ before
-  pub names : (k : ℕ) (d : Rule) → k + 1 ≡ place → IsListed singles variable (slice_index_or rules k d)
-  pub none : (k : ℕ) (d : Rule) → place ≤ k → k < before → ¬ (IsListed singles variable (slice_index_or rules k d))
+abbrev pub IsRulePlace : ℕ → ℕ → ℕ → Rule → Type 0
+IsRulePlace k variable place rule =
+    ((place ≡ 4 * k + 1) × (variable ≡ (places rule).x)) ⊎ ((place ≡ 4 * k + 2) × (variable ≡ (places rule).y)) ⊎ ((place ≡ 4 * k + 3) × (variable ≡ (places rule).z))
 
-pub record AreRuleLinks (rules : List Rule) (rule : Rule) (before : ℕ) (links : Links) : Type 0 where
-  pub at_x : IsLastNamingRule (needs_singles rule) rules (places rule).x before links.x
-  pub at_y : IsLastNamingRule (needs_singles rule) rules (places rule).y before links.y
-  pub at_z : IsLastNamingRule (needs_singles rule) rules (places rule).z before links.z
+abbrev pub IsListedAt : Bool → ℕ → ℕ → ℕ → Rule → Type 0
+IsListedAt singles k variable place rule = IsRulePlace k variable place rule × (needs_singles rule ≡ singles)
+
+pub record IsLastNamingRule (singles : Bool) (rules : List Rule) (variable before place : ℕ) : Type 0 where
+  pub low : 0 < place → place < 4 * before
+  pub names : (k : ℕ) (d : Rule) → 0 < place → 4 * k ≤ place → place < 4 * k + 4 → IsListedAt singles k variable place (slice_index_or rules k d)
+  pub none : (k : ℕ) (d : Rule) → place ≤ 4 * k → k < before → ¬ (IsListed singles variable (slice_index_or rules k d))
 
 abbrev pub lasts_of : Bool → Index → List ℕ
 lasts_of true index = index.single_lasts.items
@@ -51,9 +53,10 @@ lasts_of false index = index.lasts.items
 
 pub record IsRuleIndex (count : ℕ) (rules : List Rule) (index : Index) : Type 0 where
   pub one_each : (singles : Bool) → length (lasts_of singles index) ≡ count
-  pub one_link_each : length index.links.items ≡ length rules
+  pub four_each : length index.links.items ≡ 4 * length rules
   pub lasts : (singles : Bool) (i : ℕ) → IsLastNamingRule singles rules i (length rules) (slice_index_or (lasts_of singles index) i 0)
-  pub links : (k : ℕ) (d : Rule) (l : Links) → k < length rules → AreRuleLinks rules (slice_index_or rules k d) k (slice_index_or index.links.items k l)
+  pub links : (singles : Bool) (k i place : ℕ) (d : Rule) → k < length rules → IsListedAt singles k i place (slice_index_or rules k d)
+      → IsLastNamingRule singles rules i k (slice_index_or index.links.items place 0)
 
 pub record IsRuleQueue (queue : Queue) : Type 0 where
   pub once : (k : ℕ) → times_in k queue.round.items + times_in k queue.later.items ≡ waits queue.settled.items k

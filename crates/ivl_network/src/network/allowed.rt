@@ -7,7 +7,8 @@ ghost use Rattle.ivl_store.specs.NarrowedSets.{IsLeftOf};
 use intervallum::interval::Interval;
 use intervallum::interval_set::IntervalSet;
 use intervallum::width::Width;
-use ivl_rules::rules::windows::narrowed_to_window;
+use ivl_rules::rules::windows::narrowed_to_window_in;
+use ivl_store::store::Spares;
 use ivl_store::store::narrowed_sets::narrowed_to;
 use std::alloc::AllocError;
 
@@ -17,14 +18,22 @@ pub(super) trait Allowed<B: Width> {
     ghost members: { Self → ℤ → Type 0 };
 
     /// Returns what is left of a domain, or `None` if all of it is.
-    fn left_of(&self, domain: &IntervalSet<B>) -> Result<Option<IntervalSet<B>>, AllocError>
+    fn left_of(
+        &self,
+        domain: &IntervalSet<B>,
+        spares: &mut Spares<B>,
+    ) -> Result<Option<IntervalSet<B>>, AllocError>
         ensures { IfOk result (IsLeftOf B.whole domain.now (members self.now)) };
 }
 
 impl<B: Width> Allowed<B> for IntervalSet<B> {
     ghost members = { Covers };
 
-    fn left_of(&self, domain: &IntervalSet<B>) -> Result<Option<IntervalSet<B>>, AllocError> {
+    fn left_of(
+        &self,
+        domain: &IntervalSet<B>,
+        _spares: &mut Spares<B>,
+    ) -> Result<Option<IntervalSet<B>>, AllocError> {
         narrowed_to(domain, self)
     }
 }
@@ -32,7 +41,11 @@ impl<B: Width> Allowed<B> for IntervalSet<B> {
 impl<B: Width> Allowed<B> for Interval<B> {
     ghost members = { IsBetween };
 
-    fn left_of(&self, domain: &IntervalSet<B>) -> Result<Option<IntervalSet<B>>, AllocError> {
-        narrowed_to_window(domain, *self)
+    fn left_of(
+        &self,
+        domain: &IntervalSet<B>,
+        spares: &mut Spares<B>,
+    ) -> Result<Option<IntervalSet<B>>, AllocError> {
+        narrowed_to_window_in(domain, *self, spares)
     }
 }

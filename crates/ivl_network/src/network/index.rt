@@ -1,9 +1,9 @@
 //! Which rules name each variable.
-ghost use Rattle.std.specs.Prelude.{Contains, ◌-◌, ◌≡◌, ◌+◌, ◌<◌, ◌∷◌, ◌++◌, [], ℕ, All, IsTrue, List, OnOk, length, ◌↔◌, slice_index_or, slice_set};
+ghost use Rattle.std.specs.Prelude.{Contains, ◌-◌, ◌≡◌, ◌+◌, ◌<◌, ◌≤◌, ◌∷◌, ◌++◌, [], ℕ, All, IsTrue, List, OnOk, length, ◌↔◌, slice_index_or, slice_set};
 ghost use Rattle.std.specs.Vec.{vec_capacity, vec_len};
 ghost use Rattle.ivl_rules.specs.declared.rules.Rule.{Rule};
 ghost use Rattle.ivl_store.specs.Narrowing.{AllPresent};
-ghost use Rattle.ivl_rules.specs.Rules.{NamesOf, needs_singles};
+ghost use Rattle.ivl_rules.specs.Rules.{needs_singles};
 ghost use Rattle.ivl_network.specs.Families.{ArePresent};
 ghost use Rattle.ivl_network.specs.Queue.{IsLastNamingRule, IsRuleIndex, lasts_of};
 
@@ -12,21 +12,14 @@ use ivl_store::store::Constraint;
 use std::alloc::{AllocError, Global};
 
 /// For each variable the rules that name it, as two lists that are linked through the rules, the latest
-/// one first: those that need single numbers, and the others. A place is one more than the index of a
-/// rule, and 0 ends a list.
+/// one first: those that need single numbers, and the others. A place tells a rule and which of its
+/// variables: rule k has 4 k + 1 for its x, 4 k + 2 for its y and 4 k + 3 for its z, and 0 ends a list.
 #[derive(Drop)]
 pub(super) struct Index {
     lasts: Vec<usize>,
     single_lasts: Vec<usize>,
-    links: Vec<Links>,
-}
-
-/// The places of the rules before one that are of its kind and name its x, its y and its z.
-#[derive(Clone, Copy)]
-pub(super) struct Links {
-    x: usize,
-    y: usize,
-    z: usize,
+    // The place before each. The number at 4 k is not used.
+    links: Vec<usize>,
 }
 
 impl Index {
@@ -46,7 +39,7 @@ impl Index {
     {
         self.lasts.reserve(variables)?;
         self.single_lasts.reserve(variables)?;
-        self.links.reserve(rules)?;
+        self.links.reserve(rules.saturating_mul(4))?;
         Ok(())
     }
 
@@ -82,27 +75,26 @@ impl Index {
     /// Reserves room for one more rule.
     pub(super) fn reserve_rule(&mut self) -> Result<(), AllocError>
         ensures same { (count : ℕ) (rules : List Rule) → IsRuleIndex count rules self.old → IsRuleIndex count rules self.new }
-        ensures room { OnOk result (vec_len self.new.links < vec_capacity self.new.links) }
+        ensures room { OnOk result (vec_len self.new.links + 4 ≤ vec_capacity self.new.links) }
     {
-        self.links.reserve(1)?;
+        self.links.reserve(4)?;
         Ok(())
     }
 
     /// Adds a rule after the others.
     pub(super) fn push_rule(&mut self, rule: &Rule)
-        requires room { vec_len self.old.links < vec_capacity self.old.links }
+        requires room { vec_len self.old.links + 4 ≤ vec_capacity self.old.links }
         requires present { ArePresent (length (lasts_of (needs_singles rule.now) self.old)) rule.now }
         ensures { (count : ℕ) (rules : List Rule) → IsRuleIndex count rules self.old → IsRuleIndex count (rules ++ rule.now ∷ []) self.new }
     {
         let c = rule.places();
+        let start = self.links.len();
         if rule.needs_single_numbers() {
-            self.links.push_reserved(places_at(&self.single_lasts, &c));
-            let place = self.links.len();
-            put_places(&mut self.single_lasts, &c, place, place, place);
+            push_places(&mut self.links, &self.single_lasts, &c);
+            put_places(&mut self.single_lasts, &c, start + 1, start + 2, start + 3);
         } else {
-            self.links.push_reserved(places_at(&self.lasts, &c));
-            let place = self.links.len();
-            put_places(&mut self.lasts, &c, place, place, place);
+            push_places(&mut self.links, &self.lasts, &c);
+            put_places(&mut self.lasts, &c, start + 1, start + 2, start + 3);
         }
     }
 
@@ -111,13 +103,20 @@ impl Index {
         requires { ArePresent (length (lasts_of (needs_singles rule.now) self.old)) rule.now }
         ensures { (count : ℕ) (rules : List Rule) → IsRuleIndex count (rules ++ rule.now ∷ []) self.old → IsRuleIndex count rules self.new }
     {
+        let count = self.links.len();
+        if count < 4 {
+            return;
+        }
+        let start = count - 4;
+        let x = self.links[start + 1];
+        let y = self.links[start + 2];
+        let z = self.links[start + 3];
+        self.links.truncate(start);
         let c = rule.places();
-        if let Some(links) = self.links.pop() {
-            if rule.needs_single_numbers() {
-                put_places(&mut self.single_lasts, &c, links.x, links.y, links.z);
-            } else {
-                put_places(&mut self.lasts, &c, links.x, links.y, links.z);
-            }
+        if rule.needs_single_numbers() {
+            put_places(&mut self.single_lasts, &c, x, y, z);
+        } else {
+            put_places(&mut self.lasts, &c, x, y, z);
         }
     }
 
@@ -133,22 +132,13 @@ impl Index {
         }
     }
 
-    /// The place of the last rule before this one that is of its kind and names the variable.
-    pub(super) fn last_before(&self, rules: &[Rule], k: usize, variable: usize) -> usize
-        requires index { (count : ℕ) × IsRuleIndex count rules.now self.now }
-        requires in_list { k < length rules.now }
-        requires names { (d : Rule) → NamesOf (slice_index_or rules.now k d) variable }
-        ensures { (d : Rule) → IsLastNamingRule (needs_singles (slice_index_or rules.now k d)) rules.now variable k result }
+    /// The place before this one in its list.
+    #[inline]
+    pub(super) fn before(&self, place: usize) -> usize
+        requires { place < length self.now.links.items }
+        ensures { result ≡ slice_index_or self.now.links.items place 0 }
     {
-        let c = rules[k].places();
-        let links = &self.links[k];
-        if variable == c.x {
-            links.x
-        } else if variable == c.y {
-            links.y
-        } else {
-            links.z
-        }
+        self.links[place]
     }
 
     /// Whether a rule is one of the list: a walk over those of its kind that name its last variable.
@@ -159,25 +149,25 @@ impl Index {
         let variable = rule.places().z;
         let mut place = self.last(rule.needs_single_numbers(), variable);
         while place > 0 {
-            if is_same(&rules[place - 1], rule) {
+            if is_same(&rules[place / 4], rule) {
                 return true;
             }
-            place = self.last_before(rules, place - 1, variable);
+            place = self.before(place);
         }
         false
     }
 }
 
-/// The places that stand at three variables.
-fn places_at(lasts: &[usize], c: &Constraint) -> Links
-    requires { AllPresent (length lasts.now) c.now }
-    ensures { result ≡ record { x = slice_index_or lasts.now c.now.x 0; y = slice_index_or lasts.now c.now.y 0; z = slice_index_or lasts.now c.now.z 0 } }
+/// Adds a 0 and the places that stand at three variables.
+fn push_places(links: &mut Vec<usize>, lasts: &[usize], c: &Constraint)
+    requires room { vec_len links.old + 4 ≤ vec_capacity links.old }
+    requires present { AllPresent (length lasts.now) c.now }
+    ensures { links.new.items ≡ links.old.items ++ 0 ∷ slice_index_or lasts.now c.now.x 0 ∷ slice_index_or lasts.now c.now.y 0 ∷ slice_index_or lasts.now c.now.z 0 ∷ [] }
 {
-    Links {
-        x: lasts[c.x],
-        y: lasts[c.y],
-        z: lasts[c.z],
-    }
+    links.push_reserved(0);
+    links.push_reserved(lasts[c.x]);
+    links.push_reserved(lasts[c.y]);
+    links.push_reserved(lasts[c.z]);
 }
 
 /// Puts places at three variables, and the last of them where two are one.

@@ -83,7 +83,7 @@ pub(super) fn restrict_logged<B: Width, A: Allowed<B>>(
     ensures lost { IfOk result (λ lost. lost ≡ false → store.new ≡ store.old) }
     ensures past { OnOk result ((rules : List Rule) → KeepsPast marks.now trail.old.items trail.new.items store.old store.new rules) }
 {
-    let left = allowed.left_of(&store.domains()[i])?;
+    let left = allowed.left_of(&store.domains()[i], spares)?;
     let lost = left.is_some();
     replace_logged(store, trail, places, spares, marks, i, left);
     Ok(lost)

@@ -12,14 +12,18 @@ ghost use Rattle.ivl_rules.specs.declared.rules.Rule.TheVariants.{Differs as Dif
 
 use super::Rule;
 use super::windows::{
-    at_least, at_most, has_number, narrowed_to_moved, narrowed_to_none, narrowed_to_window,
+    at_least, at_most, has_number, narrowed_to_moved, narrowed_to_none, narrowed_to_window_in,
     narrowed_without, shift_back_of, shift_of,
 };
 use intervallum::interval_set::IntervalSet;
 use intervallum::ops::{Bounded, Contains, IsEmpty, IsSingleton};
 use intervallum::width::Width;
-use ivl_store::store::{Constraint, Spares, narrowed_sets};
+use ivl_store::store::narrowed_sets::{LeftOfThree, narrowed_by_sum_in};
+use ivl_store::store::{Constraint, Spares};
 use std::alloc::AllocError;
+
+/// What narrowing leaves of two domains, with `None` in place of one that loses no member.
+type LeftOfTwo<B> = (Option<IntervalSet<B>>, Option<IntervalSet<B>>);
 
 /// Narrows by a rule: a domain that it names keeps its members that are in a point of the domains which satisfies the
 /// rule, and the others stay. Returns true exactly when some domain lost a member.
@@ -162,19 +166,27 @@ fn put<B: Width>(domains: &mut [IntervalSet<B>], i: usize, left: Option<Interval
     }
 }
 
-/// Returns what narrowing leaves at each place of the rule, or `None` where no member is lost.
+/// Returns what narrowing by a rule leaves of the domains at its places, with `None` in place of one that loses no member.
+///
+/// The caller must ensure that the rule names each of its variables once, and no variable without a domain. Check with
+/// [`Rule::is_over_different`] and [`Rule::first_unknown`].
+///
+/// # Errors
+///
+/// Fails only if allocation fails.
+///
+/// ```
+/// let low = IntervalSet::new(alloc, 0, 4)?;
+/// let domains = vec![in alloc; low.try_clone()?, low]?;
+/// let (x, y, z) = narrowed_at_places(&domains, &Rule::AtMost { x: 0, y: 1, by: 1 })?;
+/// assert!(rt; x == Some(IntervalSet::new(alloc, 0, 3)?) && y == Some(IntervalSet::new(alloc, 1, 4)?));
+/// assert!(rt; z.is_none());
+/// ```
 #[inline]
 pub fn narrowed_at_places<B: Width>(
     domains: &[IntervalSet<B>],
     rule: &Rule,
-) -> Result<
-    (
-        Option<IntervalSet<B>>,
-        Option<IntervalSet<B>>,
-        Option<IntervalSet<B>>,
-    ),
-    AllocError,
->
+) -> Result<LeftOfThree<B>, AllocError>
     requires different { AreDifferent rule.now }
     requires present { AllPresent (length domains.now) (places_of rule.now) }
     ensures { IfOk result (λ r. AreLeftAtPlaces B.whole (places_of rule.now) (HasPointAt rule.now (set_at domains.now)) domains.now r.0 r.1 r.2) }
@@ -183,21 +195,27 @@ pub fn narrowed_at_places<B: Width>(
     narrowed_at_places_in(domains, rule, &mut spares)
 }
 
-/// Returns what [`narrowed_at_places`] returns. What a sum leaves is made in the memory of spare sets, as
-/// [`narrowed_by_sum_in`](ivl_store::store::narrowed_sets::narrowed_by_sum_in) does.
+/// Returns what [`narrowed_at_places`] returns, under its conditions. What a sum or an `AtMost` leaves is made in the memory
+/// of spare sets, as [`narrowed_by_sum_in`](ivl_store::store::narrowed_sets::narrowed_by_sum_in) and
+/// [`narrowed_to_window_in`] do.
+///
+/// # Errors
+///
+/// Fails only if allocation fails.
+///
+/// ```
+/// let mut spares = Spares::new(alloc);
+/// let low = IntervalSet::new(alloc, 0, 4)?;
+/// let domains = vec![in alloc; low.try_clone()?, low]?;
+/// let (x, y, _) = narrowed_at_places_in(&domains, &Rule::Differs { x: 0, y: 1, by: 0 }, &mut spares)?;
+/// assert!(rt; x.is_none() && y.is_none());
+/// ```
 #[inline]
 pub fn narrowed_at_places_in<B: Width>(
     domains: &[IntervalSet<B>],
     rule: &Rule,
     spares: &mut Spares<B>,
-) -> Result<
-    (
-        Option<IntervalSet<B>>,
-        Option<IntervalSet<B>>,
-        Option<IntervalSet<B>>,
-    ),
-    AllocError,
->
+) -> Result<LeftOfThree<B>, AllocError>
     requires different { AreDifferent rule.now }
     requires present { AllPresent (length domains.now) (places_of rule.now) }
     ensures { IfOk result (λ r. AreLeftAtPlaces B.whole (places_of rule.now) (HasPointAt rule.now (set_at domains.now)) domains.now r.0 r.1 r.2) }
@@ -209,7 +227,7 @@ pub fn narrowed_at_places_in<B: Width>(
             Ok((x, y, None))
         }
         Rule::AtMost { x, y, by } => {
-            let (x, y) = narrowed_at_most(&domains[*x], &domains[*y], by)?;
+            let (x, y) = narrowed_at_most(&domains[*x], &domains[*y], by, spares)?;
             Ok((x, y, None))
         }
         Rule::Differs { x, y, by } => {
@@ -292,7 +310,7 @@ fn narrowed_moved<B: Width>(
     x: &IntervalSet<B>,
     y: &IntervalSet<B>,
     by: &i64,
-) -> Result<(Option<IntervalSet<B>>, Option<IntervalSet<B>>), AllocError>
+) -> Result<LeftOfTwo<B>, AllocError>
     ensures { IfOk result (λ r. AreLeftBy B.whole (IsMoved by.now) x.now y.now r.0 r.1) }
 {
     let left_of_x = narrowed_to_moved(x, y, shift_back_of(by))?;
@@ -306,7 +324,8 @@ fn narrowed_at_most<B: Width>(
     x: &IntervalSet<B>,
     y: &IntervalSet<B>,
     by: &i64,
-) -> Result<(Option<IntervalSet<B>>, Option<IntervalSet<B>>), AllocError>
+    spares: &mut Spares<B>,
+) -> Result<LeftOfTwo<B>, AllocError>
     ensures { IfOk result (λ r. AreLeftBy B.whole (IsAtMost by.now) x.now y.now r.0 r.1) }
 {
     let shift = shift_of(by);
@@ -315,12 +334,12 @@ fn narrowed_at_most<B: Width>(
     let left_of_x = if y.is_empty() {
         narrowed_to_none(x)
     } else {
-        narrowed_to_window(x, at_most(y.upper(), shift))?
+        narrowed_to_window_in(x, at_most(y.upper(), shift), spares)?
     };
     let left_of_y = if x.is_empty() {
         narrowed_to_none(y)
     } else {
-        narrowed_to_window(y, at_least(x.lower(), shift))?
+        narrowed_to_window_in(y, at_least(x.lower(), shift), spares)?
     };
     Ok((left_of_x, left_of_y))
 }
@@ -330,7 +349,7 @@ fn narrowed_differing<B: Width>(
     x: &IntervalSet<B>,
     y: &IntervalSet<B>,
     by: &i64,
-) -> Result<(Option<IntervalSet<B>>, Option<IntervalSet<B>>), AllocError>
+) -> Result<LeftOfTwo<B>, AllocError>
     ensures { IfOk result (λ r. AreLeftBy B.whole (IsNot by.now) x.now y.now r.0 r.1) }
 {
     x.in_whole();
@@ -371,17 +390,10 @@ fn narrowed_by_sum<B: Width>(
     domains: &[IntervalSet<B>],
     c: &Constraint,
     spares: &mut Spares<B>,
-) -> Result<
-    (
-        Option<IntervalSet<B>>,
-        Option<IntervalSet<B>>,
-        Option<IntervalSet<B>>,
-    ),
-    AllocError,
->
+) -> Result<LeftOfThree<B>, AllocError>
     requires different { AreDistinct c.now }
     requires present { AllPresent (length domains.now) c.now }
     ensures { IfOk result (λ r. AreLeftAtPlaces B.whole c.now (HasPointAt (SumRule c.now) (set_at domains.now)) domains.now r.0 r.1 r.2) }
 {
-    narrowed_sets::narrowed_by_sum_in(&domains[c.x], &domains[c.y], &domains[c.z], spares)
+    narrowed_by_sum_in(&domains[c.x], &domains[c.y], &domains[c.z], spares)
 }

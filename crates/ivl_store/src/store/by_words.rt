@@ -5,6 +5,7 @@ ghost use Rattle.ivl_laws.specs.Runs.{Covers};
 ghost use Rattle.ivl_store.specs.NarrowedSets.{IsLeftOf};
 ghost use Rattle.ivl_store.specs.Words.{AreSupported, HasBit, InWord, IsNear, IsWithin, IsWordOf};
 
+use super::narrowed_sets::LeftOfThree;
 use super::spares::Spares;
 use super::words::{Words, above, set_of_word, supported, word_of, word_within};
 use intervallum::interval_set::IntervalSet;
@@ -19,16 +20,7 @@ pub(super) fn narrowed_by_words<B: Width>(
     y: &IntervalSet<B>,
     z: &IntervalSet<B>,
     spares: &mut Spares<B>,
-) -> Result<
-    Option<
-        (
-            Option<IntervalSet<B>>,
-            Option<IntervalSet<B>>,
-            Option<IntervalSet<B>>,
-        ),
-    >,
-    AllocError,
->
+) -> Result<Option<LeftOfThree<B>>, AllocError>
     ensures at_x { IfOk result (λ o. IfSome o (λ r. IsLeftOf B.whole x.now (Differences (Covers z.now) (Covers y.now)) r.0)) }
     ensures at_y { IfOk result (λ o. IfSome o (λ r. IsLeftOf B.whole y.now (Differences (Covers z.now) (Covers x.now)) r.1)) }
     ensures at_z { IfOk result (λ o. IfSome o (λ r. IsLeftOf B.whole z.now (Sums (Covers x.now) (Covers y.now)) r.2)) }
@@ -109,14 +101,7 @@ fn left_by_words<B: Width>(
     y_base: i128,
     by_x: bool,
     spares: &mut Spares<B>,
-) -> Result<
-    (
-        Option<IntervalSet<B>>,
-        Option<IntervalSet<B>>,
-        Option<IntervalSet<B>>,
-    ),
-    AllocError,
->
+) -> Result<LeftOfThree<B>, AllocError>
     requires some_x { HasSome (Covers x.now) }
     requires some_y { HasSome (Covers y.now) }
     requires some_z { HasSome (Covers z.now) }

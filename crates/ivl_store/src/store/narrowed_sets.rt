@@ -16,19 +16,19 @@ use intervallum::width::Width;
 use ivl_within::within::{Combined, pair_in_window, results_unless_all};
 use std::alloc::AllocError;
 
+/// What narrowing leaves of three domains, with `None` in place of one that loses no member.
+pub type LeftOfThree<B> = (
+    Option<IntervalSet<B>>,
+    Option<IntervalSet<B>>,
+    Option<IntervalSet<B>>,
+);
+
 /// Returns what narrowing leaves at x, y and z, or `None` for a place that loses no member. A
 /// variable that stands in two places has its set at the last.
 pub(super) fn narrowed_sets<B: Width>(
     domains: &[IntervalSet<B>],
     c: &Constraint,
-) -> Result<
-    (
-        Option<IntervalSet<B>>,
-        Option<IntervalSet<B>>,
-        Option<IntervalSet<B>>,
-    ),
-    AllocError,
->
+) -> Result<LeftOfThree<B>, AllocError>
     requires { AllPresent (length domains.now) c.now }
     ensures { IfOk result (λ r. AreLeftAt B.whole c.now domains.now r.0 r.1 r.2) }
 {
@@ -72,14 +72,7 @@ pub fn narrowed_by_sum<B: Width>(
     x: &IntervalSet<B>,
     y: &IntervalSet<B>,
     z: &IntervalSet<B>,
-) -> Result<
-    (
-        Option<IntervalSet<B>>,
-        Option<IntervalSet<B>>,
-        Option<IntervalSet<B>>,
-    ),
-    AllocError,
->
+) -> Result<LeftOfThree<B>, AllocError>
     ensures at_x { IfOk result (λ r. IsLeftOf B.whole x.now (Differences (Covers z.now) (Covers y.now)) r.0) }
     ensures at_y { IfOk result (λ r. IsLeftOf B.whole y.now (Differences (Covers z.now) (Covers x.now)) r.1) }
     ensures at_z { IfOk result (λ r. IsLeftOf B.whole z.now (Sums (Covers x.now) (Covers y.now)) r.2) }
@@ -110,14 +103,7 @@ pub fn narrowed_by_sum_in<B: Width>(
     y: &IntervalSet<B>,
     z: &IntervalSet<B>,
     spares: &mut Spares<B>,
-) -> Result<
-    (
-        Option<IntervalSet<B>>,
-        Option<IntervalSet<B>>,
-        Option<IntervalSet<B>>,
-    ),
-    AllocError,
->
+) -> Result<LeftOfThree<B>, AllocError>
     ensures at_x { IfOk result (λ r. IsLeftOf B.whole x.now (Differences (Covers z.now) (Covers y.now)) r.0) }
     ensures at_y { IfOk result (λ r. IsLeftOf B.whole y.now (Differences (Covers z.now) (Covers x.now)) r.1) }
     ensures at_z { IfOk result (λ r. IsLeftOf B.whole z.now (Sums (Covers x.now) (Covers y.now)) r.2) }
@@ -144,14 +130,7 @@ fn narrowed_runs<B: Width>(
     y: &IntervalSet<B>,
     z: &IntervalSet<B>,
     spares: &mut Spares<B>,
-) -> Result<
-    (
-        Option<IntervalSet<B>>,
-        Option<IntervalSet<B>>,
-        Option<IntervalSet<B>>,
-    ),
-    AllocError,
->
+) -> Result<LeftOfThree<B>, AllocError>
     requires x { length x.now ≡ 1 }
     requires y { length y.now ≡ 1 }
     requires z { length z.now ≡ 1 }
@@ -186,14 +165,7 @@ fn narrowed_one_by_one<B: Width>(
     y: &IntervalSet<B>,
     z: &IntervalSet<B>,
     spares: &mut Spares<B>,
-) -> Result<
-    (
-        Option<IntervalSet<B>>,
-        Option<IntervalSet<B>>,
-        Option<IntervalSet<B>>,
-    ),
-    AllocError,
->
+) -> Result<LeftOfThree<B>, AllocError>
     ensures at_x { IfOk result (λ r. IsLeftOf B.whole x.now (Differences (Covers z.now) (Covers y.now)) r.0) }
     ensures at_y { IfOk result (λ r. IsLeftOf B.whole y.now (Differences (Covers z.now) (Covers x.now)) r.1) }
     ensures at_z { IfOk result (λ r. IsLeftOf B.whole z.now (Sums (Covers x.now) (Covers y.now)) r.2) }
@@ -222,14 +194,7 @@ fn narrowed_by_number<B: Width>(
     y: &IntervalSet<B>,
     z: &IntervalSet<B>,
     spares: &mut Spares<B>,
-) -> Result<
-    (
-        Option<IntervalSet<B>>,
-        Option<IntervalSet<B>>,
-        Option<IntervalSet<B>>,
-    ),
-    AllocError,
->
+) -> Result<LeftOfThree<B>, AllocError>
     requires single { (k : ℤ) × SameMembers (Covers y.now) (Only k) }
     ensures at_x { IfOk result (λ r. IsLeftOf B.whole x.now (Differences (Covers z.now) (Covers y.now)) r.0) }
     ensures at_y { IfOk result (λ r. IsLeftOf B.whole y.now (Differences (Covers z.now) (Covers x.now)) r.1) }

@@ -2,7 +2,7 @@ use Rattle.std.proofs.Common.{subst, sym, true}
 use Rattle.ivl_store.specs.declared.store.constraint.Constraint.{Constraint}
 use Rattle.ivl_network.specs.Settled.{AreClearedRules, AreSettledRules}
 use Rattle.ivl_laws.specs.Families.{set_at}
-use Rattle.ivl_network.proofs.Queues.{any_rule}
+use Rattle.ivl_network.proofs.Indexes.{any_rule}
 use Rattle.ivl_network.proofs.Settled.{flags_moved}
 use Rattle.ivl_network.proofs.network.queue.Queue.settle.Goals as goal
 
