@@ -26,12 +26,13 @@
 //! | test | `==`, `<`, [`contains`](IntervalSet::contains), [`includes`](IntervalSet::includes), [`overlaps`](IntervalSet::overlaps), [`overlap`](IntervalSet::overlap), [`is_disjoint`](IntervalSet::is_disjoint), [`is_subset`](IntervalSet::is_subset), [`is_proper_subset`](IntervalSet::is_proper_subset), [`is_superset`](IntervalSet::is_superset), [`is_proper_superset`](IntervalSet::is_proper_superset) |
 //! | search | [`next_from`](IntervalSet::next_from), [`previous_to`](IntervalSet::previous_to), [`run_at`](IntervalSet::run_at), [`runs_within`](IntervalSet::runs_within), [`first_fit`](IntervalSet::first_fit), [`first_fit_from`](IntervalSet::first_fit_from), [`best_fit`](IntervalSet::best_fit), [`gaps_within`](IntervalSet::gaps_within), [`rank`](IntervalSet::rank), [`nth`](IntervalSet::nth) |
 //! | combine | `\|`, `&`, `^`, `!`, `\|=`, [`union`](IntervalSet::union), [`intersection`](IntervalSet::intersection), [`difference`](IntervalSet::difference), [`symmetric_difference`](IntervalSet::symmetric_difference), [`complement`](IntervalSet::complement), [`hull`](IntervalSet::hull), [`union_of`](IntervalSet::union_of), [`intersection_of`](IntervalSet::intersection_of), [`within`](IntervalSet::within) |
-//! | edit | `extend`, [`insert`](IntervalSet::insert), [`remove`](IntervalSet::remove), [`insert_interval`](IntervalSet::insert_interval), [`remove_interval`](IntervalSet::remove_interval), [`clear`](IntervalSet::clear), [`pop_first`](IntervalSet::pop_first), [`pop_last`](IntervalSet::pop_last), [`append`](IntervalSet::append), [`retain`](IntervalSet::retain), [`take_first_fit`](IntervalSet::take_first_fit), [`split_off`](IntervalSet::split_off) |
+//! | edit | `extend`, [`insert`](IntervalSet::insert), [`remove`](IntervalSet::remove), [`insert_interval`](IntervalSet::insert_interval), [`remove_interval`](IntervalSet::remove_interval), [`clear`](IntervalSet::clear), [`pop_first`](IntervalSet::pop_first), [`pop_last`](IntervalSet::pop_last), [`append`](IntervalSet::append), [`retain`](IntervalSet::retain), [`retain_runs`](IntervalSet::retain_runs), [`take_first_fit`](IntervalSet::take_first_fit), [`split_off`](IntervalSet::split_off) |
 //! | iterate | [`range`](IntervalSet::range), [`into_runs`](IntervalSet::into_runs) |
 //! | arithmetic | `+`, `-`, `*`, [`checked_add`](IntervalSet::checked_add), [`fits_add`](IntervalSet::fits_add) and so on |
 //!
-//! A [`PagedSet`] has the same calls but for `+`, `-` and `*`, and is for more than some 1,000 runs that change: an edit moves the runs
-//! of one page, where that of an [`IntervalSet`] may move all runs above it. Calls with two sets take one of either kind.
+//! A [`PagedSet`] has the same calls but for `+`, `-` and `*`, and [`longest_run`](PagedSet::longest_run). It is for more than some 1,000 runs
+//! that change: an edit moves the runs of one page, where that of an [`IntervalSet`] may move all runs above it. Calls with two sets take
+//! one of either kind.
 //!
 //! An [`IntervalMap`] has a value at each number of its runs: who holds which ids, which rule is for which addresses.
 //!

@@ -84,8 +84,8 @@ pub mod examples {
     pub use super::ivl_network::network::{Network, Settled};
     pub use super::ivl_paged::PagedSet;
     pub use super::ivl_rules::rules::Rule;
-    pub use super::ivl_rules::rules::narrowing::{lone_loss, narrow, takes_nothing};
-    pub use super::ivl_rules::rules::windows::narrowed_to_window;
+    pub use super::ivl_rules::rules::narrowing::{lone_loss, narrow, narrowed_at_places, narrowed_at_places_in, takes_nothing};
+    pub use super::ivl_rules::rules::windows::{narrowed_to_window, narrowed_to_window_in};
     pub use super::ivl_search::search::rules::all_different;
     pub use super::ivl_search::search::{
         Best, End, Found, Limits, SearchFault, all_distinct, count, greatest, least, solutions, try_solutions,

@@ -53,8 +53,10 @@ pub struct IntervalSet<T: Width>(Option<proved::IntervalSet<T>>);
 /// above it.
 ///
 /// Choose it for sets of more than some 1,000 runs that are edited run by run. Below that size, and for all that reads or
-/// merges whole sets, an [`IntervalSet`] is faster. It has the calls of an [`IntervalSet`] but for `+`, `-` and `*`. Those that
-/// combine whole sets, and whose other operand may be of either kind, copy the runs of a paged set into a list first.
+/// merges whole sets, an [`IntervalSet`] is faster. It has the calls of an [`IntervalSet`] but for `+`, `-` and `*`. The
+/// other operand may be of either kind. Where an [`IntervalSet`] is combined with a paged one, where whole sets are counted, and
+/// in [`union_of`](Self::union_of) and [`intersection_of`](Self::intersection_of), the runs of a paged set are first copied into
+/// a list.
 ///
 /// The numbers of a set, the conditions of its methods and what happens when memory runs out are those of [`IntervalSet`].
 ///

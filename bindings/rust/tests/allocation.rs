@@ -128,7 +128,7 @@ type Paged = PagedSet<i32>;
 type PagedEdit = fn(&mut Paged) -> Result<(), AllocError>;
 
 // Of pages: a run more, which splits a page of 127; runs split; pages joined and removed.
-const PAGED_EDITS: [(&str, PagedEdit); 26] = [
+const PAGED_EDITS: [(&str, PagedEdit); 27] = [
     ("insert", |a| a.insert(4).map(drop)),
     ("insert above all", |a| a.insert(100_000).map(drop)),
     ("insert_interval", |a| a.insert_interval(Interval::new(4, 6))),
@@ -156,6 +156,7 @@ const PAGED_EDITS: [(&str, PagedEdit); 26] = [
     ("intersect_with few", |a| a.intersect_with(&few(&[(1, 1), (10, 10), (28, 900), (1405, 1405)])?)),
     ("gaps_within", |a| a.gaps_within(&Interval::new(5, 900)).map(drop)),
     ("split_off", |a| a.split_off(900).map(drop)),
+    ("retain", |a| a.retain(|lower, _| lower % 4 != 0)),
     ("into_set and from_set", |a| a.try_clone()?.into_set().and_then(Paged::from_set).map(|same| *a = same)),
 ];
 

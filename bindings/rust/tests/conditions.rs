@@ -148,6 +148,7 @@ fn debug_builds_test_the_conditions_of_the_proved_face() {
         empty().lower() => "the condition of `lower` is broken: !self.is_empty()";
         empty().upper() => "the condition of `upper` is broken: !self.is_empty()";
         set().insert(255) => "the condition of `insert` is broken: Interval::in_range(value, value)";
+        proved::IntervalSet::from_runs(vec![run(), run()].into()) => "the condition of `from_runs` is broken: Self::are_runs(&runs)";
         set().union(&255) => "the condition of `insert` is broken: Interval::in_range(value, value)";
         set().symmetric_difference(&255) => "the condition of `insert` is broken: Interval::in_range(value, value)";
         set().first_fit(0) => "the condition of `first_fit` is broken: count.number() > 0";
@@ -230,9 +231,11 @@ fn debug_builds_test_the_conditions_of_pages_maps_and_searches() {
     use intervallum::proved::ivl_network::network::Network;
     use intervallum::proved::ivl_paged::PagedSet;
     use intervallum::proved::ivl_rules::rules::Rule;
-    use intervallum::proved::ivl_rules::rules::narrowing::{lone_loss, narrow, takes_nothing};
+    use intervallum::proved::ivl_rules::rules::narrowing::{
+        lone_loss, narrow, narrowed_at_places, narrowed_at_places_in, takes_nothing,
+    };
     use intervallum::proved::ivl_search::search::{Limits, count, greatest, least, rules, solutions};
-    use intervallum::proved::ivl_store::store::Constraint;
+    use intervallum::proved::ivl_store::store::{Constraint, Spares};
 
     let paged = || PagedSet::of_set(&proved::IntervalSet::new(Global, 10u8, 20).unwrap()).unwrap();
     let none = || PagedSet::<u8>::new(Global);
@@ -253,6 +256,8 @@ fn debug_builds_test_the_conditions_of_pages_maps_and_searches() {
         narrow(&mut domains(), &Rule::Differs { x: 0, y: 1, by: 0 }) => "the condition of `narrow` is broken: rule.is_over_different() && rule.first_unknown(domains.len()).is_none()";
         takes_nothing(&domains(), &Rule::Differs { x: 0, y: 1, by: 0 }) => "the condition of `takes_nothing` is broken: rule.is_over_different() && rule.first_unknown(domains.len()).is_none()";
         lone_loss(&domains(), &Rule::Differs { x: 0, y: 1, by: 0 }) => "the condition of `lone_loss` is broken: rule.is_over_different() && rule.first_unknown(domains.len()).is_none()";
+        narrowed_at_places(&domains(), &Rule::Differs { x: 0, y: 1, by: 0 }) => "the condition of `narrowed_at_places` is broken: rule.is_over_different() && rule.first_unknown(domains.len()).is_none()";
+        narrowed_at_places_in(&domains(), &Rule::Differs { x: 0, y: 1, by: 0 }, &mut Spares::new(Global)) => "the condition of `narrowed_at_places_in` is broken: rule.is_over_different() && rule.first_unknown(domains.len()).is_none()";
         solutions(Global, &domains(), &twice, limits()) => "the condition of `solutions` is broken: all_distinct(constraints)";
         count(Global, &domains(), &twice, limits()) => "the condition of `count` is broken: all_distinct(constraints)";
         least(Global, &domains(), &twice, 0, limits()) => "the condition of `least` is broken: all_distinct(constraints)";

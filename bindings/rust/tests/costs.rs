@@ -176,6 +176,12 @@ fn intervals_in_no_order_take_their_memory_twice_and_counts() {
         let runs: Vec<Interval<i64>> = set.iter().copied().collect();
         let (same, told) = cost(|| coalesce(Global, runs.into()).unwrap());
         assert!(same == set && told.allocations == 0, "{count}: {told:?}");
+        // and keep their room where they are known to be runs
+        let mut runs: Vec<Interval<i64>> = Vec::with_capacity(4 * count as usize);
+        runs.extend(set.iter());
+        let (same, told) = cost(|| IntervalSet::from_runs(runs.into()));
+        assert!(same == set && same.size() == set.size(), "{count}");
+        assert_eq!((told.allocations, told.held), (0, 0), "{count}");
     }
 }
 

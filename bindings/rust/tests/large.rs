@@ -4,7 +4,8 @@ use intervallum::proved::Global;
 use intervallum::proved::ivl_network::network::{Network, Settled};
 use intervallum::proved::ivl_paged::PagedSet;
 use intervallum::proved::ivl_rules::rules::Rule;
-use intervallum::proved::ivl_store::store::Constraint;
+use intervallum::proved::ivl_rules::rules::windows::{narrowed_to_window, narrowed_to_window_in};
+use intervallum::proved::ivl_store::store::{Constraint, Spares};
 use intervallum::proved::prelude::*;
 
 type Set = IntervalSet<i64>;
@@ -33,6 +34,11 @@ fn sets_of_many_runs() {
     assert_eq!(Set::union_of(Global, &[&a; 40]).unwrap().interval_count(), COUNT as usize);
     assert_eq!(Set::intersection_of(Global, &[&a; 40]).unwrap().interval_count(), COUNT as usize);
     assert!(Set::collect(Global, a.iter().copied()).unwrap() == a);
+    for runs in [COUNT, 65, 64, 1] {
+        let window = Interval::new(1, 3 * runs);
+        let left = narrowed_to_window_in(&a, window, &mut Spares::new(Global)).unwrap();
+        assert!(left.is_some() && left == narrowed_to_window(&a, window).unwrap());
+    }
 
     let members: Vec<i64> = (0..COUNT).map(|i| 3 * (i * 7_919 % COUNT)).collect();
     assert!(Set::of_members(Global, &members).unwrap() == a);

@@ -128,6 +128,19 @@ fn ask_of_parts(value: i16, set: &Forms) {
     assert!(given == above.paged && given.into_set().unwrap() == above.paged.into_set().unwrap());
 }
 
+/// Compares what `retain` keeps, and the runs that it asks for.
+fn ask_of_kept(set: &Forms) {
+    let (mut kept, mut asked) = (set.paged.try_clone().unwrap(), Vec::new());
+    kept.retain(|lower, upper| {
+        asked.push(Interval::new(lower, upper));
+        lower % 3 != 0
+    })
+    .unwrap();
+    assert!(asked.iter().eq(set.list.iter()));
+    assert!(kept.iter().eq(asked.into_iter().filter(|run| run.lower() % 3 != 0)));
+    assert_eq!(kept.interval_count(), kept.iter().count());
+}
+
 /// Compares the shortest room for some numbers of members, and the longest run.
 fn ask_of_room(set: &Forms) {
     for count in (1..12u16).chain([40, 400, 8001]) {
@@ -169,6 +182,7 @@ fn random_queries_agree_with_a_tree() {
             ask_of_both(&set, &part);
             ask_of_both(&part, &set);
             ask_of_room(&set);
+            ask_of_kept(&set);
             for value in [random.value(), i16::MIN, i16::MIN + 1, i16::MAX] {
                 ask_of_parts(value, &set);
             }

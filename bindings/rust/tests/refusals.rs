@@ -3,10 +3,12 @@
 use intervallum::proved::Global;
 use intervallum::proved::ivl_network::network::{Network, Settled};
 use intervallum::proved::ivl_rules::rules::Rule;
-use intervallum::proved::ivl_rules::rules::narrowing::narrow;
-use intervallum::proved::ivl_rules::rules::windows::narrowed_to_window;
+use intervallum::proved::ivl_rules::rules::narrowing::{narrow, narrowed_at_places, narrowed_at_places_in};
+use intervallum::proved::ivl_rules::rules::windows::{narrowed_to_window, narrowed_to_window_in};
 use intervallum::proved::ivl_search::search::{Best, End, Limits, SearchFault, count, greatest, least, solutions};
-use intervallum::proved::ivl_store::store::narrowed_sets::{narrowed_by, narrowed_to};
+use intervallum::proved::ivl_store::store::narrowed_sets::{
+    LeftOfThree, narrowed_by, narrowed_by_sum, narrowed_by_sum_in, narrowed_to,
+};
 use intervallum::proved::ivl_store::store::{Constraint, Spares, Store, StoreFault};
 use intervallum::proved::ivl_within::within::{
     Combined, differences_in_window, results_in_set, results_unless_all, sums_in_window,
@@ -84,7 +86,7 @@ fn searches() {
         |domains| count(Global, domains, &SUMS, AMPLE),
         |_, made, _| is_answer(made, |found| found == (number, End::All)),
     );
-    assert!(refused > 100 && told > 100);
+    assert!(refused > 40 && told > 40, "{refused}, {told}");
     let at_end = |best: Best<i64>, value| best.end == End::All && best.point.is_some_and(|point| point[4] == value);
     let (refused, told) = each_refused(
         domains,
@@ -302,6 +304,24 @@ fn a_domain_that_loses_an_interval() {
     assert!(!store.has_empty());
 }
 
+type NarrowsAt = fn(&[Set; 3], &Rule) -> Result<LeftOfThree<i64>, AllocError>;
+
+fn none() -> Spares<i64> {
+    Spares::new(Global)
+}
+
+/// Copies of the domains, with what is left of them in place of those that lost members.
+fn put(domains: &[Set; 3], rule: &Rule, left: LeftOfThree<i64>) -> [Set; 3] {
+    let mut copies = domains.each_ref().map(|domain| domain.try_clone().unwrap());
+    let c = rule.places();
+    for (i, left) in [(c.x, left.0), (c.y, left.1), (c.z, left.2)] {
+        if let Some(set) = left {
+            copies[i] = set;
+        }
+    }
+    copies
+}
+
 #[test]
 fn narrowing_by_rules() {
     let given = || -> [Set; 3] {
@@ -329,6 +349,24 @@ fn narrowing_by_rules() {
             },
         );
         assert!(refused > 0 && told == refused, "{rule:?}: {refused}, {told}");
+        let mut calls: Vec<NarrowsAt> = vec![|sets, rule| narrowed_at_places(sets, rule), |sets, rule| {
+            narrowed_at_places_in(sets, rule, &mut none())
+        }];
+        if rule.places().y != rule.places().z {
+            calls.push(|[x, y, z], _| narrowed_by_sum(x, y, z));
+            calls.push(|[x, y, z], _| narrowed_by_sum_in(x, y, z, &mut none()));
+        }
+        for call in calls {
+            let (refused, told) = each_refused(
+                given,
+                |domains| call(domains, &rule),
+                |domains, made, _| {
+                    assert!(*domains == given());
+                    made.is_ok_and(|left| put(domains, &rule, left) == wanted)
+                },
+            );
+            assert!(refused > 0 && told == refused, "{rule:?}: {refused}, {told}");
+        }
     }
     // one run, of which many are left
     let wide = || -> [Set; 3] { [Set::new(Global, -200, 0).unwrap(), given()[1].try_clone().unwrap(), thirds(20, 9)] };
@@ -342,8 +380,11 @@ fn narrowing_by_rules() {
     );
     assert!(refused > 1 && told > 1);
     type Narrows = fn(&mut [Set; 3]) -> Result<Option<Set>, AllocError>;
-    let narrowings: [Narrows; 2] =
-        [|[x, a, _]| narrowed_to(x, a), |[x, _, _]| narrowed_to_window(x, Interval::new(9, 50))];
+    let narrowings: [Narrows; 3] = [
+        |[x, a, _]| narrowed_to(x, a),
+        |[x, _, _]| narrowed_to_window(x, Interval::new(9, 50)),
+        |[x, _, _]| narrowed_to_window_in(x, Interval::new(9, 50), &mut none()),
+    ];
     for narrowed in narrowings {
         let (refused, told) = each_refused(given, narrowed, |domains, made, _| {
             assert!(*domains == given());

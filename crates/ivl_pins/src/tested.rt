@@ -2,7 +2,7 @@
 //! their own, and none of them needs a hand-written proof.
 ghost use Rattle.std.specs.Prelude.{◌≡◌, ◌↔◌, ◌⊎◌, ◌+◌, ◌<◌, ◌+ℤ◌, ◌-ℤ◌, ◌*ℤ◌, ◌≤ℤ◌, ◌∷◌, [], ℤ, ⊤, All, None, MatchOption, IfOk, IsTrue, length, map, slice_get};
 ghost use Rattle.ivl_laws.specs.Sets.{Differences, ExactProducts, IsBetween, IsHullOf, IsInRange, IsSubset, Only, SameMembers, Sums, SymmetricDifference, Union};
-ghost use Rattle.ivl_laws.specs.Runs.{Covers, IsRunsOf};
+ghost use Rattle.ivl_laws.specs.Runs.{Covers, IsMaximal, IsRunsOf};
 ghost use Rattle.intervallum.specs.Sweeps.{AreImages};
 ghost use Rattle.intervallum.specs.declared.sweep.Op.TheVariants.{Sum};
 
@@ -66,6 +66,17 @@ pub fn run_if_in_order<B: Width>(
         Ok(Some(IntervalSet::new(alloc, lb, ub)?))
     } else {
         Ok(None)
+    }
+}
+
+/// Returns the set of the runs of a list, if `are_runs` returns true.
+pub fn set_if_runs<B: Width>(list: Vec<Interval<B>>) -> Option<IntervalSet<B>>
+    ensures { MatchOption result (¬ (IsMaximal list.items)) (λ L. L ≡ list.items) }
+{
+    if IntervalSet::are_runs(&list) {
+        Some(IntervalSet::from_runs(list))
+    } else {
+        None
     }
 }
 

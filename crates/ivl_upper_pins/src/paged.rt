@@ -1,5 +1,6 @@
 //! What the calls of a paged set mean, as a caller learns it; [`run_set`](crate::run_set) has those that both kinds of set have. None of these needs a hand-written proof.
 ghost use Rattle.std.specs.Prelude.{◌≡◌, ◌↔◌, ◌⊎◌, ◌≤◌, ◌≤ℤ◌, ℕ, ℤ, pos, ◌+ℤ◌, ◌-ℤ◌, [], ◌∷◌, IfOk, IfSome, IsTrue, MatchOption, OnErr, OnOk, length};
+ghost use Rattle.std.specs.List.Retain.{IsFiltered};
 ghost use Rattle.ivl_laws.specs.Bounds.{width_of};
 ghost use Rattle.ivl_laws.specs.Counts.{IsCountOf, IsIn};
 ghost use Rattle.ivl_laws.specs.Sets.{AtLeast, Below, HasNone, HasSome, Intersection, IsBetween, IsSubset, SameMembers, Union, Without};
@@ -272,4 +273,16 @@ pub fn given_there_and_back<B: Width>(set: IntervalSet<B>) -> Result<IntervalSet
     ensures { IfOk result (λ L. L ≡ set) }
 {
     PagedSet::from_set(set)?.into_set()
+}
+
+/// Keeps the runs for whose bounds a test says true.
+pub fn kept_by_a_test<B: Width, F: FnMut(B, B) -> bool>(
+    set: &mut PagedSet<B>,
+    test: F,
+) -> Result<(), AllocError>
+    requires { F.IsAlwaysCallable test }
+    ensures kept { OnOk result (IsFiltered (λ f run b g. F.step f (B.at run.0) (B.at run.1) b g) test set.old set.new) }
+    ensures err { OnErr result (set.new ≡ set.old) }
+{
+    set.retain(test)
 }

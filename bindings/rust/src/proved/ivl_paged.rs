@@ -34,6 +34,7 @@ mod page_search;
 pub mod paged_set;
 mod pages;
 mod parts;
+mod sizes;
 mod touched;
 
 pub use paged_set::PagedSet;

@@ -3,9 +3,10 @@ use super::conditions::memory;
 use super::{IntervalSet, PagedSet};
 use crate::proved::ivl_paged::PagedSet as ProvedPagedSet;
 use crate::proved::ops::{
-    Cardinality, Complement, Difference, Intersection, IsEmpty, Overlap, Subset, SymmetricDifference, Union,
+    Bounded, Cardinality, Complement, Difference, Intersection, IsEmpty, Overlap, Subset, SymmetricDifference, Union,
 };
 use crate::proved::{AllocError, Global, Interval, IntervalSet as ProvedIntervalSet, width::Width};
+use alloc::vec::Vec;
 use core::ops::Deref;
 
 /// A proved set that is lent. It dereferences to the set.
@@ -80,6 +81,9 @@ pub(super) trait Proved<T: Width>: Sized {
 
     /// Removes an interval. Returns true exactly when the set has changed.
     fn cut(&mut self, interval: Interval<T>) -> Result<bool, AllocError>;
+
+    /// Keeps the runs for whose bounds a function returns true.
+    fn keep_runs(&mut self, keep: impl FnMut(T, T) -> bool) -> Result<(), AllocError>;
 }
 
 impl<T: Width> Proved<T> for ProvedIntervalSet<T> {
@@ -114,6 +118,12 @@ impl<T: Width> Proved<T> for ProvedIntervalSet<T> {
         let size = self.size();
         self.remove_interval(interval)?;
         Ok(self.size() != size)
+    }
+
+    fn keep_runs(&mut self, mut keep: impl FnMut(T, T) -> bool) -> Result<(), AllocError> {
+        let kept: Vec<_> = self.runs().iter().copied().filter(|run| keep(run.lower(), run.upper())).collect();
+        *self = ProvedIntervalSet::from_runs(kept.into());
+        Ok(())
     }
 }
 
@@ -173,6 +183,10 @@ impl<T: Width> Proved<T> for ProvedPagedSet<T> {
             self.remove_interval(interval)?;
         }
         Ok(had_some)
+    }
+
+    fn keep_runs(&mut self, keep: impl FnMut(T, T) -> bool) -> Result<(), AllocError> {
+        self.retain(keep)
     }
 }
 

@@ -58,9 +58,9 @@ macro_rules! cost {
     (IntervalSet pop) => { "`O(1)`, or `O(n)` for `pop_first` of a member that is a run by itself." };
     (PagedSet pop) => { "`O(log n)`. Moves the runs of one page at most." };
     (IntervalSet size) => { "`O(1)`." };
-    (PagedSet size) => { "Adds up the members of the pages." };
+    (PagedSet size) => { "Adds up the members of each 64 pages." };
     (IntervalSet rank) => { "`O(n)`." };
-    (PagedSet rank) => { "Adds up the members of the pages before it." };
+    (PagedSet rank) => { "Adds up the members of each 64 pages before it, and reads some pages." };
     (IntervalSet fit) => { "`O(n)`." };
     (PagedSet fit) => { "Reads the runs of one page, and one number of each page before it." };
     (IntervalSet next_run) => { "`O(log n)`; each step is `O(1)`." };
@@ -93,6 +93,8 @@ macro_rules! contract {
         concat!("\n\nTested and not proved: made of what [`proved::", stringify!($Set), "::", $call, "`](",
             contract!(path $Set), $call, ") gives.")
     };
+    (kept IntervalSet) => { contract!(over IntervalSet "from_runs") };
+    (kept PagedSet) => { contract!(PagedSet "retain") };
     (path IntervalSet) => { "crate::proved::IntervalSet::" };
     (path PagedSet) => { "crate::proved::ivl_paged::PagedSet::" };
     (path IntervalMap) => { "crate::proved::ivl_map::IntervalMap::" };

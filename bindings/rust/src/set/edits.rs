@@ -154,6 +154,20 @@ macro_rules! edits {
                 *self = Self::of_intervals(kept);
             }
 
+            /// Keeps the runs for which a function returns true. It is asked of each run, in ascending order. If it panics, the
+            /// set is unchanged. `O(n)`.
+            ///
+            /// ```
+            #[doc = concat!("# use intervallum::", stringify!($Set), ";")]
+            #[doc = concat!("let mut a = ", stringify!($Set), "::from([1..=2, 5..=5, 8..=9]);")]
+            /// a.retain_runs(|run| run.start() < run.end());
+            /// assert_eq!(a.to_string(), "{[1..2][8..9]}");
+            /// ```
+            #[doc = contract!(kept $Set)]
+            pub fn retain_runs(&mut self, mut keep: impl FnMut(RangeInclusive<T>) -> bool) {
+                memory(self.edited().keep_runs(|lower, upper| keep(lower..=upper)));
+            }
+
             /// Moves all members of another set into this one, as that of a `BTreeSet`. As `|=`.
             ///
             /// ```

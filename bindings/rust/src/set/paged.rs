@@ -1,10 +1,13 @@
-//! Calls that the proved paged set lacks, made of those that it has.
-use super::iterators::PagedRunsWithin;
+//! Calls that the proved paged set lacks, made of those that it has, and those that it alone has.
+use super::conditions::contract;
+use super::reads::as_range;
+use super::{PagedSet, iterators::PagedRunsWithin};
 use crate::proved::ivl_paged::PagedSet as ProvedPagedSet;
 use crate::proved::ops::{Intersection, Range};
 use crate::proved::width::Width;
 use crate::proved::{AllocError, Global, Interval, IntervalSet as ProvedIntervalSet, sweep::coalesce};
 use alloc::vec::Vec;
+use core::ops::RangeInclusive;
 
 /// Calls that a proved set has if its runs stand in one list.
 pub(super) trait Lacking<T: Width>: Sized {
@@ -52,5 +55,21 @@ impl<T: Width> Intersection<Interval<T>> for ProvedPagedSet<T> {
 
     fn intersection(&self, interval: &Interval<T>) -> Result<Self, AllocError> {
         made_of(runs_within(self, interval).map(|run| Intersection::intersection(&run, interval)).collect())
+    }
+}
+
+/// Calls of sets in pages alone.
+impl<T: Width> PagedSet<T> {
+    /// Returns the longest run, and the lowest of these if there are several; `None` if the set is empty. Reads one number of each
+    /// page, and the runs of one.
+    ///
+    /// ```
+    /// # use intervallum::PagedSet;
+    /// assert_eq!(PagedSet::from([1..=2, 5..=9, 12..=16]).longest_run(), Some(5..=9));
+    /// ```
+    #[doc = contract!(PagedSet "longest_run")]
+    #[must_use]
+    pub fn longest_run(&self) -> Option<RangeInclusive<T>> {
+        self.0.as_ref()?.longest_run().as_ref().map(as_range)
     }
 }

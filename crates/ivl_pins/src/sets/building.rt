@@ -1,7 +1,7 @@
 //! Sets from lists and pairs, sets into runs, and the results over each pair of runs.
 ghost use Rattle.std.specs.Prelude.{◌≡◌, ◌*◌, All, IfOk, OnErr, OnOk, length, map};
 ghost use Rattle.ivl_laws.specs.Sets.{Differences, ExactProducts, Intersection, IsBetween, IsInRange, IsSubset, Products, SameMembers, Sums, Union};
-ghost use Rattle.ivl_laws.specs.Runs.{Covers, IsRunsOf};
+ghost use Rattle.ivl_laws.specs.Runs.{Covers, IsMaximal, IsRunsOf};
 
 use intervallum::interval::Interval;
 use intervallum::interval_set::{IntervalSet, IntoRuns, ToIntervalSet};
@@ -26,6 +26,14 @@ pub fn set_of_intervals<B: Width>(
     ensures { IfOk result (λ L. IsRunsOf L (Covers list.items)) }
 {
     coalesce(alloc, list)
+}
+
+/// Returns the set of the runs of a list.
+pub fn set_of_runs<B: Width>(runs: Vec<Interval<B>>) -> IntervalSet<B>
+    requires { IsMaximal runs.items }
+    ensures { result ≡ runs.items }
+{
+    IntervalSet::from_runs(runs)
 }
 
 /// Adds the members of every interval to the set, which is unchanged after an error.

@@ -16,6 +16,7 @@ mod disjoint;
 mod edits;
 mod first_fit;
 mod fits;
+mod from_runs;
 mod inclusion;
 mod interval_operands;
 mod iter;

@@ -347,7 +347,8 @@ impl<B: Width> Network<B> {
 
     /// Cuts a domain to its members in this interval, which may be empty, as [`Network::restrict`] does to those in
     /// a set. Costs a look at the ends of the domain and, where it loses a member, a binary search, a copy of what is
-    /// left and a pass over the rules that name the variable.
+    /// left, in the memory of a set that is kept for it if it has at most 64 runs, and a pass over the rules that name
+    /// the variable.
     ///
     /// # Errors
     ///
@@ -645,8 +646,8 @@ impl<B: Width> Network<B> {
     /// Marks the network as it is, and returns the index of the mark. From the first mark on the
     /// network keeps domains that are replaced, until the marks are undone or dropped: what a cut or a
     /// narrowing replaces, if it replaces a domain for the first time since the last mark. `O(1)`
-    /// amortized; no domain is copied. The first mark makes room for the sets that are kept for their
-    /// memory.
+    /// amortized; no domain is copied. A mark makes room to keep a domain of each variable, which takes
+    /// memory linear in the variables, and the first one also for the sets that are kept for their memory.
     ///
     /// # Errors
     ///
@@ -679,6 +680,7 @@ impl<B: Width> Network<B> {
     pub fn mark(&mut self) -> Result<usize, AllocError> {
         let mark = self.marks.len();
         self.spares.make_room()?;
+        reserve_changes(&mut self.trail, true, self.store.domains().len())?;
         self.settled_at_marks.reserve(1)?;
         self.marks.push(self.trail.len())?;
         self.settled_at_marks.push_reserved(self.queue.is_empty());

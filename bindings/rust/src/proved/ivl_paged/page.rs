@@ -7,7 +7,7 @@ use crate::proved::ivl_paged::page_search::{find_run, run_before};
 use crate::proved::intervallum::interval::Interval;
 use crate::proved::intervallum::interval_set::IntervalSet;
 use crate::proved::intervallum::ops::{Bounded, Cardinality, Empty, Singleton};
-use crate::proved::intervallum::width::Width;
+use crate::proved::intervallum::width::{SizeNumber, Width};
 use crate::rattle::std::alloc::AllocError;
 use crate::rattle::std::hint::select_unpredictable;
 
@@ -40,6 +40,12 @@ impl<B: Width> Page<B> {
     /// The number of runs.
     pub(crate) fn interval_count(&self) -> usize {
         self.set.interval_count()
+    }
+
+    /// How many members there are.
+    pub(crate) fn member_count(&self) -> u128 {
+        self.set.in_whole();
+        self.set.size().number()
     }
 
     /// The runs, as a set, which has a member.

@@ -1,11 +1,12 @@
 // Written by bindings/rust/extract from crates/ivl_paged/src/page_list.rt.
-//! The pages of a set, in order, beside a list of their least members, what no run of them exceeds, and the number of
-//! their runs.
+//! The pages of a set, in order, beside a list of their least members, what no run of them exceeds, and the numbers of
+//! their members and runs.
 
 #[allow(unused_imports)]
 use crate::rattle::prelude::*;
 use crate::proved::ivl_paged::longests::Longests;
 use crate::proved::ivl_paged::page::Page;
+use crate::proved::ivl_paged::sizes;
 use crate::proved::intervallum::interval::Interval;
 use crate::proved::intervallum::width::Width;
 use crate::rattle::std::alloc::{AllocError, Global};
@@ -23,6 +24,8 @@ pub(crate) struct PageList<B: Width> {
     gone: usize,
     /// What no run of each page exceeds.
     longests: Longests<B>,
+    /// How many members each group of pages has, where those that are gone count too.
+    sizes: Vec<u128>,
     /// How many runs the pages have together.
     count: usize,
 }
@@ -35,6 +38,7 @@ impl<B: Width> PageList<B> {
             pages: Vec::new(alloc),
             gone: 0,
             longests: Longests::new(alloc),
+            sizes: Vec::new(alloc),
             count: 0,
         }
     }
@@ -46,6 +50,7 @@ impl<B: Width> PageList<B> {
             pages: Vec::with_capacity(alloc, capacity)?,
             gone: 0,
             longests: Longests::new(alloc),
+            sizes: Vec::new(alloc),
             count: 0,
         })
     }
@@ -82,16 +87,39 @@ impl<B: Width> PageList<B> {
             mut pages,
             gone: _,
             longests,
+            sizes,
             count: _,
         } = self;
         drop(heads);
         drop(longests);
+        drop(sizes);
         pages.pop().unwrap()
     }
 
     /// The least member of page `i`.
     pub(crate) fn head(&self, i: usize) -> B {
         self.heads[self.gone + i]
+    }
+
+    /// How many members the first `i` pages have together, less a multiple of 2 ^ 128. Reads a number for each group
+    /// of some 64 pages, and the pages of one group.
+    pub(crate) fn size_before(&self, i: usize) -> u128 {
+        let sizes = self.sizes.as_slice();
+        let pages = self.pages.as_slice();
+        let all = sizes::total_to(sizes, pages, self.gone + i);
+        all.wrapping_sub(sizes::total_to(sizes, pages, self.gone))
+    }
+
+    /// A page before which there are no more than `count` members, and how many of these are left. Passes groups of
+    /// some 64 pages while it can.
+    pub(crate) fn pass_groups(&self, count: u128) -> (usize, u128) {
+        let (place, left) = sizes::pass_groups(
+            self.sizes.as_slice(),
+            self.pages.as_slice(),
+            self.gone,
+            count,
+        );
+        (place - self.gone, left)
     }
 
     /// The first page from page `from` on that has a run of `count` numbers.
@@ -143,7 +171,9 @@ impl<B: Width> PageList<B> {
         };
         self.heads.reserve(1)?;
         self.pages.reserve(1)?;
+        sizes::make_room(&mut self.sizes, self.pages.len())?;
         self.longests.push(page.longest())?;
+        sizes::change(&mut self.sizes, self.pages.len(), 0, page.member_count());
         self.pages.push_reserved(page);
         self.heads.push_reserved(head);
         self.count = count;
@@ -154,6 +184,7 @@ impl<B: Width> PageList<B> {
     pub(crate) fn split(&mut self, i: usize, low: Page<B>, high: Page<B>) -> Result<(), AllocError> {
         let head = high.head();
         self.heads.reserve(1)?;
+        sizes::make_room(&mut self.sizes, self.pages.len())?;
         let place = self.gone + i;
         let next = self.gone + (i + 1);
         self.pages.insert(next, high)?;
@@ -163,6 +194,7 @@ impl<B: Width> PageList<B> {
         let is_divided = self.longests.widen(i);
         self.longests
             .settle(i, is_divided, rest(&self.pages, self.gone));
+        sizes::read_from(&mut self.sizes, self.pages.as_slice(), place);
         Ok(())
     }
 
@@ -174,6 +206,8 @@ impl<B: Width> PageList<B> {
         self.count = others + page.interval_count();
         let before = self.pages[place].longest();
         let after = page.longest();
+        let members = self.pages[place].member_count();
+        sizes::change(&mut self.sizes, place, members, page.member_count());
         self.heads[place] = page.head();
         self.pages[place] = page;
         self.longests.raise(start, before, after);
@@ -191,6 +225,7 @@ impl<B: Width> PageList<B> {
         self.pages.remove(place);
         self.longests.take_out(i, i + 1);
         self.longests.read_beside(i, rest(&self.pages, self.gone));
+        sizes::read_from(&mut self.sizes, self.pages.as_slice(), place);
     }
 
     /// Takes out the first page.
@@ -210,10 +245,14 @@ impl<B: Width> PageList<B> {
         drop(self.heads.drain(..self.gone));
         drop(self.pages.drain(..self.gone));
         self.gone = 0;
+        sizes::read_from(&mut self.sizes, self.pages.as_slice(), 0);
     }
 
     /// Takes out the pages from `start` to before `end`.
     pub(crate) fn take_out(&mut self, start: usize, end: usize) {
+        if start == end {
+            return;
+        }
         self.count = runs_beside(&rest(&self.pages, self.gone)[start..end], self.count);
         let low = self.gone + start;
         let high = self.gone + end;
@@ -222,6 +261,7 @@ impl<B: Width> PageList<B> {
         self.longests.take_out(start, end);
         self.longests
             .read_beside(start, rest(&self.pages, self.gone));
+        sizes::read_from(&mut self.sizes, self.pages.as_slice(), low);
     }
 
     /// Takes out all pages.
@@ -230,6 +270,7 @@ impl<B: Width> PageList<B> {
         self.pages.clear();
         self.gone = 0;
         self.longests.clear();
+        self.sizes.clear();
         self.count = 0;
     }
 
@@ -244,8 +285,10 @@ impl<B: Width> PageList<B> {
         let page = &mut self.pages[place];
         let others = self.count - page.interval_count();
         let before = page.longest();
+        let members = page.member_count();
         let was_member = page.insert_interval(interval)?;
         let after = page.longest();
+        sizes::change(&mut self.sizes, place, members, page.member_count());
         self.heads[place] = page.head();
         self.count = others + page.interval_count();
         self.longests.raise(i, before, after);
@@ -267,8 +310,10 @@ impl<B: Width> PageList<B> {
         let page = &mut self.pages[place];
         let others = self.count - page.interval_count();
         let before = page.longest();
+        let members = page.member_count();
         let was_member = page.remove_interval(interval)?;
         let after = page.longest();
+        sizes::change(&mut self.sizes, place, members, page.member_count());
         self.heads[place] = page.head();
         self.count = others + page.interval_count();
         self.longests
@@ -282,8 +327,10 @@ impl<B: Width> PageList<B> {
         let page = &mut self.pages[place];
         let others = self.count - page.interval_count();
         let before = page.longest();
+        let members = page.member_count();
         let least = page.pop_first();
         let after = page.longest();
+        sizes::change(&mut self.sizes, place, members, page.member_count());
         self.heads[place] = page.head();
         self.count = others + page.interval_count();
         self.longests

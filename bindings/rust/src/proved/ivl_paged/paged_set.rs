@@ -20,6 +20,7 @@ mod members;
 mod neighbours;
 mod overlaps;
 mod rank;
+mod retain;
 mod run_edits;
 mod set_operands;
 mod split_off;
@@ -32,7 +33,6 @@ use crate::proved::ivl_paged::pages;
 use crate::proved::intervallum::interval::Interval;
 use crate::proved::intervallum::interval_set::IntervalSet;
 use crate::proved::intervallum::ops::{Collection, IsEmpty, Singleton};
-use crate::proved::intervallum::sweep::coalesce;
 use crate::proved::intervallum::width::Width;
 pub use iter::Runs;
 pub use members::Members;
@@ -527,6 +527,6 @@ impl<B: Width> PagedSet<B> {
         for page in self.pages.as_slice() {
             runs.extend_from_slice(page.set().iter().as_slice())?;
         }
-        coalesce(self.alloc, runs)
+        Ok(IntervalSet::from_runs(runs))
     }
 }

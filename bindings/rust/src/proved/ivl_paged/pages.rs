@@ -11,7 +11,6 @@ use crate::proved::intervallum::interval_set::IntervalSet;
 use crate::proved::intervallum::ops::{
     Bounded, Cardinality, Contains, IsEmpty, ShrinkLeft, Singleton, StrictShrinkRight, Union,
 };
-use crate::proved::intervallum::sweep::coalesce;
 use crate::proved::intervallum::width::{SizeNumber, Width};
 use crate::rattle::std::alloc::{AllocError, Global};
 
@@ -63,16 +62,18 @@ pub(crate) fn pages_from<B: Width>(
     Ok(pages)
 }
 
-/// A page of some runs, of which there is one at least, with room for as many as a page has.
+/// A page of some runs, of which there is one at least, with room for as many as a page has, unless
+/// they are few.
 fn page_of<B: Width>(alloc: Global, runs: &[Interval<B>]) -> Result<Page<B>, AllocError> {
-    let mut list = Vec::with_capacity(alloc, MOST_RUNS)?;
+    let is_small = runs.len() < MOST_RUNS / 2;
+    let room = if is_small { runs.len() } else { MOST_RUNS };
+    let mut list = Vec::with_capacity(alloc, room)?;
     list.extend_from_slice(runs)?;
-    let set = coalesce(alloc, list)?;
-    Ok(Page::of(set))
+    Ok(Page::of(IntervalSet::from_runs(list)))
 }
 
-/// A copy of a page, with room for as many runs as a page has, so that the first edit of the copy does
-/// not move it.
+/// A copy of a page, with room for as many runs as a page has, unless it has few, so that the first
+/// edit of the copy does not move it.
 pub(crate) fn copy_of<B: Width>(alloc: Global, page: &Page<B>) -> Result<Page<B>, AllocError> {
     page_of(alloc, page.set().runs())
 }
@@ -102,15 +103,6 @@ pub(crate) fn copy_above<B: Width>(
     let high = pages.page(count - 1).set().shrink_left(v)?;
     let copies = pages_from(alloc, high)?;
     copies_behind(alloc, copies, &pages.as_slice()[count..])
-}
-
-/// How many members pages have together.
-pub(crate) fn size_of<B: Width>(pages: &[Page<B>]) -> B::Output {
-    let mut count = <B::Output as SizeNumber>::zero();
-    for page in pages {
-        count = count.add_in_range(page.set().size());
-    }
-    count
 }
 
 /// The least member that is at least `v` in the first `count` pages, which are those that start at

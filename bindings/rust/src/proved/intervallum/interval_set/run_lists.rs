@@ -69,6 +69,14 @@ pub(crate) fn are_runs<B: Width>(list: &[Interval<B>]) -> bool {
     true
 }
 
+/// Runs are in the range, as each interval is. This does nothing: its contract is the fact.
+pub(super) fn are_in_whole<B: Width>(runs: &[Interval<B>]) {
+    if !runs.is_empty() {
+        runs[0].in_whole();
+        runs[runs.len() - 1].in_whole();
+    }
+}
+
 /// How many numbers runs cover.
 pub(crate) fn size_of_runs<B: Width>(runs: &[Interval<B>]) -> B::Output {
     let mut size = <B::Output as SizeNumber>::zero();

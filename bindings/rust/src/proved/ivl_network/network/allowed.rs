@@ -6,7 +6,8 @@ use crate::rattle::prelude::*;
 use crate::proved::intervallum::interval::Interval;
 use crate::proved::intervallum::interval_set::IntervalSet;
 use crate::proved::intervallum::width::Width;
-use crate::proved::ivl_rules::rules::windows::narrowed_to_window;
+use crate::proved::ivl_rules::rules::windows::narrowed_to_window_in;
+use crate::proved::ivl_store::store::Spares;
 use crate::proved::ivl_store::store::narrowed_sets::narrowed_to;
 use crate::rattle::std::alloc::AllocError;
 
@@ -27,7 +28,11 @@ pub(super) trait Allowed<B: Width> {
     /// ```
     ///
     /// Words: [`IsLeftOf`](crate::definitions#IsLeftOf).
-    fn left_of(&self, domain: &IntervalSet<B>) -> Result<Option<IntervalSet<B>>, AllocError>;
+    fn left_of(
+        &self,
+        domain: &IntervalSet<B>,
+        spares: &mut Spares<B>,
+    ) -> Result<Option<IntervalSet<B>>, AllocError>;
 }
 
 /// Proved, with these words of the trait:
@@ -38,7 +43,11 @@ pub(super) trait Allowed<B: Width> {
 ///
 /// Words: [`Covers`](crate::definitions#Covers).
 impl<B: Width> Allowed<B> for IntervalSet<B> {
-    fn left_of(&self, domain: &IntervalSet<B>) -> Result<Option<IntervalSet<B>>, AllocError> {
+    fn left_of(
+        &self,
+        domain: &IntervalSet<B>,
+        _spares: &mut Spares<B>,
+    ) -> Result<Option<IntervalSet<B>>, AllocError> {
         narrowed_to(domain, self)
     }
 }
@@ -51,7 +60,11 @@ impl<B: Width> Allowed<B> for IntervalSet<B> {
 ///
 /// Words: [`IsBetween`](crate::definitions#IsBetween).
 impl<B: Width> Allowed<B> for Interval<B> {
-    fn left_of(&self, domain: &IntervalSet<B>) -> Result<Option<IntervalSet<B>>, AllocError> {
-        narrowed_to_window(domain, *self)
+    fn left_of(
+        &self,
+        domain: &IntervalSet<B>,
+        spares: &mut Spares<B>,
+    ) -> Result<Option<IntervalSet<B>>, AllocError> {
+        narrowed_to_window_in(domain, *self, spares)
     }
 }

@@ -8,20 +8,13 @@ use crate::proved::ivl_store::store::Constraint;
 use crate::rattle::std::alloc::{AllocError, Global};
 
 /// For each variable the rules that name it, as two lists that are linked through the rules, the latest
-/// one first: those that need single numbers, and the others. A place is one more than the index of a
-/// rule, and 0 ends a list.
+/// one first: those that need single numbers, and the others. A place tells a rule and which of its
+/// variables: rule k has 4 k + 1 for its x, 4 k + 2 for its y and 4 k + 3 for its z, and 0 ends a list.
 pub(super) struct Index {
     lasts: Vec<usize>,
     single_lasts: Vec<usize>,
-    links: Vec<Links>,
-}
-
-/// The places of the rules before one that are of its kind and name its x, its y and its z.
-#[derive(Clone, Copy)]
-pub(super) struct Links {
-    x: usize,
-    y: usize,
-    z: usize,
+    // The place before each. The number at 4 k is not used.
+    links: Vec<usize>,
 }
 
 impl Index {
@@ -37,7 +30,7 @@ impl Index {
     pub(super) fn reserve(&mut self, variables: usize, rules: usize) -> Result<(), AllocError> {
         self.lasts.reserve(variables)?;
         self.single_lasts.reserve(variables)?;
-        self.links.reserve(rules)?;
+        self.links.reserve(rules.saturating_mul(4))?;
         Ok(())
     }
 
@@ -62,33 +55,39 @@ impl Index {
 
     /// Reserves room for one more rule.
     pub(super) fn reserve_rule(&mut self) -> Result<(), AllocError> {
-        self.links.reserve(1)?;
+        self.links.reserve(4)?;
         Ok(())
     }
 
     /// Adds a rule after the others.
     pub(super) fn push_rule(&mut self, rule: &Rule) {
         let c = rule.places();
+        let start = self.links.len();
         if rule.needs_single_numbers() {
-            self.links.push_reserved(places_at(&self.single_lasts, &c));
-            let place = self.links.len();
-            put_places(&mut self.single_lasts, &c, place, place, place);
+            push_places(&mut self.links, &self.single_lasts, &c);
+            put_places(&mut self.single_lasts, &c, start + 1, start + 2, start + 3);
         } else {
-            self.links.push_reserved(places_at(&self.lasts, &c));
-            let place = self.links.len();
-            put_places(&mut self.lasts, &c, place, place, place);
+            push_places(&mut self.links, &self.lasts, &c);
+            put_places(&mut self.lasts, &c, start + 1, start + 2, start + 3);
         }
     }
 
     /// Drops the last rule.
     pub(super) fn pop_rule(&mut self, rule: &Rule) {
+        let count = self.links.len();
+        if count < 4 {
+            return;
+        }
+        let start = count - 4;
+        let x = self.links[start + 1];
+        let y = self.links[start + 2];
+        let z = self.links[start + 3];
+        self.links.truncate(start);
         let c = rule.places();
-        if let Some(links) = self.links.pop() {
-            if rule.needs_single_numbers() {
-                put_places(&mut self.single_lasts, &c, links.x, links.y, links.z);
-            } else {
-                put_places(&mut self.lasts, &c, links.x, links.y, links.z);
-            }
+        if rule.needs_single_numbers() {
+            put_places(&mut self.single_lasts, &c, x, y, z);
+        } else {
+            put_places(&mut self.lasts, &c, x, y, z);
         }
     }
 
@@ -102,17 +101,10 @@ impl Index {
         }
     }
 
-    /// The place of the last rule before this one that is of its kind and names the variable.
-    pub(super) fn last_before(&self, rules: &[Rule], k: usize, variable: usize) -> usize {
-        let c = rules[k].places();
-        let links = &self.links[k];
-        if variable == c.x {
-            links.x
-        } else if variable == c.y {
-            links.y
-        } else {
-            links.z
-        }
+    /// The place before this one in its list.
+    #[inline]
+    pub(super) fn before(&self, place: usize) -> usize {
+        self.links[place]
     }
 
     /// Whether a rule is one of the list: a walk over those of its kind that name its last variable.
@@ -120,22 +112,21 @@ impl Index {
         let variable = rule.places().z;
         let mut place = self.last(rule.needs_single_numbers(), variable);
         while place > 0 {
-            if is_same(&rules[place - 1], rule) {
+            if is_same(&rules[place / 4], rule) {
                 return true;
             }
-            place = self.last_before(rules, place - 1, variable);
+            place = self.before(place);
         }
         false
     }
 }
 
-/// The places that stand at three variables.
-fn places_at(lasts: &[usize], c: &Constraint) -> Links {
-    Links {
-        x: lasts[c.x],
-        y: lasts[c.y],
-        z: lasts[c.z],
-    }
+/// Adds a 0 and the places that stand at three variables.
+fn push_places(links: &mut Vec<usize>, lasts: &[usize], c: &Constraint) {
+    links.push_reserved(0);
+    links.push_reserved(lasts[c.x]);
+    links.push_reserved(lasts[c.y]);
+    links.push_reserved(lasts[c.z]);
 }
 
 /// Puts places at three variables, and the last of them where two are one.

@@ -54,7 +54,7 @@ pub(super) fn restrict_logged<B: Width, A: Allowed<B>>(
     i: usize,
     allowed: &A,
 ) -> Result<bool, AllocError> {
-    let left = allowed.left_of(&store.domains()[i])?;
+    let left = allowed.left_of(&store.domains()[i], spares)?;
     let lost = left.is_some();
     replace_logged(store, trail, places, spares, marks, i, left);
     Ok(lost)

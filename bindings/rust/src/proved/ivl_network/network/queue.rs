@@ -181,15 +181,15 @@ impl Queue {
         rules: &[Rule],
         index: &Index,
     ) {
+        // for the prover: only rules that need single numbers are asked what one of these forbids
         debug_assert!(!keeps_one || singles);
         let mut place = last;
         while place > 0 {
-            let k = place - 1;
-            let rule = &rules[k];
-            if self.settled[k] && !stays_settled(rule, keeps_one, variable, store) {
+            let k = place / 4;
+            if self.settled[k] && !stays_settled(&rules[k], keeps_one, variable, store) {
                 self.clear(k);
             }
-            place = index.last_before(rules, k, variable);
+            place = index.before(place);
         }
     }
 }

@@ -10,8 +10,8 @@ use crate::proved::intervallum::width::Width;
 use crate::rattle::std::alloc::AllocError;
 
 impl<B: Width> PagedSet<B> {
-    /// Returns a copy of the set, page by page, whose pages have room for 128 runs. `O(n)`. Fails only if
-    /// allocation fails.
+    /// Returns a copy of the set, page by page. A page of 64 runs or more has room for 128. `O(n)`. Fails
+    /// only if allocation fails.
     ///
     /// ```
     /// use intervallum::proved::examples::*;

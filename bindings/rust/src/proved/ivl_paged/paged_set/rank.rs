@@ -4,7 +4,6 @@
 #[allow(unused_imports)]
 use crate::rattle::prelude::*;
 use super::PagedSet;
-use crate::proved::ivl_paged::pages;
 use crate::proved::intervallum::ops::Cardinality;
 use crate::proved::intervallum::width::{SizeNumber, Width};
 
@@ -32,8 +31,8 @@ impl<B: Width> PagedSet<B> {
         self.pages.interval_count()
     }
 
-    /// Returns the number of members. Adds up what each page has: `O(n / page)`. Never overflows.
-    /// Does not allocate.
+    /// Returns the number of members. Adds up what each group of 64 pages has, then each page of one group:
+    /// `O(n / (64 page) + 64)`. Never overflows. Does not allocate.
     ///
     /// ```
     /// use intervallum::proved::examples::*;
@@ -55,11 +54,13 @@ impl<B: Width> PagedSet<B> {
     ///
     /// Words: [`IsCountOf`](crate::definitions#IsCountOf), [`Covers`](crate::definitions#Covers).
     pub fn size(&self) -> B::Output {
-        pages::size_of(self.pages.as_slice())
+        let size = self.pages.size_before(self.pages.len());
+        B::Output::from_number(size).unwrap()
     }
 
-    /// Returns the number of members below `v`, which may be any value of its type. Adds up what
-    /// each page below has, and scans one page: `O(n / page)`. Does not allocate.
+    /// Returns the number of members below `v`, which may be any value of its type. Adds up what each group of
+    /// 64 pages below has, then each page of one group, and scans one page: `O(n / (64 page) + 64 + page)`. Does not
+    /// allocate.
     ///
     /// ```
     /// use intervallum::proved::examples::*;
@@ -85,14 +86,14 @@ impl<B: Width> PagedSet<B> {
         if count == 0 {
             return <B::Output as SizeNumber>::zero();
         }
-        let below = pages::size_of(&self.pages.as_slice()[..count - 1]);
+        let below = self.pages.size_before(count - 1);
         let here = self.pages.page(count - 1).set().rank(v);
-        below.add_in_range(here)
+        B::Output::from_number(below).unwrap().add_in_range(here)
     }
 
     /// Returns the member with exactly `i` members below it, or `None` if the set has no more than
-    /// `i` members. Reads how many each page has, and scans one page: `O(n / page)`. Does not
-    /// allocate.
+    /// `i` members. Reads how many each group of 64 pages has, then each page of one group, and scans one page:
+    /// `O(n / (64 page) + 64 + page)`. Does not allocate.
     ///
     /// ```
     /// use intervallum::proved::examples::*;
@@ -116,8 +117,11 @@ impl<B: Width> PagedSet<B> {
     ///
     /// Words: [`IsCountOf`](crate::definitions#IsCountOf), [`Covers`](crate::definitions#Covers), [`Below`](crate::definitions#Below).
     pub fn nth(&self, i: B::Output) -> Option<B> {
-        let mut left = i;
-        for page in self.pages.as_slice() {
+        let (start, behind) = self.pages.pass_groups(i.number());
+        let mut left = B::Output::from_number(behind).unwrap();
+        let pages = self.pages.as_slice();
+        for k in start..pages.len() {
+            let page = &pages[k];
             match left.checked_sub(page.set().size()) {
                 Some(rest) => left = rest,
                 None => return page.set().nth(left),

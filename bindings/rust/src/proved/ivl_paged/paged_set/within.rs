@@ -9,7 +9,6 @@ use crate::proved::ivl_paged::pages;
 use crate::proved::intervallum::interval::Interval;
 use crate::proved::intervallum::interval_set::IntervalSet;
 use crate::proved::intervallum::ops::{Difference, IsEmpty};
-use crate::proved::intervallum::sweep::coalesce;
 use crate::proved::intervallum::width::{SizeNumber, Width};
 use crate::rattle::std::alloc::{AllocError, Global};
 
@@ -116,5 +115,5 @@ fn listed<B: Width>(alloc: Global, mut left: Runs<'_, B>) -> Result<IntervalSet<
     'runs: while let Some(run) = left.next() {
         list.push(run)?;
     }
-    coalesce(alloc, list)
+    Ok(IntervalSet::from_runs(list))
 }

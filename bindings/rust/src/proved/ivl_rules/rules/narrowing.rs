@@ -5,14 +5,18 @@
 use crate::rattle::prelude::*;
 use super::Rule;
 use super::windows::{
-    at_least, at_most, has_number, narrowed_to_moved, narrowed_to_none, narrowed_to_window,
+    at_least, at_most, has_number, narrowed_to_moved, narrowed_to_none, narrowed_to_window_in,
     narrowed_without, shift_back_of, shift_of,
 };
 use crate::proved::intervallum::interval_set::IntervalSet;
 use crate::proved::intervallum::ops::{Bounded, Contains, IsEmpty, IsSingleton};
 use crate::proved::intervallum::width::Width;
-use crate::proved::ivl_store::store::{Constraint, Spares, narrowed_sets};
+use crate::proved::ivl_store::store::narrowed_sets::{LeftOfThree, narrowed_by_sum_in};
+use crate::proved::ivl_store::store::{Constraint, Spares};
 use crate::rattle::std::alloc::AllocError;
+
+/// What narrowing leaves of two domains, with `None` in place of one that loses no member.
+type LeftOfTwo<B> = (Option<IntervalSet<B>>, Option<IntervalSet<B>>);
 
 /// Narrows by a rule: a domain that it names keeps its members that are in a point of the domains which satisfies the
 /// rule, and the others stay. Returns true exactly when some domain lost a member.
@@ -168,7 +172,28 @@ fn put<B: Width>(domains: &mut [IntervalSet<B>], i: usize, left: Option<Interval
     }
 }
 
-/// Returns what narrowing leaves at each place of the rule, or `None` where no member is lost.
+/// Returns what narrowing by a rule leaves of the domains at its places, with `None` in place of one that loses no member.
+///
+/// The caller must ensure that the rule names each of its variables once, and no variable without a domain. Check with
+/// [`Rule::is_over_different`] and [`Rule::first_unknown`].
+///
+/// # Errors
+///
+/// Fails only if allocation fails.
+///
+/// ```
+/// use intervallum::proved::examples::*;
+///
+/// fn main() -> Result<(), std::boxed::Box<dyn std::error::Error>> {
+///     let alloc = Global;
+///     let low = IntervalSet::new(alloc, 0, 4)?;
+///     let domains = Vec::from_array(alloc, [ low.try_clone()?, low])?;
+///     let (x, y, z) = narrowed_at_places(&domains, &Rule::AtMost { x: 0, y: 1, by: 1 })?;
+///     assert!(x == Some(IntervalSet::new(alloc, 0, 3)?) && y == Some(IntervalSet::new(alloc, 1, 4)?));
+///     assert!(z.is_none());
+///     Ok(())
+/// }
+/// ```
 #[inline]
 ///
 /// # Proved
@@ -183,20 +208,33 @@ fn put<B: Width>(domains: &mut [IntervalSet<B>], i: usize, left: Option<Interval
 pub fn narrowed_at_places<B: Width>(
     domains: &[IntervalSet<B>],
     rule: &Rule,
-) -> Result<
-    (
-        Option<IntervalSet<B>>,
-        Option<IntervalSet<B>>,
-        Option<IntervalSet<B>>,
-    ),
-    AllocError,
-> {
+) -> Result<LeftOfThree<B>, AllocError> {
+    debug_assert!({ #[allow(unused_imports)] use crate::proved::ivl_interval::ops::*; rule.is_over_different() && rule.first_unknown(domains.len()).is_none() }, "{}", "the condition of `narrowed_at_places` is broken: rule.is_over_different() && rule.first_unknown(domains.len()).is_none()");
     let mut spares = Spares::new(domains[rule.places().x].allocator());
     narrowed_at_places_in(domains, rule, &mut spares)
 }
 
-/// Returns what [`narrowed_at_places`] returns. What a sum leaves is made in the memory of spare sets, as
-/// [`narrowed_by_sum_in`](crate::proved::ivl_store::store::narrowed_sets::narrowed_by_sum_in) does.
+/// Returns what [`narrowed_at_places`] returns, under its conditions. What a sum or an `AtMost` leaves is made in the memory
+/// of spare sets, as [`narrowed_by_sum_in`](crate::proved::ivl_store::store::narrowed_sets::narrowed_by_sum_in) and
+/// [`narrowed_to_window_in`] do.
+///
+/// # Errors
+///
+/// Fails only if allocation fails.
+///
+/// ```
+/// use intervallum::proved::examples::*;
+///
+/// fn main() -> Result<(), std::boxed::Box<dyn std::error::Error>> {
+///     let alloc = Global;
+///     let mut spares = Spares::new(alloc);
+///     let low = IntervalSet::new(alloc, 0, 4)?;
+///     let domains = Vec::from_array(alloc, [ low.try_clone()?, low])?;
+///     let (x, y, _) = narrowed_at_places_in(&domains, &Rule::Differs { x: 0, y: 1, by: 0 }, &mut spares)?;
+///     assert!(x.is_none() && y.is_none());
+///     Ok(())
+/// }
+/// ```
 #[inline]
 ///
 /// # Proved
@@ -212,14 +250,8 @@ pub fn narrowed_at_places_in<B: Width>(
     domains: &[IntervalSet<B>],
     rule: &Rule,
     spares: &mut Spares<B>,
-) -> Result<
-    (
-        Option<IntervalSet<B>>,
-        Option<IntervalSet<B>>,
-        Option<IntervalSet<B>>,
-    ),
-    AllocError,
-> {
+) -> Result<LeftOfThree<B>, AllocError> {
+    debug_assert!({ #[allow(unused_imports)] use crate::proved::ivl_interval::ops::*; rule.is_over_different() && rule.first_unknown(domains.len()).is_none() }, "{}", "the condition of `narrowed_at_places_in` is broken: rule.is_over_different() && rule.first_unknown(domains.len()).is_none()");
     match rule {
         Rule::Sum(c) => narrowed_by_sum(domains, c, spares),
         Rule::Shifted { x, y, by } => {
@@ -227,7 +259,7 @@ pub fn narrowed_at_places_in<B: Width>(
             Ok((x, y, None))
         }
         Rule::AtMost { x, y, by } => {
-            let (x, y) = narrowed_at_most(&domains[*x], &domains[*y], by)?;
+            let (x, y) = narrowed_at_most(&domains[*x], &domains[*y], by, spares)?;
             Ok((x, y, None))
         }
         Rule::Differs { x, y, by } => {
@@ -316,7 +348,7 @@ fn narrowed_moved<B: Width>(
     x: &IntervalSet<B>,
     y: &IntervalSet<B>,
     by: &i64,
-) -> Result<(Option<IntervalSet<B>>, Option<IntervalSet<B>>), AllocError> {
+) -> Result<LeftOfTwo<B>, AllocError> {
     let left_of_x = narrowed_to_moved(x, y, shift_back_of(by))?;
     let left_of_y = narrowed_to_moved(y, x, shift_of(by))?;
     Ok((left_of_x, left_of_y))
@@ -328,19 +360,20 @@ fn narrowed_at_most<B: Width>(
     x: &IntervalSet<B>,
     y: &IntervalSet<B>,
     by: &i64,
-) -> Result<(Option<IntervalSet<B>>, Option<IntervalSet<B>>), AllocError> {
+    spares: &mut Spares<B>,
+) -> Result<LeftOfTwo<B>, AllocError> {
     let shift = shift_of(by);
     x.in_whole();
     y.in_whole();
     let left_of_x = if y.is_empty() {
         narrowed_to_none(x)
     } else {
-        narrowed_to_window(x, at_most(y.upper(), shift))?
+        narrowed_to_window_in(x, at_most(y.upper(), shift), spares)?
     };
     let left_of_y = if x.is_empty() {
         narrowed_to_none(y)
     } else {
-        narrowed_to_window(y, at_least(x.lower(), shift))?
+        narrowed_to_window_in(y, at_least(x.lower(), shift), spares)?
     };
     Ok((left_of_x, left_of_y))
 }
@@ -350,7 +383,7 @@ fn narrowed_differing<B: Width>(
     x: &IntervalSet<B>,
     y: &IntervalSet<B>,
     by: &i64,
-) -> Result<(Option<IntervalSet<B>>, Option<IntervalSet<B>>), AllocError> {
+) -> Result<LeftOfTwo<B>, AllocError> {
     x.in_whole();
     y.in_whole();
     let left_of_x = if y.is_empty() {
@@ -385,13 +418,6 @@ fn narrowed_by_sum<B: Width>(
     domains: &[IntervalSet<B>],
     c: &Constraint,
     spares: &mut Spares<B>,
-) -> Result<
-    (
-        Option<IntervalSet<B>>,
-        Option<IntervalSet<B>>,
-        Option<IntervalSet<B>>,
-    ),
-    AllocError,
-> {
-    narrowed_sets::narrowed_by_sum_in(&domains[c.x], &domains[c.y], &domains[c.z], spares)
+) -> Result<LeftOfThree<B>, AllocError> {
+    narrowed_by_sum_in(&domains[c.x], &domains[c.y], &domains[c.z], spares)
 }

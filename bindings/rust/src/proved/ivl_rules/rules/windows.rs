@@ -11,7 +11,11 @@ use crate::proved::intervallum::ops::{
 };
 use crate::proved::intervallum::sweep::coalesce;
 use crate::proved::intervallum::width::Width;
+use crate::proved::ivl_store::store::Spares;
 use crate::rattle::std::alloc::AllocError;
+
+/// How many runs that are left are put into a spare set, at most: more of them are copied, in memory reserved at once.
+const RUNS: usize = 64;
 
 /// The number of a shift.
 pub(super) fn shift_of(by: &i64) -> i128 {
@@ -98,13 +102,77 @@ pub fn narrowed_to_window<B: Width>(
     window: Interval<B>,
 ) -> Result<Option<IntervalSet<B>>, AllocError> {
     x.in_whole();
-    if x.is_empty() {
-        return Ok(None);
-    }
-    if window.contains(&x.lower()) && window.contains(&x.upper()) {
+    if lies_in(x, window) {
         return Ok(None);
     }
     Ok(Some(x.intersection(&window)?))
+}
+
+/// Returns what [`narrowed_to_window`] returns, at the same cost. What is left, if it has at most 64 runs, is made in the
+/// memory of a spare set, as long as there is one.
+///
+/// # Errors
+///
+/// Fails only if allocation fails.
+///
+/// ```
+/// use intervallum::proved::examples::*;
+///
+/// fn main() -> Result<(), std::boxed::Box<dyn std::error::Error>> {
+///     let alloc = Global;
+///     let mut spares = Spares::new(alloc);
+///     spares.make_room()?;
+///     spares.keep(IntervalSet::new(alloc, 1, 1)?);
+///     let x: IntervalSet<i32> = [(0, 3), (7, 9)].to_interval_set(alloc)?;
+///     let left = narrowed_to_window_in(&x, Interval::new(2, 8), &mut spares)?;
+///     assert!(left == Some([(2, 3), (7, 8)].to_interval_set(alloc)?));
+///     assert!(narrowed_to_window_in(&x, Interval::new(0, 9), &mut spares)?.is_none());
+///     Ok(())
+/// }
+/// ```
+///
+/// # Proved
+///
+/// ```text
+/// ensures { IfOk result (IsLeftOf B.whole x.now (IsBetween window)) }
+/// ```
+///
+/// Words: [`IsLeftOf`](crate::definitions#IsLeftOf), [`IsBetween`](crate::definitions#IsBetween).
+pub fn narrowed_to_window_in<B: Width>(
+    x: &IntervalSet<B>,
+    window: Interval<B>,
+    spares: &mut Spares<B>,
+) -> Result<Option<IntervalSet<B>>, AllocError> {
+    x.in_whole();
+    if lies_in(x, window) {
+        return Ok(None);
+    }
+    let met = x.runs_within(&window);
+    if met.len() > RUNS {
+        return Ok(Some(x.intersection(&window)?));
+    }
+    let empty = spares.take(x.allocator());
+    Ok(Some(set_of_clipped(empty, met, window)?))
+}
+
+/// Whether each member of `x` lies in an interval: a look at the ends of `x`.
+#[inline(always)]
+fn lies_in<B: Width>(x: &IntervalSet<B>, window: Interval<B>) -> bool {
+    x.is_empty() || (window.contains(&x.lower()) && window.contains(&x.upper()))
+}
+
+/// The set of what runs have in an interval that each of them meets, in the memory of an empty set.
+fn set_of_clipped<B: Width>(
+    empty: IntervalSet<B>,
+    runs: &[Interval<B>],
+    window: Interval<B>,
+) -> Result<IntervalSet<B>, AllocError> {
+    let mut set = empty;
+    for run in runs {
+        set.push_run(run.intersection(&window))?;
+    }
+    set.in_whole();
+    Ok(set)
 }
 
 /// Returns the members of `x` but one number, or `None` if that is no member. Allocates only where

@@ -3,6 +3,7 @@
 
 #[allow(unused_imports)]
 use crate::rattle::prelude::*;
+use super::narrowed_sets::LeftOfThree;
 use super::spares::Spares;
 use super::words::{Words, above, set_of_word, supported, word_of, word_within};
 use crate::proved::intervallum::interval_set::IntervalSet;
@@ -17,16 +18,7 @@ pub(super) fn narrowed_by_words<B: Width>(
     y: &IntervalSet<B>,
     z: &IntervalSet<B>,
     spares: &mut Spares<B>,
-) -> Result<
-    Option<
-        (
-            Option<IntervalSet<B>>,
-            Option<IntervalSet<B>>,
-            Option<IntervalSet<B>>,
-        ),
-    >,
-    AllocError,
-> {
+) -> Result<Option<LeftOfThree<B>>, AllocError> {
     x.in_whole();
     y.in_whole();
     z.in_whole();
@@ -81,14 +73,7 @@ fn left_by_words<B: Width>(
     y_base: i128,
     by_x: bool,
     spares: &mut Spares<B>,
-) -> Result<
-    (
-        Option<IntervalSet<B>>,
-        Option<IntervalSet<B>>,
-        Option<IntervalSet<B>>,
-    ),
-    AllocError,
-> {
+) -> Result<LeftOfThree<B>, AllocError> {
     let z_base = sum_of(x_base, y_base);
     let xs = word_of_close_set(x, x_base);
     let ys = word_of_close_set(y, y_base);

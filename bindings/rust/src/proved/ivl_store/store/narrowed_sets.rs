@@ -13,19 +13,19 @@ use crate::proved::intervallum::width::Width;
 use crate::proved::ivl_within::within::{Combined, pair_in_window, results_unless_all};
 use crate::rattle::std::alloc::AllocError;
 
+/// What narrowing leaves of three domains, with `None` in place of one that loses no member.
+pub type LeftOfThree<B> = (
+    Option<IntervalSet<B>>,
+    Option<IntervalSet<B>>,
+    Option<IntervalSet<B>>,
+);
+
 /// Returns what narrowing leaves at x, y and z, or `None` for a place that loses no member. A
 /// variable that stands in two places has its set at the last.
 pub(super) fn narrowed_sets<B: Width>(
     domains: &[IntervalSet<B>],
     c: &Constraint,
-) -> Result<
-    (
-        Option<IntervalSet<B>>,
-        Option<IntervalSet<B>>,
-        Option<IntervalSet<B>>,
-    ),
-    AllocError,
-> {
+) -> Result<LeftOfThree<B>, AllocError> {
     let (x, y, z) = (&domains[c.x], &domains[c.y], &domains[c.z]);
     if c.distinct() {
         return narrowed_by_sum(x, y, z);
@@ -82,14 +82,7 @@ pub fn narrowed_by_sum<B: Width>(
     x: &IntervalSet<B>,
     y: &IntervalSet<B>,
     z: &IntervalSet<B>,
-) -> Result<
-    (
-        Option<IntervalSet<B>>,
-        Option<IntervalSet<B>>,
-        Option<IntervalSet<B>>,
-    ),
-    AllocError,
-> {
+) -> Result<LeftOfThree<B>, AllocError> {
     let mut spares = Spares::new(x.allocator());
     narrowed_by_sum_in(x, y, z, &mut spares)
 }
@@ -132,14 +125,7 @@ pub fn narrowed_by_sum_in<B: Width>(
     y: &IntervalSet<B>,
     z: &IntervalSet<B>,
     spares: &mut Spares<B>,
-) -> Result<
-    (
-        Option<IntervalSet<B>>,
-        Option<IntervalSet<B>>,
-        Option<IntervalSet<B>>,
-    ),
-    AllocError,
-> {
+) -> Result<LeftOfThree<B>, AllocError> {
     if are_runs(x, y, z) {
         return narrowed_runs(x, y, z, spares);
     }
@@ -160,14 +146,7 @@ fn narrowed_runs<B: Width>(
     y: &IntervalSet<B>,
     z: &IntervalSet<B>,
     spares: &mut Spares<B>,
-) -> Result<
-    (
-        Option<IntervalSet<B>>,
-        Option<IntervalSet<B>>,
-        Option<IntervalSet<B>>,
-    ),
-    AllocError,
-> {
+) -> Result<LeftOfThree<B>, AllocError> {
     let run_of_x = only_run(x);
     let run_of_y = only_run(y);
     let run_of_z = only_run(z);
@@ -191,14 +170,7 @@ fn narrowed_one_by_one<B: Width>(
     y: &IntervalSet<B>,
     z: &IntervalSet<B>,
     spares: &mut Spares<B>,
-) -> Result<
-    (
-        Option<IntervalSet<B>>,
-        Option<IntervalSet<B>>,
-        Option<IntervalSet<B>>,
-    ),
-    AllocError,
-> {
+) -> Result<LeftOfThree<B>, AllocError> {
     if y.is_singleton() {
         return narrowed_by_number(x, y, z, spares);
     }
@@ -223,14 +195,7 @@ fn narrowed_by_number<B: Width>(
     y: &IntervalSet<B>,
     z: &IntervalSet<B>,
     spares: &mut Spares<B>,
-) -> Result<
-    (
-        Option<IntervalSet<B>>,
-        Option<IntervalSet<B>>,
-        Option<IntervalSet<B>>,
-    ),
-    AllocError,
-> {
+) -> Result<LeftOfThree<B>, AllocError> {
     let left_of_x = narrowed_by_in(x, z, y, Combined::Difference, spares)?;
     let rest = rest_of(x, &left_of_x);
     let left_of_y = left_of_one(y, rest);
