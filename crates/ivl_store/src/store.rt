@@ -93,6 +93,24 @@ impl<B: Width> Store<B> {
         }
     }
 
+    /// Makes room for so many more variables: adding them reallocates nothing.
+    ///
+    /// # Errors
+    ///
+    /// Fails only if allocation fails. The store is unchanged whatever the result.
+    ///
+    /// ```
+    /// let mut store: Store<i32> = Store::new(alloc, vec![in alloc; IntervalSet::new(alloc, 0, 9)?]?);
+    /// store.reserve(2)?;
+    /// assert_eq!(rt; store.domains().len(), 1);
+    /// ```
+    pub fn reserve(&mut self, variables: usize) -> Result<(), AllocError>
+        ensures same { self.new ≡ self.old }
+    {
+        self.domains.reserve(variables)?;
+        Ok(())
+    }
+
     /// Returns the domains, in the order of the variables. `O(1)`, does not allocate.
     pub fn domains(&self) -> &[IntervalSet<B>]
         ensures same { result.now ≡ self.now }

@@ -33,6 +33,7 @@ impl<B: Width> IntervalSet<B> {
     /// b.try_clone_from(&a)?;
     /// assert!(rt; b == a);
     /// ```
+    #[inline(always)]
     pub fn try_clone_from(&mut self, other: &IntervalSet<B>) -> Result<(), AllocError>
         ensures same { OnOk result (self.new ≡ other.now) }
         ensures err { OnErr result (self.new ≡ self.old) }
