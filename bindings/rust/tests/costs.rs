@@ -1,5 +1,6 @@
 //! What the docs say of memory and time and no contract can see, by counting: which calls do not allocate, what a set in pages
-//! holds, that room is kept, that sums do not list all results, and that sizes of few runs and many take few looks.
+//! holds, that room is kept, and suffices a network, that sums do not list all results, and that sizes of few runs and many
+//! take few looks.
 // lists of pairs are there only where `usize` has 64 bits, and counts of bytes are of that
 #![cfg(target_pointer_width = "64")]
 
@@ -8,7 +9,10 @@ use intervallum::proved::ivl_buffers::comparisons::{Asking, ask};
 use intervallum::proved::ivl_buffers::pair::{PairI64, PairU64};
 use intervallum::proved::ivl_buffers::set_calls::{OfOne, OfTwo, of_one, of_two};
 use intervallum::proved::ivl_buffers::{beside, lookup, reading, run_lists, sorted_lookup};
+use intervallum::proved::ivl_network::network::Network;
 use intervallum::proved::ivl_paged::PagedSet;
+use intervallum::proved::ivl_rules::rules::Rule;
+use intervallum::proved::ivl_store::store::{Constraint, Store};
 use intervallum::proved::prelude::*;
 use intervallum::proved::sweep::coalesce;
 use std::cell::Cell;
@@ -148,6 +152,26 @@ fn a_copy_into_a_set_uses_its_memory() {
     let (_, told) = cost(|| set.try_clone_from(&long).unwrap());
     assert!(set == long);
     assert_eq!((told.allocations, told.held), (1, 16 * (RUNS as isize - 1)));
+}
+
+#[test]
+fn adding_to_a_network_with_room_does_not_allocate() {
+    let domains: Vec<_> = (0..300).map(|from| IntervalSet::new(Global, from, from + 9).unwrap()).collect();
+    let rules = |i| [Rule::Sum(Constraint { x: i, y: i + 1, z: i + 2 }), Rule::Differs { x: i, y: i + 2, by: 1 }];
+    let mut network = Network::new(Global);
+    network.reserve(300, 596).unwrap();
+    let ((), told) = cost(|| {
+        for domain in domains {
+            network.add_variable(domain).unwrap();
+        }
+        (0..298).flat_map(rules).for_each(|rule| network.require(rule).unwrap());
+    });
+    assert_eq!((network.domains().len(), network.rules().len(), told.allocations), (300, 596, 0));
+    let mut store = Store::new(Global, Vec::new().into());
+    store.reserve(2).unwrap();
+    let domain = IntervalSet::new(Global, 0, 9).unwrap();
+    let (place, told) = cost(|| store.add_variable(domain).unwrap());
+    assert_eq!((place, told.allocations), (0, 0));
 }
 
 #[test]

@@ -295,6 +295,15 @@ fn a_domain_that_loses_an_interval() {
         },
     );
     assert!(refused > 0 && told == refused);
+    let (refused, told) = each_refused(
+        || Store::new(Global, vec![whole()].into()),
+        |store| store.reserve(100),
+        |store, made, is_refused| {
+            assert!(store.domains() == [whole()] && made.is_err() == is_refused);
+            made.is_ok()
+        },
+    );
+    assert!(refused > 0 && told == refused);
 
     let mut store = Store::new(Global, vec![whole()].into());
     assert!(store.take_out(1, Interval::new(0, 9)).is_ok() && store.domains()[0] == whole());

@@ -231,6 +231,9 @@ impl Queue {
             return;
         }
         self.wake_listed(false, false, variable, store, rules, index);
+        if index.last(true, variable) == 0 {
+            return;
+        }
         if only_lost && has_two(store, variable) {
             return;
         }

@@ -72,7 +72,7 @@ enum Step {
 /// Variables are named by their indexes from 0. Domains only lose members. A call that fails with
 /// [`StoreFault::Variable`] leaves the network unchanged.
 ///
-/// A network that was marked, or for which room was reserved, keeps some sets that it does not use any more, 64 at
+/// A network that was marked, or for which room was reserved, keeps some sets that it does not use any more, 256 at
 /// most, each of at most 64 runs, for their memory.
 pub struct Network<B: Width> {
     store: Store<B>,
@@ -126,8 +126,7 @@ impl<B: Width> Network<B> {
         }
     }
 
-    /// Makes room for so many more variables and rules: adding them to a network without a mark reallocates nothing
-    /// but the list of the domains.
+    /// Makes room for so many more variables and rules: adding them to a network without a mark reallocates nothing.
     ///
     /// # Errors
     ///
@@ -156,6 +155,7 @@ impl<B: Width> Network<B> {
         self.index.reserve(variables, rules)?;
         self.rules.reserve(rules)?;
         self.queue.reserve(rules)?;
+        self.store.reserve(variables)?;
         Ok(())
     }
 

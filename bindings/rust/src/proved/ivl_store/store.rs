@@ -95,6 +95,34 @@ impl<B: Width> Store<B> {
         }
     }
 
+    /// Makes room for so many more variables: adding them reallocates nothing.
+    ///
+    /// # Errors
+    ///
+    /// Fails only if allocation fails. The store is unchanged whatever the result.
+    ///
+    /// ```
+    /// use intervallum::proved::examples::*;
+    ///
+    /// fn main() -> Result<(), std::boxed::Box<dyn std::error::Error>> {
+    ///     let alloc = Global;
+    ///     let mut store: Store<i32> = Store::new(alloc, Vec::from_array(alloc, [ IntervalSet::new(alloc, 0, 9)?])?);
+    ///     store.reserve(2)?;
+    ///     assert_eq!(store.domains().len(), 1);
+    ///     Ok(())
+    /// }
+    /// ```
+    ///
+    /// # Proved
+    ///
+    /// ```text
+    /// ensures same { self.new ≡ self.old }
+    /// ```
+    pub fn reserve(&mut self, variables: usize) -> Result<(), AllocError> {
+        self.domains.reserve(variables)?;
+        Ok(())
+    }
+
     /// Returns the domains, in the order of the variables. `O(1)`, does not allocate.
     ///
     /// # Proved

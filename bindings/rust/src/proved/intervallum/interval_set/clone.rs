@@ -50,6 +50,7 @@ impl<B: Width> IntervalSet<B> {
     ///     Ok(())
     /// }
     /// ```
+    #[inline(always)]
     ///
     /// # Proved
     ///

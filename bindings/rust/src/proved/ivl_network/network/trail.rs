@@ -51,6 +51,7 @@ pub(super) fn replace_logged<B: Width>(
 }
 
 /// Puts a set in place of a domain, and writes that down as [`replace_logged`] does.
+#[inline(always)]
 fn put_logged<B: Width>(
     store: &mut Store<B>,
     trail: &mut Vec<Change<B>>,

@@ -35,7 +35,7 @@ pub(super) fn network_of<B: Width>(
 ) -> Result<Network<B>, AllocError> {
     let mut network = Network::new(alloc);
     network.reserve(domains.len(), rules.len())?;
-    add_variables(&mut network, domains)?;
+    add_variables(alloc, &mut network, domains)?;
     require_all(&mut network, rules)?;
     // for the prover: the rules name variables of the network
     network.rules();
@@ -44,11 +44,15 @@ pub(super) fn network_of<B: Width>(
 
 /// Adds a variable for each domain, in this order.
 fn add_variables<B: Width>(
+    alloc: Global,
     network: &mut Network<B>,
     domains: &[IntervalSet<B>],
 ) -> Result<(), AllocError> {
     for domain in domains {
-        network.add_variable(domain.try_clone()?)?;
+        // with room for the runs that cuts leave, which a clone has not
+        let mut copy = IntervalSet::empty(alloc);
+        copy.try_clone_from(domain)?;
+        network.add_variable(copy)?;
     }
     Ok(())
 }

@@ -55,7 +55,11 @@ fn sum_of(x_base: i128, y_base: i128) -> i128 {
 
 /// The word of a set, of its members from a base on.
 fn word_of_set<B: Width>(set: &IntervalSet<B>, base: i128) -> u64 {
-    word_of(set.iter().as_slice(), base)
+    set.in_whole();
+    if above(set.lower(), base) < 0 || 63 < above(set.upper(), base) {
+        return word_of(set.iter().as_slice(), base);
+    }
+    word_of_close_set(set, base)
 }
 
 /// The word of a set, all of whose members lie from a base on to 63 above.

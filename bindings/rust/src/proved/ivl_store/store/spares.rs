@@ -8,7 +8,7 @@ use crate::proved::intervallum::width::Width;
 use crate::rattle::std::alloc::{AllocError, Global};
 
 /// How many sets there is room for.
-const SETS: usize = 64;
+const SETS: usize = 256;
 
 /// How many runs such a set has at most, to be kept.
 const RUNS: usize = 64;
@@ -42,7 +42,7 @@ impl<B: Width> Spares<B> {
         }
     }
 
-    /// Makes room for 64 sets, if there is none. Fails only if allocation fails; the spares are then unchanged.
+    /// Makes room for 256 sets, if there is none. Fails only if allocation fails; the spares are then unchanged.
     pub fn make_room(&mut self) -> Result<(), AllocError> {
         if self.sets.capacity() == 0 {
             self.sets.reserve(SETS)?;

@@ -133,6 +133,7 @@ fn without_bits(word: u64, low: u32, high: u32) -> u64 {
 }
 
 /// The set of the numbers of a word, above a base, in the memory of an empty set.
+#[inline(always)]
 pub(super) fn set_of_word<B: Width>(
     empty: IntervalSet<B>,
     word: u64,

@@ -1,0 +1,11 @@
+use Rattle.std.proofs.Common.{arith}
+use Rattle.std.proofs.lemmas.Int.{ints}
+use Rattle.ivl_store.proofs.store.by_words.word_of_set.Goals as goal
+
+pub word_of_close_set-requires-clause-first : goal.word_of_close_set-requires-clause-first
+word_of_close_set-requires-clause-first g c = λ v m.
+    let is = c.above.ensures in let least = c.lower.ensures.least v m in let low = c.if-above-lt0.false in omega (arith, ints)
+
+pub word_of_close_set-requires-clause-last : goal.word_of_close_set-requires-clause-last
+word_of_close_set-requires-clause-last g c = λ v m.
+    let is = c.above-2.ensures in let most = c.upper.ensures.greatest v m in let high = c.if-above-gt63.false in omega (arith, ints)
