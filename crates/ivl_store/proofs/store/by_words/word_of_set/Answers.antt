@@ -8,4 +8,4 @@ word_of_close_set-requires-clause-first g c = λ v m.
 
 pub word_of_close_set-requires-clause-last : goal.word_of_close_set-requires-clause-last
 word_of_close_set-requires-clause-last g c = λ v m.
-    let is = c.above-2.ensures in let most = c.upper.ensures.greatest v m in let high = c.if-above-gt63.false in omega (arith, ints)
+    let is = c.above-else-above-lt0.ensures in let most = c.upper.ensures.greatest v m in let high = c.if-above-gt63.false in omega (arith, ints)
