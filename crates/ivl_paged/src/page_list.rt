@@ -142,7 +142,7 @@ impl<B: Width> PageList<B> {
     }
 
     /// How many members the first `i` pages have together, less a multiple of 2 ^ 128. Reads a number for each group
-    /// of some 64 pages, and the pages of one group.
+    /// of 64 pages before them, and the pages of one group.
     pub(crate) fn size_before(&self, i: usize) -> u128
         requires { i ≤ length self.now }
         ensures { result ≡ member_total (take i self.now) % 2 ^ 128 }
@@ -154,7 +154,7 @@ impl<B: Width> PageList<B> {
     }
 
     /// A page before which there are no more than `count` members, and how many of these are left. Passes groups of
-    /// some 64 pages while it can.
+    /// 64 pages while it can.
     pub(crate) fn pass_groups(&self, count: u128) -> (usize, u128)
         requires { member_total self.now < 2 ^ 128 }
         ensures at_most { result.0 ≤ length self.now }
