@@ -8,6 +8,12 @@ use intervallum::proved::ivl_store::store::Constraint;
 use intervallum::proved::ops::Contains;
 use std::collections::BTreeSet;
 
+mod memory;
+use memory::{Watched, cost};
+
+#[global_allocator]
+static ALLOCATOR: Watched = Watched;
+
 type Search = fn(Global, &[IntervalSet<i64>], &[Constraint], usize, Limits) -> Result<Best<i64>, SearchFault>;
 
 struct Instance {
@@ -193,6 +199,27 @@ fn send_more_money() {
 #[test]
 fn golomb_rulers_of_five_marks() {
     has_solutions(include_str!("puzzles/golomb5_11.txt"), 4, 106);
+}
+
+/// A search takes memory for its domains and for what its trail keeps at once, and not for each set that a narrowing leaves:
+/// of these there are 579 for the pairs of Langford, and 54,132 for the coins.
+#[test]
+fn searches_use_memory_again() {
+    let limits = Limits { solutions: 1_000, nodes: 1_000_000 };
+    for (text, most) in [
+        (include_str!("puzzles/queens6.txt"), 130),
+        (include_str!("puzzles/queens8.txt"), 430),
+        (include_str!("puzzles/magic3.txt"), 360),
+        (include_str!("puzzles/sendmore.txt"), 660),
+        (include_str!("puzzles/golomb5_11.txt"), 350),
+        (include_str!("puzzles/langford4.txt"), 150),
+        (include_str!("puzzles/coins50.txt"), 320),
+    ] {
+        let Instance { domains, constraints } = instance(text);
+        let (found, told) = cost(|| count(Global, &domains, &constraints, limits));
+        assert_eq!(found.unwrap().1, End::All);
+        assert!(told.allocations <= most && told.held == 0, "{} variables: {told:?}", domains.len());
+    }
 }
 
 #[test]
