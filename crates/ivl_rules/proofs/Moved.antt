@@ -1,12 +1,10 @@
 -- Runs that are moved by a number.
-use Rattle.std.proofs.Common.{◌≡◌, ◌↔◌, ◌⊎◌, ℕ, zero, suc, ◌+◌, ◌<◌, inl, inr, sym, ap, subst, arith, ◌∙◌, List, [], ◌∷◌, ◌++◌, take, length, get_or, false}
-use Rattle.std.proofs.Math.Seq.{take-suc}
+use Rattle.std.proofs.Common.{◌≡◌, ◌↔◌, ℕ, ◌+◌, ◌<◌, inl, inr, subst, arith, List, [], ◌∷◌, ◌++◌, take, length, get_or, false}
 use Rattle.std.proofs.lemmas.Int.{ints}
 use Rattle.std.specs.Prelude.{ℤ, pos, ◌-ℤ◌, ◌+ℤ◌, ◌≤ℤ◌}
-use Rattle.ivl_laws.specs.Sets.{IsBetween, IsInRange}
-use Rattle.ivl_laws.specs.Runs.{Covers, IsRunListIn}
+use Rattle.ivl_laws.specs.Sets.{IsBetween}
+use Rattle.ivl_laws.specs.Runs.{Covers}
 use Rattle.ivl_laws.proofs.Merging.{covers-append, covers-append_left, covers-append_right}
-use Rattle.intervallum.proofs.Images.{open_here_seen}
 use Rattle.ivl_laws.specs.Bounds.{IsBoundRange}
 use Rattle.ivl_store.proofs.Lists.{covers_next}
 use Rattle.ivl_rules.specs.NarrowedSets.{IsSmall}

@@ -1,6 +1,6 @@
 -- A domain that loses the members of an interval where it stands.
 use Rattle.std.proofs.Common.{◌≡◌, ◌↔◌, ◌∙◌, ℕ, ◌<◌, ◌≤◌, ap, arith, cond, get_or, inl, inr, length, List, [], ◌∷◌, set, subst, sym}
-use Rattle.std.specs.Prelude.{ℤ, All, Err, Ok, OnErr, Result}
+use Rattle.std.specs.Prelude.{ℤ, All}
 use Rattle.std.proofs.lemmas.Bool.{cases_eq}
 use Rattle.std.proofs.lemmas.List.{get_or-set_other, get_or-set_same}
 use Rattle.std.proofs.lemmas.List.Elements.{All-set}

@@ -1,5 +1,5 @@
 use Rattle.std.proofs.Common.{◌≡◌, ◌↔◌, ◌<◌, ◌∙◌, length, map, subst}
-use Rattle.std.specs.Prelude.{ℤ, ◌<ℤ◌, Err, Some}
+use Rattle.std.specs.Prelude.{◌<ℤ◌, Err, Some}
 use Rattle.std.proofs.lemmas.Option.{IfSome_then}
 use Rattle.std.proofs.lemmas.Result.{IfOk-weaker}
 use Rattle.ivl_search.specs.declared.search.SearchFault.TheVariants.{Variable}

@@ -1,7 +1,7 @@
 use Rattle.std.proofs.Common.{subst, sym, refl}
 use Rattle.std.proofs.lemmas.Bool.{false≢true}
 use Rattle.std.proofs.lemmas.Int.{to_z-of_z}
-use Rattle.std.specs.Prelude.{◌+ℤ◌, pos, true, false}
+use Rattle.std.specs.Prelude.{◌+ℤ◌, pos}
 use Rattle.ivl_laws.specs.Sets.{IsBetween, IsSubset}
 use Rattle.ivl_laws.specs.Runs.{Covers, IsRunsOf}
 use Rattle.ivl_store.specs.Words.{InWord}

@@ -1,4 +1,4 @@
-use Rattle.std.proofs.Common.{ℕ, ◌<◌}
+use Rattle.std.proofs.Common.{◌<◌}
 use Rattle.ivl_store.proofs.Words.{Found, top}
 use Rattle.ivl_store.proofs.store.words.supported.Given as goal
 

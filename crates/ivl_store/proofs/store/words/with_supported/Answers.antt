@@ -1,4 +1,4 @@
-use Rattle.std.proofs.Common.{arith, inl, inr, refl, sym}
+use Rattle.std.proofs.Common.{inl, inr}
 use Rattle.ivl_store.proofs.Words.{met_at_x, met_at_y, met_at_z}
 use Rattle.ivl_store.proofs.store.words.with_supported.Goals as goal
 use Rattle.ivl_store.proofs.store.words.with_supported.Goals.{then-met-eq0, else-met-eq0}
