@@ -102,7 +102,7 @@ impl<B: Width> PageList<B> {
     }
 
     /// How many members the first `i` pages have together, less a multiple of 2 ^ 128. Reads a number for each group
-    /// of some 64 pages, and the pages of one group.
+    /// of 64 pages before them, and the pages of one group.
     pub(crate) fn size_before(&self, i: usize) -> u128 {
         let sizes = self.sizes.as_slice();
         let pages = self.pages.as_slice();
@@ -111,7 +111,7 @@ impl<B: Width> PageList<B> {
     }
 
     /// A page before which there are no more than `count` members, and how many of these are left. Passes groups of
-    /// some 64 pages while it can.
+    /// 64 pages while it can.
     pub(crate) fn pass_groups(&self, count: u128) -> (usize, u128) {
         let (place, left) = sizes::pass_groups(
             self.sizes.as_slice(),

@@ -18,7 +18,7 @@ use crate::rattle::std::alloc::{AllocError, Global};
 /// tests split and join pages at almost every edit.
 pub(crate) const MOST_RUNS: usize = 128;
 
-/// How many runs a page has at most that is looked at as one to join.
+/// How many runs a page has at most that is looked at as one to join, and less than which a copy has no room for more.
 const FEW_RUNS: usize = MOST_RUNS / 2;
 
 /// How many runs a page has where a list of runs is put into pages, and at most where two are joined.
@@ -65,7 +65,7 @@ pub(crate) fn pages_from<B: Width>(
 /// A page of some runs, of which there is one at least, with room for as many as a page has, unless
 /// they are few.
 fn page_of<B: Width>(alloc: Global, runs: &[Interval<B>]) -> Result<Page<B>, AllocError> {
-    let is_small = runs.len() < MOST_RUNS / 2;
+    let is_small = runs.len() < FEW_RUNS;
     let room = if is_small { runs.len() } else { MOST_RUNS };
     let mut list = Vec::with_capacity(alloc, room)?;
     list.extend_from_slice(runs)?;
