@@ -1,5 +1,5 @@
 //! What callers of the crates above sets can rely on, each as a function that learns it from the public contracts alone:
-//! [`run_set`] those that both kinds of set have, [`paged`] and [`paged_operations`] those of `ivl_paged` alone,
+//! [`run_set`] those that both kinds of set have, [`paged`], [`paged_operations`] and [`retained`] those of `ivl_paged` alone,
 //! [`json`] those of `ivl_json`, [`expr`] those of `ivl_expr`.
 #![tactic(auto)]
 
@@ -7,4 +7,5 @@ pub mod expr;
 pub mod json;
 pub mod paged;
 pub mod paged_operations;
+pub mod retained;
 pub mod run_set;
