@@ -114,11 +114,11 @@ def main(programs):
         shown = []
         name = os.path.basename(program)
         for what, make in INPUTS[name].items():
-            short, _ = seconds(program, make(10_000))
-            text = make(100_000)
+            few, many = make(10_000), make(100_000)
             # a machine with other work may take long once, and not three times
             for _ in range(3):
-                long, answers = seconds(program, text)
+                short, _ = seconds(program, few)
+                long, answers = seconds(program, many)
                 is_slow = long > MOST_SECONDS or long > 25 * max(short, LEAST_SECONDS)
                 if not is_slow:
                     break
