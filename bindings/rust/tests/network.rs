@@ -236,6 +236,35 @@ fn rules_that_take_nothing_are_not_looked_at_again() {
     }
 }
 
+/// How many narrowings settle a circle over so many numbers, beside a sum whose third variable may be named by another rule.
+fn narrowings_beside_a_circle(numbers: i64, is_named: bool) -> i64 {
+    let mut network = Network::new(Global);
+    for (lower, upper) in [(0, numbers - 1), (0, numbers - 1), (-numbers, numbers), (0, 9 * numbers)] {
+        network.add_variable(IntervalSet::new(Global, lower, upper).unwrap()).unwrap();
+    }
+    if is_named {
+        network.require(Rule::AtMost { x: 2, y: 3, by: 0 }).unwrap();
+    }
+    network.require(Rule::Sum(Constraint { x: 0, y: 2, z: 1 })).unwrap();
+    network.require(Rule::AtMost { x: 0, y: 1, by: 1 }).unwrap();
+    network.require(Rule::AtMost { x: 1, y: 0, by: 1 }).unwrap();
+    let mut made = 0;
+    while network.settle(1).unwrap() != Settled::All {
+        made += 1;
+    }
+    made
+}
+
+#[test]
+fn a_rule_that_alone_names_a_variable_waits_for_the_others() {
+    for numbers in [10, 100, 1_000] {
+        // each turn of the circle takes two narrowings, and a third where the sum does not wait
+        let (alone, named) = (narrowings_beside_a_circle(numbers, false), narrowings_beside_a_circle(numbers, true));
+        assert!(alone <= numbers + 10, "{alone} for {numbers}");
+        assert!(named >= alone + numbers / 3, "{named} and {alone} for {numbers}");
+    }
+}
+
 #[test]
 fn a_mark_keeps_whether_all_was_settled() {
     for is_all in [true, false] {

@@ -59,19 +59,19 @@ last_of list k pos e = (take (length list - 1) list, split list k pos ∙ ap (λ
 
 -- there is room for one more where a flag is set
 pub room_to_wait : (queue : Queue) (k : ℕ) (d : Bool) → IsRuleQueue queue → k < length queue.settled.items → get_or queue.settled.items k d ≡ true
-    → length queue.later.items < vec_capacity queue.later
+    → (length queue.later.items < vec_capacity queue.later) × (length queue.late.items < vec_capacity queue.late)
 room_to_wait queue k d s lt e =
     let a = subst (λ b. unsettled_count (set queue.settled.items k false) + cond (not b) 1 0 ≡ unsettled_count queue.settled.items + 1) e (unsettled-set queue.settled.items k false d lt) in
     let b = count_by-le-length not (set queue.settled.items k false) in
     let n = length-set queue.settled.items k false in
-    let m = s.as_many in let r = s.room_later in omega (arith, a, b, n, m, r)
+    let m = s.as_many in let r = s.room_later in let r2 = s.room_late in (omega (arith, a, b, n, m, r), omega (arith, a, b, n, m, r2))
 
 -- where nothing waits, each is settled
-pub none_waits : (queue : Queue) → IsRuleQueue queue → queue.round.items ≡ [] → queue.later.items ≡ []
+pub none_waits : (queue : Queue) → IsRuleQueue queue → queue.round.items ≡ [] → queue.later.items ≡ [] → queue.late.items ≡ []
     → (k : ℕ) → k < length queue.settled.items → get_or queue.settled.items k false ≡ true
-none_waits queue s e f k lt =
-    let o = s.once k in let a = ap (times_in k) e in let b = ap (times_in k) f in
-    let z : waits queue.settled.items k ≡ 0 = omega (arith, o, a, b) in
+none_waits queue s e f g k lt =
+    let o = s.once k in let a = ap (times_in k) e in let b = ap (times_in k) f in let c = ap (times_in k) g in
+    let z : waits queue.settled.items k ≡ 0 = omega (arith, o, a, b, c) in
     is_set (get_or queue.settled.items k false) (sym (waits_at queue.settled.items k (get_or queue.settled.items k false) false lt refl) ∙ z)
   where
     is_set : (b : Bool) → ◌≡◌ {A = ℕ} (cond b 0 1) 0 → b ≡ true
@@ -97,26 +97,29 @@ waiting queue front k s e =
 -- ---- one more rule, and one less
 
 pub pushed : (queue queue' : Queue) (count : ℕ) → IsRuleQueue queue → count ≡ length queue.settled.items → queue'.settled.items ≡ queue.settled.items ++ false ∷ []
-    → queue'.round.items ≡ queue.round.items → queue'.later.items ≡ queue.later.items ++ count ∷ [] → count + 1 ≤ vec_capacity queue'.round
-    → count + 1 ≤ vec_capacity queue'.later → IsRuleQueue queue'
-pushed queue queue' count s at e f g room room_later =
+    → queue'.round.items ≡ queue.round.items → queue'.later.items ≡ queue.later.items ++ count ∷ [] → queue'.late.items ≡ queue.late.items
+    → count + 1 ≤ vec_capacity queue'.round → count + 1 ≤ vec_capacity queue'.later → count + 1 ≤ vec_capacity queue'.late → IsRuleQueue queue'
+pushed queue queue' count s at e f g h room room_later room_late =
     let n = length_push queue.settled.items false in
     record {
-      once = (λ k. ap (λ l. times_in k l + times_in k queue'.later.items) f ∙ ap (λ l. times_in k queue.round.items + times_in k l) g
+      once = (λ k. ap (λ l. times_in k l + times_in k queue'.later.items + times_in k queue'.late.items) f
+          ∙ ap (λ l. times_in k queue.round.items + times_in k l + times_in k queue'.late.items) g
+          ∙ ap (λ l. times_in k queue.round.items + times_in k (queue.later.items ++ count ∷ []) + times_in k l) h
           ∙ (let c = count_push queue.later.items count k in let o = s.once k in elim (cases_eq k count) [
             | inl here ↦ (let one : times_in k (count ∷ []) ≡ 1 = ap (λ j. times_in k (j ∷ [])) (sym here) ∙ one_same k in
                 let was : waits queue.settled.items k ≡ 0 = ap (λ m. cond m 0 1) (get_or-eq_default queue.settled.items true (omega (arith, here, at))) in
                 let now : waits queue'.settled.items k ≡ 1 = ap (λ l. waits l k) e ∙ ap (λ m. cond m 0 1) (get_or_push queue.settled.items false true k (omega (arith, here, at))) in
                 omega (arith, c, o, one, was, now))
-            | inr ne ↦ (let none = one_other count k (λ h. ne (sym h)) in
-                let same : waits queue'.settled.items k ≡ waits queue.settled.items k = ap (λ l. waits l k) e ∙ waits_before queue.settled.items k (λ h. ne (h ∙ sym at)) in
+            | inr ne ↦ (let none = one_other count k (λ i. ne (sym i)) in
+                let same : waits queue'.settled.items k ≡ waits queue.settled.items k = ap (λ l. waits l k) e ∙ waits_before queue.settled.items k (λ i. ne (i ∙ sym at)) in
                 omega (arith, c, o, none, same))
           ]));
-      as_many = (let a = ap length f in let b = ap length g in let l = length_push queue.later.items count in
+      as_many = (let a = ap length f in let b = ap length g in let d = ap length h in let l = length_push queue.later.items count in
           let c : unsettled_count queue'.settled.items ≡ unsettled_count queue.settled.items + 1 = ap unsettled_count e ∙ sum_by_push (λ (b : Bool). cond (not b) 1 0) queue.settled.items false in
-          let m = s.as_many in omega (arith, a, b, l, c, m));
+          let m = s.as_many in omega (arith, a, b, d, l, c, m));
       room = (let l = ap length e in omega (arith, l, n, at, room));
       room_later = (let l = ap length e in omega (arith, l, n, at, room_later));
+      room_late = (let l = ap length e in omega (arith, l, n, at, room_late));
     }
   where
     waits_before : (flags : List Bool) (k : ℕ) → (k ≡ length flags → ⊥) → waits (flags ++ false ∷ []) k ≡ waits flags k
@@ -125,12 +128,17 @@ pushed queue queue' count s at e f g room room_later =
       | inr le ↦ get_or-eq_default (flags ++ false ∷ []) true (let n = length_push flags false in omega (arith, n, le, ne)) ∙ sym (get_or-eq_default flags true le)
     ])
 
+abbrev pub HasSameRoom : Queue → Queue → Type 0
+HasSameRoom queue queue' =
+    (vec_capacity queue'.round ≡ vec_capacity queue.round) × (vec_capacity queue'.later ≡ vec_capacity queue.later) × (vec_capacity queue'.late ≡ vec_capacity queue.late)
+
 -- the last rule is dropped, and its number is removed where it waits
 pub popped : (queue queue' : Queue) (flag : Bool) (flags : List Bool) → IsRuleQueue queue → queue.settled.items ≡ flags ++ flag ∷ [] → queue'.settled.items ≡ flags
-    → ((k : ℕ) → times_in k queue'.round.items + times_in k queue'.later.items + cond flag 0 (times_in k (length flags ∷ [])) ≡ times_in k queue.round.items + times_in k queue.later.items)
-    → length queue'.round.items + length queue'.later.items + cond flag 0 1 ≡ length queue.round.items + length queue.later.items
-    → vec_capacity queue'.round ≡ vec_capacity queue.round → vec_capacity queue'.later ≡ vec_capacity queue.later → IsRuleQueue queue'
-popped queue queue' flag flags s e f counts lengths room room_later =
+    → ((k : ℕ) → times_in k queue'.round.items + times_in k queue'.later.items + times_in k queue'.late.items + cond flag 0 (times_in k (length flags ∷ []))
+    ≡ times_in k queue.round.items + times_in k queue.later.items + times_in k queue.late.items)
+    → length queue'.round.items + length queue'.later.items + length queue'.late.items + cond flag 0 1 ≡ length queue.round.items + length queue.later.items + length queue.late.items
+    → HasSameRoom queue queue' → IsRuleQueue queue'
+popped queue queue' flag flags s e f counts lengths same =
     let n = length_push flags flag in
     record {
       once = (λ k. let c = counts k in let o = s.once k in ap (λ m. m) (elim (cases_eq k (length flags)) [
@@ -144,8 +152,9 @@ popped queue queue' flag flags s e f counts lengths room room_later =
       ]));
       as_many = (let c : unsettled_count queue.settled.items ≡ unsettled_count flags + cond (not flag) 1 0 = ap unsettled_count e ∙ sum_by_push (λ (b : Bool). cond (not b) 1 0) flags flag in
           fewer flag _ _ (lengths ∙ s.as_many ∙ c) ∙ ap unsettled_count (sym f));
-      room = (let a = ap length e in let b = ap length f in let r = s.room in omega (arith, a, b, n, r, room));
-      room_later = (let a = ap length e in let b = ap length f in let r = s.room_later in omega (arith, a, b, n, r, room_later));
+      room = (let a = ap length e in let b = ap length f in let r = s.room in let t = same.0 in omega (arith, a, b, n, r, t));
+      room_later = (let a = ap length e in let b = ap length f in let r = s.room_later in let t = same.1 in omega (arith, a, b, n, r, t));
+      room_late = (let a = ap length e in let b = ap length f in let r = s.room_late in let t = same.2 in omega (arith, a, b, n, r, t));
     }
   where
     none_left : (b : Bool) (m one : ℕ) → one ≡ 1 → m + cond b 0 one ≡ cond b 0 1 → m ≡ 0
@@ -168,33 +177,43 @@ popped queue queue' flag flags s e f counts lengths room room_later =
 
 -- one that is settled waits nowhere
 pub popped_settled : (queue queue' : Queue) (flag : Bool) → IsRuleQueue queue → queue.settled.items ≡ queue'.settled.items ++ flag ∷ [] → flag ≡ true
-    → queue'.round.items ≡ queue.round.items → queue'.later.items ≡ queue.later.items
-    → vec_capacity queue'.round ≡ vec_capacity queue.round → vec_capacity queue'.later ≡ vec_capacity queue.later → IsRuleQueue queue'
-popped_settled queue queue' true s e m f g room room_later =
+    → queue'.round.items ≡ queue.round.items → queue'.later.items ≡ queue.later.items → queue'.late.items ≡ queue.late.items → HasSameRoom queue queue' → IsRuleQueue queue'
+popped_settled queue queue' true s e m f g h same =
     popped queue queue' true queue'.settled.items s e refl
-    (λ k. let a = ap (times_in k) f in let b = ap (times_in k) g in omega (arith, a, b)) (let a = ap length f in let b = ap length g in omega (arith, a, b)) room room_later
-popped_settled queue queue' false s e m f g room room_later = absurd (false≢true m)
+    (λ k. let a = ap (times_in k) f in let b = ap (times_in k) g in let c = ap (times_in k) h in omega (arith, a, b, c))
+    (let a = ap length f in let b = ap length g in let c = ap length h in omega (arith, a, b, c)) same
+popped_settled queue queue' false s e m f g h same = absurd (false≢true m)
 
 -- one that waits for the next round
 pub popped_later : (queue queue' : Queue) (flag : Bool) (k : ℕ) → IsRuleQueue queue → queue.settled.items ≡ queue'.settled.items ++ flag ∷ [] → flag ≡ false → k ≡ length queue'.settled.items
-    → queue'.round.items ≡ queue.round.items → Removes k queue.later.items queue'.later.items true
-    → vec_capacity queue'.round ≡ vec_capacity queue.round → vec_capacity queue'.later ≡ vec_capacity queue.later → IsRuleQueue queue'
-popped_later queue queue' true k s e m at f g room room_later = absurd (false≢true (sym m))
-popped_later queue queue' false k s e m at f g room room_later =
+    → queue'.round.items ≡ queue.round.items → Removes k queue.later.items queue'.later.items true → queue'.late.items ≡ queue.late.items → HasSameRoom queue queue' → IsRuleQueue queue'
+popped_later queue queue' true k s e m at f g h same = absurd (false≢true (sym m))
+popped_later queue queue' false k s e m at f g h same =
     popped queue queue' false queue'.settled.items s e refl
-    (λ j. let a = ap (times_in j) f in let b = g.0 j in let c = ap (λ i. times_in j (i ∷ [])) at in omega (arith, a, b, c)) (let a = ap length f in let b = g.1 in omega (arith, a, b)) room room_later
+    (λ j. let a = ap (times_in j) f in let b = g.0 j in let c = ap (λ i. times_in j (i ∷ [])) at in let d = ap (times_in j) h in omega (arith, a, b, c, d))
+    (let a = ap length f in let b = g.1 in let d = ap length h in omega (arith, a, b, d)) same
+
+-- one that waits until no other does
+pub popped_late : (queue queue' : Queue) (flag : Bool) (k : ℕ) → IsRuleQueue queue → queue.settled.items ≡ queue'.settled.items ++ flag ∷ [] → flag ≡ false → k ≡ length queue'.settled.items
+    → queue'.round.items ≡ queue.round.items → Removes k queue.later.items queue'.later.items false → Removes k queue.late.items queue'.late.items true → HasSameRoom queue queue' → IsRuleQueue queue'
+popped_late queue queue' true k s e m at f g h same = absurd (false≢true (sym m))
+popped_late queue queue' false k s e m at f g h same =
+    popped queue queue' false queue'.settled.items s e refl
+    (λ j. let a = ap (times_in j) f in let b = ap (times_in j) g.0 in let c = ap (λ i. times_in j (i ∷ [])) at in let d = h.0 j in omega (arith, a, b, c, d))
+    (let a = ap length f in let b = ap length g.0 in let d = h.1 in omega (arith, a, b, d)) same
 
 -- one that waits in this round
 pub popped_round : (queue queue' : Queue) (flag : Bool) (k : ℕ) (removed : Bool) → IsRuleQueue queue → queue.settled.items ≡ queue'.settled.items ++ flag ∷ [] → flag ≡ false
-    → k ≡ length queue'.settled.items → Removes k queue.later.items queue'.later.items false → Removes k queue.round.items queue'.round.items removed
-    → vec_capacity queue'.round ≡ vec_capacity queue.round → vec_capacity queue'.later ≡ vec_capacity queue.later → IsRuleQueue queue'
-popped_round queue queue' true k removed s e m at f g room room_later = absurd (false≢true (sym m))
-popped_round queue queue' false k true s e m at f g room room_later =
+    → k ≡ length queue'.settled.items → Removes k queue.later.items queue'.later.items false → Removes k queue.late.items queue'.late.items false
+    → Removes k queue.round.items queue'.round.items removed → HasSameRoom queue queue' → IsRuleQueue queue'
+popped_round queue queue' true k removed s e m at f h g same = absurd (false≢true (sym m))
+popped_round queue queue' false k true s e m at f h g same =
     popped queue queue' false queue'.settled.items s e refl
-    (λ j. let a = ap (times_in j) f.0 in let b = g.0 j in let c = ap (λ i. times_in j (i ∷ [])) at in omega (arith, a, b, c)) (let a = ap length f.0 in let b = g.1 in omega (arith, a, b)) room room_later
-popped_round queue queue' false k false s e m at f g room room_later =
+    (λ j. let a = ap (times_in j) f.0 in let b = g.0 j in let c = ap (λ i. times_in j (i ∷ [])) at in let d = ap (times_in j) h.0 in omega (arith, a, b, c, d))
+    (let a = ap length f.0 in let b = g.1 in let d = ap length h.0 in omega (arith, a, b, d)) same
+popped_round queue queue' false k false s e m at f h g same =
     let w : waits queue.settled.items k ≡ 1 = ap (λ l. waits l k) e ∙ ap (λ b. cond {A = ℕ} b 0 1) (get_or_push queue'.settled.items false true k (sym at)) in
-    let o = s.once k in let a = f.1 in let b = g.1 in absurd (omega (arith, w, o, a, b))
+    let o = s.once k in let a = f.1 in let b = g.1 in let c = h.1 in absurd (omega (arith, w, o, a, b, c))
 
 -- ---- rules that lose their flags
 

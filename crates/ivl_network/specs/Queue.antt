@@ -59,7 +59,8 @@ pub record IsRuleIndex (count : ℕ) (rules : List Rule) (index : Index) : Type 
       → IsLastNamingRule singles rules i k (slice_index_or index.links.items place 0)
 
 pub record IsRuleQueue (queue : Queue) : Type 0 where
-  pub once : (k : ℕ) → times_in k queue.round.items + times_in k queue.later.items ≡ waits queue.settled.items k
-  pub as_many : length queue.round.items + length queue.later.items ≡ unsettled_count queue.settled.items
+  pub once : (k : ℕ) → times_in k queue.round.items + times_in k queue.later.items + times_in k queue.late.items ≡ waits queue.settled.items k
+  pub as_many : length queue.round.items + length queue.later.items + length queue.late.items ≡ unsettled_count queue.settled.items
   pub room : length queue.settled.items ≤ vec_capacity queue.round
   pub room_later : length queue.settled.items ≤ vec_capacity queue.later
+  pub room_late : length queue.settled.items ≤ vec_capacity queue.late

@@ -1,14 +1,14 @@
 -- Bits of words.
-use Rattle.std.proofs.Common.{◌≡◌, ◌≢◌, ◌↔◌, ◌⊎◌, ℕ, ◌+◌, ◌-◌, ◌*◌, ◌/◌, ◌%◌, ◌<◌, ◌≤◌, List, [], ◌∷◌, ◌++◌, take, length, get_or, inl, inr, refl, sym, ap, subst, arith, ◌∙◌, bit_and, bit_or, w64}
+use Rattle.std.proofs.Common.{◌≡◌, ◌≢◌, ◌↔◌, ◌⊎◌, ℕ, ◌+◌, ◌-◌, ◌*◌, ◌/◌, ◌%◌, ◌<◌, ◌≤◌, List, [], ◌∷◌, ◌++◌, take, length, get_or, inl, inr, refl, sym, ap, subst, arith, ◌∙◌, bit_and, bit_or, suc, w64}
 use Rattle.std.proofs.lemmas.Bool.{cases_lt}
-use Rattle.std.proofs.lemmas.Nat.{and_le_l, one_shl, pow_pos, shr-shr}
+use Rattle.std.proofs.lemmas.Nat.{and_le_l, mod-mul-add, one_shl, pow_pos, shr-shr}
 use Rattle.std.proofs.lemmas.Int.{ints}
-use Rattle.std.proofs.Math.Nat.{div-le_self, le-div_iff_mul-le}
+use Rattle.std.proofs.Math.Nat.{div-le_self, le-div_iff_mul-le, pow-succ'}
+use Rattle.std.proofs.Math.Pow.{pow_mono}
 use Rattle.std.proofs.lemmas.Nat.Bits.{bit_at-lt, bit_at-pow_other, bit_at-pow_same, bit_at-trailing_ones, bit_at-trailing_zeros, bit_at-zero, bit_at_above, bit_at_and, bit_at_cat_high, bit_at_cat_low, bit_at_mask_below, bit_at_mask_inside, bit_at_not, bit_at_ones, bit_at_ones_above, bit_at_or, ones_shl, ones_shr, same_from_bits}
 use Rattle.std.specs.Prelude.{◌^◌, Some, ℤ, pos, negsuc, ◌+ℤ◌, ◌-ℤ◌, ◌≤ℤ◌, ◌<ℤ◌}
 use Rattle.std.specs.Int.{bit_at, trailing_ones, trailing_zeros}
 use native.Mathlib.Nat.{mod-eq_of_lt}
-use mir.Syntax.{w128}
 use mir.Val.{of_z, to_z}
 use Rattle.ivl_laws.specs.Sets.{Differences, IsBetween, IsSubset, SameMembers, Sums}
 use Rattle.ivl_laws.specs.Runs.{Covers, IsRunListIn, IsRunsOf}
@@ -71,6 +71,29 @@ between low high p order fits =
         subst (λ m. HasBit m p) (sym upper) (bit_at_mask_inside low 64 p from (omega arith)),
       )),
     )
+
+-- the bits of a word above a place
+pub above_place : (w place p : ℕ) → w < top → place < 64 → HasBit (bit_and w (18446744073709551614 * 2 ^ place % 18446744073709551616)) p ↔ (HasBit w p × (place < p))
+above_place w place p fits low =
+    let both = in_both w (18446744073709551614 * 2 ^ place % 18446744073709551616) p in (
+      (λ h. let u = both.0 h in (
+        u.0,
+        elim (cases_lt place p) [
+          | inl above ↦ above
+          | inr below ↦ absurd (let none = bit_at_mask_below (place + 1) 64 p (omega (arith, below)) in let some = subst (λ m. HasBit m p) is u.1 in omega (arith, none, some))
+        ],
+      )),
+      (λ h. let fit = place_fits w p fits h.0 in both.1 (h.0, subst (λ m. HasBit m p) (sym is) (bit_at_mask_inside (place + 1) 64 p (let l = h.1 in omega (arith, l)) (omega (arith, fit))))),
+    )
+  where
+    twice : 2 ^ (place + 1) ≡ 2 * 2 ^ place
+    twice = ap (λ k. 2 ^ k) (let e : place + 1 ≡ suc place = omega arith in e) ∙ pow-succ' 2 place
+
+    is : 18446744073709551614 * 2 ^ place % 18446744073709551616 ≡ 2 ^ 64 - 2 ^ (place + 1)
+    is =
+        let some = pow_pos place in let most = pow_mono {i = place} {j = 63} (omega (arith, low)) in
+        let split : 18446744073709551614 * 2 ^ place ≡ (2 ^ place - 1) * 18446744073709551616 + (2 ^ 64 - 2 ^ (place + 1)) = (let e = twice in omega (arith, e, some, most)) in
+        ap (λ n. n % 18446744073709551616) split ∙ mod-mul-add (2 ^ place - 1) 18446744073709551616 (2 ^ 64 - 2 ^ (place + 1)) (let e = twice in omega (arith, e, some))
 
 -- the bits of one word that another lacks
 pub without : (w m p : ℕ) → w < top → m < top → HasBit (bit_and w (18446744073709551615 - m)) p ↔ (HasBit w p × (¬ (HasBit m p)))
@@ -402,8 +425,8 @@ taken_none base word = record {
 
 pub taken_next : (base : ℤ) (word rest rest' low high : ℕ) (L M : List (ℤ × ℤ)) → Taken base word rest L → M ≡ L ++ (base +ℤ pos low, base +ℤ pos high) ∷ []
     → ((p : ℕ) → low ≤ p → p ≤ high → HasBit rest p) → ((p : ℕ) → HasBit rest p → low ≤ p) → ¬ (HasBit rest (high + 1))
-    → ((p : ℕ) → HasBit rest' p ↔ (HasBit rest p × (¬ ((low ≤ p) × (p ≤ high))))) → Taken base word rest' M
-taken_next base word rest rest' low high L M t is set from_low ends gone = record {
+    → ((p : ℕ) → HasBit rest' p ↔ (HasBit rest p × (high < p))) → Taken base word rest' M
+taken_next base word rest rest' low high L M t is set from_low ends above = record {
   left = λ p h. t.left p ((gone p).0 h).0;
   apart = λ p v h m.
       let u = (gone p).0 h in
@@ -424,6 +447,12 @@ taken_next base word rest rest' low high L M t is set from_low ends gone = recor
       );
 }
   where
+    gone : (p : ℕ) → HasBit rest' p ↔ (HasBit rest p × (¬ ((low ≤ p) × (p ≤ high))))
+    gone p = (
+      (λ h. let u = (above p).0 h in let l = u.1 in (u.0, λ k. let m = k.1 in omega (arith, l, m))),
+      (λ h. (above p).1 (h.0, elim (cases_lt high p) [ inl l ↦ l | inr m ↦ absurd (h.1 (from_low p h.0, m)) ])),
+    )
+
     beyond : (p : ℕ) → HasBit rest p → ¬ ((low ≤ p) × (p ≤ high)) → high + 1 < p
     beyond p h out = elim (cases_lt high p) [
       | inl above ↦ elim (cases_lt (high + 1) p) [
@@ -576,5 +605,5 @@ module _ (S : ℤ → Type 0) (base : ℤ) (had left : ℕ) (fits-had : had < to
       record { maximal = m.maximal; members = λ v. ((λ h. let u = (m.members v).0 h in ((covers v).1 (left_in v u), u)), (λ h. (m.members v).1 h.1)) }
       (λ same. lost (λ v h. (m.members v).0 ((same v).1 ((covers v).1 h))))
 
-pub sum_of_bases : (xb yb n : ℤ) → IsWithin xb → IsWithin yb → n ≡ to_z w128 (of_z w128 xb) +ℤ to_z w128 (of_z w128 yb) → to_z w128 (of_z w128 n) ≡ xb +ℤ yb
+pub sum_of_bases : (xb yb n : ℤ) → IsWithin xb → IsWithin yb → n ≡ to_z w64 (of_z w64 xb) +ℤ to_z w64 (of_z w64 yb) → to_z w64 (of_z w64 n) ≡ xb +ℤ yb
 sum_of_bases xb yb n x y e = let a = x.0 in let b = x.1 in let c = y.0 in let d = y.1 in omega (arith, ints)

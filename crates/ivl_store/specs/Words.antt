@@ -4,8 +4,9 @@
 --     IsWordOf w base S      the bits of w are the members of S, of the 64 numbers from the base on
 --     SupportsAt y z p q      q is in the word y, and p + q in the word z
 --     AreSupported x y z X Y Z      the bits of x, y and z that stand in a sum p + q = r with one of each of the others
---     IsWithin n, IsNear n      a number of a 64-bit type, and a sum of two, with room to spare
-use Rattle.std.specs.Prelude.{◌≡◌, ◌↔◌, ℕ, ◌+◌, ◌<◌, ◌^◌, ℤ, pos, negsuc, ◌+ℤ◌, ◌≤ℤ◌}
+--     IsWithin n, IsNear n      a number far from the ends of 64 bits, and one that 64 places do not reach them from, as a sum of two such is
+--     BeginsWithin S      the least member of S, if there is one, is such a number
+use Rattle.std.specs.Prelude.{◌≡◌, ◌↔◌, ℕ, ◌+◌, ◌-◌, ◌<◌, ◌^◌, ℤ, pos, negsuc, ◌+ℤ◌, ◌≤ℤ◌}
 use Rattle.std.specs.Int.{bit_at}
 
 abbrev pub HasBit : ℕ → ℕ → Type 0
@@ -26,7 +27,10 @@ pub record AreSupported (x y z X Y Z : ℕ) : Type 0 where
   pub at_z : (r : ℕ) → HasBit Z r ↔ ((p : ℕ) × HasBit x p × (q : ℕ) × SupportsAt y z p q × (p + q ≡ r))
 
 abbrev pub IsNear : ℤ → Type 0
-IsNear n = (negsuc (2 ^ 67) ≤ℤ n) × (n ≤ℤ pos (2 ^ 67))
+IsNear n = (negsuc (2 ^ 63 - 2 ^ 10) ≤ℤ n) × (n ≤ℤ pos (2 ^ 63 - 2 ^ 10))
 
 abbrev pub IsWithin : ℤ → Type 0
-IsWithin n = (negsuc (2 ^ 65) ≤ℤ n) × (n ≤ℤ pos (2 ^ 65))
+IsWithin n = (negsuc (2 ^ 61) ≤ℤ n) × (n ≤ℤ pos (2 ^ 61))
+
+abbrev pub BeginsWithin : (ℤ → Type 0) → Type 0
+BeginsWithin S = (base : ℤ) → S base → ((v : ℤ) → S v → base ≤ℤ v) → IsWithin base

@@ -7,8 +7,10 @@ ghost use Rattle.ivl_rules.specs.Rules.{needs_singles};
 ghost use Rattle.ivl_network.specs.Families.{ArePresent};
 ghost use Rattle.ivl_network.specs.Queue.{IsLastNamingRule, IsRuleIndex, lasts_of};
 
+use super::narrowing::has_two;
+use intervallum::width::Width;
 use ivl_rules::rules::Rule;
-use ivl_store::store::Constraint;
+use ivl_store::store::{Constraint, Store};
 use std::alloc::{AllocError, Global};
 
 /// For each variable the rules that name it, as two lists that are linked through the rules, the latest
@@ -20,6 +22,8 @@ pub(super) struct Index {
     single_lasts: Vec<usize>,
     // The place before each. The number at 4 k is not used.
     links: Vec<usize>,
+    // For each rule, how many variables it alone names, of those that had several members, `Differs` aside.
+    leaves: Vec<u8>,
 }
 
 impl Index {
@@ -30,6 +34,7 @@ impl Index {
             lasts: Vec::new(alloc),
             single_lasts: Vec::new(alloc),
             links: Vec::new(alloc),
+            leaves: Vec::new(alloc),
         }
     }
 
@@ -40,6 +45,7 @@ impl Index {
         self.lasts.reserve(variables)?;
         self.single_lasts.reserve(variables)?;
         self.links.reserve(rules.saturating_mul(4))?;
+        self.leaves.reserve(rules)?;
         Ok(())
     }
 
@@ -76,9 +82,39 @@ impl Index {
     pub(super) fn reserve_rule(&mut self) -> Result<(), AllocError>
         ensures same { (count : ℕ) (rules : List Rule) → IsRuleIndex count rules self.old → IsRuleIndex count rules self.new }
         ensures room { OnOk result (vec_len self.new.links + 4 ≤ vec_capacity self.new.links) }
+        ensures leaf_room { OnOk result (vec_len self.new.leaves < vec_capacity self.new.leaves) }
     {
         self.links.reserve(4)?;
+        self.leaves.reserve(1)?;
         Ok(())
+    }
+
+    /// Counts the leaves of the rule that is added next: its variables with several members that no rule names
+    /// so far. A rule that alone named one of its variables has one leaf less.
+    pub(super) fn push_leaves<B: Width>(&mut self, rule: &Rule, store: &Store<B>)
+        requires room { vec_len self.old.leaves < vec_capacity self.old.leaves }
+        ensures same { (count : ℕ) (rules : List Rule) → IsRuleIndex count rules self.old → IsRuleIndex count rules self.new }
+        ensures links { self.new.links ≡ self.old.links }
+    {
+        if rule.needs_single_numbers() {
+            self.leaves.push_reserved(0);
+            return;
+        }
+        let c = rule.places();
+        let count = count_leaves(&self.lasts, &c, store);
+        self.leaves.push_reserved(count);
+        take_leaf(&mut self.leaves, &self.lasts, &self.links, c.x);
+        take_leaf(&mut self.leaves, &self.lasts, &self.links, c.y);
+        if c.y != c.z {
+            take_leaf(&mut self.leaves, &self.lasts, &self.links, c.z);
+        }
+    }
+
+    /// Whether a rule alone names a variable with several members, `Differs` aside: where it takes one of these, it
+    /// wakes no other. That is a guess where rules were dropped.
+    #[inline]
+    pub(super) fn has_leaf(&self, k: usize) -> bool {
+        k < self.leaves.len() && self.leaves[k] > 0
     }
 
     /// Adds a rule after the others.
@@ -107,6 +143,7 @@ impl Index {
         if count < 4 {
             return;
         }
+        let _ = self.leaves.pop();
         let start = count - 4;
         let x = self.links[start + 1];
         let y = self.links[start + 2];
@@ -168,6 +205,37 @@ fn push_places(links: &mut Vec<usize>, lasts: &[usize], c: &Constraint)
     links.push_reserved(lasts[c.x]);
     links.push_reserved(lasts[c.y]);
     links.push_reserved(lasts[c.z]);
+}
+
+/// How many variables at these places have several members, and no rule so far. A rule of two variables has its
+/// second twice.
+fn count_leaves<B: Width>(lasts: &[usize], c: &Constraint, store: &Store<B>) -> u8
+    ensures { result ≤ 3 }
+{
+    let count = leaf_at(lasts, c.x, store) + leaf_at(lasts, c.y, store);
+    if c.y == c.z {
+        return count;
+    }
+    count + leaf_at(lasts, c.z, store)
+}
+
+/// One for a variable that has several members and that no rule names so far, and else none.
+fn leaf_at<B: Width>(lasts: &[usize], variable: usize, store: &Store<B>) -> u8
+    ensures { result ≤ 1 }
+{
+    if place_at(lasts, variable) > 0 || variable >= store.domains().len() {
+        return 0;
+    }
+    if has_two(store, variable) { 1 } else { 0 }
+}
+
+/// Counts a leaf less of the rule that alone names a variable so far, if one does.
+fn take_leaf(leaves: &mut [u8], lasts: &[usize], links: &[usize], variable: usize) {
+    let last = place_at(lasts, variable);
+    let k = last / 4;
+    if last > 0 && place_at(links, last) == 0 && k < leaves.len() {
+        leaves[k] = leaves[k].saturating_sub(1);
+    }
 }
 
 /// Puts places at three variables, and the last of them where two are one.

@@ -111,10 +111,7 @@ pub fn narrowed_by_sum_in<B: Width>(
     if are_runs(x, y, z) {
         return narrowed_runs(x, y, z, spares);
     }
-    if let Some(left) = narrowed_by_words(x, y, z, spares)? {
-        return Ok(left);
-    }
-    narrowed_one_by_one(x, y, z, spares)
+    narrowed_by_words(x, y, z, spares)
 }
 
 /// Whether each of three sets is one run, so that narrowing by bounds costs least.
@@ -160,7 +157,7 @@ fn only_run<B: Width>(set: &IntervalSet<B>) -> Interval<B>
 }
 
 /// Returns what narrowing leaves at x, y and z of a sum, found for one after another.
-fn narrowed_one_by_one<B: Width>(
+pub(super) fn narrowed_one_by_one<B: Width>(
     x: &IntervalSet<B>,
     y: &IntervalSet<B>,
     z: &IntervalSet<B>,

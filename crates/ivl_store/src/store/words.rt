@@ -1,5 +1,5 @@
 //! Sums over sets whose members lie close together: bit `p` of a word stands for the number `p` above a base.
-ghost use Rattle.std.specs.Prelude.{◌≡◌, ◌≢◌, ◌↔◌, ◌⊎◌, [], ℕ, ◌+◌, ◌<◌, ◌≤◌, ℤ, ◌≤ℤ◌, ◌<ℤ◌, pos, ◌+ℤ◌, ◌-ℤ◌, IfOk};
+ghost use Rattle.std.specs.Prelude.{◌≡◌, ◌≢◌, ◌↔◌, ◌⊎◌, [], ℕ, ◌+◌, ◌<◌, ◌≤◌, ℤ, ◌≤ℤ◌, ◌<ℤ◌, pos, ◌+ℤ◌, ◌-ℤ◌, IfOk, false, true};
 ghost use Rattle.ivl_laws.specs.Sets.{IsBetween, IsInRange};
 ghost use Rattle.ivl_laws.specs.Runs.{Covers, IsRunListIn, IsRunsOf};
 ghost use Rattle.ivl_store.specs.Words.{AreSupported, HasBit, InWord, IsNear, IsWordOf, SupportsAt};
@@ -75,12 +75,29 @@ pub(super) fn supported(x: u64, y: u64, z: u64) -> Words
 }
 
 /// How far a value stands above a base.
-pub(super) fn above<B: Width>(value: B, base: i128) -> i128
+pub(super) fn above<B: Width>(value: B, base: i64) -> i128
     requires in_range { IsBetween B.whole (B.value value) }
     requires near { IsNear base }
     ensures { result ≡ B.value value -ℤ base }
 {
-    value.number() - base
+    value.number() - base as i128
+}
+
+/// Whether a value stands below a base.
+pub(super) fn is_below<B: Width>(value: B, base: i64) -> bool
+    ensures below { result ≡ true → B.value value <ℤ base }
+    ensures from { result ≡ false → base ≤ℤ B.value value }
+{
+    value.number() < base as i128
+}
+
+/// Whether a value stands above the places of a word.
+pub(super) fn is_past<B: Width>(value: B, base: i64) -> bool
+    requires { IsNear base }
+    ensures past { result ≡ true → (base +ℤ pos 63) <ℤ B.value value }
+    ensures within { result ≡ false → B.value value ≤ℤ (base +ℤ pos 63) }
+{
+    value.number() > (base + 63) as i128
 }
 
 /// The place of a number that has one.
@@ -114,7 +131,7 @@ fn last_place(number: i128) -> u32
 }
 
 /// The word of the numbers of a run, from a base on.
-fn word_of_run<B: Width>(run: Interval<B>, base: i128) -> u64
+fn word_of_run<B: Width>(run: Interval<B>, base: i64) -> u64
     requires in_range { IsInRange B.whole run }
     requires in_order { run.0 ≤ℤ run.1 }
     requires near { IsNear base }
@@ -129,7 +146,7 @@ fn word_of_run<B: Width>(run: Interval<B>, base: i128) -> u64
 }
 
 /// The word of the numbers of a run, all of which have a place.
-fn word_of_run_within<B: Width>(run: Interval<B>, base: i128) -> u64
+fn word_of_run_within<B: Width>(run: Interval<B>, base: i64) -> u64
     requires in_range { IsInRange B.whole run }
     requires in_order { run.0 ≤ℤ run.1 }
     requires near { IsNear base }
@@ -143,7 +160,7 @@ fn word_of_run_within<B: Width>(run: Interval<B>, base: i128) -> u64
 }
 
 /// The word of a set, all of whose members have a place.
-pub(super) fn word_within<B: Width>(runs: &[Interval<B>], base: i128) -> u64
+pub(super) fn word_within<B: Width>(runs: &[Interval<B>], base: i64) -> u64
     requires runs { IsRunListIn B.whole runs.now }
     requires near { IsNear base }
     requires first { (v : ℤ) → Covers runs.now v → base ≤ℤ v }
@@ -158,7 +175,7 @@ pub(super) fn word_within<B: Width>(runs: &[Interval<B>], base: i128) -> u64
 }
 
 /// The word of a set, of its members from a base on.
-pub(super) fn word_of<B: Width>(runs: &[Interval<B>], base: i128) -> u64
+pub(super) fn word_of<B: Width>(runs: &[Interval<B>], base: i64) -> u64
     requires runs { IsRunListIn B.whole runs.now }
     requires near { IsNear base }
     ensures { IsWordOf result base (Covers runs.now) }
@@ -188,15 +205,14 @@ fn first_bits(word: u64) -> (u32, u32)
     (low, low + count - 1)
 }
 
-/// The word without the bits from one place to another.
-fn without_bits(word: u64, low: u32, high: u32) -> u64
-    requires in_order { low ≤ high }
-    requires fits { high < 64 }
-    requires set { HasBit word low }
-    ensures left { (p : ℕ) → HasBit result p ↔ (HasBit word p × (¬ ((low ≤ p) × (p ≤ high)))) }
+/// The bits of a word above one of its bits.
+fn bits_above(word: u64, place: u32) -> u64
+    requires fits { place < 64 }
+    requires set { HasBit word place }
+    ensures left { (p : ℕ) → HasBit result p ↔ (HasBit word p × (place < p)) }
     ensures less { result < word }
 {
-    word & !bits_between(low, high)
+    word & (!1 << place)
 }
 
 /// The set of the numbers of a word, above a base, in the memory of an empty set.
@@ -204,7 +220,7 @@ fn without_bits(word: u64, low: u32, high: u32) -> u64
 pub(super) fn set_of_word<B: Width>(
     empty: IntervalSet<B>,
     word: u64,
-    base: i128,
+    base: i64,
 ) -> Result<IntervalSet<B>, AllocError>
     requires empty { empty ≡ [] }
     requires near { IsNear base }
@@ -216,14 +232,14 @@ pub(super) fn set_of_word<B: Width>(
     'runs: while rest != 0 {
         let (low, high) = first_bits(rest);
         set.push_run(run_of(base, low, high))?;
-        rest = without_bits(rest, low, high);
+        rest = bits_above(rest, high);
     }
     set.in_whole();
     Ok(set)
 }
 
 /// The run from one place to another above a base.
-fn run_of<B: Width>(base: i128, low: u32, high: u32) -> Interval<B>
+fn run_of<B: Width>(base: i64, low: u32, high: u32) -> Interval<B>
     requires near { IsNear base }
     requires small { (low ≤ high) × (high < 64) }
     requires first { IsBetween B.whole (base +ℤ pos low) }
@@ -234,11 +250,11 @@ fn run_of<B: Width>(base: i128, low: u32, high: u32) -> Interval<B>
 }
 
 /// The value that stands so far above a base.
-fn value_of<B: Width>(base: i128, place: u32) -> B
+fn value_of<B: Width>(base: i64, place: u32) -> B
     requires near { IsNear base }
     requires small { place < 64 }
     requires in_range { IsBetween B.whole (base +ℤ pos place) }
     ensures { B.value result ≡ base +ℤ pos place }
 {
-    B::from_number(base + place as i128).unwrap()
+    B::from_number((base + place as i64) as i128).unwrap()
 }

@@ -14,11 +14,13 @@ use crate::rattle::std::alloc::{AllocError, Global};
 use crate::rattle::std::mem;
 
 /// Whether each rule is settled, so that narrowing by it would change nothing, and a queue of
-/// those that are not. The queue goes in rounds: a rule that gets unsettled waits for the next.
+/// those that are not. The queue goes in rounds: a rule that gets unsettled waits for the next, or,
+/// if it is late, for the first round that would be empty.
 pub(super) struct Queue {
     settled: Vec<bool>,
     round: Vec<usize>,
     later: Vec<usize>,
+    late: Vec<usize>,
 }
 
 impl Queue {
@@ -27,6 +29,7 @@ impl Queue {
             settled: Vec::new(alloc),
             round: Vec::new(alloc),
             later: Vec::new(alloc),
+            late: Vec::new(alloc),
         }
     }
 
@@ -38,6 +41,8 @@ impl Queue {
             .reserve((count - self.round.len()).saturating_add(rules))?;
         self.later
             .reserve((count - self.later.len()).saturating_add(rules))?;
+        self.late
+            .reserve((count - self.late.len()).saturating_add(rules))?;
         Ok(())
     }
 
@@ -46,6 +51,7 @@ impl Queue {
         let count = self.settled.len();
         self.round.reserve(count - self.round.len() + 1)?;
         self.later.reserve(count - self.later.len() + 1)?;
+        self.late.reserve(count - self.late.len() + 1)?;
         self.settled.push(false)?;
         self.later.push_reserved(count);
         Ok(())
@@ -55,7 +61,7 @@ impl Queue {
     pub(super) fn pop(&mut self) {
         if let Some(is_settled) = self.settled.pop() {
             let k = self.settled.len();
-            if !is_settled && !remove(&mut self.later, k) {
+            if !is_settled && !remove(&mut self.later, k) && !remove(&mut self.late, k) {
                 remove(&mut self.round, k);
             }
         }
@@ -74,14 +80,18 @@ impl Queue {
 
     /// Begins the next round, if this one has ended.
     fn turn(&mut self) {
+        if !self.round.is_empty() {
+            return;
+        }
+        mem::swap(&mut self.round, &mut self.later);
         if self.round.is_empty() {
-            mem::swap(&mut self.round, &mut self.later);
+            mem::swap(&mut self.round, &mut self.late);
         }
     }
 
     /// Whether each rule is settled.
     pub(super) fn is_empty(&self) -> bool {
-        self.round.is_empty() && self.later.is_empty()
+        self.round.is_empty() && self.later.is_empty() && self.late.is_empty()
     }
 
     /// Updates the flags after the first rule, at these places, narrowed the store. It is settled then. Others that
@@ -119,11 +129,16 @@ impl Queue {
         self.settled[k] = true;
     }
 
-    /// Clears the flag of a rule that is settled, which then waits for the next round.
+    /// Clears the flag of a rule that is settled, which then waits for the next round, or if it is late,
+    /// until no other does.
     #[inline]
-    fn clear(&mut self, k: usize) {
+    fn clear(&mut self, k: usize, is_late: bool) {
         self.settled[k] = false;
-        self.later.push_reserved(k);
+        if is_late {
+            self.late.push_reserved(k);
+        } else {
+            self.later.push_reserved(k);
+        }
     }
 
     /// Clears the flags of the rules that name the variable, if it has changed, but for those that take
@@ -168,9 +183,14 @@ impl Queue {
         index: &Index,
     ) {
         let last = index.last(singles, variable);
-        if last > 0 {
-            self.wake_from(last, singles, keeps_one, variable, store, rules, index);
+        if last == 0 {
+            return;
         }
+        // one that alone names the variable has mostly changed it
+        if index.before(last) == 0 && !self.settled[last / 4] {
+            return;
+        }
+        self.wake_from(last, singles, keeps_one, variable, store, rules, index);
     }
 
     /// Clears flags as [`Queue::wake_listed`] does, by a walk from the place of the last rule of the list.
@@ -190,7 +210,8 @@ impl Queue {
         while place > 0 {
             let k = place / 4;
             if self.settled[k] && !stays_settled(&rules[k], keeps_one, variable, store) {
-                self.clear(k);
+                let is_late = !singles && index.has_leaf(k) && has_two(store, variable);
+                self.clear(k, is_late);
             }
             place = index.before(place);
         }

@@ -56,8 +56,18 @@ pub(super) fn supported(x: u64, y: u64, z: u64) -> Words {
 }
 
 /// How far a value stands above a base.
-pub(super) fn above<B: Width>(value: B, base: i128) -> i128 {
-    value.number() - base
+pub(super) fn above<B: Width>(value: B, base: i64) -> i128 {
+    value.number() - base as i128
+}
+
+/// Whether a value stands below a base.
+pub(super) fn is_below<B: Width>(value: B, base: i64) -> bool {
+    value.number() < base as i128
+}
+
+/// Whether a value stands above the places of a word.
+pub(super) fn is_past<B: Width>(value: B, base: i64) -> bool {
+    value.number() > (base + 63) as i128
 }
 
 /// The place of a number that has one.
@@ -82,7 +92,7 @@ fn last_place(number: i128) -> u32 {
 }
 
 /// The word of the numbers of a run, from a base on.
-fn word_of_run<B: Width>(run: Interval<B>, base: i128) -> u64 {
+fn word_of_run<B: Width>(run: Interval<B>, base: i64) -> u64 {
     let low = above(run.lower_bound(), base);
     let high = above(run.upper_bound(), base);
     if high < 0 || 63 < low {
@@ -92,14 +102,14 @@ fn word_of_run<B: Width>(run: Interval<B>, base: i128) -> u64 {
 }
 
 /// The word of the numbers of a run, all of which have a place.
-fn word_of_run_within<B: Width>(run: Interval<B>, base: i128) -> u64 {
+fn word_of_run_within<B: Width>(run: Interval<B>, base: i64) -> u64 {
     let low = place_of(above(run.lower_bound(), base));
     let high = place_of(above(run.upper_bound(), base));
     bits_between(low, high)
 }
 
 /// The word of a set, all of whose members have a place.
-pub(super) fn word_within<B: Width>(runs: &[Interval<B>], base: i128) -> u64 {
+pub(super) fn word_within<B: Width>(runs: &[Interval<B>], base: i64) -> u64 {
     let mut word = 0;
     for run in runs {
         word |= word_of_run_within(*run, base);
@@ -108,7 +118,7 @@ pub(super) fn word_within<B: Width>(runs: &[Interval<B>], base: i128) -> u64 {
 }
 
 /// The word of a set, of its members from a base on.
-pub(super) fn word_of<B: Width>(runs: &[Interval<B>], base: i128) -> u64 {
+pub(super) fn word_of<B: Width>(runs: &[Interval<B>], base: i64) -> u64 {
     let mut word = 0;
     for run in runs {
         word |= word_of_run(*run, base);
@@ -127,9 +137,9 @@ fn first_bits(word: u64) -> (u32, u32) {
     (low, low + count - 1)
 }
 
-/// The word without the bits from one place to another.
-fn without_bits(word: u64, low: u32, high: u32) -> u64 {
-    word & !bits_between(low, high)
+/// The bits of a word above one of its bits.
+fn bits_above(word: u64, place: u32) -> u64 {
+    word & (!1 << place)
 }
 
 /// The set of the numbers of a word, above a base, in the memory of an empty set.
@@ -137,25 +147,25 @@ fn without_bits(word: u64, low: u32, high: u32) -> u64 {
 pub(super) fn set_of_word<B: Width>(
     empty: IntervalSet<B>,
     word: u64,
-    base: i128,
+    base: i64,
 ) -> Result<IntervalSet<B>, AllocError> {
     let mut set = empty;
     let mut rest = word;
     'runs: while rest != 0 {
         let (low, high) = first_bits(rest);
         set.push_run(run_of(base, low, high))?;
-        rest = without_bits(rest, low, high);
+        rest = bits_above(rest, high);
     }
     set.in_whole();
     Ok(set)
 }
 
 /// The run from one place to another above a base.
-fn run_of<B: Width>(base: i128, low: u32, high: u32) -> Interval<B> {
+fn run_of<B: Width>(base: i64, low: u32, high: u32) -> Interval<B> {
     Interval::new(value_of(base, low), value_of(base, high))
 }
 
 /// The value that stands so far above a base.
-fn value_of<B: Width>(base: i128, place: u32) -> B {
-    B::from_number(base + place as i128).unwrap()
+fn value_of<B: Width>(base: i64, place: u32) -> B {
+    B::from_number((base + place as i64) as i128).unwrap()
 }

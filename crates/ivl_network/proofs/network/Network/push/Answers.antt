@@ -45,7 +45,8 @@ invariant_of-self-in_err-push g c =
 pub push_rule-requires-clause-present : goal.push_rule-requires-clause-present
 push_rule-requires-clause-present g c =
     let i = c.self.inside in
-    let index : IsRuleIndex (length i.store) i.rules.items c.reserve_rule.new.self = c.reserve_rule.ensures.same (length i.store) i.rules.items c.self.invariant.2 in
+    let index : IsRuleIndex (length i.store) i.rules.items c.push_leaves.new.self =
+    c.push_leaves.ensures.same (length i.store) i.rules.items (c.reserve_rule.ensures.same (length i.store) i.rules.items c.self.invariant.2) in
     subst (λ n. ArePresent n c.args.rule) (sym (index.one_each _)) (subst (λ (s : RulesState). ArePresent (length s.domains) c.args.rule) (sym c.self.view_is) c.requires.present)
 
 pub invariant_of-self-2 : goal.invariant_of-self-2
@@ -61,7 +62,8 @@ invariant_of-self-2 g c =
       sound,
       l.0,
       subst (λ cs. IsRuleIndex (length i.store) cs c.push_rule.new.self) (sym added)
-          (c.push_rule.ensures (length i.store) i.rules.items (c.reserve_rule.ensures.same (length i.store) i.rules.items c.self.invariant.2)),
+          (c.push_rule.ensures (length i.store) i.rules.items
+          (c.push_leaves.ensures.same (length i.store) i.rules.items (c.reserve_rule.ensures.same (length i.store) i.rules.items c.self.invariant.2))),
       c.push.ensures.queue,
       l.1,
     )

@@ -1,10 +1,10 @@
-use Rattle.std.proofs.Common.{arith}
+use Rattle.std.proofs.Common.{arith, refl}
 use Rattle.std.proofs.lemmas.Bool.{false≢true}
 use Rattle.std.proofs.lemmas.Int.{ints}
 use Rattle.ivl_store.proofs.store.by_words.narrowed_by_words.Goals as goal
 
 pub base_of-y_base-requires : goal.base_of-y_base-requires
-base_of-y_base-requires g c = record { some = c.if-is_empty-2.ensures.filled (λ t. false≢true t) }
+base_of-y_base-requires g c = record { some = c.if-is_empty-2.ensures.filled (λ t. false≢true t); near = c.if-is_far-2.ensures refl }
 
 pub span_of-x_span-requires-clause-some : goal.span_of-x_span-requires-clause-some
 span_of-x_span-requires-clause-some g c = c.if-is_empty.ensures.filled (λ t. false≢true t)

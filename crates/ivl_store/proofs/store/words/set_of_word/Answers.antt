@@ -32,14 +32,14 @@ push_run-requires-clause-apart g c =
     let bits = c.first_bits-low.ensures in
     rw c.run_of.ensures (λ v m. c.runs.invariant.apart _ v (bits.set _ (omega arith) bits.in_order) m)
 
-pub without_bits-rest-requires-clause-set : goal.without_bits-rest-requires-clause-set
-without_bits-rest-requires-clause-set g c = let bits = c.first_bits-low.ensures in bits.set _ (omega arith) bits.in_order
+pub bits_above-rest-requires-clause-set : goal.bits_above-rest-requires-clause-set
+bits_above-rest-requires-clause-set g c = let bits = c.first_bits-low.ensures in bits.set _ bits.in_order (omega arith)
 
 pub runs-preserved : goal.runs-preserved
 runs-preserved g c =
-    taken_next _ c.args.word c.runs.rest c.without_bits-rest.result c.first_bits-low.result.0 c.first_bits-low.result.1 c.runs.set c.push_run.new.self c.runs.invariant
+    taken_next _ c.args.word c.runs.rest c.bits_above-rest.result c.first_bits-low.result.0 c.first_bits-low.result.1 c.runs.set c.push_run.new.self c.runs.invariant
     (subst (λ run. c.push_run.new.self ≡ c.runs.set ++ run ∷ []) c.run_of.ensures c.in_ok-push_run.ensures.ok) c.first_bits-low.ensures.set c.first_bits-low.ensures.lowest
-    c.first_bits-low.ensures.ends c.without_bits-rest.ensures.left
+    c.first_bits-low.ensures.ends c.bits_above-rest.ensures.left
 
 pub returns : goal.returns
 returns g c =

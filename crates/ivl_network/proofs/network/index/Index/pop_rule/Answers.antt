@@ -11,7 +11,7 @@ pub returns-then-needs_single_numbers : goal.returns-then-needs_single_numbers
 returns-then-needs_single_numbers c = λ count cs s.
     let p = c.places-c.result in let index = c.args.self.now in let links = index.links.items in let start = c.len-count.result - 4 in
     let x = c.index-x.result.now in let y = c.index-y.result.now in let z = c.index-z.result.now in
-    let index' = record index { single_lasts = c.put_places.new.lasts; links = c.truncate.new.self } in
+    let index' = record index { single_lasts = c.put_places.new.lasts; links = c.truncate.new.self; leaves = c.pop.new.self } in
     let n : start + 4 ≡ length links = (let e = c.len-count.ensures in let o = index.links.ok.0 in let f = c.if-count-lt4.false in omega (arith, e, o, f)) in
     let four : HasFourMore c.truncate.new.self.items links x y z = four_fewer links c.truncate.new.self.items start x y z n c.truncate.ensures.items
     (c.index-x.ensures ∙ get_or_default links (start + 1) _ 0 (omega (arith, n))) (c.index-y.ensures ∙ get_or_default links (start + 2) _ 0 (omega (arith, n)))
@@ -23,7 +23,7 @@ pub returns-else-needs_single_numbers : goal.returns-else-needs_single_numbers
 returns-else-needs_single_numbers c = λ count cs s.
     let p = c.places-c.result in let index = c.args.self.now in let links = index.links.items in let start = c.len-count.result - 4 in
     let x = c.index-x.result.now in let y = c.index-y.result.now in let z = c.index-z.result.now in
-    let index' = record index { lasts = c.put_places-else-needs_single_numbers.new.lasts; links = c.truncate.new.self } in
+    let index' = record index { lasts = c.put_places-else-needs_single_numbers.new.lasts; links = c.truncate.new.self; leaves = c.pop.new.self } in
     let n : start + 4 ≡ length links = (let e = c.len-count.ensures in let o = index.links.ok.0 in let f = c.if-count-lt4.false in omega (arith, e, o, f)) in
     let four : HasFourMore c.truncate.new.self.items links x y z = four_fewer links c.truncate.new.self.items start x y z n c.truncate.ensures.items
     (c.index-x.ensures ∙ get_or_default links (start + 1) _ 0 (omega (arith, n))) (c.index-y.ensures ∙ get_or_default links (start + 2) _ 0 (omega (arith, n)))

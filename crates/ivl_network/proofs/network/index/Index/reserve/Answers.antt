@@ -6,14 +6,21 @@ use Rattle.ivl_network.proofs.network.index.Index.reserve.Goals as goal
 
 pub returns : goal.returns
 returns c =
-    let new : Index = record { lasts = c.reserve.new.self; single_lasts = c.reserve-2.new.self; links = c.reserve-3.new.self } in
+    let new : Index = record { lasts = c.reserve.new.self; single_lasts = c.reserve-2.new.self; links = c.reserve-3.new.self; leaves = c.reserve-4.new.self } in
     record {
       same = (λ count cs s. same_index count cs c.args.self.now new (of_both (λ t. lasts_of t new ≡ lasts_of t c.args.self.now) c.reserve-2.ensures.items c.reserve.ensures.items) c.reserve-3.ensures.items s);
     }
 
 pub returns-in_err-reserve-3 : goal.returns-in_err-reserve-3
 returns-in_err-reserve-3 c =
-    let new : Index = record { lasts = c.reserve.new.self; single_lasts = c.reserve-2.new.self; links = c.reserve-3.new.self } in
+    let new : Index = record c.args.self.now { lasts = c.reserve.new.self; single_lasts = c.reserve-2.new.self; links = c.reserve-3.new.self } in
+    record {
+      same = (λ count cs s. same_index count cs c.args.self.now new (of_both (λ t. lasts_of t new ≡ lasts_of t c.args.self.now) c.reserve-2.ensures.items c.reserve.ensures.items) c.reserve-3.ensures.items s);
+    }
+
+pub returns-in_err-reserve-4 : goal.returns-in_err-reserve-4
+returns-in_err-reserve-4 c =
+    let new : Index = record { lasts = c.reserve.new.self; single_lasts = c.reserve-2.new.self; links = c.reserve-3.new.self; leaves = c.reserve-4.new.self } in
     record {
       same = (λ count cs s. same_index count cs c.args.self.now new (of_both (λ t. lasts_of t new ≡ lasts_of t c.args.self.now) c.reserve-2.ensures.items c.reserve.ensures.items) c.reserve-3.ensures.items s);
     }

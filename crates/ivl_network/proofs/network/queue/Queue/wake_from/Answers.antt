@@ -1,9 +1,12 @@
-use Rattle.std.proofs.Common.{◌∙◌, ◌<◌, ◌/◌, arith, length, refl, subst, sym, false}
+use Rattle.std.proofs.Common.{◌∙◌, ◌<◌, ◌/◌, arith, get_or, length, refl, subst, sym, false}
 use Rattle.std.proofs.lemmas.Bool.{false≢true}
 use Rattle.std.proofs.lemmas.List.{get_or_default}
 use Rattle.ivl_laws.specs.Families.{set_at}
 use Rattle.ivl_network.specs.Settled.{StaysBeside}
-use Rattle.ivl_network.proofs.Indexes.{listed_there, next_is_lower, next_place}
+use Rattle.std.proofs.lemmas.List.Elements.{All-get_or}
+use Rattle.ivl_network.specs.Families.{ArePresent}
+use Rattle.ivl_network.proofs.Families.{named_present}
+use Rattle.ivl_network.proofs.Indexes.{any_rule, listed_there, next_is_lower, next_place}
 use Rattle.ivl_network.proofs.Queues.{all_woken, none_woken, one_left, one_woken}
 use Rattle.ivl_network.proofs.network.queue.Queue.wake_from.Goals.{then-index+then-not-stays_settled, else-index, else-index-via-then-index+else-not-stays_settled, else-index-via-else-index}
 use Rattle.ivl_network.proofs.network.queue.Queue.wake_from.Goals as goal
@@ -77,3 +80,11 @@ clear-requires-clause-settled g c =
     let same = c.loop-place.invariant.1.same_count in let each = c.requires.one_each in let t = c.loop-place-test.true in
     let low = c.loop-place.invariant.1.low (omega (arith, t)) in
     get_or_default flags (place / 4) false _ (omega (arith, low, same, each)) ∙ sym c.index.ensures ∙ c.if-index.true
+
+pub has_two-is_late-requires : goal.has_two-is_late-requires
+has_two-is_late-requires g c =
+    let rules = c.args.rules.now in let place = c.loop-place.place in let t = c.loop-place-test.true in
+    let low = c.loop-place.invariant.1.low (omega (arith, t)) in
+    named_present (length c.args.store.now) (get_or rules (place / 4) any_rule)
+    (All-get_or (ArePresent (length c.args.store.now)) rules (place / 4) any_rule (omega (arith, low)) c.requires.present) c.args.variable
+    (listed_there c.args.singles (place / 4) c.args.variable place _ (c.loop-place.invariant.1.names (place / 4) any_rule (omega (arith, t)) (omega arith) (omega arith))).0
