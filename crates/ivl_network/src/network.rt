@@ -46,7 +46,7 @@ mod trail;
 use allowed::Allowed;
 use change::Change;
 use index::Index;
-use narrowing::{cost_at, narrow_logged, restrict_logged};
+use narrowing::{cost_if, narrow_logged, restrict_logged};
 use queue::Queue;
 use trail::{clear_unmarked, is_logging, log_change, reserve_changes, revert_to};
 
@@ -534,7 +534,7 @@ impl<B: Width> Network<B> {
     {
         let mut left = budget;
         loop {
-            match self.narrow_within(left)? {
+            match self.narrow_within(left, true)? {
                 Step::Settled => return Ok(Settled::All),
                 Step::Costly => return Ok(Settled::Unfinished),
                 Step::Made(cost) => left -= cost,
@@ -553,15 +553,15 @@ impl<B: Width> Network<B> {
         ensures narrowed { IfOk result (λ b. b ≡ true → AreRuleNarrowings self.old.rules 1 (set_at self.old.domains) (set_at self.new.domains)) }
         ensures fewer { IfOk result (λ b. b ≡ true → 1 + work_of_rules B.whole self.new ≤ work_of_rules B.whole self.old) }
     {
-        match self.narrow_within(u64::MAX)? {
+        match self.narrow_within(u64::MAX, false)? {
             Step::Settled | Step::Costly => Ok(false),
             Step::Made(_) => Ok(true),
         }
     }
 
-    /// Narrows by one rule that is not settled, if that counts for no more than is left. Changes nothing
-    /// if it counts for more, or if all are settled.
-    fn narrow_within(&mut self, left: u64) -> Result<Step, AllocError>
+    /// Narrows by one rule that is not settled, if that counts for no more than is left, or is not counted.
+    /// Changes nothing if it counts for more, or if all are settled.
+    fn narrow_within(&mut self, left: u64, is_counted: bool) -> Result<Step, AllocError>
         ensures rules { self.new.rules ≡ self.old.rules }
         ensures marked { self.new.marked ≡ self.old.marked }
         ensures kept_count { length self.new.domains ≡ length self.old.domains }
@@ -570,7 +570,7 @@ impl<B: Width> Network<B> {
         ensures done { IfOk result (λ s. s ≡ Step.Settled ↔ self.old.unsettled ≡ 0) }
         ensures costly { IfOk result (λ s. s ≡ Step.Costly → (self.new ≡ self.old) × (next : Rule) × Contains self.old.rules next × (left < cost_of next self.old.domains)) }
         ensures below { IfOk result (λ s. s ≡ Step.Costly → left < u64.MAX) }
-        ensures counted { IfOk result (λ s. (cost : ℕ) → s ≡ Step.Made cost → (0 < cost) × (cost ≤ left) × (c : Rule) × AreRulesCounted self.old.rules (c ∷ []) cost self.old.domains self.new.domains) }
+        ensures counted { is_counted ≡ true → IfOk result (λ s. (cost : ℕ) → s ≡ Step.Made cost → (0 < cost) × (cost ≤ left) × (c : Rule) × AreRulesCounted self.old.rules (c ∷ []) cost self.old.domains self.new.domains) }
         ensures narrowed { IfOk result (λ s. (cost : ℕ) → s ≡ Step.Made cost → AreRuleNarrowings self.old.rules 1 (set_at self.old.domains) (set_at self.new.domains)) }
         ensures fewer { IfOk result (λ s. (cost : ℕ) → s ≡ Step.Made cost → 1 + work_of_rules B.whole self.new ≤ work_of_rules B.whole self.old) }
     {
@@ -579,7 +579,7 @@ impl<B: Width> Network<B> {
         };
         let rule = &self.rules[i];
         let c = rule.places();
-        let cost = cost_at(&self.store, &c);
+        let cost = cost_if(is_counted, &self.store, &c);
         if cost > left {
             return Ok(Step::Costly);
         }

@@ -43,7 +43,7 @@ mod trail;
 use allowed::Allowed;
 use change::Change;
 use index::Index;
-use narrowing::{cost_at, narrow_logged, restrict_logged};
+use narrowing::{cost_if, narrow_logged, restrict_logged};
 use queue::Queue;
 use trail::{clear_unmarked, is_logging, log_change, reserve_changes, revert_to};
 
@@ -593,7 +593,7 @@ impl<B: Width> Network<B> {
     pub fn settle_within(&mut self, budget: u64) -> Result<Settled, StoreFault> {
         let mut left = budget;
         loop {
-            match self.narrow_within(left)? {
+            match self.narrow_within(left, true)? {
                 Step::Settled => return Ok(Settled::All),
                 Step::Costly => return Ok(Settled::Unfinished),
                 Step::Made(cost) => left -= cost,
@@ -603,21 +603,21 @@ impl<B: Width> Network<B> {
 
     /// Narrows by one rule that is not settled. Returns false, and changes nothing, if all are.
     fn narrow_next(&mut self) -> Result<bool, AllocError> {
-        match self.narrow_within(u64::MAX)? {
+        match self.narrow_within(u64::MAX, false)? {
             Step::Settled | Step::Costly => Ok(false),
             Step::Made(_) => Ok(true),
         }
     }
 
-    /// Narrows by one rule that is not settled, if that counts for no more than is left. Changes nothing
-    /// if it counts for more, or if all are settled.
-    fn narrow_within(&mut self, left: u64) -> Result<Step, AllocError> {
+    /// Narrows by one rule that is not settled, if that counts for no more than is left, or is not counted.
+    /// Changes nothing if it counts for more, or if all are settled.
+    fn narrow_within(&mut self, left: u64, is_counted: bool) -> Result<Step, AllocError> {
         let Some(i) = self.queue.first() else {
             return Ok(Step::Settled);
         };
         let rule = &self.rules[i];
         let c = rule.places();
-        let cost = cost_at(&self.store, &c);
+        let cost = cost_if(is_counted, &self.store, &c);
         if cost > left {
             return Ok(Step::Costly);
         }

@@ -63,11 +63,17 @@ pub(super) fn restrict_logged<B: Width, A: Allowed<B>>(
 /// What narrowing by a rule at these places counts for: a sum one, and one more for each 256 pairs of runs of two of its
 /// domains; a rule of two variables one, and one more for each 256 runs of its domains.
 #[inline]
-pub(super) fn cost_at<B: Width>(store: &Store<B>, c: &Constraint) -> u64 {
+fn cost_at<B: Width>(store: &Store<B>, c: &Constraint) -> u64 {
     if c.y == c.z {
         return cost_of_two(store, c.x, c.y);
     }
     store.cost_of(c)
+}
+
+/// What narrowing by a rule at these places counts for, if that is counted, and else 0.
+#[inline]
+pub(super) fn cost_if<B: Width>(is_counted: bool, store: &Store<B>, c: &Constraint) -> u64 {
+    if is_counted { cost_at(store, c) } else { 0 }
 }
 
 fn cost_of_two<B: Width>(store: &Store<B>, x: usize, y: usize) -> u64 {

@@ -1,4 +1,4 @@
-use Rattle.std.proofs.Common.{◌≡◌, ◌↔◌, ◌∙◌, ◌∷◌, ◌+◌, ◌<◌, ◌≤◌, Bool, List, ap, arith, [], length, refl, rules, set, subst, sym, true, ℕ}
+use Rattle.std.proofs.Common.{◌≡◌, ◌↔◌, ◌∙◌, ◌∷◌, ◌+◌, ◌<◌, ◌≤◌, Bool, List, ap, arith, [], false, length, refl, rules, set, subst, sym, true, ℕ}
 use Rattle.std.proofs.lemmas.List.{get_or_default}
 use Rattle.std.specs.Prelude.{ℤ, All, Contains}
 use Rattle.ivl_laws.specs.Families.{set_at}
@@ -74,18 +74,18 @@ returns-clause-marked g c =
     was.marked c.self.invariant.1 c.self.invariant.0.present ∙ ap (λ (s : RulesState). s.marked) c.self.view_is
 
 pub returns-clause-counted : goal.returns-clause-counted
-returns-clause-counted g c = λ cost e.
+returns-clause-counted g c = λ t cost e.
     let inside = c.self.inside in
     let cs = inside.rules.items in
     let lt : c.in-Some.i < length cs = (let a = c.in-Some.ensures.first.0 in let b = c.self.invariant.0.settled.one_each in omega (arith, a, b)) in
-    let is : c.cost_at-cost.result ≡ cost = cc in
-    let positive = c.cost_at-cost.ensures.positive in
+    let is : c.cost_if-cost.result ≡ cost = cc in
+    let positive = c.cost_if-cost.ensures.positive t in
     let within = c.if-cost-left.false in
     subst (λ (s : RulesState). (0 < cost) × (cost ≤ c.args.left) × (d : Rule) × AreRulesCounted s.rules (d ∷ []) cost s.domains c.narrow_logged.new.store) c.self.view_is (
       omega (arith, is, positive),
       omega (arith, is, within),
       c.index-rule.result.now,
-      counted_one cs c.in-Some.i c.index-rule.result.now cost inside.store c.narrow_logged.new.store lt (sym c.index-rule.ensures) c.in_ok-lost.ensures.narrowed (sym is ∙ c.cost_at-cost.ensures.cost c.index-rule.result.now c.places-c.ensures),
+      counted_one cs c.in-Some.i c.index-rule.result.now cost inside.store c.narrow_logged.new.store lt (sym c.index-rule.ensures) c.in_ok-lost.ensures.narrowed (sym is ∙ c.cost_if-cost.ensures.cost t c.index-rule.result.now c.places-c.ensures),
     )
 
 pub returns-then-cost-left-clause-costly : goal.returns-then-cost-left-clause-costly
@@ -93,15 +93,20 @@ returns-then-cost-left-clause-costly g c = λ _.
     let cs = c.self.inside.rules.items in
     let lt : c.in-Some.i < length cs = (let a = c.in-Some.ensures.first.0 in let b = c.self.invariant.0.settled.one_each in omega (arith, a, b)) in
     let above = c.if-cost-left.true in
-    let cost = c.cost_at-cost.ensures.cost c.index-rule.result.now c.places-c.ensures in (
+    let cost = c.cost_if-cost.ensures.cost (is_counted c.args.is_counted _ c.args.left c.cost_if-cost.ensures.none above) c.index-rule.result.now c.places-c.ensures in (
       state_is _ _ _ _ _ _ _ _ refl refl (ap unsettled_count c.first.ensures.settled) refl ∙ c.self.view_is,
       c.index-rule.result.now,
       subst (λ (s : RulesState). Contains s.rules c.index-rule.result.now) c.self.view_is (c.in-Some.i, lt, sym c.index-rule.ensures),
       subst (λ (s : RulesState). c.args.left < cost_of_rule c.index-rule.result.now s.domains) c.self.view_is (omega (arith, above, cost)),
     )
+  where
+    -- what is not counted is not above what is left
+    is_counted : (b : Bool) (cost left : ℕ) → (b ≡ false → cost ≡ 0) → left < cost → b ≡ true
+    is_counted true cost left none above = refl
+    is_counted false cost left none above = absurd (let e = none refl in omega (arith, e, above))
 
-pub cost_at-cost-requires : goal.cost_at-cost-requires
-cost_at-cost-requires g c =
+pub cost_if-cost-requires : goal.cost_if-cost-requires
+cost_if-cost-requires g c =
     let cs = c.self.inside.rules.items in
     let lt : c.in-Some.i < length cs = (let a = c.in-Some.ensures.first.0 in let b = c.self.invariant.0.settled.one_each in omega (arith, a, b)) in
     subst (AllPresent (length c.self.inside.store)) (sym c.places-c.ensures) (subst (ArePresent (length c.self.inside.store)) (sym c.index-rule.ensures) (c.self.invariant.0.present c.in-Some.i c.index-rule.result.now lt))

@@ -75,7 +75,7 @@ returns-in-Costly-clause-made g c =
 pub loop-cost-preserved : goal.loop-cost-preserved
 loop-cost-preserved g c =
     let cost = c.in-Made.cost in
-    let k = c.in_ok-narrow_within.ensures.counted cost c.in-Made.is in
+    let k = c.in_ok-narrow_within.ensures.counted refl cost c.in-Made.is in
     made_more g.B.Width.whole c.args.budget c.loop-cost.left _ c.args.self.now c.loop-cost.self c.narrow_within.new.self k.2 cost c.loop-cost.invariant
     c.narrow_within.ensures.rules c.narrow_within.ensures.kept_count c.narrow_within.ensures.marked k.1 refl k.3
     (c.in_ok-narrow_within.ensures.narrowed cost c.in-Made.is) (c.in_ok-narrow_within.ensures.fewer cost c.in-Made.is)
