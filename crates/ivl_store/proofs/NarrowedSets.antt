@@ -1,7 +1,7 @@
 -- What is left of a set where only some members are kept.
 use Rattle.std.proofs.Common.{◌≡◌, ◌↔◌, ◌⊎◌, ℕ, inl, inr, refl, sym, ap, subst, arith, ◌∙◌, List, [], ◌∷◌, length, map, take, get_or}
 use Rattle.std.proofs.lemmas.Int.{ints}
-use Rattle.std.specs.Prelude.{ℤ, ◌≤ℤ◌, Option, Some, None, IfOk, Result, Ok, Err, unwrap_or}
+use Rattle.std.specs.Prelude.{ℤ, ◌≤ℤ◌, ◌-ℤ◌, Option, Some, None, IfOk, Result, Ok, Err, unwrap_or}
 use Rattle.ivl_laws.specs.Sets.{Differences, HasNone, HasSome, IsBetween, IsSubset, Only, SameMembers, Sums, Intersection}
 use Rattle.ivl_laws.specs.Runs.{Covers, IsMaximal, IsRunListIn, IsRunsOf}
 use Rattle.ivl_laws.specs.Counts.{IsCountOf}
@@ -117,6 +117,28 @@ one_is_left whole one other S T left result r (x, only) h meet stays goes =
         (λ agree. (agree x).1 ((only x).1 refl)),
       )
     ]
+
+-- ---- of a set, one number
+
+-- which it lacks
+pub number_lacks : (whole : ℤ × ℤ) (L : List (ℤ × ℤ)) (n : ℤ) (result : Option (List (ℤ × ℤ))) → IsRunListIn whole L → ¬ (Covers L n)
+    → (HasNone (Covers L) → result ≡ None) → (HasSome (Covers L) → result ≡ Some []) → IsLeftOf whole L (Only n) result
+number_lacks whole L n result r lacks empty filled = elim (some_or_none whole L r) [
+  | inl (v, m) ↦ rw (filled (v, m)) (
+    r,
+    record { maximal = tt; within = λ z k. absurd k },
+    (λ z. ((λ k. absurd k), (λ u. lacks (subst (Covers L) u.1 u.0)))),
+    (λ agree. (agree v).1 m),
+  )
+  | inr none ↦ rw (empty none) (r, λ z m. absurd (none z m))
+]
+
+-- the number of the members that a sum of single numbers asks for
+pub distance_is : (X Z : ℤ → Type 0) (a c n : ℤ) → SameMembers X (Only a) → SameMembers Z (Only c) → n ≡ c -ℤ a → (v : ℤ) → Only n v ↔ Differences Z X v
+distance_is X Z a c n x z is v = (
+  (λ e. (c, a, (z c).1 refl, (x a).1 refl, omega (arith, ints, e, is))),
+  (λ (d, b, k, m, e). let f = (z d).0 k in let g = (x b).0 m in omega (arith, ints, e, f, g, is)),
+)
 
 -- a member of one set is a difference of members where that of the other is
 pub turned : (X Y Z : ℤ → Type 0) → HasSome (Intersection X (Differences Z Y)) → HasSome (Intersection Y (Differences Z X))

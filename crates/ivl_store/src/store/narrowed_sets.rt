@@ -1,5 +1,5 @@
 //! What narrowing leaves of a domain; `None` stands for a domain that loses no member.
-ghost use Rattle.std.specs.Prelude.{◌≡◌, ◌∷◌, [], ℤ, ◌≤ℤ◌, IfOk, None, Some, length, true, unwrap_or};
+ghost use Rattle.std.specs.Prelude.{◌≡◌, ◌∷◌, [], ℤ, ◌≤ℤ◌, ◌-ℤ◌, IfOk, IfSome, None, Some, length, true, unwrap_or};
 ghost use Rattle.ivl_laws.specs.Sets.{Differences, HasNone, HasSome, IsBetween, IsSubset, Only, SameMembers, Sums};
 ghost use Rattle.ivl_laws.specs.Runs.{Covers, IsRunListIn, IsRunsOf};
 ghost use Rattle.ivl_store.specs.NarrowedSets.{AreLeftAt, IsLeftOf};
@@ -11,7 +11,9 @@ use super::by_words::narrowed_by_words;
 use super::spares::Spares;
 use intervallum::interval::Interval;
 use intervallum::interval_set::IntervalSet;
-use intervallum::ops::{Bounded, Cardinality, Intersection, IsEmpty, IsSingleton};
+use intervallum::ops::{
+    Bounded, Cardinality, Contains, Intersection, IsEmpty, IsSingleton, Singleton,
+};
 use intervallum::width::Width;
 use ivl_within::within::{Combined, pair_in_window, results_unless_all};
 use std::alloc::AllocError;
@@ -53,8 +55,9 @@ pub(super) fn narrowed_sets<B: Width>(
 /// Returns the members of `x` that are a difference of a member of `z` and one of `y`, those of `y` that are one of a
 /// member of `z` and one of `x`, and those of `z` that are a sum of both, or `None` in place of a set of which all
 /// are. Costs what [`narrowed_by`] costs, for each of the three; where `x` or `y` is a single number, for one of them,
-/// and where that makes `z` lose members, a copy of what is left. Sets of which the sums of `x` and `y` lie within 64
-/// numbers are narrowed by words of 64 bits: a look at each run, and one at each member of the narrower of `x` and `y`.
+/// and where that makes `z` lose members, a copy of what is left; where `x` and `z` are single numbers, a look-up in `y`.
+/// Sets of which the sums of `x` and `y` lie within 64 numbers, and which begin at most 2^61 from 0, are narrowed by words
+/// of 64 bits: a look at each run, and one at each member of the narrower of `x` and `y`.
 ///
 /// # Errors
 ///
@@ -111,7 +114,84 @@ pub fn narrowed_by_sum_in<B: Width>(
     if are_runs(x, y, z) {
         return narrowed_runs(x, y, z, spares);
     }
+    if x.is_singleton() && z.is_singleton() {
+        return narrowed_between(x, y, z, spares);
+    }
     narrowed_by_words(x, y, z, spares)
+}
+
+/// Returns what narrowing leaves at x, y and z of a sum where x and z are single numbers: of y, how far z stands above x.
+fn narrowed_between<B: Width>(
+    x: &IntervalSet<B>,
+    y: &IntervalSet<B>,
+    z: &IntervalSet<B>,
+    spares: &mut Spares<B>,
+) -> Result<LeftOfThree<B>, AllocError>
+    requires single_x { (k : ℤ) × SameMembers (Covers x.now) (Only k) }
+    requires single_z { (k : ℤ) × SameMembers (Covers z.now) (Only k) }
+    ensures at_x { IfOk result (λ r. IsLeftOf B.whole x.now (Differences (Covers z.now) (Covers y.now)) r.0) }
+    ensures at_y { IfOk result (λ r. IsLeftOf B.whole y.now (Differences (Covers z.now) (Covers x.now)) r.1) }
+    ensures at_z { IfOk result (λ r. IsLeftOf B.whole z.now (Sums (Covers x.now) (Covers y.now)) r.2) }
+{
+    let distance = distance_of(x.lower(), z.lower());
+    let left_of_y = narrowed_to_number(y, distance, spares)?;
+    let rest = rest_of(y, &left_of_y);
+    let left_of_x = left_of_one(x, rest);
+    let left_of_z = left_of_one(z, rest);
+    Ok((left_of_x, left_of_y, left_of_z))
+}
+
+/// How far a value stands above another.
+fn distance_of<B: Width>(low: B, high: B) -> i128
+    requires low { IsBetween B.whole (B.value low) }
+    requires high { IsBetween B.whole (B.value high) }
+    ensures { result ≡ B.value high -ℤ B.value low }
+{
+    high.number() - low.number()
+}
+
+/// Returns a number of a set, where it is a member, in place of a set that has others too.
+fn narrowed_to_number<B: Width>(
+    set: &IntervalSet<B>,
+    number: i128,
+    spares: &mut Spares<B>,
+) -> Result<Option<IntervalSet<B>>, AllocError>
+    ensures { IfOk result (IsLeftOf B.whole set.now (Only number)) }
+{
+    set.in_whole();
+    let Some(value) = member_at(set, number) else {
+        return Ok(nothing_of(set));
+    };
+    if set.is_singleton() {
+        return Ok(None);
+    }
+    let empty = spares.take(set.allocator());
+    Ok(Some(set_of_run(empty, Interval::singleton(value))?))
+}
+
+/// The value of a number, if it is a member of a set.
+fn member_at<B: Width>(set: &IntervalSet<B>, number: i128) -> Option<B>
+    ensures is { IfSome result (λ value. (B.value value ≡ number) × Covers set.now number × IsBetween B.whole (B.value value)) }
+    ensures none { result ≡ None → ¬ (Covers set.now number) }
+{
+    set.in_whole();
+    let value = B::from_number(number)?;
+    if set.contains(&value) {
+        Some(value)
+    } else {
+        None
+    }
+}
+
+/// What is left of a set of which no member stays.
+fn nothing_of<B: Width>(set: &IntervalSet<B>) -> Option<IntervalSet<B>>
+    ensures none { HasNone (Covers set.now) → result ≡ None }
+    ensures some { HasSome (Covers set.now) → result ≡ Some [] }
+{
+    if set.is_empty() {
+        return None;
+    }
+    Some(IntervalSet::empty(set.allocator()))
 }
 
 /// Whether each of three sets is one run, so that narrowing by bounds costs least.

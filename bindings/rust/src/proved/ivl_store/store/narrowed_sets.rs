@@ -8,7 +8,9 @@ use super::by_words::narrowed_by_words;
 use super::spares::Spares;
 use crate::proved::intervallum::interval::Interval;
 use crate::proved::intervallum::interval_set::IntervalSet;
-use crate::proved::intervallum::ops::{Bounded, Cardinality, Intersection, IsEmpty, IsSingleton};
+use crate::proved::intervallum::ops::{
+    Bounded, Cardinality, Contains, Intersection, IsEmpty, IsSingleton, Singleton,
+};
 use crate::proved::intervallum::width::Width;
 use crate::proved::ivl_within::within::{Combined, pair_in_window, results_unless_all};
 use crate::rattle::std::alloc::AllocError;
@@ -47,8 +49,9 @@ pub(super) fn narrowed_sets<B: Width>(
 /// Returns the members of `x` that are a difference of a member of `z` and one of `y`, those of `y` that are one of a
 /// member of `z` and one of `x`, and those of `z` that are a sum of both, or `None` in place of a set of which all
 /// are. Costs what [`narrowed_by`] costs, for each of the three; where `x` or `y` is a single number, for one of them,
-/// and where that makes `z` lose members, a copy of what is left. Sets of which the sums of `x` and `y` lie within 64
-/// numbers are narrowed by words of 64 bits: a look at each run, and one at each member of the narrower of `x` and `y`.
+/// and where that makes `z` lose members, a copy of what is left; where `x` and `z` are single numbers, a look-up in `y`.
+/// Sets of which the sums of `x` and `y` lie within 64 numbers, and which begin at most 2^61 from 0, are narrowed by words
+/// of 64 bits: a look at each run, and one at each member of the narrower of `x` and `y`.
 ///
 /// # Errors
 ///
@@ -129,7 +132,66 @@ pub fn narrowed_by_sum_in<B: Width>(
     if are_runs(x, y, z) {
         return narrowed_runs(x, y, z, spares);
     }
+    if x.is_singleton() && z.is_singleton() {
+        return narrowed_between(x, y, z, spares);
+    }
     narrowed_by_words(x, y, z, spares)
+}
+
+/// Returns what narrowing leaves at x, y and z of a sum where x and z are single numbers: of y, how far z stands above x.
+fn narrowed_between<B: Width>(
+    x: &IntervalSet<B>,
+    y: &IntervalSet<B>,
+    z: &IntervalSet<B>,
+    spares: &mut Spares<B>,
+) -> Result<LeftOfThree<B>, AllocError> {
+    let distance = distance_of(x.lower(), z.lower());
+    let left_of_y = narrowed_to_number(y, distance, spares)?;
+    let rest = rest_of(y, &left_of_y);
+    let left_of_x = left_of_one(x, rest);
+    let left_of_z = left_of_one(z, rest);
+    Ok((left_of_x, left_of_y, left_of_z))
+}
+
+/// How far a value stands above another.
+fn distance_of<B: Width>(low: B, high: B) -> i128 {
+    high.number() - low.number()
+}
+
+/// Returns a number of a set, where it is a member, in place of a set that has others too.
+fn narrowed_to_number<B: Width>(
+    set: &IntervalSet<B>,
+    number: i128,
+    spares: &mut Spares<B>,
+) -> Result<Option<IntervalSet<B>>, AllocError> {
+    set.in_whole();
+    let Some(value) = member_at(set, number) else {
+        return Ok(nothing_of(set));
+    };
+    if set.is_singleton() {
+        return Ok(None);
+    }
+    let empty = spares.take(set.allocator());
+    Ok(Some(set_of_run(empty, Interval::singleton(value))?))
+}
+
+/// The value of a number, if it is a member of a set.
+fn member_at<B: Width>(set: &IntervalSet<B>, number: i128) -> Option<B> {
+    set.in_whole();
+    let value = B::from_number(number)?;
+    if set.contains(&value) {
+        Some(value)
+    } else {
+        None
+    }
+}
+
+/// What is left of a set of which no member stays.
+fn nothing_of<B: Width>(set: &IntervalSet<B>) -> Option<IntervalSet<B>> {
+    if set.is_empty() {
+        return None;
+    }
+    Some(IntervalSet::empty(set.allocator()))
 }
 
 /// Whether each of three sets is one run, so that narrowing by bounds costs least.
