@@ -148,8 +148,8 @@ fn narrowed_between<B: Width>(
     let distance = distance_of(x.lower(), z.lower());
     let left_of_y = narrowed_to_number(y, distance, spares)?;
     let rest = rest_of(y, &left_of_y);
-    let left_of_x = left_of_one(x, rest);
-    let left_of_z = left_of_one(z, rest);
+    let left_of_x = left_of_one(x, rest, spares);
+    let left_of_z = left_of_one(z, rest, spares);
     Ok((left_of_x, left_of_y, left_of_z))
 }
 
@@ -166,7 +166,7 @@ fn narrowed_to_number<B: Width>(
 ) -> Result<Option<IntervalSet<B>>, AllocError> {
     set.in_whole();
     let Some(value) = member_at(set, number) else {
-        return Ok(nothing_of(set));
+        return Ok(nothing_of(set, spares));
     };
     if set.is_singleton() {
         return Ok(None);
@@ -187,11 +187,11 @@ fn member_at<B: Width>(set: &IntervalSet<B>, number: i128) -> Option<B> {
 }
 
 /// What is left of a set of which no member stays.
-fn nothing_of<B: Width>(set: &IntervalSet<B>) -> Option<IntervalSet<B>> {
+fn nothing_of<B: Width>(set: &IntervalSet<B>, spares: &mut Spares<B>) -> Option<IntervalSet<B>> {
     if set.is_empty() {
         return None;
     }
-    Some(IntervalSet::empty(set.allocator()))
+    Some(spares.take(set.allocator()))
 }
 
 /// Whether each of three sets is one run, so that narrowing by bounds costs least.
@@ -240,7 +240,7 @@ pub(super) fn narrowed_one_by_one<B: Width>(
     let left_of_x = narrowed_by_in(x, z, y, Combined::Difference, spares)?;
     let left_of_y = narrowed_by_in(y, z, x, Combined::Difference, spares)?;
     let left_of_z = if z.is_singleton() {
-        left_of_one(z, rest_of(y, &left_of_y))
+        left_of_one(z, rest_of(y, &left_of_y), spares)
     } else {
         narrowed_by_in(z, x, y, Combined::Sum, spares)?
     };
@@ -257,7 +257,7 @@ fn narrowed_by_number<B: Width>(
 ) -> Result<LeftOfThree<B>, AllocError> {
     let left_of_x = narrowed_by_in(x, z, y, Combined::Difference, spares)?;
     let rest = rest_of(x, &left_of_x);
-    let left_of_y = left_of_one(y, rest);
+    let left_of_y = left_of_one(y, rest, spares);
     let left_of_z = left_of_moved(z, rest, y.lower())?;
     Ok((left_of_x, left_of_y, left_of_z))
 }
@@ -275,10 +275,14 @@ fn rest_of<'a, B: Width>(
 
 /// Returns what is left of a set of one number, which stands in a sum with a member of another set: it stays exactly
 /// where something is left of that one.
-fn left_of_one<B: Width>(one: &IntervalSet<B>, rest: &IntervalSet<B>) -> Option<IntervalSet<B>> {
+fn left_of_one<B: Width>(
+    one: &IntervalSet<B>,
+    rest: &IntervalSet<B>,
+    spares: &mut Spares<B>,
+) -> Option<IntervalSet<B>> {
     one.in_whole();
     if rest.is_empty() {
-        return Some(IntervalSet::empty(one.allocator()));
+        return Some(spares.take(one.allocator()));
     }
     None
 }
