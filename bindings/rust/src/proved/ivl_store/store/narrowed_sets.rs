@@ -191,7 +191,7 @@ fn nothing_of<B: Width>(set: &IntervalSet<B>, spares: &mut Spares<B>) -> Option<
     if set.is_empty() {
         return None;
     }
-    Some(spares.take(set.allocator()))
+    Some(emptied(set, spares))
 }
 
 /// Whether each of three sets is one run, so that narrowing by bounds costs least.
@@ -273,6 +273,12 @@ fn rest_of<'a, B: Width>(
     }
 }
 
+/// An empty set in place of one, in the memory of a spare set. Not inlined: it is seldom made, where a sum has no solution.
+#[inline(never)]
+fn emptied<B: Width>(set: &IntervalSet<B>, spares: &mut Spares<B>) -> IntervalSet<B> {
+    spares.take(set.allocator())
+}
+
 /// Returns what is left of a set of one number, which stands in a sum with a member of another set: it stays exactly
 /// where something is left of that one.
 fn left_of_one<B: Width>(
@@ -282,7 +288,7 @@ fn left_of_one<B: Width>(
 ) -> Option<IntervalSet<B>> {
     one.in_whole();
     if rest.is_empty() {
-        return Some(spares.take(one.allocator()));
+        return Some(emptied(one, spares));
     }
     None
 }
