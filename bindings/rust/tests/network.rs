@@ -236,6 +236,33 @@ fn rules_that_take_nothing_are_not_looked_at_again() {
     }
 }
 
+/// What a sum leaves of domains, where x and z begin so far from 0.
+fn left_far_from_zero(domains: &[Numbers; 3], far: i64) -> Vec<Numbers> {
+    let mut network = Network::new(Global);
+    for (domain, by) in domains.iter().zip([far, 0, far]) {
+        let pairs: Vec<(i64, i64)> = domain.iter().map(|&n| (n + by, n + by)).collect();
+        network.add_variable(pairs.as_slice().to_interval_set(Global).unwrap()).unwrap();
+    }
+    network.require(Rule::Sum(Constraint { x: 0, y: 1, z: 2 })).unwrap();
+    assert_eq!(network.settle(100), Ok(Settled::All));
+    let left = network.domains().iter().zip([far, 0, far]);
+    left.map(|(domain, by)| domain.members().map(|n| n - by).collect()).collect()
+}
+
+#[test]
+fn sums_far_from_zero_leave_what_near_ones_do() {
+    let mut random = Random(0x2545_f491_4f6c_dd1d);
+    for _ in 0..MODELS / 16 {
+        let domains = [0; 3].map(|_| numbers(&mut random));
+        let near = left_far_from_zero(&domains, 0);
+        // on both sides of where words end, and at the ends of the range
+        for far in [(1 << 61) - 3, (1 << 61) + 3, 1 << 62, i64::MAX - 9] {
+            assert_eq!(left_far_from_zero(&domains, far), near, "{domains:?} at {far}");
+            assert_eq!(left_far_from_zero(&domains, 3 - far), near, "{domains:?} at {}", 3 - far);
+        }
+    }
+}
+
 /// How many narrowings settle a circle over so many numbers, beside a sum whose third variable may be named by another rule.
 fn narrowings_beside_a_circle(numbers: i64, is_named: bool) -> i64 {
     let mut network = Network::new(Global);
