@@ -140,6 +140,28 @@ distance_is X Z a c n x z is v = (
   (λ (d, b, k, m, e). let f = (z d).0 k in let g = (x b).0 m in omega (arith, ints, e, f, g, is)),
 )
 
+module _ (X Y Z : ℤ → Type 0) (a c n : ℤ) (x : SameMembers X (Only a)) (z : SameMembers Z (Only c)) (is : n ≡ c -ℤ a) where
+  -- both single numbers stay where it is a member
+  pub stays_at_x : Y n → IsSubset X (Differences Z Y)
+  stays_at_x m w k = let e = (x w).0 k in (c, n, (z c).1 refl, m, omega (arith, ints, e, is))
+
+  pub stays_at_z : Y n → IsSubset Z (Sums X Y)
+  stays_at_z m w k = let e = (z w).0 k in (a, n, (x a).1 refl, m, omega (arith, ints, e, is))
+
+  -- and no member stays where it is none
+  pub none_stays : ¬ (Y n) → ¬ (HasSome (Intersection Y (Differences Z X)))
+  none_stays lacks (v, (m, d)) = lacks (subst Y ((distance_is X Z a c n x z is v).1 d) m)
+
+-- a single number goes where none is kept
+pub one_is_lost : (whole : ℤ × ℤ) (one made : List (ℤ × ℤ)) (T : ℤ → Type 0) → IsRunListIn whole one → (x : ℤ) × SameMembers (Covers one) (Only x) → ¬ (HasSome (Intersection (Covers one) T))
+    → made ≡ [] → IsLeftOf whole one T (Some made)
+one_is_lost whole one made T r (x, only) none e = rw e (
+  r,
+  record { maximal = tt; within = λ z n. absurd n },
+  (λ z. ((λ n. absurd n), (λ u. none (z, u)))),
+  (λ agree. (agree x).1 ((only x).1 refl)),
+)
+
 -- a member of one set is a difference of members where that of the other is
 pub turned : (X Y Z : ℤ → Type 0) → HasSome (Intersection X (Differences Z Y)) → HasSome (Intersection Y (Differences Z X))
 turned X Y Z (v, (m, (c, b, k, n, e))) = (b, (n, (c, v, k, m, omega (arith, ints, e))))

@@ -145,12 +145,20 @@ fn narrowed_between<B: Width>(
     z: &IntervalSet<B>,
     spares: &mut Spares<B>,
 ) -> Result<LeftOfThree<B>, AllocError> {
+    x.in_whole();
+    y.in_whole();
+    z.in_whole();
     let distance = distance_of(x.lower(), z.lower());
-    let left_of_y = narrowed_to_number(y, distance, spares)?;
-    let rest = rest_of(y, &left_of_y);
-    let left_of_x = left_of_one(x, rest, spares);
-    let left_of_z = left_of_one(z, rest, spares);
-    Ok((left_of_x, left_of_y, left_of_z))
+    let Some(value) = member_at(y, distance) else {
+        let none_of_y = nothing_of(y, spares);
+        return Ok((
+            Some(emptied(x, spares)),
+            none_of_y,
+            Some(emptied(z, spares)),
+        ));
+    };
+    let left_of_y = narrowed_to_value(y, value, spares)?;
+    Ok((None, left_of_y, None))
 }
 
 /// How far a value stands above another.
@@ -158,16 +166,13 @@ fn distance_of<B: Width>(low: B, high: B) -> i128 {
     high.number() - low.number()
 }
 
-/// Returns a number of a set, where it is a member, in place of a set that has others too.
-fn narrowed_to_number<B: Width>(
+/// Returns the set of one member in place of a set that has others too.
+fn narrowed_to_value<B: Width>(
     set: &IntervalSet<B>,
-    number: i128,
+    value: B,
     spares: &mut Spares<B>,
 ) -> Result<Option<IntervalSet<B>>, AllocError> {
     set.in_whole();
-    let Some(value) = member_at(set, number) else {
-        return Ok(nothing_of(set, spares));
-    };
     if set.is_singleton() {
         return Ok(None);
     }
