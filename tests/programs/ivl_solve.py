@@ -235,8 +235,9 @@ class Solver(Commands):
     """Domains as sets of their members, in the order in which they were defined.
 
     Narrowings are made in rounds: a rule whose domains have changed since it narrowed waits for the next round, but for one
-    by <= or != that would take nothing, and of a round that which waits last comes first. This tells which domains an unfinished line leaves; those of any other are
-    compared with `supported`.
+    by <= or != that would take nothing, and of a round that which waits last comes first. A rule that alone names a variable,
+    rules by != aside, waits until no other does where a domain of several members has changed. This tells which domains an
+    unfinished line leaves; those of any other are compared with `supported`.
     """
 
     def __init__(self):
@@ -245,6 +246,9 @@ class Solver(Commands):
         self.is_settled = []
         self.round = []
         self.later = []
+        self.late = []
+        # for each rule, how many variables that had several members it alone names
+        self.leaves = []
         self.limit = 10**6
         self.progress = b"ok"
 
@@ -354,11 +358,21 @@ class Solver(Commands):
         """The answer to a line of rules, which hold from then on."""
         for rule in rules:
             if rule not in self.rules:
+                self.count_leaves(rule)
                 self.rules.append(rule)
                 self.later.append(len(self.is_settled))
                 self.is_settled.append(False)
         self.settle()
         return self.state()
+
+    def count_leaves(self, rule):
+        leaves = 0
+        for name in rule.names if rule.sign != b"!=" else ():
+            places = [place for place, other in enumerate(self.rules) if other.sign != b"!=" and name in other.names]
+            leaves += not places and len(self.domains[name]) > 1
+            if len(places) == 1:
+                self.leaves[places[0]] = max(0, self.leaves[places[0]] - 1)
+        self.leaves.append(leaves)
 
     def replace(self, domains):
         changed = [name for name, members in domains.items() if members != self.domains[name]]
@@ -369,7 +383,8 @@ class Solver(Commands):
             for place in sorted(latest_first, key=lambda place: self.rules[place].sign == b"!="):
                 if self.is_settled[place] and name in self.rules[place].names and not self.stays_settled(self.rules[place]):
                     self.is_settled[place] = False
-                    self.later.append(place)
+                    is_late = self.leaves[place] > 0 and len(self.domains[name]) > 1
+                    (self.late if is_late else self.later).append(place)
 
     def stays_settled(self, rule):
         """Whether a rule is not looked at again though a domain of it has changed."""
@@ -380,6 +395,8 @@ class Solver(Commands):
         """The rule that narrows next, or None."""
         if not self.round:
             self.round, self.later = self.later, self.round
+        if not self.round:
+            self.round, self.late = self.late, self.round
         return self.round[-1] if self.round else None
 
     def settle(self):
