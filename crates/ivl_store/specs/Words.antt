@@ -4,8 +4,9 @@
 --     IsWordOf w base S      the bits of w are the members of S, of the 64 numbers from the base on
 --     SupportsAt y z p q      q is in the word y, and p + q in the word z
 --     AreSupported x y z X Y Z      the bits of x, y and z that stand in a sum p + q = r with one of each of the others
---     IsWithin n, IsNear n      a number far from the ends of 64 bits, and one that 64 places do not reach them from, as a sum of two such is
---     BeginsWithin S      the least member of S, if there is one, is such a number
+--     IsWithin n      a number at most 2^61 from 0, or one below
+--     IsNear n      a number that 64 places above it fit 64 bits, as for each sum of two numbers within
+--     BeginsWithin S      the least member of S, if there is one, is within
 use Rattle.std.specs.Prelude.{◌≡◌, ◌↔◌, ℕ, ◌+◌, ◌-◌, ◌<◌, ◌^◌, ℤ, pos, negsuc, ◌+ℤ◌, ◌≤ℤ◌}
 use Rattle.std.specs.Int.{bit_at}
 
