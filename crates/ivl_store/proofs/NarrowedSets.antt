@@ -4,6 +4,9 @@ use Rattle.std.proofs.lemmas.Int.{ints}
 use Rattle.std.specs.Prelude.{ℤ, ◌≤ℤ◌, ◌-ℤ◌, Option, Some, None, IfOk, Result, Ok, Err, unwrap_or}
 use Rattle.ivl_laws.specs.Sets.{Differences, HasNone, HasSome, IsBetween, IsSubset, Only, SameMembers, Sums, Intersection}
 use Rattle.ivl_laws.specs.Runs.{Covers, IsMaximal, IsRunListIn, IsRunsOf}
+use mir.Syntax.{w128}
+use mir.Val.{of_z, to_z}
+use Rattle.ivl_laws.specs.Bounds.{IsBoundRange}
 use Rattle.ivl_laws.specs.Counts.{IsCountOf}
 use Rattle.ivl_laws.proofs.Counts.{IsCountOf-same}
 use Rattle.ivl_laws.proofs.Runs.{lower_end}
@@ -132,6 +135,12 @@ number_lacks whole L n result r lacks empty filled = elim (some_or_none whole L 
   )
   | inr none ↦ rw (empty none) (r, λ z m. absurd (none z m))
 ]
+
+-- how far two values stand apart has a number of 128 bits
+pub is_apart : (whole : ℤ × ℤ) (low high distance : ℤ) → IsBoundRange whole → IsBetween whole low → IsBetween whole high → distance ≡ high -ℤ low
+    → to_z w128 (of_z w128 distance) ≡ high -ℤ low
+is_apart whole low high distance r l h is =
+    let least = r.low_at_least in let most = r.high_at_most in let a = l.0 in let b = l.1 in let c = h.0 in let d = h.1 in omega (arith, ints)
 
 -- the number of the members that a sum of single numbers asks for
 pub distance_is : (X Z : ℤ → Type 0) (a c n : ℤ) → SameMembers X (Only a) → SameMembers Z (Only c) → n ≡ c -ℤ a → (v : ℤ) → Only n v ↔ Differences Z X v
