@@ -370,7 +370,7 @@ impl<B: Width> Network<B> {
     /// A rule whose domains did not change since it narrowed them is not counted, nor is an `AtMost` or a
     /// `Differs` that takes nothing from them: each narrowing that counts removes a member, or leaves one
     /// rule fewer to look at. The rules are looked at in rounds, and one that has to be looked at again
-    /// waits for the next, or, where it alone names a variable with several members, until no other waits.
+    /// waits for the next; one that alone names a variable may wait until no other does.
     /// `O(1)` for a rule beside its narrowing, and for each domain that changes a pass over the rules that
     /// name its variable. Rules in a circle may take a member or two at a time, and then need as many
     /// narrowings as there are members: the budget is what stops them.
