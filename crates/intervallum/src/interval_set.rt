@@ -58,8 +58,8 @@ use std::marker::Model;
 /// If an allocation fails, borrowed operands are unchanged, and so is a set that was to be changed.
 ///
 /// Unless its docs say otherwise, a call that returns a set reserves memory for the most runs that
-/// the result may have, and shrinks the result if less than half, rounded down, is used. If
-/// shrinking fails, the result keeps its capacity.
+/// the result may have, and shrinks the result if less than half, rounded down, is used, and more
+/// than 16 runs would fit beside it. If shrinking fails, the result keeps its capacity.
 ///
 /// ```
 /// let hours: IntervalSet<u8> = [(12, 13), (8, 11)].to_interval_set(alloc)?;

@@ -6,9 +6,10 @@
 //! consumed.
 //!
 //! The results of at most 256 pairs of runs are sorted together. Of more pairs, those of the first
-//! runs are tried: if half of their results join with others, the results of each run of the shorter
-//! operand are made in turn and united by twos, and no list of all results is made. Otherwise more
-//! than `usize::MAX` pairs of runs count as a failed allocation.
+//! runs are tried. Unless half of them join with others, all results are listed and sorted, and more
+//! than `usize::MAX` count as a failed allocation. Else results are united by twos, and no list of
+//! all is made: of operands of 64 runs or more those of the runs at the ends come first, and where
+//! these leave no gap, as for dense sets, no others are made, in `O(n + m)`.
 //!
 //! Sums and differences are exact. A product has, for each pair of runs, all numbers from the least
 //! to the greatest product of the two: `{[1..2]} * {[10..10]}` is `{[10..20]}`.

@@ -5,8 +5,9 @@ ghost use Rattle.ivl_laws.specs.Runs.{Covers};
 ghost use Rattle.intervallum.specs.Neighbours.{IsGreatest, IsLeast};
 
 use super::IntervalSet;
+use super::run_lists::hull_of_runs;
 use crate::interval::Interval;
-use crate::ops::{Bounded, Empty, IsEmpty, IsSingleton, Range};
+use crate::ops::{Bounded, IsEmpty, IsSingleton};
 use crate::width::Width;
 use std::alloc::{AllocError, Global};
 
@@ -108,12 +109,7 @@ impl<B: Width> IntervalSet<B> {
     pub fn hull(&self) -> Interval<B>
         ensures { IsHullOf result (Covers self.now) }
     {
-        let runs = self.as_runs();
-        let count = runs.len();
-        if count == 0 {
-            return Interval::empty();
-        }
-        Interval::new(runs[0].lower(), runs[count - 1].upper())
+        hull_of_runs(self.as_runs())
     }
 }
 

@@ -9,6 +9,10 @@ use crate::width::{SizeNumber, Width};
 use ivl_merges::merges::push_joined;
 use std::alloc::{AllocError, Global};
 
+/// How many more runs a result may have room for, however few it has: to move so few takes longer
+/// than their memory is worth.
+const FREE: usize = 16;
+
 impl<B: Width> IntervalSet<B> {
     /// The runs as a slice.
     pub(crate) fn as_runs(&self) -> &[Interval<B>]
@@ -55,12 +59,13 @@ impl<B: Width> IntervalSet<B> {
         IntervalSet { intervals, size }
     }
 
-    /// The same set, shrunk if less than half of its capacity, rounded down, is used. If shrinking
-    /// fails, it keeps its capacity.
+    /// The same set, shrunk if less than half of its capacity, rounded down, is used, and more than
+    /// `FREE` runs would fit beside it. If shrinking fails, it keeps its capacity.
     pub(crate) fn fitted(mut self) -> Self
         ensures { result ≡ self }
     {
-        if self.intervals.capacity() / 2 > self.intervals.len() {
+        let (count, capacity) = (self.intervals.len(), self.intervals.capacity());
+        if capacity / 2 > count && capacity - count > FREE {
             self.intervals.shrink_to_fit();
         }
         self

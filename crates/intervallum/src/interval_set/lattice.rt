@@ -16,9 +16,8 @@ impl<B: Width> Join for IntervalSet<B> {
 
     ghost answers = { λ r S. IfOk r (λ L. IsRunsOf L S) };
 
-    /// Returns the members of both sets: the intersection. `O(n + m)`. Reserves `n + m` runs once
-    /// and shrinks the result if less than half is used. Consumes both sets. Fails only if
-    /// allocation fails.
+    /// Returns the members of both sets: the intersection. `O(n + m)`. Reserves `n + m` runs once.
+    /// Consumes both sets. Fails only if allocation fails.
     ///
     /// ```
     /// let (a, b) = (IntervalSet::new(alloc, 1, 5)?, IntervalSet::new(alloc, 4, 9)?);
@@ -39,9 +38,8 @@ impl<B: Width> Meet for IntervalSet<B> {
 
     ghost answers = { λ r S. IfOk r (λ L. IsRunsOf L S) };
 
-    /// Returns the members of either set: the union. `O(n + m)`. Reserves `n + m` runs once and
-    /// shrinks the result if less than half is used. Consumes both sets. Fails only if allocation
-    /// fails.
+    /// Returns the members of either set: the union. `O(n + m)`. Reserves `n + m` runs once.
+    /// Consumes both sets. Fails only if allocation fails.
     ///
     /// ```
     /// let (a, b) = (IntervalSet::new(alloc, 1, 5)?, IntervalSet::new(alloc, 4, 9)?);

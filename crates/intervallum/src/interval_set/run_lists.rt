@@ -1,11 +1,12 @@
 //! What is asked of lists of intervals: whether they are run lists, whether two are the same, how many numbers they cover.
 ghost use Rattle.std.specs.Prelude.{◌≡◌, ◌↔◌, pos, ◌+ℤ◌, ◌≤ℤ◌, IsTrue, length};
+ghost use Rattle.ivl_laws.specs.Sets.{IsHullOf};
 ghost use Rattle.ivl_laws.specs.Runs.{Covers, IsMaximal, IsRunListIn};
 ghost use Rattle.ivl_laws.specs.Counts.{IsCountOf};
 
 use super::builder::grown;
 use crate::interval::Interval;
-use crate::ops::{Bounded, Cardinality, IsEmpty};
+use crate::ops::{Bounded, Cardinality, Empty, IsEmpty, Range};
 use crate::width::{SizeNumber, Width};
 use ivl_merges::merges::joins;
 
@@ -94,6 +95,18 @@ pub(super) fn are_in_whole<B: Width>(runs: &[Interval<B>])
         runs[0].in_whole();
         runs[runs.len() - 1].in_whole();
     }
+}
+
+/// The least interval that holds the numbers of runs, empty if there is none.
+pub(crate) fn hull_of_runs<B: Width>(runs: &[Interval<B>]) -> Interval<B>
+    requires { IsMaximal runs.now }
+    ensures { IsHullOf result (Covers runs.now) }
+{
+    let count = runs.len();
+    if count == 0 {
+        return Interval::empty();
+    }
+    Interval::new(runs[0].lower(), runs[count - 1].upper())
 }
 
 /// How many numbers runs cover.

@@ -23,8 +23,8 @@ impl<B: Width> Union<IntervalSet<B>> for IntervalSet<B> {
 
     ghost answers = { λ r S. IfOk r (λ L. IsRunsOf L S) };
 
-    /// Returns the members of either set. `O(n + m)`. Reserves `n + m` runs once and shrinks the
-    /// result if less than half is used. Fails only if allocation fails.
+    /// Returns the members of either set. `O(n + m)`. Reserves `n + m` runs once. Fails
+    /// only if allocation fails.
     ///
     /// ```
     /// let (a, b) = (IntervalSet::new(alloc, 1, 5)?, IntervalSet::new(alloc, 4, 9)?);
@@ -47,8 +47,8 @@ impl<B: Width> Intersection<IntervalSet<B>> for IntervalSet<B> {
 
     ghost answers = { λ r S. IfOk r (λ L. IsRunsOf L S) };
 
-    /// Returns the members of both sets. `O(n + m)`. Reserves `n + m` runs once and shrinks the
-    /// result if less than half is used. Fails only if allocation fails.
+    /// Returns the members of both sets. `O(n + m)`. Reserves `n + m` runs once. Fails
+    /// only if allocation fails.
     ///
     /// If one set has far fewer runs, searches for each of its `k` runs among the `n` of the other,
     /// from where the last search ended: `O(k log n)`, plus a copy of the runs of the result. It
@@ -81,8 +81,8 @@ impl<B: Width> Difference<IntervalSet<B>> for IntervalSet<B> {
 
     ghost answers = { λ r S. IfOk r (λ L. IsRunsOf L S) };
 
-    /// Returns the members that are not in `other`. `O(n + m)`. Reserves `n + m` runs once and
-    /// shrinks the result if less than half is used. Fails only if allocation fails.
+    /// Returns the members that are not in `other`. `O(n + m)`. Reserves `n + m` runs once.
+    /// Fails only if allocation fails.
     ///
     /// If one set has far fewer runs, searches for each of its `k` runs among the `n` of the other,
     /// from where the last search ended: `O(k log n)`, plus a copy of the runs of the result or of
@@ -118,8 +118,8 @@ impl<B: Width> SymmetricDifference<IntervalSet<B>> for IntervalSet<B> {
 
     ghost answers = { λ r S. IfOk r (λ L. IsRunsOf L S) };
 
-    /// Returns the members of exactly one of the sets. `O(n + m)`. Reserves `n + m` runs once and
-    /// shrinks the result if less than half is used. Fails only if allocation fails.
+    /// Returns the members of exactly one of the sets. `O(n + m)`. Reserves `n + m` runs once.
+    /// Fails only if allocation fails.
     ///
     /// ```
     /// let (a, b) = (IntervalSet::new(alloc, 1, 5)?, IntervalSet::new(alloc, 4, 9)?);
@@ -144,8 +144,8 @@ impl<B: Width> Complement for IntervalSet<B> {
 
     ghost answers = { λ r S. IfOk r (λ L. IsRunsOf L S) };
 
-    /// Returns the complement within the range of the type. `O(n)`. Reserves `n + 1` runs once and
-    /// shrinks the result if less than half is used. Fails only if allocation fails.
+    /// Returns the complement within the range of the type. `O(n)`. Reserves `n + 1` runs once.
+    /// Fails only if allocation fails.
     ///
     /// ```
     /// let a = IntervalSet::new(alloc, 10u8, 254)?;

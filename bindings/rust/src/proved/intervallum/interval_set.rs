@@ -55,8 +55,8 @@ use crate::rattle::std::alloc::{AllocError, Global};
 /// If an allocation fails, borrowed operands are unchanged, and so is a set that was to be changed.
 ///
 /// Unless its docs say otherwise, a call that returns a set reserves memory for the most runs that
-/// the result may have, and shrinks the result if less than half, rounded down, is used. If
-/// shrinking fails, the result keeps its capacity.
+/// the result may have, and shrinks the result if less than half, rounded down, is used, and more
+/// than 16 runs would fit beside it. If shrinking fails, the result keeps its capacity.
 ///
 /// ```
 /// use intervallum::proved::examples::*;

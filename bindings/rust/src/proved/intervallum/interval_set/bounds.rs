@@ -4,8 +4,9 @@
 #[allow(unused_imports)]
 use crate::rattle::prelude::*;
 use super::IntervalSet;
+use super::run_lists::hull_of_runs;
 use crate::proved::intervallum::interval::Interval;
-use crate::proved::intervallum::ops::{Bounded, Empty, IsEmpty, IsSingleton, Range};
+use crate::proved::intervallum::ops::{Bounded, IsEmpty, IsSingleton};
 use crate::proved::intervallum::width::Width;
 use crate::rattle::std::alloc::{AllocError, Global};
 
@@ -185,12 +186,7 @@ impl<B: Width> IntervalSet<B> {
     ///
     /// Words: [`IsHullOf`](crate::definitions#IsHullOf), [`Covers`](crate::definitions#Covers).
     pub fn hull(&self) -> Interval<B> {
-        let runs = self.as_runs();
-        let count = runs.len();
-        if count == 0 {
-            return Interval::empty();
-        }
-        Interval::new(runs[0].lower(), runs[count - 1].upper())
+        hull_of_runs(self.as_runs())
     }
 }
 

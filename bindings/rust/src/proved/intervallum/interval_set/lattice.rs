@@ -20,9 +20,8 @@ use crate::rattle::std::alloc::AllocError;
 impl<B: Width> Join for IntervalSet<B> {
     type Output = Result<IntervalSet<B>, AllocError>;
 
-    /// Returns the members of both sets: the intersection. `O(n + m)`. Reserves `n + m` runs once
-    /// and shrinks the result if less than half is used. Consumes both sets. Fails only if
-    /// allocation fails.
+    /// Returns the members of both sets: the intersection. `O(n + m)`. Reserves `n + m` runs once.
+    /// Consumes both sets. Fails only if allocation fails.
     ///
     /// ```
     /// use intervallum::proved::examples::*;
@@ -59,9 +58,8 @@ impl<B: Width> Join for IntervalSet<B> {
 impl<B: Width> Meet for IntervalSet<B> {
     type Output = Result<IntervalSet<B>, AllocError>;
 
-    /// Returns the members of either set: the union. `O(n + m)`. Reserves `n + m` runs once and
-    /// shrinks the result if less than half is used. Consumes both sets. Fails only if allocation
-    /// fails.
+    /// Returns the members of either set: the union. `O(n + m)`. Reserves `n + m` runs once.
+    /// Consumes both sets. Fails only if allocation fails.
     ///
     /// ```
     /// use intervallum::proved::examples::*;

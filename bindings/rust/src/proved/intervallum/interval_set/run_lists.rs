@@ -5,7 +5,7 @@
 use crate::rattle::prelude::*;
 use super::builder::grown;
 use crate::proved::intervallum::interval::Interval;
-use crate::proved::intervallum::ops::{Bounded, Cardinality, IsEmpty};
+use crate::proved::intervallum::ops::{Bounded, Cardinality, Empty, IsEmpty, Range};
 use crate::proved::intervallum::width::{SizeNumber, Width};
 use crate::proved::ivl_merges::merges::joins;
 
@@ -75,6 +75,15 @@ pub(super) fn are_in_whole<B: Width>(runs: &[Interval<B>]) {
         runs[0].in_whole();
         runs[runs.len() - 1].in_whole();
     }
+}
+
+/// The least interval that holds the numbers of runs, empty if there is none.
+pub(crate) fn hull_of_runs<B: Width>(runs: &[Interval<B>]) -> Interval<B> {
+    let count = runs.len();
+    if count == 0 {
+        return Interval::empty();
+    }
+    Interval::new(runs[0].lower(), runs[count - 1].upper())
 }
 
 /// How many numbers runs cover.

@@ -25,8 +25,8 @@ use crate::rattle::std::alloc::AllocError;
 impl<B: Width> Union<IntervalSet<B>> for IntervalSet<B> {
     type Output = Result<IntervalSet<B>, AllocError>;
 
-    /// Returns the members of either set. `O(n + m)`. Reserves `n + m` runs once and shrinks the
-    /// result if less than half is used. Fails only if allocation fails.
+    /// Returns the members of either set. `O(n + m)`. Reserves `n + m` runs once. Fails
+    /// only if allocation fails.
     ///
     /// ```
     /// use intervallum::proved::examples::*;
@@ -64,8 +64,8 @@ impl<B: Width> Union<IntervalSet<B>> for IntervalSet<B> {
 impl<B: Width> Intersection<IntervalSet<B>> for IntervalSet<B> {
     type Output = Result<IntervalSet<B>, AllocError>;
 
-    /// Returns the members of both sets. `O(n + m)`. Reserves `n + m` runs once and shrinks the
-    /// result if less than half is used. Fails only if allocation fails.
+    /// Returns the members of both sets. `O(n + m)`. Reserves `n + m` runs once. Fails
+    /// only if allocation fails.
     ///
     /// If one set has far fewer runs, searches for each of its `k` runs among the `n` of the other,
     /// from where the last search ended: `O(k log n)`, plus a copy of the runs of the result. It
@@ -113,8 +113,8 @@ impl<B: Width> Intersection<IntervalSet<B>> for IntervalSet<B> {
 impl<B: Width> Difference<IntervalSet<B>> for IntervalSet<B> {
     type Output = Result<IntervalSet<B>, AllocError>;
 
-    /// Returns the members that are not in `other`. `O(n + m)`. Reserves `n + m` runs once and
-    /// shrinks the result if less than half is used. Fails only if allocation fails.
+    /// Returns the members that are not in `other`. `O(n + m)`. Reserves `n + m` runs once.
+    /// Fails only if allocation fails.
     ///
     /// If one set has far fewer runs, searches for each of its `k` runs among the `n` of the other,
     /// from where the last search ended: `O(k log n)`, plus a copy of the runs of the result or of
@@ -164,8 +164,8 @@ impl<B: Width> Difference<IntervalSet<B>> for IntervalSet<B> {
 impl<B: Width> SymmetricDifference<IntervalSet<B>> for IntervalSet<B> {
     type Output = Result<IntervalSet<B>, AllocError>;
 
-    /// Returns the members of exactly one of the sets. `O(n + m)`. Reserves `n + m` runs once and
-    /// shrinks the result if less than half is used. Fails only if allocation fails.
+    /// Returns the members of exactly one of the sets. `O(n + m)`. Reserves `n + m` runs once.
+    /// Fails only if allocation fails.
     ///
     /// ```
     /// use intervallum::proved::examples::*;
@@ -205,8 +205,8 @@ impl<B: Width> SymmetricDifference<IntervalSet<B>> for IntervalSet<B> {
 impl<B: Width> Complement for IntervalSet<B> {
     type Output = Result<IntervalSet<B>, AllocError>;
 
-    /// Returns the complement within the range of the type. `O(n)`. Reserves `n + 1` runs once and
-    /// shrinks the result if less than half is used. Fails only if allocation fails.
+    /// Returns the complement within the range of the type. `O(n)`. Reserves `n + 1` runs once.
+    /// Fails only if allocation fails.
     ///
     /// ```
     /// use intervallum::proved::examples::*;
