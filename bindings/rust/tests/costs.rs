@@ -188,6 +188,22 @@ fn sums_of_dense_sets_list_few_results() {
 }
 
 #[test]
+fn results_keep_little_room_beside_their_runs() {
+    let of = |count: i64, from: i64, step: i64| -> IntervalSet<i64> {
+        let pairs: Vec<(i64, i64)> = (0..count).map(|i| (from + step * i, from + step * i + 1)).collect();
+        pairs.as_slice().to_interval_set(Global).unwrap()
+    };
+    // sets of so many runs, how many of them both have, and for how many the result keeps room
+    for (count, shared, room) in
+        [(10, 4, 20), (10, 3, 3), (10, 0, 0), (16, 16, 32), (16, 15, 15), (100, 99, 99), (100, 100, 200)]
+    {
+        let (a, b) = (of(count, 0, 5), of(count, 5 * (count - shared), 5));
+        let (both, told) = cost(|| (&a).intersection(&b).unwrap());
+        assert_eq!((both.interval_count() as i64, told.held), (shared, 16 * room as isize), "{count} {shared}");
+    }
+}
+
+#[test]
 fn intervals_in_no_order_take_their_memory_twice_and_counts() {
     for count in [10, 95, 96, 1_000, 10_000, 200_000] {
         let list: Vec<Interval<i64>> =
@@ -297,4 +313,15 @@ fn sizes_of_few_runs_and_many_take_few_looks() {
     // two sets of many runs are walked over
     let (found, looks) = reads(|| many.intersection_size(&other));
     assert!(found == 0 && looks >= 200_000, "{found} {looks}");
+}
+
+#[test]
+fn results_of_dense_sets_take_few_looks() {
+    let (a, b) = (counted(2_000, -3_000, 4, 2), counted(1_000, -3_000, 6, 3));
+    for make in [|a, b| a + b, |a, b| a - b, |a: &IntervalSet<Counted>, b: &IntervalSet<Counted>| a * b] {
+        READ.set(0);
+        let made = make(&a, &b).unwrap();
+        // to make a result of each of the 2,000,000 pairs of runs reads four bounds
+        assert!(made.interval_count() < 100 && READ.get() < 4_000_000, "{} {}", made.interval_count(), READ.get());
+    }
 }
