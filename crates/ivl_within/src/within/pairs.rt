@@ -1,11 +1,11 @@
 //! The results of two runs in a window.
-ghost use Rattle.std.specs.Prelude.{◌≤ℤ◌};
+ghost use Rattle.std.specs.Prelude.{◌≡◌, ◌≤ℤ◌, IfSome};
 ghost use Rattle.ivl_laws.specs.Sets.{IsBetween, SameMembers};
 ghost use Rattle.ivl_within.specs.Within.{Clipped, pair_by};
 
 use super::Combined;
 use intervallum::interval::Interval;
-use intervallum::ops::{Bounded, Empty, Range};
+use intervallum::ops::{Bounded, Empty, Intersection, Range};
 use intervallum::width::Width;
 
 /// Returns the sums, or the differences, of a number of each interval that are in the window.
@@ -19,6 +19,45 @@ use intervallum::width::Width;
 /// assert!(rt; sums == Interval::new(14, 18));
 /// ```
 pub fn pair_in_window<B: Width>(
+    a: Interval<B>,
+    b: Interval<B>,
+    op: Combined,
+    window: Interval<B>,
+) -> Interval<B>
+    requires left { a.0 ≤ℤ a.1 }
+    requires right { b.0 ≤ℤ b.1 }
+    requires window { window.0 ≤ℤ window.1 }
+    ensures { SameMembers (IsBetween result) (Clipped window (IsBetween (pair_by op a b))) }
+{
+    match pair_of(a, b, op) {
+        Some(pair) => pair.intersection(&window),
+        None => wide_pair_in_window(a, b, op, window),
+    }
+}
+
+/// The sums, or the differences, of a number of each interval, if the least and the greatest are in
+/// the range.
+fn pair_of<B: Width>(a: Interval<B>, b: Interval<B>, op: Combined) -> Option<Interval<B>>
+    requires left { a.0 ≤ℤ a.1 }
+    requires right { b.0 ≤ℤ b.1 }
+    ensures { IfSome result (λ p. p ≡ pair_by op a b) }
+{
+    let (lower, upper) = match op {
+        Combined::Sum => (
+            a.lower().checked_add(b.lower())?,
+            a.upper().checked_add(b.upper())?,
+        ),
+        Combined::Difference => (
+            a.lower().checked_sub(b.upper())?,
+            a.upper().checked_sub(b.lower())?,
+        ),
+    };
+    Some(Interval::new(lower, upper))
+}
+
+/// What `pair_in_window` returns where a sum, or a difference, is outside the range.
+#[inline(never)]
+fn wide_pair_in_window<B: Width>(
     a: Interval<B>,
     b: Interval<B>,
     op: Combined,

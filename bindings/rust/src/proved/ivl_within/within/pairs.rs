@@ -5,7 +5,7 @@
 use crate::rattle::prelude::*;
 use super::Combined;
 use crate::proved::intervallum::interval::Interval;
-use crate::proved::intervallum::ops::{Bounded, Empty, Range};
+use crate::proved::intervallum::ops::{Bounded, Empty, Intersection, Range};
 use crate::proved::intervallum::width::Width;
 
 /// Returns the sums, or the differences, of a number of each interval that are in the window.
@@ -42,6 +42,36 @@ pub fn pair_in_window<B: Width>(
     window: Interval<B>,
 ) -> Interval<B> {
     debug_assert!({ #[allow(unused_imports)] use crate::proved::ivl_interval::ops::*; !a.is_empty() && !b.is_empty() && !window.is_empty() }, "{}", "the condition of `pair_in_window` is broken: !a.is_empty() && !b.is_empty() && !window.is_empty()");
+    match pair_of(a, b, op) {
+        Some(pair) => pair.intersection(&window),
+        None => wide_pair_in_window(a, b, op, window),
+    }
+}
+
+/// The sums, or the differences, of a number of each interval, if the least and the greatest are in
+/// the range.
+fn pair_of<B: Width>(a: Interval<B>, b: Interval<B>, op: Combined) -> Option<Interval<B>> {
+    let (lower, upper) = match op {
+        Combined::Sum => (
+            a.lower().checked_add(b.lower())?,
+            a.upper().checked_add(b.upper())?,
+        ),
+        Combined::Difference => (
+            a.lower().checked_sub(b.upper())?,
+            a.upper().checked_sub(b.lower())?,
+        ),
+    };
+    Some(Interval::new(lower, upper))
+}
+
+/// What `pair_in_window` returns where a sum, or a difference, is outside the range.
+#[inline(never)]
+fn wide_pair_in_window<B: Width>(
+    a: Interval<B>,
+    b: Interval<B>,
+    op: Combined,
+    window: Interval<B>,
+) -> Interval<B> {
     let (lower, upper) = (b.lower().number(), b.upper().number());
     match op {
         Combined::Sum => clip(

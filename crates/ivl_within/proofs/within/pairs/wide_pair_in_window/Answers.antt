@@ -1,5 +1,5 @@
 use Rattle.ivl_within.proofs.Clipping.{sum_is, difference_is, wide_sum, wide_difference}
-use Rattle.ivl_within.proofs.within.pairs.pair_in_window.Goals as goal
+use Rattle.ivl_within.proofs.within.pairs.wide_pair_in_window.Goals as goal
 
 pub returns-in-Sum : goal.returns-in-Sum
 returns-in-Sum g c =
