@@ -93,7 +93,7 @@ const CALLS: [(&str, Call); 32] = [
 #[test]
 fn each_allocation_fails_in_turn() {
     let (mut failures, mut errors, mut calls) = (0, 0, 0);
-    for (count, other) in [(0, 3), (1, 1), (3, 4), (40, 3), (3, 40), (60, 55)] {
+    for (count, other) in [(0, 3), (1, 1), (3, 4), (40, 3), (3, 40), (60, 55), (70, 66)] {
         for (name, call) in CALLS {
             let (old, b) = (pairs(count, 9, 0), pairs(other, 7, 1));
             let want = call(&mut old.try_clone().unwrap(), &b).unwrap();

@@ -30,6 +30,9 @@ fn sets_of_many_runs() {
     assert_eq!(a.complement().unwrap().interval_count(), COUNT as usize + 1);
     assert_eq!((&a + &few).unwrap().interval_count(), COUNT as usize + 2);
     assert_eq!((&a * &few).unwrap().lower(), 0);
+    let (some, more) = (every_third(200), every_third(300));
+    assert_eq!((&some + &more).unwrap().interval_count(), 499);
+    assert_eq!((&some - &more).unwrap().interval_count(), 499);
     assert_eq!(a.gaps_within(&Interval::new(0, 3 * COUNT)).unwrap().interval_count(), COUNT as usize);
     assert_eq!(Set::union_of(Global, &[&a; 40]).unwrap().interval_count(), COUNT as usize);
     assert_eq!(Set::intersection_of(Global, &[&a; 40]).unwrap().interval_count(), COUNT as usize);
