@@ -198,7 +198,7 @@ fn results_keep_little_room_beside_their_runs() {
         [(10, 4, 20), (10, 3, 3), (10, 0, 0), (16, 16, 32), (16, 15, 15), (100, 99, 99), (100, 100, 200)]
     {
         let (a, b) = (of(count, 0, 5), of(count, 5 * (count - shared), 5));
-        let (both, told) = cost(|| (&a).intersection(&b).unwrap());
+        let (both, told) = cost(|| a.intersection(&b).unwrap());
         assert_eq!((both.interval_count() as i64, told.held), (shared, 16 * room as isize), "{count} {shared}");
     }
 }
