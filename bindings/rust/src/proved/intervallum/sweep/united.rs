@@ -17,11 +17,11 @@ const FEWEST: usize = 64;
 /// How many runs at each end of a list come first.
 const EDGE: usize = 8;
 
-/// The most runs of each list whose results are all made.
+/// Blocks of at most so many runs of each list are divided no further.
 const BLOCK: usize = 32;
 
-/// How many pairs of runs there must be for each run of a set that their results are added to, for
-/// which a union passes over that set.
+/// Nor are blocks of fewer than so many pairs for each run of the set that they are added to, since
+/// each union passes over all of that set.
 const PAIRS: usize = 64;
 
 /// The set of the results over each pair of runs of two lists. Those of a few runs at the ends of
