@@ -1,5 +1,5 @@
 #!/usr/bin/env python3
-"""What `./run` says and does around a program: help, version, wrong words, a limit on memory, a terminal, a pipe.
+"""What `./run` says and does around a program: help, version, wrong words, limits on memory and on time, a terminal, a pipe.
 
 usage: tests/programs/start.py PROGRAM     the calculator, as the gate built it in crates/ivl_run/out, or as Cargo did
 """
@@ -28,6 +28,9 @@ count c
 set d 1 5
 show d
 """
+
+# Sums of sets of 8 and more numbers, each of which has twice as many as the one before it: the last takes days.
+LONG = b"set a 0 0 2 2 4 4 6 6 8 8 10 10 12 12 14 14\n" + b"plus a a a\n" * 20
 
 
 def said(arguments, data=b""):
@@ -68,11 +71,15 @@ def main(program):
     for words in (["--help"], ["solve", "--help"], ["ports", "--help"], ["blocks", "--help"], ["ranges", "--help"], ["calendar", "--help"]):
         status, text, told = said(words)
         expect(words, (status, told, text.startswith(b"usage: ./run"), text.count(b"\n") > 12), (0, b"", True, True))
-    for words in (["--frob"], ["frob"], ["--memory"], ["--memory", "much"], ["--memory=5X"]):
+    for words in (["--frob"], ["frob"], ["--memory"], ["--memory", "much"], ["--memory=5X"], ["--seconds"], ["--seconds", "0"], ["--seconds=x"]):
         status, text, told = said(words)
         expect(words, (status, text, bool(told)), (2, b"", True))
     expect("a pipe", said([], b"set a 1 5\nquit\nshow a"), (0, b"ok\nbad line\n[1..5]\n", LEAD))
     expect("a limit", said(["--memory", "200M"], LARGE), (0, b"ok\n" * 6 + b"refused 4 memory\n0\nok\n[1..5]\n", LEAD))
+    status, written, told = said(["--seconds", "1"], LONG)
+    ended = told.endswith(b"run: ended, for it has used its 1 seconds of a processor\n")
+    expect("a limit on time", (status, ended, written[:18], len(written) < 63), (152, True, b"ok\n" * 6, True))
+    expect("no limit on time reached", said(["--seconds=60"], b"set a 1 2\nshow a\n"), (0, b"ok\n[1..2]\n", LEAD))
     status, written, told = on_a_terminal(b"set a 1 5\nfrob\nfrob\nshow a\nquit\nshow a\n")
     expect("a terminal", (status, written), (0, b"ok\nbad line\nbad line\n[1..5]\n"))
     hint = LEAD + b"run: one line at a time; ./run --help lists them; quit ends it\n"

@@ -9,6 +9,9 @@ use intervallum::proved::ops::Contains;
 use std::collections::BTreeSet;
 
 mod memory;
+#[allow(dead_code)]
+#[path = "../examples/searches.rs"]
+mod searches;
 use memory::{Watched, cost};
 
 #[global_allocator]
@@ -173,6 +176,24 @@ fn constraints_that_are_refused() {
         assert_eq!(fault(&unknown, 9), Some(SearchFault::Variable(8)));
         assert_eq!(fault(&known, 3), Some(SearchFault::Variable(3)));
         assert_eq!(fault(&known, 2), None);
+    }
+}
+
+#[test]
+fn puzzles_that_are_made_are_those_of_the_files() {
+    for (name, lines) in [
+        ("queens6", include_str!("puzzles/queens6.txt")),
+        ("queens8", include_str!("puzzles/queens8.txt")),
+        ("golomb5", include_str!("puzzles/golomb5_11.txt")),
+        ("langford4", include_str!("puzzles/langford4.txt")),
+    ] {
+        assert_eq!(searches::puzzle(name).unwrap().to_string(), lines);
+    }
+    let rules = "domain -1 1 5 5\ndomain\ndomain 0 2\nshifted 0 -1 2\natmost 2 3 0\ndiffers 1 0 2\nsum 0 1 2\n";
+    assert_eq!(searches::read(rules).unwrap().to_string(), rules);
+    let outside = format!("domain {} 0", i64::MIN);
+    for fault in ["domain 1", "domain 1 x", "sum 0 1", "sum 0 0 1", "less 0 1 2", "sum -1 0 1", &outside] {
+        assert!(searches::read(fault).is_none(), "{fault}");
     }
 }
 
