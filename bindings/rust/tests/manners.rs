@@ -45,6 +45,41 @@ fn iterators_have_names() {
     assert_eq!((b.runs().len(), b.runs().size_hint(), b.iter().len()), (2, (2, Some(2)), 7));
 }
 
+/// An iterator that says of itself that it has so many items at least, be it true or not.
+struct Said<I>(I, usize);
+
+impl<I: Iterator> Iterator for Said<I> {
+    type Item = I::Item;
+
+    fn next(&mut self) -> Option<I::Item> {
+        self.0.next()
+    }
+
+    fn size_hint(&self) -> (usize, Option<usize>) {
+        (self.1, None)
+    }
+}
+
+#[test]
+fn what_an_iterator_says_of_its_length_changes_no_set() {
+    let pieces = [(5, 9), (1, 2), (20, 30u32), (3, 3)];
+    let set = IntervalSet::from(pieces);
+    for said in [0, 1, 3, 4, 5, 70_000, usize::MAX] {
+        let of = |pieces: [(u32, u32); 4]| Said(pieces.into_iter(), said);
+        assert_eq!(of(pieces).collect::<IntervalSet<u32>>(), set, "{said}");
+        assert_eq!(of(pieces).collect::<PagedSet<u32>>().to_set(), set, "{said}");
+        let mut extended = IntervalSet::new(0, 5);
+        extended.extend(Said(set.runs(), said));
+        assert_eq!(extended, IntervalSet::from([(0, 9), (20, 30)]), "{said}");
+        assert_eq!(Said([&set, &extended].into_iter(), said).collect::<IntervalSet<u32>>(), extended, "{said}");
+        for place in 0..4 {
+            let mut outside = pieces;
+            outside[place].1 = u32::MAX;
+            assert_eq!(IntervalSet::checked_from_iter(of(outside)), None, "{said} {place}");
+        }
+    }
+}
+
 #[test]
 fn sets_stand_in_statics_and_are_shared() {
     is_shared::<IntervalSet<u8>>();

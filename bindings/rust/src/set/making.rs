@@ -126,8 +126,9 @@ impl<T: Width> PagedSet<T> {
 pub(super) fn intervals_of<T: Width, P: Pieces<T>>(
     pieces: impl IntoIterator<Item = P>,
 ) -> Result<Vec<Interval<T>>, (i128, i128)> {
-    let pieces = pieces.into_iter();
+    let mut pieces = pieces.into_iter();
     let mut intervals = Vec::with_capacity(pieces.size_hint().0.min(MOST_RESERVED));
+    P::add_first_to(&mut pieces, &mut intervals)?;
     for piece in pieces {
         piece.add_to(&mut intervals)?;
     }

@@ -63,6 +63,17 @@ pub trait Piece<T: Width> {
 pub trait Pieces<T: Width> {
     /// Adds the intervals to a vector, or returns the least and the greatest number of one that is outside the limits.
     fn add_to(&self, intervals: &mut Vec<Interval<T>>) -> Result<(), (i128, i128)>;
+
+    /// Adds the intervals of some first pieces, where that is quicker than one by one, to an empty vector. By default none.
+    fn add_first_to(
+        _pieces: &mut impl Iterator<Item = Self>,
+        _intervals: &mut Vec<Interval<T>>,
+    ) -> Result<(), (i128, i128)>
+    where
+        Self: Sized,
+    {
+        Ok(())
+    }
 }
 
 /// The numbers from the first to the second, which may be outside the limits of a type.
@@ -109,6 +120,18 @@ macro_rules! pieces {
         impl<T: Width> Pieces<T> for $piece {
             fn add_to(&self, intervals: &mut Vec<Interval<T>>) -> Result<(), (i128, i128)> {
                 intervals.push(Piece::<T>::interval(self).ok_or_else(|| Piece::<T>::numbers(self))?);
+                Ok(())
+            }
+
+            fn add_first_to(
+                pieces: &mut impl Iterator<Item = Self>,
+                intervals: &mut Vec<Interval<T>>,
+            ) -> Result<(), (i128, i128)> {
+                // one interval each, so that no step has to ask for room; one that is left empty has no number
+                intervals.resize(pieces.size_hint().0.min(intervals.capacity()), Interval::empty());
+                for (place, piece) in intervals.iter_mut().zip(pieces) {
+                    *place = Piece::<T>::interval(&piece).ok_or_else(|| Piece::<T>::numbers(&piece))?;
+                }
                 Ok(())
             }
         }
