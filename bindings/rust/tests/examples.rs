@@ -27,5 +27,6 @@ programs! {
     rules "../examples/rules.rs";
     #[cfg(all(feature = "json", feature = "serde"))]
     serde_formats "../examples/serde_formats.rs";
+    sudoku "../examples/sudoku.rs";
     switch "../examples/switch.rs";
 }
