@@ -268,7 +268,8 @@ fn makings<'a>(inputs: &'a Inputs) -> Vec<Measure<'a>> {
                 of_set(copy)
             }),
         ),
-        ("clone", 1, Box::new(move || of_set(black_box(a).clone()))),
+        // (else a compiler may leave out a copy of which only the number of runs is read)
+        ("clone", 1, Box::new(move || of_set(black_box(black_box(a).clone())))),
         ("shrink_left", 1, Box::new(move || of_set(black_box(a).within(black_box(middle)..)))),
         ("plus_value", 1, Box::new(move || of_set(black_box(a) + black_box(7)))),
         ("times_value", 1, Box::new(move || of_set(black_box(a) * black_box(3)))),

