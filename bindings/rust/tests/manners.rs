@@ -45,8 +45,8 @@ fn iterators_have_names() {
     assert_eq!((b.runs().len(), b.runs().size_hint(), b.iter().len()), (2, (2, Some(2)), 7));
 }
 
-/// An iterator that says of itself that it has so many items at least, be it true or not.
-struct Said<I>(I, usize);
+/// An iterator that says of itself how many items it has at least, and at most, be it true or not.
+struct Said<I>(I, (usize, Option<usize>));
 
 impl<I: Iterator> Iterator for Said<I> {
     type Item = I::Item;
@@ -56,7 +56,7 @@ impl<I: Iterator> Iterator for Said<I> {
     }
 
     fn size_hint(&self) -> (usize, Option<usize>) {
-        (self.1, None)
+        self.1
     }
 }
 
@@ -64,20 +64,33 @@ impl<I: Iterator> Iterator for Said<I> {
 fn what_an_iterator_says_of_its_length_changes_no_set() {
     let pieces = [(5, 9), (1, 2), (20, 30u32), (3, 3)];
     let set = IntervalSet::from(pieces);
-    for said in [0, 1, 3, 4, 5, 70_000, usize::MAX] {
+    let lengths = [0, 1, 3, 4, 5, 70_000, usize::MAX];
+    for said in lengths.iter().flat_map(|&least| [(least, None), (least, Some(least))]) {
         let of = |pieces: [(u32, u32); 4]| Said(pieces.into_iter(), said);
-        assert_eq!(of(pieces).collect::<IntervalSet<u32>>(), set, "{said}");
-        assert_eq!(of(pieces).collect::<PagedSet<u32>>().to_set(), set, "{said}");
+        assert_eq!(of(pieces).collect::<IntervalSet<u32>>(), set, "{said:?}");
+        assert_eq!(of(pieces).collect::<PagedSet<u32>>().to_set(), set, "{said:?}");
         let mut extended = IntervalSet::new(0, 5);
         extended.extend(Said(set.runs(), said));
-        assert_eq!(extended, IntervalSet::from([(0, 9), (20, 30)]), "{said}");
-        assert_eq!(Said([&set, &extended].into_iter(), said).collect::<IntervalSet<u32>>(), extended, "{said}");
+        assert_eq!(extended, IntervalSet::from([(0, 9), (20, 30)]), "{said:?}");
+        assert_eq!(Said([&set, &extended].into_iter(), said).collect::<IntervalSet<u32>>(), extended, "{said:?}");
         for place in 0..4 {
             let mut outside = pieces;
             outside[place].1 = u32::MAX;
-            assert_eq!(IntervalSet::checked_from_iter(of(outside)), None, "{said} {place}");
+            assert_eq!(IntervalSet::checked_from_iter(of(outside)), None, "{said:?} {place}");
         }
     }
+}
+
+/// Nobody waits for what comes after a number that no set can have.
+#[test]
+fn a_number_outside_the_limits_is_the_last_that_is_asked_for() {
+    let mut asked = 0;
+    let pieces = std::iter::from_fn(|| {
+        asked += 1;
+        Some(255u8)
+    });
+    assert_eq!(IntervalSet::checked_from_iter(pieces), None);
+    assert_eq!(asked, 1);
 }
 
 #[test]

@@ -127,8 +127,12 @@ pub(super) fn intervals_of<T: Width, P: Pieces<T>>(
     pieces: impl IntoIterator<Item = P>,
 ) -> Result<Vec<Interval<T>>, (i128, i128)> {
     let mut pieces = pieces.into_iter();
-    let mut intervals = Vec::with_capacity(pieces.size_hint().0.min(MOST_RESERVED));
-    P::add_first_to(&mut pieces, &mut intervals)?;
+    let (least, most) = pieces.size_hint();
+    let mut intervals = Vec::with_capacity(least.min(MOST_RESERVED));
+    // an iterator that cannot say how many are left may wait for them
+    if most == Some(least) {
+        P::add_all_to(pieces.by_ref().take(MOST_RESERVED), &mut intervals)?;
+    }
     for piece in pieces {
         piece.add_to(&mut intervals)?;
     }

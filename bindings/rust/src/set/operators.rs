@@ -179,8 +179,8 @@ macro_rules! arithmetic {
 
             #[track_caller]
             fn $tested(&self, other: &Self) -> Self {
-                let condition = within_range::<T>(concat!("the ", $results));
-                unless_broken!(IntervalSet: self.$checked(other), condition, "{}({}, {})", stringify!($call), hull(self), hull(other))
+                unless_broken!(IntervalSet: self.$checked(other), within_range::<T>(concat!("the ", $results)),
+                    "{}({}, {})", stringify!($call), hull(self), hull(other))
             }
 
             #[doc = concat!("Returns true exactly when the ", $results, " of a member and a value are all within the limits. `O(1)`.")]
@@ -224,8 +224,8 @@ macro_rules! arithmetic {
 
             #[track_caller]
             fn $call(self, value: T) -> IntervalSet<T> {
-                let (set, condition) = (hull(self), within_range::<T>(concat!("the ", $results)));
-                unless_broken!(IntervalSet: self.$checked_value(value), condition, "{}({set}, {})", stringify!($call), value.number())
+                unless_broken!(IntervalSet: self.$checked_value(value), within_range::<T>(concat!("the ", $results)),
+                    "{}({}, {})", stringify!($call), hull(self), value.number())
             }
         }
 

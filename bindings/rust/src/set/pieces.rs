@@ -64,14 +64,18 @@ pub trait Pieces<T: Width> {
     /// Adds the intervals to a vector, or returns the least and the greatest number of one that is outside the limits.
     fn add_to(&self, intervals: &mut Vec<Interval<T>>) -> Result<(), (i128, i128)>;
 
-    /// Adds the intervals of some first pieces, where that is quicker than one by one, to an empty vector. By default none.
-    fn add_first_to(
-        _pieces: &mut impl Iterator<Item = Self>,
-        _intervals: &mut Vec<Interval<T>>,
+    /// Adds the intervals of all pieces to a vector, or returns the least and the greatest number of the first that is outside
+    /// the limits. May go on to the last piece before it returns.
+    fn add_all_to(
+        pieces: impl Iterator<Item = Self>,
+        intervals: &mut Vec<Interval<T>>,
     ) -> Result<(), (i128, i128)>
     where
         Self: Sized,
     {
+        for piece in pieces {
+            piece.add_to(intervals)?;
+        }
         Ok(())
     }
 }
@@ -108,13 +112,26 @@ fn between<T: Width>(lower: Bound<T>, upper: Bound<T>) -> (i128, i128) {
     }
 }
 
+/// The interval from one value to another, or `None` if some are outside the limits.
+fn from_to<T: Width>(lower: T, upper: T) -> Option<Interval<T>> {
+    if lower > upper {
+        return Some(Interval::empty());
+    }
+    Interval::in_range(lower, upper).then(|| Interval::new(lower, upper))
+}
+
 macro_rules! pieces {
-    ($($piece:ty, $x:ident => $numbers:expr;)*) => {$(
+    ($($piece:ty, $x:ident => $numbers:expr $(, $interval:expr)?;)*) => {$(
         impl<T: Width> Piece<T> for $piece {
             fn numbers(&self) -> (i128, i128) {
                 let $x = self;
                 $numbers
             }
+
+            $(fn interval(&self) -> Option<Interval<T>> {
+                let $x = self;
+                $interval
+            })?
         }
 
         impl<T: Width> Pieces<T> for $piece {
@@ -123,26 +140,29 @@ macro_rules! pieces {
                 Ok(())
             }
 
-            fn add_first_to(
-                pieces: &mut impl Iterator<Item = Self>,
+            fn add_all_to(
+                pieces: impl Iterator<Item = Self>,
                 intervals: &mut Vec<Interval<T>>,
             ) -> Result<(), (i128, i128)> {
-                // one interval each, so that no step has to ask for room; one that is left empty has no number
-                intervals.resize(pieces.size_hint().0.min(intervals.capacity()), Interval::empty());
-                for (place, piece) in intervals.iter_mut().zip(pieces) {
-                    *place = Piece::<T>::interval(&piece).ok_or_else(|| Piece::<T>::numbers(&piece))?;
-                }
-                Ok(())
+                let mut outside = None;
+                // a loop over a list that nothing leaves needs no test of the room
+                intervals.extend(pieces.map(|piece| {
+                    Piece::<T>::interval(&piece).unwrap_or_else(|| {
+                        outside.get_or_insert_with(|| Piece::<T>::numbers(&piece));
+                        Interval::empty()
+                    })
+                }));
+                outside.map_or(Ok(()), Err)
             }
         }
     )*};
 }
 
 pieces! {
-    T, x => (x.number(), x.number());
-    &T, x => (x.number(), x.number());
-    (T, T), x => (x.0.number(), x.1.number());
-    &(T, T), x => (x.0.number(), x.1.number());
+    T, x => (x.number(), x.number()), from_to(*x, *x);
+    &T, x => (x.number(), x.number()), from_to(**x, **x);
+    (T, T), x => (x.0.number(), x.1.number()), from_to(x.0, x.1);
+    &(T, T), x => (x.0.number(), x.1.number()), from_to(x.0, x.1);
     Range<T>, x => (x.start.number(), x.end.number().saturating_sub(1));
     &Range<T>, x => (x.start.number(), x.end.number().saturating_sub(1));
     RangeInclusive<T>, x => if x.is_empty() { NONE } else { (x.start().number(), x.end().number()) };
