@@ -66,10 +66,7 @@ pub trait Pieces<T: Width> {
 
     /// Adds the intervals of all pieces to a vector, or returns the least and the greatest number of the first that is outside
     /// the limits. May go on to the last piece before it returns.
-    fn add_all_to(
-        pieces: impl Iterator<Item = Self>,
-        intervals: &mut Vec<Interval<T>>,
-    ) -> Result<(), (i128, i128)>
+    fn add_all_to(pieces: impl Iterator<Item = Self>, intervals: &mut Vec<Interval<T>>) -> Result<(), (i128, i128)>
     where
         Self: Sized,
     {
