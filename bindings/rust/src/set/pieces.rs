@@ -111,10 +111,11 @@ fn between<T: Width>(lower: Bound<T>, upper: Bound<T>) -> (i128, i128) {
 
 /// The interval from one value to another, or `None` if some are outside the limits.
 fn from_to<T: Width>(lower: T, upper: T) -> Option<Interval<T>> {
-    if lower > upper {
-        return Some(Interval::empty());
+    // an interval whose bounds cross is empty
+    match Interval::in_range(lower, upper) {
+        true => Some(Interval::new(lower, upper)),
+        false => (lower > upper).then(Interval::empty),
     }
-    Interval::in_range(lower, upper).then(|| Interval::new(lower, upper))
 }
 
 macro_rules! pieces {
