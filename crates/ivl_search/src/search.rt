@@ -7,11 +7,11 @@
 //! greatest number.
 //!
 //! The search narrows the domains by the constraints, takes the smallest domain that has two members
-//! or more, the first of these if there are several, and cuts it in two: the least member and the
-//! others, or halves if it has more than 64. It searches the lower part first; [`greatest`] cuts off
-//! the greatest member, and searches the upper part first. The cuts on the way from the root are a
-//! list in memory, so the stack does not grow with them. The order in which solutions are found is no
-//! part of the contract.
+//! or more, of several the one whose variable most constraints name, and of these the one whose ends
+//! are nearest to each other, and cuts it in two: the least member and the others, or halves if it
+//! has more than 64. It searches the lower part first; [`greatest`] cuts off the greatest member, and
+//! searches the upper part first. The cuts on the way from the root are a list in memory, so the stack
+//! does not grow with them. The order in which solutions are found is no part of the contract.
 ghost use Rattle.std.specs.Prelude.{◌≡◌, ◌<◌, ◌≤◌, ◌↔◌, ℕ, ℤ, List, All, Contains, Err, IfNone, IfOk, IfSome, IsNone, IsTrue, Some, length, map, option_map};
 ghost use Rattle.ivl_store.specs.Narrowing.{first_unknown_of};
 ghost use Rattle.ivl_store.specs.Solutions.{AreDistinct};

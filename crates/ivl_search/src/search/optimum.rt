@@ -16,7 +16,7 @@ ghost use Rattle.ivl_search.specs.Points.{ImprovesTo, SolvesRules, coordinate, f
 
 use super::choice::{Node, Part, Wanted, middle};
 use super::descent::{Kept, search};
-use super::setup::{first_unknown_or, network_of};
+use super::setup::{degrees_of, first_unknown_or, network_of};
 use super::steps::{advance, enter, keep_part};
 use super::{Best, End, Limits, SearchFault};
 use intervallum::interval_set::IntervalSet;
@@ -48,7 +48,8 @@ pub(super) fn best_at<B: Width>(
         return Err(SearchFault::Variable(i));
     }
     let mut network = network_of(alloc, domains, rules)?;
-    let best = best_of(alloc, &mut network, variable, limits, wanted)?;
+    let degrees = degrees_of(alloc, domains.len(), rules)?;
+    let best = best_of(alloc, &mut network, &degrees, variable, limits, wanted)?;
     Ok(best)
 }
 
@@ -56,6 +57,7 @@ pub(super) fn best_at<B: Width>(
 fn best_of<B: Width>(
     alloc: Global,
     network: &mut Network<B>,
+    degrees: &[usize],
     variable: usize,
     limits: Limits,
     wanted: Wanted,
@@ -80,14 +82,16 @@ fn best_of<B: Width>(
             });
         }
         left.nodes -= 1;
-        let Some(half) = narrowed_middle(network, variable, wanted)? else {
+        let Some(half) = narrowed_middle(network, degrees, variable, wanted)? else {
             return Ok(Best {
                 point: best,
                 end: End::All,
             });
         };
         let nodes = &mut left.nodes;
-        let Best { point, end } = one_solution(alloc, network, variable, half, wanted, nodes)?;
+        let Best { point, end } = one_solution(
+            alloc, network, degrees, variable, half, wanted, nodes,
+        )?;
         match point {
             Some(point) => {
                 let value = point[variable];
@@ -111,6 +115,7 @@ fn best_of<B: Width>(
 /// solves.
 fn narrowed_middle<B: Width>(
     network: &mut Network<B>,
+    degrees: &[usize],
     variable: usize,
     wanted: Wanted,
 ) -> Result<Option<B>, AllocError>
@@ -126,7 +131,7 @@ fn narrowed_middle<B: Width>(
     ensures middle { IfOk result (λ half. IfSome half (λ value. IsMiddle wanted (set_at network.new.domains variable) (B.value value))) }
     ensures runs { All (IsRunListIn B.whole) network.new.domains }
 {
-    match advance(network, wanted)? {
+    match advance(network, degrees, wanted)? {
         Node::Dead => Ok(None),
         _ => Ok(middle(&network.domains()[variable], wanted)),
     }
@@ -137,6 +142,7 @@ fn narrowed_middle<B: Width>(
 fn one_solution<B: Width>(
     alloc: Global,
     network: &mut Network<B>,
+    degrees: &[usize],
     variable: usize,
     value: B,
     wanted: Wanted,
@@ -166,7 +172,7 @@ fn one_solution<B: Width>(
         is_kept: true,
         points: Vec::new(alloc),
     };
-    let end = search(alloc, network, wanted, &mut left, &mut found)?;
+    let end = search(alloc, network, degrees, wanted, &mut left, &mut found)?;
     network.undo_to(cut.mark);
     *nodes = left.nodes;
     let point = found.points.pop();

@@ -17,7 +17,7 @@ ghost use Rattle.ivl_search.specs.Points.{EachOnce, FallsTo, Finds, IsGreatestAt
 use super::choice::Wanted;
 use super::descent::{Kept, search};
 use super::optimum::best_at;
-use super::setup::{first_unknown, network_of};
+use super::setup::{degrees_of, first_unknown, network_of};
 use super::{Best, End, Found, Limits, SearchFault};
 use intervallum::interval_set::IntervalSet;
 use intervallum::width::Width;
@@ -72,13 +72,21 @@ pub fn solutions<B: Width>(
         return Err(SearchFault::Variable(i));
     }
     let mut network = network_of(alloc, domains, rules)?;
+    let degrees = degrees_of(alloc, domains.len(), rules)?;
     let mut left = limits;
     let points = Vec::new(alloc);
     let mut found = Kept {
         is_kept: true,
         points,
     };
-    let end = search(alloc, &mut network, Wanted::Least, &mut left, &mut found)?;
+    let end = search(
+        alloc,
+        &mut network,
+        &degrees,
+        Wanted::Least,
+        &mut left,
+        &mut found,
+    )?;
     Ok(Found {
         points: found.points,
         end,
@@ -171,12 +179,20 @@ pub fn count<B: Width>(
         return Err(SearchFault::Variable(i));
     }
     let mut network = network_of(alloc, domains, rules)?;
+    let degrees = degrees_of(alloc, domains.len(), rules)?;
     let mut left = limits;
     let mut found = Kept {
         is_kept: false,
         points: Vec::new(alloc),
     };
-    let end = search(alloc, &mut network, Wanted::Least, &mut left, &mut found)?;
+    let end = search(
+        alloc,
+        &mut network,
+        &degrees,
+        Wanted::Least,
+        &mut left,
+        &mut found,
+    )?;
     Ok((limits.solutions - left.solutions, end))
 }
 

@@ -22,6 +22,7 @@ use std::alloc::{AllocError, Global};
 /// Narrows the domains, and says what to do with them.
 pub(super) fn advance<B: Width>(
     network: &mut Network<B>,
+    degrees: &[usize],
     wanted: Wanted,
 ) -> Result<Node<B>, AllocError>
     requires { All (ArePresent (length network.old.domains)) network.old.rules }
@@ -42,7 +43,7 @@ pub(super) fn advance<B: Width>(
     network.rules();
     let domains = network.domains();
     match settled {
-        Ok(Settled::All) => Ok(node_of(domains, wanted)),
+        Ok(Settled::All) => Ok(node_of(domains, degrees, wanted)),
         Ok(Settled::Unfinished) => if network.has_empty() {
             Ok(Node::Dead)
         } else {

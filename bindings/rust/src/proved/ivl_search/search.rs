@@ -8,11 +8,11 @@
 //! greatest number.
 //!
 //! The search narrows the domains by the constraints, takes the smallest domain that has two members
-//! or more, the first of these if there are several, and cuts it in two: the least member and the
-//! others, or halves if it has more than 64. It searches the lower part first; [`greatest`] cuts off
-//! the greatest member, and searches the upper part first. The cuts on the way from the root are a
-//! list in memory, so the stack does not grow with them. The order in which solutions are found is no
-//! part of the contract.
+//! or more, of several the one whose variable most constraints name, and of these the one whose ends
+//! are nearest to each other, and cuts it in two: the least member and the others, or halves if it
+//! has more than 64. It searches the lower part first; [`greatest`] cuts off the greatest member, and
+//! searches the upper part first. The cuts on the way from the root are a list in memory, so the stack
+//! does not grow with them. The order in which solutions are found is no part of the contract.
 
 #[allow(unused_imports)]
 use crate::rattle::prelude::*;

@@ -41,14 +41,19 @@ pub(super) enum Node<B> {
     Open(usize, B),
 }
 
-/// Which domain has the fewest members but two at least, and where it is cut.
-pub(super) fn node_of<B: Width>(domains: &[IntervalSet<B>], wanted: Wanted) -> Node<B> {
+/// Which of the domains with two members or more is cut first, and where. The degree of a variable
+/// is how many rules name it.
+pub(super) fn node_of<B: Width>(
+    domains: &[IntervalSet<B>],
+    degrees: &[usize],
+    wanted: Wanted,
+) -> Node<B> {
     let mut best: Option<usize> = None;
     for (i, domain) in domains.iter().enumerate() {
         if domain.is_empty() {
             return Node::Dead;
         }
-        best = better(best, i, domains);
+        best = better(best, i, domains, degrees);
     }
     match best {
         None => Node::Leaf,
@@ -59,9 +64,14 @@ pub(super) fn node_of<B: Width>(domains: &[IntervalSet<B>], wanted: Wanted) -> N
     }
 }
 
-/// The domain to be cut, so far: this one if it has two members or more, and fewer than the best
-/// before it.
-fn better<B: Width>(best: Option<usize>, i: usize, domains: &[IntervalSet<B>]) -> Option<usize> {
+/// The domain to be cut, so far: this one if it has two members or more, and is cut rather than the
+/// best before it.
+fn better<B: Width>(
+    best: Option<usize>,
+    i: usize,
+    domains: &[IntervalSet<B>],
+    degrees: &[usize],
+) -> Option<usize> {
     let domain = &domains[i];
     // for the prover: its runs are maximal
     domain.in_whole();
@@ -70,11 +80,49 @@ fn better<B: Width>(best: Option<usize>, i: usize, domains: &[IntervalSet<B>]) -
     }
     match best {
         None => Some(i),
-        Some(j) => if domain.size() < domains[j].size() {
-            Some(i)
-        } else {
-            Some(j)
-        },
+        Some(j) => {
+            let degree = degree_of(degrees, i);
+            if is_cut_rather(domain, degree, &domains[j], degree_of(degrees, j)) {
+                Some(i)
+            } else {
+                Some(j)
+            }
+        }
+    }
+}
+
+/// How many rules name a variable.
+fn degree_of(degrees: &[usize], variable: usize) -> usize {
+    if variable < degrees.len() {
+        degrees[variable]
+    } else {
+        0
+    }
+}
+
+/// Whether a domain is cut rather than another: it has fewer members, or as many and the greater
+/// degree, or both alike and its ends are nearer to each other.
+fn is_cut_rather<B: Width>(
+    domain: &IntervalSet<B>,
+    degree: usize,
+    other: &IntervalSet<B>,
+    of_other: usize,
+) -> bool {
+    let (size, others) = (domain.size(), other.size());
+    if size != others {
+        return size < others;
+    }
+    if degree != of_other {
+        return degree > of_other;
+    }
+    distance_of_ends(domain) < distance_of_ends(other)
+}
+
+/// How far apart the least and the greatest member are.
+fn distance_of_ends<B: Width>(domain: &IntervalSet<B>) -> i128 {
+    match (domain.first(), domain.last()) {
+        (Some(first), Some(last)) => last.number().wrapping_sub(first.number()),
+        _ => 0,
     }
 }
 

@@ -22,6 +22,7 @@ pub(super) struct Kept<B> {
 pub(super) fn search<B: Width>(
     alloc: Global,
     network: &mut Network<B>,
+    degrees: &[usize],
     wanted: Wanted,
     left: &mut Limits,
     found: &mut Kept<B>,
@@ -35,7 +36,7 @@ pub(super) fn search<B: Width>(
             return Ok(End::Solutions);
         }
         left.nodes -= 1;
-        match advance(network, wanted)? {
+        match advance(network, degrees, wanted)? {
             Node::Unsettled => {}
             Node::Open(variable, value) => {
                 let cut = enter(network, variable, value, wanted)?;

@@ -6,7 +6,7 @@
 use crate::rattle::prelude::*;
 use super::choice::{Node, Part, Wanted, middle};
 use super::descent::{Kept, search};
-use super::setup::{first_unknown_or, network_of};
+use super::setup::{degrees_of, first_unknown_or, network_of};
 use super::steps::{advance, enter, keep_part};
 use super::{Best, End, Limits, SearchFault};
 use crate::proved::intervallum::interval_set::IntervalSet;
@@ -28,7 +28,8 @@ pub(super) fn best_at<B: Width>(
         return Err(SearchFault::Variable(i));
     }
     let mut network = network_of(alloc, domains, rules)?;
-    let best = best_of(alloc, &mut network, variable, limits, wanted)?;
+    let degrees = degrees_of(alloc, domains.len(), rules)?;
+    let best = best_of(alloc, &mut network, &degrees, variable, limits, wanted)?;
     Ok(best)
 }
 
@@ -36,6 +37,7 @@ pub(super) fn best_at<B: Width>(
 fn best_of<B: Width>(
     alloc: Global,
     network: &mut Network<B>,
+    degrees: &[usize],
     variable: usize,
     limits: Limits,
     wanted: Wanted,
@@ -50,14 +52,16 @@ fn best_of<B: Width>(
             });
         }
         left.nodes -= 1;
-        let Some(half) = narrowed_middle(network, variable, wanted)? else {
+        let Some(half) = narrowed_middle(network, degrees, variable, wanted)? else {
             return Ok(Best {
                 point: best,
                 end: End::All,
             });
         };
         let nodes = &mut left.nodes;
-        let Best { point, end } = one_solution(alloc, network, variable, half, wanted, nodes)?;
+        let Best { point, end } = one_solution(
+            alloc, network, degrees, variable, half, wanted, nodes,
+        )?;
         match point {
             Some(point) => {
                 let value = point[variable];
@@ -81,10 +85,11 @@ fn best_of<B: Width>(
 /// solves.
 fn narrowed_middle<B: Width>(
     network: &mut Network<B>,
+    degrees: &[usize],
     variable: usize,
     wanted: Wanted,
 ) -> Result<Option<B>, AllocError> {
-    match advance(network, wanted)? {
+    match advance(network, degrees, wanted)? {
         Node::Dead => Ok(None),
         _ => Ok(middle(&network.domains()[variable], wanted)),
     }
@@ -95,6 +100,7 @@ fn narrowed_middle<B: Width>(
 fn one_solution<B: Width>(
     alloc: Global,
     network: &mut Network<B>,
+    degrees: &[usize],
     variable: usize,
     value: B,
     wanted: Wanted,
@@ -109,7 +115,7 @@ fn one_solution<B: Width>(
         is_kept: true,
         points: Vec::new(alloc),
     };
-    let end = search(alloc, network, wanted, &mut left, &mut found)?;
+    let end = search(alloc, network, degrees, wanted, &mut left, &mut found)?;
     network.undo_to(cut.mark);
     *nodes = left.nodes;
     let point = found.points.pop();

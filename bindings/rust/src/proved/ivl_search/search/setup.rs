@@ -42,6 +42,32 @@ pub(super) fn network_of<B: Width>(
     Ok(network)
 }
 
+/// Returns how many of the rules name each of so many variables.
+pub(super) fn degrees_of(
+    alloc: Global,
+    variables: usize,
+    rules: &[Rule],
+) -> Result<Vec<usize>, AllocError> {
+    let mut degrees = Vec::from_elem(alloc, 0, variables)?;
+    for rule in rules {
+        let c = rule.places();
+        add_one(&mut degrees, c.x);
+        add_one(&mut degrees, c.y);
+        // a rule of two variables has its second twice
+        if c.z != c.y {
+            add_one(&mut degrees, c.z);
+        }
+    }
+    Ok(degrees)
+}
+
+/// Counts a rule that names a variable.
+fn add_one(degrees: &mut [usize], variable: usize) {
+    if variable < degrees.len() {
+        degrees[variable] = degrees[variable].saturating_add(1);
+    }
+}
+
 /// Adds a variable for each domain, in this order.
 fn add_variables<B: Width>(
     alloc: Global,

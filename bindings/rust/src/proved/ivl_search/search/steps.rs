@@ -15,6 +15,7 @@ use crate::rattle::std::alloc::{AllocError, Global};
 /// Narrows the domains, and says what to do with them.
 pub(super) fn advance<B: Width>(
     network: &mut Network<B>,
+    degrees: &[usize],
     wanted: Wanted,
 ) -> Result<Node<B>, AllocError> {
     // for the prover: no more rules are unsettled than there are, before and after
@@ -23,7 +24,7 @@ pub(super) fn advance<B: Width>(
     network.rules();
     let domains = network.domains();
     match settled {
-        Ok(Settled::All) => Ok(node_of(domains, wanted)),
+        Ok(Settled::All) => Ok(node_of(domains, degrees, wanted)),
         Ok(Settled::Unfinished) => if network.has_empty() {
             Ok(Node::Dead)
         } else {

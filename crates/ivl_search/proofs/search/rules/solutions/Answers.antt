@@ -1,11 +1,19 @@
 use Rattle.std.proofs.Common.{◌≡◌, [], arith, ◌<◌, ◌+◌, ◌-◌, ◌*◌, ◌/◌, ◌++◌, List, length, map, max}
-use Rattle.std.specs.Prelude.{ℤ, Contains}
+use Rattle.std.specs.Prelude.{ℤ, All, Contains}
 use Rattle.std.proofs.lemmas.List.{length-map}
 use Rattle.ivl_search.specs.Budget.{points_of}
 use Rattle.ivl_search.specs.Points.{SolvesRules}
 use Rattle.ivl_search.proofs.Rooms.{enough_more}
 use Rattle.std.proofs.Common.{ap, refl, subst, sym, ◌∙◌}
 use Rattle.ivl_search.proofs.search.rules.solutions.Goals as goal
+
+pub returns-clause-sound : goal.returns-clause-sound
+returns-clause-sound g c =
+    let f = c.in_ok-end.ensures.finds in
+    let net = c.in_ok-network.network in
+    let solved = λ (point : List ℤ) (s : SolvesRules net.rules net.domains point). (c.in_ok-network.ensures.solutions point).1 (subst (λ D. SolvesRules net.rules D point) c.in_ok-network.ensures.domains s) in
+    subst (All (SolvesRules c.args.rules.now c.args.domains.now)) (sym (f.2 refl ∙ ap (λ xs. map (λ p. map g.B.Width.value p.items) xs ++ f.0) c.new-points.ensures.items))
+    (λ k d lt. solved _ (f.1.sound k d lt))
 
 pub returns-clause-complete : goal.returns-clause-complete
 returns-clause-complete g c = λ e point s.
