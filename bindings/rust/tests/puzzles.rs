@@ -199,42 +199,41 @@ fn puzzles_that_are_made_are_those_of_the_files() {
 
 #[test]
 fn queens_on_six_by_six() {
-    has_solutions(include_str!("puzzles/queens6.txt"), 4, 134);
+    has_solutions(include_str!("puzzles/queens6.txt"), 4, 41);
 }
 
 #[test]
 fn queens_on_eight_by_eight() {
-    has_solutions(include_str!("puzzles/queens8.txt"), 92, 1_382);
+    has_solutions(include_str!("puzzles/queens8.txt"), 92, 489);
 }
 
 #[test]
 fn magic_squares_of_three() {
-    has_solutions(include_str!("puzzles/magic3.txt"), 8, 182);
+    has_solutions(include_str!("puzzles/magic3.txt"), 8, 53);
 }
 
 #[test]
 fn send_more_money() {
-    has_solutions(include_str!("puzzles/sendmore.txt"), 1, 294);
+    has_solutions(include_str!("puzzles/sendmore.txt"), 1, 113);
 }
 
 #[test]
 fn golomb_rulers_of_five_marks() {
-    has_solutions(include_str!("puzzles/golomb5_11.txt"), 4, 106);
+    has_solutions(include_str!("puzzles/golomb5_11.txt"), 4, 51);
 }
 
-/// A search takes memory for its domains and for what its trail keeps at once, and not for each set that a narrowing leaves:
-/// of these there are 579 for the pairs of Langford, and 54,132 for the coins.
+/// A search takes memory for its domains and for what its trail keeps at once, and not for each set that a narrowing leaves.
 #[test]
 fn searches_use_memory_again() {
     let limits = Limits { solutions: 1_000, nodes: 1_000_000 };
     for (text, most) in [
         (include_str!("puzzles/queens6.txt"), 130),
         (include_str!("puzzles/queens8.txt"), 430),
-        (include_str!("puzzles/magic3.txt"), 360),
-        (include_str!("puzzles/sendmore.txt"), 660),
+        (include_str!("puzzles/magic3.txt"), 440),
+        (include_str!("puzzles/sendmore.txt"), 580),
         (include_str!("puzzles/golomb5_11.txt"), 350),
         (include_str!("puzzles/langford4.txt"), 150),
-        (include_str!("puzzles/coins50.txt"), 320),
+        (include_str!("puzzles/coins50.txt"), 160),
     ] {
         let Instance { domains, constraints } = instance(text);
         let (found, told) = cost(|| count(Global, &domains, &constraints, limits));
@@ -270,12 +269,12 @@ fn corners_of_magic_squares_of_three() {
 
 #[test]
 fn langford_pairs_of_four() {
-    has_solutions(include_str!("puzzles/langford4.txt"), 2, 22);
+    has_solutions(include_str!("puzzles/langford4.txt"), 2, 11);
 }
 
 #[test]
 fn coins_that_make_fifty() {
-    has_solutions(include_str!("puzzles/coins50.txt"), 146, 12_982);
+    has_solutions(include_str!("puzzles/coins50.txt"), 146, 301);
 }
 
 /// Numbers below a bound, by a linear congruential generator.
