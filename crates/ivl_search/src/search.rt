@@ -6,12 +6,13 @@
 //! whether these are all. [`least`] and [`greatest`] return one in which a variable has its least or
 //! greatest number.
 //!
-//! The search narrows the domains by the constraints, takes the smallest domain that has two members
-//! or more, of several the one whose variable most constraints name, and of these the one whose ends
-//! are nearest to each other, and cuts it in two: the least member and the others, or halves if it
-//! has more than 64. It searches the lower part first; [`greatest`] cuts off the greatest member, and
-//! searches the upper part first. The cuts on the way from the root are a list in memory, so the stack
-//! does not grow with them. The order in which solutions are found is no part of the contract.
+//! The search narrows the domains by the constraints. Of those with two members or more it takes
+//! the one whose size is least, divided by how many constraints name its variable, and of several
+//! the one whose ends are nearest to each other. It cuts this in two: the least member and the
+//! others, or halves if it has more than 64. It searches the lower part first; [`greatest`] cuts
+//! off the greatest member, and searches the upper part first. The cuts on the way from the root
+//! are a list in memory, so the stack does not grow with them. The order in which solutions are
+//! found is no part of the contract.
 ghost use Rattle.std.specs.Prelude.{◌≡◌, ◌<◌, ◌≤◌, ◌↔◌, ℕ, ℤ, List, All, Contains, Err, IfNone, IfOk, IfSome, IsNone, IsTrue, Some, length, map, option_map};
 ghost use Rattle.ivl_store.specs.Narrowing.{first_unknown_of};
 ghost use Rattle.ivl_store.specs.Solutions.{AreDistinct};
@@ -113,8 +114,9 @@ impl From<AllocError> for SearchFault {
 /// `(2 p - 1) * (c / 500 + 1)` for `c` constraints, where `p` is the product of the sizes of the
 /// domains, or 1 if that is 0.
 ///
-/// Copies the domains once. Each node costs its narrowings and a pass over the domains; memory is
-/// that of the solutions, of the domains that one branch replaces, and of the cuts of the branch.
+/// Copies the domains and the constraints once, and counts for each variable how many name it. Each
+/// node costs its narrowings and a pass over the domains; memory is that of the solutions, of the
+/// domains that one branch replaces, and of the cuts of the branch.
 ///
 /// # Errors
 ///
@@ -251,10 +253,11 @@ pub fn count<B: Width>(
 /// The caller must ensure that each constraint has three different variables. Check with
 /// [`Constraint::distinct`], or [`all_distinct`] for a list.
 ///
-/// Copies the domains once. Each search looks for one solution among the lower half of the numbers
-/// that the variable can still have; then these are cut to what is below it, or to the upper half if
-/// there is none. So there are at most 64 searches, which share the nodes. Memory is that of two
-/// solutions, of the domains that one branch replaces, and of the cuts of the branch.
+/// Copies the domains and the constraints once, and counts for each variable how many name it. Each
+/// search looks for one solution among the lower half of the numbers that the variable can still
+/// have; then these are cut to what is below it, or to the upper half if there is none. So there
+/// are at most 64 searches, which share the nodes. Memory is that of two solutions, of the domains
+/// that one branch replaces, and of the cuts of the branch.
 ///
 /// Returns [`End::Nodes`] only if `limits.nodes` is at most `2 p * (c / 500 + 1)`, with `p` and `c`
 /// as for [`solutions`].

@@ -34,8 +34,9 @@ use std::alloc::Global;
 /// `(2 p - 1) * (c / 500 + 1)` for `c` rules, where `p` is the product of the sizes of the
 /// domains, or 1 if that is 0.
 ///
-/// Copies the domains once. Each node costs its narrowings and a pass over the domains; memory is
-/// that of the solutions, of the domains that one branch replaces, and of the cuts of the branch.
+/// Copies the domains and the rules once, and counts for each variable how many name it. Each node
+/// costs its narrowings and a pass over the domains; memory is that of the solutions, of the
+/// domains that one branch replaces, and of the cuts of the branch.
 ///
 /// # Errors
 ///
@@ -208,10 +209,11 @@ pub fn count<B: Width>(
 /// The caller must ensure that each rule names each of its variables once. Check with
 /// [`Rule::is_over_different`], or [`all_different`] for a list.
 ///
-/// Copies the domains once. Each search looks for one solution among the lower half of the numbers
-/// that the variable can still have; then these are cut to what is below it, or to the upper half if
-/// there is none. So there are at most 64 searches, which share the nodes. Memory is that of two
-/// solutions, of the domains that one branch replaces, and of the cuts of the branch.
+/// Copies the domains and the rules once, and counts for each variable how many name it. Each
+/// search looks for one solution among the lower half of the numbers that the variable can still
+/// have; then these are cut to what is below it, or to the upper half if there is none. So there
+/// are at most 64 searches, which share the nodes. Memory is that of two solutions, of the domains
+/// that one branch replaces, and of the cuts of the branch.
 ///
 /// Returns [`End::Nodes`] only if `limits.nodes` is at most `2 p * (c / 500 + 1)`, with `p` and `c`
 /// as for [`solutions`].

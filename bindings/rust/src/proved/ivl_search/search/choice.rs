@@ -64,8 +64,8 @@ pub(super) fn node_of<B: Width>(
     }
 }
 
-/// The domain to be cut, so far: this one if it has two members or more, and is cut rather than the
-/// best before it.
+/// The domain to be cut, so far: this one if it has two members or more, and is cut before the best
+/// of those passed.
 fn better<B: Width>(
     best: Option<usize>,
     i: usize,
@@ -82,7 +82,7 @@ fn better<B: Width>(
         None => Some(i),
         Some(j) => {
             let degree = degree_of(degrees, i);
-            if is_cut_rather(domain, degree, &domains[j], degree_of(degrees, j)) {
+            if is_cut_before(domain, degree, &domains[j], degree_of(degrees, j)) {
                 Some(i)
             } else {
                 Some(j)
@@ -100,20 +100,19 @@ fn degree_of(degrees: &[usize], variable: usize) -> usize {
     }
 }
 
-/// Whether a domain is cut rather than another: it has fewer members, or as many and the greater
-/// degree, or both alike and its ends are nearer to each other.
-fn is_cut_rather<B: Width>(
+/// Whether a domain is cut before another: its size is less when divided by the degree of its variable,
+/// or the same and its ends are nearer to each other.
+fn is_cut_before<B: Width>(
     domain: &IntervalSet<B>,
     degree: usize,
     other: &IntervalSet<B>,
     of_other: usize,
 ) -> bool {
-    let (size, others) = (domain.size(), other.size());
+    // a size is at most 2 to the 64, and a degree is less
+    let size = domain.size().number().wrapping_mul(of_other as u128);
+    let others = other.size().number().wrapping_mul(degree as u128);
     if size != others {
         return size < others;
-    }
-    if degree != of_other {
-        return degree > of_other;
     }
     distance_of_ends(domain) < distance_of_ends(other)
 }
