@@ -5,6 +5,7 @@ use super::{IntervalSet, PagedSet, Pieces};
 use crate::proved::ops::Cardinality as _;
 use crate::proved::width::Width;
 use crate::proved::{self, Interval, ivl_paged};
+use crate::rattle::vec::arrays_of_one;
 use alloc::vec::Vec;
 use core::cmp::Ordering;
 use core::hash::{Hash, Hasher};
@@ -101,9 +102,8 @@ impl<T: Width> Clone for IntervalSet<T> {
     // as `try_clone` does it, but for an allocation that aborts, which takes a tenth less than one that may fail
     fn clone(&self) -> Self {
         Self(self.0.as_ref().map(|set| {
-            let mut runs = Vec::with_capacity(set.interval_count());
-            runs.extend(set.runs());
-            proved::IntervalSet::of_runs(runs.into(), set.size())
+            let runs: Vec<_> = arrays_of_one(set.runs()).collect();
+            proved::IntervalSet::of_runs(runs.into_flattened().into(), set.size())
         }))
     }
 
