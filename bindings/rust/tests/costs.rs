@@ -124,6 +124,10 @@ fn a_set_copies_runs_and_nothing_more() {
     assert_eq!(told.allocations, 0);
     let (_, told) = cost(|| (set.intersection_size(&copy), set.union_size(&copy), set.difference_size(&copy)));
     assert_eq!(told.allocations, 0);
+    let root = intervallum::IntervalSet::from(set);
+    let (copy, told) = cost(|| root.clone());
+    assert!(copy == root);
+    assert_eq!((told.allocations, told.held), (1, 16 * RUNS as isize));
 }
 
 #[test]
