@@ -268,19 +268,38 @@ fn go_by_runs(random: &mut Random, set: &Set, model: &Model) {
     assert_eq!(left.clone().rfold(1, order), wanted.clone().rfold(1, order));
     assert_eq!(format!("{left:?}"), format!("Members {:?}", runs(&wanted.collect())));
 
-    let (wanted, n) = (runs(model), random.below(9) as usize);
-    assert_eq!((set.runs().len(), set.runs().nth(n), set.runs().nth_back(n)), ends(&wanted, n));
-    assert_eq!(
-        (set.clone().into_runs().len(), set.clone().into_runs().nth(n), set.clone().into_runs().nth_back(n)),
-        ends(&wanted, n)
-    );
-    assert!(set.runs().rev().eq(wanted.iter().rev().cloned()) && set.clone().into_runs().eq(wanted.iter().cloned()));
-    assert_eq!((set.runs().last(), set.clone().into_runs().last()), (wanted.last().cloned(), wanted.last().cloned()));
+    let (range, wanted) = (random.member_range(), runs(model));
+    let met: Vec<_> = wanted.iter().filter(|run| (*run).clone().any(|x| range.contains(&x))).cloned().collect();
+    assert_eq!((set.runs().len(), set.clone().into_runs().len()), (wanted.len(), wanted.len()));
+    step(random, set.runs(), &wanted);
+    step(random, set.clone().into_runs(), &wanted);
+    step(random, set.runs_within(range), &met);
 }
 
-/// How many there are, and the one of a number from each end.
-fn ends(runs: &[RangeInclusive<i8>], n: usize) -> (usize, Option<RangeInclusive<i8>>, Option<RangeInclusive<i8>>) {
-    (runs.len(), runs.get(n).cloned(), runs.iter().rev().nth(n).cloned())
+/// Steps from both ends, and then one of the calls that take all that is left.
+fn step<I: DoubleEndedIterator<Item = RangeInclusive<i8>>>(
+    random: &mut Random,
+    mut left: I,
+    wanted: &[RangeInclusive<i8>],
+) {
+    let mut wanted = wanted.iter().cloned();
+    for _ in 0..random.below(5) {
+        let n = random.below(3) as usize;
+        match random.below(4) {
+            0 => assert_eq!(left.nth(n), wanted.nth(n)),
+            1 => assert_eq!(left.nth_back(n), wanted.nth_back(n)),
+            2 => assert_eq!(left.next(), wanted.next()),
+            _ => assert_eq!(left.next_back(), wanted.next_back()),
+        }
+    }
+    let (least, most) = left.size_hint();
+    assert!(least <= wanted.len() && most.is_none_or(|most| wanted.len() <= most));
+    match random.below(4) {
+        0 => assert_eq!(left.count(), wanted.len()),
+        1 => assert_eq!(left.last(), wanted.last()),
+        2 => assert!(left.rev().eq(wanted.rev())),
+        _ => assert!(left.eq(wanted)),
+    }
 }
 
 fn compare(a: &Set, b: &Set, m: &Model, n: &Model) {
