@@ -296,7 +296,7 @@ fn step<I: DoubleEndedIterator<Item = RangeInclusive<i8>>>(
     assert!(least <= wanted.len() && most.is_none_or(|most| wanted.len() <= most));
     match random.below(4) {
         0 => assert_eq!(left.count(), wanted.len()),
-        1 => assert_eq!(left.last(), wanted.last()),
+        1 => assert_eq!(left.last(), wanted.next_back()),
         2 => assert!(left.rev().eq(wanted.rev())),
         _ => assert!(left.eq(wanted)),
     }
