@@ -23,8 +23,8 @@ returns-in-None-clause-known g c = (
       c.is_singleton.ensures c.if-is_singleton.false,
 )
 
-pub returns-then-is_cut_rather-clause-known : goal.returns-then-is_cut_rather-clause-known
-returns-then-is_cut_rather-clause-known g c = (
+pub returns-then-is_cut_before-clause-known : goal.returns-then-is_cut_before-clause-known
+returns-then-is_cut_before-clause-known g c = (
   c.requires.here,
   two_at g.B.Width.whole c.args.domains.now c.args.i c.index-domains-i.result c.is_singleton.result c.requires.here c.index-domains-i.is c.in_whole.ensures c.requires.filled
       c.is_singleton.ensures c.if-is_singleton.false,
