@@ -89,6 +89,7 @@ impl<B: Width> IntervalSet<B> {
     /// assert!(rt; IntervalSet::<i32>::empty(alloc).is_empty());
     /// ```
     pub fn empty(alloc: Global) -> Self
+        // The result is the empty set.
         ensures { result ≡ [] }
     {
         IntervalSet {
@@ -108,6 +109,7 @@ impl<B: Width> IntervalSet<B> {
     pub fn new(alloc: Global, lb: B, ub: B) -> Result<Self, AllocError>
         requires in_range { IsInRange B.whole (B.value lb, B.value ub) }
         requires in_order { B.value lb ≤ℤ B.value ub }
+        // On success, the result is the one run from `lb` to `ub`.
         ensures { IfOk result (λ L. L ≡ (B.value lb, B.value ub) ∷ []) }
     {
         let run = Interval::new(lb, ub);
@@ -126,6 +128,7 @@ impl<B: Width> IntervalSet<B> {
     /// assert_eq!(rt; a.interval_count(), 2);
     /// ```
     pub fn interval_count(&self) -> usize
+        // The result is the number of runs, which are ascending, lie in the range, and neither overlap nor touch.
         ensures count { result ≡ length self.now }
         ensures runs { IsRunListIn B.whole self.now }
     {
@@ -142,6 +145,8 @@ impl<B: Width> IntervalSet<B> {
     /// assert!(rt; runs.next_back() == Some(&Interval::new(5, 6)));
     /// ```
     pub fn iter(&self) -> std::slice::Iter<'_, Interval<B>>
+        // The iterator yields the runs in order; they are ascending, not empty, lie in the range, and neither overlap
+        // nor touch.
         ensures rest { result.rest.now ≡ self.now }
         ensures runs { IsRunListIn B.whole self.now }
         ensures filled { All (λ run. HasSome (IsBetween run)) self.now }
@@ -189,6 +194,7 @@ impl<B: Width> IsEmpty for IntervalSet<B> {
     /// assert!(rt; !a.is_empty() && IntervalSet::<i32>::empty(alloc).is_empty());
     /// ```
     fn is_empty(&self) -> bool
+        // True exactly when there is no member, and so no run; after false there is a member.
         ensures members { IsTrue result ↔ HasNone (Covers self.now) }
         ensures filled { ¬ (IsTrue result) → HasSome (Covers self.now) }
         ensures none { IsTrue result ↔ (self.now ≡ []) }
@@ -210,6 +216,7 @@ impl<B: Width> PartialEq for IntervalSet<B> {
     /// assert!(rt; a == IntervalSet::new(alloc, 1, 4)?);
     /// ```
     fn eq(&self, other: &IntervalSet<B>) -> bool
+        // True exactly when both sets have the same members.
         ensures value { result ≡ same_runs self.now other.now }
         ensures members { IsTrue result ↔ SameMembers (Covers self.now) (Covers other.now) }
     {

@@ -54,6 +54,7 @@ impl<B: Width> Interval<B> {
     /// assert!(rt; Interval::in_range(8u8, 3) && !Interval::in_range(0u8, 255));
     /// ```
     pub fn in_range(lb: B, ub: B) -> bool
+        // True exactly when `lb` is not below the range and `ub` is not above it.
         ensures { IsTrue result ↔ IsInRange B.whole (B.value lb, B.value ub) }
     {
         lb >= B::min_value() && ub <= B::max_value()
@@ -66,6 +67,7 @@ impl<B: Width> Interval<B> {
     /// assert_eq!(rt; Interval::new(8i32, 3).lower_bound(), 8);
     /// ```
     pub fn lower_bound(&self) -> B
+        // The result is the lower bound, even of an empty interval.
         ensures { B.value result ≡ self.now.0 }
     {
         self.lb
@@ -78,6 +80,7 @@ impl<B: Width> Interval<B> {
     /// assert_eq!(rt; Interval::new(8i32, 3).upper_bound(), 3);
     /// ```
     pub fn upper_bound(&self) -> B
+        // The result is the upper bound, even of an empty interval.
         ensures { B.value result ≡ self.now.1 }
     {
         self.ub
@@ -90,6 +93,7 @@ impl<B: Width> Interval<B> {
     /// a.in_whole(); // a proof knows from here on that the members of `a` are in the range
     /// ```
     pub fn in_whole(self)
+        // Each number of the interval is in the range.
         ensures { IsSubset (IsBetween self) (IsBetween B.whole) }
     {}
 }
@@ -116,6 +120,7 @@ impl<B: Width> PartialEq for Interval<B> {
     /// assert_eq!(rt; Interval::new(8i32, 3), Interval::empty());
     /// ```
     fn eq(&self, other: &Self) -> bool
+        // True exactly when both intervals have the same numbers.
         ensures value { result ≡ same_interval self.now other.now }
         ensures members { IsTrue result ↔ SameMembers (IsBetween self.now) (IsBetween other.now) }
     {

@@ -42,6 +42,7 @@ pub trait Empty {
 
     /// Returns an empty set.
     fn empty() -> Self
+        // The result has no member.
         ensures { HasNone (members result) };
 }
 
@@ -56,6 +57,7 @@ pub trait Top {
 
     /// Returns the empty set, which entails every other.
     fn top() -> Self
+        // The result has no member.
         ensures { HasNone (members result) };
 }
 
@@ -71,6 +73,7 @@ pub trait Bot {
 
     /// Returns the numbers of the range, which every set entails.
     fn bot() -> Self
+        // The members are exactly the numbers of the range.
         ensures { SameMembers (members result) (IsBetween whole) };
 }
 
@@ -86,6 +89,7 @@ pub trait Whole {
 
     /// Returns the numbers of the range.
     fn whole() -> Self
+        // The members are exactly the numbers of the range.
         ensures { SameMembers (members result) (IsBetween whole) };
 }
 
@@ -101,6 +105,7 @@ pub trait Singleton: Collection {
     /// with `whole().contains(&item)`.
     fn singleton(item: Self::Item) -> Self
         requires { IsBetween whole (Self.number item) }
+        // The only member is the item.
         ensures { SameMembers (Self.members result) (Only (Self.number item)) };
 }
 
@@ -117,6 +122,7 @@ pub trait Range: Collection {
     /// `Interval::in_range(lb, ub)`.
     fn new(lb: Self::Item, ub: Self::Item) -> Self
         requires { IsInRange whole (Self.number lb, Self.number ub) }
+        // The members are exactly the numbers from `lb` to `ub`.
         ensures { SameMembers (Self.members result) (IsBetween (Self.number lb, Self.number ub)) };
 }
 
@@ -131,6 +137,7 @@ pub trait Bounded: Collection {
     /// `is_empty`.
     fn lower(&self) -> Self::Item
         requires { HasSome (Self.members self.now) }
+        // The result is the least member.
         ensures member { Self.members self.now (Self.number result) }
         ensures least { (z : ℤ) → Self.members self.now z → Self.number result ≤ℤ z };
 
@@ -138,6 +145,7 @@ pub trait Bounded: Collection {
     /// `is_empty`.
     fn upper(&self) -> Self::Item
         requires { HasSome (Self.members self.now) }
+        // The result is the greatest member.
         ensures member { Self.members self.now (Self.number result) }
         ensures greatest { (z : ℤ) → Self.members self.now z → z ≤ℤ Self.number result };
 }
@@ -158,6 +166,7 @@ pub trait Cardinality {
 
     /// Returns the number of members.
     fn size(&self) -> Self::Size
+        // The result is the number of members.
         ensures { IsCountOf (size_number result) (members self.now) };
 }
 
@@ -171,6 +180,7 @@ pub trait IsEmpty {
 
     /// Returns true exactly when the set has no members.
     fn is_empty(&self) -> bool
+        // True exactly when there is no member; after false there is one.
         ensures members { IsTrue result ↔ HasNone (members self.now) }
         ensures filled { ¬ (IsTrue result) → HasSome (members self.now) };
 }
@@ -185,6 +195,7 @@ pub trait IsSingleton {
 
     /// Returns true exactly when the set has one member and no other.
     fn is_singleton(&self) -> bool
+        // True exactly when there is one member and no other.
         ensures { IsTrue result ↔ ((x : ℤ) × SameMembers (members self.now) (Only x)) };
 }
 
@@ -197,6 +208,7 @@ pub trait IsSingleton {
 pub trait Contains: Collection {
     /// Returns true exactly when `item`, which may be any value of its type, is a member.
     fn contains(&self, item: &Self::Item) -> bool
+        // True exactly when the item is a member.
         ensures { IsTrue result ↔ Self.members self.now (Self.number item.now) };
 }
 
@@ -212,6 +224,7 @@ pub trait Disjoint<R> {
 
     /// Returns true exactly when no number is a member of both.
     fn is_disjoint(&self, other: &R) -> bool
+        // True exactly when no number is a member of both.
         ensures { IsTrue result ↔ HasNone (Intersection (members self.now) (other_members other.now)) };
 }
 
@@ -227,6 +240,7 @@ pub trait Overlap<R> {
 
     /// Returns true exactly when some number is a member of both.
     fn overlap(&self, other: &R) -> bool
+        // True exactly when some number is a member of both.
         ensures { IsTrue result ↔ HasSome (Intersection (members self.now) (other_members other.now)) };
 }
 
@@ -241,6 +255,7 @@ pub trait Subset {
 
     /// Returns true exactly when each member is a member of `other`.
     fn is_subset(&self, other: &Self) -> bool
+        // True exactly when each member is a member of `other`.
         ensures { IsTrue result ↔ IsSubset (members self.now) (members other.now) };
 }
 
@@ -255,6 +270,7 @@ pub trait ProperSubset {
 
     /// Returns true exactly when each member is a member of `other`, and `other` has more.
     fn is_proper_subset(&self, other: &Self) -> bool
+        // True exactly when each member is a member of `other`, and the two sets differ.
         ensures { IsTrue result ↔ IsProperSubset (members self.now) (members other.now) };
 }
 
@@ -282,6 +298,7 @@ pub trait Union<R> {
     /// `Interval::whole().contains(&value)`.
     fn union(&self, other: &R) -> Self::Output
         requires { can_unite self.now other.now }
+        // The result stands for the members of either.
         ensures { answers result (Union (members self.now) (other_members other.now)) };
 }
 
@@ -302,6 +319,7 @@ pub trait Intersection<R> {
 
     /// Returns the numbers that are members of both.
     fn intersection(&self, other: &R) -> Self::Output
+        // The result stands for the members of both.
         ensures { answers result (Intersection (members self.now) (other_members other.now)) };
 }
 
@@ -323,6 +341,7 @@ pub trait Difference<R> {
     /// Returns the members that are not in `other`, or the least interval that holds them if the
     /// result is an interval.
     fn difference(&self, other: &R) -> Self::Output
+        // The result stands for the members of `self` that are not in `other`.
         ensures { answers result (Without (members self.now) (other_members other.now)) };
 }
 
@@ -350,6 +369,7 @@ pub trait SymmetricDifference<R> {
     /// `Interval::whole().contains(&value)`.
     fn symmetric_difference(&self, other: &R) -> Self::Output
         requires { can_unite self.now other.now }
+        // The result stands for the members of either that are not in both.
         ensures { answers result (SymmetricDifference (members self.now) (other_members other.now)) };
 }
 
@@ -376,6 +396,7 @@ pub trait Hull<R> {
     /// `Interval::whole().contains(&value)`.
     fn hull(&self, other: &R) -> Self::Output
         requires { can_join self.now other.now }
+        // The result stands for the members of either.
         ensures { answers result (Union (members self.now) (other_members other.now)) };
 }
 
@@ -397,6 +418,7 @@ pub trait Complement {
 
     /// Returns the numbers of the range that are not in the set.
     fn complement(&self) -> Self::Output
+        // The result stands for the numbers of the range that are not members.
         ensures { answers result (Complement whole (members self.now)) };
 }
 
@@ -413,6 +435,7 @@ pub trait ShrinkLeft: Collection {
 
     /// Returns the members that are at least `lower`, for any value of its type.
     fn shrink_left(&self, lower: Self::Item) -> Self::Output
+        // The result stands for the members that are at least `lower`.
         ensures { answers result (AtLeast (Self.number lower) (Self.members self.now)) };
 }
 
@@ -429,6 +452,7 @@ pub trait ShrinkRight: Collection {
 
     /// Returns the members that are at most `upper`, for any value of its type.
     fn shrink_right(&self, upper: Self::Item) -> Self::Output
+        // The result stands for the members that are at most `upper`.
         ensures { answers result (AtMost (Self.number upper) (Self.members self.now)) };
 }
 
@@ -445,6 +469,7 @@ pub trait StrictShrinkLeft: Collection {
 
     /// Returns the members above `lower`, for any value of its type.
     fn strict_shrink_left(&self, lower: Self::Item) -> Self::Output
+        // The result stands for the members above `lower`.
         ensures { answers result (Above (Self.number lower) (Self.members self.now)) };
 }
 
@@ -461,6 +486,7 @@ pub trait StrictShrinkRight: Collection {
 
     /// Returns the members below `upper`, for any value of its type.
     fn strict_shrink_right(&self, upper: Self::Item) -> Self::Output
+        // The result stands for the members below `upper`.
         ensures { answers result (Below (Self.number upper) (Self.members self.now)) };
 }
 
@@ -480,6 +506,7 @@ pub trait Join: Sized {
 
     /// Returns the members of both.
     fn join(self, other: Self) -> Self::Output
+        // The result stands for the members of both.
         ensures { answers result (Intersection (members self) (members other)) };
 }
 
@@ -500,6 +527,7 @@ pub trait Meet: Sized {
     /// Returns the members of at least one, or the least interval that holds them if the result is
     /// an interval.
     fn meet(self, other: Self) -> Self::Output
+        // The result stands for the members of either.
         ensures { answers result (Union (members self) (members other)) };
 }
 
@@ -515,6 +543,8 @@ pub trait Entailment {
     /// Returns `True` if each member is a member of `other`, else `False` if it is the other way
     /// round, else `Unknown`.
     fn entail(&self, other: &Self) -> SKleene
+        // `True` if each member is a member of `other`; else `False` if each member of `other` is one of `self`; else
+        // `Unknown`.
         ensures { IsEntailmentOf (members self.now) (members other.now) result };
 }
 
@@ -535,6 +565,8 @@ pub trait ToInterval<B: Width> {
     /// is not below the range and its upper bound is not above it. Check with `Interval::in_range`.
     fn to_interval(self) -> Interval<B>
         requires { can_convert self }
+        // The members are exactly the numbers from the one bound to the other; if the bounds do not cross, they are
+        // those of the result.
         ensures members { SameMembers (IsBetween result) (IsBetween (interval self)) }
         ensures bounds { (interval self).0 ≤ℤ (interval self).1 → result ≡ interval self };
 }
@@ -555,13 +587,16 @@ pub trait Fits<R> {
     /// Returns true exactly when each sum of a member of `self` and a member of `other` is in the
     /// range.
     fn fits_add(&self, other: &R) -> bool
+        // True exactly when the sum of each member of `self` and each of `other` is in the range.
         ensures { IsTrue result ↔ IsSubset (Sums (members self.now) (other_members other.now)) (IsBetween whole) };
 
     /// Returns true exactly when each difference is in the range.
     fn fits_sub(&self, other: &R) -> bool
+        // True exactly when the difference of each member of `self` and each of `other` is in the range.
         ensures { IsTrue result ↔ IsSubset (Differences (members self.now) (other_members other.now)) (IsBetween whole) };
 
     /// Returns true exactly when each product is in the range.
     fn fits_mul(&self, other: &R) -> bool
+        // True exactly when the product of each member of `self` and each of `other` is in the range.
         ensures { IsTrue result ↔ IsSubset (ExactProducts (members self.now) (other_members other.now)) (IsBetween whole) };
 }

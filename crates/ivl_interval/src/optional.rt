@@ -34,6 +34,7 @@ impl<T> Optional<T> {
     /// assert!(rt; Optional::<i32>::empty().is_empty());
     /// ```
     pub fn empty() -> Self
+        // The result holds no value.
         ensures { result ≡ None }
     {
         Optional { value: None }
@@ -45,6 +46,7 @@ impl<T> Optional<T> {
     /// assert_eq!(rt; Optional::singleton(5i32).as_ref(), Some(&5));
     /// ```
     pub fn singleton(x: T) -> Self
+        // The result holds `x`.
         ensures { result ≡ Some x }
     {
         Optional { value: Some(x) }
@@ -56,6 +58,7 @@ impl<T> Optional<T> {
     /// assert!(rt; !Optional::singleton(5i32).is_empty());
     /// ```
     pub fn is_empty(&self) -> bool
+        // True exactly when there is no value.
         ensures { IsTrue result ↔ (self.now ≡ None) }
     {
         self.value.is_none()
@@ -67,6 +70,7 @@ impl<T> Optional<T> {
     /// assert!(rt; Optional::singleton(5i32).is_some());
     /// ```
     pub fn is_some(&self) -> bool
+        // True exactly when there is a value.
         ensures { IsTrue result ↔ IsSome self.now }
     {
         self.value.is_some()
@@ -78,6 +82,7 @@ impl<T> Optional<T> {
     /// assert_eq!(rt; Optional::<i32>::empty().as_ref(), None);
     /// ```
     pub fn as_ref(&self) -> Option<&T>
+        // The result is the value, if there is one.
         ensures { option_copied result ≡ self.now }
     {
         self.value.as_ref()

@@ -34,6 +34,7 @@ pub trait SizeNumber: Ord + Copy {
     /// assert_eq!(rt; <u8 as SizeNumber>::number(255), 255);
     /// ```
     fn number(self) -> u128
+        // The result is the number of the size, which is at most the greatest of the type.
         ensures number { result ≡ size self }
         ensures at_most { size self ≤ greatest };
 
@@ -43,6 +44,7 @@ pub trait SizeNumber: Ord + Copy {
     /// assert_eq!(rt; <u8 as SizeNumber>::from_number(256), None);
     /// ```
     fn from_number(number: u128) -> Option<Self>
+        // The result is the size with this number, or `None` exactly when the number is above the greatest of the type.
         ensures known { IsSome result ↔ (number ≤ greatest) }
         ensures same_number { IfSome result (λ x. size x ≡ number) };
 
@@ -52,6 +54,7 @@ pub trait SizeNumber: Ord + Copy {
     /// assert_eq!(rt; <u8 as SizeNumber>::zero(), 0);
     /// ```
     fn zero() -> Self
+        // The result is the size with the number 0.
         ensures { size result ≡ 0 }
     {
         Self::from_number(0).unwrap()
@@ -64,6 +67,7 @@ pub trait SizeNumber: Ord + Copy {
     /// assert_eq!(rt; <u8 as SizeNumber>::checked_add(200, 56), None);
     /// ```
     fn checked_add(self, other: Self) -> Option<Self>
+        // The result is the sum, or `None` exactly when the sum is above the greatest number of the type.
         ensures known { IsSome result ↔ (size self + size other ≤ greatest) }
         ensures same_number { IfSome result (λ x. size x ≡ size self + size other) }
     {
@@ -76,6 +80,7 @@ pub trait SizeNumber: Ord + Copy {
     /// assert_eq!(rt; <u8 as SizeNumber>::checked_sub(3, 4), None);
     /// ```
     fn checked_sub(self, other: Self) -> Option<Self>
+        // The result is the difference, or `None` exactly when `other` is greater than `self`.
         ensures known { IsSome result ↔ (size other ≤ size self) }
         ensures same_number { IfSome result (λ x. size x + size other ≡ size self) }
     {
@@ -91,6 +96,7 @@ pub trait SizeNumber: Ord + Copy {
     /// ```
     fn add_in_range(self, other: Self) -> Self
         requires { size self + size other ≤ greatest }
+        // The result is the sum.
         ensures { size result ≡ size self + size other }
     {
         self.checked_add(other).unwrap()
@@ -138,6 +144,7 @@ pub trait Width: Ord + Copy {
     /// assert_eq!(rt; <i8 as Width>::min_value(), -127);
     /// ```
     fn min_value() -> Self
+        // The result is the least value of the range.
         ensures { value result ≡ whole.0 };
 
     /// Returns the greatest value of the range.
@@ -146,6 +153,7 @@ pub trait Width: Ord + Copy {
     /// assert_eq!(rt; <u8 as Width>::max_value(), 254);
     /// ```
     fn max_value() -> Self
+        // The result is the greatest value of the range.
         ensures { value result ≡ whole.1 };
 
     /// Returns the number of a value.
@@ -154,6 +162,7 @@ pub trait Width: Ord + Copy {
     /// assert_eq!(rt; <i8 as Width>::number(-128), -128);
     /// ```
     fn number(self) -> i128
+        // The result is the number of the value.
         ensures { result ≡ value self };
 
     /// Returns the value of a number, or `None` if the number is not in the range.
@@ -163,6 +172,7 @@ pub trait Width: Ord + Copy {
     /// assert_eq!(rt; <u8 as Width>::from_number(255), None);
     /// ```
     fn from_number(number: i128) -> Option<Self>
+        // The result is the value with this number, or `None` exactly when the number is not in the range.
         ensures known { IsSome result ↔ IsBetween whole number }
         ensures same_number { IfSome result (λ x. value x ≡ number) };
 
@@ -176,6 +186,7 @@ pub trait Width: Ord + Copy {
     fn width(lower: &Self, upper: &Self) -> Self::Output
         requires in_range { IsInRange whole (value lower.now, value upper.now) }
         requires in_order { value lower.now ≤ℤ value upper.now }
+        // The result is the number of values from `lower` to `upper`, both included.
         ensures { Self.Output.size result ≡ width_of (value lower.now, value upper.now) }
     {
         let last = (upper.number() - lower.number()) as u128;
@@ -188,6 +199,7 @@ pub trait Width: Ord + Copy {
     /// assert_eq!(rt; <i8 as Width>::zero(), 0);
     /// ```
     fn zero() -> Self
+        // The result is the value with the number 0.
         ensures { value result ≡ pos 0 }
     {
         Self::from_number(0).unwrap()
@@ -199,6 +211,7 @@ pub trait Width: Ord + Copy {
     /// assert_eq!(rt; <i8 as Width>::one(), 1);
     /// ```
     fn one() -> Self
+        // The result is the value with the number 1.
         ensures { value result ≡ pos 1 }
     {
         Self::from_number(1).unwrap()
@@ -211,6 +224,7 @@ pub trait Width: Ord + Copy {
     /// assert_eq!(rt; <u8 as Width>::checked_add(200, 55), None);
     /// ```
     fn checked_add(self, other: Self) -> Option<Self>
+        // The result is the sum, or `None` exactly when the sum is not in the range.
         ensures known { IsSome result ↔ IsBetween whole (value self +ℤ value other) }
         ensures same_number { IfSome result (λ x. value x ≡ value self +ℤ value other) }
     {
@@ -223,6 +237,7 @@ pub trait Width: Ord + Copy {
     /// assert_eq!(rt; <u8 as Width>::checked_sub(3, 4), None);
     /// ```
     fn checked_sub(self, other: Self) -> Option<Self>
+        // The result is the difference, or `None` exactly when the difference is not in the range.
         ensures known { IsSome result ↔ IsBetween whole (value self -ℤ value other) }
         ensures same_number { IfSome result (λ x. value x ≡ value self -ℤ value other) }
     {
@@ -236,6 +251,7 @@ pub trait Width: Ord + Copy {
     /// assert_eq!(rt; <i8 as Width>::checked_mul(-64, 2), None);
     /// ```
     fn checked_mul(self, other: Self) -> Option<Self>
+        // The result is the product, or `None` exactly when the product is not in the range.
         ensures known { IsSome result ↔ IsBetween whole (value self *ℤ value other) }
         ensures same_number { IfSome result (λ x. value x ≡ value self *ℤ value other) }
     {
@@ -251,6 +267,7 @@ pub trait Width: Ord + Copy {
     /// ```
     fn add_in_range(self, other: Self) -> Self
         requires { IsBetween whole (value self +ℤ value other) }
+        // The result is the sum.
         ensures { value result ≡ value self +ℤ value other }
     {
         self.checked_add(other).unwrap()
@@ -265,6 +282,7 @@ pub trait Width: Ord + Copy {
     /// ```
     fn sub_in_range(self, other: Self) -> Self
         requires { IsBetween whole (value self -ℤ value other) }
+        // The result is the difference.
         ensures { value result ≡ value self -ℤ value other }
     {
         self.checked_sub(other).unwrap()
@@ -279,6 +297,7 @@ pub trait Width: Ord + Copy {
     /// ```
     fn mul_in_range(self, other: Self) -> Self
         requires { IsBetween whole (value self *ℤ value other) }
+        // The result is the product.
         ensures { value result ≡ value self *ℤ value other }
     {
         self.checked_mul(other).unwrap()

@@ -35,6 +35,8 @@ pub fn union<R: Pair, S: Sink<R>>(a: &[R], b: &[R], out: &mut S)
     requires second { IsRunListIn R.Bound.whole (map R.pair b.now) }
     requires empty { S.holds out.old out.old [] }
     requires room { S.count out.old + (length a.now + length b.now) ≤ S.room out.old }
+    // The sink then holds the runs of exactly the numbers that are in either list, at most as many as the two have
+    // together.
     ensures { (L : List (ℤ × ℤ)) × IsMerged (S.holds out.old out.new) (Union (Covers (map R.pair a.now)) (Covers (map R.pair b.now)))
         (length a.now + length b.now) L }
 {
@@ -68,6 +70,8 @@ pub fn push_joined<R: Pair, S: Sink<R>>(out: &mut S, last: R, run: R) -> R
     requires run { IsRunIn R.Bound.whole (R.pair run) }
     requires some { 0 < S.count out.old }
     requires room { S.count out.old < S.room out.old }
+    // If the runs that the sink holds start no higher than `run`, and `last` is their last, it then holds the runs of
+    // exactly the same numbers and those of `run`, none of which starts higher, and the result is the last of them.
     ensures adds { (start : S) (L : List (ℤ × ℤ)) → S.holds start out.old L → IsMaximal L → StartsBy (R.pair run).0 L → Some (R.pair last) ≡ slice_get L (length L - 1)
         → (M : List (ℤ × ℤ)) × S.holds start out.new M × AddsRun L (R.pair run) M × (Some (R.pair result) ≡ slice_get M (length M - 1)) }
     ensures last { IsRunIn R.Bound.whole (R.pair result) }
@@ -94,6 +98,7 @@ pub fn push_joined<R: Pair, S: Sink<R>>(out: &mut S, last: R, run: R) -> R
 pub fn joins<R: Pair>(last: R, run: R) -> bool
     requires last { IsRunIn R.Bound.whole (R.pair last) }
     requires run { IsRunIn R.Bound.whole (R.pair run) }
+    // True exactly when `run` starts no higher than one above the end of `last`.
     ensures { IsTrue result ↔ ((R.pair run).0 ≤ℤ ((R.pair last).1 +ℤ pos 1)) }
 {
     let (end, start) = (last.upper(), run.lower());
@@ -139,6 +144,7 @@ fn take_first<R: Pair>(a: &[R], i: &mut usize, b: &[R], j: &mut usize) -> Option
 /// assert!(rt; merges::pair_at(&[Interval::new(1, 5)], 0) == Some(Interval::new(1, 5)));
 /// ```
 pub fn pair_at<R: Pair>(runs: &[R], i: usize) -> Option<R>
+    // The result is the pair at index `i`, or `None` if there is none.
     ensures { result ≡ slice_get runs.now i }
 {
     runs.get(i).copied()
@@ -163,6 +169,8 @@ pub fn intersection<R: Pair, S: Sink<R>>(a: &[R], b: &[R], out: &mut S)
     requires empty { S.holds out.old out.old [] }
     requires repeats { S.repeats out.old }
     requires room { S.count out.old + (length a.now + length b.now) ≤ S.room out.old }
+    // The sink then holds the runs of exactly the numbers that are in both lists, at most as many as the two have
+    // together.
     ensures { (L : List (ℤ × ℤ)) × IsMerged (S.holds out.old out.new) (Intersection (Covers (map R.pair a.now)) (Covers (map R.pair b.now)))
         (length a.now + length b.now) L }
 {
@@ -198,6 +206,8 @@ pub fn difference<R: Pair, S: Sink<R>>(a: &[R], b: &[R], out: &mut S)
     requires second { IsRunListIn R.Bound.whole (map R.pair b.now) }
     requires empty { S.holds out.old out.old [] }
     requires room { S.count out.old + (length a.now + length b.now) ≤ S.room out.old }
+    // The sink then holds the runs of exactly the numbers that are in `a` and not in `b`, at most as many as the two
+    // have together.
     ensures { (L : List (ℤ × ℤ)) × IsMerged (S.holds out.old out.new) (Without (Covers (map R.pair a.now)) (Covers (map R.pair b.now)))
         (length a.now + length b.now) L }
 {
@@ -239,6 +249,8 @@ pub fn complement<R: Pair, S: Sink<R>>(runs: &[R], out: &mut S)
     requires runs { IsRunListIn R.Bound.whole (map R.pair runs.now) }
     requires empty { S.holds out.old out.old [] }
     requires room { S.count out.old + (length runs.now + 1) ≤ S.room out.old }
+    // The sink then holds the runs of exactly the numbers of the range that are not in the list, at most one more than
+    // the list has.
     ensures { (L : List (ℤ × ℤ)) × IsMerged (S.holds out.old out.new) (Complement R.Bound.whole (Covers (map R.pair runs.now))) (length runs.now + 1) L }
 {
     let Some((first, more)) = runs.split_first() else {
@@ -275,6 +287,8 @@ pub fn symmetric_difference<R: Pair, S: Sink<R>>(a: &[R], b: &[R], out: &mut S)
     requires empty { S.begins out.old out.old [] }
     requires counted { length a.now + length b.now < 2 ^ 64 }
     requires room { S.count out.old + (length a.now + length b.now) ≤ S.room out.old }
+    // The sink then holds the runs of exactly the numbers that are in either list and not in both, at most as many as
+    // the two have together.
     ensures { (L : List (ℤ × ℤ)) × IsMerged (S.holds out.old out.new) (SymmetricDifference (Covers (map R.pair a.now)) (Covers (map R.pair b.now)))
         (length a.now + length b.now) L }
 {
@@ -420,6 +434,7 @@ fn push_past<R: Pair, S: Sink<R>>(out: &mut S, end: R::Bound)
 /// assert!(rt; merges::one_if::<u8>(true) == 1 && merges::one_if::<u8>(false) == 0);
 /// ```
 pub fn one_if<B: Width>(condition: bool) -> B
+    // The result is 1 if the condition holds, and 0 if not.
     ensures { B.value result ≡ pos (from_bool condition) }
 {
     select_unpredictable(condition, B::one(), B::zero())

@@ -16,16 +16,19 @@ pub trait Pair: Copy {
 
     /// Returns the lower bound.
     fn lower(self) -> Self::Bound
+        // The result is the lower bound of the pair.
         ensures { Self.Bound.value result ≡ (pair self).0 };
 
     /// Returns the upper bound.
     fn upper(self) -> Self::Bound
+        // The result is the upper bound of the pair.
         ensures { Self.Bound.value result ≡ (pair self).1 };
 
     /// Returns the pair of two bounds, of which the lower is not below the range and the upper not
     /// above it. The two may cross.
     fn of(lower: Self::Bound, upper: Self::Bound) -> Self
         requires { IsInRange Self.Bound.whole (Self.Bound.value lower, Self.Bound.value upper) }
+        // The bounds of the pair are `lower` and `upper`.
         ensures { pair result ≡ (Self.Bound.value lower, Self.Bound.value upper) };
 }
 

@@ -28,6 +28,7 @@ pub trait Sink<R: Pair> {
     /// Adds a run.
     fn push(&mut self, run: R)
         requires { count self.old < room self.old }
+        // The run is added at the end of the list, one more is counted, and the room stays.
         ensures list { (start : Self) → AddsAtEnd (R.pair run) (holds start self.old) (holds start self.new) }
         ensures count { count self.new ≡ count self.old + 1 }
         ensures room { room self.new ≡ room self.old };
@@ -36,6 +37,8 @@ pub trait Sink<R: Pair> {
     fn push_over(&mut self, is_over: bool, run: R)
         requires room { count self.old < room self.old }
         requires last { from_bool is_over ≤ count self.old }
+        // The run takes the place of the last one if `is_over`; else it is added at the end, and one more is counted.
+        // The room stays.
         ensures list { (start : Self) → AddsOver is_over (R.pair run) (holds start self.old) (holds start self.new) }
         ensures count { count self.new + from_bool is_over ≡ count self.old + 1 }
         ensures room { room self.new ≡ room self.old };
@@ -44,6 +47,8 @@ pub trait Sink<R: Pair> {
     fn push_filled(&mut self, run: R)
         requires room { count self.old < room self.old }
         requires repeats { repeats self.old }
+        // The run is added at the end of the list unless it is crossed; at most one more is counted, `repeats` holds
+        // still, and the room stays.
         ensures list { (start : Self) → AddsFilled (R.pair run) (holds start self.old) (holds start self.new) }
         ensures repeats { repeats self.new }
         ensures count { count self.new ≤ count self.old + 1 }
@@ -53,11 +58,14 @@ pub trait Sink<R: Pair> {
     /// What stands after it has to be dropped by `cut`.
     fn put_if(&mut self, place: usize, is_filled: bool, run: R)
         requires { place < room self.old }
+        // A list of `place` runs, or of one more, has the run at `place` as its last one if `is_filled`; if not, a list
+        // of `place` runs stays. The room stays.
         ensures list { (start : Self) → PutsAt place is_filled (R.pair run) (begins start self.old) (begins start self.new) }
         ensures room { room self.new ≡ room self.old };
 
     /// Keeps the first `kept` runs, which are all that were written.
     fn cut(&mut self, kept: usize)
+        // A list of `kept` runs that was begun is what the sink holds and counts. The room stays.
         ensures list { (start : Self) (L : List (ℤ × ℤ)) → begins start self.old L → kept ≡ length L → holds start self.new L × (count self.new ≡ kept) }
         ensures room { room self.new ≡ room self.old };
 }
@@ -120,6 +128,8 @@ pub struct Places<'a, R: Pair> {
 impl<'a, R: Pair> Places<'a, R> {
     /// Returns an empty list.
     pub fn new(out: &'a mut [R]) -> Places<'a, R>
+        // The slice is the one that was lent, as it is, with no run counted; `last` is what stands at its first place,
+        // if there is one.
         ensures same { result.out.ghost_name ≡ out.entry.ghost_name }
         ensures now { result.out.now ≡ out.old }
         ensures count { result.count ≡ 0 }
@@ -135,6 +145,7 @@ impl<'a, R: Pair> Places<'a, R> {
 
     /// Gives the slice back, and returns the number of all runs.
     pub fn count(self) -> usize
+        // The result is the number of runs that were counted, and the slice is given back as it is.
         ensures count { result ≡ self.entry.count }
         ensures left { self.exit.0.now ≡ self.entry.out.now }
     {

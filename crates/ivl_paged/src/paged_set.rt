@@ -88,6 +88,7 @@ impl<B: Width> PagedSet<B> {
     /// assert!(rt; PagedSet::<i64>::new(alloc).is_empty());
     /// ```
     pub fn new(alloc: Global) -> Self
+        // The result is the empty set.
         ensures { result ≡ [] }
     {
         PagedSet {
@@ -104,6 +105,7 @@ impl<B: Width> PagedSet<B> {
     /// assert!(rt; PagedSet::of_set(&list)?.to_set()? == list);
     /// ```
     pub fn of_set(set: &IntervalSet<B>) -> Result<Self, AllocError>
+        // On success, the result has the runs of `set`.
         ensures { IfOk result (λ L. L ≡ set.now) }
     {
         set.in_whole();
@@ -121,6 +123,7 @@ impl<B: Width> PagedSet<B> {
     /// assert!(rt; !a.is_empty());
     /// ```
     pub fn is_empty(&self) -> bool
+        // True exactly when there is no member, and so no run.
         ensures members { IsTrue result ↔ HasNone (Covers self.now) }
         ensures none { IsTrue result ↔ (self.now ≡ []) }
     {
@@ -141,6 +144,7 @@ impl<B: Width> PagedSet<B> {
     /// assert!(rt; a.contains(&5) && !a.contains(&3));
     /// ```
     pub fn contains(&self, value: &B) -> bool
+        // True exactly when the value is a member.
         ensures { IsTrue result ↔ Covers self.now (B.value value.now) }
     {
         let count = self.pages.starts_up_to(*value);
@@ -170,10 +174,13 @@ impl<B: Width> PagedSet<B> {
     /// ```
     pub fn insert(&mut self, value: B) -> Result<bool, AllocError>
         requires { IsBetween B.whole (B.value value) }
+        // On success, exactly the value is added, and the answer is true exactly when it was no member; on an error the
+        // set is unchanged.
         ensures members { OnOk result (IsRunsOf self.new (Union (Covers self.old) (Only (B.value value)))) }
         ensures is_new { IfOk result (λ is_new. IsTrue is_new ↔ ¬ (Covers self.old (B.value value))) }
         ensures err { OnErr result (self.new ≡ self.old) }
-        // it cannot fail where the value, or one beside it, is a member
+
+        // It succeeds if the value or a number next to it is a member.
         ensures in_place { HasSome (Intersection (Covers self.old) (IsBetween (widened (B.value value, B.value value)))) → IsOk result }
     {
         self.in_whole();
@@ -197,10 +204,13 @@ impl<B: Width> PagedSet<B> {
     /// assert!(rt; a.remove(3)? && !a.remove(3)?);
     /// ```
     pub fn remove(&mut self, value: B) -> Result<bool, AllocError>
+        // On success, exactly the value is removed, and the answer is true exactly when it was a member; on an error
+        // the set is unchanged.
         ensures members { OnOk result (IsRunsOf self.new (Without (Covers self.old) (Only (B.value value)))) }
         ensures was_member { IfOk result (λ was_member. IsTrue was_member ↔ Covers self.old (B.value value)) }
         ensures err { OnErr result (self.new ≡ self.old) }
-        // it cannot fail unless the value lies inside a run and splits it
+
+        // It succeeds unless the value and both numbers next to it are members.
         ensures in_place { ¬ (IsSubset (IsBetween (widened (B.value value, B.value value))) (Covers self.old)) → IsOk result }
     {
         self.in_whole();
@@ -228,10 +238,12 @@ impl<B: Width> PagedSet<B> {
     /// assert!(rt; a.contains(&3) && a.contains(&8) && !a.contains(&9));
     /// ```
     pub fn insert_interval(&mut self, interval: Interval<B>) -> Result<(), AllocError>
+        // On success, exactly the numbers of the interval are added; on an error the set is unchanged.
         ensures ok { OnOk result (IsRunsOf self.new (Union (Covers self.old) (IsBetween interval))) }
         ensures err { OnErr result (self.new ≡ self.old) }
+
+        // It succeeds if the interval is empty, or overlaps or touches a run.
         ensures empty { HasNone (IsBetween interval) → IsOk result }
-        // it cannot fail where it overlaps or touches a run
         ensures in_place { HasSome (Intersection (Covers self.old) (IsBetween (widened interval))) → IsOk result }
     {
         self.in_whole();
@@ -275,10 +287,12 @@ impl<B: Width> PagedSet<B> {
     /// assert!(rt; a.contains(&2) && !a.contains(&3) && a.contains(&9));
     /// ```
     pub fn remove_interval(&mut self, interval: Interval<B>) -> Result<(), AllocError>
+        // On success, exactly the numbers of the interval are removed; on an error the set is unchanged.
         ensures ok { OnOk result (IsRunsOf self.new (Without (Covers self.old) (IsBetween interval))) }
         ensures err { OnErr result (self.new ≡ self.old) }
+
+        // It succeeds if the interval is empty, and unless it lies inside a run and splits it.
         ensures empty { HasNone (IsBetween interval) → IsOk result }
-        // it cannot fail unless it lies inside a run and splits it
         ensures in_place { ¬ (IsSubset (IsBetween (widened interval)) (Covers self.old)) → IsOk result }
     {
         self.in_whole();
@@ -314,6 +328,8 @@ impl<B: Width> PagedSet<B> {
     /// assert!(rt; !a.contains(&1) && a.contains(&2));
     /// ```
     pub fn pop_first(&mut self) -> Option<B>
+        // Removes exactly the least member, and returns it; it is in the range. An empty set stays empty, and the
+        // result is `None`.
         ensures none { IfNone result ((self.old ≡ []) × (self.new ≡ [])) }
         ensures member { IfSome result (λ v. Covers self.old (B.value v)) }
         ensures least { IfSome result (λ v. (z : ℤ) → Covers self.old z → B.value v ≤ℤ z) }
@@ -337,6 +353,8 @@ impl<B: Width> PagedSet<B> {
     /// assert!(rt; !a.contains(&5) && a.contains(&4));
     /// ```
     pub fn pop_last(&mut self) -> Option<B>
+        // Removes exactly the greatest member, and returns it; it is in the range. An empty set stays empty, and the
+        // result is `None`.
         ensures none { IfNone result ((self.old ≡ []) × (self.new ≡ [])) }
         ensures member { IfSome result (λ v. Covers self.old (B.value v)) }
         ensures greatest { IfSome result (λ v. (z : ℤ) → Covers self.old z → z ≤ℤ B.value v) }
@@ -363,6 +381,7 @@ impl<B: Width> PagedSet<B> {
     /// assert!(rt; a.is_empty());
     /// ```
     pub fn clear(&mut self)
+        // The set is empty afterwards.
         ensures { self.new ≡ [] }
     {
         self.pages.clear();
@@ -376,6 +395,7 @@ impl<B: Width> PagedSet<B> {
     /// assert!(rt; !a.contains(&i32::MIN));
     /// ```
     pub fn in_whole(&self)
+        // The runs are ascending, lie in the range, and neither overlap nor touch.
         ensures { IsRunListIn B.whole self.now }
     {
         let _pages = &self.pages;
@@ -390,6 +410,7 @@ impl<B: Width> PagedSet<B> {
     /// assert!(rt; a.to_set()? == IntervalSet::new(alloc, 1, 9)?);
     /// ```
     pub fn to_set(&self) -> Result<IntervalSet<B>, AllocError>
+        // On success, the result has the runs of the set.
         ensures { IfOk result (λ L. L ≡ self.now) }
     {
         let mut runs = Vec::new(self.alloc);

@@ -116,6 +116,8 @@ impl<B: Width> Add<B> for IntervalSet<B> {
     /// ```
     fn add(self, rhs: B) -> Result<IntervalSet<B>, AllocError>
         requires { IsSubset (Sums (Covers self) (Only (B.value rhs))) (IsBetween B.whole) }
+        // On success, the members are exactly the sums of a member and the value, in at most as many runs as the set
+        // has.
         ensures members { IfOk result (λ L. IsRunsOf L (Sums (Covers self) (Only (B.value rhs)))) }
         ensures runs_at_most { IfOk result (λ L. length L ≤ length self) }
     {
@@ -136,6 +138,8 @@ impl<B: Width> Add<&B> for IntervalSet<B> {
     /// `O(n)` for `n` runs. Reserves at most `n` runs once. Fails only if allocation fails.
     fn add(self, rhs: &B) -> Result<IntervalSet<B>, AllocError>
         requires { IsSubset (Sums (Covers self) (Only (B.value rhs.now))) (IsBetween B.whole) }
+        // On success, the members are exactly the sums of a member and the value, in at most as many runs as the set
+        // has.
         ensures members { IfOk result (λ L. IsRunsOf L (Sums (Covers self) (Only (B.value rhs.now)))) }
         ensures runs_at_most { IfOk result (λ L. length L ≤ length self) }
     {
@@ -156,6 +160,8 @@ impl<B: Width> Add<B> for &IntervalSet<B> {
     /// `O(n)` for `n` runs. Reserves at most `n` runs once. Fails only if allocation fails.
     fn add(self, rhs: B) -> Result<IntervalSet<B>, AllocError>
         requires { IsSubset (Sums (Covers self.now) (Only (B.value rhs))) (IsBetween B.whole) }
+        // On success, the members are exactly the sums of a member and the value, in at most as many runs as the set
+        // has.
         ensures members { IfOk result (λ L. IsRunsOf L (Sums (Covers self.now) (Only (B.value rhs)))) }
         ensures runs_at_most { IfOk result (λ L. length L ≤ length self.now) }
     {
@@ -176,6 +182,8 @@ impl<B: Width> Add<&B> for &IntervalSet<B> {
     /// `O(n)` for `n` runs. Reserves at most `n` runs once. Fails only if allocation fails.
     fn add(self, rhs: &B) -> Result<IntervalSet<B>, AllocError>
         requires { IsSubset (Sums (Covers self.now) (Only (B.value rhs.now))) (IsBetween B.whole) }
+        // On success, the members are exactly the sums of a member and the value, in at most as many runs as the set
+        // has.
         ensures members { IfOk result (λ L. IsRunsOf L (Sums (Covers self.now) (Only (B.value rhs.now)))) }
         ensures runs_at_most { IfOk result (λ L. length L ≤ length self.now) }
     {
@@ -277,6 +285,8 @@ impl<B: Width> Sub<B> for IntervalSet<B> {
     /// ```
     fn sub(self, rhs: B) -> Result<IntervalSet<B>, AllocError>
         requires { IsSubset (Differences (Covers self) (Only (B.value rhs))) (IsBetween B.whole) }
+        // On success, the members are exactly the differences of a member and the value, in at most as many runs as the
+        // set has.
         ensures members { IfOk result (λ L. IsRunsOf L (Differences (Covers self) (Only (B.value rhs)))) }
         ensures runs_at_most { IfOk result (λ L. length L ≤ length self) }
     {
@@ -298,6 +308,8 @@ impl<B: Width> Sub<&B> for IntervalSet<B> {
     /// `O(n)` for `n` runs. Reserves at most `n` runs once. Fails only if allocation fails.
     fn sub(self, rhs: &B) -> Result<IntervalSet<B>, AllocError>
         requires { IsSubset (Differences (Covers self) (Only (B.value rhs.now))) (IsBetween B.whole) }
+        // On success, the members are exactly the differences of a member and the value, in at most as many runs as the
+        // set has.
         ensures members { IfOk result (λ L. IsRunsOf L (Differences (Covers self) (Only (B.value rhs.now)))) }
         ensures runs_at_most { IfOk result (λ L. length L ≤ length self) }
     {
@@ -319,6 +331,8 @@ impl<B: Width> Sub<B> for &IntervalSet<B> {
     /// `O(n)` for `n` runs. Reserves at most `n` runs once. Fails only if allocation fails.
     fn sub(self, rhs: B) -> Result<IntervalSet<B>, AllocError>
         requires { IsSubset (Differences (Covers self.now) (Only (B.value rhs))) (IsBetween B.whole) }
+        // On success, the members are exactly the differences of a member and the value, in at most as many runs as the
+        // set has.
         ensures members { IfOk result (λ L. IsRunsOf L (Differences (Covers self.now) (Only (B.value rhs)))) }
         ensures runs_at_most { IfOk result (λ L. length L ≤ length self.now) }
     {
@@ -340,6 +354,8 @@ impl<B: Width> Sub<&B> for &IntervalSet<B> {
     /// `O(n)` for `n` runs. Reserves at most `n` runs once. Fails only if allocation fails.
     fn sub(self, rhs: &B) -> Result<IntervalSet<B>, AllocError>
         requires { IsSubset (Differences (Covers self.now) (Only (B.value rhs.now))) (IsBetween B.whole) }
+        // On success, the members are exactly the differences of a member and the value, in at most as many runs as the
+        // set has.
         ensures members { IfOk result (λ L. IsRunsOf L (Differences (Covers self.now) (Only (B.value rhs.now)))) }
         ensures runs_at_most { IfOk result (λ L. length L ≤ length self.now) }
     {
@@ -444,6 +460,8 @@ impl<B: Width> Mul<B> for IntervalSet<B> {
     /// sorted.
     fn mul(self, rhs: B) -> Result<IntervalSet<B>, AllocError>
         requires { IsSubset (ExactProducts (Covers self) (Only (B.value rhs))) (IsBetween B.whole) }
+        // On success, the members are, for each run, exactly the numbers from its least to its greatest product with
+        // the value, in at most as many runs as the set has.
         ensures members { IfOk result (λ L. IsRunsOf L (Products (Covers self) (Only (B.value rhs)))) }
         ensures runs_at_most { IfOk result (λ L. length L ≤ length self) }
     {
@@ -465,6 +483,8 @@ impl<B: Width> Mul<&B> for IntervalSet<B> {
     /// `O(n)` for `n` runs. Reserves at most `n` runs once. Fails only if allocation fails.
     fn mul(self, rhs: &B) -> Result<IntervalSet<B>, AllocError>
         requires { IsSubset (ExactProducts (Covers self) (Only (B.value rhs.now))) (IsBetween B.whole) }
+        // On success, the members are, for each run, exactly the numbers from its least to its greatest product with
+        // the value, in at most as many runs as the set has.
         ensures members { IfOk result (λ L. IsRunsOf L (Products (Covers self) (Only (B.value rhs.now)))) }
         ensures runs_at_most { IfOk result (λ L. length L ≤ length self) }
     {
@@ -486,6 +506,8 @@ impl<B: Width> Mul<B> for &IntervalSet<B> {
     /// `O(n)` for `n` runs. Reserves at most `n` runs once. Fails only if allocation fails.
     fn mul(self, rhs: B) -> Result<IntervalSet<B>, AllocError>
         requires { IsSubset (ExactProducts (Covers self.now) (Only (B.value rhs))) (IsBetween B.whole) }
+        // On success, the members are, for each run, exactly the numbers from its least to its greatest product with
+        // the value, in at most as many runs as the set has.
         ensures members { IfOk result (λ L. IsRunsOf L (Products (Covers self.now) (Only (B.value rhs)))) }
         ensures runs_at_most { IfOk result (λ L. length L ≤ length self.now) }
     {
@@ -507,6 +529,8 @@ impl<B: Width> Mul<&B> for &IntervalSet<B> {
     /// `O(n)` for `n` runs. Reserves at most `n` runs once. Fails only if allocation fails.
     fn mul(self, rhs: &B) -> Result<IntervalSet<B>, AllocError>
         requires { IsSubset (ExactProducts (Covers self.now) (Only (B.value rhs.now))) (IsBetween B.whole) }
+        // On success, the members are, for each run, exactly the numbers from its least to its greatest product with
+        // the value, in at most as many runs as the set has.
         ensures members { IfOk result (λ L. IsRunsOf L (Products (Covers self.now) (Only (B.value rhs.now)))) }
         ensures runs_at_most { IfOk result (λ L. length L ≤ length self.now) }
     {

@@ -29,6 +29,8 @@ impl<B: Width> IntervalSet<B> {
     /// ```
     pub fn take_first_fit(&mut self, count: B::Output) -> Option<Interval<B>>
         requires { 0 < B.Output.size count }
+        // The result is the lowest `count` consecutive members, and the set keeps exactly the others; or `None` if
+        // there are none, and the set is unchanged.
         ensures fit { MatchOption result
             ((v : ℤ) → ¬ (FitsAt (B.Output.size count) (Covers self.old) v))
             (IsFirstFit (B.Output.size count) (Covers self.old)) }
@@ -55,6 +57,8 @@ impl<B: Width> IntervalSet<B> {
     /// ```
     pub fn best_fit(&self, count: B::Output) -> Option<Interval<B>>
         requires { 0 < B.Output.size count }
+        // The result is the first `count` numbers of the shortest run that has so many, the lowest of those as short;
+        // or `None` if no run has so many.
         ensures { MatchOption result
             ((v : ℤ) → ¬ (FitsAt (B.Output.size count) (Covers self.now) v))
             (IsBestFit (B.Output.size count) (Covers self.now)) }

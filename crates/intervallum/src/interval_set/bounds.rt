@@ -21,6 +21,7 @@ impl<B: Width> IntervalSet<B> {
     /// ```
     pub fn singleton(alloc: Global, x: B) -> Result<Self, AllocError>
         requires { IsBetween B.whole (B.value x) }
+        // On success, the result is the one number `x`.
         ensures { IfOk result (λ L. L ≡ (B.value x, B.value x) ∷ []) }
     {
         Self::new(alloc, x, x)
@@ -34,6 +35,7 @@ impl<B: Width> IntervalSet<B> {
     /// assert!(rt; bytes.contains(&0) && bytes.contains(&254) && !bytes.contains(&255));
     /// ```
     pub fn whole(alloc: Global) -> Result<Self, AllocError>
+        // On success, the result is the whole range, as one run.
         ensures { IfOk result (λ L. L ≡ B.whole ∷ []) }
     {
         Self::new(alloc, B::min_value(), B::max_value())
@@ -46,6 +48,7 @@ impl<B: Width> IntervalSet<B> {
     /// assert!(rt; IntervalSet::<u8>::bot(alloc)? == IntervalSet::whole(alloc)?);
     /// ```
     pub fn bot(alloc: Global) -> Result<Self, AllocError>
+        // On success, the result is the whole range, as one run.
         ensures { IfOk result (λ L. L ≡ B.whole ∷ []) }
     {
         Self::whole(alloc)
@@ -57,6 +60,7 @@ impl<B: Width> IntervalSet<B> {
     /// assert!(rt; IntervalSet::<u8>::top(alloc).is_empty());
     /// ```
     pub fn top(alloc: Global) -> Self
+        // The result is the empty set.
         ensures { result ≡ [] }
     {
         Self::empty(alloc)
@@ -70,6 +74,7 @@ impl<B: Width> IntervalSet<B> {
     /// assert_eq!(rt; IntervalSet::<i32>::empty(alloc).first(), None);
     /// ```
     pub fn first(&self) -> Option<B>
+        // The result is the least member, which is in the range, or `None` if there is none.
         ensures least { MatchOption result (HasNone (Covers self.now)) (λ x. IsLeast (B.value x) (Covers self.now)) }
         ensures in_range { IfSome result (λ x. IsBetween B.whole (B.value x)) }
     {
@@ -88,6 +93,7 @@ impl<B: Width> IntervalSet<B> {
     /// assert_eq!(rt; IntervalSet::<i32>::empty(alloc).last(), None);
     /// ```
     pub fn last(&self) -> Option<B>
+        // The result is the greatest member, which is in the range, or `None` if there is none.
         ensures greatest { MatchOption result (HasNone (Covers self.now)) (λ x. IsGreatest (B.value x) (Covers self.now)) }
         ensures in_range { IfSome result (λ x. IsBetween B.whole (B.value x)) }
     {
@@ -107,6 +113,7 @@ impl<B: Width> IntervalSet<B> {
     /// assert!(rt; IntervalSet::<i32>::empty(alloc).hull().is_empty());
     /// ```
     pub fn hull(&self) -> Interval<B>
+        // The result is the least interval that holds all members.
         ensures { IsHullOf result (Covers self.now) }
     {
         hull_of_runs(self.as_runs())
@@ -123,6 +130,7 @@ impl<B: Width> Bounded for IntervalSet<B> {
     /// ```
     fn lower(&self) -> B
         requires { HasSome (Covers self.now) }
+        // The result is the least member, which is in the range.
         ensures member { Covers self.now (B.value result) }
         ensures least { (z : ℤ) → Covers self.now z → B.value result ≤ℤ z }
         ensures in_range { IsBetween B.whole (B.value result) }
@@ -140,6 +148,7 @@ impl<B: Width> Bounded for IntervalSet<B> {
     /// ```
     fn upper(&self) -> B
         requires { HasSome (Covers self.now) }
+        // The result is the greatest member, which is in the range.
         ensures member { Covers self.now (B.value result) }
         ensures greatest { (z : ℤ) → Covers self.now z → z ≤ℤ B.value result }
         ensures in_range { IsBetween B.whole (B.value result) }

@@ -14,6 +14,7 @@ impl<B: Width> IntervalSet<B> {
     /// assert!(rt; a.try_clone()? == a);
     /// ```
     pub fn try_clone(&self) -> Result<Self, AllocError>
+        // On success, the result is the same set.
         ensures { IfOk result (λ L. L ≡ self.now) }
     {
         let intervals = Vec::from_slice(self.allocator(), &self.intervals)?;
@@ -35,6 +36,7 @@ impl<B: Width> IntervalSet<B> {
     /// ```
     #[inline(always)]
     pub fn try_clone_from(&mut self, other: &IntervalSet<B>) -> Result<(), AllocError>
+        // On success, the set is the same as `other`; on an error it is unchanged.
         ensures same { OnOk result (self.new ≡ other.now) }
         ensures err { OnErr result (self.new ≡ self.old) }
     {

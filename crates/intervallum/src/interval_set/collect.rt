@@ -127,6 +127,7 @@ impl<B: Width> IntervalSet<B> {
     ) -> Result<Self, AllocError>
         requires can { I.can_next intervals }
         requires ends { IsFinite (I.remaining intervals) }
+        // On success, the members are exactly the numbers of the intervals that the iterator yields until it ends.
         ensures { IfOk result (λ L. (items : List (ℤ × ℤ)) × Drains I.next_gives intervals items × IsRunsOf L (Covers items)) }
     {
         let (at_least, _) = intervals.size_hint();
@@ -146,6 +147,7 @@ impl<B: Width> IntervalSet<B> {
     /// ```
     pub fn of_members(alloc: Global, items: &[B]) -> Result<Self, AllocError>
         requires { All (λ x. IsBetween B.whole (B.value x)) items.now }
+        // On success, the members are exactly the numbers of the slice.
         ensures { IfOk result (λ L. IsRunsOf L (IsIn (map B.value items.now))) }
     {
         let mut list = Vec::with_capacity(alloc, items.len())?;
@@ -171,6 +173,7 @@ impl<B: Width> IntervalSet<B> {
     /// ```
     pub fn extend_members(&mut self, items: &[B]) -> Result<(), AllocError>
         requires { All (λ x. IsBetween B.whole (B.value x)) items.now }
+        // On success, exactly the numbers of the slice are added; on an error the set is unchanged.
         ensures ok { OnOk result (IsRunsOf self.new (Union (Covers self.old) (IsIn (map B.value items.now)))) }
         ensures err { OnErr result (self.new ≡ self.old) }
     {

@@ -115,6 +115,8 @@ impl<'a, B: Width> IntoIterator for &'a IntervalSet<B> {
     /// }
     /// ```
     fn into_iter(self) -> std::slice::Iter<'a, Interval<B>>
+        // The iterator yields the runs in order; they are ascending, not empty, lie in the range, and neither overlap
+        // nor touch.
         ensures rest { result.rest.now ≡ self.now }
         ensures runs { IsRunListIn B.whole self.now }
         ensures filled { All (λ run. HasSome (IsBetween run)) self.now }
@@ -144,6 +146,8 @@ impl<B: Width> IntervalSet<B> {
     ) -> Result<(), AllocError>
         requires can { I.can_next iterator }
         requires ends { IsFinite (I.remaining iterator) }
+        // On success, exactly the numbers of the intervals that the iterator yields until it ends are added; on an
+        // error the set is unchanged.
         ensures ok { OnOk result ((items : List (ℤ × ℤ)) × Drains I.next_gives iterator items × IsRunsOf self.new (Union (Covers self.old) (Covers items))) }
         ensures err { OnErr result (self.new ≡ self.old) }
     {
@@ -202,6 +206,7 @@ pub trait ToIntervalSet<B: Width> {
     /// assert!(rt; [(1u8, 9), (5, 2)].in_range() && ![(1u8, 9), (0, 255)].in_range());
     /// ```
     fn in_range(&self) -> bool
+        // True exactly when the condition of `to_interval_set` holds.
         ensures { IsTrue result ↔ can_convert self.now };
 
     /// Returns the set of the members of every pair. The caller must ensure that the bounds of each
@@ -217,6 +222,7 @@ pub trait ToIntervalSet<B: Width> {
     /// ```
     fn to_interval_set(self, alloc: Global) -> Result<IntervalSet<B>, AllocError>
         requires { can_convert self }
+        // On success, the members are exactly the numbers of the given pairs.
         ensures { IfOk result (λ L. IsRunsOf L (Covers (pairs self))) };
 }
 

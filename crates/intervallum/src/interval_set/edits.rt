@@ -37,10 +37,13 @@ impl<B: Width> IntervalSet<B> {
     /// ```
     pub fn insert(&mut self, value: B) -> Result<bool, AllocError>
         requires { IsBetween B.whole (B.value value) }
+        // On success, exactly the value is added, and the answer is true exactly when it was no member; on an error the
+        // set is unchanged.
         ensures members { OnOk result (IsRunsOf self.new (Union (Covers self.old) (Only (B.value value)))) }
         ensures is_new { IfOk result (λ is_new. IsTrue is_new ↔ ¬ (Covers self.old (B.value value))) }
         ensures err { OnErr result (self.new ≡ self.old) }
-        // it cannot fail where the value or a number next to it is a member
+
+        // It succeeds if the value or a number next to it is a member.
         ensures in_place { HasSome (Intersection (Covers self.old) (IsBetween (widened (B.value value, B.value value)))) → IsOk result }
     {
         self.in_whole();
@@ -67,10 +70,13 @@ impl<B: Width> IntervalSet<B> {
     /// assert!(rt; a == [(1, 2), (4, 5)].to_interval_set(alloc)?);
     /// ```
     pub fn remove(&mut self, value: B) -> Result<bool, AllocError>
+        // On success, exactly the value is removed, and the answer is true exactly when it was a member; on an error
+        // the set is unchanged.
         ensures members { OnOk result (IsRunsOf self.new (Without (Covers self.old) (Only (B.value value)))) }
         ensures was_member { IfOk result (λ was_member. IsTrue was_member ↔ Covers self.old (B.value value)) }
         ensures err { OnErr result (self.new ≡ self.old) }
-        // it cannot fail unless the value and both numbers next to it are members
+
+        // It succeeds unless the value and both numbers next to it are members.
         ensures in_place { ¬ (IsSubset (IsBetween (widened (B.value value, B.value value))) (Covers self.old)) → IsOk result }
     {
         self.in_whole();
@@ -98,10 +104,12 @@ impl<B: Width> IntervalSet<B> {
     /// assert!(rt; a == [(1, 8), (10, 12)].to_interval_set(alloc)?);
     /// ```
     pub fn insert_interval(&mut self, interval: Interval<B>) -> Result<(), AllocError>
+        // On success, exactly the numbers of the interval are added; on an error the set is unchanged.
         ensures ok { OnOk result (IsRunsOf self.new (Union (Covers self.old) (IsBetween interval))) }
         ensures err { OnErr result (self.new ≡ self.old) }
+
+        // It succeeds if the interval is empty, or overlaps or touches a run.
         ensures empty { HasNone (IsBetween interval) → IsOk result }
-        // it cannot fail where it overlaps or touches a run
         ensures in_place { HasSome (Intersection (Covers self.old) (IsBetween (widened interval))) → IsOk result }
     {
         self.insert_from(interval, None)
@@ -130,10 +138,13 @@ impl<B: Width> IntervalSet<B> {
         interval: Interval<B>,
         place: usize,
     ) -> Result<(), AllocError>
+        // On success, exactly the numbers of the interval are added, whatever the place; on an error the set is
+        // unchanged.
         ensures ok { OnOk result (IsRunsOf self.new (Union (Covers self.old) (IsBetween interval))) }
         ensures err { OnErr result (self.new ≡ self.old) }
+
+        // It succeeds if the interval is empty, or overlaps or touches a run.
         ensures empty { HasNone (IsBetween interval) → IsOk result }
-        // it cannot fail where it overlaps or touches a run
         ensures in_place { HasSome (Intersection (Covers self.old) (IsBetween (widened interval))) → IsOk result }
     {
         self.insert_from(interval, Some(place))
@@ -172,10 +183,12 @@ impl<B: Width> IntervalSet<B> {
     /// assert!(rt; a == [(1, 2), (11, 12)].to_interval_set(alloc)?);
     /// ```
     pub fn remove_interval(&mut self, interval: Interval<B>) -> Result<(), AllocError>
+        // On success, exactly the numbers of the interval are removed; on an error the set is unchanged.
         ensures ok { OnOk result (IsRunsOf self.new (Without (Covers self.old) (IsBetween interval))) }
         ensures err { OnErr result (self.new ≡ self.old) }
+
+        // It succeeds if the interval is empty, and unless it lies inside a run and splits it.
         ensures empty { HasNone (IsBetween interval) → IsOk result }
-        // it cannot fail unless it lies inside a run and splits it
         ensures in_place { ¬ (IsSubset (IsBetween (widened interval)) (Covers self.old)) → IsOk result }
     {
         self.remove_from(interval, None)
@@ -204,10 +217,13 @@ impl<B: Width> IntervalSet<B> {
         interval: Interval<B>,
         place: usize,
     ) -> Result<(), AllocError>
+        // On success, exactly the numbers of the interval are removed, whatever the place; on an error the set is
+        // unchanged.
         ensures ok { OnOk result (IsRunsOf self.new (Without (Covers self.old) (IsBetween interval))) }
         ensures err { OnErr result (self.new ≡ self.old) }
+
+        // It succeeds if the interval is empty, and unless it lies inside a run and splits it.
         ensures empty { HasNone (IsBetween interval) → IsOk result }
-        // it cannot fail unless it lies inside a run and splits it
         ensures in_place { ¬ (IsSubset (IsBetween (widened interval)) (Covers self.old)) → IsOk result }
     {
         self.remove_from(interval, Some(place))
@@ -240,6 +256,7 @@ impl<B: Width> IntervalSet<B> {
     /// assert!(rt; a.is_empty());
     /// ```
     pub fn clear(&mut self)
+        // The set is empty afterwards.
         ensures { self.new ≡ [] }
     {
         self.intervals.clear();
@@ -255,6 +272,8 @@ impl<B: Width> IntervalSet<B> {
     /// assert!(rt; a == [(2, 2), (5, 6)].to_interval_set(alloc)?);
     /// ```
     pub fn pop_first(&mut self) -> Option<B>
+        // Removes exactly the least member, and returns it; it is in the range. An empty set stays empty, and the
+        // result is `None`.
         ensures none { IfNone result ((self.old ≡ []) × (self.new ≡ [])) }
         ensures member { IfSome result (λ v. Covers self.old (B.value v)) }
         ensures least { IfSome result (λ v. (z : ℤ) → Covers self.old z → B.value v ≤ℤ z) }
@@ -280,6 +299,8 @@ impl<B: Width> IntervalSet<B> {
     /// assert!(rt; a == [(1, 2), (5, 5)].to_interval_set(alloc)?);
     /// ```
     pub fn pop_last(&mut self) -> Option<B>
+        // Removes exactly the greatest member, and returns it; it is in the range. An empty set stays empty, and the
+        // result is `None`.
         ensures none { IfNone result ((self.old ≡ []) × (self.new ≡ [])) }
         ensures member { IfSome result (λ v. Covers self.old (B.value v)) }
         ensures greatest { IfSome result (λ v. (z : ℤ) → Covers self.old z → z ≤ℤ B.value v) }

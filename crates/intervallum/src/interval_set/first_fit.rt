@@ -26,6 +26,7 @@ impl<B: Width> IntervalSet<B> {
     /// ```
     pub fn first_fit(&self, count: B::Output) -> Option<Interval<B>>
         requires { 0 < B.Output.size count }
+        // The result is the lowest `count` consecutive members, or `None` if there are none.
         ensures { MatchOption result
             ((v : ℤ) → ¬ (FitsAt (B.Output.size count) (Covers self.now) v))
             (IsFirstFit (B.Output.size count) (Covers self.now)) }
@@ -47,6 +48,7 @@ impl<B: Width> IntervalSet<B> {
     /// ```
     pub fn first_fit_from(&self, v: B, count: B::Output) -> Option<Interval<B>>
         requires { 0 < B.Output.size count }
+        // The result is the lowest `count` consecutive members that are at least `v`, or `None` if there are none.
         ensures { MatchOption result
             ((w : ℤ) → ¬ (FitsAt (B.Output.size count) (AtLeast (B.value v) (Covers self.now)) w))
             (IsFirstFit (B.Output.size count) (AtLeast (B.value v) (Covers self.now))) }
@@ -70,6 +72,7 @@ impl<B: Width> IntervalSet<B> {
     /// assert!(rt; free == [(3, 4), (7, 7)].to_interval_set(alloc)?);
     /// ```
     pub fn gaps_within(&self, window: &Interval<B>) -> Result<IntervalSet<B>, AllocError>
+        // On success, the members are exactly the numbers of the window that are not in the set.
         ensures { IfOk result (λ L. IsRunsOf L (Without (IsBetween window.now) (Covers self.now))) }
     {
         let members = cut(self, window)?;

@@ -24,6 +24,7 @@ impl<B: Width> IntervalSet<B> {
     /// ```
     pub fn from_runs(runs: Vec<Interval<B>>) -> Self
         requires { IsMaximal runs.items }
+        // The runs of the result are those of the list.
         ensures { result ≡ runs.items }
     {
         are_in_whole(&runs);
@@ -39,6 +40,7 @@ impl<B: Width> IntervalSet<B> {
     /// assert!(rt; !IntervalSet::are_runs(&[Interval::new(1, 2), Interval::new(3, 4)]));
     /// ```
     pub fn are_runs(list: &[Interval<B>]) -> bool
+        // True exactly when the intervals of the list are not empty, are ascending, and neither overlap nor touch.
         ensures { IsTrue result ↔ IsMaximal list.now }
     {
         are_runs(list)

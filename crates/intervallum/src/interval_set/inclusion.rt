@@ -99,6 +99,7 @@ impl<B: Width> IntervalSet<B> {
     /// assert!(rt; a.is_superset(&b) && !b.is_superset(&a));
     /// ```
     pub fn is_superset(&self, other: &IntervalSet<B>) -> bool
+        // True exactly when each member of `other` is a member.
         ensures { IsTrue result ↔ IsSubset (Covers other.now) (Covers self.now) }
     {
         other.is_subset(self)
@@ -112,6 +113,7 @@ impl<B: Width> IntervalSet<B> {
     /// assert!(rt; a.is_proper_superset(&b) && !a.is_proper_superset(&a));
     /// ```
     pub fn is_proper_superset(&self, other: &IntervalSet<B>) -> bool
+        // True exactly when each member of `other` is a member, and the two sets differ.
         ensures { IsTrue result ↔ IsProperSubset (Covers other.now) (Covers self.now) }
     {
         other.is_proper_subset(self)

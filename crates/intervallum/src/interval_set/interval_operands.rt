@@ -22,6 +22,7 @@ impl<B: Width> IntervalSet<B> {
     /// assert!(rt; IntervalSet::of(alloc, Interval::<i32>::empty())?.is_empty());
     /// ```
     pub fn of(alloc: Global, interval: Interval<B>) -> Result<Self, AllocError>
+        // On success, the members are exactly the numbers of the interval, in at most one run.
         ensures members { IfOk result (λ L. IsRunsOf L (IsBetween interval)) }
         ensures runs_at_most { IfOk result (λ L. length L ≤ 1) }
     {
@@ -39,6 +40,7 @@ impl<B: Width> IntervalSet<B> {
     /// assert!(rt; a.includes(&Interval::new(2, 5)) && !a.includes(&Interval::new(5, 8)));
     /// ```
     pub fn includes(&self, interval: &Interval<B>) -> bool
+        // True exactly when each number of the interval is a member.
         ensures { IsTrue result ↔ IsSubset (IsBetween interval.now) (Covers self.now) }
     {
         if interval.is_empty() {
@@ -110,6 +112,8 @@ impl<B: Width> Union<Interval<B>> for IntervalSet<B> {
     /// assert!(rt; a.union(&Interval::new(6, 9))? == IntervalSet::new(alloc, 1, 9)?);
     /// ```
     fn union(&self, other: &Interval<B>) -> Result<IntervalSet<B>, AllocError>
+        // On success, the members are exactly those of the set and the numbers of the interval, in at most one run more
+        // than the set has.
         ensures members { IfOk result (λ L. IsRunsOf L (Union (Covers self.now) (IsBetween other.now))) }
         ensures runs_at_most { IfOk result (λ L. length L ≤ length self.now + 1) }
     {
@@ -136,6 +140,8 @@ impl<B: Width> Intersection<Interval<B>> for IntervalSet<B> {
     /// assert!(rt; a.intersection(&Interval::new(4, 7))? == IntervalSet::new(alloc, 4, 5)?);
     /// ```
     fn intersection(&self, other: &Interval<B>) -> Result<IntervalSet<B>, AllocError>
+        // On success, the members are exactly those of the set that are in the interval, in at most as many runs as the
+        // set has.
         ensures members { IfOk result (λ L. IsRunsOf L (Intersection (Covers self.now) (IsBetween other.now))) }
         ensures runs_at_most { IfOk result (λ L. length L ≤ length self.now) }
     {
@@ -161,6 +167,8 @@ impl<B: Width> Difference<Interval<B>> for IntervalSet<B> {
     /// assert!(rt; rest == [(1, 3), (8, 9)].to_interval_set(alloc)?);
     /// ```
     fn difference(&self, other: &Interval<B>) -> Result<IntervalSet<B>, AllocError>
+        // On success, the members are exactly those of the set that are not in the interval, in at most one run more
+        // than the set has.
         ensures members { IfOk result (λ L. IsRunsOf L (Without (Covers self.now) (IsBetween other.now))) }
         ensures runs_at_most { IfOk result (λ L. length L ≤ length self.now + 1) }
     {
@@ -191,6 +199,8 @@ impl<B: Width> SymmetricDifference<Interval<B>> for IntervalSet<B> {
     /// assert!(rt; other == [(1, 3), (6, 9)].to_interval_set(alloc)?);
     /// ```
     fn symmetric_difference(&self, other: &Interval<B>) -> Result<IntervalSet<B>, AllocError>
+        // On success, the members are exactly the numbers that are either in the set or in the interval, and not in
+        // both, in at most one run more than the set has.
         ensures members { IfOk result (λ L. IsRunsOf L (SymmetricDifference (Covers self.now) (IsBetween other.now))) }
         ensures runs_at_most { IfOk result (λ L. length L ≤ length self.now + 1) }
     {

@@ -16,6 +16,8 @@ impl<B: Width> IntervalSet<B> {
     /// assert!(rt; a.runs().len() == 2 && a.runs()[1] == Interval::new(5, 6));
     /// ```
     pub fn runs(&self) -> &[Interval<B>]
+        // The result is the list of the runs; they are ascending, not empty, lie in the range, and neither overlap nor
+        // touch.
         ensures same { result.now ≡ self.now }
         ensures runs { IsRunListIn B.whole self.now }
         ensures filled { All (λ run. HasSome (IsBetween run)) self.now }
@@ -31,6 +33,7 @@ impl<B: Width> IntervalSet<B> {
     /// assert!(rt; !a.contains(&i32::MIN));
     /// ```
     pub fn in_whole(&self)
+        // The runs are ascending, lie in the range, and neither overlap nor touch.
         ensures { IsRunListIn B.whole self.now }
     {
         self.as_runs();

@@ -24,6 +24,7 @@ impl<B: Width> Join for IntervalSet<B> {
     /// assert!(rt; a.join(b)? == IntervalSet::new(alloc, 4, 5)?);
     /// ```
     fn join(self, other: IntervalSet<B>) -> Result<IntervalSet<B>, AllocError>
+        // On success, the members are exactly those of both sets, in at most as many runs as the two have together.
         ensures members { IfOk result (λ L. IsRunsOf L (Intersection (Covers self) (Covers other))) }
         ensures runs_at_most { IfOk result (λ L. length L ≤ length self + length other) }
     {
@@ -46,6 +47,7 @@ impl<B: Width> Meet for IntervalSet<B> {
     /// assert!(rt; a.meet(b)? == IntervalSet::new(alloc, 1, 9)?);
     /// ```
     fn meet(self, other: IntervalSet<B>) -> Result<IntervalSet<B>, AllocError>
+        // On success, the members are exactly those of either set, in at most as many runs as the two have together.
         ensures members { IfOk result (λ L. IsRunsOf L (Union (Covers self) (Covers other))) }
         ensures runs_at_most { IfOk result (λ L. length L ≤ length self + length other) }
     {

@@ -25,6 +25,7 @@ impl<B: Width> IntervalSet<B> {
     /// assert!(rt; all == [(1, 5), (8, 9)].to_interval_set(alloc)?);
     /// ```
     pub fn union_of(alloc: Global, sets: &[&IntervalSet<B>]) -> Result<Self, AllocError>
+        // On success, the members are exactly the numbers that are in some of the sets.
         ensures { IfOk result (λ L. IsRunsOf L (IsInSome (map (λ s. s.now) sets.now))) }
     {
         match sets {
@@ -57,6 +58,7 @@ impl<B: Width> IntervalSet<B> {
     /// assert!(rt; common == IntervalSet::new(alloc, 3, 5)?);
     /// ```
     pub fn intersection_of(alloc: Global, sets: &[&IntervalSet<B>]) -> Result<Self, AllocError>
+        // On success, the members are exactly the numbers of the range that are in each of the sets.
         ensures { IfOk result (λ L. IsRunsOf L (Intersection (IsBetween B.whole) (IsInEach (map (λ s. s.now) sets.now)))) }
     {
         match sets {

@@ -108,6 +108,8 @@ impl<'a, B: Width> Iterator for Members<'a, B> {
     /// assert!(rt; a.members().size_hint() == (5, Some(5)));
     /// ```
     fn size_hint(&self) -> (usize, Option<usize>)
+        // Both bounds are the number of members that are left; if a `usize` does not hold it, they are the greatest
+        // `usize` and `None`.
         ensures lower { IsWithinCount result.0 (item_count (λ left. left) self.now) }
         ensures upper { IfSome result.1 (UpTo (item_count (λ left. left) self.now)) }
         ensures exact { IsExactHint result (length self.now) }
@@ -227,6 +229,8 @@ impl<B: Width> IntervalSet<B> {
     /// assert!(rt; all.as_slice() == [1, 2, 5, 6].as_slice());
     /// ```
     pub fn members(&self) -> Members<'_, B>
+        // The iterator yields exactly the members, each greater than the one before: the numbers of each run in turn.
+        // The runs are ascending, lie in the range, and neither overlap nor touch.
         ensures left { result ≡ members_of self.now }
         ensures members { SameMembers (Covers self.now) (IsIn result) }
         ensures ascending { IsAscending result }

@@ -22,6 +22,7 @@ impl<B: Width> IntervalSet<B> {
     /// assert!(rt; some.as_slice() == [2, 5].as_slice());
     /// ```
     pub fn members_within(&self, window: &Interval<B>) -> Members<'_, B>
+        // The iterator yields exactly the members that are in the window, each greater than the one before.
         ensures members { SameMembers (Intersection (Covers self.now) (IsBetween window.now)) (IsIn result) }
         ensures ascending { IsAscending result }
     {

@@ -21,6 +21,7 @@ impl<B: Width> IntervalSet<B> {
     /// assert_eq!(rt; a.next_from(7), None);
     /// ```
     pub fn next_from(&self, v: B) -> Option<B>
+        // The result is the least member that is at least `v`, or `None` if there is none.
         ensures { MatchOption result
             (HasNone (AtLeast (B.value v) (Covers self.now)))
             (λ x. IsLeast (B.value x) (AtLeast (B.value v) (Covers self.now))) }
@@ -48,6 +49,7 @@ impl<B: Width> IntervalSet<B> {
     /// assert_eq!(rt; a.previous_to(0), None);
     /// ```
     pub fn previous_to(&self, v: B) -> Option<B>
+        // The result is the greatest member that is at most `v`, or `None` if there is none.
         ensures { MatchOption result
             (HasNone (AtMost (B.value v) (Covers self.now)))
             (λ x. IsGreatest (B.value x) (AtMost (B.value v) (Covers self.now))) }
@@ -75,6 +77,7 @@ impl<B: Width> IntervalSet<B> {
     /// assert!(rt; a.run_at(3).is_none());
     /// ```
     pub fn run_at(&self, v: B) -> Option<Interval<B>>
+        // The result is the run that holds `v`, or `None` if `v` is no member.
         ensures { MatchOption result
             (¬ (Covers self.now (B.value v)))
             (IsRunWith (B.value v) (Covers self.now)) }

@@ -30,6 +30,7 @@ impl<B: Width> IntervalSet<B> {
     pub fn push_run(&mut self, run: Interval<B>) -> Result<(), AllocError>
         requires filled { run.0 ≤ℤ run.1 }
         requires apart { (v : ℤ) → Covers self.old v → (v +ℤ pos 1) <ℤ run.0 }
+        // On success, the run is added after the others; on an error the set is unchanged.
         ensures ok { OnOk result (self.new ≡ self.old ++ run ∷ []) }
         ensures err { OnErr result (self.new ≡ self.old) }
     {

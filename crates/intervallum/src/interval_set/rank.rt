@@ -19,6 +19,7 @@ impl<B: Width> IntervalSet<B> {
     /// assert!(rt; a.rank(1) == 0 && a.rank(4) == 2 && a.rank(6) == 3);
     /// ```
     pub fn rank(&self, v: B) -> B::Output
+        // The result is the number of members below `v`.
         ensures { IsCountOf (B.Output.size result) (Below (B.value v) (Covers self.now)) }
     {
         let runs = self.as_runs();
@@ -42,6 +43,8 @@ impl<B: Width> IntervalSet<B> {
     /// assert!(rt; a.nth(0) == Some(1) && a.nth(3) == Some(6) && a.nth(4).is_none());
     /// ```
     pub fn nth(&self, i: B::Output) -> Option<B>
+        // The result is the member with exactly `i` members below it, or `None` if the set has no more than `i`
+        // members.
         ensures { MatchOption result
             ((n : ℕ) → IsCountOf n (Covers self.now) → n ≤ B.Output.size i)
             (λ x. Covers self.now (B.value x) × IsCountOf (B.Output.size i) (Below (B.value x) (Covers self.now))) }

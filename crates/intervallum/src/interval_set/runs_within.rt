@@ -25,6 +25,7 @@ impl<B: Width> IntervalSet<B> {
     /// assert!(rt; a.runs_within(&Interval::new(3, 4)).is_empty());
     /// ```
     pub fn runs_within(&self, window: &Interval<B>) -> &[Interval<B>]
+        // The result has exactly the runs that overlap the window, whole and in order.
         ensures members { IsRunsOf result.now (OfRunsThatMeet (IsBetween window.now) (Covers self.now)) }
         ensures overlap { All (λ run. HasSome (Intersection (IsBetween run) (IsBetween window.now))) result.now }
         ensures within { IsRunListIn B.whole result.now }
@@ -50,6 +51,7 @@ impl<B: Width> IntervalSet<B> {
     /// assert_eq!(rt; a.size_within(&Interval::empty()), 0u32);
     /// ```
     pub fn size_within(&self, window: &Interval<B>) -> B::Output
+        // The result is the number of members that are in the window.
         ensures { IsCountOf (B.Output.size result) (Intersection (Covers self.now) (IsBetween window.now)) }
     {
         size_of_part(self.runs_within(window), window)

@@ -31,6 +31,7 @@ impl<B: Width> Union<IntervalSet<B>> for IntervalSet<B> {
     /// assert!(rt; a.union(&b)? == IntervalSet::new(alloc, 1, 9)?);
     /// ```
     fn union(&self, other: &IntervalSet<B>) -> Result<IntervalSet<B>, AllocError>
+        // On success, the members are exactly those of either set, in at most as many runs as the two have together.
         ensures members { IfOk result (λ L. IsRunsOf L (Union (Covers self.now) (Covers other.now))) }
         ensures runs_at_most { IfOk result (λ L. length L ≤ length self.now + length other.now) }
     {
@@ -59,6 +60,7 @@ impl<B: Width> Intersection<IntervalSet<B>> for IntervalSet<B> {
     /// assert!(rt; a.intersection(&b)? == IntervalSet::new(alloc, 4, 5)?);
     /// ```
     fn intersection(&self, other: &IntervalSet<B>) -> Result<IntervalSet<B>, AllocError>
+        // On success, the members are exactly those of both sets, in at most as many runs as the two have together.
         ensures members { IfOk result (λ L. IsRunsOf L (Intersection (Covers self.now) (Covers other.now))) }
         ensures runs_at_most { IfOk result (λ L. length L ≤ length self.now + length other.now) }
     {
@@ -94,6 +96,8 @@ impl<B: Width> Difference<IntervalSet<B>> for IntervalSet<B> {
     /// assert!(rt; a.difference(&b)? == IntervalSet::new(alloc, 1, 3)?);
     /// ```
     fn difference(&self, other: &IntervalSet<B>) -> Result<IntervalSet<B>, AllocError>
+        // On success, the members are exactly those of the set that are not in `other`, in at most as many runs as the
+        // two have together.
         ensures members { IfOk result (λ L. IsRunsOf L (Without (Covers self.now) (Covers other.now))) }
         ensures runs_at_most { IfOk result (λ L. length L ≤ length self.now + length other.now) }
     {
@@ -128,6 +132,8 @@ impl<B: Width> SymmetricDifference<IntervalSet<B>> for IntervalSet<B> {
     ///
     /// Builds no intermediate set.
     fn symmetric_difference(&self, other: &IntervalSet<B>) -> Result<IntervalSet<B>, AllocError>
+        // On success, the members are exactly those of either set that are not in both, in at most as many runs as the
+        // two have together.
         ensures members { IfOk result (λ L. IsRunsOf L (SymmetricDifference (Covers self.now) (Covers other.now))) }
         ensures runs_at_most { IfOk result (λ L. length L ≤ length self.now + length other.now) }
     {
@@ -152,6 +158,8 @@ impl<B: Width> Complement for IntervalSet<B> {
     /// assert!(rt; a.complement()? == IntervalSet::new(alloc, 0, 9)?);
     /// ```
     fn complement(&self) -> Result<IntervalSet<B>, AllocError>
+        // On success, the members are exactly the numbers of the range that are not in the set, in at most one run more
+        // than the set has.
         ensures members { IfOk result (λ L. IsRunsOf L (Complement B.whole (Covers self.now))) }
         ensures runs_at_most { IfOk result (λ L. length L ≤ length self.now + 1) }
     {
@@ -172,6 +180,7 @@ impl<B: Width> Disjoint<IntervalSet<B>> for IntervalSet<B> {
     /// assert!(rt; a.is_disjoint(&b) && !a.is_disjoint(&a));
     /// ```
     fn is_disjoint(&self, other: &IntervalSet<B>) -> bool
+        // True exactly when no number is a member of both sets.
         ensures { IsTrue result ↔ HasNone (Intersection (Covers self.now) (Covers other.now)) }
     {
         !have_common(Walk::new(self), Walk::new(other))
@@ -191,6 +200,7 @@ impl<B: Width> Overlap<IntervalSet<B>> for IntervalSet<B> {
     /// assert!(rt; a.overlap(&a) && !a.overlap(&b));
     /// ```
     fn overlap(&self, other: &IntervalSet<B>) -> bool
+        // True exactly when some number is a member of both sets.
         ensures { IsTrue result ↔ HasSome (Intersection (Covers self.now) (Covers other.now)) }
     {
         have_common(Walk::new(self), Walk::new(other))

@@ -30,6 +30,8 @@ impl<B: Width> ShrinkLeft for IntervalSet<B> {
     /// assert!(rt; a.shrink_left(3)? == IntervalSet::new(alloc, 3, 5)?);
     /// ```
     fn shrink_left(&self, lower: B) -> Result<IntervalSet<B>, AllocError>
+        // On success, the members are exactly those of the set that are at least `lower`, in at most as many runs as
+        // the set has.
         ensures members { IfOk result (λ L. IsRunsOf L (AtLeast (B.value lower) (Covers self.now))) }
         ensures runs_at_most { IfOk result (λ L. length L ≤ length self.now) }
     {
@@ -51,6 +53,8 @@ impl<B: Width> ShrinkRight for IntervalSet<B> {
     /// assert!(rt; a.shrink_right(3)? == IntervalSet::new(alloc, 1, 3)?);
     /// ```
     fn shrink_right(&self, upper: B) -> Result<IntervalSet<B>, AllocError>
+        // On success, the members are exactly those of the set that are at most `upper`, in at most as many runs as the
+        // set has.
         ensures members { IfOk result (λ L. IsRunsOf L (AtMost (B.value upper) (Covers self.now))) }
         ensures runs_at_most { IfOk result (λ L. length L ≤ length self.now) }
     {
@@ -72,6 +76,8 @@ impl<B: Width> StrictShrinkLeft for IntervalSet<B> {
     /// assert!(rt; a.strict_shrink_left(3)? == IntervalSet::new(alloc, 4, 5)?);
     /// ```
     fn strict_shrink_left(&self, lower: B) -> Result<IntervalSet<B>, AllocError>
+        // On success, the members are exactly those of the set that are above `lower`, in at most as many runs as the
+        // set has.
         ensures members { IfOk result (λ L. IsRunsOf L (Above (B.value lower) (Covers self.now))) }
         ensures runs_at_most { IfOk result (λ L. length L ≤ length self.now) }
     {
@@ -93,6 +99,8 @@ impl<B: Width> StrictShrinkRight for IntervalSet<B> {
     /// assert!(rt; a.strict_shrink_right(3)? == IntervalSet::new(alloc, 1, 2)?);
     /// ```
     fn strict_shrink_right(&self, upper: B) -> Result<IntervalSet<B>, AllocError>
+        // On success, the members are exactly those of the set that are below `upper`, in at most as many runs as the
+        // set has.
         ensures members { IfOk result (λ L. IsRunsOf L (Below (B.value upper) (Covers self.now))) }
         ensures runs_at_most { IfOk result (λ L. length L ≤ length self.now) }
     {

@@ -21,6 +21,7 @@ impl<B: Width> IntervalSet<B> {
     /// assert_eq!(rt; a.intersection_size(&b), 2u32);
     /// ```
     pub fn intersection_size(&self, other: &IntervalSet<B>) -> B::Output
+        // The result is the number of members of both sets.
         ensures { IsCountOf (B.Output.size result) (Intersection (Covers self.now) (Covers other.now)) }
     {
         if is_far_shorter(self, other) {
@@ -40,6 +41,7 @@ impl<B: Width> IntervalSet<B> {
     /// assert_eq!(rt; a.difference_size(&b), 3u32);
     /// ```
     pub fn difference_size(&self, other: &IntervalSet<B>) -> B::Output
+        // The result is the number of members that are not in `other`.
         ensures { IsCountOf (B.Output.size result) (Without (Covers self.now) (Covers other.now)) }
     {
         let shared = self.intersection_size(other);
@@ -54,6 +56,7 @@ impl<B: Width> IntervalSet<B> {
     /// assert_eq!(rt; a.union_size(&b), 9u32);
     /// ```
     pub fn union_size(&self, other: &IntervalSet<B>) -> B::Output
+        // The result is the number of members of either set.
         ensures { IsCountOf (B.Output.size result) (Union (Covers self.now) (Covers other.now)) }
     {
         // members are in the range, so their number is a size

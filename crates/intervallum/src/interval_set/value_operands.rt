@@ -31,6 +31,7 @@ impl<B: Width> Union<B> for IntervalSet<B> {
     /// ```
     fn union(&self, other: &B) -> Result<IntervalSet<B>, AllocError>
         requires { IsBetween B.whole (B.value other.now) }
+        // On success, the members are exactly those of the set and the value, in at most one run more than the set has.
         ensures members { IfOk result (λ L. IsRunsOf L (Union (Covers self.now) (Only (B.value other.now)))) }
         ensures runs_at_most { IfOk result (λ L. length L ≤ length self.now + 1) }
     {
@@ -64,6 +65,8 @@ impl<B: Width> SymmetricDifference<B> for IntervalSet<B> {
     /// ```
     fn symmetric_difference(&self, other: &B) -> Result<IntervalSet<B>, AllocError>
         requires { IsBetween B.whole (B.value other.now) }
+        // On success, the members are exactly those of the set other than the value, and the value if the set does not
+        // have it, in at most one run more than the set has.
         ensures members { IfOk result (λ L. IsRunsOf L (SymmetricDifference (Covers self.now) (Only (B.value other.now)))) }
         ensures runs_at_most { IfOk result (λ L. length L ≤ length self.now + 1) }
     {
@@ -92,6 +95,8 @@ impl<B: Width> Intersection<B> for IntervalSet<B> {
     /// assert!(rt; a.intersection(&5)? == IntervalSet::singleton(alloc, 5)?);
     /// ```
     fn intersection(&self, other: &B) -> Result<IntervalSet<B>, AllocError>
+        // On success, the only member is the value if the set has it, and there is none if not, in at most one run more
+        // than the set has.
         ensures members { IfOk result (λ L. IsRunsOf L (Intersection (Covers self.now) (Only (B.value other.now)))) }
         ensures runs_at_most { IfOk result (λ L. length L ≤ length self.now + 1) }
     {
@@ -123,6 +128,8 @@ impl<B: Width> Difference<B> for IntervalSet<B> {
     /// assert!(rt; a.difference(&5)? == IntervalSet::new(alloc, 1, 4)?);
     /// ```
     fn difference(&self, other: &B) -> Result<IntervalSet<B>, AllocError>
+        // On success, the members are exactly those of the set other than the value, in at most one run more than the
+        // set has.
         ensures members { IfOk result (λ L. IsRunsOf L (Without (Covers self.now) (Only (B.value other.now)))) }
         ensures runs_at_most { IfOk result (λ L. length L ≤ length self.now + 1) }
     {

@@ -25,6 +25,8 @@ pub fn common<B: Width>(
     first: Walk<'_, B>,
     second: Walk<'_, B>,
 ) -> Result<IntervalSet<B>, AllocError>
+    // On success, the members are exactly those of the runs that are left in both walks, in at most as many runs as are
+    // left in the two together.
     ensures members { IfOk result (λ L. IsRunsOf L (Intersection (Covers first.entry.left) (Covers second.entry.left))) }
     ensures runs_at_most { IfOk result (λ L. length L ≤ length first.entry.left + length second.entry.left) }
 {

@@ -19,6 +19,7 @@ impl Model for Looks {
 impl Looks {
     /// Returns the count of no looks. `O(1)`. Does not allocate.
     pub fn none() -> Looks
+        // No look is counted.
         ensures { result.count ≡ 0 }
     {
         Looks {}
@@ -26,6 +27,7 @@ impl Looks {
 
     /// Returns the count of one look more. `O(1)`. Does not allocate.
     pub fn one_more(&self) -> Looks
+        // One look more is counted.
         ensures { result.count ≡ self.now.count + 1 }
     {
         Looks {}

@@ -41,6 +41,7 @@ impl<'a, B: Width> Probes<'a, B> {
     /// assert_eq!(rt; Probes::new(&a).len(), 2);
     /// ```
     pub fn new(set: &'a IntervalSet<B>) -> Probes<'a, B>
+        // The runs are those of the set, and no look is counted.
         ensures runs { result.runs ≡ set.now }
         ensures looks { result.looks ≡ 0 }
     {
@@ -58,6 +59,7 @@ impl<'a, B: Width> Probes<'a, B> {
     /// assert_eq!(rt; probes.len(), 2);
     /// ```
     pub fn len(&self) -> usize
+        // The result is the number of runs, which are ascending, lie in the range, and neither overlap nor touch.
         ensures value { result ≡ length self.now.runs }
         ensures runs { IsRunListIn B.whole self.now.runs }
     {
@@ -74,9 +76,13 @@ impl<'a, B: Width> Probes<'a, B> {
     /// ```
     pub fn look(&mut self, i: usize) -> Interval<B>
         requires { i < length self.old.runs }
+        // The result is run `i`, which is not empty, and the runs are ascending, lie in the range, and neither overlap
+        // nor touch.
         ensures run { slice_get self.old.runs i ≡ Some result }
         ensures has_member { result.0 ≤ℤ result.1 }
         ensures runs { IsRunListIn B.whole self.old.runs }
+
+        // The runs stay, and one look more is counted.
         ensures same { self.new.runs ≡ self.old.runs }
         ensures looks { self.new.looks ≡ self.old.looks + 1 }
     {

@@ -36,10 +36,13 @@ pub enum Place {
 /// assert_eq!(rt; find(&mut probes, 3), Place::Gap(1));
 /// ```
 pub fn find<B: Width>(probes: &mut Probes<'_, B>, v: B) -> Place
+    // The place is the index of the run that has the value; or, if none has it, the number of runs below it: the run at
+    // this index then starts at the next member, and the run before it ends at the previous one. The runs stay.
     ensures place { IsPlaceOf probes.old.runs (B.value v) result }
     ensures same { probes.new.runs ≡ probes.old.runs }
     ensures beside { IsBeside probes.old.runs (B.value v) result }
-    // no more looks than the number of runs has binary digits
+
+    // It takes no more looks than the number of runs has binary digits.
     ensures looks { (digits : ℕ) → length probes.old.runs < 2 ^ digits → probes.new.looks ≤ probes.old.looks + digits }
 {
     let count = probes.len();

@@ -24,6 +24,8 @@ pub fn unite<B: Width>(
     first: Walk<'_, B>,
     second: Walk<'_, B>,
 ) -> Result<IntervalSet<B>, AllocError>
+    // On success, the members are exactly those of the runs that are left in either walk, in at most as many runs as
+    // are left in the two together.
     ensures members { IfOk result (λ L. IsRunsOf L (Union (Covers first.entry.left) (Covers second.entry.left))) }
     ensures runs_at_most { IfOk result (λ L. length L ≤ length first.entry.left + length second.entry.left) }
 {

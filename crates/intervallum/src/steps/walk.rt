@@ -48,6 +48,7 @@ impl<'a, B: Width> Walk<'a, B> {
     /// assert_eq!(rt; Walk::new(&a).left(), 2);
     /// ```
     pub fn new(set: &'a IntervalSet<B>) -> Walk<'a, B>
+        // All runs of the set are left and counted, and no advance is.
         ensures left { result.left ≡ set.now }
         ensures advances { result.advances ≡ 0 }
         ensures count { result.count ≡ length set.now }
@@ -67,6 +68,8 @@ impl<'a, B: Width> Walk<'a, B> {
     /// assert!(rt; walk.peek() == Some(Interval::new(1, 2)));
     /// ```
     pub fn peek(&self) -> Option<Interval<B>>
+        // The result is the first run that is left, which is not empty, or `None` if none is left; those that are left
+        // are ascending, lie in the range, and neither overlap nor touch.
         ensures first { result ≡ slice_get self.now.left 0 }
         ensures filled { IfSome result (λ run. HasSome (IsBetween run)) }
         ensures runs { IsRunListIn B.whole self.now.left }
@@ -86,6 +89,7 @@ impl<'a, B: Width> Walk<'a, B> {
     /// ```
     pub fn advance(&mut self)
         requires { self.old.left ≢ [] }
+        // Exactly the first run is no longer left, one advance more is counted, and the number of all runs stays.
         ensures left { (run : ℤ × ℤ) × (self.old.left ≡ run ∷ self.new.left) }
         ensures advances { self.new.advances ≡ self.old.advances + 1 }
         ensures count { self.new.count ≡ self.old.count }
@@ -120,6 +124,8 @@ impl<'a, B: Width> Walk<'a, B> {
     /// assert_eq!(rt; walk.left(), 2);
     /// ```
     pub fn left(&self) -> usize
+        // The result is the number of runs that are left; with the advances so far it makes the number of all. Those
+        // that are left are ascending, lie in the range, and neither overlap nor touch.
         ensures value { result ≡ length self.now.left }
         ensures all { self.now.advances + length self.now.left ≡ self.now.count }
         ensures runs { IsRunListIn B.whole self.now.left }

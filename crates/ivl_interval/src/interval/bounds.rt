@@ -34,6 +34,7 @@ impl<B: Width> Range for Interval<B> {
     /// ```
     fn new(lb: B, ub: B) -> Interval<B>
         requires { IsInRange B.whole (B.value lb, B.value ub) }
+        // The members are exactly the numbers from `lb` to `ub`, which are its bounds.
         ensures members { SameMembers (IsBetween result) (IsBetween (B.value lb, B.value ub)) }
         ensures value { result ≡ (B.value lb, B.value ub) }
     {
@@ -50,6 +51,7 @@ impl<B: Width> Empty for Interval<B> {
     /// assert!(rt; !Interval::<i32>::empty().contains(&0));
     /// ```
     fn empty() -> Interval<B>
+        // The result has no member: its bounds cross.
         ensures members { HasNone (IsBetween result) }
         ensures crossed { IsCrossed result }
     {
@@ -66,6 +68,7 @@ impl<B: Width> Top for Interval<B> {
     /// assert_eq!(rt; Interval::top().entail(&Interval::new(1i32, 2)), SKleene::True);
     /// ```
     fn top() -> Interval<B>
+        // The result has no member: its bounds cross.
         ensures members { HasNone (IsBetween result) }
         ensures crossed { IsCrossed result }
     {
@@ -86,6 +89,7 @@ impl<B: Width> Whole for Interval<B> {
     /// assert!(rt; range.contains(&-127) && !range.contains(&-128));
     /// ```
     fn whole() -> Interval<B>
+        // The members are exactly the numbers of the range, whose ends are its bounds.
         ensures members { SameMembers (IsBetween result) (IsBetween B.whole) }
         ensures value { result ≡ B.whole }
     {
@@ -104,6 +108,7 @@ impl<B: Width> Bot for Interval<B> {
     /// assert_eq!(rt; Interval::new(1i32, 2).entail(&Interval::bot()), SKleene::True);
     /// ```
     fn bot() -> Interval<B>
+        // The members are exactly the numbers of the range, whose ends are its bounds.
         ensures members { SameMembers (IsBetween result) (IsBetween B.whole) }
         ensures value { result ≡ B.whole }
     {
@@ -122,6 +127,7 @@ impl<B: Width> Singleton for Interval<B> {
     /// ```
     fn singleton(item: B) -> Interval<B>
         requires { IsBetween B.whole (B.value item) }
+        // The only member is the item, which is both bounds.
         ensures members { SameMembers (IsBetween result) (Only (B.value item)) }
         ensures value { result ≡ (B.value item, B.value item) }
     {
@@ -138,6 +144,7 @@ impl<B: Width> Bounded for Interval<B> {
     /// ```
     fn lower(&self) -> B
         requires { HasSome (IsBetween self.now) }
+        // The result is the least member, which is the lower bound and in the range.
         ensures member { IsBetween self.now (B.value result) }
         ensures least { (z : ℤ) → IsBetween self.now z → B.value result ≤ℤ z }
         ensures value { B.value result ≡ self.now.0 }
@@ -154,6 +161,7 @@ impl<B: Width> Bounded for Interval<B> {
     /// ```
     fn upper(&self) -> B
         requires { HasSome (IsBetween self.now) }
+        // The result is the greatest member, which is the upper bound and in the range.
         ensures member { IsBetween self.now (B.value result) }
         ensures greatest { (z : ℤ) → IsBetween self.now z → z ≤ℤ B.value result }
         ensures value { B.value result ≡ self.now.1 }
@@ -176,6 +184,7 @@ impl<B: Width> Cardinality for Interval<B> {
     /// assert_eq!(rt; Interval::<u8>::whole().size(), 255);
     /// ```
     fn size(&self) -> B::Output
+        // The result is the number of members: the upper bound less the lower plus one, or 0 if they cross.
         ensures members { IsCountOf (B.Output.size result) (IsBetween self.now) }
         ensures width { B.Output.size result ≡ width_of self.now }
     {
@@ -196,6 +205,7 @@ impl<B: Width> IsEmpty for Interval<B> {
     /// assert!(rt; Interval::new(8i32, 3).is_empty() && !Interval::new(3i32, 3).is_empty());
     /// ```
     fn is_empty(&self) -> bool
+        // True exactly when there is no member, which is when the bounds cross; after false there is one.
         ensures members { IsTrue result ↔ HasNone (IsBetween self.now) }
         ensures filled { ¬ (IsTrue result) → HasSome (IsBetween self.now) }
         ensures crossed { IsTrue result ↔ IsCrossed self.now }
@@ -214,6 +224,7 @@ impl<B: Width> IsSingleton for Interval<B> {
     /// assert!(rt; !Interval::new(5i32, 6).is_singleton());
     /// ```
     fn is_singleton(&self) -> bool
+        // True exactly when there is one member and no other, which is when the bounds are equal.
         ensures members { IsTrue result ↔ ((x : ℤ) × SameMembers (IsBetween self.now) (Only x)) }
         ensures bounds { IsTrue result ↔ (self.now.0 ≡ self.now.1) }
     {

@@ -21,6 +21,7 @@ impl<B: Width> ToInterval<B> for Interval<B> {
     /// assert_eq!(rt; same, a);
     /// ```
     fn to_interval(self) -> Interval<B>
+        // The result is the interval itself.
         ensures members { SameMembers (IsBetween result) (IsBetween self) }
         ensures bounds { self.0 ≤ℤ self.1 → result ≡ self }
         ensures value { result ≡ self }
@@ -43,6 +44,8 @@ impl<B: Width> ToInterval<B> for (B, B) {
     /// ```
     fn to_interval(self) -> Interval<B>
         requires { IsInRange B.whole (B.value self.0, B.value self.1) }
+        // The members are exactly the numbers from the one bound to the other, which are the bounds of the result, even
+        // if they cross.
         ensures members { SameMembers (IsBetween result) (IsBetween (B.value self.0, B.value self.1)) }
         ensures bounds { B.value self.0 ≤ℤ B.value self.1 → result ≡ (B.value self.0, B.value self.1) }
         ensures value { result ≡ (B.value self.0, B.value self.1) }
@@ -63,6 +66,7 @@ impl<B: Width> ToInterval<B> for () {
     /// assert!(rt; none.is_empty());
     /// ```
     fn to_interval(self) -> Interval<B>
+        // The result has no member: its bounds cross.
         ensures members { SameMembers (IsBetween result) (IsBetween (pos 1, pos 0)) }
         ensures bounds { pos 1 ≤ℤ pos 0 → result ≡ (pos 1, pos 0) }
         ensures crossed { IsCrossed result }
@@ -85,6 +89,7 @@ impl<B: Width> ToInterval<B> for B {
     /// ```
     fn to_interval(self) -> Interval<B>
         requires { IsBetween B.whole (B.value self) }
+        // The only member is the value, which is both bounds.
         ensures members { SameMembers (IsBetween result) (IsBetween (B.value self, B.value self)) }
         ensures bounds { B.value self ≤ℤ B.value self → result ≡ (B.value self, B.value self) }
         ensures value { result ≡ (B.value self, B.value self) }
@@ -107,6 +112,8 @@ impl<B: Width> ToInterval<B> for RangeInclusive<B> {
     /// ```
     fn to_interval(self) -> Interval<B>
         requires { IsInRange B.whole (B.value (range_inclusive_start self), B.value (range_inclusive_end self)) }
+        // The members are exactly the numbers from the start to the end, which are the bounds of the result, even if
+        // they cross.
         ensures members { SameMembers (IsBetween result) (IsBetween (B.value (range_inclusive_start self), B.value (range_inclusive_end self))) }
         ensures bounds { B.value (range_inclusive_start self) ≤ℤ B.value (range_inclusive_end self) → result ≡ (B.value (range_inclusive_start self), B.value (range_inclusive_end self)) }
         ensures value { result ≡ (B.value (range_inclusive_start self), B.value (range_inclusive_end self)) }
@@ -130,6 +137,8 @@ impl<B: Width> ToInterval<B> for RangeFrom<B> {
     /// ```
     fn to_interval(self) -> Interval<B>
         requires { IsBetween B.whole (B.value self.start) }
+        // The members are exactly the numbers from the start to the greatest of the range of the type, which are the
+        // bounds of the result.
         ensures members { SameMembers (IsBetween result) (IsBetween (B.value self.start, B.whole.1)) }
         ensures bounds { B.value self.start ≤ℤ B.whole.1 → result ≡ (B.value self.start, B.whole.1) }
         ensures value { result ≡ (B.value self.start, B.whole.1) }
@@ -152,6 +161,8 @@ impl<B: Width> ToInterval<B> for RangeToInclusive<B> {
     /// ```
     fn to_interval(self) -> Interval<B>
         requires { IsBetween B.whole (B.value self.end) }
+        // The members are exactly the numbers from the least of the range of the type to the end, which are the bounds
+        // of the result.
         ensures members { SameMembers (IsBetween result) (IsBetween (B.whole.0, B.value self.end)) }
         ensures bounds { B.whole.0 ≤ℤ B.value self.end → result ≡ (B.whole.0, B.value self.end) }
         ensures value { result ≡ (B.whole.0, B.value self.end) }

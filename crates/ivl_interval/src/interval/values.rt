@@ -303,6 +303,7 @@ impl<B: Width> Intersection<Interval<B>> for Optional<B> {
     /// assert_eq!(rt; Optional::singleton(4).intersection(&a), Optional::singleton(4));
     /// ```
     fn intersection(&self, other: &Interval<B>) -> Optional<B>
+        // The result holds the value if there is one and the interval has it, and nothing if not.
         ensures members { SameMembers (Held (option_map B.value result)) (Intersection (Held (option_map B.value self.now)) (IsBetween other.now)) }
         ensures chosen { (result ≡ self.now) ⊎ (result ≡ None) }
     {
@@ -330,6 +331,7 @@ impl<B: Width> Difference<Interval<B>> for Optional<B> {
     /// assert_eq!(rt; Optional::singleton(9).difference(&a), Optional::singleton(9));
     /// ```
     fn difference(&self, other: &Interval<B>) -> Optional<B>
+        // The result holds the value if there is one and the interval does not have it, and nothing if not.
         ensures members { SameMembers (Held (option_map B.value result)) (Without (Held (option_map B.value self.now)) (IsBetween other.now)) }
         ensures chosen { (result ≡ self.now) ⊎ (result ≡ None) }
     {

@@ -22,6 +22,7 @@ use std::net::Ipv4Addr;
 /// assert_eq!(rt; number_of_address(Ipv4Addr::new(0, 0, 1, 2)), 258);
 /// ```
 pub fn number_of_address(address: Ipv4Addr) -> i128
+    // The result is the number of the 32 bits of the address, from 0 to 2^32 - 1.
     ensures value { result ≡ pos (ipv4_bits address) }
     ensures in_range { IsBetween (pos 0, pos (2 ^ 32 - 1)) result }
 {
@@ -37,6 +38,7 @@ pub fn number_of_address(address: Ipv4Addr) -> i128
 /// assert_eq!(rt; address_of(-1), None);
 /// ```
 pub fn address_of(number: i128) -> Option<Ipv4Addr>
+    // The result is the address with this number, or `None` exactly when the number is not from 0 to 2^32 - 1.
     ensures known { IsSome result ↔ IsBetween (pos 0, pos (2 ^ 32 - 1)) number }
     ensures same_number { IfSome result (λ a. pos (ipv4_bits a) ≡ number) }
 {

@@ -35,12 +35,14 @@ impl Width for Full<u8> {
     ghost whole = { (pos 0, pos (2 ^ 8 - 1)) };
 
     fn min_value() -> Full<u8>
+        // The result is 0.
         ensures { result.0 ≡ 0 }
     {
         Full(u8::MIN)
     }
 
     fn max_value() -> Full<u8>
+        // The result is 2^8 - 1.
         ensures { result.0 ≡ 2 ^ 8 - 1 }
     {
         Full(u8::MAX)
@@ -122,12 +124,14 @@ impl Width for Full<u16> {
     ghost whole = { (pos 0, pos (2 ^ 16 - 1)) };
 
     fn min_value() -> Full<u16>
+        // The result is 0.
         ensures { result.0 ≡ 0 }
     {
         Full(u16::MIN)
     }
 
     fn max_value() -> Full<u16>
+        // The result is 2^16 - 1.
         ensures { result.0 ≡ 2 ^ 16 - 1 }
     {
         Full(u16::MAX)
@@ -209,12 +213,14 @@ impl Width for Full<u32> {
     ghost whole = { (pos 0, pos (2 ^ 32 - 1)) };
 
     fn min_value() -> Full<u32>
+        // The result is 0.
         ensures { result.0 ≡ 0 }
     {
         Full(u32::MIN)
     }
 
     fn max_value() -> Full<u32>
+        // The result is 2^32 - 1.
         ensures { result.0 ≡ 2 ^ 32 - 1 }
     {
         Full(u32::MAX)

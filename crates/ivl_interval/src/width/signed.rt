@@ -20,12 +20,14 @@ impl Width for i8 {
     ghost whole = { (negsuc (2 ^ 7 - 2), pos (2 ^ 7 - 1)) };
 
     fn min_value() -> i8
+        // The result is -(2^7 - 1).
         ensures { result ≡ negsuc (2 ^ 7 - 2) }
     {
         i8::MIN + 1
     }
 
     fn max_value() -> i8
+        // The result is 2^7 - 1.
         ensures { result ≡ pos (2 ^ 7 - 1) }
     {
         i8::MAX
@@ -110,12 +112,14 @@ impl Width for i16 {
     ghost whole = { (negsuc (2 ^ 15 - 2), pos (2 ^ 15 - 1)) };
 
     fn min_value() -> i16
+        // The result is -(2^15 - 1).
         ensures { result ≡ negsuc (2 ^ 15 - 2) }
     {
         i16::MIN + 1
     }
 
     fn max_value() -> i16
+        // The result is 2^15 - 1.
         ensures { result ≡ pos (2 ^ 15 - 1) }
     {
         i16::MAX
@@ -200,12 +204,14 @@ impl Width for i32 {
     ghost whole = { (negsuc (2 ^ 31 - 2), pos (2 ^ 31 - 1)) };
 
     fn min_value() -> i32
+        // The result is -(2^31 - 1).
         ensures { result ≡ negsuc (2 ^ 31 - 2) }
     {
         i32::MIN + 1
     }
 
     fn max_value() -> i32
+        // The result is 2^31 - 1.
         ensures { result ≡ pos (2 ^ 31 - 1) }
     {
         i32::MAX
@@ -290,12 +296,14 @@ impl Width for i64 {
     ghost whole = { (negsuc (2 ^ 63 - 2), pos (2 ^ 63 - 1)) };
 
     fn min_value() -> i64
+        // The result is -(2^63 - 1).
         ensures { result ≡ negsuc (2 ^ 63 - 2) }
     {
         i64::MIN + 1
     }
 
     fn max_value() -> i64
+        // The result is 2^63 - 1.
         ensures { result ≡ pos (2 ^ 63 - 1) }
     {
         i64::MAX
@@ -380,12 +388,14 @@ impl Width for isize {
     ghost whole = { (negsuc (2 ^ 63 - 2), pos (2 ^ 63 - 1)) };
 
     fn min_value() -> isize
+        // The result is -(2^63 - 1).
         ensures { result ≡ negsuc (2 ^ 63 - 2) }
     {
         isize::MIN + 1
     }
 
     fn max_value() -> isize
+        // The result is 2^63 - 1.
         ensures { result ≡ pos (2 ^ 63 - 1) }
     {
         isize::MAX

@@ -20,12 +20,14 @@ impl Width for u8 {
     ghost whole = { (pos 0, pos (2 ^ 8 - 2)) };
 
     fn min_value() -> u8
+        // The result is 0.
         ensures { result ≡ 0 }
     {
         u8::MIN
     }
 
     fn max_value() -> u8
+        // The result is 2^8 - 2.
         ensures { result ≡ 2 ^ 8 - 2 }
     {
         u8::MAX - 1
@@ -108,12 +110,14 @@ impl Width for u16 {
     ghost whole = { (pos 0, pos (2 ^ 16 - 2)) };
 
     fn min_value() -> u16
+        // The result is 0.
         ensures { result ≡ 0 }
     {
         u16::MIN
     }
 
     fn max_value() -> u16
+        // The result is 2^16 - 2.
         ensures { result ≡ 2 ^ 16 - 2 }
     {
         u16::MAX - 1
@@ -196,12 +200,14 @@ impl Width for u32 {
     ghost whole = { (pos 0, pos (2 ^ 32 - 2)) };
 
     fn min_value() -> u32
+        // The result is 0.
         ensures { result ≡ 0 }
     {
         u32::MIN
     }
 
     fn max_value() -> u32
+        // The result is 2^32 - 2.
         ensures { result ≡ 2 ^ 32 - 2 }
     {
         u32::MAX - 1
@@ -284,12 +290,14 @@ impl Width for u64 {
     ghost whole = { (pos 0, pos (2 ^ 64 - 2)) };
 
     fn min_value() -> u64
+        // The result is 0.
         ensures { result ≡ 0 }
     {
         u64::MIN
     }
 
     fn max_value() -> u64
+        // The result is 2^64 - 2.
         ensures { result ≡ 2 ^ 64 - 2 }
     {
         u64::MAX - 1
@@ -372,12 +380,14 @@ impl Width for usize {
     ghost whole = { (pos 0, pos (2 ^ 64 - 2)) };
 
     fn min_value() -> usize
+        // The result is 0.
         ensures { result ≡ 0 }
     {
         usize::MIN
     }
 
     fn max_value() -> usize
+        // The result is 2^64 - 2.
         ensures { result ≡ 2 ^ 64 - 2 }
     {
         usize::MAX - 1

@@ -27,6 +27,8 @@ impl<B: Width> PagedSet<B> {
     /// ```
     pub fn best_fit(&self, count: B::Output) -> Option<Interval<B>>
         requires { 0 < B.Output.size count }
+        // The result is the first `count` numbers of the shortest run that has so many, the lowest of those as short;
+        // or `None` if no run has so many.
         ensures { MatchOption result
             ((v : ℤ) → ¬ (FitsAt (B.Output.size count) (Covers self.now) v))
             (IsBestFit (B.Output.size count) (Covers self.now)) }

@@ -20,6 +20,7 @@ impl<B: Width> PagedSet<B> {
     /// assert!(rt; bytes.contains(&0) && bytes.contains(&254) && !bytes.contains(&255));
     /// ```
     pub fn whole(alloc: Global) -> Result<Self, AllocError>
+        // On success, the result is the whole range, as one run.
         ensures { IfOk result (λ L. L ≡ B.whole ∷ []) }
     {
         Self::of_set(&IntervalSet::whole(alloc)?)
@@ -34,6 +35,7 @@ impl<B: Width> PagedSet<B> {
     /// assert_eq!(rt; a.first(), Some(1));
     /// ```
     pub fn first(&self) -> Option<B>
+        // The result is the least member, which is in the range, or `None` if there is none.
         ensures least { MatchOption result (HasNone (Covers self.now)) (λ x. IsLeast (B.value x) (Covers self.now)) }
         ensures in_range { IfSome result (λ x. IsBetween B.whole (B.value x)) }
     {
@@ -52,6 +54,7 @@ impl<B: Width> PagedSet<B> {
     /// assert_eq!(rt; a.last(), Some(5));
     /// ```
     pub fn last(&self) -> Option<B>
+        // The result is the greatest member, which is in the range, or `None` if there is none.
         ensures greatest { MatchOption result (HasNone (Covers self.now)) (λ x. IsGreatest (B.value x) (Covers self.now)) }
         ensures in_range { IfSome result (λ x. IsBetween B.whole (B.value x)) }
     {
@@ -72,6 +75,7 @@ impl<B: Width> PagedSet<B> {
     /// assert!(rt; a.hull() == Interval::new(1, 5));
     /// ```
     pub fn hull(&self) -> Interval<B>
+        // The result is the least interval that holds all members.
         ensures { IsHullOf result (Covers self.now) }
     {
         let count = self.pages.len();
@@ -94,6 +98,7 @@ impl<B: Width> Bounded for PagedSet<B> {
     /// ```
     fn lower(&self) -> B
         requires { HasSome (Covers self.now) }
+        // The result is the least member, which is in the range.
         ensures member { Covers self.now (B.value result) }
         ensures least { (z : ℤ) → Covers self.now z → B.value result ≤ℤ z }
         ensures in_range { IsBetween B.whole (B.value result) }
@@ -111,6 +116,7 @@ impl<B: Width> Bounded for PagedSet<B> {
     /// ```
     fn upper(&self) -> B
         requires { HasSome (Covers self.now) }
+        // The result is the greatest member, which is in the range.
         ensures member { Covers self.now (B.value result) }
         ensures greatest { (z : ℤ) → Covers self.now z → z ≤ℤ B.value result }
         ensures in_range { IsBetween B.whole (B.value result) }

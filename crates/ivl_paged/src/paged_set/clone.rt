@@ -17,6 +17,7 @@ impl<B: Width> PagedSet<B> {
     /// assert!(rt; a.try_clone()? == a);
     /// ```
     pub fn try_clone(&self) -> Result<Self, AllocError>
+        // On success, the result is the same set.
         ensures { IfOk result (λ L. L ≡ self.now) }
     {
         self.in_whole();

@@ -18,6 +18,7 @@ impl<B: Width> PagedSet<B> {
     /// assert!(rt; a.contains(&2) && !a.contains(&3) && a.interval_count() == 2);
     /// ```
     pub fn from_set(set: IntervalSet<B>) -> Result<Self, AllocError>
+        // On success, the result has the runs of `set`.
         ensures { IfOk result (λ L. L ≡ set) }
     {
         set.in_whole();
@@ -36,6 +37,7 @@ impl<B: Width> PagedSet<B> {
     /// assert!(rt; a.into_set()? == IntervalSet::new(alloc, 1, 9)?);
     /// ```
     pub fn into_set(self) -> Result<IntervalSet<B>, AllocError>
+        // On success, the result has the runs of the set.
         ensures { IfOk result (λ L. L ≡ self) }
     {
         if self.pages.len() != 1 {

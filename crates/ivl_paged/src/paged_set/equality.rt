@@ -24,6 +24,7 @@ impl<B: Width> PartialEq for PagedSet<B> {
     /// assert!(rt; a == b);
     /// ```
     fn eq(&self, other: &PagedSet<B>) -> bool
+        // True exactly when both sets have the same members.
         ensures value { result ≡ same_runs self.now other.now }
         ensures members { IsTrue result ↔ SameMembers (Covers self.now) (Covers other.now) }
     {

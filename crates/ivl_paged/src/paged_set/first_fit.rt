@@ -25,6 +25,7 @@ impl<B: Width> PagedSet<B> {
     /// ```
     pub fn first_fit(&self, count: B::Output) -> Option<Interval<B>>
         requires { 0 < B.Output.size count }
+        // The result is the lowest `count` consecutive members, or `None` if there are none.
         ensures { MatchOption result
             ((v : ℤ) → ¬ (FitsAt (B.Output.size count) (Covers self.now) v))
             (IsFirstFit (B.Output.size count) (Covers self.now)) }
@@ -47,6 +48,7 @@ impl<B: Width> PagedSet<B> {
     /// ```
     pub fn first_fit_from(&self, v: B, count: B::Output) -> Option<Interval<B>>
         requires { 0 < B.Output.size count }
+        // The result is the lowest `count` consecutive members that are at least `v`, or `None` if there are none.
         ensures { MatchOption result
             ((w : ℤ) → ¬ (FitsAt (B.Output.size count) (AtLeast (B.value v) (Covers self.now)) w))
             (IsFirstFit (B.Output.size count) (AtLeast (B.value v) (Covers self.now))) }
@@ -75,6 +77,8 @@ impl<B: Width> PagedSet<B> {
     /// ```
     pub fn take_first_fit(&mut self, count: B::Output) -> Option<Interval<B>>
         requires { 0 < B.Output.size count }
+        // The result is the lowest `count` consecutive members, and the set keeps exactly the others; or `None` if
+        // there are none, and the set is unchanged.
         ensures fit { MatchOption result
             ((v : ℤ) → ¬ (FitsAt (B.Output.size count) (Covers self.old) v))
             (IsFirstFit (B.Output.size count) (Covers self.old)) }

@@ -37,6 +37,7 @@ impl<B: Width> PagedSet<B> {
     /// assert!(rt; a.to_set()? == IntervalSet::new(alloc, 1, 9)?);
     /// ```
     pub fn union_with(&mut self, other: &PagedSet<B>) -> Result<(), AllocError>
+        // On success, exactly the members of `other` are added; on an error the set is unchanged.
         ensures ok { OnOk result (IsRunsOf self.new (Union (Covers self.old) (Covers other.now))) }
         ensures err { OnErr result (self.new ≡ self.old) }
     {
@@ -61,6 +62,7 @@ impl<B: Width> PagedSet<B> {
     /// assert!(rt; a.to_set()? == IntervalSet::new(alloc, 1, 9)?);
     /// ```
     pub fn union_with_list(&mut self, list: &IntervalSet<B>) -> Result<(), AllocError>
+        // On success, exactly the members of `list` are added; on an error the set is unchanged.
         ensures ok { OnOk result (IsRunsOf self.new (Union (Covers self.old) (Covers list.now))) }
         ensures err { OnErr result (self.new ≡ self.old) }
     {
@@ -89,6 +91,7 @@ impl<B: Width> PagedSet<B> {
     /// assert!(rt; a.to_set()? == [(1, 3), (6, 9)].to_interval_set(alloc)?);
     /// ```
     pub fn difference_with(&mut self, other: &PagedSet<B>) -> Result<(), AllocError>
+        // On success, exactly the members of `other` are removed; on an error the set is unchanged.
         ensures ok { OnOk result (IsRunsOf self.new (Without (Covers self.old) (Covers other.now))) }
         ensures err { OnErr result (self.new ≡ self.old) }
     {
@@ -113,6 +116,7 @@ impl<B: Width> PagedSet<B> {
     /// assert!(rt; a.to_set()? == [(1, 3), (6, 9)].to_interval_set(alloc)?);
     /// ```
     pub fn difference_with_list(&mut self, list: &IntervalSet<B>) -> Result<(), AllocError>
+        // On success, exactly the members of `list` are removed; on an error the set is unchanged.
         ensures ok { OnOk result (IsRunsOf self.new (Without (Covers self.old) (Covers list.now))) }
         ensures err { OnErr result (self.new ≡ self.old) }
     {
@@ -140,6 +144,7 @@ impl<B: Width> PagedSet<B> {
     /// assert!(rt; a.to_set()? == IntervalSet::new(alloc, 4, 5)?);
     /// ```
     pub fn intersect_with(&mut self, other: &PagedSet<B>) -> Result<(), AllocError>
+        // On success, exactly the members that are in `other` are kept; on an error the set is unchanged.
         ensures ok { OnOk result (IsRunsOf self.new (Intersection (Covers self.old) (Covers other.now))) }
         ensures err { OnErr result (self.new ≡ self.old) }
     {
@@ -164,6 +169,7 @@ impl<B: Width> PagedSet<B> {
     /// assert!(rt; a.to_set()? == IntervalSet::new(alloc, 4, 5)?);
     /// ```
     pub fn intersect_with_list(&mut self, list: &IntervalSet<B>) -> Result<(), AllocError>
+        // On success, exactly the members that are in `list` are kept; on an error the set is unchanged.
         ensures ok { OnOk result (IsRunsOf self.new (Intersection (Covers self.old) (Covers list.now))) }
         ensures err { OnErr result (self.new ≡ self.old) }
     {

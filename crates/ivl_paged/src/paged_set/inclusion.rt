@@ -37,6 +37,7 @@ impl<B: Width> PagedSet<B> {
     /// assert!(rt; a.is_superset(&b) && !b.is_superset(&a));
     /// ```
     pub fn is_superset(&self, other: &PagedSet<B>) -> bool
+        // True exactly when each member of `other` is a member.
         ensures { IsTrue result ↔ IsSubset (Covers other.now) (Covers self.now) }
     {
         other.is_subset(self)
@@ -52,6 +53,7 @@ impl<B: Width> PagedSet<B> {
     /// assert!(rt; !a.is_subset_of_list(&IntervalSet::new(alloc, 2, 10)?));
     /// ```
     pub fn is_subset_of_list(&self, list: &IntervalSet<B>) -> bool
+        // True exactly when each member is a member of `list`.
         ensures { IsTrue result ↔ IsSubset (Covers self.now) (Covers list.now) }
     {
         is_included(self, list)
@@ -67,6 +69,7 @@ impl<B: Width> PagedSet<B> {
     /// assert!(rt; !a.is_superset_of_list(&IntervalSet::new(alloc, 9, 11)?));
     /// ```
     pub fn is_superset_of_list(&self, list: &IntervalSet<B>) -> bool
+        // True exactly when each member of `list` is a member.
         ensures { IsTrue result ↔ IsSubset (Covers list.now) (Covers self.now) }
     {
         is_included(list, self)

@@ -18,6 +18,7 @@ impl<B: Width> PagedSet<B> {
     /// assert!(rt; a.includes(&Interval::new(2, 5)) && !a.includes(&Interval::new(5, 8)));
     /// ```
     pub fn includes(&self, interval: &Interval<B>) -> bool
+        // True exactly when each number of the interval is a member.
         ensures { IsTrue result ↔ IsSubset (IsBetween interval.now) (Covers self.now) }
     {
         if interval.is_empty() {

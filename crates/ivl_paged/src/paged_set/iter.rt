@@ -172,6 +172,8 @@ impl<B: Width> PagedSet<B> {
     /// assert!(rt; runs.next_back() == Some(Interval::new(5, 5)));
     /// ```
     pub fn iter(&self) -> Runs<'_, B>
+        // The iterator yields the runs in order; they are ascending, not empty, lie in the range, and neither overlap
+        // nor touch.
         ensures rest { result ≡ self.now }
         ensures runs { IsRunListIn B.whole self.now }
         ensures filled { All (λ run. HasSome (IsBetween run)) self.now }

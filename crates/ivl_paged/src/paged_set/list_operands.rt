@@ -32,6 +32,7 @@ impl<B: Width> Union<IntervalSet<B>> for PagedSet<B> {
     /// assert!(rt; a.union(&b)?.to_set()? == IntervalSet::new(alloc, 1, 9)?);
     /// ```
     fn union(&self, other: &IntervalSet<B>) -> Result<PagedSet<B>, AllocError>
+        // On success, the members are exactly those of either set, in at most as many runs as the two have together.
         ensures members { IfOk result (λ L. IsRunsOf L (Union (Covers self.now) (Covers other.now))) }
         ensures runs_at_most { IfOk result (λ L. length L ≤ length self.now + length other.now) }
     {
@@ -60,6 +61,7 @@ impl<B: Width> Intersection<IntervalSet<B>> for PagedSet<B> {
     /// assert!(rt; a.intersection(&b)?.to_set()? == IntervalSet::new(alloc, 4, 5)?);
     /// ```
     fn intersection(&self, other: &IntervalSet<B>) -> Result<PagedSet<B>, AllocError>
+        // On success, the members are exactly those of both sets, in at most as many runs as the two have together.
         ensures members { IfOk result (λ L. IsRunsOf L (Intersection (Covers self.now) (Covers other.now))) }
         ensures runs_at_most { IfOk result (λ L. length L ≤ length self.now + length other.now) }
     {
@@ -88,6 +90,8 @@ impl<B: Width> Difference<IntervalSet<B>> for PagedSet<B> {
     /// assert!(rt; a.difference(&b)?.to_set()? == IntervalSet::new(alloc, 1, 3)?);
     /// ```
     fn difference(&self, other: &IntervalSet<B>) -> Result<PagedSet<B>, AllocError>
+        // On success, the members are exactly those of the set that are not in `other`, in at most as many runs as the
+        // two have together.
         ensures members { IfOk result (λ L. IsRunsOf L (Without (Covers self.now) (Covers other.now))) }
         ensures runs_at_most { IfOk result (λ L. length L ≤ length self.now + length other.now) }
     {
@@ -118,6 +122,8 @@ impl<B: Width> SymmetricDifference<IntervalSet<B>> for PagedSet<B> {
     /// assert!(rt; a.symmetric_difference(&b)?.to_set()? == [(1, 3), (6, 9)].to_interval_set(alloc)?);
     /// ```
     fn symmetric_difference(&self, other: &IntervalSet<B>) -> Result<PagedSet<B>, AllocError>
+        // On success, the members are exactly those of either set that are not in both, in at most as many runs as the
+        // two have together.
         ensures members { IfOk result (λ L. IsRunsOf L (SymmetricDifference (Covers self.now) (Covers other.now))) }
         ensures runs_at_most { IfOk result (λ L. length L ≤ length self.now + length other.now) }
     {

@@ -21,6 +21,7 @@ impl<B: Width> PagedSet<B> {
     /// assert!(rt; free.longest_run() == Some(Interval::new(5, 9)));
     /// ```
     pub fn longest_run(&self) -> Option<Interval<B>>
+        // The result is the lowest of the longest runs, or `None` if there is no run.
         ensures run { MatchOption result (self.now ≡ []) (λ run. IsRunWith run.0 (Covers self.now) run) }
         ensures longest { IfSome result (λ run. (n : ℕ) (v : ℤ) → FitsAt n (Covers self.now) v → n ≤ width_of run) }
         ensures lowest { IfSome result (λ run. IsFirstFit (width_of run) (Covers self.now) run) }

@@ -24,6 +24,7 @@ impl<B: Width> Disjoint<PagedSet<B>> for PagedSet<B> {
     /// assert!(rt; a.is_disjoint(&b) && !a.is_disjoint(&a));
     /// ```
     fn is_disjoint(&self, other: &PagedSet<B>) -> bool
+        // True exactly when no number is a member of both sets.
         ensures { IsTrue result ↔ HasNone (Intersection (Covers self.now) (Covers other.now)) }
     {
         !have_common(self, other)
@@ -45,6 +46,7 @@ impl<B: Width> Disjoint<IntervalSet<B>> for PagedSet<B> {
     /// assert!(rt; !a.is_disjoint(&IntervalSet::new(alloc, 2, 5)?));
     /// ```
     fn is_disjoint(&self, other: &IntervalSet<B>) -> bool
+        // True exactly when no number is a member of both sets.
         ensures { IsTrue result ↔ HasNone (Intersection (Covers self.now) (Covers other.now)) }
     {
         !self.overlap(other)
@@ -66,6 +68,7 @@ impl<B: Width> Overlap<PagedSet<B>> for PagedSet<B> {
     /// assert!(rt; a.overlap(&a) && !a.overlap(&b));
     /// ```
     fn overlap(&self, other: &PagedSet<B>) -> bool
+        // True exactly when some number is a member of both sets.
         ensures { IsTrue result ↔ HasSome (Intersection (Covers self.now) (Covers other.now)) }
     {
         have_common(self, other)
@@ -87,6 +90,7 @@ impl<B: Width> Overlap<IntervalSet<B>> for PagedSet<B> {
     /// assert!(rt; !a.overlap(&IntervalSet::new(alloc, 3, 5)?));
     /// ```
     fn overlap(&self, other: &IntervalSet<B>) -> bool
+        // True exactly when some number is a member of both sets.
         ensures { IsTrue result ↔ HasSome (Intersection (Covers self.now) (Covers other.now)) }
     {
         have_common(other, self)

@@ -17,6 +17,7 @@ impl<B: Width> PagedSet<B> {
     /// assert_eq!(rt; a.interval_count(), 2);
     /// ```
     pub fn interval_count(&self) -> usize
+        // The result is the number of runs.
         ensures { result ≡ length self.now }
     {
         self.pages.interval_count()
@@ -31,6 +32,7 @@ impl<B: Width> PagedSet<B> {
     /// assert_eq!(rt; a.size(), 5u32);
     /// ```
     pub fn size(&self) -> B::Output
+        // The result is the number of members.
         ensures { IsCountOf (B.Output.size result) (Covers self.now) }
     {
         let size = self.pages.size_before(self.pages.len());
@@ -47,6 +49,7 @@ impl<B: Width> PagedSet<B> {
     /// assert!(rt; a.rank(2) == 0 && a.rank(5) == 1 && a.rank(6) == 2);
     /// ```
     pub fn rank(&self, v: B) -> B::Output
+        // The result is the number of members below `v`.
         ensures { IsCountOf (B.Output.size result) (Below (B.value v) (Covers self.now)) }
     {
         let count = self.pages.starts_up_to(v);
@@ -68,6 +71,8 @@ impl<B: Width> PagedSet<B> {
     /// assert!(rt; a.nth(0) == Some(2) && a.nth(1) == Some(5) && a.nth(2).is_none());
     /// ```
     pub fn nth(&self, i: B::Output) -> Option<B>
+        // The result is the member with exactly `i` members below it, or `None` if the set has no more than `i`
+        // members.
         ensures { MatchOption result
             ((n : ℕ) → IsCountOf n (Covers self.now) → n ≤ B.Output.size i)
             (λ x. Covers self.now (B.value x) × IsCountOf (B.Output.size i) (Below (B.value x) (Covers self.now))) }

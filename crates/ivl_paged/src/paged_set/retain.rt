@@ -31,6 +31,8 @@ impl<B: Width> PagedSet<B> {
     /// ```
     pub fn retain<F: FnMut(B, B) -> bool>(&mut self, keeps: F) -> Result<(), AllocError>
         requires { F.IsAlwaysCallable keeps }
+        // On success, the set keeps exactly the runs for which `keeps`, asked of each once and in order, says true; on
+        // an error it is unchanged.
         ensures ok { OnOk result (IsFiltered (λ f run b g. F.step f (B.at run.0) (B.at run.1) b g) keeps self.old self.new) }
         ensures err { OnErr result (self.new ≡ self.old) }
     {

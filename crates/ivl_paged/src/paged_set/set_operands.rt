@@ -66,6 +66,7 @@ impl<B: Width> Union<PagedSet<B>> for PagedSet<B> {
     /// assert!(rt; a.union(&b)?.to_set()? == IntervalSet::new(alloc, 1, 9)?);
     /// ```
     fn union(&self, other: &PagedSet<B>) -> Result<PagedSet<B>, AllocError>
+        // On success, the members are exactly those of either set, in at most as many runs as the two have together.
         ensures members { IfOk result (λ L. IsRunsOf L (Union (Covers self.now) (Covers other.now))) }
         ensures runs_at_most { IfOk result (λ L. length L ≤ length self.now + length other.now) }
     {
@@ -94,6 +95,7 @@ impl<B: Width> Intersection<PagedSet<B>> for PagedSet<B> {
     /// assert!(rt; a.intersection(&b)?.to_set()? == IntervalSet::new(alloc, 4, 5)?);
     /// ```
     fn intersection(&self, other: &PagedSet<B>) -> Result<PagedSet<B>, AllocError>
+        // On success, the members are exactly those of both sets, in at most as many runs as the two have together.
         ensures members { IfOk result (λ L. IsRunsOf L (Intersection (Covers self.now) (Covers other.now))) }
         ensures runs_at_most { IfOk result (λ L. length L ≤ length self.now + length other.now) }
     {
@@ -122,6 +124,8 @@ impl<B: Width> Difference<PagedSet<B>> for PagedSet<B> {
     /// assert!(rt; a.difference(&b)?.to_set()? == IntervalSet::new(alloc, 1, 3)?);
     /// ```
     fn difference(&self, other: &PagedSet<B>) -> Result<PagedSet<B>, AllocError>
+        // On success, the members are exactly those of the set that are not in `other`, in at most as many runs as the
+        // two have together.
         ensures members { IfOk result (λ L. IsRunsOf L (Without (Covers self.now) (Covers other.now))) }
         ensures runs_at_most { IfOk result (λ L. length L ≤ length self.now + length other.now) }
     {
@@ -152,6 +156,8 @@ impl<B: Width> SymmetricDifference<PagedSet<B>> for PagedSet<B> {
     /// assert!(rt; a.symmetric_difference(&b)?.to_set()? == [(1, 3), (6, 9)].to_interval_set(alloc)?);
     /// ```
     fn symmetric_difference(&self, other: &PagedSet<B>) -> Result<PagedSet<B>, AllocError>
+        // On success, the members are exactly those of either set that are not in both, in at most as many runs as the
+        // two have together.
         ensures members { IfOk result (λ L. IsRunsOf L (SymmetricDifference (Covers self.now) (Covers other.now))) }
         ensures runs_at_most { IfOk result (λ L. length L ≤ length self.now + length other.now) }
     {
@@ -179,6 +185,8 @@ impl<B: Width> Complement for PagedSet<B> {
     /// assert!(rt; a.complement()?.to_set()? == IntervalSet::new(alloc, 0, 9)?);
     /// ```
     fn complement(&self) -> Result<PagedSet<B>, AllocError>
+        // On success, the members are exactly the numbers of the range that are not in the set, in at most one run more
+        // than the set has.
         ensures members { IfOk result (λ L. IsRunsOf L (Complement B.whole (Covers self.now))) }
         ensures runs_at_most { IfOk result (λ L. length L ≤ length self.now + 1) }
     {

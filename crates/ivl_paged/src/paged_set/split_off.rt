@@ -28,6 +28,8 @@ impl<B: Width> PagedSet<B> {
     /// assert!(rt; above.to_set()? == [(3, 5), (8, 9)].to_interval_set(alloc)?);
     /// ```
     pub fn split_off(&mut self, v: B) -> Result<PagedSet<B>, AllocError>
+        // On success, the result has exactly the members that are at least `v`, and the set keeps exactly those below
+        // `v`; on an error it is unchanged.
         ensures above { IfOk result (λ L. IsRunsOf L (AtLeast (B.value v) (Covers self.old))) }
         ensures below { OnOk result (IsRunsOf self.new (Below (B.value v) (Covers self.old))) }
         ensures err { OnErr result (self.new ≡ self.old) }

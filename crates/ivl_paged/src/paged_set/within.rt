@@ -29,6 +29,7 @@ impl<B: Width> PagedSet<B> {
     /// assert!(rt; a.runs_within(&Interval::new(3, 4)).next().is_none());
     /// ```
     pub fn runs_within(&self, window: &Interval<B>) -> Runs<'_, B>
+        // The iterator yields exactly the runs that overlap the window, whole and in order.
         ensures members { IsRunsOf result (OfRunsThatMeet (IsBetween window.now) (Covers self.now)) }
         ensures overlap { All (λ run. HasSome (Intersection (IsBetween run) (IsBetween window.now))) result }
         ensures within { IsRunListIn B.whole result }
@@ -48,6 +49,7 @@ impl<B: Width> PagedSet<B> {
     /// assert_eq!(rt; a.size_within(&Interval::empty()), 0u32);
     /// ```
     pub fn size_within(&self, window: &Interval<B>) -> B::Output
+        // The result is the number of members that are in the window.
         ensures { IsCountOf (B.Output.size result) (Intersection (Covers self.now) (IsBetween window.now)) }
     {
         if window.is_empty() {
@@ -68,6 +70,7 @@ impl<B: Width> PagedSet<B> {
     /// assert!(rt; free == [(3, 4), (7, 7)].to_interval_set(alloc)?);
     /// ```
     pub fn gaps_within(&self, window: &Interval<B>) -> Result<IntervalSet<B>, AllocError>
+        // On success, the members are exactly the numbers of the window that are not in the set.
         ensures { IfOk result (λ L. IsRunsOf L (Without (IsBetween window.now) (Covers self.now))) }
     {
         let met = listed(self.alloc, self.runs_within(window))?;
