@@ -28,6 +28,7 @@ impl<B: Width> Add<IntervalSet<B>> for IntervalSet<B> {
 
     ghost can_add = { λ a b. IsSubset (Sums (Covers a) (Covers b)) (IsBetween B.whole) };
 
+    // On success, the members are exactly the sums of a member of each set.
     ghost add_gives = { λ a b r. IfOk r (λ L. IsRunsOf L (Sums (Covers a) (Covers b))) };
 
     /// Returns all sums of a member of `self` and a member of `rhs`. The caller must ensure that
@@ -51,6 +52,7 @@ impl<B: Width> Add<&IntervalSet<B>> for IntervalSet<B> {
 
     ghost can_add = { λ a b. IsSubset (Sums (Covers a) (Covers b.now)) (IsBetween B.whole) };
 
+    // On success, the members are exactly the sums of a member of each set.
     ghost add_gives = { λ a b r. IfOk r (λ L. IsRunsOf L (Sums (Covers a) (Covers b.now))) };
 
     /// Returns all sums of a member of `self` and a member of `rhs`. The caller must ensure that
@@ -68,6 +70,7 @@ impl<B: Width> Add<IntervalSet<B>> for &IntervalSet<B> {
 
     ghost can_add = { λ a b. IsSubset (Sums (Covers a.now) (Covers b)) (IsBetween B.whole) };
 
+    // On success, the members are exactly the sums of a member of each set.
     ghost add_gives = { λ a b r. IfOk r (λ L. IsRunsOf L (Sums (Covers a.now) (Covers b))) };
 
     /// Returns all sums of a member of `self` and a member of `rhs`. The caller must ensure that
@@ -85,6 +88,7 @@ impl<B: Width> Add<&IntervalSet<B>> for &IntervalSet<B> {
 
     ghost can_add = { λ a b. IsSubset (Sums (Covers a.now) (Covers b.now)) (IsBetween B.whole) };
 
+    // On success, the members are exactly the sums of a member of each set.
     ghost add_gives = { λ a b r. IfOk r (λ L. IsRunsOf L (Sums (Covers a.now) (Covers b.now))) };
 
     /// Returns all sums of a member of `self` and a member of `rhs`. The caller must ensure that
@@ -196,6 +200,7 @@ impl<B: Width> Sub<IntervalSet<B>> for IntervalSet<B> {
 
     ghost can_sub = { λ a b. IsSubset (Differences (Covers a) (Covers b)) (IsBetween B.whole) };
 
+    // On success, the members are exactly the differences of a member of `self` and one of `rhs`.
     ghost sub_gives = { λ a b r. IfOk r (λ L. IsRunsOf L (Differences (Covers a) (Covers b))) };
 
     /// Returns all differences of a member of `self` and a member of `rhs`. The caller must ensure
@@ -219,6 +224,7 @@ impl<B: Width> Sub<&IntervalSet<B>> for IntervalSet<B> {
 
     ghost can_sub = { λ a b. IsSubset (Differences (Covers a) (Covers b.now)) (IsBetween B.whole) };
 
+    // On success, the members are exactly the differences of a member of `self` and one of `rhs`.
     ghost sub_gives = { λ a b r. IfOk r (λ L. IsRunsOf L (Differences (Covers a) (Covers b.now))) };
 
     /// Returns all differences of a member of `self` and a member of `rhs`. The caller must ensure
@@ -236,6 +242,7 @@ impl<B: Width> Sub<IntervalSet<B>> for &IntervalSet<B> {
 
     ghost can_sub = { λ a b. IsSubset (Differences (Covers a.now) (Covers b)) (IsBetween B.whole) };
 
+    // On success, the members are exactly the differences of a member of `self` and one of `rhs`.
     ghost sub_gives = { λ a b r. IfOk r (λ L. IsRunsOf L (Differences (Covers a.now) (Covers b))) };
 
     /// Returns all differences of a member of `self` and a member of `rhs`. The caller must ensure
@@ -253,6 +260,7 @@ impl<B: Width> Sub<&IntervalSet<B>> for &IntervalSet<B> {
 
     ghost can_sub = { λ a b. IsSubset (Differences (Covers a.now) (Covers b.now)) (IsBetween B.whole) };
 
+    // On success, the members are exactly the differences of a member of `self` and one of `rhs`.
     ghost sub_gives = { λ a b r. IfOk r (λ L. IsRunsOf L (Differences (Covers a.now) (Covers b.now))) };
 
     /// Returns all differences of a member of `self` and a member of `rhs`. The caller must ensure
@@ -368,6 +376,7 @@ impl<B: Width> Mul<IntervalSet<B>> for IntervalSet<B> {
 
     ghost can_mul = { λ a b. IsSubset (ExactProducts (Covers a) (Covers b)) (IsBetween B.whole) };
 
+    // On success, the members are, for each pair of runs, exactly the numbers from the least to the greatest product.
     ghost mul_gives = { λ a b r. IfOk r (λ L. IsRunsOf L (Products (Covers a) (Covers b))) };
 
     /// Returns, for each pair of runs, the numbers from the least to the greatest product. The
@@ -391,6 +400,7 @@ impl<B: Width> Mul<&IntervalSet<B>> for IntervalSet<B> {
 
     ghost can_mul = { λ a b. IsSubset (ExactProducts (Covers a) (Covers b.now)) (IsBetween B.whole) };
 
+    // On success, the members are, for each pair of runs, exactly the numbers from the least to the greatest product.
     ghost mul_gives = { λ a b r. IfOk r (λ L. IsRunsOf L (Products (Covers a) (Covers b.now))) };
 
     /// Returns, for each pair of runs, the numbers from the least to the greatest product. The
@@ -408,6 +418,7 @@ impl<B: Width> Mul<IntervalSet<B>> for &IntervalSet<B> {
 
     ghost can_mul = { λ a b. IsSubset (ExactProducts (Covers a.now) (Covers b)) (IsBetween B.whole) };
 
+    // On success, the members are, for each pair of runs, exactly the numbers from the least to the greatest product.
     ghost mul_gives = { λ a b r. IfOk r (λ L. IsRunsOf L (Products (Covers a.now) (Covers b))) };
 
     /// Returns, for each pair of runs, the numbers from the least to the greatest product. The
@@ -425,6 +436,7 @@ impl<B: Width> Mul<&IntervalSet<B>> for &IntervalSet<B> {
 
     ghost can_mul = { λ a b. IsSubset (ExactProducts (Covers a.now) (Covers b.now)) (IsBetween B.whole) };
 
+    // On success, the members are, for each pair of runs, exactly the numbers from the least to the greatest product.
     ghost mul_gives = { λ a b r. IfOk r (λ L. IsRunsOf L (Products (Covers a.now) (Covers b.now))) };
 
     /// Returns, for each pair of runs, the numbers from the least to the greatest product. The

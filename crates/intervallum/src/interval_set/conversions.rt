@@ -47,6 +47,7 @@ impl<B: Width> IntoRuns<B> {
 impl<B: Width> Iterator for IntoRuns<B> {
     type Item = Interval<B>;
 
+    // It yields the first run that is left, or `None` if none is.
     ghost next_gives = { YieldsFirst (λ rest. rest) };
 
     ghost remaining = { item_count (λ rest. rest) };
@@ -64,6 +65,7 @@ impl<B: Width> Iterator for IntoRuns<B> {
 }
 
 impl<B: Width> DoubleEndedIterator for IntoRuns<B> {
+    // It yields the last run that is left, or `None` if none is.
     ghost next_back_gives = { YieldsLast (λ rest. rest) };
 
     /// Returns the last run that is left, or `None` if there is none. `O(1)`. Does not allocate.
@@ -83,6 +85,7 @@ impl<B: Width> IntoIterator for IntervalSet<B> {
 
     type IntoIter = IntoRuns<B>;
 
+    // The iterator yields the runs of the set in order.
     ghost into_iter_gives = { λ s it. it ≡ s };
 
     /// Consumes the set and returns a double-ended iterator over its runs, in ascending order.

@@ -75,6 +75,7 @@ impl<'a, B: Width> Clone for Members<'a, B> {
 impl<'a, B: Width> Iterator for Members<'a, B> {
     type Item = B;
 
+    // It yields the first member that is left, or `None` if none is.
     ghost next_gives = { YieldsFirstBy B.value (λ left. left) };
 
     ghost remaining = { item_count (λ left. left) };
@@ -122,6 +123,7 @@ impl<'a, B: Width> Iterator for Members<'a, B> {
 }
 
 impl<'a, B: Width> DoubleEndedIterator for Members<'a, B> {
+    // It yields the last member that is left, or `None` if none is.
     ghost next_back_gives = { YieldsLastBy B.value (λ left. left) };
 
     /// Returns the greatest member that is left, or `None` if there is none. `O(1)`.

@@ -16,6 +16,7 @@ use std::ops::{BitAnd, BitOr, BitXor, Not};
 impl<B: Width> BitOr<IntervalSet<B>> for IntervalSet<B> {
     type Output = Result<IntervalSet<B>, AllocError>;
 
+    // On success, the members are exactly those of either set.
     ghost bitor_gives = { λ a b r. IfOk r (λ L. IsRunsOf L (Union (Covers a) (Covers b))) };
 
     /// Returns the members of either set, as `union` does, at the same cost.
@@ -32,6 +33,7 @@ impl<B: Width> BitOr<IntervalSet<B>> for IntervalSet<B> {
 impl<B: Width> BitOr<&IntervalSet<B>> for IntervalSet<B> {
     type Output = Result<IntervalSet<B>, AllocError>;
 
+    // On success, the members are exactly those of either set.
     ghost bitor_gives = { λ a b r. IfOk r (λ L. IsRunsOf L (Union (Covers a) (Covers b.now))) };
 
     /// Returns the members of either set, as `union` does, at the same cost.
@@ -43,6 +45,7 @@ impl<B: Width> BitOr<&IntervalSet<B>> for IntervalSet<B> {
 impl<B: Width> BitOr<IntervalSet<B>> for &IntervalSet<B> {
     type Output = Result<IntervalSet<B>, AllocError>;
 
+    // On success, the members are exactly those of either set.
     ghost bitor_gives = { λ a b r. IfOk r (λ L. IsRunsOf L (Union (Covers a.now) (Covers b))) };
 
     /// Returns the members of either set, as `union` does, at the same cost.
@@ -54,6 +57,7 @@ impl<B: Width> BitOr<IntervalSet<B>> for &IntervalSet<B> {
 impl<B: Width> BitOr<&IntervalSet<B>> for &IntervalSet<B> {
     type Output = Result<IntervalSet<B>, AllocError>;
 
+    // On success, the members are exactly those of either set.
     ghost bitor_gives = { λ a b r. IfOk r (λ L. IsRunsOf L (Union (Covers a.now) (Covers b.now))) };
 
     /// Returns the members of either set, as `union` does, at the same cost.
@@ -65,6 +69,7 @@ impl<B: Width> BitOr<&IntervalSet<B>> for &IntervalSet<B> {
 impl<B: Width> BitAnd<IntervalSet<B>> for IntervalSet<B> {
     type Output = Result<IntervalSet<B>, AllocError>;
 
+    // On success, the members are exactly those of both sets.
     ghost bitand_gives = { λ a b r. IfOk r (λ L. IsRunsOf L (Intersection (Covers a) (Covers b))) };
 
     /// Returns the members of both sets, as `intersection` does, at the same cost.
@@ -81,6 +86,7 @@ impl<B: Width> BitAnd<IntervalSet<B>> for IntervalSet<B> {
 impl<B: Width> BitAnd<&IntervalSet<B>> for IntervalSet<B> {
     type Output = Result<IntervalSet<B>, AllocError>;
 
+    // On success, the members are exactly those of both sets.
     ghost bitand_gives = { λ a b r. IfOk r (λ L. IsRunsOf L (Intersection (Covers a) (Covers b.now))) };
 
     /// Returns the members of both sets, as `intersection` does, at the same cost.
@@ -92,6 +98,7 @@ impl<B: Width> BitAnd<&IntervalSet<B>> for IntervalSet<B> {
 impl<B: Width> BitAnd<IntervalSet<B>> for &IntervalSet<B> {
     type Output = Result<IntervalSet<B>, AllocError>;
 
+    // On success, the members are exactly those of both sets.
     ghost bitand_gives = { λ a b r. IfOk r (λ L. IsRunsOf L (Intersection (Covers a.now) (Covers b))) };
 
     /// Returns the members of both sets, as `intersection` does, at the same cost.
@@ -103,6 +110,7 @@ impl<B: Width> BitAnd<IntervalSet<B>> for &IntervalSet<B> {
 impl<B: Width> BitAnd<&IntervalSet<B>> for &IntervalSet<B> {
     type Output = Result<IntervalSet<B>, AllocError>;
 
+    // On success, the members are exactly those of both sets.
     ghost bitand_gives = { λ a b r. IfOk r (λ L. IsRunsOf L (Intersection (Covers a.now) (Covers b.now))) };
 
     /// Returns the members of both sets, as `intersection` does, at the same cost.
@@ -114,6 +122,7 @@ impl<B: Width> BitAnd<&IntervalSet<B>> for &IntervalSet<B> {
 impl<B: Width> BitXor<IntervalSet<B>> for IntervalSet<B> {
     type Output = Result<IntervalSet<B>, AllocError>;
 
+    // On success, the members are exactly those of either set that are not in both.
     ghost bitxor_gives = { λ a b r. IfOk r (λ L. IsRunsOf L (SymmetricDifference (Covers a) (Covers b))) };
 
     /// Returns the members of exactly one of the sets, as `symmetric_difference` does, at the same
@@ -131,6 +140,7 @@ impl<B: Width> BitXor<IntervalSet<B>> for IntervalSet<B> {
 impl<B: Width> BitXor<&IntervalSet<B>> for IntervalSet<B> {
     type Output = Result<IntervalSet<B>, AllocError>;
 
+    // On success, the members are exactly those of either set that are not in both.
     ghost bitxor_gives = { λ a b r. IfOk r (λ L. IsRunsOf L (SymmetricDifference (Covers a) (Covers b.now))) };
 
     /// Returns the members of exactly one of the sets, as `symmetric_difference` does, at the same
@@ -143,6 +153,7 @@ impl<B: Width> BitXor<&IntervalSet<B>> for IntervalSet<B> {
 impl<B: Width> BitXor<IntervalSet<B>> for &IntervalSet<B> {
     type Output = Result<IntervalSet<B>, AllocError>;
 
+    // On success, the members are exactly those of either set that are not in both.
     ghost bitxor_gives = { λ a b r. IfOk r (λ L. IsRunsOf L (SymmetricDifference (Covers a.now) (Covers b))) };
 
     /// Returns the members of exactly one of the sets, as `symmetric_difference` does, at the same
@@ -155,6 +166,7 @@ impl<B: Width> BitXor<IntervalSet<B>> for &IntervalSet<B> {
 impl<B: Width> BitXor<&IntervalSet<B>> for &IntervalSet<B> {
     type Output = Result<IntervalSet<B>, AllocError>;
 
+    // On success, the members are exactly those of either set that are not in both.
     ghost bitxor_gives = { λ a b r. IfOk r (λ L. IsRunsOf L (SymmetricDifference (Covers a.now) (Covers b.now))) };
 
     /// Returns the members of exactly one of the sets, as `symmetric_difference` does, at the same
@@ -167,6 +179,7 @@ impl<B: Width> BitXor<&IntervalSet<B>> for &IntervalSet<B> {
 impl<B: Width> Not for IntervalSet<B> {
     type Output = Result<IntervalSet<B>, AllocError>;
 
+    // On success, the members are exactly the numbers of the range that are not in the set.
     ghost not_gives = { λ a r. IfOk r (λ L. IsRunsOf L (Complement B.whole (Covers a))) };
 
     /// Returns the complement within the range of the type, as `complement` does, at the same cost.
@@ -183,6 +196,7 @@ impl<B: Width> Not for IntervalSet<B> {
 impl<B: Width> Not for &IntervalSet<B> {
     type Output = Result<IntervalSet<B>, AllocError>;
 
+    // On success, the members are exactly the numbers of the range that are not in the set.
     ghost not_gives = { λ a r. IfOk r (λ L. IsRunsOf L (Complement B.whole (Covers a.now))) };
 
     /// Returns the complement within the range of the type, as `complement` does, at the same cost.

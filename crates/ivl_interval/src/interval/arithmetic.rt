@@ -113,6 +113,7 @@ impl<B: Width> Add<Interval<B>> for Interval<B> {
 
     ghost can_add = { λ a b. IsSubset (Sums (IsBetween a) (IsBetween b)) (IsBetween B.whole) };
 
+    // The members are exactly the sums of a member of each interval.
     ghost add_gives = { λ a b r. SameMembers (IsBetween r) (Sums (IsBetween a) (IsBetween b)) };
 
     /// Returns exactly the sums of a member of `self` and a member of `rhs`. The caller must ensure
@@ -133,6 +134,7 @@ impl<B: Width> Add<&Interval<B>> for Interval<B> {
 
     ghost can_add = { λ a b. IsSubset (Sums (IsBetween a) (IsBetween b.now)) (IsBetween B.whole) };
 
+    // The members are exactly the sums of a member of each interval.
     ghost add_gives = { λ a b r. SameMembers (IsBetween r) (Sums (IsBetween a) (IsBetween b.now)) };
 
     /// Returns exactly the sums of a member of `self` and a member of `rhs`. The caller must ensure
@@ -147,6 +149,7 @@ impl<B: Width> Add<Interval<B>> for &Interval<B> {
 
     ghost can_add = { λ a b. IsSubset (Sums (IsBetween a.now) (IsBetween b)) (IsBetween B.whole) };
 
+    // The members are exactly the sums of a member of each interval.
     ghost add_gives = { λ a b r. SameMembers (IsBetween r) (Sums (IsBetween a.now) (IsBetween b)) };
 
     /// Returns exactly the sums of a member of `self` and a member of `rhs`. The caller must ensure
@@ -161,6 +164,7 @@ impl<B: Width> Add<&Interval<B>> for &Interval<B> {
 
     ghost can_add = { λ a b. IsSubset (Sums (IsBetween a.now) (IsBetween b.now)) (IsBetween B.whole) };
 
+    // The members are exactly the sums of a member of each interval.
     ghost add_gives = { λ a b r. SameMembers (IsBetween r) (Sums (IsBetween a.now) (IsBetween b.now)) };
 
     /// Returns exactly the sums of a member of `self` and a member of `rhs`. The caller must ensure
@@ -175,6 +179,7 @@ impl<B: Width> Add<B> for Interval<B> {
 
     ghost can_add = { λ a x. IsSubset (Sums (IsBetween a) (Only (B.value x))) (IsBetween B.whole) };
 
+    // The members are exactly the sums of a member and the value.
     ghost add_gives = { λ a x r. SameMembers (IsBetween r) (Sums (IsBetween a) (Only (B.value x))) };
 
     /// Returns exactly the sums of a member and the value. The caller must ensure that the sums are
@@ -195,6 +200,7 @@ impl<B: Width> Add<&B> for Interval<B> {
 
     ghost can_add = { λ a x. IsSubset (Sums (IsBetween a) (Only (B.value x.now))) (IsBetween B.whole) };
 
+    // The members are exactly the sums of a member and the value.
     ghost add_gives = { λ a x r. SameMembers (IsBetween r) (Sums (IsBetween a) (Only (B.value x.now))) };
 
     /// Returns exactly the sums of a member and the value. The caller must ensure that the sums are
@@ -209,6 +215,7 @@ impl<B: Width> Add<B> for &Interval<B> {
 
     ghost can_add = { λ a x. IsSubset (Sums (IsBetween a.now) (Only (B.value x))) (IsBetween B.whole) };
 
+    // The members are exactly the sums of a member and the value.
     ghost add_gives = { λ a x r. SameMembers (IsBetween r) (Sums (IsBetween a.now) (Only (B.value x))) };
 
     /// Returns exactly the sums of a member and the value. The caller must ensure that the sums are
@@ -223,6 +230,7 @@ impl<B: Width> Add<&B> for &Interval<B> {
 
     ghost can_add = { λ a x. IsSubset (Sums (IsBetween a.now) (Only (B.value x.now))) (IsBetween B.whole) };
 
+    // The members are exactly the sums of a member and the value.
     ghost add_gives = { λ a x r. SameMembers (IsBetween r) (Sums (IsBetween a.now) (Only (B.value x.now))) };
 
     /// Returns exactly the sums of a member and the value. The caller must ensure that the sums are
@@ -237,6 +245,7 @@ impl<B: Width> Sub<Interval<B>> for Interval<B> {
 
     ghost can_sub = { λ a b. IsSubset (Differences (IsBetween a) (IsBetween b)) (IsBetween B.whole) };
 
+    // The members are exactly the differences of a member of `self` and one of `rhs`.
     ghost sub_gives = { λ a b r. SameMembers (IsBetween r) (Differences (IsBetween a) (IsBetween b)) };
 
     /// Returns exactly the differences of a member of `self` and a member of `rhs`. The caller must
@@ -257,6 +266,7 @@ impl<B: Width> Sub<&Interval<B>> for Interval<B> {
 
     ghost can_sub = { λ a b. IsSubset (Differences (IsBetween a) (IsBetween b.now)) (IsBetween B.whole) };
 
+    // The members are exactly the differences of a member of `self` and one of `rhs`.
     ghost sub_gives = { λ a b r. SameMembers (IsBetween r) (Differences (IsBetween a) (IsBetween b.now)) };
 
     /// Returns exactly the differences of a member of `self` and a member of `rhs`. The caller must
@@ -271,6 +281,7 @@ impl<B: Width> Sub<Interval<B>> for &Interval<B> {
 
     ghost can_sub = { λ a b. IsSubset (Differences (IsBetween a.now) (IsBetween b)) (IsBetween B.whole) };
 
+    // The members are exactly the differences of a member of `self` and one of `rhs`.
     ghost sub_gives = { λ a b r. SameMembers (IsBetween r) (Differences (IsBetween a.now) (IsBetween b)) };
 
     /// Returns exactly the differences of a member of `self` and a member of `rhs`. The caller must
@@ -285,6 +296,7 @@ impl<B: Width> Sub<&Interval<B>> for &Interval<B> {
 
     ghost can_sub = { λ a b. IsSubset (Differences (IsBetween a.now) (IsBetween b.now)) (IsBetween B.whole) };
 
+    // The members are exactly the differences of a member of `self` and one of `rhs`.
     ghost sub_gives = { λ a b r. SameMembers (IsBetween r) (Differences (IsBetween a.now) (IsBetween b.now)) };
 
     /// Returns exactly the differences of a member of `self` and a member of `rhs`. The caller must
@@ -299,6 +311,7 @@ impl<B: Width> Sub<B> for Interval<B> {
 
     ghost can_sub = { λ a x. IsSubset (Differences (IsBetween a) (Only (B.value x))) (IsBetween B.whole) };
 
+    // The members are exactly the differences of a member and the value.
     ghost sub_gives = { λ a x r. SameMembers (IsBetween r) (Differences (IsBetween a) (Only (B.value x))) };
 
     /// Returns exactly the differences of a member and the value. The caller must ensure that the
@@ -319,6 +332,7 @@ impl<B: Width> Sub<&B> for Interval<B> {
 
     ghost can_sub = { λ a x. IsSubset (Differences (IsBetween a) (Only (B.value x.now))) (IsBetween B.whole) };
 
+    // The members are exactly the differences of a member and the value.
     ghost sub_gives = { λ a x r. SameMembers (IsBetween r) (Differences (IsBetween a) (Only (B.value x.now))) };
 
     /// Returns exactly the differences of a member and the value. The caller must ensure that the
@@ -333,6 +347,7 @@ impl<B: Width> Sub<B> for &Interval<B> {
 
     ghost can_sub = { λ a x. IsSubset (Differences (IsBetween a.now) (Only (B.value x))) (IsBetween B.whole) };
 
+    // The members are exactly the differences of a member and the value.
     ghost sub_gives = { λ a x r. SameMembers (IsBetween r) (Differences (IsBetween a.now) (Only (B.value x))) };
 
     /// Returns exactly the differences of a member and the value. The caller must ensure that the
@@ -347,6 +362,7 @@ impl<B: Width> Sub<&B> for &Interval<B> {
 
     ghost can_sub = { λ a x. IsSubset (Differences (IsBetween a.now) (Only (B.value x.now))) (IsBetween B.whole) };
 
+    // The members are exactly the differences of a member and the value.
     ghost sub_gives = { λ a x r. SameMembers (IsBetween r) (Differences (IsBetween a.now) (Only (B.value x.now))) };
 
     /// Returns exactly the differences of a member and the value. The caller must ensure that the
@@ -361,6 +377,7 @@ impl<B: Width> Mul<Interval<B>> for Interval<B> {
 
     ghost can_mul = { λ a b. IsSubset (ExactProducts (IsBetween a) (IsBetween b)) (IsBetween B.whole) };
 
+    // The result is the least interval that holds the products of a member of each interval.
     ghost mul_gives = { λ a b r. IsHullOf r (ExactProducts (IsBetween a) (IsBetween b)) };
 
     /// Returns the least interval that holds the products of a member of each. The caller must
@@ -381,6 +398,7 @@ impl<B: Width> Mul<&Interval<B>> for Interval<B> {
 
     ghost can_mul = { λ a b. IsSubset (ExactProducts (IsBetween a) (IsBetween b.now)) (IsBetween B.whole) };
 
+    // The result is the least interval that holds the products of a member of each interval.
     ghost mul_gives = { λ a b r. IsHullOf r (ExactProducts (IsBetween a) (IsBetween b.now)) };
 
     /// Returns the least interval that holds the products of a member of each. The caller must
@@ -395,6 +413,7 @@ impl<B: Width> Mul<Interval<B>> for &Interval<B> {
 
     ghost can_mul = { λ a b. IsSubset (ExactProducts (IsBetween a.now) (IsBetween b)) (IsBetween B.whole) };
 
+    // The result is the least interval that holds the products of a member of each interval.
     ghost mul_gives = { λ a b r. IsHullOf r (ExactProducts (IsBetween a.now) (IsBetween b)) };
 
     /// Returns the least interval that holds the products of a member of each. The caller must
@@ -409,6 +428,7 @@ impl<B: Width> Mul<&Interval<B>> for &Interval<B> {
 
     ghost can_mul = { λ a b. IsSubset (ExactProducts (IsBetween a.now) (IsBetween b.now)) (IsBetween B.whole) };
 
+    // The result is the least interval that holds the products of a member of each interval.
     ghost mul_gives = { λ a b r. IsHullOf r (ExactProducts (IsBetween a.now) (IsBetween b.now)) };
 
     /// Returns the least interval that holds the products of a member of each. The caller must
@@ -423,6 +443,7 @@ impl<B: Width> Mul<B> for Interval<B> {
 
     ghost can_mul = { λ a x. IsSubset (ExactProducts (IsBetween a) (Only (B.value x))) (IsBetween B.whole) };
 
+    // The result is the least interval that holds the products of a member and the value.
     ghost mul_gives = { λ a x r. IsHullOf r (ExactProducts (IsBetween a) (Only (B.value x))) };
 
     /// Returns the least interval that holds the products of a member and the value. The caller
@@ -445,6 +466,7 @@ impl<B: Width> Mul<&B> for Interval<B> {
 
     ghost can_mul = { λ a x. IsSubset (ExactProducts (IsBetween a) (Only (B.value x.now))) (IsBetween B.whole) };
 
+    // The result is the least interval that holds the products of a member and the value.
     ghost mul_gives = { λ a x r. IsHullOf r (ExactProducts (IsBetween a) (Only (B.value x.now))) };
 
     /// Returns the least interval that holds the products of a member and the value. The caller
@@ -459,6 +481,7 @@ impl<B: Width> Mul<B> for &Interval<B> {
 
     ghost can_mul = { λ a x. IsSubset (ExactProducts (IsBetween a.now) (Only (B.value x))) (IsBetween B.whole) };
 
+    // The result is the least interval that holds the products of a member and the value.
     ghost mul_gives = { λ a x r. IsHullOf r (ExactProducts (IsBetween a.now) (Only (B.value x))) };
 
     /// Returns the least interval that holds the products of a member and the value. The caller
@@ -473,6 +496,7 @@ impl<B: Width> Mul<&B> for &Interval<B> {
 
     ghost can_mul = { λ a x. IsSubset (ExactProducts (IsBetween a.now) (Only (B.value x.now))) (IsBetween B.whole) };
 
+    // The result is the least interval that holds the products of a member and the value.
     ghost mul_gives = { λ a x r. IsHullOf r (ExactProducts (IsBetween a.now) (Only (B.value x.now))) };
 
     /// Returns the least interval that holds the products of a member and the value. The caller

@@ -7,6 +7,7 @@ use crate::width::Width;
 use std::fmt;
 
 impl<B: Width + fmt::Display> fmt::Display for Interval<B> {
+    // The text is `{}` if the bounds cross, else the two bounds as in `[1..5]`.
     ghost output = { λ p. interval_text p (B.output (B.at p.0)) (B.output (B.at p.1)) };
 
     ghost styled_output = { λ p _. styled_interval_text p };

@@ -47,6 +47,7 @@ impl<'a, B: Width> Model for Runs<'a, B> {
 impl<'a, B: Width> Iterator for Runs<'a, B> {
     type Item = Interval<B>;
 
+    // It yields the first run that is left, or `None` if none is.
     ghost next_gives = { YieldsFirst (λ left. left) };
 
     ghost remaining = { item_count (λ left. left) };
@@ -75,6 +76,7 @@ impl<'a, B: Width> Iterator for Runs<'a, B> {
 }
 
 impl<'a, B: Width> DoubleEndedIterator for Runs<'a, B> {
+    // It yields the last run that is left, or `None` if none is.
     ghost next_back_gives = { YieldsLast (λ left. left) };
 
     /// Returns the last run that is left, or `None` if there is none. `O(1)`.

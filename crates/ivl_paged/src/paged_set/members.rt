@@ -51,6 +51,7 @@ impl<'a, B: Width> Model for Members<'a, B> {
 impl<'a, B: Width> Iterator for Members<'a, B> {
     type Item = B;
 
+    // It yields the first member that is left, or `None` if none is.
     ghost next_gives = { YieldsFirstBy B.value (λ left. left) };
 
     ghost remaining = { item_count (λ left. left) };
@@ -76,6 +77,7 @@ impl<'a, B: Width> Iterator for Members<'a, B> {
 }
 
 impl<'a, B: Width> DoubleEndedIterator for Members<'a, B> {
+    // It yields the last member that is left, or `None` if none is.
     ghost next_back_gives = { YieldsLastBy B.value (λ left. left) };
 
     /// Returns the greatest member that is left, or `None` if there is none. `O(1)`.

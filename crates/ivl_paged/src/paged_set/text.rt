@@ -7,6 +7,7 @@ use intervallum::width::Width;
 use std::fmt;
 
 impl<B: Width + fmt::Display> fmt::Display for PagedSet<B> {
+    // The text is `{}`, that of the only run, or those of the runs between braces.
     ghost output = { set_text (λ p. interval_text p (B.output (B.at p.0)) (B.output (B.at p.1))) };
 
     ghost styled_output = { λ L _. styled_set_text L };
