@@ -49,8 +49,8 @@ use crate::proved::width::Width;
 /// Numbers and ranges are passed by value, as to a set. A call that gives values to numbers needs these to be in the
 /// [`limits`](crate::IntervalSet::limits); a call that asks or removes takes any, and a number outside the limits has no value. If
 /// the condition of a method does not hold, it panics with its name, the condition and the numbers; the method `checked_..` beside it returns
-/// `None` instead. If an allocation fails, the process aborts, as in std. If `==` or `clone` of a value panics in an edit, the
-/// numbers of the edit may have lost their values, and the others keep theirs.
+/// `None` instead. If an allocation fails, the process aborts, as in std. If code of a value panics in an edit, be it `==`, `clone`
+/// or `drop`, the numbers from the least to the greatest of the edit may have lost their values, and all others keep theirs.
 ///
 /// `n` and `m` are the numbers of entries. They stand in one vector, each with two bounds and a value: 12 bytes for bounds and values of 32
 /// bits. A question is a binary search. An edit that adds or takes out an entry moves those above it.
