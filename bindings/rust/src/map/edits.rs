@@ -31,6 +31,7 @@ impl<T: Width, V: Clone + Eq> IntervalMap<T, V> {
     }
 
     /// Does what [`insert`](Self::insert) does, or returns `None` if its condition does not hold.
+    #[must_use = "`None` says that no value was written"]
     pub fn checked_insert(&mut self, range: impl Piece<T>, value: V) -> Option<()> {
         self.write(range.interval()?, value);
         Some(())
@@ -56,6 +57,7 @@ impl<T: Width, V: Clone + Eq> IntervalMap<T, V> {
     }
 
     /// Does what [`insert_if_free`](Self::insert_if_free) does, or returns `None` if its condition does not hold.
+    #[must_use = "`None` says that no value was written"]
     pub fn checked_insert_if_free(
         &mut self,
         range: impl Piece<T>,
@@ -123,6 +125,7 @@ impl<T: Width, V: Clone + Eq> IntervalMap<T, V> {
     /// assert_eq!((a.checked_extend([(2..=3, "b"), (3..=4, "c")]), a.get(3)), (Some(()), Some(&"c")));
     /// ```
     #[doc = contract!(IntervalMap "extend")]
+    #[must_use = "`None` says that no value was written"]
     pub fn checked_extend<P: Piece<T>>(&mut self, entries: impl IntoIterator<Item = (P, V)>) -> Option<()> {
         self.write_all(entries_of(entries)?);
         Some(())

@@ -127,6 +127,7 @@ impl<T: Width, V: Clone + Eq> IntervalMap<T, V> {
     /// assert_eq!((a.iter().next_back(), a.iter().len()), (Some((8..=9, &"b")), 2));
     /// ```
     #[doc = contract!(over IntervalMap "entries")]
+    #[must_use = "iterators do nothing unless they are consumed"]
     pub fn iter(&self) -> Iter<'_, T, V> {
         Iter(self.entries().iter())
     }
@@ -139,6 +140,7 @@ impl<T: Width, V: Clone + Eq> IntervalMap<T, V> {
     /// assert_eq!(a.values().collect::<Vec<_>>(), [&"a", &"b"]);
     /// ```
     #[doc = contract!(over IntervalMap "entries")]
+    #[must_use = "iterators do nothing unless they are consumed"]
     pub fn values(&self) -> Values<'_, T, V> {
         Values(self.entries().iter())
     }
@@ -152,6 +154,7 @@ impl<T: Width, V: Clone + Eq> IntervalMap<T, V> {
     /// assert_eq!(a.overlapping(5..=8).collect::<Vec<_>>(), [(1..=5, &"a"), (8..=9, &"b")]);
     /// ```
     #[doc = contract!(over IntervalMap "overlapping")]
+    #[must_use = "iterators do nothing unless they are consumed"]
     pub fn overlapping(&self, range: impl Piece<T>) -> Iter<'_, T, V> {
         Iter(self.met(range.clamped()).iter())
     }

@@ -1,5 +1,6 @@
 //! The proved set below each set, and sets of either kind as operands.
 use super::conditions::memory;
+use super::making::outside;
 use super::{IntervalSet, PagedSet};
 use crate::proved::ivl_paged::PagedSet as ProvedPagedSet;
 use crate::proved::ops::{
@@ -321,6 +322,7 @@ macro_rules! below {
 
         impl<T: Width> $Set<T> {
             /// Lends the proved set. `from` converts both ways, without a copy.
+            #[must_use]
             pub fn as_proved(&self) -> Lent<'_, $Proved<T>> {
                 Lent(self.0.as_ref().map_or_else(|| Place::Made(Proved::nothing()), Place::There))
             }
@@ -341,9 +343,17 @@ macro_rules! below {
             }
         }
 
+        /// Takes the set, without a copy. Its members must be within the limits: where conditions are not tested, as in release
+        /// builds, a proved call whose condition does not hold may have made another.
         impl<T: Width> From<$Proved<T>> for $Set<T> {
+            #[track_caller]
             fn from(set: $Proved<T>) -> Self {
-                Self(Some(set))
+                match set.first().zip(set.last()) {
+                    Some((lower, upper)) if !Interval::in_range(lower, upper) => {
+                        outside::<T>(stringify!($Set), "from", lower.number(), upper.number())
+                    }
+                    _ => Self(Some(set)),
+                }
             }
         }
 

@@ -31,6 +31,7 @@ macro_rules! edits {
             }
 
             /// Returns [`insert`](Self::insert), or `None` if its condition does not hold.
+            #[must_use = "`None` says that nothing was added"]
             pub fn checked_insert(&mut self, value: T) -> Option<bool> {
                 Interval::in_range(value, value).then(|| memory(self.edited().insert(value)))
             }
@@ -60,6 +61,7 @@ macro_rules! edits {
             }
 
             /// Returns [`insert_interval`](Self::insert_interval), or `None` if its condition does not hold.
+            #[must_use = "`None` says that nothing was added"]
             pub fn checked_insert_interval(&mut self, range: impl Piece<T>) -> Option<bool> {
                 Some(self.add(range.interval()?))
             }
@@ -119,6 +121,7 @@ macro_rules! edits {
             }
 
             /// Does what [`take_first_fit`](Self::take_first_fit) does, or returns `None` if its condition does not hold.
+            #[must_use = "what is taken is no member any more"]
             pub fn checked_take_first_fit(&mut self, count: T::Output) -> Option<Option<RangeInclusive<T>>> {
                 (count.number() > 0).then(|| self.edited().take_first_fit(count).as_ref().map(as_range))
             }
@@ -190,6 +193,7 @@ macro_rules! edits {
             /// assert_eq!(a.checked_extend([9, 7]), Some(()));
             /// assert_eq!(a.to_string(), "{[1..2][7..7][9..9]}");
             /// ```
+            #[must_use = "`None` says that nothing was added"]
             pub fn checked_extend<P: Pieces<T>>(&mut self, pieces: impl IntoIterator<Item = P>) -> Option<()> {
                 self.add_all(intervals_of(pieces).ok()?);
                 Some(())

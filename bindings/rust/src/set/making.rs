@@ -170,6 +170,6 @@ pub(crate) fn interval_of<T: Width>(set: &str, call: &str, piece: &impl Piece<T>
 
 #[cold]
 #[track_caller]
-fn outside<T: Width>(set: &str, call: &str, lower: i128, upper: i128) -> ! {
+pub(super) fn outside<T: Width>(set: &str, call: &str, lower: i128, upper: i128) -> ! {
     broken(set, format_args!("{call}({})", numbers_between(lower, upper)), within_range::<T>("the numbers"))
 }

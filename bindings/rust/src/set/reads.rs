@@ -371,6 +371,7 @@ macro_rules! iterated {
             /// assert_eq!((a.iter().next_back(), a.iter().nth(2), a.iter().len()), (Some(6), Some(5), 4));
             /// ```
             #[doc = contract!(over $Set "iter")]
+            #[must_use = "iterators do nothing unless they are consumed"]
             pub fn iter(&self) -> $Iter<'_, T> {
                 Members::of(self.runs())
             }
@@ -383,6 +384,7 @@ macro_rules! iterated {
             #[doc = concat!("let a = ", stringify!($Set), "::from([1..=3, 7..=9]);")]
             /// assert_eq!(a.range(2..8).collect::<Vec<_>>(), [2, 3, 7]);
             /// ```
+            #[must_use = "iterators do nothing unless they are consumed"]
             pub fn range(&self, range: impl Piece<T>) -> $Range<'_, T> {
                 let interval = range.clamped();
                 Members::of_part(self.runs_within(interval), &interval)
@@ -396,6 +398,7 @@ macro_rules! iterated {
             /// assert_eq!(a.runs().collect::<Vec<_>>(), [1..=3, 5..=6]);
             /// ```
             #[doc = contract!(over $Set "iter")]
+            #[must_use = "iterators do nothing unless they are consumed"]
             pub fn runs(&self) -> $Runs<'_, T> {
                 self.all_runs()
             }
@@ -409,6 +412,7 @@ macro_rules! iterated {
             /// assert_eq!(a.runs_within(2..=5).collect::<Vec<_>>(), [1..=2, 5..=6]);
             /// assert_eq!(a.size_within(2..=5), 2u32);
             /// ```
+            #[must_use = "iterators do nothing unless they are consumed"]
             pub fn runs_within(&self, range: impl Piece<T>) -> $RunsWithin<'_, T> {
                 self.runs_that_overlap(&range.clamped())
             }
@@ -420,6 +424,7 @@ macro_rules! iterated {
             #[doc = concat!("let a = ", stringify!($Set), "::from([5..=6, 1..=2]);")]
             /// assert_eq!(a.into_runs().map(|run| *run.start()).collect::<Vec<_>>(), [1, 5]);
             /// ```
+            #[must_use = "iterators do nothing unless they are consumed"]
             pub fn into_runs(self) -> IntoRuns<T> {
                 IntoRuns::of(self.into())
             }
