@@ -21,7 +21,7 @@ use crate::proved::width::Width;
 ///
 /// `V` is any type with `Clone` and `Eq`, which keep the laws that Rust's std asks of them: `==` is an equivalence, and a copy
 /// equals what it was copied from. The proofs take the laws for granted; a type that breaks them may get wrong answers, but never undefined
-/// behaviour. A value is copied where an edit splits its entry, and by calls that return another map.
+/// behaviour. A value is copied where an edit splits its entry, by [`update`](Self::update), and by calls that return another map.
 ///
 /// ```
 /// use intervallum::IntervalMap;
@@ -67,6 +67,6 @@ use crate::proved::width::Width;
 /// | `iter()` yields `(&RangeInclusive, &V)` | [`iter()`](Self::iter) yields `(RangeInclusive, &V)` |
 /// | numbers are any type with an order, and step functions | numbers are those of [`Width`], which knows the next one |
 ///
-/// Each method is one call of a [`proved::IntervalMap`](crate::proved::ivl_map::IntervalMap) and links its contract, or says that it is
-/// tested and not proved.
+/// Each method is a call or two of a [`proved::IntervalMap`](crate::proved::ivl_map::IntervalMap) and links its contract, or says that it
+/// is tested and not proved.
 pub struct IntervalMap<T: Width, V: Clone + Eq>(Option<below::Proved<T, V>>);

@@ -1,7 +1,10 @@
 //! The proved map below each map.
 use super::IntervalMap;
 use crate::proved::ivl_map::{self, MapValue};
-use crate::proved::ops::{Bounded as _, Empty as _, Intersection as _, IsEmpty as _, Range as _, StrictShrinkLeft as _, StrictShrinkRight as _};
+use crate::proved::ops::{
+    Bounded as _, Empty as _, Intersection as _, IsEmpty as _, Range as _, StrictShrinkLeft as _,
+    StrictShrinkRight as _,
+};
 use crate::proved::width::Width;
 use crate::proved::{AllocError, Global, Interval};
 use alloc::vec::Vec;
@@ -94,5 +97,6 @@ fn part_outside<T: Width>(run: Interval<T>, interval: Interval<T>) -> Option<Int
 /// The interval from the least to the greatest number of entries.
 pub fn hull_of<T: Width, V>(entries: &[Entry<T, V>]) -> Interval<T> {
     let runs = entries.iter().map(|(run, _)| *run).filter(|run| !run.is_empty());
-    runs.reduce(|a, b| Interval::new(a.lower().min(b.lower()), a.upper().max(b.upper()))).unwrap_or_else(Interval::empty)
+    runs.reduce(|a, b| Interval::new(a.lower().min(b.lower()), a.upper().max(b.upper())))
+        .unwrap_or_else(Interval::empty)
 }

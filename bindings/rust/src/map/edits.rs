@@ -31,6 +31,14 @@ impl<T: Width, V: Clone + Eq> IntervalMap<T, V> {
     }
 
     /// Does what [`insert`](Self::insert) does, or returns `None` if its condition does not hold.
+    ///
+    /// ```
+    /// # use intervallum::IntervalMap;
+    /// let mut a = IntervalMap::new();
+    /// assert_eq!((a.checked_insert(1..=9u8, "a"), a.checked_insert(9..=255, "b")), (Some(()), None));
+    /// assert_eq!(a.get(9), Some(&"a"));
+    /// ```
+    #[doc = contract!(of "insert")]
     #[must_use = "`None` says that no value was written"]
     pub fn checked_insert(&mut self, range: impl Piece<T>, value: V) -> Option<()> {
         self.write(range.interval()?, value);
@@ -57,6 +65,14 @@ impl<T: Width, V: Clone + Eq> IntervalMap<T, V> {
     }
 
     /// Does what [`insert_if_free`](Self::insert_if_free) does, or returns `None` if its condition does not hold.
+    ///
+    /// ```
+    /// # use intervallum::IntervalMap;
+    /// let mut a = IntervalMap::from([(1..=5u8, "a")]);
+    /// assert_eq!(a.checked_insert_if_free(4..=9, "b"), Some(Err((1..=5, &"a"))));
+    /// assert_eq!(a.checked_insert_if_free(6..=255, "b"), None);
+    /// ```
+    #[doc = contract!(of "insert_if_free")]
     #[must_use = "`None` says that no value was written"]
     pub fn checked_insert_if_free(
         &mut self,
@@ -94,6 +110,13 @@ impl<T: Width, V: Clone + Eq> IntervalMap<T, V> {
     }
 
     /// Removes all values. Keeps the capacity.
+    ///
+    /// ```
+    /// # use intervallum::IntervalMap;
+    /// let mut a = IntervalMap::from([(1..=5, "a")]);
+    /// a.clear();
+    /// assert!(a.is_empty());
+    /// ```
     #[doc = contract!(IntervalMap "clear")]
     pub fn clear(&mut self) {
         self.edited().clear();

@@ -1,5 +1,5 @@
 //! The proved set below each set, and sets of either kind as operands.
-use super::conditions::memory;
+use super::conditions::{contract, memory};
 use super::making::outside;
 use super::{IntervalSet, PagedSet};
 use crate::proved::ivl_paged::PagedSet as ProvedPagedSet;
@@ -322,6 +322,13 @@ macro_rules! below {
 
         impl<T: Width> $Set<T> {
             /// Lends the proved set. `from` converts both ways, without a copy.
+            ///
+            /// ```
+            #[doc = concat!("# use intervallum::", stringify!($Set), ";")]
+            #[doc = concat!("let a = ", stringify!($Set), "::from([1..=2, 5..=9u8]);")]
+            /// assert_eq!(a.as_proved().interval_count(), 2);
+            /// ```
+            #[doc = contract!(tested)]
             #[must_use]
             pub fn as_proved(&self) -> Lent<'_, $Proved<T>> {
                 Lent(self.0.as_ref().map_or_else(|| Place::Made(Proved::nothing()), Place::There))
