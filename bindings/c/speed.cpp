@@ -1,5 +1,5 @@
 // Times calls over sorted lists, and Boost.ICL over the same sets where it is installed. A line is the call, the number of
-// runs, and nanoseconds a call: through C, and of Boost. The lists are those of crates/ivl_bench.
+// runs, and nanoseconds a call: through C, and of Boost. The lists are those of bindings/rust/bench.
 #include "intervallum.h"
 
 #include <chrono>

@@ -2,7 +2,7 @@
 //!
 //! Intervals and sets are proved for any bound type that keeps the laws of `Width`. This crate has two, [`bit`] and
 //! [`narrow`], which keep these laws by the public contracts alone; [`ranges`] pins their ranges in plain numbers.
-//! `ivl_replay` replays answers over both.
+//! `ivl_json_replay` replays answers of JSON over both.
 #![tactic(auto)]
 
 pub mod bit;

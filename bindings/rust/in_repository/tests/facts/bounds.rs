@@ -48,7 +48,7 @@ impl FromStr for Bit {
 
 /// A number whose range is -100 to 100. Every other `i16` is a value outside the range.
 #[derive(Clone, Copy, PartialEq, Eq, PartialOrd, Ord, Debug)]
-pub struct Narrow(i16);
+pub struct Narrow(pub i16);
 
 impl Width for Narrow {
     type Output = u16;

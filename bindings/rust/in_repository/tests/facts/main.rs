@@ -1,11 +1,14 @@
 //! Replays answers that were not taken from this library, over the proved face: each line of a file is a call, its operands,
 //! and the answer that is right.
 mod bounds;
+mod calculator;
 mod intervals;
 mod read;
 mod sets;
+mod unnamed;
 mod upper;
 mod values;
+mod windows;
 
 use bounds::{Bit, Narrow};
 use intervallum::proved::width::Width;
@@ -26,12 +29,15 @@ pub struct Fact<'a> {
 }
 
 impl<'a> Fact<'a> {
-    /// Reads `TYPE CALL ; operand ; .. ; answer`. A call of the store answers a reply and the domains that it leaves.
+    /// Reads `TYPE CALL ; operand ; .. ; answer`. A call of the store answers a reply and the domains that it leaves, a command of
+    /// the calculator a reply and a register, and what is cut to the range whether it was.
     fn parse(line: &'a str) -> Fact<'a> {
         let mut parts: Vec<&str> = line.split(" ; ").collect();
         let (type_name, call) = parts[0].split_once(' ').expect("a type and a call");
         let mut answer = parts.pop().expect("an answer").to_string();
-        if matches!(call, "narrow" | "propagate" | "post_all") {
+        if matches!(call, "narrow" | "propagate" | "post_all" | "add_within" | "sub_within")
+            || call.starts_with("calc_")
+        {
             answer = format!("{} ; {answer}", parts.pop().expect("a reply"));
         }
         Fact { type_name, call, operands: parts.split_off(1), answer }
@@ -45,7 +51,8 @@ impl<'a> Fact<'a> {
             Some(("l", _)) => sets::answer_of_list::<B>(self),
             Some(("i", _)) => intervals::answer::<B>(self),
             Some(_) => values::answer::<B>(self),
-            None => upper::answer::<B>(self),
+            None if self.call.starts_with("calc_") => calculator::answer::<B>(self),
+            None => windows::answer::<B>(self).or_else(|| upper::answer::<B>(self)),
         }
     }
 
@@ -68,37 +75,50 @@ impl<'a> Fact<'a> {
     }
 }
 
-fn replay(file: &str, at_least: usize) {
-    let path = format!("{}/../../../crates/ivl_replay/data/{file}", env!("CARGO_MANIFEST_DIR"));
+/// Replays the lines of a file, which has so many.
+fn replay(file: &str, lines: usize) {
+    let path = format!("{}/{file}", env!("CARGO_MANIFEST_DIR"));
     let text = std::fs::read_to_string(&path).unwrap_or_else(|error| panic!("{path}: {error}"));
-    let (mut agreeing, mut skipped, mut failing) = (0, 0, Vec::new());
+    let (mut agreeing, mut failing) = (0, Vec::new());
     for line in text.lines().filter(|line| !line.starts_with('#')) {
         let fact = Fact::parse(line);
-        if fact.call.starts_with("json") && !cfg!(json) {
-            skipped += 1;
-            continue;
-        }
         match fact.here() {
             Some(here) if here == fact.answer => agreeing += 1,
             here => failing.push(format!("{line}, but here {here:?}")),
         }
     }
-    println!("{file}: {agreeing} lines agree, {skipped} need the feature json");
     assert!(failing.is_empty(), "{} lines differ:\n{}", failing.len(), failing.join("\n"));
-    assert!(agreeing + skipped >= at_least, "only {agreeing} lines of {file}");
+    assert_eq!(agreeing, lines, "lines of {file}");
 }
 
 #[test]
 fn answers_of_the_original_crate() {
-    replay("facts.txt", 3600);
+    replay("data/facts.txt", 3620);
 }
 
 #[test]
 fn answers_worked_out_by_hand() {
-    replay("worked.txt", 1100);
+    replay("data/worked.txt", 4076);
 }
 
 #[test]
-fn answers_of_a_model_for_expressions_json_and_the_store() {
-    replay("upper_facts.txt", 3400);
+fn answers_of_steps_windows_the_calculator_and_the_store_for_other_bounds() {
+    replay("data/layers.txt", 48);
+}
+
+#[test]
+fn answers_of_a_model_for_expressions_and_the_store() {
+    replay("data/upper_facts.txt", 2000);
+}
+
+#[cfg(json)]
+#[test]
+fn answers_of_a_model_for_json() {
+    replay("../../../crates/ivl_json_replay/data/json_facts.txt", 1500);
+}
+
+#[cfg(json)]
+#[test]
+fn answers_of_json_worked_out_by_hand() {
+    replay("../../../crates/ivl_json_replay/data/json_worked.txt", 28);
 }

@@ -59,7 +59,7 @@ pub fn set<B: Bound>(text: &str) -> Option<IntervalSet<B>> {
 }
 
 /// The numbers of a text, two by two; `-` for none.
-fn pairs<B: Bound>(text: &str) -> Option<Vec<(B, B)>> {
+pub fn pairs<B: Bound>(text: &str) -> Option<Vec<(B, B)>> {
     if text == "-" {
         return Some(Vec::new());
     }

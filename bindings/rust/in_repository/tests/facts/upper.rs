@@ -1,4 +1,4 @@
-//! The calls of JSON, expressions and the store.
+//! The calls of expressions and the store, and of JSON.
 use crate::read::{parts, runs_text, set, truth};
 use crate::{Bound, Fact};
 use intervallum::proved::Global;

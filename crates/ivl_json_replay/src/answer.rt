@@ -1,0 +1,36 @@
+//! The form of intervals and sets in the files.
+
+use intervallum::interval::Interval;
+use intervallum::interval_set::IntervalSet;
+use intervallum::ops::{Bounded, IsEmpty};
+use intervallum::width::Width;
+use std::alloc::{AllocError, Global};
+use std::fmt::Display;
+
+/// `-` for no member, else the two bounds.
+pub fn interval_text<B: Width + Display>(
+    alloc: Global,
+    interval: &Interval<B>,
+) -> Result<String, AllocError> {
+    if interval.is_empty() {
+        return String::from_str(alloc, "-");
+    }
+    format!(in alloc; "{} {}", interval.lower(), interval.upper())
+}
+
+/// `-` for no member, else the bounds of each run.
+pub fn runs_text<B: Width + Display>(
+    alloc: Global,
+    set: &IntervalSet<B>,
+) -> Result<String, AllocError> {
+    if set.is_empty() {
+        return String::from_str(alloc, "-");
+    }
+    let mut text = String::new(alloc);
+    for run in set.iter() {
+        text.push_str(interval_text(alloc, run)?.as_str())?;
+        text.push(' ')?;
+    }
+    let _ = text.pop();
+    Ok(text)
+}
