@@ -1,5 +1,5 @@
 //! The numbers that have values, as sets.
-ghost use Rattle.std.specs.Prelude.{◌≡◌, IfOk, OnErr, OnOk};
+ghost use Rattle.std.specs.Prelude.{◌≡◌, [], IfOk, IsOk, OnErr, OnOk};
 ghost use Rattle.std.specs.Fn.{FnReturnsAt};
 ghost use Rattle.ivl_laws.specs.Sets.{IsBetween, Union};
 ghost use Rattle.ivl_laws.specs.Runs.{Covers, IsRunsOf};
@@ -25,7 +25,11 @@ impl<B: Width, V: MapValue> IntervalMap<B, V> {
     /// assert!(rt; a.keys()? == IntervalSet::new(alloc, 1, 9)?);
     /// ```
     pub fn keys(&self) -> Result<IntervalSet<B>, AllocError>
-        ensures { IfOk result (λ L. IsRunsOf L (HasValue (HasAt V.eq self.now))) }
+        // The members are the numbers that have a value.
+        ensures members { IfOk result (λ L. IsRunsOf L (HasValue (HasAt V.eq self.now))) }
+
+        // It cannot fail where there is no entry.
+        ensures none { self.now ≡ [] → IsOk result }
     {
         numbers_of(self.allocator(), &self.entries)
     }
@@ -38,6 +42,7 @@ impl<B: Width, V: MapValue> IntervalMap<B, V> {
     /// assert_eq!(rt; a.size(), 7u32);
     /// ```
     pub fn size(&self) -> B::Output
+        // How many numbers have a value.
         ensures { IsCountOf (B.Output.size result) (HasValue (HasAt V.eq self.now)) }
     {
         size_of(&self.entries)
@@ -53,6 +58,7 @@ impl<B: Width, V: MapValue> IntervalMap<B, V> {
     /// ```
     pub fn numbers_with<F: Fn(&V) -> bool>(&self, test: F) -> Result<IntervalSet<B>, AllocError>
         requires { F.IsAlwaysCallable test }
+        // The members are the numbers for whose value the test returned true; for the values of the others it returned false.
         ensures { IfOk result (λ L. IsTested (FnReturnsAt F.Fn test) self.now L) }
     {
         let mut numbers = IntervalSet::empty(self.allocator());
@@ -73,6 +79,7 @@ pub(super) fn numbers_of<B: Width, V: MapValue>(
 ) -> Result<IntervalSet<B>, AllocError>
     ensures runs { IfOk result (λ L. IsRunsOf L (Covers (intervals_of entries.now))) }
     ensures values { IfOk result (λ L. IsRunsOf L (HasValue (HasAt V.eq entries.now))) }
+    ensures none { entries.now ≡ [] → IsOk result }
 {
     let mut numbers = IntervalSet::empty(alloc);
     for entry in entries {
