@@ -27,7 +27,8 @@ impl<B: Width, V: MapValue> IntervalMap<B, V> {
     ///
     /// # Errors
     ///
-    /// Fails only if an allocation fails. The map is then unchanged.
+    /// Fails only if an allocation fails. The map is then unchanged. Where the interval is empty, an entry is
+    /// in the way, or one that touches the interval has an equal value, it cannot fail.
     ///
     /// ```
     /// let mut a = IntervalMap::of(alloc, Interval::new(1i32, 5), 'a')?;
@@ -73,7 +74,8 @@ impl<B: Width, V: MapValue> IntervalMap<B, V> {
     ///
     /// # Errors
     ///
-    /// Fails only if `change`, an allocation or the copy of a value fails. The map is then unchanged.
+    /// Fails only if `change`, an allocation or the copy of a value fails. The map is then unchanged. Where
+    /// the interval is empty, it cannot fail.
     ///
     /// ```
     /// let mut a = IntervalMap::of(alloc, Interval::new(1i32, 9), 5u32)?;

@@ -12,7 +12,7 @@ use std::alloc::{AllocError, Global};
 
 impl<B: Width, V: MapValue> IntervalMap<B, V> {
     /// Returns the map in which the numbers of the interval, which may be empty, have the value, and
-    /// no others have one. `O(1)`. Fails only if allocation fails.
+    /// no others have one. `O(1)`. Fails only if allocation fails, and not for an empty interval.
     ///
     /// ```
     /// let a = IntervalMap::of(alloc, Interval::new(1i32, 5), 'a')?;
@@ -60,8 +60,8 @@ impl<B: Width, V: MapValue> IntervalMap<B, V> {
     ///
     /// # Errors
     ///
-    /// Fails only if an allocation or the copy of a value fails. The elements before the one that
-    /// failed have then been written, and the others have not.
+    /// Fails only where [`IntervalMap::insert`] of an element does. The elements before this one have then
+    /// been written, and the others have not.
     ///
     /// ```
     /// let mut a = IntervalMap::of(alloc, Interval::new(1i32, 9), 'a')?;
@@ -87,7 +87,7 @@ impl<B: Width, V: MapValue> IntervalMap<B, V> {
     }
 
     /// Returns a copy of the map. `O(n)`: copies each value. Reserves `n` entries. Fails only if an
-    /// allocation or the copy of a value fails.
+    /// allocation or the copy of a value fails, and not for an empty map.
     ///
     /// ```
     /// let a = IntervalMap::of(alloc, Interval::new(1i32, 5), 'a')?;

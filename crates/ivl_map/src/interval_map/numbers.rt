@@ -17,7 +17,7 @@ use std::alloc::{AllocError, Global};
 
 impl<B: Width, V: MapValue> IntervalMap<B, V> {
     /// Returns the set of the numbers that have a value. `O(n)`: adds each entry at the end of the
-    /// set, which grows as it is filled. Fails only if allocation fails.
+    /// set, which grows as it is filled. Fails only if allocation fails, and not for an empty map.
     ///
     /// ```
     /// let mut a = IntervalMap::of(alloc, Interval::new(1i32, 5), 'a')?;
