@@ -1,5 +1,8 @@
 //! Maps of the root: each call, least inputs and the ends of the range, panics, values of several types, traits of std.
 use intervallum::map::{IntoIter, Iter, Values};
+use intervallum::proved::ivl_map::MapValue;
+use intervallum::proved::ops::{Bounded as _, Range as _};
+use intervallum::proved::{self, AllocError, Global, Interval};
 use intervallum::{Full, IntervalMap, IntervalSet, PagedSet};
 use std::collections::{BTreeMap, HashMap, HashSet};
 use std::fmt::Debug;
@@ -411,4 +414,61 @@ fn a_value_that_panics_leaves_a_map() {
         );
         assert_eq!((copies, looks) == (9, 9), is_split && is_joined);
     }
+}
+
+/// A value whose drop panics when it is told to.
+#[derive(PartialEq, Eq, Debug)]
+struct Dropped(u8);
+
+thread_local! {
+    static DROPS_LEFT: std::cell::Cell<i32> = const { std::cell::Cell::new(i32::MAX) };
+}
+
+impl Drop for Dropped {
+    fn drop(&mut self) {
+        let left = DROPS_LEFT.get();
+        DROPS_LEFT.set(if left == 0 { i32::MAX } else { left - 1 });
+        assert!(left != 0, "a drop of {}", self.0);
+    }
+}
+
+impl MapValue for Dropped {
+    fn try_copy(&self) -> Result<Self, AllocError> {
+        Ok(Dropped(self.0))
+    }
+}
+
+/// What goes is dropped once the entries lie apart, so a panic in it leaves a list of maximal entries.
+#[test]
+fn a_drop_that_panics_leaves_maximal_entries() {
+    type Proved = proved::ivl_map::IntervalMap<i32, Dropped>;
+    let of = |lower, upper| Interval::new(lower, upper);
+    let edits: [fn(&mut Proved, Interval<i32>); 3] = [
+        |map, part| map.insert(part, Dropped(1)).unwrap(),
+        |map, part| map.insert(part, Dropped(9)).unwrap(),
+        |map, part| map.remove(part).unwrap(),
+    ];
+    let mut panics = 0;
+    for edit in edits {
+        for (lower, upper) in (0..30).flat_map(|lower| (lower..30).map(move |upper| (lower, upper))) {
+            for drops in 0..6 {
+                let mut map = Proved::empty(Global);
+                for (part, value) in [(of(1, 4), 1), (of(5, 9), 2), (of(12, 14), 3), (of(15, 19), 1), (of(22, 25), 2)] {
+                    map.insert(part, Dropped(value)).unwrap();
+                }
+                DROPS_LEFT.set(drops);
+                panics += i32::from(panic::catch_unwind(AssertUnwindSafe(|| edit(&mut map, of(lower, upper)))).is_err());
+                DROPS_LEFT.set(i32::MAX);
+                let apart = |a: &(Interval<i32>, Dropped), b: &(Interval<i32>, Dropped)| {
+                    a.0.upper() + i32::from(a.1 == b.1) < b.0.lower()
+                };
+                let entries = map.entries();
+                assert!(
+                    entries.windows(2).all(|pair| apart(&pair[0], &pair[1])),
+                    "{lower}..={upper}, drop {drops}: {entries:?}"
+                );
+            }
+        }
+    }
+    assert!(panics > 500, "{panics}");
 }
