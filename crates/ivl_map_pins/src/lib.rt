@@ -1,13 +1,14 @@
 //! What callers of maps can rely on, each as a function that learns it from the public contracts alone.
 #![tactic(auto)]
 
-ghost use Rattle.std.specs.Prelude.{◌≡◌, ◌↔◌, ◌⊎◌, ◌<◌, ◌++◌, ◌∷◌, [], ℕ, ℤ, All, IfOk, IfSome, IsTrue, MatchOption, OnErr, OnOk, length, take, true, false};
-ghost use Rattle.std.specs.Fn.{FnReturnsAt, FnReturnsAtPair};
+ghost use Rattle.std.specs.Prelude.{◌≡◌, ◌↔◌, ◌⊎◌, ◌<◌, ◌++◌, ◌∷◌, [], List, ℕ, ℤ, All, IfOk, IfSome, IsTrue, MatchOption, OnErr, OnOk, length, take, true, false};
+ghost use Rattle.std.specs.Fn.{CalledAt, FnReturnsAt, FnReturnsAtPair};
+ghost use Rattle.std.specs.List.Retain.{IsFiltered};
 ghost use Rattle.ivl_laws.specs.Counts.{IsCountOf, IsIn};
-ghost use Rattle.ivl_laws.specs.Runs.{Covers};
+ghost use Rattle.ivl_laws.specs.Runs.{Covers, IsRunsOf};
 ghost use Rattle.ivl_laws.specs.Sets.{AtLeast, AtMost, HasNone, HasSome, Intersection, IsBetween, SameMembers, Without};
 ghost use Rattle.intervallum.specs.FirstFit.{FitsAt, IsFirstFit};
-ghost use Rattle.ivl_map.specs.Entries.{HasAt, HasValue, IsEntriesOf, IsEntryListIn, NoValue, NotAt, OnlyAt, Outside, SameValues, Written, WrittenAll};
+ghost use Rattle.ivl_map.specs.Entries.{HasAt, HasValue, IsEntriesOf, IsEntryListIn, NoValue, NotAt, OnlyAt, Outside, SameValues, Written, WrittenAll, intervals_of};
 ghost use Rattle.ivl_map.specs.Lookups.{IsFirstRunOf, IsLastRunOf, IsStoredAt};
 
 use intervallum::interval::Interval;
@@ -449,14 +450,13 @@ pub fn counts_numbers<B: Width, V: MapValue>(map: &IntervalMap<B, V>) -> B::Outp
     map.size()
 }
 
-/// A member is a number whose value passed the test, and the value of another did not.
-pub fn numbers_that_pass<B: Width, V: MapValue, F: Fn(&V) -> bool>(
+/// The members are the numbers of the entries that passed a test, which was asked once for each entry.
+pub fn numbers_that_pass<B: Width, V: MapValue, F: FnMut(&V) -> bool>(
     map: &IntervalMap<B, V>,
     test: F,
 ) -> Result<IntervalSet<B>, AllocError>
     requires { F.IsAlwaysCallable test }
-    ensures passed { IfOk result (λ L. (z : ℤ) → Covers L z → (v : V) × IsStoredAt map.now z v × FnReturnsAt F.Fn test v true) }
-    ensures others { IfOk result (λ L. (z : ℤ) (v : V) → IsStoredAt map.now z v → Covers L z ⊎ FnReturnsAt F.Fn test v false) }
+    ensures { IfOk result (λ L. (passed : List ((ℤ × ℤ) × V)) × IsFiltered (λ f e is g. CalledAt F.FnMut f e.1 is g) test map.now passed × IsRunsOf L (Covers (intervals_of passed))) }
 {
     map.numbers_with(test)
 }

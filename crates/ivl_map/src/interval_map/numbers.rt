@@ -1,11 +1,11 @@
 //! The numbers that have values, as sets.
-ghost use Rattle.std.specs.Prelude.{◌≡◌, [], IfOk, IsOk, OnErr, OnOk};
-ghost use Rattle.std.specs.Fn.{FnReturnsAt};
+ghost use Rattle.std.specs.Prelude.{◌≡◌, ℤ, List, [], IfOk, IsOk, OnErr, OnOk};
+ghost use Rattle.std.specs.Fn.{CalledAt};
+ghost use Rattle.std.specs.List.Retain.{IsFiltered};
 ghost use Rattle.ivl_laws.specs.Sets.{IsBetween, Union};
 ghost use Rattle.ivl_laws.specs.Runs.{Covers, IsRunsOf};
 ghost use Rattle.ivl_laws.specs.Counts.{IsCountOf};
 ghost use Rattle.ivl_map.specs.Entries.{HasAt, HasValue, IsEntryList, intervals_of};
-ghost use Rattle.ivl_map.specs.Lookups.{IsTested};
 
 use super::IntervalMap;
 use crate::value::MapValue;
@@ -56,10 +56,14 @@ impl<B: Width, V: MapValue> IntervalMap<B, V> {
     /// a.insert(Interval::new(8, 9), 'b')?;
     /// assert!(rt; a.numbers_with(|value| *value == 'b')? == IntervalSet::new(alloc, 8, 9)?);
     /// ```
-    pub fn numbers_with<F: Fn(&V) -> bool>(&self, test: F) -> Result<IntervalSet<B>, AllocError>
+    pub fn numbers_with<F: FnMut(&V) -> bool>(
+        &self,
+        mut test: F,
+    ) -> Result<IntervalSet<B>, AllocError>
         requires { F.IsAlwaysCallable test }
-        // The members are the numbers for whose value the test returned true; for the values of the others it returned false.
-        ensures { IfOk result (λ L. IsTested (FnReturnsAt F.Fn test) self.now L) }
+        // The test was called once for each entry, in ascending order. The members are the numbers of those that passed.
+        ensures { IfOk result (λ L. (passed : List ((ℤ × ℤ) × V)) × IsFiltered (λ f e is g. CalledAt F.FnMut f e.1 is g) test self.now passed
+            × IsRunsOf L (Covers (intervals_of passed))) }
     {
         let mut numbers = IntervalSet::empty(self.allocator());
         for entry in self.entries.as_slice() {
