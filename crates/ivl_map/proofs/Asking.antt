@@ -1,27 +1,32 @@
 -- A test that is asked once for each entry, in turn, and the numbers of the entries that pass.
-use Rattle.std.proofs.Common.{◌≡◌, ⊎_elim, inl, inr, ℕ, suc, ◌<◌, ℤ, Bool, true, false, List, [], ◌∷◌, ◌++◌, length, length-append, get_or, take, take-suc, refl, sym, ap, subst, ◌∙◌, arith, append-nil}
+use Rattle.std.proofs.Common.{◌≡◌, ⊎_elim, inl, inr, ℕ, suc, ◌<◌, ℤ, Bool, true, false, List, [], ◌∷◌, ◌++◌, length, length-append, get_or, take, take-suc, refl, sym, ap, subst, arith}
 use Rattle.std.specs.List.{items_where_true}
-use Rattle.std.specs.List.Retain.{IsFiltered, ReturnsInTurn}
+use Rattle.std.specs.List.Retain.{ReturnsInTurn}
 use Rattle.ivl_laws.specs.Sets.{IsBetween, SameMembers, Union}
 use Rattle.ivl_laws.specs.Runs.{Covers, IsRunsOf}
 use Rattle.ivl_laws.proofs.SetLaws.{IsRunsOf-same}
 use Rattle.ivl_map.specs.Entries.{intervals_of}
 
-items_more : {X : Type 0} (bs : List Bool) (xs : List X) (x : X) (b : Bool) → length bs ≡ length xs → items_where_true (bs ++ b ∷ []) (xs ++ x ∷ []) ≡ items_where_true bs xs ++ items_where_true (b ∷ []) (x ∷ [])
-items_more [] [] x b e = refl
-items_more [] (y ∷ xs) x b e = absurd (omega arith)
-items_more (a ∷ bs) [] x b e = absurd (omega arith)
-items_more (true ∷ bs) (y ∷ xs) x b e = ap (λ l. y ∷ l) (items_more bs xs x b (omega arith))
-items_more (false ∷ bs) (y ∷ xs) x b e = items_more bs xs x b (omega arith)
-
 module _ {V : Type 0} where
-  covers_more : (E : List ((ℤ × ℤ) × V)) (e : (ℤ × ℤ) × V) → SameMembers (Union (Covers (intervals_of E)) (IsBetween e.0)) (Covers (intervals_of (E ++ e ∷ [])))
-  covers_more [] e z = (⊎_elim (λ c. absurd c) (λ b. inl b), ⊎_elim (λ b. inr b) (λ c. absurd c))
-  covers_more (f ∷ E) e z =
-      let r = covers_more E e z in (
+  -- the numbers of one entry more that passed
+  picked_in : (bs : List Bool) (E : List ((ℤ × ℤ) × V)) (e : (ℤ × ℤ) × V) → length bs ≡ length E → SameMembers (Union (Covers (intervals_of (items_where_true bs E))) (IsBetween e.0)) (Covers (intervals_of (items_where_true (bs ++ true ∷ []) (E ++ e ∷ []))))
+  picked_in [] [] e n z = (⊎_elim (λ c. absurd c) (λ b. inl b), ⊎_elim (λ b. inr b) (λ c. absurd c))
+  picked_in [] (f ∷ E) e n z = absurd (omega arith)
+  picked_in (a ∷ bs) [] e n z = absurd (omega arith)
+  picked_in (true ∷ bs) (f ∷ E) e n z =
+      let r = picked_in bs E e (omega arith) z in (
         ⊎_elim (⊎_elim (λ b. inl b) (λ c. inr (r.0 (inl c)))) (λ b. inr (r.0 (inr b))),
         ⊎_elim (λ b. inl (inl b)) (λ c. ⊎_elim (λ k. inl (inr k)) (λ k. inr k) (r.1 c)),
       )
+  picked_in (false ∷ bs) (f ∷ E) e n z = picked_in bs E e (omega arith) z
+
+  -- and one that did not
+  picked_out : (bs : List Bool) (E : List ((ℤ × ℤ) × V)) (e : (ℤ × ℤ) × V) → length bs ≡ length E → items_where_true (bs ++ false ∷ []) (E ++ e ∷ []) ≡ items_where_true bs E
+  picked_out [] [] e n = refl
+  picked_out [] (f ∷ E) e n = absurd (omega arith)
+  picked_out (a ∷ bs) [] e n = absurd (omega arith)
+  picked_out (true ∷ bs) (f ∷ E) e n = ap (λ (l : List ((ℤ × ℤ) × V)). f ∷ l) (picked_out bs E e (omega arith))
+  picked_out (false ∷ bs) (f ∷ E) e n = picked_out bs E e (omega arith)
 
 module _ {V P : Type 0} (R : P → (ℤ × ℤ) × V → Bool → P → Type 0) where
   returns_more : (p q u : P) (bs : List Bool) (E : List ((ℤ × ℤ) × V)) (e : (ℤ × ℤ) × V) (b : Bool) → length bs ≡ length E → ReturnsInTurn R p bs E q → R q e b u → ReturnsInTurn R p (bs ++ b ∷ []) (E ++ e ∷ []) u
@@ -47,13 +52,11 @@ module _ {V P : Type 0} (R : P → (ℤ × ℤ) × V → Bool → P → Type 0) 
       counted = let n = a.counted in omega (arith, length-append a.answers (true ∷ []), length-append E (e ∷ []));
       calls = returns_more p q u a.answers E e true a.counted a.calls r;
       runs =
-          let K = items_where_true a.answers E in
-          let there = covers_more K e in
-          subst (λ (l : List ((ℤ × ℤ) × V)). IsRunsOf M (Covers (intervals_of l))) (sym (items_more a.answers E e true a.counted))
-          (IsRunsOf-same (Union (Covers L) (IsBetween e.0)) (Covers (intervals_of (K ++ e ∷ []))) M (λ z. (
+          let there = picked_in a.answers E e a.counted in
+          IsRunsOf-same (Union (Covers L) (IsBetween e.0)) (Covers (intervals_of (items_where_true (a.answers ++ true ∷ []) (E ++ e ∷ [])))) M (λ z. (
             ⊎_elim (λ c. (there z).0 (inl ((a.runs.members z).0 c))) (λ b. (there z).0 (inr b)),
             (λ c. ⊎_elim (λ k. inl ((a.runs.members z).1 k)) (λ b. inr b) ((there z).1 c)),
-          )) m);
+          )) m;
     }
 
     one_out : R q e false u → IsAsked p u (E ++ e ∷ []) L
@@ -61,7 +64,7 @@ module _ {V P : Type 0} (R : P → (ℤ × ℤ) × V → Bool → P → Type 0) 
       answers = a.answers ++ false ∷ [];
       counted = let n = a.counted in omega (arith, length-append a.answers (false ∷ []), length-append E (e ∷ []));
       calls = returns_more p q u a.answers E e false a.counted a.calls r;
-      runs = subst (λ (l : List ((ℤ × ℤ) × V)). IsRunsOf L (Covers (intervals_of l))) (sym (items_more a.answers E e false a.counted ∙ append-nil (items_where_true a.answers E))) a.runs;
+      runs = subst (λ (l : List ((ℤ × ℤ) × V)). IsRunsOf L (Covers (intervals_of l))) (sym (picked_out a.answers E e a.counted)) a.runs;
     }
 
   module _ (p q u : P) (E : List ((ℤ × ℤ) × V)) (i : ℕ) (d : (ℤ × ℤ) × V) (L : List (ℤ × ℤ)) (h : i < length E) (a : IsAsked p q (take i E) L) where

@@ -333,7 +333,10 @@ pub fn has_value<B: Width, V: MapValue>(map: &IntervalMap<B, V>, number: B) -> b
 }
 
 /// The run round a number is an entry that has the number.
-pub fn run_round<B: Width, V: MapValue>(map: &IntervalMap<B, V>, number: B) -> Option<(Interval<B>, &V)>
+pub fn run_round<B: Width, V: MapValue>(
+    map: &IntervalMap<B, V>,
+    number: B,
+) -> Option<(Interval<B>, &V)>
     ensures { MatchOption result
         ((v : V) → ¬ (HasAt V.eq map.now (B.value number) v))
         (λ r. IsIn map.now (r.0, r.1.now) × IsBetween r.0 (B.value number)) }
@@ -360,7 +363,10 @@ pub fn last_is_greatest<B: Width, V: MapValue>(map: &IntervalMap<B, V>) -> Optio
 }
 
 /// The next entry is that of the least number from one on that has a value.
-pub fn next_is_least<B: Width, V: MapValue>(map: &IntervalMap<B, V>, number: B) -> Option<(Interval<B>, &V)>
+pub fn next_is_least<B: Width, V: MapValue>(
+    map: &IntervalMap<B, V>,
+    number: B,
+) -> Option<(Interval<B>, &V)>
     ensures { MatchOption result
         (HasNone (AtLeast (B.value number) (HasValue (HasAt V.eq map.now))))
         (λ r. IsIn map.now (r.0, r.1.now) × IsFirstRunOf V.eq (AtLeast (B.value number) (HasValue (HasAt V.eq map.now))) (HasAt V.eq map.now) (r.0, r.1.now)) }
@@ -369,7 +375,10 @@ pub fn next_is_least<B: Width, V: MapValue>(map: &IntervalMap<B, V>, number: B) 
 }
 
 /// The previous entry is that of the greatest number up to one that has a value.
-pub fn previous_is_greatest<B: Width, V: MapValue>(map: &IntervalMap<B, V>, number: B) -> Option<(Interval<B>, &V)>
+pub fn previous_is_greatest<B: Width, V: MapValue>(
+    map: &IntervalMap<B, V>,
+    number: B,
+) -> Option<(Interval<B>, &V)>
     ensures { MatchOption result
         (HasNone (AtMost (B.value number) (HasValue (HasAt V.eq map.now))))
         (λ r. IsIn map.now (r.0, r.1.now) × IsLastRunOf V.eq (AtMost (B.value number) (HasValue (HasAt V.eq map.now))) (HasAt V.eq map.now) (r.0, r.1.now)) }
@@ -422,7 +431,10 @@ pub fn writes_all<B: Width, V: MapValue>(
 }
 
 /// To write an empty list cannot fail.
-pub fn write_no_list<B: Width, V: MapValue>(map: &mut IntervalMap<B, V>, list: Vec<(Interval<B>, V)>)
+pub fn write_no_list<B: Width, V: MapValue>(
+    map: &mut IntervalMap<B, V>,
+    list: Vec<(Interval<B>, V)>,
+)
     requires { list.items ≡ [] }
     ensures { SameValues (HasAt V.eq map.new) (HasAt V.eq map.old) }
 {
@@ -430,14 +442,18 @@ pub fn write_no_list<B: Width, V: MapValue>(map: &mut IntervalMap<B, V>, list: V
 }
 
 /// A copy of a map equals it.
-pub fn copy_of_map<B: Width, V: MapValue>(map: &IntervalMap<B, V>) -> Result<IntervalMap<B, V>, AllocError>
+pub fn copy_of_map<B: Width, V: MapValue>(
+    map: &IntervalMap<B, V>,
+) -> Result<IntervalMap<B, V>, AllocError>
     ensures { IfOk result (λ copy. SameValues (HasAt V.eq copy) (HasAt V.eq map.now)) }
 {
     map.try_clone()
 }
 
 /// The members of the set of keys are the numbers that have a value.
-pub fn keys_have_values<B: Width, V: MapValue>(map: &IntervalMap<B, V>) -> Result<IntervalSet<B>, AllocError>
+pub fn keys_have_values<B: Width, V: MapValue>(
+    map: &IntervalMap<B, V>,
+) -> Result<IntervalSet<B>, AllocError>
     ensures { IfOk result (λ L. SameMembers (Covers L) (HasValue (HasAt V.eq map.now))) }
 {
     map.keys()
@@ -492,7 +508,10 @@ pub fn keeps_others<B: Width, V: MapValue>(
 }
 
 /// Each entry that overlaps a window is one of the map, has a number of the window, and the window's values are those of the map.
-pub fn overlaps_window<B: Width, V: MapValue>(map: &IntervalMap<B, V>, window: Interval<B>) -> &[(Interval<B>, V)]
+pub fn overlaps_window<B: Width, V: MapValue>(
+    map: &IntervalMap<B, V>,
+    window: Interval<B>,
+) -> &[(Interval<B>, V)]
     ensures whole { (e : _) → IsIn result.now e → IsIn map.now e }
     ensures overlap { All (λ e. HasSome (Intersection (IsBetween e.0) (IsBetween window))) result.now }
     ensures held { (z : ℤ) (v : V) → IsBetween window z → HasAt V.eq result.now z v ↔ HasAt V.eq map.now z v }
