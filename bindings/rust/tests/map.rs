@@ -1,5 +1,8 @@
 //! Maps of the root: each call, least inputs and the ends of the range, panics, values of several types, traits of std.
 use intervallum::map::{IntoIter, Iter, Values};
+use intervallum::proved::ivl_map::MapValue;
+use intervallum::proved::ops::{Bounded as _, Range as _};
+use intervallum::proved::{self, AllocError, Global, Interval};
 use intervallum::{Full, IntervalMap, IntervalSet, PagedSet};
 use std::collections::{BTreeMap, HashMap, HashSet};
 use std::fmt::Debug;
@@ -324,6 +327,43 @@ fn many_entries() {
     assert_eq!(falling.merge(&parts, |x, y| x + y).interval_count(), 3_000 + 2 * 2_000);
 }
 
+/// Each other call of 2,000 entries, of five numbers each and five free ones before the next.
+#[test]
+fn calls_of_many_entries() {
+    let map: Map<i32> = (0..2_000).map(|i| (10 * i..10 * i + 5, i)).collect();
+    let (some, all) = (IntervalSet::from(5_002..15_002), IntervalSet::from(0..20_000));
+    assert!(map.clone() == map && Map::from(map.iter().map(|(run, i)| (run, *i)).collect::<Vec<_>>()) == map);
+    assert_eq!((map.get(10_004), map.get(10_005), map.contains(19_994)), (Some(&1_000), None, true));
+    assert_eq!(map.get_run(15_002), Some((15_000..=15_004, &1_500)));
+    assert_eq!((map.first(), map.last()), (Some((0..=4, &0)), Some((19_990..=19_994, &1_999))));
+    assert_eq!((map.next_from(10_005), map.previous_to(10_009)), (map.get_run(10_010), map.get_run(10_000)));
+    assert_eq!((map.iter().len(), map.values().rev().next(), map.clone().into_iter().len()), (2_000, Some(&1_999), 2_000));
+    assert_eq!((map.keys().interval_count(), map.size(), all.difference(&map.keys()).interval_count()), (2_000, 10_000, 2_000));
+    assert_eq!(map.numbers_with(|i| i % 2 == 1).size(), 5_000);
+    assert_eq!((map.gaps_within(0..20_000), map.gaps_within(5..=5).size()), (all.difference(&map.keys()), 1));
+    assert_eq!((map.first_fit(2.., 5), map.first_fit(..20_000, 6)), (Some(5..=9), Some(-i32::MAX..=-i32::MAX + 5)));
+    assert_eq!((map.first_fit(0..20_000, 6), map.first_fit(0.., 6)), (None, Some(19_995..=20_000)));
+    assert_eq!((map.overlapping(5_004..15_001).count(), map.overlapping(..).count()), (1_001, 2_000));
+    assert_eq!((map.cut_to(5_002..15_002).interval_count(), map.cut_to(5_002..15_002).size()), (1_001, 5_000));
+    assert_eq!((map.restrict_to(&some), map.without(&some).interval_count()), (map.cut_to(5_002..15_002), 1_001));
+    assert_eq!(map.without(&some).merge(&map.restrict_to(&some), |_, _| unreachable!()), map);
+    assert_eq!((map.merge(&map, |x, y| x + y).get(15_001), format!("{map:?}").len() > 20_000), (Some(&3_000), true));
+
+    let mut edited = map.clone();
+    assert_eq!(edited.insert_if_free(10_005..=10_009, -1), Ok(()));
+    assert_eq!(edited.insert_if_free(10_009..=10_020, -1), Err((10_005..=10_009, &-1)));
+    assert!(edited.insert_if_free(10_015..=10_019, 1_001).is_ok() && edited.interval_count() == 2_001);
+    edited.insert(10_002, -2);
+    assert!(edited.remove(5_003) && !edited.remove(5_003..=5_003) && edited.interval_count() == 2_004);
+    edited.update(10_000..10_010, |i| i - 10);
+    assert_eq!((edited.get(10_001), edited.get(10_002), edited.get(10_005)), (Some(&990), Some(&-12), Some(&-11)));
+    edited.extend((0..2_000).map(|i| (10 * i + 5..10 * i + 10, i)));
+    assert_eq!((edited.checked_insert(5_003, 500), edited.get_run(5_000)), (Some(()), Some((5_000..=5_009, &500))));
+    assert_eq!((edited.checked_extend(map), edited.interval_count(), edited.size()), (Some(()), 2_000, 20_000));
+    edited.clear();
+    assert!(edited.is_empty() && edited == Map::new());
+}
+
 /// A value whose comparison or copy panics when it is told to.
 #[derive(Debug)]
 struct Touchy(u8);
@@ -374,4 +414,61 @@ fn a_value_that_panics_leaves_a_map() {
         );
         assert_eq!((copies, looks) == (9, 9), is_split && is_joined);
     }
+}
+
+/// A value whose drop panics when it is told to.
+#[derive(PartialEq, Eq, Debug)]
+struct Dropped(u8);
+
+thread_local! {
+    static DROPS_LEFT: std::cell::Cell<i32> = const { std::cell::Cell::new(i32::MAX) };
+}
+
+impl Drop for Dropped {
+    fn drop(&mut self) {
+        let left = DROPS_LEFT.get();
+        DROPS_LEFT.set(if left == 0 { i32::MAX } else { left - 1 });
+        assert!(left != 0, "a drop of {}", self.0);
+    }
+}
+
+impl MapValue for Dropped {
+    fn try_copy(&self) -> Result<Self, AllocError> {
+        Ok(Dropped(self.0))
+    }
+}
+
+/// What goes is dropped once the entries lie apart, so a panic in it leaves a list of maximal entries.
+#[test]
+fn a_drop_that_panics_leaves_maximal_entries() {
+    type Proved = proved::ivl_map::IntervalMap<i32, Dropped>;
+    let of = |lower, upper| Interval::new(lower, upper);
+    let edits: [fn(&mut Proved, Interval<i32>); 3] = [
+        |map, part| map.insert(part, Dropped(1)).unwrap(),
+        |map, part| map.insert(part, Dropped(9)).unwrap(),
+        |map, part| map.remove(part).unwrap(),
+    ];
+    let mut panics = 0;
+    for edit in edits {
+        for (lower, upper) in (0..30).flat_map(|lower| (lower..30).map(move |upper| (lower, upper))) {
+            for drops in 0..6 {
+                let mut map = Proved::empty(Global);
+                for (part, value) in [(of(1, 4), 1), (of(5, 9), 2), (of(12, 14), 3), (of(15, 19), 1), (of(22, 25), 2)] {
+                    map.insert(part, Dropped(value)).unwrap();
+                }
+                DROPS_LEFT.set(drops);
+                panics += i32::from(panic::catch_unwind(AssertUnwindSafe(|| edit(&mut map, of(lower, upper)))).is_err());
+                DROPS_LEFT.set(i32::MAX);
+                let apart = |a: &(Interval<i32>, Dropped), b: &(Interval<i32>, Dropped)| {
+                    a.0.upper() + i32::from(a.1 == b.1) < b.0.lower()
+                };
+                let entries = map.entries();
+                assert!(
+                    entries.windows(2).all(|pair| apart(&pair[0], &pair[1])),
+                    "{lower}..={upper}, drop {drops}: {entries:?}"
+                );
+            }
+        }
+    }
+    assert!(panics > 500, "{panics}");
 }

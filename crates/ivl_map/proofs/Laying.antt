@@ -29,6 +29,60 @@ put_again E N r zero h = refl
 put_again [] N r (suc t) h = absurd (omega arith)
 put_again {X} (x ∷ E) N r (suc t) h = ap {B = List X} (λ R. x ∷ R) (put_again E N r t (omega arith))
 
+-- ---- an interval is cut first, and what goes makes way then
+
+cut_below : {X : Type 0} (r n : X) (E : List X) (i j : ℕ) → i < length E → i < j →
+    take (suc i) (take i E ++ (r ∷ drop (suc i) E)) ++ (n ∷ drop j (take i E ++ (r ∷ drop (suc i) E))) ≡ take i E ++ (r ∷ n ∷ drop j E)
+cut_below r n [] i j h k = absurd (omega arith)
+cut_below r n (x ∷ E) zero zero h k = absurd (omega arith)
+cut_below r n (x ∷ E) zero (suc j) h k = refl
+cut_below r n (x ∷ E) (suc i) zero h k = absurd (omega arith)
+cut_below {X} r n (x ∷ E) (suc i) (suc j) h k = ap {B = List X} (λ R. x ∷ R) (cut_below r n E i j (omega arith) (omega arith))
+
+-- n in the place of those from behind r to before place j
+pub below_cut : {X : Type 0} (E M D : List X) (r n : X) (i k j : ℕ) → i < length E → k ≡ suc i → k ≤ j → M ≡ take i E ++ (r ∷ drop k E) → D ≡ take k M ++ (n ∷ drop j M) → D ≡ take i E ++ (r ∷ n ∷ drop j E)
+below_cut {X} E M D r n i k j h s l e g =
+    let P : ℕ → Type 0 = λ t. M ≡ take i E ++ (r ∷ drop t E) in
+    let Q : ℕ → Type 0 = λ t. D ≡ take t M ++ (n ∷ drop j M) in
+    subst Q s g ∙ ap (λ (L : List X). take (suc i) L ++ (n ∷ drop j L)) (subst P s e) ∙ cut_below r n E i j h (omega (arith, s, l))
+
+pub drop_taken : {X : Type 0} (E N : List X) (k : ℕ) → k ≤ length E → drop k (take k E ++ N) ≡ N
+drop_taken E N zero h = refl
+drop_taken [] N (suc k) h = absurd (omega arith)
+drop_taken (x ∷ E) N (suc k) h = drop_taken E N k (omega arith)
+
+pub take_taken : {X : Type 0} (E N : List X) (i k : ℕ) → i ≤ k → k ≤ length E → take i (take k E ++ N) ≡ take i E
+take_taken E N zero k h l = refl
+take_taken E N (suc i) zero h l = absurd (omega arith)
+take_taken [] N (suc i) (suc k) h l = absurd (omega arith)
+take_taken {X} (x ∷ E) N (suc i) (suc k) h l = ap {B = List X} (λ R. x ∷ R) (take_taken E N i k (omega arith) (omega arith))
+
+pub at_taken : {X : Type 0} (E N : List X) (i k : ℕ) (d : X) → i < k → k ≤ length E → (i < length (take k E ++ N)) × (get_or (take k E ++ N) i d ≡ get_or E i d)
+at_taken E N i zero d h l = absurd (omega arith)
+at_taken [] N i (suc k) d h l = absurd (omega arith)
+at_taken (x ∷ E) N zero (suc k) d h l = (omega arith, refl)
+at_taken (x ∷ E) N (suc i) (suc k) d h l = let (less, e) = at_taken E N i k d (omega arith) (omega arith) in (omega (arith, less), e)
+
+-- n in the place of those from place i to before r
+pub above_cut : {X : Type 0} (E M D N : List X) (n : X) (i k : ℕ) → i ≤ k → k ≤ length E → M ≡ take k E ++ N → D ≡ take i M ++ (n ∷ drop k M) → D ≡ take i E ++ (n ∷ N)
+above_cut {X} E M D N n i k h l e g =
+    g ∙ ap (λ (L : List X). take i L ++ (n ∷ drop k L)) e
+    ∙ ap (λ (L : List X). L ++ (n ∷ drop k (take k E ++ N))) (take_taken E N i k h l)
+    ∙ ap (λ (L : List X). take i E ++ (n ∷ L)) (drop_taken E N k l)
+
+-- f of the one at place i, and n, in the place of those from place i to before place k
+pub both_cut : {X : Type 0} (f : X → X) (E M D C N : List X) (n : X) (i k j : ℕ) (d : X) → i < k → k ≤ length E → j ≡ suc i → j ≤ k → M ≡ take k E ++ N → D ≡ take i M ++ (f (get_or M i d) ∷ drop j M) → C ≡ take j D ++ (n ∷ drop k D) →
+    C ≡ take i E ++ (f (get_or E i d) ∷ n ∷ N)
+both_cut {X} f E M D C N n i k j d h l s t e g c =
+    let P : List X → Type 0 = λ L. D ≡ take i L ++ (f (get_or L i d) ∷ drop j L) in
+    let T = take k E ++ N in
+    let there = at_taken E N i k d h l in
+    let r = f (get_or T i d) in
+    below_cut T D C r n i j k there.0 s t (subst P e g) c
+    ∙ ap (λ (L : List X). L ++ (r ∷ n ∷ drop k T)) (take_taken E N i k (omega arith) l)
+    ∙ ap (λ (L : List X). take i E ++ (r ∷ n ∷ L)) (drop_taken E N k l)
+    ∙ ap (λ (x : X). take i E ++ (f x ∷ n ∷ N)) there.1
+
 -- r is put in front of what was put in before
 pub two_put : {X : Type 0} (E M D N : List X) (r : X) (t : ℕ) → t ≤ length E → M ≡ take t E ++ N → D ≡ take t M ++ (r ∷ drop t M) → D ≡ take t E ++ (r ∷ N)
 two_put {X} E M D N r t h e g = g ∙ ap (λ (L : List X). take t L ++ (r ∷ drop t L)) e ∙ put_again E N r t h

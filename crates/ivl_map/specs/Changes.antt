@@ -3,8 +3,11 @@
 --     WrittenPair eq p x q y m F      the map with x at the numbers of p below q, y at those of q below p, and m at those of both; none of p and q has a value before
 --     IsMergeOf eq Gives E D M      M has at each number of both E and D what Gives says of the two values, and at the others what one of the two has
 --     IsUpdated eq Gives S E D      D has at each number of S that has a value in E what Gives says of this one, and else what E has
-use Rattle.std.specs.Prelude.{◌≡◌, ◌⊎◌, ◌↔◌, ℤ, ◌<ℤ◌, Bool, true, List}
-use Rattle.ivl_laws.specs.Sets.{IsBetween}
+--     NeedsRoom eq E e      the write of e to E may need room: its interval has a number, no entry lies within it, and no number of it, or next to it, has an equal value
+use Rattle.std.specs.Prelude.{◌≡◌, ◌⊎◌, ◌↔◌, ℤ, ◌≤ℤ◌, ◌<ℤ◌, Bool, true, List}
+use Rattle.ivl_laws.specs.Counts.{IsIn}
+use Rattle.ivl_laws.specs.Sets.{HasSome, IsBetween}
+use Rattle.intervallum.specs.Edits.{widened}
 use Rattle.ivl_map.specs.Entries.{HasAt, HasValue, IsEntryList}
 use Rattle.ivl_map.specs.Lookups.{IsStoredAt}
 
@@ -27,3 +30,8 @@ pub record IsMergeOf {V : Type 0} (eq : V → V → Bool) (Gives : V → V → V
   pub both : (z : ℤ) (v w : V) → IsStoredAt E z v → IsStoredAt D z w → (x : V) × Gives v w x × HasAt eq M z x
   pub first_alone : (z : ℤ) (v : V) → ¬ (HasValue (HasAt eq D) z) → HasAt eq M z v ↔ HasAt eq E z v
   pub second_alone : (z : ℤ) (v : V) → ¬ (HasValue (HasAt eq E) z) → HasAt eq M z v ↔ HasAt eq D z v
+
+pub record NeedsRoom {V : Type 0} (eq : V → V → Bool) (E : List ((ℤ × ℤ) × V)) (e : (ℤ × ℤ) × V) : Type 0 where
+  pub filled : HasSome (IsBetween e.0)
+  pub replaces_none : (f : (ℤ × ℤ) × V) → IsIn E f → e.0.0 ≤ℤ f.0.0 → ¬ (f.0.1 ≤ℤ e.0.1)
+  pub grows_none : (z : ℤ) → IsBetween (widened e.0) z → ¬ (HasAt eq E z e.1)

@@ -1,4 +1,4 @@
--- What is found in a map: the entry of a number, the first and the last, and the numbers whose values pass a test.
+-- What is found in a map: the entry of a number, the first and the last.
 --     IsStoredAt E z v      v is the value of an entry that has z
 --     IsFirstRunOf eq S F e, IsLastRunOf eq S F e      e is the run round the least number of S, and round the greatest
 use Rattle.std.specs.Prelude.{◌⊎◌, ℤ, pos, ◌+ℤ◌, ◌-ℤ◌, Bool, true, false, List}
@@ -27,9 +27,3 @@ pub record IsLastRunOf {V : Type 0} (eq : V → V → Bool) (S : ℤ → Type 0)
   pub at : ℤ
   pub greatest : IsGreatest at S
   pub run : IsRunOfValue eq at F e
-
--- the runs of the numbers whose stored value gives true: no number of them has another, and no other number has one
-pub record IsTested {V : Type 0} (Gives : V → Bool → Type 0) (E : List ((ℤ × ℤ) × V)) (L : List (ℤ × ℤ)) : Type 0 where
-  pub maximal : IsMaximal L
-  pub passed : (z : ℤ) → Covers L z → (v : V) × IsStoredAt E z v × Gives v true
-  pub others : (z : ℤ) (v : V) → IsStoredAt E z v → Covers L z ⊎ Gives v false

@@ -1,7 +1,9 @@
 //! The parts of entries that lie in runs, and lists of entries that grow at their end.
-ghost use Rattle.std.specs.Prelude.{◌≡◌, ◌⊎◌, ◌<◌, ◌≤◌, ◌≤ℤ◌, IfOk, MatchOption, OnErr, OnOk, length, slice_index_or};
+ghost use Rattle.std.specs.Prelude.{◌≡◌, ℤ, ◌⊎◌, ◌<◌, ◌≤◌, ◌≤ℤ◌, IfOk, MatchOption, OnErr, OnOk, length, slice_index_or};
+ghost use Rattle.ivl_laws.specs.Sets.{IsBetween};
 ghost use Rattle.ivl_laws.specs.Runs.{Covers, IsMaximal};
 ghost use Rattle.ivl_map.specs.Entries.{AllEndBelow, HasAt, IsEntriesOf, IsEntryList, OnlyAt, Written};
+ghost use Rattle.ivl_map.specs.Lookups.{IsStoredAt};
 
 use crate::value::MapValue;
 use crate::writes::put;
@@ -20,6 +22,7 @@ pub(crate) fn push_entry<B: Width, V: MapValue>(
     requires entries { IsEntryList V.eq entries.old.items }
     requires above { AllEndBelow run.0 entries.old.items }
     ensures ok { OnOk result (IsEntriesOf V.eq entries.new.items (Written V.eq run value (HasAt V.eq entries.old.items))) }
+    ensures stored { OnOk result ((z : ℤ) → IsBetween run z → IsStoredAt entries.new.items z value) }
     ensures err { OnErr result (entries.new.items ≡ entries.old.items) }
 {
     let at = entries.len();

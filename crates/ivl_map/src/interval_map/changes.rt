@@ -1,7 +1,8 @@
 //! Changes that depend on what the map has.
-ghost use Rattle.std.specs.Prelude.{◌≡◌, Ok, IfNone, IfOk, IfSome, OnErr, OnOk};
+ghost use Rattle.std.specs.Prelude.{◌≡◌, ℤ, Ok, IfNone, IfOk, IfSome, IsOk, OnErr, OnOk};
 ghost use Rattle.std.specs.Fn.{FnReturnsAt, FnReturnsAtPair};
-ghost use Rattle.ivl_laws.specs.Sets.{HasNone, Intersection, IsBetween};
+ghost use Rattle.intervallum.specs.Edits.{widened};
+ghost use Rattle.ivl_laws.specs.Sets.{HasNone, HasSome, Intersection, IsBetween};
 ghost use Rattle.ivl_map.specs.Entries.{HasAt, HasValue, IsEntriesOf, Written};
 ghost use Rattle.ivl_map.specs.Changes.{IsMergeOf, IsUpdated};
 ghost use Rattle.ivl_map.specs.Lookups.{IsFirstRunOf};
@@ -26,7 +27,8 @@ impl<B: Width, V: MapValue> IntervalMap<B, V> {
     ///
     /// # Errors
     ///
-    /// Fails only if an allocation fails. The map is then unchanged.
+    /// Fails only if an allocation fails. The map is then unchanged. Where the interval is empty, an entry is
+    /// in the way, or one that touches the interval has an equal value, it cannot fail.
     ///
     /// ```
     /// let mut a = IntervalMap::of(alloc, Interval::new(1i32, 5), 'a')?;
@@ -39,11 +41,21 @@ impl<B: Width, V: MapValue> IntervalMap<B, V> {
         interval: Interval<B>,
         value: V,
     ) -> Result<Option<Interval<B>>, AllocError>
+        // None: no number of the interval had a value. Now each has this one, and the others what they had.
         ensures free { IfOk result (λ met. IfNone met (HasNone (Intersection (IsBetween interval) (HasValue (HasAt V.eq self.old))))) }
         ensures written { IfOk result (λ met. IfNone met (IsEntriesOf V.eq self.new (Written V.eq interval value (HasAt V.eq self.old)))) }
+
+        // Some: the run of the first entry in the way, and the map is unchanged.
         ensures met { IfOk result (λ met. IfSome met (λ run. (held : V) × IsFirstRunOf V.eq (Intersection (IsBetween interval) (HasValue (HasAt V.eq self.old))) (HasAt V.eq self.old) (run, held))) }
         ensures unchanged { IfOk result (λ met. IfSome met (λ _. self.new ≡ self.old)) }
+
+        // If it fails, the map is unchanged.
         ensures err { OnErr result (self.new ≡ self.old) }
+
+        // It cannot fail where the interval is empty, where an entry is in the way, or where a number next to it has an equal value.
+        ensures empty { HasNone (IsBetween interval) → IsOk result }
+        ensures taken { HasSome (Intersection (IsBetween interval) (HasValue (HasAt V.eq self.old))) → IsOk result }
+        ensures grows { (z : ℤ) → IsBetween (widened interval) z → HasAt V.eq self.old z value → IsOk result }
     {
         self.in_order();
         if interval.is_empty() {
@@ -62,7 +74,8 @@ impl<B: Width, V: MapValue> IntervalMap<B, V> {
     ///
     /// # Errors
     ///
-    /// Fails only if `change`, an allocation or the copy of a value fails. The map is then unchanged.
+    /// Fails only if `change`, an allocation or the copy of a value fails. The map is then unchanged. Where
+    /// the interval is empty, it cannot fail.
     ///
     /// ```
     /// let mut a = IntervalMap::of(alloc, Interval::new(1i32, 9), 5u32)?;
@@ -75,8 +88,14 @@ impl<B: Width, V: MapValue> IntervalMap<B, V> {
         change: F,
     ) -> Result<(), AllocError>
         requires { F.IsAlwaysCallable change }
+        // Each number of the interval that had a value has what the function returned for it, and the others what they had.
         ensures ok { OnOk result (IsUpdated V.eq (λ v w. FnReturnsAt F.Fn change v (Ok w)) (IsBetween interval) self.old self.new) }
+
+        // If it fails, the map is unchanged.
         ensures err { OnErr result (self.new ≡ self.old) }
+
+        // It cannot fail where the interval is empty.
+        ensures empty { HasNone (IsBetween interval) → IsOk result }
     {
         self.in_order();
         if interval.is_empty() {
@@ -110,6 +129,7 @@ impl<B: Width, V: MapValue> IntervalMap<B, V> {
         both: F,
     ) -> Result<Self, AllocError>
         requires { F.IsAlwaysCallable both }
+        // Each number of both maps has what the function returned for its two values, and the others what one of the two has.
         ensures { IfOk result (λ M. IsMergeOf V.eq (λ v w x. FnReturnsAtPair F.Fn both v w (Ok x)) self.now other.now M) }
     {
         self.in_order();

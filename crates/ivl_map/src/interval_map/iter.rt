@@ -81,6 +81,7 @@ impl<B: Width, V: MapValue> IntervalMap<B, V> {
     /// assert!(rt; a.entries().len() == 1 && a.entries()[0].1 == 'a');
     /// ```
     pub fn entries(&self) -> &[(Interval<B>, V)]
+        // All entries, which ascend and stand in the range.
         ensures same { result.now ≡ self.now }
         ensures entries { IsEntryListIn B.whole V.eq self.now }
     {
@@ -96,6 +97,7 @@ impl<B: Width, V: MapValue> IntervalMap<B, V> {
     /// assert!(rt; entries.len() == 1 && entries[0].0 == Interval::new(1, 5));
     /// ```
     pub fn into_entries(self) -> Vec<(Interval<B>, V)>
+        // All entries, which ascend and stand in the range.
         ensures same { result.items ≡ self }
         ensures entries { IsEntryListIn B.whole V.eq self }
     {
@@ -114,6 +116,7 @@ impl<B: Width, V: MapValue> IntervalMap<B, V> {
     /// assert!(rt; entries.next_back() == Some(&(Interval::new(8, 9), 'b')));
     /// ```
     pub fn iter(&self) -> std::slice::Iter<'_, (Interval<B>, V)>
+        // All entries are left, which ascend and stand in the range.
         ensures rest { result.rest.now ≡ self.now }
         ensures entries { IsEntryListIn B.whole V.eq self.now }
     {
@@ -130,6 +133,7 @@ impl<B: Width, V: MapValue> IntervalMap<B, V> {
     /// }
     /// ```
     pub fn values(&self) -> Values<'_, B, V>
+        // All entries are left, which ascend and stand in the range.
         ensures rest { result ≡ self.now }
         ensures entries { IsEntryListIn B.whole V.eq self.now }
     {

@@ -20,9 +20,12 @@ impl<B: Width, V: MapValue> IntervalMap<B, V> {
     /// assert!(rt; a.get(&5) == Some(&'a') && a.get(&6).is_none());
     /// ```
     pub fn get(&self, item: &B) -> Option<&V>
+        // None if and only if the number has no value; else its value.
         ensures value { MatchOption result
             ((v : V) → ¬ (HasAt V.eq self.now (B.value item.now) v))
             (λ v. HasAt V.eq self.now (B.value item.now) v.now) }
+
+        // It is the value of an entry that has the number.
         ensures stored { IfSome result (λ v. IsStoredAt self.now (B.value item.now) v.now) }
     {
         let entries = self.entries.as_slice();
@@ -39,6 +42,7 @@ impl<B: Width, V: MapValue> IntervalMap<B, V> {
     /// assert!(rt; a.contains(&5) && !a.contains(&6));
     /// ```
     pub fn contains(&self, item: &B) -> bool
+        // True if and only if the number has a value.
         ensures { IsTrue result ↔ HasValue (HasAt V.eq self.now) (B.value item.now) }
     {
         self.get(item).is_some()
@@ -53,9 +57,12 @@ impl<B: Width, V: MapValue> IntervalMap<B, V> {
     /// assert!(rt; a.get_run(6).is_none());
     /// ```
     pub fn get_run(&self, item: B) -> Option<(Interval<B>, &V)>
+        // None if and only if the number has no value; else the longest run round it whose numbers have equal values.
         ensures run { MatchOption result
             ((v : V) → ¬ (HasAt V.eq self.now (B.value item) v))
             (λ r. IsRunOfValue V.eq (B.value item) (HasAt V.eq self.now) (r.0, r.1.now)) }
+
+        // It is one of the entries.
         ensures stored { IfSome result (λ r. IsIn self.now (r.0, r.1.now)) }
     {
         let entries = self.entries.as_slice();
@@ -74,9 +81,12 @@ impl<B: Width, V: MapValue> IntervalMap<B, V> {
     /// assert!(rt; a.first() == Some((Interval::new(1, 5), &'a')));
     /// ```
     pub fn first(&self) -> Option<(Interval<B>, &V)>
+        // None if and only if no number has a value; else the run round the least one that has.
         ensures least { MatchOption result
             (HasNone (HasValue (HasAt V.eq self.now)))
             (λ r. IsFirstRunOf V.eq (HasValue (HasAt V.eq self.now)) (HasAt V.eq self.now) (r.0, r.1.now)) }
+
+        // It is one of the entries.
         ensures stored { IfSome result (λ r. IsIn self.now (r.0, r.1.now)) }
     {
         entry_at(self.entries.as_slice(), 0)
@@ -91,9 +101,12 @@ impl<B: Width, V: MapValue> IntervalMap<B, V> {
     /// assert!(rt; a.last() == Some((Interval::new(8, 9), &'b')));
     /// ```
     pub fn last(&self) -> Option<(Interval<B>, &V)>
+        // None if and only if no number has a value; else the run round the greatest one that has.
         ensures greatest { MatchOption result
             (HasNone (HasValue (HasAt V.eq self.now)))
             (λ r. IsLastRunOf V.eq (HasValue (HasAt V.eq self.now)) (HasAt V.eq self.now) (r.0, r.1.now)) }
+
+        // It is one of the entries.
         ensures stored { IfSome result (λ r. IsIn self.now (r.0, r.1.now)) }
     {
         let entries = self.entries.as_slice();
@@ -112,9 +125,12 @@ impl<B: Width, V: MapValue> IntervalMap<B, V> {
     /// assert!(rt; a.next_from(10).is_none());
     /// ```
     pub fn next_from(&self, v: B) -> Option<(Interval<B>, &V)>
+        // None if and only if no number from `v` on has a value; else the run round the least one that has.
         ensures least { MatchOption result
             (HasNone (AtLeast (B.value v) (HasValue (HasAt V.eq self.now))))
             (λ r. IsFirstRunOf V.eq (AtLeast (B.value v) (HasValue (HasAt V.eq self.now))) (HasAt V.eq self.now) (r.0, r.1.now)) }
+
+        // It is one of the entries.
         ensures stored { IfSome result (λ r. IsIn self.now (r.0, r.1.now)) }
     {
         let entries = self.entries.as_slice();
@@ -134,9 +150,12 @@ impl<B: Width, V: MapValue> IntervalMap<B, V> {
     /// assert!(rt; a.previous_to(0).is_none());
     /// ```
     pub fn previous_to(&self, v: B) -> Option<(Interval<B>, &V)>
+        // None if and only if no number up to `v` has a value; else the run round the greatest one that has.
         ensures greatest { MatchOption result
             (HasNone (AtMost (B.value v) (HasValue (HasAt V.eq self.now))))
             (λ r. IsLastRunOf V.eq (AtMost (B.value v) (HasValue (HasAt V.eq self.now))) (HasAt V.eq self.now) (r.0, r.1.now)) }
+
+        // It is one of the entries.
         ensures stored { IfSome result (λ r. IsIn self.now (r.0, r.1.now)) }
     {
         let entries = self.entries.as_slice();

@@ -1,5 +1,7 @@
 //! Maps from an interval, from a list of writes, and from another map.
-ghost use Rattle.std.specs.Prelude.{◌≡◌, ℕ, IfOk, OnErr, OnOk, take};
+ghost use Rattle.std.specs.Prelude.{◌≡◌, ◌<◌, ℕ, [], IfOk, IsOk, OnErr, OnOk, length, slice_index_or, take};
+ghost use Rattle.ivl_laws.specs.Sets.{HasNone, IsBetween};
+ghost use Rattle.ivl_map.specs.Changes.{NeedsRoom};
 ghost use Rattle.ivl_map.specs.Entries.{HasAt, IsEntriesOf, IsEntryList, NoValue, Written, WrittenAll};
 
 use super::IntervalMap;
@@ -10,14 +12,18 @@ use std::alloc::{AllocError, Global};
 
 impl<B: Width, V: MapValue> IntervalMap<B, V> {
     /// Returns the map in which the numbers of the interval, which may be empty, have the value, and
-    /// no others have one. `O(1)`. Fails only if allocation fails.
+    /// no others have one. `O(1)`. Fails only if allocation fails, and not for an empty interval.
     ///
     /// ```
     /// let a = IntervalMap::of(alloc, Interval::new(1i32, 5), 'a')?;
     /// assert!(rt; a.get(&1) == Some(&'a') && a.get(&6).is_none());
     /// ```
     pub fn of(alloc: Global, interval: Interval<B>, value: V) -> Result<Self, AllocError>
-        ensures { IfOk result (λ E. IsEntriesOf V.eq E (Written V.eq interval value NoValue)) }
+        // The numbers of the interval have the value, and no others have one.
+        ensures written { IfOk result (λ E. IsEntriesOf V.eq E (Written V.eq interval value NoValue)) }
+
+        // It cannot fail where the interval is empty.
+        ensures empty { HasNone (IsBetween interval) → IsOk result }
     {
         let mut map = IntervalMap::empty(alloc);
         map.insert(interval, value)?;
@@ -38,6 +44,7 @@ impl<B: Width, V: MapValue> IntervalMap<B, V> {
     /// assert!(rt; a.get(&3) == Some(&'a') && a.get(&4) == Some(&'b'));
     /// ```
     pub fn from_entries(alloc: Global, list: Vec<(Interval<B>, V)>) -> Result<Self, AllocError>
+        // The elements are written one after the other, so the last one counts, and other numbers have no value.
         ensures { IfOk result (λ E. IsEntriesOf V.eq E (WrittenAll V.eq list.items NoValue)) }
     {
         let mut map = IntervalMap::empty(alloc);
@@ -53,8 +60,8 @@ impl<B: Width, V: MapValue> IntervalMap<B, V> {
     ///
     /// # Errors
     ///
-    /// Fails only if an allocation or the copy of a value fails. The elements before the one that
-    /// failed have then been written, and the others have not.
+    /// Fails only where [`IntervalMap::insert`] of an element does. The elements before this one have then
+    /// been written, and the others have not.
     ///
     /// ```
     /// let mut a = IntervalMap::of(alloc, Interval::new(1i32, 9), 'a')?;
@@ -64,8 +71,13 @@ impl<B: Width, V: MapValue> IntervalMap<B, V> {
     /// assert!(rt; a.get(&3) == Some(&'a') && a.get(&4) == Some(&'b'));
     /// ```
     pub fn extend(&mut self, list: Vec<(Interval<B>, V)>) -> Result<(), AllocError>
+        // The elements are written one after the other, so the last one counts, and other numbers have what they had.
         ensures ok { OnOk result (IsEntriesOf V.eq self.new (WrittenAll V.eq list.items (HasAt V.eq self.old))) }
-        ensures err { OnErr result ((k : ℕ) × IsEntriesOf V.eq self.new (WrittenAll V.eq (take k list.items) (HasAt V.eq self.old))) }
+
+        // If it fails, it does so at some element, whose write may need room, and the elements before this one are written.
+        ensures err { OnErr result ((k : ℕ) × (k < length list.items)
+            × IsEntriesOf V.eq self.new (WrittenAll V.eq (take k list.items) (HasAt V.eq self.old))
+            × ((d : _) → NeedsRoom V.eq self.new (slice_index_or list.items k d))) }
     {
         self.in_order();
         for (interval, value) in list {
@@ -75,14 +87,18 @@ impl<B: Width, V: MapValue> IntervalMap<B, V> {
     }
 
     /// Returns a copy of the map. `O(n)`: copies each value. Reserves `n` entries. Fails only if an
-    /// allocation or the copy of a value fails.
+    /// allocation or the copy of a value fails, and not for an empty map.
     ///
     /// ```
     /// let a = IntervalMap::of(alloc, Interval::new(1i32, 5), 'a')?;
     /// assert!(rt; a.try_clone()? == a);
     /// ```
     pub fn try_clone(&self) -> Result<Self, AllocError>
-        ensures { IfOk result (λ E. IsEntriesOf V.eq E (HasAt V.eq self.now)) }
+        // Equal values at the same numbers, and none at the others.
+        ensures values { IfOk result (λ E. IsEntriesOf V.eq E (HasAt V.eq self.now)) }
+
+        // It cannot fail where there is no entry.
+        ensures none { self.now ≡ [] → IsOk result }
     {
         self.in_order();
         let entries = copies_of(self.allocator(), &self.entries)?;
@@ -96,7 +112,8 @@ fn copies_of<B: Width, V: MapValue>(
     entries: &[(Interval<B>, V)],
 ) -> Result<Vec<(Interval<B>, V)>, AllocError>
     requires { IsEntryList V.eq entries.now }
-    ensures { IfOk result (λ made. IsEntriesOf V.eq made.items (HasAt V.eq entries.now)) }
+    ensures values { IfOk result (λ made. IsEntriesOf V.eq made.items (HasAt V.eq entries.now)) }
+    ensures none { entries.now ≡ [] → IsOk result }
 {
     let mut made = Vec::with_capacity(alloc, entries.len())?;
     for entry in entries {

@@ -1,11 +1,11 @@
 //! The numbers that have values, as sets.
-ghost use Rattle.std.specs.Prelude.{◌≡◌, IfOk, OnErr, OnOk};
-ghost use Rattle.std.specs.Fn.{FnReturnsAt};
+ghost use Rattle.std.specs.Prelude.{◌≡◌, ℤ, List, [], IfOk, IsOk, OnErr, OnOk};
+ghost use Rattle.std.specs.Fn.{CalledAt};
+ghost use Rattle.std.specs.List.Retain.{IsFiltered};
 ghost use Rattle.ivl_laws.specs.Sets.{IsBetween, Union};
 ghost use Rattle.ivl_laws.specs.Runs.{Covers, IsRunsOf};
 ghost use Rattle.ivl_laws.specs.Counts.{IsCountOf};
 ghost use Rattle.ivl_map.specs.Entries.{HasAt, HasValue, IsEntryList, intervals_of};
-ghost use Rattle.ivl_map.specs.Lookups.{IsTested};
 
 use super::IntervalMap;
 use crate::value::MapValue;
@@ -17,7 +17,7 @@ use std::alloc::{AllocError, Global};
 
 impl<B: Width, V: MapValue> IntervalMap<B, V> {
     /// Returns the set of the numbers that have a value. `O(n)`: adds each entry at the end of the
-    /// set, which grows as it is filled. Fails only if allocation fails.
+    /// set, which grows as it is filled. Fails only if allocation fails, and not for an empty map.
     ///
     /// ```
     /// let mut a = IntervalMap::of(alloc, Interval::new(1i32, 5), 'a')?;
@@ -25,7 +25,11 @@ impl<B: Width, V: MapValue> IntervalMap<B, V> {
     /// assert!(rt; a.keys()? == IntervalSet::new(alloc, 1, 9)?);
     /// ```
     pub fn keys(&self) -> Result<IntervalSet<B>, AllocError>
-        ensures { IfOk result (λ L. IsRunsOf L (HasValue (HasAt V.eq self.now))) }
+        // The members are the numbers that have a value.
+        ensures members { IfOk result (λ L. IsRunsOf L (HasValue (HasAt V.eq self.now))) }
+
+        // It cannot fail where there is no entry.
+        ensures none { self.now ≡ [] → IsOk result }
     {
         numbers_of(self.allocator(), &self.entries)
     }
@@ -38,6 +42,7 @@ impl<B: Width, V: MapValue> IntervalMap<B, V> {
     /// assert_eq!(rt; a.size(), 7u32);
     /// ```
     pub fn size(&self) -> B::Output
+        // How many numbers have a value.
         ensures { IsCountOf (B.Output.size result) (HasValue (HasAt V.eq self.now)) }
     {
         size_of(&self.entries)
@@ -51,9 +56,14 @@ impl<B: Width, V: MapValue> IntervalMap<B, V> {
     /// a.insert(Interval::new(8, 9), 'b')?;
     /// assert!(rt; a.numbers_with(|value| *value == 'b')? == IntervalSet::new(alloc, 8, 9)?);
     /// ```
-    pub fn numbers_with<F: Fn(&V) -> bool>(&self, test: F) -> Result<IntervalSet<B>, AllocError>
+    pub fn numbers_with<F: FnMut(&V) -> bool>(
+        &self,
+        mut test: F,
+    ) -> Result<IntervalSet<B>, AllocError>
         requires { F.IsAlwaysCallable test }
-        ensures { IfOk result (λ L. IsTested (FnReturnsAt F.Fn test) self.now L) }
+        // The test was called once for each entry, in ascending order. The members are the numbers of those that passed.
+        ensures { IfOk result (λ L. (passed : List ((ℤ × ℤ) × V)) × IsFiltered (λ f e is g. CalledAt F.FnMut f e.1 is g) test self.now passed
+            × IsRunsOf L (Covers (intervals_of passed))) }
     {
         let mut numbers = IntervalSet::empty(self.allocator());
         for entry in self.entries.as_slice() {
@@ -73,6 +83,7 @@ pub(super) fn numbers_of<B: Width, V: MapValue>(
 ) -> Result<IntervalSet<B>, AllocError>
     ensures runs { IfOk result (λ L. IsRunsOf L (Covers (intervals_of entries.now))) }
     ensures values { IfOk result (λ L. IsRunsOf L (HasValue (HasAt V.eq entries.now))) }
+    ensures none { entries.now ≡ [] → IsOk result }
 {
     let mut numbers = IntervalSet::empty(alloc);
     for entry in entries {

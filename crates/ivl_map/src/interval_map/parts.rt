@@ -23,6 +23,7 @@ impl<B: Width, V: MapValue> IntervalMap<B, V> {
     /// assert!(rt; a.cut_to(Interval::new(8, 20))? == IntervalMap::of(alloc, Interval::new(8, 9), 'a')?);
     /// ```
     pub fn cut_to(&self, window: Interval<B>) -> Result<Self, AllocError>
+        // The numbers of the window have what the map has there, and the others nothing.
         ensures { IfOk result (λ E. IsEntriesOf V.eq E (OnlyAt (IsBetween window) (HasAt V.eq self.now))) }
     {
         self.in_order();
@@ -41,6 +42,7 @@ impl<B: Width, V: MapValue> IntervalMap<B, V> {
     /// assert!(rt; kept == IntervalMap::of(alloc, Interval::new(8, 9), 'a')?);
     /// ```
     pub fn restrict_to(&self, set: &IntervalSet<B>) -> Result<Self, AllocError>
+        // The members of the set have what the map has there, and other numbers nothing.
         ensures { IfOk result (λ E. IsEntriesOf V.eq E (OnlyAt (Covers set.now) (HasAt V.eq self.now))) }
     {
         self.in_order();
@@ -59,6 +61,7 @@ impl<B: Width, V: MapValue> IntervalMap<B, V> {
     /// assert!(rt; left == IntervalMap::of(alloc, Interval::new(1, 2), 'a')?);
     /// ```
     pub fn without(&self, set: &IntervalSet<B>) -> Result<Self, AllocError>
+        // The members of the set have nothing, and other numbers what the map has there.
         ensures { IfOk result (λ E. IsEntriesOf V.eq E (NotAt (Covers set.now) (HasAt V.eq self.now))) }
     {
         self.in_order();

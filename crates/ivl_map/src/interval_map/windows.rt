@@ -1,6 +1,7 @@
 //! What a map has within a window.
-ghost use Rattle.std.specs.Prelude.{◌≡◌, ◌↔◌, ◌<◌, ℤ, IfOk, MatchOption};
-ghost use Rattle.ivl_laws.specs.Sets.{IsBetween, Without};
+ghost use Rattle.std.specs.Prelude.{◌≡◌, ◌↔◌, ◌<◌, ℤ, All, IfOk, MatchOption};
+ghost use Rattle.ivl_laws.specs.Counts.{IsIn};
+ghost use Rattle.ivl_laws.specs.Sets.{HasSome, Intersection, IsBetween, Without};
 ghost use Rattle.ivl_laws.specs.Runs.{IsRunsOf};
 ghost use Rattle.intervallum.specs.FirstFit.{FitsAt, IsFirstFit};
 ghost use Rattle.ivl_map.specs.Entries.{HasAt, HasValue, IsEntryListIn};
@@ -28,8 +29,15 @@ impl<B: Width, V: MapValue> IntervalMap<B, V> {
     /// assert!(rt; met.len() == 1 && met[0].0 == Interval::new(1, 5));
     /// ```
     pub fn overlapping(&self, window: Interval<B>) -> &[(Interval<B>, V)]
+        // Each is an entry of the map, and has a number of the window.
+        ensures whole { (e : _) → IsIn result.now e → IsIn self.now e }
+        ensures overlap { All (λ e. HasSome (Intersection (IsBetween e.0) (IsBetween window))) result.now }
+
+        // The numbers of the window have the values that the map has there, and the others no more than these.
         ensures held { (z : ℤ) (v : V) → IsBetween window z → HasAt V.eq result.now z v ↔ HasAt V.eq self.now z v }
         ensures part { (z : ℤ) (v : V) → HasAt V.eq result.now z v → HasAt V.eq self.now z v }
+
+        // They ascend, and stand in the range.
         ensures entries { IsEntryListIn B.whole V.eq result.now }
     {
         let entries = self.entries.as_slice();
@@ -52,6 +60,7 @@ impl<B: Width, V: MapValue> IntervalMap<B, V> {
     /// assert!(rt; a.gaps_within(Interval::new(4, 9))? == IntervalSet::new(alloc, 6, 9)?);
     /// ```
     pub fn gaps_within(&self, window: Interval<B>) -> Result<IntervalSet<B>, AllocError>
+        // The members are the numbers of the window that have no value.
         ensures { IfOk result (λ L. IsRunsOf L (Without (IsBetween window) (HasValue (HasAt V.eq self.now)))) }
     {
         let numbers = numbers_of(self.allocator(), self.overlapping(window))?;
@@ -78,6 +87,7 @@ impl<B: Width, V: MapValue> IntervalMap<B, V> {
         count: B::Output,
     ) -> Result<Option<Interval<B>>, AllocError>
         requires { 0 < B.Output.size count }
+        // None: nowhere in the window do so many numbers without a value stand in a row. Else the lowest that do.
         ensures { IfOk result (λ fit. MatchOption fit
             ((v : ℤ) → ¬ (FitsAt (B.Output.size count) (Without (IsBetween window) (HasValue (HasAt V.eq self.now))) v))
             (IsFirstFit (B.Output.size count) (Without (IsBetween window) (HasValue (HasAt V.eq self.now))))) }

@@ -1,9 +1,10 @@
-use Rattle.std.proofs.Common.{◌+◌, ◌-◌, ◌<◌, ◌∷◌, ℤ, drop, get_or, refl, sym, subst, arith, Option, Some, None}
-use Rattle.std.specs.Prelude.{IsSome}
+use Rattle.std.proofs.Common.{◌≡◌, ◌+◌, ◌-◌, ◌<◌, ⊎_elim, ◌∷◌, ◌++◌, ℤ, List, take, drop, get_or, refl, sym, subst, arith, Option, Some, None, Result}
+use Rattle.std.proofs.lemmas.Bool.{cases_lt}
+use Rattle.std.specs.Prelude.{IsSome, OnOk}
+use Rattle.std.specs.declared.alloc.AllocError.{AllocError}
 use Rattle.std.proofs.lemmas.Result.{on_ok_weaker}
 use Rattle.ivl_map.specs.Entries.{LaysBetween}
-use Rattle.ivl_map.proofs.Laying.{three_left}
-use Rattle.ivl_map.proofs.Leaving.{two_left}
+use Rattle.ivl_map.proofs.Laying.{above_cut, below_cut}
 use Rattle.ivl_map.proofs.writes.lay.Goals as goal
 
 pub returns-in-None-None-clause-ok : goal.returns-in-None-None-clause-ok
@@ -19,13 +20,29 @@ returns-in-None-None-clause-ok g c =
     let Q : Option (ℤ × ℤ) → Type 0 = λ o. LaysBetween eq E i j None r o D d in
     subst P (sym c.in-None-None.is-0) (subst Q (sym c.in-None-None.is-1) (record { last = (get_or E (j - 1) d).1; is_last = g.met.V.Eq.laws.refl _; list = h }))) c.replace.ensures.ok
 
-pub returns-in_ok-replace-in-None-Some-clause-ok : goal.returns-in_ok-replace-in-None-Some-clause-ok
-returns-in_ok-replace-in-None-Some-clause-ok g c = λ d.
+pub unwrap-requires : goal.unwrap-requires
+unwrap-requires g c =
+    let start = c.args.start in
+    let end = c.args.end in
+    ⊎_elim
+    (λ less. c.replace-in-None-Some.ensures.in_place less)
+    (λ least.
+    let S : Option (ℤ × ℤ) → Type 0 = λ o. IsSome o in
+    let some : start < end = c.requires.above (subst S (sym c.in-None-Some.is-1) refl) in
+    let room = c.in_ok-make_room.ensures.room (omega (arith, least, some)) in
+    let len = c.keep_first.ensures.len in
+    let capacity = c.keep_first.ensures.capacity in
+    c.replace-in-None-Some.ensures.succeeds (omega (arith, room, len, capacity)))
+    (cases_lt start (end - 1))
+
+pub returns-in_ok-make_room-in-None-Some-clause-ok : goal.returns-in_ok-make_room-in-None-Some-clause-ok
+returns-in_ok-make_room-in-None-Some-clause-ok g c = λ d.
     let eq = g.V.PartialEq.eq in
     let E = c.args.entries.now.items in
     let i = c.args.start in
     let j = c.args.end in
-    let D = c.keep_first.new.entries.items in
+    let M = c.keep_first.new.entries.items in
+    let D = c.replace-in-None-Some.new.entries.items in
     let r : (ℤ × ℤ) × g.row.V.Denot = (c.args.run, c.args.value) in
     let last = get_or E (j - 1) d in
     let most = c.requires.at_most in
@@ -33,29 +50,49 @@ returns-in_ok-replace-in-None-Some-clause-ok g c = λ d.
     let some : i < j = c.requires.above (subst S (sym c.in-None-Some.is-1) refl) in
     let P : Option (ℤ × ℤ) → Type 0 = λ o. LaysBetween eq E i j o r c.args.above D d in
     let Q : Option (ℤ × ℤ) → Type 0 = λ o. LaysBetween eq E i j None r o D d in
+    let R : List ((ℤ × ℤ) × g.row.V.Denot) → Type 0 = λ L. M ≡ take (j - 1) L ++ ((c.in-None-Some.high, (get_or L (j - 1) d).1) ∷ drop j L) in
+    let T : Result (Unit {0}) AllocError → Type 0 = λ t. OnOk t (D ≡ take i M ++ (r ∷ drop (j - 1) M)) in
     subst P (sym c.in-None-Some.is-0) (subst Q (sym c.in-None-Some.is-1) (record {
       last = last.1;
       is_last = g.met.V.Eq.laws.refl _;
-      list = three_left (λ f. (c.in-None-Some.high, f.1)) E c.replace-in-None-Some.new.entries.items D r i (j - 1) j (i + 1) (i + 2) d (omega (arith, some)) (omega (arith, some, most)) (omega (arith, some)) (omega arith) (omega arith)
-          c.in_ok-replace-in-None-Some.ensures.ok (c.keep_first.ensures.items d);
+      list = above_cut E M D ((c.in-None-Some.high, last.1) ∷ drop j E) r i (j - 1) (omega (arith, some)) (omega (arith, some, most)) (subst R c.make_room.ensures.items (c.keep_first.ensures.items d))
+          (subst T c.unwrap.ensures c.replace-in-None-Some.ensures.ok);
     }))
 
-pub returns-in_ok-replace-in-Some-None-clause-ok : goal.returns-in_ok-replace-in-Some-None-clause-ok
-returns-in_ok-replace-in-Some-None-clause-ok g c = λ d.
+pub unwrap-in-Some-None-requires : goal.unwrap-in-Some-None-requires
+unwrap-in-Some-None-requires g c =
+    let start = c.args.start in
+    let end = c.args.end in
+    ⊎_elim
+    (λ less. c.replace-in-Some-None.ensures.in_place less)
+    (λ least.
+    let S : Option (ℤ × ℤ) → Type 0 = λ o. IsSome o in
+    let some : start < end = c.requires.below (subst S (sym c.in-Some-None.is-0) refl) in
+    let room = c.in_ok-make_room-in-Some-None.ensures.room (omega (arith, least, some)) in
+    let len = c.keep_first-in-Some-None.ensures.len in
+    let capacity = c.keep_first-in-Some-None.ensures.capacity in
+    c.replace-in-Some-None.ensures.succeeds (omega (arith, room, len, capacity)))
+    (cases_lt (start + 1) end)
+
+pub returns-in_ok-make_room-in-Some-None-clause-ok : goal.returns-in_ok-make_room-in-Some-None-clause-ok
+returns-in_ok-make_room-in-Some-None-clause-ok g c = λ d.
     let eq = g.V.PartialEq.eq in
     let E = c.args.entries.now.items in
     let i = c.args.start in
     let j = c.args.end in
-    let D = c.keep_first-in-Some-None.new.entries.items in
+    let M = c.keep_first-in-Some-None.new.entries.items in
+    let D = c.replace-in-Some-None.new.entries.items in
     let r : (ℤ × ℤ) × g.row.V.Denot = (c.args.run, c.args.value) in
     let most = c.requires.at_most in
     let S : Option (ℤ × ℤ) → Type 0 = λ o. IsSome o in
     let some : i < j = c.requires.below (subst S (sym c.in-Some-None.is-0) refl) in
     let P : Option (ℤ × ℤ) → Type 0 = λ o. LaysBetween eq E i j o r c.args.above D d in
     let Q : Option (ℤ × ℤ) → Type 0 = λ o. LaysBetween eq E i j (Some c.in-Some-None.low) r o D d in
+    let R : List ((ℤ × ℤ) × g.row.V.Denot) → Type 0 = λ L. M ≡ take i L ++ ((c.in-Some-None.low, (get_or L i d).1) ∷ drop (i + 1) L) in
+    let T : Result (Unit {0}) AllocError → Type 0 = λ t. OnOk t (D ≡ take (i + 1) M ++ (r ∷ drop j M)) in
     subst P (sym c.in-Some-None.is-0) (subst Q (sym c.in-Some-None.is-1) (record {
       last = (get_or E (j - 1) d).1;
       is_last = g.met.V.Eq.laws.refl _;
-      list = two_left (λ f. (c.in-Some-None.low, f.1)) E c.replace-in-Some-None.new.entries.items D (r ∷ drop j E) i (i + 1) d (omega (arith, some, most)) (omega arith)
-          c.in_ok-replace-in-Some-None.ensures.ok (c.keep_first-in-Some-None.ensures.items d);
+      list = below_cut E M D (c.in-Some-None.low, (get_or E i d).1) r i (i + 1) j (omega (arith, some, most)) (omega arith) (omega (arith, some)) (subst R c.make_room-in-Some-None.ensures.items (c.keep_first-in-Some-None.ensures.items d))
+          (subst T c.unwrap-in-Some-None.ensures c.replace-in-Some-None.ensures.ok);
     }))

@@ -1,8 +1,9 @@
-use Rattle.std.proofs.Common.{◌≡◌, true, ℕ, suc, ◌+◌, ◌-◌, ◌<◌, ◌∷◌, ◌++◌, ℤ, List, Result, take, drop, get_or, length, subst, ap, ◌∙◌, arith}
+use Rattle.std.proofs.Common.{◌≡◌, true, ⊎_elim, ℕ, suc, ◌+◌, ◌-◌, ◌<◌, ◌∷◌, ◌++◌, ℤ, List, Result, take, drop, get_or, length, subst, ap, ◌∙◌, arith}
+use Rattle.std.proofs.lemmas.Bool.{cases_lt}
 use Rattle.std.specs.Prelude.{OnOk}
 use Rattle.std.specs.declared.alloc.AllocError.{AllocError}
 use Rattle.intervallum.proofs.Sweeping.{same_item}
-use Rattle.ivl_map.proofs.Laying.{three_left, two_put}
+use Rattle.ivl_map.proofs.Laying.{both_cut, two_put}
 use Rattle.ivl_map.proofs.Leaving.{two_left}
 use Rattle.ivl_map.proofs.writes.lay_between.Goals as goal
 
@@ -37,6 +38,23 @@ returns-then-end-start-eq1-clause-ok g c = λ d.
           (c.keep_first.ensures.items d);
     }
 
+pub unwrap-2-requires : goal.unwrap-2-requires
+unwrap-2-requires g c =
+    let start = c.args.start in
+    let end = c.args.end in
+    ⊎_elim
+    (λ less. c.replace.ensures.in_place less)
+    (λ least.
+    let order = c.requires.in_order in
+    let other = c.if-end-start-eq1.false in
+    let room = c.in_ok-make_room.ensures.room (omega (arith, least, order, other)) in
+    let len = c.keep_first-2.ensures.len in
+    let capacity = c.keep_first-2.ensures.capacity in
+    let len_too = c.keep_first-3.ensures.len in
+    let capacity_too = c.keep_first-3.ensures.capacity in
+    c.replace.ensures.succeeds (omega (arith, room, len, capacity, len_too, capacity_too)))
+    (cases_lt (start + 1) (end - 1))
+
 pub returns-clause-ok : goal.returns-clause-ok
 returns-clause-ok g c = λ d.
     let E = c.args.entries.now.items in
@@ -45,15 +63,17 @@ returns-clause-ok g c = λ d.
     let order = c.requires.in_order in
     let most = c.requires.at_most in
     let other = c.if-end-start-eq1.false in
-    let less : i < length E = omega (arith, order, most) in
     let r : (ℤ × ℤ) × g.row.V.Denot = (c.args.run, c.args.value) in
     let M = c.keep_first-2.new.entries.items in
+    let D = c.keep_first-3.new.entries.items in
+    let C = c.replace.new.entries.items in
     let last = get_or E (j - 1) d in
+    let R : List ((ℤ × ℤ) × g.row.V.Denot) → Type 0 = λ L. M ≡ take (j - 1) L ++ ((c.args.high, (get_or L (j - 1) d).1) ∷ drop j L) in
+    let T : Result (Unit {0}) AllocError → Type 0 = λ t. OnOk t (C ≡ take (i + 1) D ++ (r ∷ drop (j - 1) D)) in
     record {
       last = last.1;
       is_last = g.met.V.Eq.laws.refl last.1;
-      list = two_left (λ f. (c.args.low, f.1)) E M c.keep_first-3.new.entries.items (r ∷ (c.args.high, last.1) ∷ drop j E) i (i + 1) d less (omega arith)
-          (three_left (λ f. (c.args.high, f.1)) E c.replace.new.entries.items M r (i + 1) (j - 1) j (i + 2) (i + 3) d (omega (arith, order, other)) (omega (arith, order, most)) (omega (arith, order)) (omega arith) (omega arith)
-          c.in_ok-replace.ensures.ok (c.keep_first-2.ensures.items d))
-          (c.keep_first-3.ensures.items d);
+      list = both_cut (λ f. (c.args.low, f.1)) E M D C ((c.args.high, last.1) ∷ drop j E) r i (j - 1) (i + 1) d (omega (arith, order, other)) (omega (arith, order, most)) (omega arith) (omega (arith, order, other))
+          (subst R c.make_room.ensures.items (c.keep_first-2.ensures.items d)) (c.keep_first-3.ensures.items d)
+          (subst T c.unwrap-2.ensures c.replace.ensures.ok);
     }

@@ -1,6 +1,7 @@
 use Rattle.std.proofs.Common.{ℤ, List, subst, sym}
-use Rattle.std.specs.Prelude.{IfNone, IfOk, IfSome}
-use Rattle.ivl_laws.specs.Sets.{HasNone, Intersection, IsBetween}
+use Rattle.std.specs.Prelude.{IfNone, IfOk, IfSome, IsOk}
+use Rattle.intervallum.specs.Edits.{widened}
+use Rattle.ivl_laws.specs.Sets.{HasNone, HasSome, Intersection, IsBetween}
 use Rattle.ivl_map.specs.Entries.{HasAt, HasValue, IsEntriesOf, IsEntryListIn, Written}
 use Rattle.ivl_map.specs.Lookups.{IsFirstRunOf}
 use Rattle.ivl_map.proofs.Kept.{written_in}
@@ -34,3 +35,13 @@ returns-clause-met g c =
     let eq = g.V.PartialEq.eq in
     let P : List ((ℤ × ℤ) × g.row.V.Denot) → Type 0 = λ L. IfOk c.put_if_free.result (λ met. IfSome met (λ run. (held : g.row.V.Denot) × IsFirstRunOf eq (Intersection (IsBetween c.args.interval) (HasValue (HasAt eq L))) (HasAt eq L) (run, held))) in
     subst P c.self.view_is c.put_if_free.ensures.met
+
+pub returns-clause-taken : goal.returns-clause-taken
+returns-clause-taken g c =
+    let P : List ((ℤ × ℤ) × g.row.V.Denot) → Type 0 = λ L. HasSome (Intersection (IsBetween c.args.interval) (HasValue (HasAt g.V.PartialEq.eq L))) → IsOk c.put_if_free.result in
+    subst P c.self.view_is c.put_if_free.ensures.taken
+
+pub returns-clause-grows : goal.returns-clause-grows
+returns-clause-grows g c =
+    let P : List ((ℤ × ℤ) × g.row.V.Denot) → Type 0 = λ L. (z : ℤ) → IsBetween (widened c.args.interval) z → HasAt g.V.PartialEq.eq L z c.args.value → IsOk c.put_if_free.result in
+    subst P c.self.view_is c.put_if_free.ensures.grows

@@ -14,8 +14,8 @@ loop-entry-preserved g c =
     subst (λ (j : ℕ). AreCopies eq (take j E) c.push.new.self.items) more
     (subst (λ (D : List ((ℤ × ℤ) × g.row.V.Denot)). AreCopies eq (take (suc i) E) D) (sym c.in_ok-push.ensures.items) next)
 
-pub returns : goal.returns
-returns g c =
+pub returns-clause-values : goal.returns-clause-values
+returns-clause-values g c =
     let eq = g.V.PartialEq.eq in
     let E = c.args.entries.now in
     copied eq g.met.V.Eq.laws E c.loop-entry.made.items
