@@ -30,8 +30,8 @@ TWO = {
     "symmetric_difference": lambda a, b: a ^ b,
 }
 ADDED_AS = {
-    "add": lambda a, b: a.sums(b),
-    "sub": lambda a, b: a.differences(b),
+    "add": lambda a, b: a.sums(b, clipped=True),
+    "sub": lambda a, b: a.differences(b, clipped=True),
     "mul": lambda a, b: a.products(b),
 }
 ASKED = {
@@ -130,7 +130,7 @@ FLAGS = {
     "symmetric_difference": lambda a, b: a ^ b,
     "normalize": lambda a, b: a,
 }
-ADDED = {"sums": lambda x, y: x + y, "differences": lambda x, y: x - y}
+ADDED = {"sums_within": lambda x, y: x + y, "differences_within": lambda x, y: x - y}
 TRUTHS = {"overlap": lambda a, b: a & b != 0, "is_subset": lambda a, b: a & ~b == 0, "equal": lambda a, b: a == b}
 
 
@@ -379,9 +379,14 @@ def combined(kind, first, second, third):
         assert getattr(a, method)() == a
     assert set(a.sums(b)) == {x + y for x in first for y in second}, (first, second)
     least = -COUNT if a.bounds == "i64" else 0
-    assert set(a.differences(b)) == {x - y for x in first for y in second if x - y >= least}, (first, second)
+    differences = {x - y for x in first for y in second}
+    assert set(a.differences(b, clipped=True)) == {z for z in differences if z >= least}, (first, second)
+    try:
+        assert set(a.differences(b)) == differences, (first, second)
+    except intervallum.SumOutOfRange:
+        assert min(differences) < least, (first, second)
     assert ~~a == a and set((~a).intersection(second)) == second - first and not a & ~a, (first, second)
-    return 2 * len(OPERATORS) + 9 + 2 + 3
+    return 2 * len(OPERATORS) + 9 + 3 + 3
 
 
 def asked(kind, low, first, second):
@@ -480,6 +485,13 @@ def misuse():
         raises(ValueError, lambda: IntervalSet(bounds=wrong), "bounds is 'i64' or 'u64', not %r" % (wrong,))
     big = IntervalSet([2**62])
     raises(intervallum.ProductOutOfRange, lambda: big.products([2]), "a product" + signed)
+    sum_outside = "9223372036854775812 is a sum" + signed.removeprefix(" is")
+    raises(intervallum.SumOutOfRange, lambda: IntervalSet([5]).sums([2**63 - 1]), sum_outside)
+    raises(intervallum.SumOutOfRange, lambda: a.differences(~a), "is a difference outside the range of i64")
+    raises(intervallum.SumOutOfRange, lambda: unsigned.differences([4]), "-1 is a difference outside the range of u64")
+    raises(intervallum.SumOutOfRange, lambda: unsigned.sums([2**64 - 3]), "18446744073709551616 is a sum")
+    assert not IntervalSet([5]).sums([2**63 - 1], clipped=True) and not unsigned.differences([4], clipped=True)
+    assert a.sums([2**63 - 6]).max() == 2**63 - 1 and a.sums([]) == a.differences([]) == IntervalSet()
     signs = {"|": operator.or_, "&": operator.and_, "-": operator.sub, "^": operator.xor}
     for sign, call in signs.items():
         for two in ((a, unsigned), (a, {3}), ({3}, a), (a, [3]), ([3], a)):

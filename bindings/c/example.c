@@ -69,6 +69,21 @@ static void signed_numbers(void) {
     expect(ivl_overlap_i64(a, 3, b, 2) == 1 && ivl_is_subset_i64(b, 2, a, 3) == 0, "they overlap");
 }
 
+/* A sum outside the range has a code, or is left out where that is asked for. */
+static void sums(void) {
+    const ivl_pair_i64 a[] = {{5, 6}, {1, 1}, {9, 4}}, high[] = {{INT64_MAX - 5, INT64_MAX - 5}}, bad[] = {{INT64_MIN, 0}};
+    const ivl_pair_u64 small[] = {{3, 5}}, four[] = {{4, 4}};
+    ivl_pair_i64 out[4] = {{77, 0}};
+    ivl_pair_u64 numbers[2];
+
+    expect(ivl_sums_i64(a, 3, high, 1, out, 4) == IVL_SUM_OUT_OF_RANGE && out[0].lower == 77, "a sum is outside, and nothing is written");
+    expect(ivl_sums_i64(a, 3, bad, 1, out, 4) == IVL_OUT_OF_RANGE, "so is a member");
+    expect(ivl_sums_within_i64(a, 3, high, 1, out, 4) == 2 && out[1].upper == INT64_MAX, "the other sums");
+    expect(ivl_differences_i64(high, 1, a, 3, out, 4) == 2 && ivl_sums_i64(a, 3, NULL, 0, out, 4) == 0, "these fit");
+    expect(ivl_differences_u64(small, 1, four, 1, numbers, 2) == IVL_SUM_OUT_OF_RANGE, "-1 is outside");
+    expect(ivl_differences_within_u64(small, 1, four, 1, numbers, 2) == 1 && numbers[0].upper == 1, "0 and 1 are left");
+}
+
 /* Edits of a list in its own buffer. */
 static void edits(void) {
     ivl_pair_i64 runs[3] = {{1, 2}, {8, 9}, {77, 77}};
@@ -147,6 +162,7 @@ static void overlapping_arrays(void) {
 
 int main(void) {
     signed_numbers();
+    sums();
     edits();
     unsigned_numbers();
     null_pointers();

@@ -187,14 +187,15 @@ static void expect_complement(flags members) {
     count_expected = count;
 }
 
-/* The sums of members, or with `turned` the differences. */
-static void expect_sums(flags a, flags b, bool turned) {
+/* The sums of members, or with `turned` the differences. Returns whether all are in the range. */
+static bool expect_sums(flags a, flags b, bool turned) {
     flags made = 0;
     for (int j = 0; j < 64; j++)
         if (b >> j & 1)
             made |= a << (turned ? 63 - j : j);
     wide from = turned ? -63 : 2 * base;
     expect_spans(in_range(made, from), from);
+    return in_range(made, from) == made;
 }
 
 /* The least and the greatest product of two runs. Returns whether both are in the range. */
@@ -281,6 +282,8 @@ OF_TWO(difference)
 OF_TWO(symmetric_difference)
 OF_TWO(sums)
 OF_TWO(differences)
+OF_TWO(sums_within)
+OF_TWO(differences_within)
 OF_TWO(products)
 QUERY(is_subset)
 QUERY(overlap)
@@ -361,11 +364,13 @@ static void check_sets(input *in, const list *a, const list *b) {
     check_set("difference", call_difference, a, b, room, two);
     expect_spans(a->members ^ b->members, base);
     check_set("symmetric_difference", call_symmetric_difference, a, b, room, two);
-    expect_sums(a->members, b->members, false);
-    check_set("sums", call_sums, a, b, room, two);
-    expect_sums(a->members, b->members, true);
-    check_set("differences", call_differences, a, b, room, two);
-    bool fits = expect_products(a->members, b->members);
+    bool fits = expect_sums(a->members, b->members, false);
+    check_set("sums", call_sums, a, b, room, two ? two : fits ? 0 : IVL_SUM_OUT_OF_RANGE);
+    check_set("sums_within", call_sums_within, a, b, room, two);
+    fits = expect_sums(a->members, b->members, true);
+    check_set("differences", call_differences, a, b, room, two ? two : fits ? 0 : IVL_SUM_OUT_OF_RANGE);
+    check_set("differences_within", call_differences_within, a, b, room, two);
+    fits = expect_products(a->members, b->members);
     check_set("products", call_products, a, b, room, two ? two : fits ? 0 : IVL_PRODUCT_OUT_OF_RANGE);
 }
 

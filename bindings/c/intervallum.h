@@ -14,7 +14,8 @@
    signal handler, or from the forked child of a process with threads.
 
    With IVL_CHECKED defined before this header is included, each call that returns a code compares the addresses
-   first: it returns IVL_OVERLAP, and writes nothing, if what it would write overlaps an input. */
+   first: it returns IVL_OVERLAP, and writes nothing, if what it would write overlaps an input. A call by a pointer to
+   a function compares nothing. */
 #ifndef INTERVALLUM_H
 #define INTERVALLUM_H
 
@@ -22,7 +23,12 @@
 #include <stddef.h>
 #include <stdint.h>
 
+/* The version of this header, as a text and as numbers: 20000 is 2.0.0. */
 #define IVL_VERSION "2.0.0"
+#define IVL_VERSION_MAJOR 2
+#define IVL_VERSION_MINOR 0
+#define IVL_VERSION_PATCH 0
+#define IVL_VERSION_NUMBER (10000 * IVL_VERSION_MAJOR + 100 * IVL_VERSION_MINOR + IVL_VERSION_PATCH)
 
 #ifdef __cplusplus
 extern "C" {
@@ -36,6 +42,29 @@ extern "C" {
 #define IVL_PRODUCT_OUT_OF_RANGE (-3)
 /* What a call would write overlaps an input. Returned only with IVL_CHECKED. */
 #define IVL_OVERLAP (-4)
+/* Some sum or difference is outside the range. */
+#define IVL_SUM_OUT_OF_RANGE (-5)
+
+/* The number of the version of the library: compare it with IVL_VERSION_NUMBER. */
+int64_t ivl_version(void);
+
+/* What a code means, in words: a text that is not to be freed, for a result that is no code, too. */
+static inline const char *ivl_error_text(int64_t code) {
+    switch (code) {
+    case IVL_OUT_OF_RANGE:
+        return "a number is outside the range";
+    case IVL_OUT_OF_MEMORY:
+        return "an allocation failed";
+    case IVL_PRODUCT_OUT_OF_RANGE:
+        return "a product is outside the range";
+    case IVL_OVERLAP:
+        return "what the call would write overlaps an input";
+    case IVL_SUM_OUT_OF_RANGE:
+        return "a sum or a difference is outside the range";
+    default:
+        return code < 0 ? "no code of this library" : "no error";
+    }
+}
 
 /* Marks what overlaps no other argument, for compilers that warn of it. */
 #if !defined(__cplusplus)
@@ -71,10 +100,10 @@ int64_t ivl_intersection_i64(const ivl_pair_i64 *a, size_t n, const ivl_pair_i64
 int64_t ivl_difference_i64(const ivl_pair_i64 *a, size_t n, const ivl_pair_i64 *b, size_t m, ivl_pair_i64 *IVL_RESTRICT out, size_t room);
 int64_t ivl_symmetric_difference_i64(const ivl_pair_i64 *a, size_t n, const ivl_pair_i64 *b, size_t m, ivl_pair_i64 *IVL_RESTRICT out, size_t room);
 
-/* Make the set of the sums or differences of a member of `a` and one of `b` that are in the range.
-   O(n m log (n m)). */
-int64_t ivl_sums_i64(const ivl_pair_i64 *a, size_t n, const ivl_pair_i64 *b, size_t m, ivl_pair_i64 *IVL_RESTRICT out, size_t room);
-int64_t ivl_differences_i64(const ivl_pair_i64 *a, size_t n, const ivl_pair_i64 *b, size_t m, ivl_pair_i64 *IVL_RESTRICT out, size_t room);
+/* Make the set of the sums or differences of a member of `a` and one of `b` that are in the range; the others are left
+   out. `ivl_sums_i64` and `ivl_differences_i64`, below, have an error code for them. O(n m log (n m)). */
+int64_t ivl_sums_within_i64(const ivl_pair_i64 *a, size_t n, const ivl_pair_i64 *b, size_t m, ivl_pair_i64 *IVL_RESTRICT out, size_t room);
+int64_t ivl_differences_within_i64(const ivl_pair_i64 *a, size_t n, const ivl_pair_i64 *b, size_t m, ivl_pair_i64 *IVL_RESTRICT out, size_t room);
 
 /* Makes the set that holds, for each pair of runs, the numbers from their least to their greatest product:
    {[1..2]} times {[10..10]} is {[10..20]}. IVL_PRODUCT_OUT_OF_RANGE if some product is outside the range.
@@ -169,10 +198,10 @@ int64_t ivl_intersection_u64(const ivl_pair_u64 *a, size_t n, const ivl_pair_u64
 int64_t ivl_difference_u64(const ivl_pair_u64 *a, size_t n, const ivl_pair_u64 *b, size_t m, ivl_pair_u64 *IVL_RESTRICT out, size_t room);
 int64_t ivl_symmetric_difference_u64(const ivl_pair_u64 *a, size_t n, const ivl_pair_u64 *b, size_t m, ivl_pair_u64 *IVL_RESTRICT out, size_t room);
 
-/* Make the set of the sums or differences of a member of `a` and one of `b` that are in the range.
-   O(n m log (n m)). */
-int64_t ivl_sums_u64(const ivl_pair_u64 *a, size_t n, const ivl_pair_u64 *b, size_t m, ivl_pair_u64 *IVL_RESTRICT out, size_t room);
-int64_t ivl_differences_u64(const ivl_pair_u64 *a, size_t n, const ivl_pair_u64 *b, size_t m, ivl_pair_u64 *IVL_RESTRICT out, size_t room);
+/* Make the set of the sums or differences of a member of `a` and one of `b` that are in the range; the others are left
+   out. `ivl_sums_u64` and `ivl_differences_u64`, below, have an error code for them. O(n m log (n m)). */
+int64_t ivl_sums_within_u64(const ivl_pair_u64 *a, size_t n, const ivl_pair_u64 *b, size_t m, ivl_pair_u64 *IVL_RESTRICT out, size_t room);
+int64_t ivl_differences_within_u64(const ivl_pair_u64 *a, size_t n, const ivl_pair_u64 *b, size_t m, ivl_pair_u64 *IVL_RESTRICT out, size_t room);
 
 /* Makes the set that holds, for each pair of runs, the numbers from their least to their greatest product:
    {[1..2]} times {[10..10]} is {[10..20]}. IVL_PRODUCT_OUT_OF_RANGE if some product is outside the range.
@@ -286,41 +315,79 @@ static inline bool ivl_has_common(const void *x, size_t x_size, const void *y, s
     IVL_CHECKED_TWO(difference, type)                                                                                       \
     IVL_CHECKED_TWO(symmetric_difference, type)                                                                             \
     IVL_CHECKED_SIZE(type)                                                                                                  \
-    IVL_CHECKED_TWO(sums, type)                                                                                             \
-    IVL_CHECKED_TWO(differences, type)                                                                                      \
+    IVL_CHECKED_TWO(sums_within, type)                                                                                      \
+    IVL_CHECKED_TWO(differences_within, type)                                                                               \
     IVL_CHECKED_TWO(products, type)                                                                                         \
     IVL_CHECKED_FIT(type)                                                                                                   \
     IVL_CHECKED_FOUND(rank, type, number, uint64_t)                                                                         \
     IVL_CHECKED_FOUND(nth, type, uint64_t, number)
 IVL_CHECKED_ALL(i64, int64_t)
 IVL_CHECKED_ALL(u64, uint64_t)
-#define ivl_normalize_i64 ivl_checked_normalize_i64
-#define ivl_complement_i64 ivl_checked_complement_i64
-#define ivl_union_i64 ivl_checked_union_i64
-#define ivl_intersection_i64 ivl_checked_intersection_i64
-#define ivl_difference_i64 ivl_checked_difference_i64
-#define ivl_symmetric_difference_i64 ivl_checked_symmetric_difference_i64
-#define ivl_size_i64 ivl_checked_size_i64
-#define ivl_sums_i64 ivl_checked_sums_i64
-#define ivl_differences_i64 ivl_checked_differences_i64
-#define ivl_products_i64 ivl_checked_products_i64
-#define ivl_first_fit_i64 ivl_checked_first_fit_i64
-#define ivl_rank_i64 ivl_checked_rank_i64
-#define ivl_nth_i64 ivl_checked_nth_i64
-#define ivl_normalize_u64 ivl_checked_normalize_u64
-#define ivl_complement_u64 ivl_checked_complement_u64
-#define ivl_union_u64 ivl_checked_union_u64
-#define ivl_intersection_u64 ivl_checked_intersection_u64
-#define ivl_difference_u64 ivl_checked_difference_u64
-#define ivl_symmetric_difference_u64 ivl_checked_symmetric_difference_u64
-#define ivl_size_u64 ivl_checked_size_u64
-#define ivl_sums_u64 ivl_checked_sums_u64
-#define ivl_differences_u64 ivl_checked_differences_u64
-#define ivl_products_u64 ivl_checked_products_u64
-#define ivl_first_fit_u64 ivl_checked_first_fit_u64
-#define ivl_rank_u64 ivl_checked_rank_u64
-#define ivl_nth_u64 ivl_checked_nth_u64
+#define ivl_normalize_i64(...) ivl_checked_normalize_i64(__VA_ARGS__)
+#define ivl_complement_i64(...) ivl_checked_complement_i64(__VA_ARGS__)
+#define ivl_union_i64(...) ivl_checked_union_i64(__VA_ARGS__)
+#define ivl_intersection_i64(...) ivl_checked_intersection_i64(__VA_ARGS__)
+#define ivl_difference_i64(...) ivl_checked_difference_i64(__VA_ARGS__)
+#define ivl_symmetric_difference_i64(...) ivl_checked_symmetric_difference_i64(__VA_ARGS__)
+#define ivl_size_i64(...) ivl_checked_size_i64(__VA_ARGS__)
+#define ivl_sums_within_i64(...) ivl_checked_sums_within_i64(__VA_ARGS__)
+#define ivl_differences_within_i64(...) ivl_checked_differences_within_i64(__VA_ARGS__)
+#define ivl_products_i64(...) ivl_checked_products_i64(__VA_ARGS__)
+#define ivl_first_fit_i64(...) ivl_checked_first_fit_i64(__VA_ARGS__)
+#define ivl_rank_i64(...) ivl_checked_rank_i64(__VA_ARGS__)
+#define ivl_nth_i64(...) ivl_checked_nth_i64(__VA_ARGS__)
+#define ivl_normalize_u64(...) ivl_checked_normalize_u64(__VA_ARGS__)
+#define ivl_complement_u64(...) ivl_checked_complement_u64(__VA_ARGS__)
+#define ivl_union_u64(...) ivl_checked_union_u64(__VA_ARGS__)
+#define ivl_intersection_u64(...) ivl_checked_intersection_u64(__VA_ARGS__)
+#define ivl_difference_u64(...) ivl_checked_difference_u64(__VA_ARGS__)
+#define ivl_symmetric_difference_u64(...) ivl_checked_symmetric_difference_u64(__VA_ARGS__)
+#define ivl_size_u64(...) ivl_checked_size_u64(__VA_ARGS__)
+#define ivl_sums_within_u64(...) ivl_checked_sums_within_u64(__VA_ARGS__)
+#define ivl_differences_within_u64(...) ivl_checked_differences_within_u64(__VA_ARGS__)
+#define ivl_products_u64(...) ivl_checked_products_u64(__VA_ARGS__)
+#define ivl_first_fit_u64(...) ivl_checked_first_fit_u64(__VA_ARGS__)
+#define ivl_rank_u64(...) ivl_checked_rank_u64(__VA_ARGS__)
+#define ivl_nth_u64(...) ivl_checked_nth_u64(__VA_ARGS__)
 #endif
+
+/* Make the set of the sums or differences of a member of `a` and one of `b`: IVL_SUM_OUT_OF_RANGE if one of them is
+   outside the range. O(n m log (n m)). They are of this header, over `ivl_sums_within` and `ivl_differences_within`:
+
+   int64_t ivl_sums_i64(const ivl_pair_i64 *a, size_t n, const ivl_pair_i64 *b, size_t m, ivl_pair_i64 *out, size_t room)
+   int64_t ivl_differences_i64(..), and both for u64 */
+#define IVL_DEFINE_HULL(type)                                                                                               \
+    /* Whether the list has a member; then the least and the greatest are written. */                                       \
+    static inline bool ivl_hull_##type(const ivl_pair_##type *a, size_t n, ivl_pair_##type *IVL_RESTRICT hull) {            \
+        bool has_member = false;                                                                                            \
+        for (size_t i = 0; i < n; i++) {                                                                                    \
+            if (a[i].lower > a[i].upper)                                                                                    \
+                continue;                                                                                                   \
+            if (!has_member || a[i].lower < hull->lower)                                                                    \
+                hull->lower = a[i].lower;                                                                                   \
+            if (!has_member || a[i].upper > hull->upper)                                                                    \
+                hull->upper = a[i].upper;                                                                                   \
+            has_member = true;                                                                                              \
+        }                                                                                                                   \
+        return has_member;                                                                                                  \
+    }
+/* `x` and `y` are what the lists reach over; a member outside the range has the code of the call below. */
+#define IVL_DEFINE_SUMS(name, type, is_inside, fits)                                                                        \
+    static inline int64_t ivl_##name##_##type(const ivl_pair_##type *a, size_t n, const ivl_pair_##type *b, size_t m,       \
+                                              ivl_pair_##type *IVL_RESTRICT out, size_t room) {                             \
+        ivl_pair_##type x, y;                                                                                               \
+        if (ivl_hull_##type(a, n, &x) && ivl_hull_##type(b, m, &y) && (is_inside) && !(fits))                               \
+            return IVL_SUM_OUT_OF_RANGE;                                                                                    \
+        return ivl_##name##_within_##type(a, n, b, m, out, room);                                                           \
+    }
+IVL_DEFINE_HULL(i64)
+IVL_DEFINE_HULL(u64)
+IVL_DEFINE_SUMS(sums, i64, x.lower > INT64_MIN && y.lower > INT64_MIN,
+                (y.lower >= 0 || x.lower >= -INT64_MAX - y.lower) && (y.upper <= 0 || x.upper <= INT64_MAX - y.upper))
+IVL_DEFINE_SUMS(differences, i64, x.lower > INT64_MIN && y.lower > INT64_MIN,
+                (y.upper <= 0 || x.lower >= -INT64_MAX + y.upper) && (y.lower >= 0 || x.upper <= INT64_MAX + y.lower))
+IVL_DEFINE_SUMS(sums, u64, x.upper < UINT64_MAX && y.upper < UINT64_MAX, x.upper < UINT64_MAX - y.upper)
+IVL_DEFINE_SUMS(differences, u64, x.upper < UINT64_MAX && y.upper < UINT64_MAX, x.lower >= y.upper)
 
 #ifdef __cplusplus
 }

@@ -118,6 +118,7 @@ static const struct {
     {"union", ivl_union_i64}, {"intersection", ivl_intersection_i64}, {"difference", ivl_difference_i64},
     {"symmetric_difference", ivl_symmetric_difference_i64}, {"complement", complement}, {"is_subset", is_subset},
     {"overlap", overlap}, {"equal", equal}, {"sums", ivl_sums_i64}, {"differences", ivl_differences_i64},
+    {"sums_within", ivl_sums_within_i64}, {"differences_within", ivl_differences_within_i64},
     {"products", ivl_products_i64}, {"normalize", normalize}, {"size", size_of}, {"first_fit", first_fit},
     {"rank", rank}, {"nth", nth}, {"insert", insert}, {"remove", remove_run},
 };

@@ -33,7 +33,7 @@ from typing import Any, Iterable, Iterator, Literal, Sequence, SupportsIndex, Un
 from ._calls import NUMBER, SHAPES, Call, Calls
 
 __version__ = "2.0.0"
-__all__ = ["IntervalSet", "OutOfMemory", "OutOfRange", "ProductOutOfRange", "Runs"]
+__all__ = ["IntervalSet", "OutOfMemory", "OutOfRange", "ProductOutOfRange", "Runs", "SumOutOfRange"]
 
 
 def _optional(name: str) -> Any:
@@ -56,6 +56,10 @@ class OutOfRange(ValueError):
 
 class ProductOutOfRange(OutOfRange):
     """A product of members is outside the range."""
+
+
+class SumOutOfRange(OutOfRange):
+    """A sum or a difference of members is outside the range."""
 
 
 class OutOfMemory(MemoryError):
@@ -108,6 +112,12 @@ class _Bounds(Calls):
 
     def outside(self, value: int) -> OutOfRange:
         return OutOfRange("%d is outside the range of %s, from %d to %d" % (value, self.name, *self.range))
+
+    def fitting(self, what: str, least: int, greatest: int) -> None:
+        low, high = self.range
+        if least < low or high < greatest:
+            value = least if least < low else greatest
+            raise SumOutOfRange("%d is a %s outside the range of %s, from %d to %d" % (value, what, self.name, low, high))
 
     def checked(self, told: int) -> int:
         if told == -1:
@@ -292,21 +302,39 @@ class IntervalSet(collections.abc.Set[int]):
         """Returns the members of exactly one set."""
         return self._merged(self._type.symmetric_difference, [other])
 
-    def sums(self, other: Iterable[Item]) -> IntervalSet:
-        """Returns the sums of a member of each set that are in the range.
+    def sums(self, other: Iterable[Item], *, clipped: bool = False) -> IntervalSet:
+        """Returns the sums of a member of each set.
+
+        Raises `SumOutOfRange` if one of them is outside the range; `clipped` leaves such out.
 
         >>> IntervalSet([(1, 2), (9, 9)]).sums(IntervalSet([(10, 10)]))
         IntervalSet([(11, 12), (19, 19)])
+        >>> IntervalSet([(5, 6)]).sums([2**63 - 6], clipped=True)
+        IntervalSet([(9223372036854775807, 9223372036854775807)])
+        >>> IntervalSet([5, 6]).sums([2**63 - 6])
+        Traceback (most recent call last):
+        intervallum.SumOutOfRange: 9223372036854775808 is a sum outside the range of i64, from -9223372036854775807 to 9223372036854775807
         """
-        return self._with(self._type.sums, self._taken(other))
+        taken = self._taken(other)
+        if self and taken and not clipped:
+            self._type.fitting("sum", self.min() + taken.min(), self.max() + taken.max())
+        return self._with(self._type.sums_within, taken)
 
-    def differences(self, other: Iterable[Item]) -> IntervalSet:
-        """Returns the differences of a member of this set and one of the other that are in the range.
+    def differences(self, other: Iterable[Item], *, clipped: bool = False) -> IntervalSet:
+        """Returns the differences of a member of this set and one of the other.
 
-        >>> IntervalSet([(0, 5)], bounds="u64").differences(IntervalSet([(3, 3)], bounds="u64"))
+        Raises `SumOutOfRange` if one of them is outside the range; `clipped` leaves such out.
+
+        >>> IntervalSet([(3, 5)], bounds="u64").differences([3])
         IntervalSet([(0, 2)], bounds='u64')
+        >>> IntervalSet([(0, 5)], bounds="u64").differences([3])
+        Traceback (most recent call last):
+        intervallum.SumOutOfRange: -3 is a difference outside the range of u64, from 0 to 18446744073709551614
         """
-        return self._with(self._type.differences, self._taken(other))
+        taken = self._taken(other)
+        if self and taken and not clipped:
+            self._type.fitting("difference", self.min() - taken.max(), self.max() - taken.min())
+        return self._with(self._type.differences_within, taken)
 
     def products(self, other: Iterable[Item]) -> IntervalSet:
         """Returns, for each pair of runs, the numbers from their least to their greatest product.

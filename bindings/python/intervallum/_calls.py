@@ -22,8 +22,8 @@ SHAPES: dict[str, tuple[list[Any], Any]] = {
     "size": ([POINTER, COUNT, POINTER], ctypes.c_int64),
     "contains": ([POINTER, COUNT, NUMBER], ctypes.c_bool),
     "contains_sorted": ([POINTER, COUNT, NUMBER], ctypes.c_bool),
-    "sums": ([POINTER, COUNT, POINTER, COUNT, POINTER, COUNT], ctypes.c_int64),
-    "differences": ([POINTER, COUNT, POINTER, COUNT, POINTER, COUNT], ctypes.c_int64),
+    "sums_within": ([POINTER, COUNT, POINTER, COUNT, POINTER, COUNT], ctypes.c_int64),
+    "differences_within": ([POINTER, COUNT, POINTER, COUNT, POINTER, COUNT], ctypes.c_int64),
     "products": ([POINTER, COUNT, POINTER, COUNT, POINTER, COUNT], ctypes.c_int64),
     "next_from": ([POINTER, COUNT, NUMBER, POINTER], ctypes.c_bool),
     "next_from_sorted": ([POINTER, COUNT, NUMBER, POINTER], ctypes.c_bool),
@@ -54,8 +54,8 @@ class Calls:
     size: Call
     contains: Call
     contains_sorted: Call
-    sums: Call
-    differences: Call
+    sums_within: Call
+    differences_within: Call
     products: Call
     next_from: Call
     next_from_sorted: Call

@@ -150,7 +150,7 @@ pub extern "C" fn ivl_contains_sorted_i64(a: &[PairI64], v: i64) -> bool
 
 /// Writes the sums of a member of each list that are in the range. `O(n m log (n m))`.
 #[unsafe(no_mangle)]
-pub extern "C" fn ivl_sums_i64(
+pub extern "C" fn ivl_sums_within_i64(
     alloc: Global,
     a: &[PairI64],
     b: &[PairI64],
@@ -166,7 +166,7 @@ pub extern "C" fn ivl_sums_i64(
 /// Writes the differences of a member of `a` and one of `b` that are in the range.
 /// `O(n m log (n m))`.
 #[unsafe(no_mangle)]
-pub extern "C" fn ivl_differences_i64(
+pub extern "C" fn ivl_differences_within_i64(
     alloc: Global,
     a: &[PairI64],
     b: &[PairI64],

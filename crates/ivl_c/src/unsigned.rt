@@ -150,7 +150,7 @@ pub extern "C" fn ivl_contains_sorted_u64(a: &[PairU64], v: u64) -> bool
 
 /// Writes the sums of a member of each list that are in the range. `O(n m log (n m))`.
 #[unsafe(no_mangle)]
-pub extern "C" fn ivl_sums_u64(
+pub extern "C" fn ivl_sums_within_u64(
     alloc: Global,
     a: &[PairU64],
     b: &[PairU64],
@@ -166,7 +166,7 @@ pub extern "C" fn ivl_sums_u64(
 /// Writes the differences of a member of `a` and one of `b` that are in the range.
 /// `O(n m log (n m))`.
 #[unsafe(no_mangle)]
-pub extern "C" fn ivl_differences_u64(
+pub extern "C" fn ivl_differences_within_u64(
     alloc: Global,
     a: &[PairU64],
     b: &[PairU64],

@@ -87,13 +87,13 @@ unsafe extern "C" fn ivl_contains_sorted_i64(a: *const PairI64, n: usize, v: i64
 }
 
 #[unsafe(no_mangle)]
-unsafe extern "C" fn ivl_sums_i64(a: *const PairI64, n: usize, b: *const PairI64, m: usize, out: *mut PairI64, room: usize) -> i64 {
+unsafe extern "C" fn ivl_sums_within_i64(a: *const PairI64, n: usize, b: *const PairI64, m: usize, out: *mut PairI64, room: usize) -> i64 {
     let (a, b, out) = unsafe { (list(a, n), list(b, m), buffer(out, room)) };
     of_members(Global, Adding::Sum, a, b, out)
 }
 
 #[unsafe(no_mangle)]
-unsafe extern "C" fn ivl_differences_i64(a: *const PairI64, n: usize, b: *const PairI64, m: usize, out: *mut PairI64, room: usize) -> i64 {
+unsafe extern "C" fn ivl_differences_within_i64(a: *const PairI64, n: usize, b: *const PairI64, m: usize, out: *mut PairI64, room: usize) -> i64 {
     let (a, b, out) = unsafe { (list(a, n), list(b, m), buffer(out, room)) };
     of_members(Global, Adding::Difference, a, b, out)
 }
@@ -231,13 +231,13 @@ unsafe extern "C" fn ivl_contains_sorted_u64(a: *const PairU64, n: usize, v: u64
 }
 
 #[unsafe(no_mangle)]
-unsafe extern "C" fn ivl_sums_u64(a: *const PairU64, n: usize, b: *const PairU64, m: usize, out: *mut PairU64, room: usize) -> i64 {
+unsafe extern "C" fn ivl_sums_within_u64(a: *const PairU64, n: usize, b: *const PairU64, m: usize, out: *mut PairU64, room: usize) -> i64 {
     let (a, b, out) = unsafe { (list(a, n), list(b, m), buffer(out, room)) };
     of_members(Global, Adding::Sum, a, b, out)
 }
 
 #[unsafe(no_mangle)]
-unsafe extern "C" fn ivl_differences_u64(a: *const PairU64, n: usize, b: *const PairU64, m: usize, out: *mut PairU64, room: usize) -> i64 {
+unsafe extern "C" fn ivl_differences_within_u64(a: *const PairU64, n: usize, b: *const PairU64, m: usize, out: *mut PairU64, room: usize) -> i64 {
     let (a, b, out) = unsafe { (list(a, n), list(b, m), buffer(out, room)) };
     of_members(Global, Adding::Difference, a, b, out)
 }
