@@ -92,6 +92,8 @@ impl<B: Width> IntervalSet<B> {
     ///
     /// # Proved
     ///
+    /// The result is the empty set.
+    ///
     /// ```text
     /// ensures { result ≡ [] }
     /// ```
@@ -119,6 +121,8 @@ impl<B: Width> IntervalSet<B> {
     ///
     /// # Proved
     ///
+    /// On success, the result is the one run from `lb` to `ub`.
+    ///
     /// ```text
     /// requires in_range { IsInRange B.whole (B.value lb, B.value ub) }
     /// requires in_order { B.value lb ≤ℤ B.value ub }
@@ -126,6 +130,7 @@ impl<B: Width> IntervalSet<B> {
     /// ```
     ///
     /// Words: [`IsInRange`](crate::definitions#IsInRange).
+    #[cfg_attr(debug_assertions, track_caller)]
     pub fn new(alloc: Global, lb: B, ub: B) -> Result<Self, AllocError> {
         debug_assert!({ #[allow(unused_imports)] use crate::proved::ivl_interval::ops::*; Interval::in_range(lb, ub) && lb <= ub }, "{}", "the condition of `new` is broken: Interval::in_range(lb, ub) && lb <= ub");
         let run = Interval::new(lb, ub);
@@ -152,7 +157,7 @@ impl<B: Width> IntervalSet<B> {
     ///
     /// # Proved
     ///
-    /// The answer is the number of runs, which are ascending, lie in the range, and neither overlap nor touch.
+    /// The result is the number of runs, which are ascending, lie in the range, and neither overlap nor touch.
     ///
     /// ```text
     /// ensures count { result ≡ length self.now }
@@ -182,7 +187,7 @@ impl<B: Width> IntervalSet<B> {
     ///
     /// # Proved
     ///
-    /// The iterator yields the list of the runs, each of which has a number.
+    /// The iterator yields the runs in order; they are ascending, not empty, lie in the range, and neither overlap nor touch.
     ///
     /// ```text
     /// ensures rest { result.rest.now ≡ self.now }
@@ -266,6 +271,8 @@ impl<B: Width> IsEmpty for IntervalSet<B> {
     ///
     /// # Proved
     ///
+    /// True exactly when there is no member, and so no run; after false there is a member.
+    ///
     /// ```text
     /// ensures members { IsTrue result ↔ HasNone (Covers self.now) }
     /// ensures filled { ¬ (IsTrue result) → HasSome (Covers self.now) }
@@ -302,7 +309,7 @@ impl<B: Width> PartialEq for IntervalSet<B> {
     ///
     /// # Proved
     ///
-    /// It is true exactly when both sets have the same members.
+    /// True exactly when both sets have the same members.
     ///
     /// ```text
     /// ensures value { result ≡ same_runs self.now other.now }

@@ -12,6 +12,8 @@ use crate::proved::ivl_buffers::sorted_lookup::{pair_at, search};
 ///
 /// # Proved
 ///
+/// After true the number written is a member that is at most `v`; after false nothing is written. If the list is in order, the number is the greatest such member, and false says that there is none.
+///
 /// ```text
 /// ensures member { IsTrue result → AtMost (R.Bound.value v) (Covers (map R.pair runs.now)) (R.Bound.value found.new) }
 /// ensures same { result ≡ false → R.Bound.value found.new ≡ R.Bound.value found.old }
@@ -54,6 +56,8 @@ fn greatest_in<R: Pair>(run: R, v: R::Bound) -> Option<R::Bound> {
 /// does not allocate.
 ///
 /// # Proved
+///
+/// After true the pair written holds `v`, and its numbers are members; after false nothing is written. If the list is in order, true exactly when `v` is a member; of a list of runs, the pair is the run.
 ///
 /// ```text
 /// ensures member { IsTrue result → IsBetween (R.pair found.new) (R.Bound.value v) × IsSubset (IsBetween (R.pair found.new)) (Covers (map R.pair runs.now)) }

@@ -27,6 +27,8 @@ pub enum Asking {
 ///
 /// # Proved
 ///
+/// The result is `out_of_range` exactly when a member is outside the range; else 1 if what is asked holds of the members and 0 if not, or `out_of_memory`.
+///
 /// ```text
 /// ensures { AnswersQuestion R.Bound.whole (Union (Covers (map R.pair a.now)) (Covers (map R.pair b.now)))
 ///     (HoldsOf asking (Covers (map R.pair a.now)) (Covers (map R.pair b.now))) result }
@@ -79,6 +81,8 @@ fn asked<R: Pair>(alloc: Global, asking: Asking, a: &[R], b: &[R]) -> Result<boo
 /// Writes the number of members and returns 0, or returns an error code.
 ///
 /// # Proved
+///
+/// The result is `out_of_range` exactly when a member is outside the range; else the number of members is written, and 0 returned, or it is `out_of_memory`. With a code nothing is written.
 ///
 /// ```text
 /// ensures { AnswersSize R.Bound.whole (Covers (map R.pair a.now))

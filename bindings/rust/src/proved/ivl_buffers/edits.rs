@@ -23,6 +23,8 @@ pub enum Editing {
 ///
 /// # Proved
 ///
+/// The result is `out_of_range` exactly when a number of the first `n` pairs or of the run is outside the range; else the runs of the members of these pairs with the numbers of the run, or without them, are written if there is room, and their number is returned, or it is `out_of_memory`. With a code nothing is written.
+///
 /// ```text
 /// ensures { AnswersSet R.Bound.whole (Union (Covers (take n (map R.pair buffer.old))) (IsBetween (R.pair run)))
 ///     (EditedBy editing (R.pair run) (Covers (take n (map R.pair buffer.old))))

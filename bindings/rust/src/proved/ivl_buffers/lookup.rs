@@ -16,6 +16,8 @@ use crate::rattle::std::alloc::{AllocError, Global};
 ///
 /// # Proved
 ///
+/// After true the number written is the least member that is at least `v`; after false there is none, and nothing is written.
+///
 /// ```text
 /// ensures { AnswersNext (R.Bound.value v) (Covers (map R.pair runs.now)) (R.Bound.value found.old) (R.Bound.value found.new) result }
 /// ```
@@ -43,6 +45,8 @@ fn least_from<R: Pair>(runs: &[R], v: R::Bound) -> Option<R::Bound> {
 /// Returns the least number of a pair that is at least `v`.
 ///
 /// # Proved
+///
+/// The result is the least number of the run that is at least `v`, or `None` if there is none.
 ///
 /// ```text
 /// ensures { IsNextIn (R.Bound.value v) (IsBetween (R.pair run)) (option_map R.Bound.value result) }
@@ -72,6 +76,8 @@ fn lesser<B: Width>(a: Option<B>, b: Option<B>) -> Option<B> {
 /// an error code.
 ///
 /// # Proved
+///
+/// The result is `out_of_range` exactly when a member is outside the range; else the lowest `count` members in a row are written, and 1 returned, or there are none, and 0 is returned, or it is `out_of_memory`. Without 1 nothing is written.
 ///
 /// ```text
 /// ensures { AnswersFit R.Bound.whole (R.Bound.Output.size count) (Covers (map R.pair a.now)) (R.pair found.old) (R.pair found.new) result }

@@ -15,6 +15,8 @@ use crate::proved::ivl_merges::sink::Places;
 ///
 /// # Proved
 ///
+/// The runs of exactly the numbers in both lists are laid in the slice, as many as it has places, and the number of all is returned, at most as many as the two lists have together.
+///
 /// ```text
 /// requires first { IsRunListIn R.Bound.whole (map R.pair a.now) }
 /// requires second { IsRunListIn R.Bound.whole (map R.pair b.now) }
@@ -25,6 +27,7 @@ use crate::proved::ivl_merges::sink::Places;
 /// ```
 ///
 /// Words: [`IsRunListIn`](crate::definitions#IsRunListIn), [`IsLaid`](crate::definitions#IsLaid), [`Intersection`](crate::definitions#Intersection), [`Covers`](crate::definitions#Covers).
+#[cfg_attr(debug_assertions, track_caller)]
 pub fn intersection<R: Pair>(a: &[R], b: &[R], out: &mut [R]) -> usize {
     debug_assert!({ #[allow(unused_imports)] use crate::proved::ivl_interval::ops::*; crate::proved::ivl_buffers::run_lists::is_run_list(a) && crate::proved::ivl_buffers::run_lists::is_run_list(b) }, "{}", "the condition of `intersection` is broken: crate::proved::ivl_buffers::run_lists::is_run_list(a) && crate::proved::ivl_buffers::run_lists::is_run_list(b)");
     let mut made = Places::new(out);
@@ -36,6 +39,8 @@ pub fn intersection<R: Pair>(a: &[R], b: &[R], out: &mut [R]) -> usize {
 ///
 /// # Proved
 ///
+/// The runs of exactly the numbers in `a` and not in `b` are laid in the slice, as many as it has places, and the number of all is returned, at most as many as the two lists have together.
+///
 /// ```text
 /// requires first { IsRunListIn R.Bound.whole (map R.pair a.now) }
 /// requires second { IsRunListIn R.Bound.whole (map R.pair b.now) }
@@ -46,6 +51,7 @@ pub fn intersection<R: Pair>(a: &[R], b: &[R], out: &mut [R]) -> usize {
 /// ```
 ///
 /// Words: [`IsRunListIn`](crate::definitions#IsRunListIn), [`IsLaid`](crate::definitions#IsLaid), [`Without`](crate::definitions#Without), [`Covers`](crate::definitions#Covers).
+#[cfg_attr(debug_assertions, track_caller)]
 pub fn difference<R: Pair>(a: &[R], b: &[R], out: &mut [R]) -> usize {
     debug_assert!({ #[allow(unused_imports)] use crate::proved::ivl_interval::ops::*; crate::proved::ivl_buffers::run_lists::is_run_list(a) && crate::proved::ivl_buffers::run_lists::is_run_list(b) }, "{}", "the condition of `difference` is broken: crate::proved::ivl_buffers::run_lists::is_run_list(a) && crate::proved::ivl_buffers::run_lists::is_run_list(b)");
     let mut made = Places::new(out);
@@ -57,6 +63,8 @@ pub fn difference<R: Pair>(a: &[R], b: &[R], out: &mut [R]) -> usize {
 ///
 /// # Proved
 ///
+/// The runs of exactly the numbers of the range that are not in the list are laid in the slice, as many as it has places, and the number of all is returned, at most one more than the list has.
+///
 /// ```text
 /// requires runs { IsRunListIn R.Bound.whole (map R.pair runs.now) }
 /// requires counted { length runs.now < 2 ^ 62 }
@@ -65,6 +73,7 @@ pub fn difference<R: Pair>(a: &[R], b: &[R], out: &mut [R]) -> usize {
 /// ```
 ///
 /// Words: [`IsRunListIn`](crate::definitions#IsRunListIn), [`IsLaid`](crate::definitions#IsLaid), [`Complement`](crate::definitions#Complement), [`Covers`](crate::definitions#Covers).
+#[cfg_attr(debug_assertions, track_caller)]
 pub fn complement<R: Pair>(runs: &[R], out: &mut [R]) -> usize {
     debug_assert!({ #[allow(unused_imports)] use crate::proved::ivl_interval::ops::*; crate::proved::ivl_buffers::run_lists::is_run_list(runs) }, "{}", "the condition of `complement` is broken: crate::proved::ivl_buffers::run_lists::is_run_list(runs)");
     let mut made = Places::new(out);
@@ -76,6 +85,8 @@ pub fn complement<R: Pair>(runs: &[R], out: &mut [R]) -> usize {
 ///
 /// # Proved
 ///
+/// The runs of exactly the numbers in either list are laid in the slice, as many as it has places, and the number of all is returned, at most as many as the two lists have together.
+///
 /// ```text
 /// requires first { IsRunListIn R.Bound.whole (map R.pair a.now) }
 /// requires second { IsRunListIn R.Bound.whole (map R.pair b.now) }
@@ -86,6 +97,7 @@ pub fn complement<R: Pair>(runs: &[R], out: &mut [R]) -> usize {
 /// ```
 ///
 /// Words: [`IsRunListIn`](crate::definitions#IsRunListIn), [`IsLaid`](crate::definitions#IsLaid), [`Union`](crate::definitions#Union), [`Covers`](crate::definitions#Covers).
+#[cfg_attr(debug_assertions, track_caller)]
 pub fn union<R: Pair>(a: &[R], b: &[R], out: &mut [R]) -> usize {
     debug_assert!({ #[allow(unused_imports)] use crate::proved::ivl_interval::ops::*; crate::proved::ivl_buffers::run_lists::is_run_list(a) && crate::proved::ivl_buffers::run_lists::is_run_list(b) }, "{}", "the condition of `union` is broken: crate::proved::ivl_buffers::run_lists::is_run_list(a) && crate::proved::ivl_buffers::run_lists::is_run_list(b)");
     let mut made = Places::new(out);
@@ -97,6 +109,8 @@ pub fn union<R: Pair>(a: &[R], b: &[R], out: &mut [R]) -> usize {
 ///
 /// # Proved
 ///
+/// The runs of exactly the numbers in either list and not in both are laid in the slice, as many as it has places, and the number of all is returned, at most as many as the two lists have together.
+///
 /// ```text
 /// requires first { IsRunListIn R.Bound.whole (map R.pair a.now) }
 /// requires second { IsRunListIn R.Bound.whole (map R.pair b.now) }
@@ -107,6 +121,7 @@ pub fn union<R: Pair>(a: &[R], b: &[R], out: &mut [R]) -> usize {
 /// ```
 ///
 /// Words: [`IsRunListIn`](crate::definitions#IsRunListIn), [`IsLaid`](crate::definitions#IsLaid), [`SymmetricDifference`](crate::definitions#SymmetricDifference), [`Covers`](crate::definitions#Covers).
+#[cfg_attr(debug_assertions, track_caller)]
 pub fn symmetric_difference<R: Pair>(a: &[R], b: &[R], out: &mut [R]) -> usize {
     debug_assert!({ #[allow(unused_imports)] use crate::proved::ivl_interval::ops::*; crate::proved::ivl_buffers::run_lists::is_run_list(a) && crate::proved::ivl_buffers::run_lists::is_run_list(b) }, "{}", "the condition of `symmetric_difference` is broken: crate::proved::ivl_buffers::run_lists::is_run_list(a) && crate::proved::ivl_buffers::run_lists::is_run_list(b)");
     let mut made = Places::new(out);

@@ -15,6 +15,8 @@ use crate::rattle::std::alloc::{AllocError, Global};
 ///
 /// # Proved
 ///
+/// The result is `out_of_range` exactly when a member is outside the range; else `product_out_of_range` only if a product of a member of each is, or `out_of_memory`, or the runs of the products are written if there is room, and their number is returned. With a code nothing is written.
+///
 /// ```text
 /// ensures { AnswersProducts R.Bound.whole (Covers (map R.pair a.now)) (Covers (map R.pair b.now)) (map R.pair out.old) (map R.pair out.new) result }
 /// ```

@@ -13,6 +13,8 @@ use crate::rattle::std::alloc::{AllocError, Global};
 ///
 /// # Proved
 ///
+/// The result is `out_of_range` exactly when a member is outside the range; else the number of members below `v` is written, and 0 returned, or it is `out_of_memory`. With a code nothing is written.
+///
 /// ```text
 /// ensures { AnswersRank R.Bound.whole (R.Bound.value v) (Covers (map R.pair a.now))
 ///     (R.Bound.Output.size found.old) (R.Bound.Output.size found.new) result }
@@ -51,6 +53,8 @@ fn rank_of<R: Pair>(
 /// or an error code.
 ///
 /// # Proved
+///
+/// The result is `out_of_range` exactly when a member is outside the range; else the member with exactly `i` members below it is written, and 1 returned, or there are no more than `i` members, and 0 is returned, or it is `out_of_memory`. Without 1 nothing is written.
 ///
 /// ```text
 /// ensures { AnswersNth R.Bound.whole (R.Bound.Output.size i) (Covers (map R.pair a.now))

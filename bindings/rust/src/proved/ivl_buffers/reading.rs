@@ -15,6 +15,8 @@ use crate::rattle::std::alloc::{AllocError, Global};
 ///
 /// # Proved
 ///
+/// True exactly when each number of the pairs is in the range.
+///
 /// ```text
 /// ensures { IsTrue result ↔ IsSubset (Covers (map R.pair runs.now)) (IsBetween R.Bound.whole) }
 /// ```
@@ -43,12 +45,15 @@ fn is_crossed<R: Pair>(run: R) -> bool {
 ///
 /// # Proved
 ///
+/// On success, the members are exactly the numbers of the pairs.
+///
 /// ```text
 /// requires { IsSubset (Covers (map R.pair runs.now)) (IsBetween R.Bound.whole) }
 /// ensures { IfOk result (λ L. IsRunsOf L (Covers (map R.pair runs.now))) }
 /// ```
 ///
 /// Words: [`IsSubset`](crate::definitions#IsSubset), [`Covers`](crate::definitions#Covers), [`IsBetween`](crate::definitions#IsBetween), [`IsRunsOf`](crate::definitions#IsRunsOf).
+#[cfg_attr(debug_assertions, track_caller)]
 pub fn set_of<R: Pair>(alloc: Global, runs: &[R]) -> Result<IntervalSet<R::Bound>, AllocError> {
     debug_assert!({ #[allow(unused_imports)] use crate::proved::ivl_interval::ops::*; are_inside(runs) }, "{}", "the condition of `set_of` is broken: are_inside(runs)");
     let mut list = Vec::with_capacity(alloc, runs.len())?;
@@ -70,6 +75,8 @@ pub(crate) fn interval_of<R: Pair>(run: R) -> Interval<R::Bound> {
 /// Returns true exactly when some pair of the list has the number. `O(n)`, does not allocate.
 ///
 /// # Proved
+///
+/// True exactly when some pair has the number.
 ///
 /// ```text
 /// ensures { IsTrue result ↔ Covers (map R.pair runs.now) (R.Bound.value v) }

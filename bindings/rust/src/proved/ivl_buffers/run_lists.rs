@@ -14,6 +14,8 @@ use crate::proved::ivl_merges::merges::one_if;
 ///
 /// # Proved
 ///
+/// True exactly when the pairs are not crossed, ascend, lie in the range, and neither overlap nor touch.
+///
 /// ```text
 /// ensures { IsTrue result ↔ IsRunListIn R.Bound.whole (map R.pair runs.now) }
 /// ```
@@ -153,6 +155,8 @@ fn is_below<R: Pair>(run: R, next: R) -> bool {
 ///
 /// # Proved
 ///
+/// True exactly when a number lies between the end of `last` and the start of `run`.
+///
 /// ```text
 /// requires last { IsRunIn R.Bound.whole (R.pair last) }
 /// requires run { IsRunIn R.Bound.whole (R.pair run) }
@@ -160,6 +164,7 @@ fn is_below<R: Pair>(run: R, next: R) -> bool {
 /// ```
 ///
 /// Words: [`IsRunIn`](crate::definitions#IsRunIn).
+#[cfg_attr(debug_assertions, track_caller)]
 pub fn leaves_free<R: Pair>(last: R, run: R) -> bool {
     debug_assert!({ #[allow(unused_imports)] use crate::proved::ivl_interval::ops::*; is_run_list(&[last]) && is_run_list(&[run]) }, "{}", "the condition of `leaves_free` is broken: is_run_list(&[last]) && is_run_list(&[run])");
     let (end, start) = (last.upper(), run.lower());

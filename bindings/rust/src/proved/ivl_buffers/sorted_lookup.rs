@@ -12,6 +12,8 @@ pub use crate::proved::ivl_merges::merges::pair_at;
 ///
 /// # Proved
 ///
+/// After true `v` is a member; if the list is in order, true exactly when it is.
+///
 /// ```text
 /// ensures member { IsTrue result → Covers (map R.pair runs.now) (R.Bound.value v) }
 /// ensures in_order { IsInOrder (map R.pair runs.now) → (IsTrue result ↔ Covers (map R.pair runs.now) (R.Bound.value v)) }
@@ -27,6 +29,8 @@ pub fn contains<R: Pair>(runs: &[R], v: R::Bound) -> bool {
 /// it found one. `O(log n)`, does not allocate.
 ///
 /// # Proved
+///
+/// After true the number written is a member that is at least `v`; after false nothing is written. If the list is in order, the number is the least such member, and false says that there is none.
 ///
 /// ```text
 /// ensures member { IsTrue result → AtLeast (R.Bound.value v) (Covers (map R.pair runs.now)) (R.Bound.value found.new) }

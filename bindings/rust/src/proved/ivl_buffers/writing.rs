@@ -22,6 +22,8 @@ pub const PRODUCT_OUT_OF_RANGE: i64 = -3;
 ///
 /// # Proved
 ///
+/// Either the result is `out_of_memory`, and nothing is written; or there is a set, whose runs are written if there is room, and their number is returned.
+///
 /// ```text
 /// ensures { Refuses out_of_memory (map R.pair out.old) (map R.pair out.new) result
 ///     ⊎ IsOkAnd made (λ L. (result ≡ pos (length L)) × (map R.pair out.new ≡ written L (map R.pair out.old))) }

@@ -57,6 +57,8 @@ impl<B> Expr<B> {
     ///
     /// # Proved
     ///
+    /// True exactly when the variable occurs in the expression.
+    ///
     /// ```text
     /// ensures { IsTrue result ↔ Occurs i self.now }
     /// ```
@@ -91,6 +93,8 @@ impl<B> Expr<B> {
     ///
     /// # Proved
     ///
+    /// True exactly when no variable occurs twice.
+    ///
     /// ```text
     /// ensures { IsTrue result ↔ ReadOnce self.now }
     /// ```
@@ -120,6 +124,8 @@ impl<B> Expr<B> {
     /// ```
     ///
     /// # Proved
+    ///
+    /// True exactly when a product occurs in the expression.
     ///
     /// ```text
     /// ensures { IsTrue result ↔ HasProduct self.now }

@@ -52,6 +52,8 @@ use crate::rattle::std::alloc::{AllocError, Global};
 ///
 /// # Proved
 ///
+/// The leftmost variable without a set is reported before anything else, and `Range` only if the set of some node leaves the range. On success, the members are exactly those of the node of the expression, and the set of no node leaves the range. They include every value; if no variable repeats, the ends of the runs are values, and without products all members.
+///
 /// ```text
 /// ensures missing { (i : ℕ) → (result ≡ Err (EvalFault.Missing i)) ↔ (first_missing (length sets.now) expr.now ≡ Some i) }
 /// ensures range { result ≡ Err EvalFault.Range → SomeNodeOutside B.whole B.value expr.now (set_at sets.now) }

@@ -54,6 +54,8 @@ impl<B: Width> Interval<B> {
     ///
     /// # Proved
     ///
+    /// True exactly when `lb` is not below the range and `ub` is not above it.
+    ///
     /// ```text
     /// ensures { IsTrue result ↔ IsInRange B.whole (B.value lb, B.value ub) }
     /// ```
@@ -78,6 +80,8 @@ impl<B: Width> Interval<B> {
     ///
     /// # Proved
     ///
+    /// The result is the lower bound, even of an empty interval.
+    ///
     /// ```text
     /// ensures { B.value result ≡ self.now.0 }
     /// ```
@@ -100,6 +104,8 @@ impl<B: Width> Interval<B> {
     ///
     /// # Proved
     ///
+    /// The result is the upper bound, even of an empty interval.
+    ///
     /// ```text
     /// ensures { B.value result ≡ self.now.1 }
     /// ```
@@ -121,6 +127,8 @@ impl<B: Width> Interval<B> {
     /// ```
     ///
     /// # Proved
+    ///
+    /// Each number of the interval is in the range.
     ///
     /// ```text
     /// ensures { IsSubset (IsBetween self) (IsBetween B.whole) }
@@ -164,6 +172,8 @@ impl<B: Width> PartialEq for Interval<B> {
     /// ```
     ///
     /// # Proved
+    ///
+    /// True exactly when both intervals have the same numbers.
     ///
     /// ```text
     /// ensures value { result ≡ same_interval self.now other.now }

@@ -54,6 +54,8 @@ pub trait Empty {
     ///
     /// # Proved
     ///
+    /// The result has no member.
+    ///
     /// ```text
     /// ensures { HasNone (members result) }
     /// ```
@@ -84,6 +86,8 @@ pub trait Top {
     /// Returns the empty set, which entails every other.
     ///
     /// # Proved
+    ///
+    /// The result has no member.
     ///
     /// ```text
     /// ensures { HasNone (members result) }
@@ -116,6 +120,8 @@ pub trait Bot {
     ///
     /// # Proved
     ///
+    /// The members are exactly the numbers of the range.
+    ///
     /// ```text
     /// ensures { SameMembers (members result) (IsBetween whole) }
     /// ```
@@ -147,6 +153,8 @@ pub trait Whole {
     ///
     /// # Proved
     ///
+    /// The members are exactly the numbers of the range.
+    ///
     /// ```text
     /// ensures { SameMembers (members result) (IsBetween whole) }
     /// ```
@@ -177,6 +185,8 @@ pub trait Singleton: Collection {
     /// with `whole().contains(&item)`.
     ///
     /// # Proved
+    ///
+    /// The only member is the item.
     ///
     /// ```text
     /// requires { IsBetween whole (Self.number item) }
@@ -211,6 +221,8 @@ pub trait Range: Collection {
     ///
     /// # Proved
     ///
+    /// The members are exactly the numbers from `lb` to `ub`.
+    ///
     /// ```text
     /// requires { IsInRange whole (Self.number lb, Self.number ub) }
     /// ensures { SameMembers (Self.members result) (IsBetween (Self.number lb, Self.number ub)) }
@@ -238,6 +250,8 @@ pub trait Bounded: Collection {
     ///
     /// # Proved
     ///
+    /// The result is the least member.
+    ///
     /// ```text
     /// requires { HasSome (Self.members self.now) }
     /// ensures member { Self.members self.now (Self.number result) }
@@ -251,6 +265,8 @@ pub trait Bounded: Collection {
     /// `is_empty`.
     ///
     /// # Proved
+    ///
+    /// The result is the greatest member.
     ///
     /// ```text
     /// requires { HasSome (Self.members self.now) }
@@ -288,7 +304,7 @@ pub trait Cardinality {
     ///
     /// # Proved
     ///
-    /// The answer is the number of members.
+    /// The result is the number of members.
     ///
     /// ```text
     /// ensures { IsCountOf (size_number result) (members self.now) }
@@ -319,6 +335,8 @@ pub trait IsEmpty {
     /// Returns true exactly when the set has no members.
     ///
     /// # Proved
+    ///
+    /// True exactly when there is no member; after false there is one.
     ///
     /// ```text
     /// ensures members { IsTrue result ↔ HasNone (members self.now) }
@@ -351,6 +369,8 @@ pub trait IsSingleton {
     ///
     /// # Proved
     ///
+    /// True exactly when there is one member and no other.
+    ///
     /// ```text
     /// ensures { IsTrue result ↔ ((x : ℤ) × SameMembers (members self.now) (Only x)) }
     /// ```
@@ -376,7 +396,7 @@ pub trait Contains: Collection {
     ///
     /// # Proved
     ///
-    /// It is true exactly when the item is a member.
+    /// True exactly when the item is a member.
     ///
     /// ```text
     /// ensures { IsTrue result ↔ Self.members self.now (Self.number item.now) }
@@ -406,6 +426,8 @@ pub trait Disjoint<R> {
     /// Returns true exactly when no number is a member of both.
     ///
     /// # Proved
+    ///
+    /// True exactly when no number is a member of both.
     ///
     /// ```text
     /// ensures { IsTrue result ↔ HasNone (Intersection (members self.now) (other_members other.now)) }
@@ -438,6 +460,8 @@ pub trait Overlap<R> {
     ///
     /// # Proved
     ///
+    /// True exactly when some number is a member of both.
+    ///
     /// ```text
     /// ensures { IsTrue result ↔ HasSome (Intersection (members self.now) (other_members other.now)) }
     /// ```
@@ -469,7 +493,7 @@ pub trait Subset {
     ///
     /// # Proved
     ///
-    /// It is true exactly when each member is a member of the other.
+    /// True exactly when each member is a member of `other`.
     ///
     /// ```text
     /// ensures { IsTrue result ↔ IsSubset (members self.now) (members other.now) }
@@ -501,6 +525,8 @@ pub trait ProperSubset {
     /// Returns true exactly when each member is a member of `other`, and `other` has more.
     ///
     /// # Proved
+    ///
+    /// True exactly when each member is a member of `other`, and the two sets differ.
     ///
     /// ```text
     /// ensures { IsTrue result ↔ IsProperSubset (members self.now) (members other.now) }
@@ -541,7 +567,7 @@ pub trait Union<R> {
     ///
     /// # Proved
     ///
-    /// The members of the answer are exactly those of either operand.
+    /// The result stands for the members of either.
     ///
     /// ```text
     /// requires { can_unite self.now other.now }
@@ -579,7 +605,7 @@ pub trait Intersection<R> {
     ///
     /// # Proved
     ///
-    /// The members of the answer are exactly those of both operands.
+    /// The result stands for the members of both.
     ///
     /// ```text
     /// ensures { answers result (Intersection (members self.now) (other_members other.now)) }
@@ -617,7 +643,7 @@ pub trait Difference<R> {
     ///
     /// # Proved
     ///
-    /// The members of the answer are exactly the left operand's that are not the right one's.
+    /// The result stands for the members of `self` that are not in `other`.
     ///
     /// ```text
     /// ensures { answers result (Without (members self.now) (other_members other.now)) }
@@ -658,7 +684,7 @@ pub trait SymmetricDifference<R> {
     ///
     /// # Proved
     ///
-    /// The members of the answer are exactly those of one operand and not of the other.
+    /// The result stands for the members of either that are not in both.
     ///
     /// ```text
     /// requires { can_unite self.now other.now }
@@ -699,6 +725,8 @@ pub trait Hull<R> {
     ///
     /// # Proved
     ///
+    /// The result stands for the members of either.
+    ///
     /// ```text
     /// requires { can_join self.now other.now }
     /// ensures { answers result (Union (members self.now) (other_members other.now)) }
@@ -736,7 +764,7 @@ pub trait Complement {
     ///
     /// # Proved
     ///
-    /// The members of the answer are exactly the numbers of the range that are no members.
+    /// The result stands for the numbers of the range that are not members.
     ///
     /// ```text
     /// ensures { answers result (Complement whole (members self.now)) }
@@ -771,6 +799,8 @@ pub trait ShrinkLeft: Collection {
     ///
     /// # Proved
     ///
+    /// The result stands for the members that are at least `lower`.
+    ///
     /// ```text
     /// ensures { answers result (AtLeast (Self.number lower) (Self.members self.now)) }
     /// ```
@@ -803,6 +833,8 @@ pub trait ShrinkRight: Collection {
     /// Returns the members that are at most `upper`, for any value of its type.
     ///
     /// # Proved
+    ///
+    /// The result stands for the members that are at most `upper`.
     ///
     /// ```text
     /// ensures { answers result (AtMost (Self.number upper) (Self.members self.now)) }
@@ -837,6 +869,8 @@ pub trait StrictShrinkLeft: Collection {
     ///
     /// # Proved
     ///
+    /// The result stands for the members above `lower`.
+    ///
     /// ```text
     /// ensures { answers result (Above (Self.number lower) (Self.members self.now)) }
     /// ```
@@ -869,6 +903,8 @@ pub trait StrictShrinkRight: Collection {
     /// Returns the members below `upper`, for any value of its type.
     ///
     /// # Proved
+    ///
+    /// The result stands for the members below `upper`.
     ///
     /// ```text
     /// ensures { answers result (Below (Self.number upper) (Self.members self.now)) }
@@ -904,6 +940,8 @@ pub trait Join: Sized {
     /// Returns the members of both.
     ///
     /// # Proved
+    ///
+    /// The result stands for the members of both.
     ///
     /// ```text
     /// ensures { answers result (Intersection (members self) (members other)) }
@@ -941,6 +979,8 @@ pub trait Meet: Sized {
     ///
     /// # Proved
     ///
+    /// The result stands for the members of either.
+    ///
     /// ```text
     /// ensures { answers result (Union (members self) (members other)) }
     /// ```
@@ -972,6 +1012,8 @@ pub trait Entailment {
     /// round, else `Unknown`.
     ///
     /// # Proved
+    ///
+    /// `True` if each member is a member of `other`; else `False` if each member of `other` is one of `self`; else `Unknown`.
     ///
     /// ```text
     /// ensures { IsEntailmentOf (members self.now) (members other.now) result }
@@ -1005,6 +1047,8 @@ pub trait ToInterval<B: Width> {
     /// is not below the range and its upper bound is not above it. Check with `Interval::in_range`.
     ///
     /// # Proved
+    ///
+    /// The members are exactly the numbers from the one bound to the other; if the bounds do not cross, they are those of the result.
     ///
     /// ```text
     /// requires { can_convert self }
@@ -1042,6 +1086,8 @@ pub trait Fits<R> {
     ///
     /// # Proved
     ///
+    /// True exactly when the sum of each member of `self` and each of `other` is in the range.
+    ///
     /// ```text
     /// ensures { IsTrue result ↔ IsSubset (Sums (members self.now) (other_members other.now)) (IsBetween whole) }
     /// ```
@@ -1053,6 +1099,8 @@ pub trait Fits<R> {
     ///
     /// # Proved
     ///
+    /// True exactly when the difference of each member of `self` and each of `other` is in the range.
+    ///
     /// ```text
     /// ensures { IsTrue result ↔ IsSubset (Differences (members self.now) (other_members other.now)) (IsBetween whole) }
     /// ```
@@ -1063,6 +1111,8 @@ pub trait Fits<R> {
     /// Returns true exactly when each product is in the range.
     ///
     /// # Proved
+    ///
+    /// True exactly when the product of each member of `self` and each of `other` is in the range.
     ///
     /// ```text
     /// ensures { IsTrue result ↔ IsSubset (ExactProducts (members self.now) (other_members other.now)) (IsBetween whole) }

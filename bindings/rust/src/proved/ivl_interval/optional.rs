@@ -38,6 +38,8 @@ impl<T> Optional<T> {
     ///
     /// # Proved
     ///
+    /// The result holds no value.
+    ///
     /// ```text
     /// ensures { result ≡ None }
     /// ```
@@ -58,6 +60,8 @@ impl<T> Optional<T> {
     /// ```
     ///
     /// # Proved
+    ///
+    /// The result holds `x`.
     ///
     /// ```text
     /// ensures { result ≡ Some x }
@@ -80,6 +84,8 @@ impl<T> Optional<T> {
     ///
     /// # Proved
     ///
+    /// True exactly when there is no value.
+    ///
     /// ```text
     /// ensures { IsTrue result ↔ (self.now ≡ None) }
     /// ```
@@ -101,6 +107,8 @@ impl<T> Optional<T> {
     ///
     /// # Proved
     ///
+    /// True exactly when there is a value.
+    ///
     /// ```text
     /// ensures { IsTrue result ↔ IsSome self.now }
     /// ```
@@ -121,6 +129,8 @@ impl<T> Optional<T> {
     /// ```
     ///
     /// # Proved
+    ///
+    /// The result is the value, if there is one.
     ///
     /// ```text
     /// ensures { option_copied result ≡ self.now }

@@ -54,6 +54,8 @@ pub trait SizeNumber: Ord + Copy {
     ///
     /// # Proved
     ///
+    /// The result is the number of the size, which is at most the greatest of the type.
+    ///
     /// ```text
     /// ensures number { result ≡ size self }
     /// ensures at_most { size self ≤ greatest }
@@ -74,6 +76,8 @@ pub trait SizeNumber: Ord + Copy {
     ///
     /// # Proved
     ///
+    /// The result is the size with this number, or `None` exactly when the number is above the greatest of the type.
+    ///
     /// ```text
     /// ensures known { IsSome result ↔ (number ≤ greatest) }
     /// ensures same_number { IfSome result (λ x. size x ≡ number) }
@@ -93,6 +97,8 @@ pub trait SizeNumber: Ord + Copy {
     /// ```
     ///
     /// # Proved
+    ///
+    /// The result is the size with the number 0.
     ///
     /// ```text
     /// ensures { size result ≡ 0 }
@@ -116,6 +122,8 @@ pub trait SizeNumber: Ord + Copy {
     ///
     /// # Proved
     ///
+    /// The result is the sum, or `None` exactly when the sum is above the greatest number of the type.
+    ///
     /// ```text
     /// ensures known { IsSome result ↔ (size self + size other ≤ greatest) }
     /// ensures same_number { IfSome result (λ x. size x ≡ size self + size other) }
@@ -137,6 +145,8 @@ pub trait SizeNumber: Ord + Copy {
     /// ```
     ///
     /// # Proved
+    ///
+    /// The result is the difference, or `None` exactly when `other` is greater than `self`.
     ///
     /// ```text
     /// ensures known { IsSome result ↔ (size other ≤ size self) }
@@ -162,10 +172,13 @@ pub trait SizeNumber: Ord + Copy {
     ///
     /// # Proved
     ///
+    /// The result is the sum.
+    ///
     /// ```text
     /// requires { size self + size other ≤ greatest }
     /// ensures { size result ≡ size self + size other }
     /// ```
+    #[cfg_attr(debug_assertions, track_caller)]
     fn add_in_range(self, other: Self) -> Self {
         debug_assert!({ #[allow(unused_imports)] use crate::proved::ivl_interval::ops::*; self.checked_add(other).is_some() }, "{}", "the condition of `add_in_range` is broken: self.checked_add(other).is_some()");
         self.checked_add(other).unwrap()
@@ -227,6 +240,8 @@ pub trait Width: Ord + Copy {
     ///
     /// # Proved
     ///
+    /// The result is the least value of the range.
+    ///
     /// ```text
     /// ensures { value result ≡ whole.0 }
     /// ```
@@ -245,6 +260,8 @@ pub trait Width: Ord + Copy {
     /// ```
     ///
     /// # Proved
+    ///
+    /// The result is the greatest value of the range.
     ///
     /// ```text
     /// ensures { value result ≡ whole.1 }
@@ -265,6 +282,8 @@ pub trait Width: Ord + Copy {
     ///
     /// # Proved
     ///
+    /// The result is the number of the value.
+    ///
     /// ```text
     /// ensures { result ≡ value self }
     /// ```
@@ -284,6 +303,8 @@ pub trait Width: Ord + Copy {
     /// ```
     ///
     /// # Proved
+    ///
+    /// The result is the value with this number, or `None` exactly when the number is not in the range.
     ///
     /// ```text
     /// ensures known { IsSome result ↔ IsBetween whole number }
@@ -309,6 +330,8 @@ pub trait Width: Ord + Copy {
     ///
     /// # Proved
     ///
+    /// The result is the number of values from `lower` to `upper`, both included.
+    ///
     /// ```text
     /// requires in_range { IsInRange whole (value lower.now, value upper.now) }
     /// requires in_order { value lower.now ≤ℤ value upper.now }
@@ -316,6 +339,7 @@ pub trait Width: Ord + Copy {
     /// ```
     ///
     /// Words: [`IsInRange`](crate::definitions#IsInRange), [`width_of`](crate::definitions#width_of).
+    #[cfg_attr(debug_assertions, track_caller)]
     fn width(lower: &Self, upper: &Self) -> Self::Output {
         debug_assert!({ #[allow(unused_imports)] use crate::proved::ivl_interval::ops::*; Self::min_value() <= *lower && lower <= upper && *upper <= Self::max_value() }, "{}", "the condition of `width` is broken: Self::min_value() <= *lower && lower <= upper && *upper <= Self::max_value()");
         let last = (upper.number() - lower.number()) as u128;
@@ -335,6 +359,8 @@ pub trait Width: Ord + Copy {
     /// ```
     ///
     /// # Proved
+    ///
+    /// The result is the value with the number 0.
     ///
     /// ```text
     /// ensures { value result ≡ pos 0 }
@@ -357,6 +383,8 @@ pub trait Width: Ord + Copy {
     ///
     /// # Proved
     ///
+    /// The result is the value with the number 1.
+    ///
     /// ```text
     /// ensures { value result ≡ pos 1 }
     /// ```
@@ -378,6 +406,8 @@ pub trait Width: Ord + Copy {
     /// ```
     ///
     /// # Proved
+    ///
+    /// The result is the sum, or `None` exactly when the sum is not in the range.
     ///
     /// ```text
     /// ensures known { IsSome result ↔ IsBetween whole (value self +ℤ value other) }
@@ -403,6 +433,8 @@ pub trait Width: Ord + Copy {
     ///
     /// # Proved
     ///
+    /// The result is the difference, or `None` exactly when the difference is not in the range.
+    ///
     /// ```text
     /// ensures known { IsSome result ↔ IsBetween whole (value self -ℤ value other) }
     /// ensures same_number { IfSome result (λ x. value x ≡ value self -ℤ value other) }
@@ -427,6 +459,8 @@ pub trait Width: Ord + Copy {
     /// ```
     ///
     /// # Proved
+    ///
+    /// The result is the product, or `None` exactly when the product is not in the range.
     ///
     /// ```text
     /// ensures known { IsSome result ↔ IsBetween whole (value self *ℤ value other) }
@@ -454,12 +488,15 @@ pub trait Width: Ord + Copy {
     ///
     /// # Proved
     ///
+    /// The result is the sum.
+    ///
     /// ```text
     /// requires { IsBetween whole (value self +ℤ value other) }
     /// ensures { value result ≡ value self +ℤ value other }
     /// ```
     ///
     /// Words: [`IsBetween`](crate::definitions#IsBetween).
+    #[cfg_attr(debug_assertions, track_caller)]
     fn add_in_range(self, other: Self) -> Self {
         debug_assert!({ #[allow(unused_imports)] use crate::proved::ivl_interval::ops::*; self.checked_add(other).is_some() }, "{}", "the condition of `add_in_range` is broken: self.checked_add(other).is_some()");
         self.checked_add(other).unwrap()
@@ -481,12 +518,15 @@ pub trait Width: Ord + Copy {
     ///
     /// # Proved
     ///
+    /// The result is the difference.
+    ///
     /// ```text
     /// requires { IsBetween whole (value self -ℤ value other) }
     /// ensures { value result ≡ value self -ℤ value other }
     /// ```
     ///
     /// Words: [`IsBetween`](crate::definitions#IsBetween).
+    #[cfg_attr(debug_assertions, track_caller)]
     fn sub_in_range(self, other: Self) -> Self {
         debug_assert!({ #[allow(unused_imports)] use crate::proved::ivl_interval::ops::*; self.checked_sub(other).is_some() }, "{}", "the condition of `sub_in_range` is broken: self.checked_sub(other).is_some()");
         self.checked_sub(other).unwrap()
@@ -508,12 +548,15 @@ pub trait Width: Ord + Copy {
     ///
     /// # Proved
     ///
+    /// The result is the product.
+    ///
     /// ```text
     /// requires { IsBetween whole (value self *ℤ value other) }
     /// ensures { value result ≡ value self *ℤ value other }
     /// ```
     ///
     /// Words: [`IsBetween`](crate::definitions#IsBetween).
+    #[cfg_attr(debug_assertions, track_caller)]
     fn mul_in_range(self, other: Self) -> Self {
         debug_assert!({ #[allow(unused_imports)] use crate::proved::ivl_interval::ops::*; self.checked_mul(other).is_some() }, "{}", "the condition of `mul_in_range` is broken: self.checked_mul(other).is_some()");
         self.checked_mul(other).unwrap()

@@ -98,6 +98,8 @@ pub trait JsonForm: Sized {
     ///
     /// # Proved
     ///
+    /// On success, the result is the JSON value of `self`, which reads as `self`.
+    ///
     /// ```text
     /// ensures written { IfOk result (λ v. view v ≡ json self.now) }
     /// ensures reads_back { reads (json self.now) self.now }
@@ -124,6 +126,8 @@ pub trait JsonForm: Sized {
     /// ```
     ///
     /// # Proved
+    ///
+    /// On success, the JSON value reads as the result; on an error, the fault is one for which it may be refused.
     ///
     /// ```text
     /// ensures read { IfOk result (reads (view value.now)) }

@@ -66,6 +66,8 @@ impl<B: Width, V: MapValue> IntervalMap<B, V> {
     ///
     /// # Proved
     ///
+    /// It has no entry.
+    ///
     /// ```text
     /// ensures { result ≡ [] }
     /// ```
@@ -89,6 +91,8 @@ impl<B: Width, V: MapValue> IntervalMap<B, V> {
     /// ```
     ///
     /// # Proved
+    ///
+    /// The length of the list of entries. They ascend, two that touch have different values, and all numbers are in the range.
     ///
     /// ```text
     /// ensures count { result ≡ length self.now }
@@ -114,6 +118,8 @@ impl<B: Width, V: MapValue> IntervalMap<B, V> {
     /// ```
     ///
     /// # Proved
+    ///
+    /// True if and only if there is no entry.
     ///
     /// ```text
     /// ensures none { IsTrue result ↔ (self.now ≡ []) }
@@ -156,6 +162,8 @@ impl<B: Width, V: MapValue> IntervalMap<B, V> {
     ///
     /// # Proved
     ///
+    /// The entries ascend, two that touch have different values, and all numbers are in the range. Two values at one number are equal.
+    ///
     /// ```text
     /// ensures entries { IsEntryListIn B.whole V.eq self.now }
     /// ensures one_value { (z : ℤ) (v : V) (w : V) → HasAt V.eq self.now z v → HasAt V.eq self.now z w → V.eq v w ≡ true }
@@ -175,8 +183,9 @@ impl<B: Width, V: MapValue> IntervalMap<B, V> {
     ///
     /// # Errors
     ///
-    /// Fails only if an allocation or the copy of a value fails. The map is then unchanged. Where an entry
-    /// lies within the interval, or one that touches or overlaps it has an equal value, it cannot fail.
+    /// Fails only if an allocation or the copy of a value fails. The map is then unchanged. Where the interval
+    /// is empty, an entry lies within it, or one that touches or overlaps it has an equal value, it cannot
+    /// fail.
     ///
     /// ```
     /// use intervallum::proved::examples::*;
@@ -194,14 +203,18 @@ impl<B: Width, V: MapValue> IntervalMap<B, V> {
     ///
     /// # Proved
     ///
+    /// The numbers of the interval have the value, which is stored and no copy of it, and the others what they had. If it fails, the map is unchanged. It cannot fail where the interval is empty, where an entry lies within it, or where a number of it, or next to it, has an equal value.
+    ///
     /// ```text
     /// ensures ok { OnOk result (IsEntriesOf V.eq self.new (Written V.eq interval value (HasAt V.eq self.old))) }
+    /// ensures stored { OnOk result ((z : ℤ) → IsBetween interval z → IsStoredAt self.new z value) }
     /// ensures err { OnErr result (self.new ≡ self.old) }
+    /// ensures empty { HasNone (IsBetween interval) → IsOk result }
     /// ensures replaces { (e : _) → IsIn self.old e → interval.0 ≤ℤ e.0.0 → e.0.1 ≤ℤ interval.1 → IsOk result }
     /// ensures grows { (z : ℤ) → IsBetween (widened interval) z → HasAt V.eq self.old z value → IsOk result }
     /// ```
     ///
-    /// Words: [`IsEntriesOf`](crate::definitions#IsEntriesOf), [`Written`](crate::definitions#Written), [`HasAt`](crate::definitions#HasAt), [`IsIn`](crate::definitions#IsIn), [`IsBetween`](crate::definitions#IsBetween), [`widened`](crate::definitions#widened).
+    /// Words: [`IsEntriesOf`](crate::definitions#IsEntriesOf), [`Written`](crate::definitions#Written), [`HasAt`](crate::definitions#HasAt), [`IsBetween`](crate::definitions#IsBetween), [`IsStoredAt`](crate::definitions#IsStoredAt), [`HasNone`](crate::definitions#HasNone), [`IsIn`](crate::definitions#IsIn), [`widened`](crate::definitions#widened).
     pub fn insert(&mut self, interval: Interval<B>, value: V) -> Result<(), AllocError> {
         self.in_order();
         if interval.is_empty() {
@@ -236,13 +249,16 @@ impl<B: Width, V: MapValue> IntervalMap<B, V> {
     ///
     /// # Proved
     ///
+    /// The numbers of the interval have no value, and the others what they had. If it fails, the map is unchanged. It cannot fail where the interval is empty, nor unless it lies inside an entry and splits it.
+    ///
     /// ```text
     /// ensures ok { OnOk result (IsEntriesOf V.eq self.new (Outside interval (HasAt V.eq self.old))) }
     /// ensures err { OnErr result (self.new ≡ self.old) }
+    /// ensures empty { HasNone (IsBetween interval) → IsOk result }
     /// ensures in_place { ¬ (HasThroughout V (widened interval) (HasAt V.eq self.old)) → IsOk result }
     /// ```
     ///
-    /// Words: [`IsEntriesOf`](crate::definitions#IsEntriesOf), [`Outside`](crate::definitions#Outside), [`HasAt`](crate::definitions#HasAt), [`HasThroughout`](crate::definitions#HasThroughout), [`widened`](crate::definitions#widened).
+    /// Words: [`IsEntriesOf`](crate::definitions#IsEntriesOf), [`Outside`](crate::definitions#Outside), [`HasAt`](crate::definitions#HasAt), [`HasNone`](crate::definitions#HasNone), [`IsBetween`](crate::definitions#IsBetween), [`HasThroughout`](crate::definitions#HasThroughout), [`widened`](crate::definitions#widened).
     pub fn remove(&mut self, interval: Interval<B>) -> Result<(), AllocError> {
         self.in_order();
         if interval.is_empty() {
@@ -266,6 +282,8 @@ impl<B: Width, V: MapValue> IntervalMap<B, V> {
     /// ```
     ///
     /// # Proved
+    ///
+    /// No entry is left.
     ///
     /// ```text
     /// ensures { self.new ≡ [] }
@@ -301,6 +319,8 @@ impl<B: Width, V: MapValue> PartialEq for IntervalMap<B, V> {
     /// ```
     ///
     /// # Proved
+    ///
+    /// True if and only if the same intervals stand in the same places with equal values, which is where equal values stand at the same numbers.
     ///
     /// ```text
     /// ensures value { result ≡ same_entries V.eq self.now other.now }

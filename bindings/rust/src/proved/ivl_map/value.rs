@@ -38,6 +38,8 @@ pub trait MapValue: Eq + Drop + Sized {
     ///
     /// # Proved
     ///
+    /// A copy equals the value.
+    ///
     /// ```text
     /// ensures { IfOk result (λ copy. Self.Eq.eq self.now copy ≡ true) }
     /// ```
@@ -49,7 +51,12 @@ impl MapValue for u8 {
     ///
     /// # Proved
     ///
-    /// What [`MapValue::try_copy`] says, by the words of the type.
+    /// It cannot fail, and the copy is the value.
+    ///
+    /// ```text
+    /// ensures copy { IfOk result (λ copy. Self.Eq.eq self.now copy ≡ true) }
+    /// ensures same { result ≡ Ok self.now }
+    /// ```
     fn try_copy(&self) -> Result<u8, AllocError> {
         Ok(*self)
     }
@@ -60,7 +67,12 @@ impl MapValue for u16 {
     ///
     /// # Proved
     ///
-    /// What [`MapValue::try_copy`] says, by the words of the type.
+    /// It cannot fail, and the copy is the value.
+    ///
+    /// ```text
+    /// ensures copy { IfOk result (λ copy. Self.Eq.eq self.now copy ≡ true) }
+    /// ensures same { result ≡ Ok self.now }
+    /// ```
     fn try_copy(&self) -> Result<u16, AllocError> {
         Ok(*self)
     }
@@ -71,7 +83,12 @@ impl MapValue for u32 {
     ///
     /// # Proved
     ///
-    /// What [`MapValue::try_copy`] says, by the words of the type.
+    /// It cannot fail, and the copy is the value.
+    ///
+    /// ```text
+    /// ensures copy { IfOk result (λ copy. Self.Eq.eq self.now copy ≡ true) }
+    /// ensures same { result ≡ Ok self.now }
+    /// ```
     fn try_copy(&self) -> Result<u32, AllocError> {
         Ok(*self)
     }
@@ -82,7 +99,12 @@ impl MapValue for u64 {
     ///
     /// # Proved
     ///
-    /// What [`MapValue::try_copy`] says, by the words of the type.
+    /// It cannot fail, and the copy is the value.
+    ///
+    /// ```text
+    /// ensures copy { IfOk result (λ copy. Self.Eq.eq self.now copy ≡ true) }
+    /// ensures same { result ≡ Ok self.now }
+    /// ```
     fn try_copy(&self) -> Result<u64, AllocError> {
         Ok(*self)
     }
@@ -93,7 +115,12 @@ impl MapValue for usize {
     ///
     /// # Proved
     ///
-    /// What [`MapValue::try_copy`] says, by the words of the type.
+    /// It cannot fail, and the copy is the value.
+    ///
+    /// ```text
+    /// ensures copy { IfOk result (λ copy. Self.Eq.eq self.now copy ≡ true) }
+    /// ensures same { result ≡ Ok self.now }
+    /// ```
     fn try_copy(&self) -> Result<usize, AllocError> {
         Ok(*self)
     }
@@ -104,7 +131,12 @@ impl MapValue for i8 {
     ///
     /// # Proved
     ///
-    /// What [`MapValue::try_copy`] says, by the words of the type.
+    /// It cannot fail, and the copy is the value.
+    ///
+    /// ```text
+    /// ensures copy { IfOk result (λ copy. Self.Eq.eq self.now copy ≡ true) }
+    /// ensures same { result ≡ Ok self.now }
+    /// ```
     fn try_copy(&self) -> Result<i8, AllocError> {
         Ok(*self)
     }
@@ -115,7 +147,12 @@ impl MapValue for i16 {
     ///
     /// # Proved
     ///
-    /// What [`MapValue::try_copy`] says, by the words of the type.
+    /// It cannot fail, and the copy is the value.
+    ///
+    /// ```text
+    /// ensures copy { IfOk result (λ copy. Self.Eq.eq self.now copy ≡ true) }
+    /// ensures same { result ≡ Ok self.now }
+    /// ```
     fn try_copy(&self) -> Result<i16, AllocError> {
         Ok(*self)
     }
@@ -126,7 +163,12 @@ impl MapValue for i32 {
     ///
     /// # Proved
     ///
-    /// What [`MapValue::try_copy`] says, by the words of the type.
+    /// It cannot fail, and the copy is the value.
+    ///
+    /// ```text
+    /// ensures copy { IfOk result (λ copy. Self.Eq.eq self.now copy ≡ true) }
+    /// ensures same { result ≡ Ok self.now }
+    /// ```
     fn try_copy(&self) -> Result<i32, AllocError> {
         Ok(*self)
     }
@@ -137,7 +179,12 @@ impl MapValue for i64 {
     ///
     /// # Proved
     ///
-    /// What [`MapValue::try_copy`] says, by the words of the type.
+    /// It cannot fail, and the copy is the value.
+    ///
+    /// ```text
+    /// ensures copy { IfOk result (λ copy. Self.Eq.eq self.now copy ≡ true) }
+    /// ensures same { result ≡ Ok self.now }
+    /// ```
     fn try_copy(&self) -> Result<i64, AllocError> {
         Ok(*self)
     }
@@ -148,7 +195,12 @@ impl MapValue for isize {
     ///
     /// # Proved
     ///
-    /// What [`MapValue::try_copy`] says, by the words of the type.
+    /// It cannot fail, and the copy is the value.
+    ///
+    /// ```text
+    /// ensures copy { IfOk result (λ copy. Self.Eq.eq self.now copy ≡ true) }
+    /// ensures same { result ≡ Ok self.now }
+    /// ```
     fn try_copy(&self) -> Result<isize, AllocError> {
         Ok(*self)
     }
@@ -159,7 +211,12 @@ impl MapValue for bool {
     ///
     /// # Proved
     ///
-    /// What [`MapValue::try_copy`] says, by the words of the type.
+    /// It cannot fail, and the copy is the value.
+    ///
+    /// ```text
+    /// ensures copy { IfOk result (λ copy. Self.Eq.eq self.now copy ≡ true) }
+    /// ensures same { result ≡ Ok self.now }
+    /// ```
     fn try_copy(&self) -> Result<bool, AllocError> {
         Ok(*self)
     }
@@ -170,7 +227,12 @@ impl MapValue for char {
     ///
     /// # Proved
     ///
-    /// What [`MapValue::try_copy`] says, by the words of the type.
+    /// It cannot fail, and the copy is the value.
+    ///
+    /// ```text
+    /// ensures copy { IfOk result (λ copy. Self.Eq.eq self.now copy ≡ true) }
+    /// ensures same { result ≡ Ok self.now }
+    /// ```
     fn try_copy(&self) -> Result<char, AllocError> {
         Ok(*self)
     }
@@ -203,7 +265,12 @@ impl<T: MapValue> MapValue for Option<T> {
     ///
     /// # Proved
     ///
-    /// What [`MapValue::try_copy`] says, by the words of the type.
+    /// A copy equals the value. It cannot fail where there is no value.
+    ///
+    /// ```text
+    /// ensures copy { IfOk result (λ copy. Self.Eq.eq self.now copy ≡ true) }
+    /// ensures none { self.now ≡ None → IsOk result }
+    /// ```
     fn try_copy(&self) -> Result<Option<T>, AllocError> {
         match self {
             Some(value) => Ok(Some(value.try_copy()?)),

@@ -152,14 +152,27 @@ fn replace<B: Width, V: MapValue>(
     if start == end {
         return put_in(entries, start, run, value);
     }
-    entries[start] = (run, value);
     take_out(entries, start + 1, end);
+    entries[start] = (run, value);
+    Ok(())
+}
+
+/// Makes room for an entry that is to be put in the place of those from `start` to before `end`. Fails only if
+/// there are none of these and no room, and allocation fails.
+fn make_room<B: Width, V: MapValue>(
+    entries: &mut Vec<(Interval<B>, V)>,
+    start: usize,
+    end: usize,
+) -> Result<(), AllocError> {
+    if start == end {
+        entries.reserve(1)?;
+    }
     Ok(())
 }
 
 /// Puts an entry in the place of those from `start` to before `end`, and leaves a part of the first
 /// of these below it, and one of the last above it, if there are such parts. Fails only if it needs
-/// room, or splits an entry.
+/// room, or splits an entry. Values are dropped last, so that the entries lie apart if one panics.
 fn lay<B: Width, V: MapValue>(
     entries: &mut Vec<(Interval<B>, V)>,
     start: usize,
@@ -172,13 +185,15 @@ fn lay<B: Width, V: MapValue>(
     match (below, above) {
         (None, None) => replace(entries, start, end, run, value),
         (Some(low), None) => {
-            replace(entries, start + 1, end, run, value)?;
+            make_room(entries, start + 1, end)?;
             keep_first(entries, start, start + 1, low);
+            replace(entries, start + 1, end, run, value).unwrap();
             Ok(())
         }
         (None, Some(high)) => {
-            replace(entries, start, end - 1, run, value)?;
-            keep_first(entries, start + 1, start + 2, high);
+            make_room(entries, start, end - 1)?;
+            keep_first(entries, end - 1, end, high);
+            replace(entries, start, end - 1, run, value).unwrap();
             Ok(())
         }
         (Some(low), Some(high)) => lay_between(entries, start, low, run, value, end, high),
@@ -204,9 +219,10 @@ fn lay_between<B: Width, V: MapValue>(
         keep_first(entries, start, end, low);
         return Ok(());
     }
-    replace(entries, start + 1, end - 1, run, value)?;
-    keep_first(entries, start + 2, start + 3, high);
+    make_room(entries, start + 1, end - 1)?;
+    keep_first(entries, end - 1, end, high);
     keep_first(entries, start, start + 1, low);
+    replace(entries, start + 1, end - 1, run, value).unwrap();
     Ok(())
 }
 
@@ -262,7 +278,8 @@ fn in_the_way<B: Width, V: MapValue>(
     }
 }
 
-/// Gives the numbers of an interval a value, unless an entry is in the way, whose run it returns.
+/// Gives the numbers of an interval a value, unless an entry is in the way, whose run it returns. Fails only if
+/// there is no room for an entry, and allocation fails.
 pub(crate) fn put_if_free<B: Width, V: MapValue>(
     entries: &mut Vec<(Interval<B>, V)>,
     interval: Interval<B>,

@@ -35,6 +35,8 @@ use crate::rattle::std::hint::select_unpredictable;
 ///
 /// # Proved
 ///
+/// The sink then holds the runs of exactly the numbers that are in either list, at most as many as the two have together.
+///
 /// ```text
 /// requires first { IsRunListIn R.Bound.whole (map R.pair a.now) }
 /// requires second { IsRunListIn R.Bound.whole (map R.pair b.now) }
@@ -80,6 +82,8 @@ pub fn union<R: Pair, S: Sink<R>>(a: &[R], b: &[R], out: &mut S) {
 ///
 /// # Proved
 ///
+/// If the runs that the sink holds start no higher than `run`, and `last` is their last, it then holds the runs of exactly the same numbers and those of `run`, none of which starts higher, and the result is the last of them.
+///
 /// ```text
 /// requires last { IsRunIn R.Bound.whole (R.pair last) }
 /// requires run { IsRunIn R.Bound.whole (R.pair run) }
@@ -119,6 +123,8 @@ pub fn push_joined<R: Pair, S: Sink<R>>(out: &mut S, last: R, run: R) -> R {
 #[inline]
 ///
 /// # Proved
+///
+/// True exactly when `run` starts no higher than one above the end of `last`.
 ///
 /// ```text
 /// requires last { IsRunIn R.Bound.whole (R.pair last) }
@@ -169,6 +175,8 @@ fn take_first<R: Pair>(a: &[R], i: &mut usize, b: &[R], j: &mut usize) -> Option
 ///
 /// # Proved
 ///
+/// The result is the pair at index `i`, or `None` if there is none.
+///
 /// ```text
 /// ensures { result ≡ slice_get runs.now i }
 /// ```
@@ -197,6 +205,8 @@ pub fn pair_at<R: Pair>(runs: &[R], i: usize) -> Option<R> {
 #[inline(never)]
 ///
 /// # Proved
+///
+/// The sink then holds the runs of exactly the numbers that are in both lists, at most as many as the two have together.
 ///
 /// ```text
 /// requires first { IsRunListIn R.Bound.whole (map R.pair a.now) }
@@ -245,6 +255,8 @@ pub fn intersection<R: Pair, S: Sink<R>>(a: &[R], b: &[R], out: &mut S) {
 #[inline(never)]
 ///
 /// # Proved
+///
+/// The sink then holds the runs of exactly the numbers that are in `a` and not in `b`, at most as many as the two have together.
 ///
 /// ```text
 /// requires first { IsRunListIn R.Bound.whole (map R.pair a.now) }
@@ -300,6 +312,8 @@ pub fn difference<R: Pair, S: Sink<R>>(a: &[R], b: &[R], out: &mut S) {
 ///
 /// # Proved
 ///
+/// The sink then holds the runs of exactly the numbers of the range that are not in the list, at most one more than the list has.
+///
 /// ```text
 /// requires runs { IsRunListIn R.Bound.whole (map R.pair runs.now) }
 /// requires empty { S.holds out.old out.old [] }
@@ -345,6 +359,8 @@ pub fn complement<R: Pair, S: Sink<R>>(runs: &[R], out: &mut S) {
 #[inline(never)]
 ///
 /// # Proved
+///
+/// The sink then holds the runs of exactly the numbers that are in either list and not in both, at most as many as the two have together.
 ///
 /// ```text
 /// requires first { IsRunListIn R.Bound.whole (map R.pair a.now) }
@@ -470,6 +486,8 @@ fn push_past<R: Pair, S: Sink<R>>(out: &mut S, end: R::Bound) {
 /// ```
 ///
 /// # Proved
+///
+/// The result is 1 if the condition holds, and 0 if not.
 ///
 /// ```text
 /// ensures { B.value result ≡ pos (from_bool condition) }

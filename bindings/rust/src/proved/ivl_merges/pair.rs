@@ -22,6 +22,8 @@ pub trait Pair: Copy {
     ///
     /// # Proved
     ///
+    /// The result is the lower bound of the pair.
+    ///
     /// ```text
     /// ensures { Self.Bound.value result ≡ (pair self).0 }
     /// ```
@@ -30,6 +32,8 @@ pub trait Pair: Copy {
     /// Returns the upper bound.
     ///
     /// # Proved
+    ///
+    /// The result is the upper bound of the pair.
     ///
     /// ```text
     /// ensures { Self.Bound.value result ≡ (pair self).1 }
@@ -40,6 +44,8 @@ pub trait Pair: Copy {
     /// above it. The two may cross.
     ///
     /// # Proved
+    ///
+    /// The bounds of the pair are `lower` and `upper`.
     ///
     /// ```text
     /// requires { IsInRange Self.Bound.whole (Self.Bound.value lower, Self.Bound.value upper) }

@@ -24,6 +24,8 @@ pub trait Sink<R: Pair> {
     ///
     /// # Proved
     ///
+    /// The run is added at the end of the list, one more is counted, and the room stays.
+    ///
     /// ```text
     /// requires { count self.old < room self.old }
     /// ensures list { (start : Self) → AddsAtEnd (R.pair run) (holds start self.old) (holds start self.new) }
@@ -37,6 +39,8 @@ pub trait Sink<R: Pair> {
     /// Adds a run, in the place of the last one if a condition holds.
     ///
     /// # Proved
+    ///
+    /// The run takes the place of the last one if `is_over`; else it is added at the end, and one more is counted. The room stays.
     ///
     /// ```text
     /// requires room { count self.old < room self.old }
@@ -52,6 +56,8 @@ pub trait Sink<R: Pair> {
     /// Adds a run unless it is crossed.
     ///
     /// # Proved
+    ///
+    /// The run is added at the end of the list unless it is crossed; at most one more is counted, `repeats` holds still, and the room stays.
     ///
     /// ```text
     /// requires room { count self.old < room self.old }
@@ -70,6 +76,8 @@ pub trait Sink<R: Pair> {
     ///
     /// # Proved
     ///
+    /// A list of `place` runs, or of one more, has the run at `place` as its last one if `is_filled`; if not, a list of `place` runs stays. The room stays.
+    ///
     /// ```text
     /// requires { place < room self.old }
     /// ensures list { (start : Self) → PutsAt place is_filled (R.pair run) (begins start self.old) (begins start self.new) }
@@ -82,6 +90,8 @@ pub trait Sink<R: Pair> {
     /// Keeps the first `kept` runs, which are all that were written.
     ///
     /// # Proved
+    ///
+    /// A list of `kept` runs that was begun is what the sink holds and counts. The room stays.
     ///
     /// ```text
     /// ensures list { (start : Self) (L : List (ℤ × ℤ)) → begins start self.old L → kept ≡ length L → holds start self.new L × (count self.new ≡ kept) }
@@ -155,6 +165,8 @@ impl<'a, R: Pair> Places<'a, R> {
     ///
     /// # Proved
     ///
+    /// The slice is the one that was lent, as it is, with no run counted; `last` is what stands at its first place, if there is one.
+    ///
     /// ```text
     /// ensures same { result.out.ghost_name ≡ out.entry.ghost_name }
     /// ensures now { result.out.now ≡ out.old }
@@ -175,6 +187,8 @@ impl<'a, R: Pair> Places<'a, R> {
     /// Gives the slice back, and returns the number of all runs.
     ///
     /// # Proved
+    ///
+    /// The result is the number of runs that were counted, and the slice is given back as it is.
     ///
     /// ```text
     /// ensures count { result ≡ self.entry.count }

@@ -284,6 +284,7 @@ impl<B: Width> Network<B> {
     /// ```
     ///
     /// Words: [`AreDifferent`](crate::definitions#AreDifferent), [`first_unknown`](crate::definitions#first_unknown), [`places_of`](crate::definitions#places), [`IsRuleRequired`](crate::definitions#IsRuleRequired).
+    #[cfg_attr(debug_assertions, track_caller)]
     pub fn require(&mut self, rule: Rule) -> Result<(), StoreFault> {
         debug_assert!({ #[allow(unused_imports)] use crate::proved::ivl_interval::ops::*; rule.is_over_different() }, "{}", "the condition of `require` is broken: rule.is_over_different()");
         if let Some(i) = rule.first_unknown(self.store.domains().len()) {
@@ -456,6 +457,8 @@ impl<B: Width> Network<B> {
     ///
     /// # Proved
     ///
+    /// Domains only lose members, and no supported family and no common solution loses one. All: the domains are the greatest supported family. So many narrowings were made: all of the budget if some rule is left. No narrowing is made in vain: so many fewer are left. All exactly where no rule is left to look at, and so wherever the budget covers the work.
+    ///
     /// ```text
     /// ensures memory { IfErr result (λ fault. fault ≡ StoreFault.Memory) }
     /// ensures rules { self.new.rules ≡ self.old.rules }
@@ -504,6 +507,8 @@ impl<B: Width> Network<B> {
     /// ```
     ///
     /// # Proved
+    ///
+    /// Domains only lose members, and no supported family and no common solution loses one. All: the domains are the greatest supported family, and no rule is left to look at. So many narrowings were made: all of the budget if some rule is left and no domain is empty, and none if one was. No narrowing is made in vain: so many fewer are left.
     ///
     /// ```text
     /// ensures memory { IfErr result (λ fault. fault ≡ StoreFault.Memory) }
@@ -574,6 +579,8 @@ impl<B: Width> Network<B> {
     /// ```
     ///
     /// # Proved
+    ///
+    /// Domains only lose members, and no supported family and no common solution loses one. All: the domains are the greatest supported family, and no rule is left to look at. What was made counts for no more than the budget, and the next narrowing for more than is left if some rule is left.
     ///
     /// ```text
     /// ensures memory { IfErr result (λ fault. fault ≡ StoreFault.Memory) }

@@ -95,6 +95,8 @@ impl<B: Width> PagedSet<B> {
     ///
     /// # Proved
     ///
+    /// The result is the empty set.
+    ///
     /// ```text
     /// ensures { result ≡ [] }
     /// ```
@@ -120,6 +122,8 @@ impl<B: Width> PagedSet<B> {
     /// ```
     ///
     /// # Proved
+    ///
+    /// On success, the result has the runs of `set`.
     ///
     /// ```text
     /// ensures { IfOk result (λ L. L ≡ set.now) }
@@ -147,6 +151,8 @@ impl<B: Width> PagedSet<B> {
     /// ```
     ///
     /// # Proved
+    ///
+    /// True exactly when there is no member, and so no run.
     ///
     /// ```text
     /// ensures members { IsTrue result ↔ HasNone (Covers self.now) }
@@ -179,6 +185,8 @@ impl<B: Width> PagedSet<B> {
     /// ```
     ///
     /// # Proved
+    ///
+    /// True exactly when the value is a member.
     ///
     /// ```text
     /// ensures { IsTrue result ↔ Covers self.now (B.value value.now) }
@@ -220,6 +228,8 @@ impl<B: Width> PagedSet<B> {
     ///
     /// # Proved
     ///
+    /// On success, exactly the value is added, and the answer is true exactly when it was no member; on an error the set is unchanged. It succeeds if the value or a number next to it is a member.
+    ///
     /// ```text
     /// requires { IsBetween B.whole (B.value value) }
     /// ensures members { OnOk result (IsRunsOf self.new (Union (Covers self.old) (Only (B.value value)))) }
@@ -258,6 +268,8 @@ impl<B: Width> PagedSet<B> {
     /// ```
     ///
     /// # Proved
+    ///
+    /// On success, exactly the value is removed, and the answer is true exactly when it was a member; on an error the set is unchanged. It succeeds unless the value and both numbers next to it are members.
     ///
     /// ```text
     /// ensures members { OnOk result (IsRunsOf self.new (Without (Covers self.old) (Only (B.value value)))) }
@@ -300,6 +312,8 @@ impl<B: Width> PagedSet<B> {
     /// ```
     ///
     /// # Proved
+    ///
+    /// On success, exactly the numbers of the interval are added; on an error the set is unchanged. It succeeds if the interval is empty, or overlaps or touches a run.
     ///
     /// ```text
     /// ensures ok { OnOk result (IsRunsOf self.new (Union (Covers self.old) (IsBetween interval))) }
@@ -353,6 +367,8 @@ impl<B: Width> PagedSet<B> {
     ///
     /// # Proved
     ///
+    /// On success, exactly the numbers of the interval are removed; on an error the set is unchanged. It succeeds if the interval is empty, and unless it lies inside a run and splits it.
+    ///
     /// ```text
     /// ensures ok { OnOk result (IsRunsOf self.new (Without (Covers self.old) (IsBetween interval))) }
     /// ensures err { OnErr result (self.new ≡ self.old) }
@@ -397,6 +413,8 @@ impl<B: Width> PagedSet<B> {
     ///
     /// # Proved
     ///
+    /// Removes exactly the least member, and returns it; it is in the range. An empty set stays empty, and the result is `None`.
+    ///
     /// ```text
     /// ensures none { IfNone result ((self.old ≡ []) × (self.new ≡ [])) }
     /// ensures member { IfSome result (λ v. Covers self.old (B.value v)) }
@@ -431,6 +449,8 @@ impl<B: Width> PagedSet<B> {
     /// ```
     ///
     /// # Proved
+    ///
+    /// Removes exactly the greatest member, and returns it; it is in the range. An empty set stays empty, and the result is `None`.
     ///
     /// ```text
     /// ensures none { IfNone result ((self.old ≡ []) × (self.new ≡ [])) }
@@ -470,6 +490,8 @@ impl<B: Width> PagedSet<B> {
     ///
     /// # Proved
     ///
+    /// The set is empty afterwards.
+    ///
     /// ```text
     /// ensures { self.new ≡ [] }
     /// ```
@@ -492,6 +514,8 @@ impl<B: Width> PagedSet<B> {
     /// ```
     ///
     /// # Proved
+    ///
+    /// The runs are ascending, lie in the range, and neither overlap nor touch.
     ///
     /// ```text
     /// ensures { IsRunListIn B.whole self.now }
@@ -518,6 +542,8 @@ impl<B: Width> PagedSet<B> {
     /// ```
     ///
     /// # Proved
+    ///
+    /// On success, the result has the runs of the set.
     ///
     /// ```text
     /// ensures { IfOk result (λ L. L ≡ self.now) }

@@ -163,6 +163,7 @@ impl From<AllocError> for SearchFault {
 /// ```
 ///
 /// Words: [`AreDistinct`](crate::definitions#AreDistinct), [`first_unknown_of`](crate::definitions#first_unknown_of), [`Solves`](crate::definitions#Solves), [`EachOnce`](crate::definitions#EachOnce), [`nodes_enough`](crate::definitions#nodes_enough).
+#[cfg_attr(debug_assertions, track_caller)]
 pub fn solutions<B: Width>(
     alloc: Global,
     domains: &[IntervalSet<B>],
@@ -279,6 +280,7 @@ pub fn all_distinct(constraints: &[Constraint]) -> bool {
 /// ```
 ///
 /// Words: [`AreDistinct`](crate::definitions#AreDistinct), [`first_unknown_of`](crate::definitions#first_unknown_of), [`Finds`](crate::definitions#Finds), [`Solves`](crate::definitions#Solves), [`nodes_enough`](crate::definitions#nodes_enough).
+#[cfg_attr(debug_assertions, track_caller)]
 pub fn count<B: Width>(
     alloc: Global,
     domains: &[IntervalSet<B>],
@@ -351,6 +353,7 @@ pub fn count<B: Width>(
 /// ```
 ///
 /// Words: [`AreDistinct`](crate::definitions#AreDistinct), [`first_unknown_or`](crate::definitions#first_unknown_or), [`Solves`](crate::definitions#Solves), [`IsLeastAt`](crate::definitions#IsLeastAt), [`FallsTo`](crate::definitions#FallsTo), [`nodes_for_best`](crate::definitions#nodes_for_best).
+#[cfg_attr(debug_assertions, track_caller)]
 pub fn least<B: Width>(
     alloc: Global,
     domains: &[IntervalSet<B>],
@@ -409,6 +412,7 @@ pub fn least<B: Width>(
 /// ```
 ///
 /// Words: [`AreDistinct`](crate::definitions#AreDistinct), [`first_unknown_or`](crate::definitions#first_unknown_or), [`Solves`](crate::definitions#Solves), [`IsGreatestAt`](crate::definitions#IsGreatestAt), [`RisesTo`](crate::definitions#RisesTo), [`nodes_for_best`](crate::definitions#nodes_for_best).
+#[cfg_attr(debug_assertions, track_caller)]
 pub fn greatest<B: Width>(
     alloc: Global,
     domains: &[IntervalSet<B>],

@@ -52,6 +52,8 @@ pub enum Combined {
 ///
 /// # Proved
 ///
+/// On success, the members are exactly the sums of a member of each set that are in the range, and the flag is true exactly when some sum is not.
+///
 /// ```text
 /// ensures members { IfOk result (λ r. IsRunsOf r.0 (Clipped B.whole (Sums (Covers a.now) (Covers b.now)))) }
 /// ensures cut { IfOk result (λ r. IsTrue r.1 ↔ HasSome (Without (Sums (Covers a.now) (Covers b.now)) (IsBetween B.whole))) }
@@ -90,6 +92,8 @@ pub fn add_within<B: Width>(
 /// ```
 ///
 /// # Proved
+///
+/// On success, the members are exactly the differences of a member of `a` and one of `b` that are in the range, and the flag is true exactly when some difference is not.
 ///
 /// ```text
 /// ensures members { IfOk result (λ r. IsRunsOf r.0 (Clipped B.whole (Differences (Covers a.now) (Covers b.now)))) }
@@ -131,6 +135,8 @@ pub fn sub_within<B: Width>(
 ///
 /// # Proved
 ///
+/// On success, the members are exactly the sums of a member of each set that are in the window.
+///
 /// ```text
 /// ensures { IfOk result (λ L. IsRunsOf L (Clipped window.now (Sums (Covers a.now) (Covers b.now)))) }
 /// ```
@@ -169,6 +175,8 @@ pub fn sums_in_window<B: Width>(
 /// ```
 ///
 /// # Proved
+///
+/// On success, the members are exactly the differences of a member of `a` and one of `b` that are in the window.
 ///
 /// ```text
 /// ensures { IfOk result (λ L. IsRunsOf L (Clipped window.now (Differences (Covers a.now) (Covers b.now)))) }

@@ -25,6 +25,8 @@ use crate::rattle::std::ops::{Add, Mul, Sub};
 
 /// Proved, with these words of the trait:
 ///
+/// On success, the members are exactly the sums of a member of each set.
+///
 /// ```text
 /// can_add = { λ a b. IsSubset (Sums (Covers a) (Covers b)) (IsBetween B.whole) }
 /// add_gives = { λ a b r. IfOk r (λ L. IsRunsOf L (Sums (Covers a) (Covers b))) }
@@ -51,6 +53,7 @@ impl<B: Width> Add<IntervalSet<B>> for IntervalSet<B> {
     ///     Ok(())
     /// }
     /// ```
+    #[cfg_attr(debug_assertions, track_caller)]
     fn add(self, rhs: IntervalSet<B>) -> Result<IntervalSet<B>, AllocError> {
         debug_assert!({ #[allow(unused_imports)] use crate::proved::ivl_interval::ops::*; self.fits_add(&rhs) }, "{}", "the condition of `add` is broken: self.fits_add(&rhs)");
         combine(&self, &rhs, Op::Sum)
@@ -58,6 +61,8 @@ impl<B: Width> Add<IntervalSet<B>> for IntervalSet<B> {
 }
 
 /// Proved, with these words of the trait:
+///
+/// On success, the members are exactly the sums of a member of each set.
 ///
 /// ```text
 /// can_add = { λ a b. IsSubset (Sums (Covers a) (Covers b.now)) (IsBetween B.whole) }
@@ -73,6 +78,7 @@ impl<B: Width> Add<&IntervalSet<B>> for IntervalSet<B> {
     ///
     /// `O(n m log (n m))` for `n` and `m` runs. Needs memory for at most `2 n m` runs
     /// at a time. Fails only if allocation fails.
+    #[cfg_attr(debug_assertions, track_caller)]
     fn add(self, rhs: &IntervalSet<B>) -> Result<IntervalSet<B>, AllocError> {
         debug_assert!({ #[allow(unused_imports)] use crate::proved::ivl_interval::ops::*; self.fits_add(rhs) }, "{}", "the condition of `add` is broken: self.fits_add(rhs)");
         combine(&self, rhs, Op::Sum)
@@ -80,6 +86,8 @@ impl<B: Width> Add<&IntervalSet<B>> for IntervalSet<B> {
 }
 
 /// Proved, with these words of the trait:
+///
+/// On success, the members are exactly the sums of a member of each set.
 ///
 /// ```text
 /// can_add = { λ a b. IsSubset (Sums (Covers a.now) (Covers b)) (IsBetween B.whole) }
@@ -95,6 +103,7 @@ impl<B: Width> Add<IntervalSet<B>> for &IntervalSet<B> {
     ///
     /// `O(n m log (n m))` for `n` and `m` runs. Needs memory for at most `2 n m` runs
     /// at a time. Fails only if allocation fails.
+    #[cfg_attr(debug_assertions, track_caller)]
     fn add(self, rhs: IntervalSet<B>) -> Result<IntervalSet<B>, AllocError> {
         debug_assert!({ #[allow(unused_imports)] use crate::proved::ivl_interval::ops::*; self.fits_add(&rhs) }, "{}", "the condition of `add` is broken: self.fits_add(&rhs)");
         combine(self, &rhs, Op::Sum)
@@ -102,6 +111,8 @@ impl<B: Width> Add<IntervalSet<B>> for &IntervalSet<B> {
 }
 
 /// Proved, with these words of the trait:
+///
+/// On success, the members are exactly the sums of a member of each set.
 ///
 /// ```text
 /// can_add = { λ a b. IsSubset (Sums (Covers a.now) (Covers b.now)) (IsBetween B.whole) }
@@ -117,6 +128,7 @@ impl<B: Width> Add<&IntervalSet<B>> for &IntervalSet<B> {
     ///
     /// `O(n m log (n m))` for `n` and `m` runs. Needs memory for at most `2 n m` runs
     /// at a time. Fails only if allocation fails.
+    #[cfg_attr(debug_assertions, track_caller)]
     fn add(self, rhs: &IntervalSet<B>) -> Result<IntervalSet<B>, AllocError> {
         debug_assert!({ #[allow(unused_imports)] use crate::proved::ivl_interval::ops::*; self.fits_add(rhs) }, "{}", "the condition of `add` is broken: self.fits_add(rhs)");
         combine(self, rhs, Op::Sum)
@@ -153,7 +165,7 @@ impl<B: Width> Add<B> for IntervalSet<B> {
     ///
     /// # Proved
     ///
-    /// If it is `Ok`, the members of the answer are exactly the sums of a member of each operand.
+    /// On success, the members are exactly the sums of a member and the value, in at most as many runs as the set has.
     ///
     /// ```text
     /// requires { IsSubset (Sums (Covers self) (Only (B.value rhs))) (IsBetween B.whole) }
@@ -162,6 +174,7 @@ impl<B: Width> Add<B> for IntervalSet<B> {
     /// ```
     ///
     /// Words: [`IsSubset`](crate::definitions#IsSubset), [`Sums`](crate::definitions#Sums), [`Covers`](crate::definitions#Covers), [`Only`](crate::definitions#Only), [`IsBetween`](crate::definitions#IsBetween), [`IsRunsOf`](crate::definitions#IsRunsOf).
+    #[cfg_attr(debug_assertions, track_caller)]
     fn add(self, rhs: B) -> Result<IntervalSet<B>, AllocError> {
         debug_assert!({ #[allow(unused_imports)] use crate::proved::ivl_interval::ops::*; self.fits_add(&rhs) }, "{}", "the condition of `add` is broken: self.fits_add(&rhs)");
         combine_with(&self, rhs, Op::Sum)
@@ -186,7 +199,7 @@ impl<B: Width> Add<&B> for IntervalSet<B> {
     ///
     /// # Proved
     ///
-    /// If it is `Ok`, the members of the answer are exactly the sums of a member of each operand.
+    /// On success, the members are exactly the sums of a member and the value, in at most as many runs as the set has.
     ///
     /// ```text
     /// requires { IsSubset (Sums (Covers self) (Only (B.value rhs.now))) (IsBetween B.whole) }
@@ -195,6 +208,7 @@ impl<B: Width> Add<&B> for IntervalSet<B> {
     /// ```
     ///
     /// Words: [`IsSubset`](crate::definitions#IsSubset), [`Sums`](crate::definitions#Sums), [`Covers`](crate::definitions#Covers), [`Only`](crate::definitions#Only), [`IsBetween`](crate::definitions#IsBetween), [`IsRunsOf`](crate::definitions#IsRunsOf).
+    #[cfg_attr(debug_assertions, track_caller)]
     fn add(self, rhs: &B) -> Result<IntervalSet<B>, AllocError> {
         debug_assert!({ #[allow(unused_imports)] use crate::proved::ivl_interval::ops::*; self.fits_add(rhs) }, "{}", "the condition of `add` is broken: self.fits_add(rhs)");
         combine_with(&self, *rhs, Op::Sum)
@@ -219,7 +233,7 @@ impl<B: Width> Add<B> for &IntervalSet<B> {
     ///
     /// # Proved
     ///
-    /// If it is `Ok`, the members of the answer are exactly the sums of a member of each operand.
+    /// On success, the members are exactly the sums of a member and the value, in at most as many runs as the set has.
     ///
     /// ```text
     /// requires { IsSubset (Sums (Covers self.now) (Only (B.value rhs))) (IsBetween B.whole) }
@@ -228,6 +242,7 @@ impl<B: Width> Add<B> for &IntervalSet<B> {
     /// ```
     ///
     /// Words: [`IsSubset`](crate::definitions#IsSubset), [`Sums`](crate::definitions#Sums), [`Covers`](crate::definitions#Covers), [`Only`](crate::definitions#Only), [`IsBetween`](crate::definitions#IsBetween), [`IsRunsOf`](crate::definitions#IsRunsOf).
+    #[cfg_attr(debug_assertions, track_caller)]
     fn add(self, rhs: B) -> Result<IntervalSet<B>, AllocError> {
         debug_assert!({ #[allow(unused_imports)] use crate::proved::ivl_interval::ops::*; self.fits_add(&rhs) }, "{}", "the condition of `add` is broken: self.fits_add(&rhs)");
         combine_with(self, rhs, Op::Sum)
@@ -252,7 +267,7 @@ impl<B: Width> Add<&B> for &IntervalSet<B> {
     ///
     /// # Proved
     ///
-    /// If it is `Ok`, the members of the answer are exactly the sums of a member of each operand.
+    /// On success, the members are exactly the sums of a member and the value, in at most as many runs as the set has.
     ///
     /// ```text
     /// requires { IsSubset (Sums (Covers self.now) (Only (B.value rhs.now))) (IsBetween B.whole) }
@@ -261,6 +276,7 @@ impl<B: Width> Add<&B> for &IntervalSet<B> {
     /// ```
     ///
     /// Words: [`IsSubset`](crate::definitions#IsSubset), [`Sums`](crate::definitions#Sums), [`Covers`](crate::definitions#Covers), [`Only`](crate::definitions#Only), [`IsBetween`](crate::definitions#IsBetween), [`IsRunsOf`](crate::definitions#IsRunsOf).
+    #[cfg_attr(debug_assertions, track_caller)]
     fn add(self, rhs: &B) -> Result<IntervalSet<B>, AllocError> {
         debug_assert!({ #[allow(unused_imports)] use crate::proved::ivl_interval::ops::*; self.fits_add(rhs) }, "{}", "the condition of `add` is broken: self.fits_add(rhs)");
         combine_with(self, *rhs, Op::Sum)
@@ -268,6 +284,8 @@ impl<B: Width> Add<&B> for &IntervalSet<B> {
 }
 
 /// Proved, with these words of the trait:
+///
+/// On success, the members are exactly the differences of a member of `self` and one of `rhs`.
 ///
 /// ```text
 /// can_sub = { λ a b. IsSubset (Differences (Covers a) (Covers b)) (IsBetween B.whole) }
@@ -295,6 +313,7 @@ impl<B: Width> Sub<IntervalSet<B>> for IntervalSet<B> {
     ///     Ok(())
     /// }
     /// ```
+    #[cfg_attr(debug_assertions, track_caller)]
     fn sub(self, rhs: IntervalSet<B>) -> Result<IntervalSet<B>, AllocError> {
         debug_assert!({ #[allow(unused_imports)] use crate::proved::ivl_interval::ops::*; self.fits_sub(&rhs) }, "{}", "the condition of `sub` is broken: self.fits_sub(&rhs)");
         combine(&self, &rhs, Op::Difference)
@@ -302,6 +321,8 @@ impl<B: Width> Sub<IntervalSet<B>> for IntervalSet<B> {
 }
 
 /// Proved, with these words of the trait:
+///
+/// On success, the members are exactly the differences of a member of `self` and one of `rhs`.
 ///
 /// ```text
 /// can_sub = { λ a b. IsSubset (Differences (Covers a) (Covers b.now)) (IsBetween B.whole) }
@@ -317,6 +338,7 @@ impl<B: Width> Sub<&IntervalSet<B>> for IntervalSet<B> {
     ///
     /// `O(n m log (n m))` for `n` and `m` runs. Needs memory for at most `2 n m` runs
     /// at a time. Fails only if allocation fails.
+    #[cfg_attr(debug_assertions, track_caller)]
     fn sub(self, rhs: &IntervalSet<B>) -> Result<IntervalSet<B>, AllocError> {
         debug_assert!({ #[allow(unused_imports)] use crate::proved::ivl_interval::ops::*; self.fits_sub(rhs) }, "{}", "the condition of `sub` is broken: self.fits_sub(rhs)");
         combine(&self, rhs, Op::Difference)
@@ -324,6 +346,8 @@ impl<B: Width> Sub<&IntervalSet<B>> for IntervalSet<B> {
 }
 
 /// Proved, with these words of the trait:
+///
+/// On success, the members are exactly the differences of a member of `self` and one of `rhs`.
 ///
 /// ```text
 /// can_sub = { λ a b. IsSubset (Differences (Covers a.now) (Covers b)) (IsBetween B.whole) }
@@ -339,6 +363,7 @@ impl<B: Width> Sub<IntervalSet<B>> for &IntervalSet<B> {
     ///
     /// `O(n m log (n m))` for `n` and `m` runs. Needs memory for at most `2 n m` runs
     /// at a time. Fails only if allocation fails.
+    #[cfg_attr(debug_assertions, track_caller)]
     fn sub(self, rhs: IntervalSet<B>) -> Result<IntervalSet<B>, AllocError> {
         debug_assert!({ #[allow(unused_imports)] use crate::proved::ivl_interval::ops::*; self.fits_sub(&rhs) }, "{}", "the condition of `sub` is broken: self.fits_sub(&rhs)");
         combine(self, &rhs, Op::Difference)
@@ -346,6 +371,8 @@ impl<B: Width> Sub<IntervalSet<B>> for &IntervalSet<B> {
 }
 
 /// Proved, with these words of the trait:
+///
+/// On success, the members are exactly the differences of a member of `self` and one of `rhs`.
 ///
 /// ```text
 /// can_sub = { λ a b. IsSubset (Differences (Covers a.now) (Covers b.now)) (IsBetween B.whole) }
@@ -361,6 +388,7 @@ impl<B: Width> Sub<&IntervalSet<B>> for &IntervalSet<B> {
     ///
     /// `O(n m log (n m))` for `n` and `m` runs. Needs memory for at most `2 n m` runs
     /// at a time. Fails only if allocation fails.
+    #[cfg_attr(debug_assertions, track_caller)]
     fn sub(self, rhs: &IntervalSet<B>) -> Result<IntervalSet<B>, AllocError> {
         debug_assert!({ #[allow(unused_imports)] use crate::proved::ivl_interval::ops::*; self.fits_sub(rhs) }, "{}", "the condition of `sub` is broken: self.fits_sub(rhs)");
         combine(self, rhs, Op::Difference)
@@ -398,7 +426,7 @@ impl<B: Width> Sub<B> for IntervalSet<B> {
     ///
     /// # Proved
     ///
-    /// If it is `Ok`, the members of the answer are exactly the differences of a member of each operand.
+    /// On success, the members are exactly the differences of a member and the value, in at most as many runs as the set has.
     ///
     /// ```text
     /// requires { IsSubset (Differences (Covers self) (Only (B.value rhs))) (IsBetween B.whole) }
@@ -407,6 +435,7 @@ impl<B: Width> Sub<B> for IntervalSet<B> {
     /// ```
     ///
     /// Words: [`IsSubset`](crate::definitions#IsSubset), [`Differences`](crate::definitions#Differences), [`Covers`](crate::definitions#Covers), [`Only`](crate::definitions#Only), [`IsBetween`](crate::definitions#IsBetween), [`IsRunsOf`](crate::definitions#IsRunsOf).
+    #[cfg_attr(debug_assertions, track_caller)]
     fn sub(self, rhs: B) -> Result<IntervalSet<B>, AllocError> {
         debug_assert!({ #[allow(unused_imports)] use crate::proved::ivl_interval::ops::*; self.fits_sub(&rhs) }, "{}", "the condition of `sub` is broken: self.fits_sub(&rhs)");
         combine_with(&self, rhs, Op::Difference)
@@ -432,7 +461,7 @@ impl<B: Width> Sub<&B> for IntervalSet<B> {
     ///
     /// # Proved
     ///
-    /// If it is `Ok`, the members of the answer are exactly the differences of a member of each operand.
+    /// On success, the members are exactly the differences of a member and the value, in at most as many runs as the set has.
     ///
     /// ```text
     /// requires { IsSubset (Differences (Covers self) (Only (B.value rhs.now))) (IsBetween B.whole) }
@@ -441,6 +470,7 @@ impl<B: Width> Sub<&B> for IntervalSet<B> {
     /// ```
     ///
     /// Words: [`IsSubset`](crate::definitions#IsSubset), [`Differences`](crate::definitions#Differences), [`Covers`](crate::definitions#Covers), [`Only`](crate::definitions#Only), [`IsBetween`](crate::definitions#IsBetween), [`IsRunsOf`](crate::definitions#IsRunsOf).
+    #[cfg_attr(debug_assertions, track_caller)]
     fn sub(self, rhs: &B) -> Result<IntervalSet<B>, AllocError> {
         debug_assert!({ #[allow(unused_imports)] use crate::proved::ivl_interval::ops::*; self.fits_sub(rhs) }, "{}", "the condition of `sub` is broken: self.fits_sub(rhs)");
         combine_with(&self, *rhs, Op::Difference)
@@ -466,7 +496,7 @@ impl<B: Width> Sub<B> for &IntervalSet<B> {
     ///
     /// # Proved
     ///
-    /// If it is `Ok`, the members of the answer are exactly the differences of a member of each operand.
+    /// On success, the members are exactly the differences of a member and the value, in at most as many runs as the set has.
     ///
     /// ```text
     /// requires { IsSubset (Differences (Covers self.now) (Only (B.value rhs))) (IsBetween B.whole) }
@@ -475,6 +505,7 @@ impl<B: Width> Sub<B> for &IntervalSet<B> {
     /// ```
     ///
     /// Words: [`IsSubset`](crate::definitions#IsSubset), [`Differences`](crate::definitions#Differences), [`Covers`](crate::definitions#Covers), [`Only`](crate::definitions#Only), [`IsBetween`](crate::definitions#IsBetween), [`IsRunsOf`](crate::definitions#IsRunsOf).
+    #[cfg_attr(debug_assertions, track_caller)]
     fn sub(self, rhs: B) -> Result<IntervalSet<B>, AllocError> {
         debug_assert!({ #[allow(unused_imports)] use crate::proved::ivl_interval::ops::*; self.fits_sub(&rhs) }, "{}", "the condition of `sub` is broken: self.fits_sub(&rhs)");
         combine_with(self, rhs, Op::Difference)
@@ -500,7 +531,7 @@ impl<B: Width> Sub<&B> for &IntervalSet<B> {
     ///
     /// # Proved
     ///
-    /// If it is `Ok`, the members of the answer are exactly the differences of a member of each operand.
+    /// On success, the members are exactly the differences of a member and the value, in at most as many runs as the set has.
     ///
     /// ```text
     /// requires { IsSubset (Differences (Covers self.now) (Only (B.value rhs.now))) (IsBetween B.whole) }
@@ -509,6 +540,7 @@ impl<B: Width> Sub<&B> for &IntervalSet<B> {
     /// ```
     ///
     /// Words: [`IsSubset`](crate::definitions#IsSubset), [`Differences`](crate::definitions#Differences), [`Covers`](crate::definitions#Covers), [`Only`](crate::definitions#Only), [`IsBetween`](crate::definitions#IsBetween), [`IsRunsOf`](crate::definitions#IsRunsOf).
+    #[cfg_attr(debug_assertions, track_caller)]
     fn sub(self, rhs: &B) -> Result<IntervalSet<B>, AllocError> {
         debug_assert!({ #[allow(unused_imports)] use crate::proved::ivl_interval::ops::*; self.fits_sub(rhs) }, "{}", "the condition of `sub` is broken: self.fits_sub(rhs)");
         combine_with(self, *rhs, Op::Difference)
@@ -516,6 +548,8 @@ impl<B: Width> Sub<&B> for &IntervalSet<B> {
 }
 
 /// Proved, with these words of the trait:
+///
+/// On success, the members are, for each pair of runs, exactly the numbers from the least to the greatest product.
 ///
 /// ```text
 /// can_mul = { λ a b. IsSubset (ExactProducts (Covers a) (Covers b)) (IsBetween B.whole) }
@@ -543,6 +577,7 @@ impl<B: Width> Mul<IntervalSet<B>> for IntervalSet<B> {
     ///     Ok(())
     /// }
     /// ```
+    #[cfg_attr(debug_assertions, track_caller)]
     fn mul(self, rhs: IntervalSet<B>) -> Result<IntervalSet<B>, AllocError> {
         debug_assert!({ #[allow(unused_imports)] use crate::proved::ivl_interval::ops::*; self.fits_mul(&rhs) }, "{}", "the condition of `mul` is broken: self.fits_mul(&rhs)");
         combine(&self, &rhs, Op::Product)
@@ -550,6 +585,8 @@ impl<B: Width> Mul<IntervalSet<B>> for IntervalSet<B> {
 }
 
 /// Proved, with these words of the trait:
+///
+/// On success, the members are, for each pair of runs, exactly the numbers from the least to the greatest product.
 ///
 /// ```text
 /// can_mul = { λ a b. IsSubset (ExactProducts (Covers a) (Covers b.now)) (IsBetween B.whole) }
@@ -565,6 +602,7 @@ impl<B: Width> Mul<&IntervalSet<B>> for IntervalSet<B> {
     ///
     /// `O(n m log (n m))` for `n` and `m` runs. Needs memory for at most `2 n m` runs
     /// at a time. Fails only if allocation fails.
+    #[cfg_attr(debug_assertions, track_caller)]
     fn mul(self, rhs: &IntervalSet<B>) -> Result<IntervalSet<B>, AllocError> {
         debug_assert!({ #[allow(unused_imports)] use crate::proved::ivl_interval::ops::*; self.fits_mul(rhs) }, "{}", "the condition of `mul` is broken: self.fits_mul(rhs)");
         combine(&self, rhs, Op::Product)
@@ -572,6 +610,8 @@ impl<B: Width> Mul<&IntervalSet<B>> for IntervalSet<B> {
 }
 
 /// Proved, with these words of the trait:
+///
+/// On success, the members are, for each pair of runs, exactly the numbers from the least to the greatest product.
 ///
 /// ```text
 /// can_mul = { λ a b. IsSubset (ExactProducts (Covers a.now) (Covers b)) (IsBetween B.whole) }
@@ -587,6 +627,7 @@ impl<B: Width> Mul<IntervalSet<B>> for &IntervalSet<B> {
     ///
     /// `O(n m log (n m))` for `n` and `m` runs. Needs memory for at most `2 n m` runs
     /// at a time. Fails only if allocation fails.
+    #[cfg_attr(debug_assertions, track_caller)]
     fn mul(self, rhs: IntervalSet<B>) -> Result<IntervalSet<B>, AllocError> {
         debug_assert!({ #[allow(unused_imports)] use crate::proved::ivl_interval::ops::*; self.fits_mul(&rhs) }, "{}", "the condition of `mul` is broken: self.fits_mul(&rhs)");
         combine(self, &rhs, Op::Product)
@@ -594,6 +635,8 @@ impl<B: Width> Mul<IntervalSet<B>> for &IntervalSet<B> {
 }
 
 /// Proved, with these words of the trait:
+///
+/// On success, the members are, for each pair of runs, exactly the numbers from the least to the greatest product.
 ///
 /// ```text
 /// can_mul = { λ a b. IsSubset (ExactProducts (Covers a.now) (Covers b.now)) (IsBetween B.whole) }
@@ -609,6 +652,7 @@ impl<B: Width> Mul<&IntervalSet<B>> for &IntervalSet<B> {
     ///
     /// `O(n m log (n m))` for `n` and `m` runs. Needs memory for at most `2 n m` runs
     /// at a time. Fails only if allocation fails.
+    #[cfg_attr(debug_assertions, track_caller)]
     fn mul(self, rhs: &IntervalSet<B>) -> Result<IntervalSet<B>, AllocError> {
         debug_assert!({ #[allow(unused_imports)] use crate::proved::ivl_interval::ops::*; self.fits_mul(rhs) }, "{}", "the condition of `mul` is broken: self.fits_mul(rhs)");
         combine(self, rhs, Op::Product)
@@ -649,7 +693,7 @@ impl<B: Width> Mul<B> for IntervalSet<B> {
     ///
     /// # Proved
     ///
-    /// If it is `Ok`, the members of the answer are, for each pair of runs, a value being a run of its own, exactly the numbers from the least to the greatest product.
+    /// On success, the members are, for each run, exactly the numbers from its least to its greatest product with the value, in at most as many runs as the set has.
     ///
     /// ```text
     /// requires { IsSubset (ExactProducts (Covers self) (Only (B.value rhs))) (IsBetween B.whole) }
@@ -658,6 +702,7 @@ impl<B: Width> Mul<B> for IntervalSet<B> {
     /// ```
     ///
     /// Words: [`IsSubset`](crate::definitions#IsSubset), [`ExactProducts`](crate::definitions#ExactProducts), [`Covers`](crate::definitions#Covers), [`Only`](crate::definitions#Only), [`IsBetween`](crate::definitions#IsBetween), [`IsRunsOf`](crate::definitions#IsRunsOf), [`Products`](crate::definitions#Products).
+    #[cfg_attr(debug_assertions, track_caller)]
     fn mul(self, rhs: B) -> Result<IntervalSet<B>, AllocError> {
         debug_assert!({ #[allow(unused_imports)] use crate::proved::ivl_interval::ops::*; self.fits_mul(&rhs) }, "{}", "the condition of `mul` is broken: self.fits_mul(&rhs)");
         combine_with(&self, rhs, Op::Product)
@@ -683,7 +728,7 @@ impl<B: Width> Mul<&B> for IntervalSet<B> {
     ///
     /// # Proved
     ///
-    /// If it is `Ok`, the members of the answer are, for each pair of runs, a value being a run of its own, exactly the numbers from the least to the greatest product.
+    /// On success, the members are, for each run, exactly the numbers from its least to its greatest product with the value, in at most as many runs as the set has.
     ///
     /// ```text
     /// requires { IsSubset (ExactProducts (Covers self) (Only (B.value rhs.now))) (IsBetween B.whole) }
@@ -692,6 +737,7 @@ impl<B: Width> Mul<&B> for IntervalSet<B> {
     /// ```
     ///
     /// Words: [`IsSubset`](crate::definitions#IsSubset), [`ExactProducts`](crate::definitions#ExactProducts), [`Covers`](crate::definitions#Covers), [`Only`](crate::definitions#Only), [`IsBetween`](crate::definitions#IsBetween), [`IsRunsOf`](crate::definitions#IsRunsOf), [`Products`](crate::definitions#Products).
+    #[cfg_attr(debug_assertions, track_caller)]
     fn mul(self, rhs: &B) -> Result<IntervalSet<B>, AllocError> {
         debug_assert!({ #[allow(unused_imports)] use crate::proved::ivl_interval::ops::*; self.fits_mul(rhs) }, "{}", "the condition of `mul` is broken: self.fits_mul(rhs)");
         combine_with(&self, *rhs, Op::Product)
@@ -717,7 +763,7 @@ impl<B: Width> Mul<B> for &IntervalSet<B> {
     ///
     /// # Proved
     ///
-    /// If it is `Ok`, the members of the answer are, for each pair of runs, a value being a run of its own, exactly the numbers from the least to the greatest product.
+    /// On success, the members are, for each run, exactly the numbers from its least to its greatest product with the value, in at most as many runs as the set has.
     ///
     /// ```text
     /// requires { IsSubset (ExactProducts (Covers self.now) (Only (B.value rhs))) (IsBetween B.whole) }
@@ -726,6 +772,7 @@ impl<B: Width> Mul<B> for &IntervalSet<B> {
     /// ```
     ///
     /// Words: [`IsSubset`](crate::definitions#IsSubset), [`ExactProducts`](crate::definitions#ExactProducts), [`Covers`](crate::definitions#Covers), [`Only`](crate::definitions#Only), [`IsBetween`](crate::definitions#IsBetween), [`IsRunsOf`](crate::definitions#IsRunsOf), [`Products`](crate::definitions#Products).
+    #[cfg_attr(debug_assertions, track_caller)]
     fn mul(self, rhs: B) -> Result<IntervalSet<B>, AllocError> {
         debug_assert!({ #[allow(unused_imports)] use crate::proved::ivl_interval::ops::*; self.fits_mul(&rhs) }, "{}", "the condition of `mul` is broken: self.fits_mul(&rhs)");
         combine_with(self, rhs, Op::Product)
@@ -751,7 +798,7 @@ impl<B: Width> Mul<&B> for &IntervalSet<B> {
     ///
     /// # Proved
     ///
-    /// If it is `Ok`, the members of the answer are, for each pair of runs, a value being a run of its own, exactly the numbers from the least to the greatest product.
+    /// On success, the members are, for each run, exactly the numbers from its least to its greatest product with the value, in at most as many runs as the set has.
     ///
     /// ```text
     /// requires { IsSubset (ExactProducts (Covers self.now) (Only (B.value rhs.now))) (IsBetween B.whole) }
@@ -760,6 +807,7 @@ impl<B: Width> Mul<&B> for &IntervalSet<B> {
     /// ```
     ///
     /// Words: [`IsSubset`](crate::definitions#IsSubset), [`ExactProducts`](crate::definitions#ExactProducts), [`Covers`](crate::definitions#Covers), [`Only`](crate::definitions#Only), [`IsBetween`](crate::definitions#IsBetween), [`IsRunsOf`](crate::definitions#IsRunsOf), [`Products`](crate::definitions#Products).
+    #[cfg_attr(debug_assertions, track_caller)]
     fn mul(self, rhs: &B) -> Result<IntervalSet<B>, AllocError> {
         debug_assert!({ #[allow(unused_imports)] use crate::proved::ivl_interval::ops::*; self.fits_mul(rhs) }, "{}", "the condition of `mul` is broken: self.fits_mul(rhs)");
         combine_with(self, *rhs, Op::Product)

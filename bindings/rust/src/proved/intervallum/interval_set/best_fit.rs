@@ -33,7 +33,7 @@ impl<B: Width> IntervalSet<B> {
     ///
     /// # Proved
     ///
-    /// The answer is the lowest `count` consecutive members, and the set keeps the others; or `None`, if there are none, and the set is unchanged.
+    /// The result is the lowest `count` consecutive members, and the set keeps exactly the others; or `None` if there are none, and the set is unchanged.
     ///
     /// ```text
     /// requires { 0 < B.Output.size count }
@@ -46,6 +46,7 @@ impl<B: Width> IntervalSet<B> {
     /// ```
     ///
     /// Words: [`FitsAt`](crate::definitions#FitsAt), [`Covers`](crate::definitions#Covers), [`IsFirstFit`](crate::definitions#IsFirstFit), [`IsRunsOf`](crate::definitions#IsRunsOf), [`Without`](crate::definitions#Without), [`IsBetween`](crate::definitions#IsBetween).
+    #[cfg_attr(debug_assertions, track_caller)]
     pub fn take_first_fit(&mut self, count: B::Output) -> Option<Interval<B>> {
         debug_assert!({ #[allow(unused_imports)] use crate::proved::ivl_interval::ops::*; count.number() > 0 }, "{}", "the condition of `take_first_fit` is broken: count.number() > 0");
         let run = self.first_fit(count)?;
@@ -74,6 +75,8 @@ impl<B: Width> IntervalSet<B> {
     ///
     /// # Proved
     ///
+    /// The result is the first `count` numbers of the shortest run that has so many, the lowest of those as short; or `None` if no run has so many.
+    ///
     /// ```text
     /// requires { 0 < B.Output.size count }
     /// ensures { MatchOption result
@@ -82,6 +85,7 @@ impl<B: Width> IntervalSet<B> {
     /// ```
     ///
     /// Words: [`FitsAt`](crate::definitions#FitsAt), [`Covers`](crate::definitions#Covers), [`IsBestFit`](crate::definitions#IsBestFit).
+    #[cfg_attr(debug_assertions, track_caller)]
     pub fn best_fit(&self, count: B::Output) -> Option<Interval<B>> {
         debug_assert!({ #[allow(unused_imports)] use crate::proved::ivl_interval::ops::*; count.number() > 0 }, "{}", "the condition of `best_fit` is broken: count.number() > 0");
         let runs = self.as_runs();

@@ -27,12 +27,15 @@ impl<B: Width> IntervalSet<B> {
     ///
     /// # Proved
     ///
+    /// On success, the only member is `x`.
+    ///
     /// ```text
     /// requires { IsBetween B.whole (B.value x) }
     /// ensures { IfOk result (λ L. L ≡ (B.value x, B.value x) ∷ []) }
     /// ```
     ///
     /// Words: [`IsBetween`](crate::definitions#IsBetween).
+    #[cfg_attr(debug_assertions, track_caller)]
     pub fn singleton(alloc: Global, x: B) -> Result<Self, AllocError> {
         Self::new(alloc, x, x)
     }
@@ -52,6 +55,8 @@ impl<B: Width> IntervalSet<B> {
     /// ```
     ///
     /// # Proved
+    ///
+    /// On success, the result is the whole range, as one run.
     ///
     /// ```text
     /// ensures { IfOk result (λ L. L ≡ B.whole ∷ []) }
@@ -75,6 +80,8 @@ impl<B: Width> IntervalSet<B> {
     ///
     /// # Proved
     ///
+    /// On success, the result is the whole range, as one run.
+    ///
     /// ```text
     /// ensures { IfOk result (λ L. L ≡ B.whole ∷ []) }
     /// ```
@@ -95,6 +102,8 @@ impl<B: Width> IntervalSet<B> {
     /// ```
     ///
     /// # Proved
+    ///
+    /// The result is the empty set.
     ///
     /// ```text
     /// ensures { result ≡ [] }
@@ -118,6 +127,8 @@ impl<B: Width> IntervalSet<B> {
     /// ```
     ///
     /// # Proved
+    ///
+    /// The result is the least member, which is in the range, or `None` if there is none.
     ///
     /// ```text
     /// ensures least { MatchOption result (HasNone (Covers self.now)) (λ x. IsLeast (B.value x) (Covers self.now)) }
@@ -148,6 +159,8 @@ impl<B: Width> IntervalSet<B> {
     /// ```
     ///
     /// # Proved
+    ///
+    /// The result is the greatest member, which is in the range, or `None` if there is none.
     ///
     /// ```text
     /// ensures greatest { MatchOption result (HasNone (Covers self.now)) (λ x. IsGreatest (B.value x) (Covers self.now)) }
@@ -180,6 +193,8 @@ impl<B: Width> IntervalSet<B> {
     ///
     /// # Proved
     ///
+    /// The result is the least interval that holds all members.
+    ///
     /// ```text
     /// ensures { IsHullOf result (Covers self.now) }
     /// ```
@@ -207,6 +222,8 @@ impl<B: Width> Bounded for IntervalSet<B> {
     ///
     /// # Proved
     ///
+    /// The result is the least member, which is in the range.
+    ///
     /// ```text
     /// requires { HasSome (Covers self.now) }
     /// ensures member { Covers self.now (B.value result) }
@@ -215,6 +232,7 @@ impl<B: Width> Bounded for IntervalSet<B> {
     /// ```
     ///
     /// Words: [`HasSome`](crate::definitions#HasSome), [`Covers`](crate::definitions#Covers), [`IsBetween`](crate::definitions#IsBetween).
+    #[cfg_attr(debug_assertions, track_caller)]
     fn lower(&self) -> B {
         debug_assert!({ #[allow(unused_imports)] use crate::proved::ivl_interval::ops::*; !self.is_empty() }, "{}", "the condition of `lower` is broken: !self.is_empty()");
         let first = self.intervals[0];
@@ -237,6 +255,8 @@ impl<B: Width> Bounded for IntervalSet<B> {
     ///
     /// # Proved
     ///
+    /// The result is the greatest member, which is in the range.
+    ///
     /// ```text
     /// requires { HasSome (Covers self.now) }
     /// ensures member { Covers self.now (B.value result) }
@@ -245,6 +265,7 @@ impl<B: Width> Bounded for IntervalSet<B> {
     /// ```
     ///
     /// Words: [`HasSome`](crate::definitions#HasSome), [`Covers`](crate::definitions#Covers), [`IsBetween`](crate::definitions#IsBetween).
+    #[cfg_attr(debug_assertions, track_caller)]
     fn upper(&self) -> B {
         debug_assert!({ #[allow(unused_imports)] use crate::proved::ivl_interval::ops::*; !self.is_empty() }, "{}", "the condition of `upper` is broken: !self.is_empty()");
         let last = self.intervals[self.intervals.len() - 1];

@@ -23,6 +23,8 @@ impl<B: Width> IntervalSet<B> {
     ///
     /// # Proved
     ///
+    /// On success, the result is the same set.
+    ///
     /// ```text
     /// ensures { IfOk result (λ L. L ≡ self.now) }
     /// ```
@@ -53,6 +55,8 @@ impl<B: Width> IntervalSet<B> {
     #[inline(always)]
     ///
     /// # Proved
+    ///
+    /// On success, the set is the same as `other`; on an error it is unchanged.
     ///
     /// ```text
     /// ensures same { OnOk result (self.new ≡ other.now) }

@@ -184,6 +184,8 @@ impl<B: Width> IntervalSet<B> {
     ///
     /// # Proved
     ///
+    /// On success, the members are exactly the numbers of the intervals that the iterator yields until it ends.
+    ///
     /// ```text
     /// requires can { I.can_next intervals }
     /// requires ends { IsFinite (I.remaining intervals) }
@@ -219,12 +221,15 @@ impl<B: Width> IntervalSet<B> {
     ///
     /// # Proved
     ///
+    /// On success, the members are exactly the numbers of the slice.
+    ///
     /// ```text
     /// requires { All (λ x. IsBetween B.whole (B.value x)) items.now }
     /// ensures { IfOk result (λ L. IsRunsOf L (IsIn (map B.value items.now))) }
     /// ```
     ///
     /// Words: [`IsBetween`](crate::definitions#IsBetween), [`IsRunsOf`](crate::definitions#IsRunsOf), [`IsIn`](crate::definitions#IsIn).
+    #[cfg_attr(debug_assertions, track_caller)]
     pub fn of_members(alloc: Global, items: &[B]) -> Result<Self, AllocError> {
         let mut list = Vec::with_capacity(alloc, items.len())?;
         for item in items {
@@ -255,6 +260,8 @@ impl<B: Width> IntervalSet<B> {
     /// ```
     ///
     /// # Proved
+    ///
+    /// On success, exactly the numbers of the slice are added; on an error the set is unchanged.
     ///
     /// ```text
     /// requires { All (λ x. IsBetween B.whole (B.value x)) items.now }

@@ -39,6 +39,8 @@ impl<B: Width> IntoRuns<B> {
 
 /// Proved, with these words of the trait:
 ///
+/// It yields the first run that is left, or `None` if none is.
+///
 /// ```text
 /// next_gives = { YieldsFirst (λ rest. rest) }
 /// remaining = { item_count (λ rest. rest) }
@@ -66,6 +68,8 @@ impl<B: Width> Iterator for IntoRuns<B> {
 
 /// Proved, with these words of the trait:
 ///
+/// It yields the last run that is left, or `None` if none is.
+///
 /// ```text
 /// next_back_gives = { YieldsLast (λ rest. rest) }
 /// ```
@@ -89,6 +93,8 @@ impl<B: Width> DoubleEndedIterator for IntoRuns<B> {
 }
 
 /// Proved, with these words of the trait:
+///
+/// The iterator yields the runs of the set in order.
 ///
 /// ```text
 /// into_iter_gives = { λ s it. it ≡ s }
@@ -145,6 +151,8 @@ impl<'a, B: Width> IntoIterator for &'a IntervalSet<B> {
     ///
     /// # Proved
     ///
+    /// The iterator yields the runs in order; they are ascending, not empty, lie in the range, and neither overlap nor touch.
+    ///
     /// ```text
     /// ensures rest { result.rest.now ≡ self.now }
     /// ensures runs { IsRunListIn B.whole self.now }
@@ -180,6 +188,8 @@ impl<B: Width> IntervalSet<B> {
     /// ```
     ///
     /// # Proved
+    ///
+    /// On success, exactly the numbers of the intervals that the iterator yields until it ends are added; on an error the set is unchanged.
     ///
     /// ```text
     /// requires can { I.can_next iterator }
@@ -259,6 +269,8 @@ pub trait ToIntervalSet<B: Width> {
     ///
     /// # Proved
     ///
+    /// True exactly when the condition of `to_interval_set` holds.
+    ///
     /// ```text
     /// ensures { IsTrue result ↔ can_convert self.now }
     /// ```
@@ -284,7 +296,7 @@ pub trait ToIntervalSet<B: Width> {
     ///
     /// # Proved
     ///
-    /// If it is `Ok`, the set has exactly the numbers of the given pairs, as the list of their longest runs.
+    /// On success, the members are exactly the numbers of the given pairs.
     ///
     /// ```text
     /// requires { can_convert self }
@@ -319,6 +331,7 @@ impl<B: Width> ToIntervalSet<B> for (B, B) {
     /// # Proved
     ///
     /// What [`ToIntervalSet::to_interval_set`] says, by the words of the type.
+    #[cfg_attr(debug_assertions, track_caller)]
     fn to_interval_set(self, alloc: Global) -> Result<IntervalSet<B>, AllocError> {
         let mut list = Vec::with_capacity(alloc, 1)?;
         list.push_reserved(Interval::new(self.0, self.1));
@@ -350,6 +363,7 @@ impl<B: Width> ToIntervalSet<B> for &[(B, B)] {
     /// # Proved
     ///
     /// What [`ToIntervalSet::to_interval_set`] says, by the words of the type.
+    #[cfg_attr(debug_assertions, track_caller)]
     fn to_interval_set(self, alloc: Global) -> Result<IntervalSet<B>, AllocError> {
         of_pairs(alloc, self)
     }
@@ -379,6 +393,7 @@ impl<B: Width> ToIntervalSet<B> for Vec<(B, B)> {
     /// # Proved
     ///
     /// What [`ToIntervalSet::to_interval_set`] says, by the words of the type.
+    #[cfg_attr(debug_assertions, track_caller)]
     fn to_interval_set(self, alloc: Global) -> Result<IntervalSet<B>, AllocError> {
         of_pairs(alloc, self.as_slice())
     }
@@ -407,6 +422,7 @@ impl<B: Width, const N: usize> ToIntervalSet<B> for [(B, B); N] {
     /// # Proved
     ///
     /// What [`ToIntervalSet::to_interval_set`] says, by the words of the type.
+    #[cfg_attr(debug_assertions, track_caller)]
     fn to_interval_set(self, alloc: Global) -> Result<IntervalSet<B>, AllocError> {
         of_pairs(alloc, &self)
     }

@@ -44,7 +44,7 @@ impl<B: Width> IntervalSet<B> {
     ///
     /// # Proved
     ///
-    /// If it is `Ok`, the new members are the old ones and the value, and it is true exactly when the value was none before; an error changes nothing, and cannot be where the value touches a member.
+    /// On success, exactly the value is added, and the answer is true exactly when it was no member; on an error the set is unchanged. It succeeds if the value or a number next to it is a member.
     ///
     /// ```text
     /// requires { IsBetween B.whole (B.value value) }
@@ -55,6 +55,7 @@ impl<B: Width> IntervalSet<B> {
     /// ```
     ///
     /// Words: [`IsBetween`](crate::definitions#IsBetween), [`IsRunsOf`](crate::definitions#IsRunsOf), [`Union`](crate::definitions#Union), [`Covers`](crate::definitions#Covers), [`Only`](crate::definitions#Only), [`HasSome`](crate::definitions#HasSome), [`Intersection`](crate::definitions#Intersection), [`widened`](crate::definitions#widened).
+    #[cfg_attr(debug_assertions, track_caller)]
     pub fn insert(&mut self, value: B) -> Result<bool, AllocError> {
         debug_assert!({ #[allow(unused_imports)] use crate::proved::ivl_interval::ops::*; Interval::in_range(value, value) }, "{}", "the condition of `insert` is broken: Interval::in_range(value, value)");
         self.in_whole();
@@ -89,7 +90,7 @@ impl<B: Width> IntervalSet<B> {
     ///
     /// # Proved
     ///
-    /// If it is `Ok`, the new members are the old ones without the value, and it is true exactly when the value was one; an error changes nothing, and can only be where the value stands inside a run.
+    /// On success, exactly the value is removed, and the answer is true exactly when it was a member; on an error the set is unchanged. It succeeds unless the value and both numbers next to it are members.
     ///
     /// ```text
     /// ensures members { OnOk result (IsRunsOf self.new (Without (Covers self.old) (Only (B.value value)))) }
@@ -133,7 +134,7 @@ impl<B: Width> IntervalSet<B> {
     ///
     /// # Proved
     ///
-    /// If it is `Ok`, the new members are the old ones and the numbers of the interval; an error changes nothing, and cannot be where the interval is empty, or touches a member.
+    /// On success, exactly the numbers of the interval are added; on an error the set is unchanged. It succeeds if the interval is empty, or overlaps or touches a run.
     ///
     /// ```text
     /// ensures ok { OnOk result (IsRunsOf self.new (Union (Covers self.old) (IsBetween interval))) }
@@ -173,6 +174,8 @@ impl<B: Width> IntervalSet<B> {
     /// ```
     ///
     /// # Proved
+    ///
+    /// On success, exactly the numbers of the interval are added, whatever the place; on an error the set is unchanged. It succeeds if the interval is empty, or overlaps or touches a run.
     ///
     /// ```text
     /// ensures ok { OnOk result (IsRunsOf self.new (Union (Covers self.old) (IsBetween interval))) }
@@ -226,7 +229,7 @@ impl<B: Width> IntervalSet<B> {
     ///
     /// # Proved
     ///
-    /// If it is `Ok`, the new members are the old ones that are not in the interval; an error changes nothing, and can only be where the interval stands inside a run.
+    /// On success, exactly the numbers of the interval are removed; on an error the set is unchanged. It succeeds if the interval is empty, and unless it lies inside a run and splits it.
     ///
     /// ```text
     /// ensures ok { OnOk result (IsRunsOf self.new (Without (Covers self.old) (IsBetween interval))) }
@@ -266,6 +269,8 @@ impl<B: Width> IntervalSet<B> {
     /// ```
     ///
     /// # Proved
+    ///
+    /// On success, exactly the numbers of the interval are removed, whatever the place; on an error the set is unchanged. It succeeds if the interval is empty, and unless it lies inside a run and splits it.
     ///
     /// ```text
     /// ensures ok { OnOk result (IsRunsOf self.new (Without (Covers self.old) (IsBetween interval))) }
@@ -313,6 +318,8 @@ impl<B: Width> IntervalSet<B> {
     ///
     /// # Proved
     ///
+    /// The set is empty afterwards.
+    ///
     /// ```text
     /// ensures { self.new ≡ [] }
     /// ```
@@ -337,6 +344,8 @@ impl<B: Width> IntervalSet<B> {
     /// ```
     ///
     /// # Proved
+    ///
+    /// Removes exactly the least member, and returns it; it is in the range. An empty set stays empty, and the result is `None`.
     ///
     /// ```text
     /// ensures none { IfNone result ((self.old ≡ []) × (self.new ≡ [])) }
@@ -374,6 +383,8 @@ impl<B: Width> IntervalSet<B> {
     /// ```
     ///
     /// # Proved
+    ///
+    /// Removes exactly the greatest member, and returns it; it is in the range. An empty set stays empty, and the result is `None`.
     ///
     /// ```text
     /// ensures none { IfNone result ((self.old ≡ []) × (self.new ≡ [])) }

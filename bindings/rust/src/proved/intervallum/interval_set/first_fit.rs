@@ -31,7 +31,7 @@ impl<B: Width> IntervalSet<B> {
     ///
     /// # Proved
     ///
-    /// The answer is the lowest `count` consecutive members, or `None` if there are none.
+    /// The result is the lowest `count` consecutive members, or `None` if there are none.
     ///
     /// ```text
     /// requires { 0 < B.Output.size count }
@@ -41,6 +41,7 @@ impl<B: Width> IntervalSet<B> {
     /// ```
     ///
     /// Words: [`FitsAt`](crate::definitions#FitsAt), [`Covers`](crate::definitions#Covers), [`IsFirstFit`](crate::definitions#IsFirstFit).
+    #[cfg_attr(debug_assertions, track_caller)]
     pub fn first_fit(&self, count: B::Output) -> Option<Interval<B>> {
         debug_assert!({ #[allow(unused_imports)] use crate::proved::ivl_interval::ops::*; count.number() > 0 }, "{}", "the condition of `first_fit` is broken: count.number() > 0");
         fit_in(self.as_runs(), count)
@@ -67,6 +68,8 @@ impl<B: Width> IntervalSet<B> {
     ///
     /// # Proved
     ///
+    /// The result is the lowest `count` consecutive members that are at least `v`, or `None` if there are none.
+    ///
     /// ```text
     /// requires { 0 < B.Output.size count }
     /// ensures { MatchOption result
@@ -75,6 +78,7 @@ impl<B: Width> IntervalSet<B> {
     /// ```
     ///
     /// Words: [`FitsAt`](crate::definitions#FitsAt), [`AtLeast`](crate::definitions#AtLeast), [`Covers`](crate::definitions#Covers), [`IsFirstFit`](crate::definitions#IsFirstFit).
+    #[cfg_attr(debug_assertions, track_caller)]
     pub fn first_fit_from(&self, v: B, count: B::Output) -> Option<Interval<B>> {
         debug_assert!({ #[allow(unused_imports)] use crate::proved::ivl_interval::ops::*; count.number() > 0 }, "{}", "the condition of `first_fit_from` is broken: count.number() > 0");
         let runs = self.as_runs();
@@ -103,6 +107,8 @@ impl<B: Width> IntervalSet<B> {
     /// ```
     ///
     /// # Proved
+    ///
+    /// On success, the members are exactly the numbers of the window that are not in the set.
     ///
     /// ```text
     /// ensures { IfOk result (λ L. IsRunsOf L (Without (IsBetween window.now) (Covers self.now))) }

@@ -32,12 +32,15 @@ impl<B: Width> IntervalSet<B> {
     ///
     /// # Proved
     ///
+    /// The runs of the result are those of the list.
+    ///
     /// ```text
     /// requires { IsMaximal runs.items }
     /// ensures { result ≡ runs.items }
     /// ```
     ///
     /// Words: [`IsMaximal`](crate::definitions#IsMaximal).
+    #[cfg_attr(debug_assertions, track_caller)]
     pub fn from_runs(runs: Vec<Interval<B>>) -> Self {
         debug_assert!({ #[allow(unused_imports)] use crate::proved::ivl_interval::ops::*; Self::are_runs(&runs) }, "{}", "the condition of `from_runs` is broken: Self::are_runs(&runs)");
         are_in_whole(&runs);
@@ -60,6 +63,8 @@ impl<B: Width> IntervalSet<B> {
     /// ```
     ///
     /// # Proved
+    ///
+    /// True exactly when the intervals of the list are not empty, are ascending, and neither overlap nor touch.
     ///
     /// ```text
     /// ensures { IsTrue result ↔ IsMaximal list.now }

@@ -128,6 +128,8 @@ impl<B: Width> IntervalSet<B> {
     ///
     /// # Proved
     ///
+    /// True exactly when each member of `other` is a member.
+    ///
     /// ```text
     /// ensures { IsTrue result ↔ IsSubset (Covers other.now) (Covers self.now) }
     /// ```
@@ -152,6 +154,8 @@ impl<B: Width> IntervalSet<B> {
     /// ```
     ///
     /// # Proved
+    ///
+    /// True exactly when each member of `other` is a member, and the two sets differ.
     ///
     /// ```text
     /// ensures { IsTrue result ↔ IsProperSubset (Covers other.now) (Covers self.now) }

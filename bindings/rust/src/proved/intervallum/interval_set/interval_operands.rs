@@ -30,6 +30,8 @@ impl<B: Width> IntervalSet<B> {
     ///
     /// # Proved
     ///
+    /// On success, the members are exactly the numbers of the interval, in at most one run.
+    ///
     /// ```text
     /// ensures members { IfOk result (λ L. IsRunsOf L (IsBetween interval)) }
     /// ensures runs_at_most { IfOk result (λ L. length L ≤ 1) }
@@ -58,6 +60,8 @@ impl<B: Width> IntervalSet<B> {
     /// ```
     ///
     /// # Proved
+    ///
+    /// True exactly when each number of the interval is a member.
     ///
     /// ```text
     /// ensures { IsTrue result ↔ IsSubset (IsBetween interval.now) (Covers self.now) }
@@ -172,6 +176,8 @@ impl<B: Width> Union<Interval<B>> for IntervalSet<B> {
     ///
     /// # Proved
     ///
+    /// On success, the members are exactly those of the set and the numbers of the interval, in at most one run more than the set has.
+    ///
     /// ```text
     /// ensures members { IfOk result (λ L. IsRunsOf L (Union (Covers self.now) (IsBetween other.now))) }
     /// ensures runs_at_most { IfOk result (λ L. length L ≤ length self.now + 1) }
@@ -213,6 +219,8 @@ impl<B: Width> Intersection<Interval<B>> for IntervalSet<B> {
     ///
     /// # Proved
     ///
+    /// On success, the members are exactly those of the set that are in the interval, in at most as many runs as the set has.
+    ///
     /// ```text
     /// ensures members { IfOk result (λ L. IsRunsOf L (Intersection (Covers self.now) (IsBetween other.now))) }
     /// ensures runs_at_most { IfOk result (λ L. length L ≤ length self.now) }
@@ -252,6 +260,8 @@ impl<B: Width> Difference<Interval<B>> for IntervalSet<B> {
     /// ```
     ///
     /// # Proved
+    ///
+    /// On success, the members are exactly those of the set that are not in the interval, in at most one run more than the set has.
     ///
     /// ```text
     /// ensures members { IfOk result (λ L. IsRunsOf L (Without (Covers self.now) (IsBetween other.now))) }
@@ -296,6 +306,8 @@ impl<B: Width> SymmetricDifference<Interval<B>> for IntervalSet<B> {
     /// ```
     ///
     /// # Proved
+    ///
+    /// On success, the members are exactly the numbers that are either in the set or in the interval, and not in both, in at most one run more than the set has.
     ///
     /// ```text
     /// ensures members { IfOk result (λ L. IsRunsOf L (SymmetricDifference (Covers self.now) (IsBetween other.now))) }

@@ -24,6 +24,8 @@ impl<B: Width> IntervalSet<B> {
     ///
     /// # Proved
     ///
+    /// The result is the list of the runs; they are ascending, not empty, lie in the range, and neither overlap nor touch.
+    ///
     /// ```text
     /// ensures same { result.now ≡ self.now }
     /// ensures runs { IsRunListIn B.whole self.now }
@@ -50,6 +52,8 @@ impl<B: Width> IntervalSet<B> {
     /// ```
     ///
     /// # Proved
+    ///
+    /// The runs are ascending, lie in the range, and neither overlap nor touch.
     ///
     /// ```text
     /// ensures { IsRunListIn B.whole self.now }

@@ -36,6 +36,8 @@ impl<B: Width> Join for IntervalSet<B> {
     ///
     /// # Proved
     ///
+    /// On success, the members are exactly those of both sets, in at most as many runs as the two have together.
+    ///
     /// ```text
     /// ensures members { IfOk result (λ L. IsRunsOf L (Intersection (Covers self) (Covers other))) }
     /// ensures runs_at_most { IfOk result (λ L. length L ≤ length self + length other) }
@@ -73,6 +75,8 @@ impl<B: Width> Meet for IntervalSet<B> {
     /// ```
     ///
     /// # Proved
+    ///
+    /// On success, the members are exactly those of either set, in at most as many runs as the two have together.
     ///
     /// ```text
     /// ensures members { IfOk result (λ L. IsRunsOf L (Union (Covers self) (Covers other))) }

@@ -32,6 +32,8 @@ impl<B: Width> IntervalSet<B> {
     ///
     /// # Proved
     ///
+    /// On success, the members are exactly the numbers that are in some of the sets.
+    ///
     /// ```text
     /// ensures { IfOk result (λ L. IsRunsOf L (IsInSome (map (λ s. s.now) sets.now))) }
     /// ```
@@ -75,6 +77,8 @@ impl<B: Width> IntervalSet<B> {
     /// ```
     ///
     /// # Proved
+    ///
+    /// On success, the members are exactly the numbers of the range that are in each of the sets.
     ///
     /// ```text
     /// ensures { IfOk result (λ L. IsRunsOf L (Intersection (IsBetween B.whole) (IsInEach (map (λ s. s.now) sets.now)))) }

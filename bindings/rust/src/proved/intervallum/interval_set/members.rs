@@ -69,6 +69,8 @@ impl<'a, B: Width> Clone for Members<'a, B> {
 
 /// Proved, with these words of the trait:
 ///
+/// It yields the first member that is left, or `None` if none is.
+///
 /// ```text
 /// next_gives = { YieldsFirstBy B.value (λ left. left) }
 /// remaining = { item_count (λ left. left) }
@@ -119,6 +121,8 @@ impl<'a, B: Width> Iterator for Members<'a, B> {
     ///
     /// # Proved
     ///
+    /// Both bounds are the number of members that are left; if a `usize` does not hold it, they are the greatest `usize` and `None`.
+    ///
     /// ```text
     /// ensures lower { IsWithinCount result.0 (item_count (λ left. left) self.now) }
     /// ensures upper { IfSome result.1 (UpTo (item_count (λ left. left) self.now)) }
@@ -133,6 +137,8 @@ impl<'a, B: Width> Iterator for Members<'a, B> {
 }
 
 /// Proved, with these words of the trait:
+///
+/// It yields the last member that is left, or `None` if none is.
 ///
 /// ```text
 /// next_back_gives = { YieldsLastBy B.value (λ left. left) }
@@ -261,7 +267,7 @@ impl<B: Width> IntervalSet<B> {
     ///
     /// # Proved
     ///
-    /// The iterator yields exactly the members, each greater than the one before.
+    /// The iterator yields exactly the members, each greater than the one before: the numbers of each run in turn. The runs are ascending, lie in the range, and neither overlap nor touch.
     ///
     /// ```text
     /// ensures left { result ≡ members_of self.now }

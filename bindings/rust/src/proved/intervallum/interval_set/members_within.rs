@@ -29,6 +29,8 @@ impl<B: Width> IntervalSet<B> {
     ///
     /// # Proved
     ///
+    /// The iterator yields exactly the members that are in the window, each greater than the one before.
+    ///
     /// ```text
     /// ensures members { SameMembers (Intersection (Covers self.now) (IsBetween window.now)) (IsIn result) }
     /// ensures ascending { IsAscending result }

@@ -28,7 +28,7 @@ impl<B: Width> IntervalSet<B> {
     ///
     /// # Proved
     ///
-    /// The answer is the least member that is at least the value, or `None` if there is none.
+    /// The result is the least member that is at least `v`, or `None` if there is none.
     ///
     /// ```text
     /// ensures { MatchOption result
@@ -69,6 +69,8 @@ impl<B: Width> IntervalSet<B> {
     ///
     /// # Proved
     ///
+    /// The result is the greatest member that is at most `v`, or `None` if there is none.
+    ///
     /// ```text
     /// ensures { MatchOption result
     ///     (HasNone (AtMost (B.value v) (Covers self.now)))
@@ -107,6 +109,8 @@ impl<B: Width> IntervalSet<B> {
     /// ```
     ///
     /// # Proved
+    ///
+    /// The result is the run that holds `v`, or `None` if `v` is no member.
     ///
     /// ```text
     /// ensures { MatchOption result

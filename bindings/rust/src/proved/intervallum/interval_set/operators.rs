@@ -15,6 +15,8 @@ use crate::rattle::std::ops::{BitAnd, BitOr, BitXor, Not};
 
 /// Proved, with these words of the trait:
 ///
+/// On success, the members are exactly those of either set.
+///
 /// ```text
 /// bitor_gives = { λ a b r. IfOk r (λ L. IsRunsOf L (Union (Covers a) (Covers b))) }
 /// ```
@@ -42,6 +44,8 @@ impl<B: Width> BitOr<IntervalSet<B>> for IntervalSet<B> {
 
 /// Proved, with these words of the trait:
 ///
+/// On success, the members are exactly those of either set.
+///
 /// ```text
 /// bitor_gives = { λ a b r. IfOk r (λ L. IsRunsOf L (Union (Covers a) (Covers b.now))) }
 /// ```
@@ -57,6 +61,8 @@ impl<B: Width> BitOr<&IntervalSet<B>> for IntervalSet<B> {
 }
 
 /// Proved, with these words of the trait:
+///
+/// On success, the members are exactly those of either set.
 ///
 /// ```text
 /// bitor_gives = { λ a b r. IfOk r (λ L. IsRunsOf L (Union (Covers a.now) (Covers b))) }
@@ -74,6 +80,8 @@ impl<B: Width> BitOr<IntervalSet<B>> for &IntervalSet<B> {
 
 /// Proved, with these words of the trait:
 ///
+/// On success, the members are exactly those of either set.
+///
 /// ```text
 /// bitor_gives = { λ a b r. IfOk r (λ L. IsRunsOf L (Union (Covers a.now) (Covers b.now))) }
 /// ```
@@ -89,6 +97,8 @@ impl<B: Width> BitOr<&IntervalSet<B>> for &IntervalSet<B> {
 }
 
 /// Proved, with these words of the trait:
+///
+/// On success, the members are exactly those of both sets.
 ///
 /// ```text
 /// bitand_gives = { λ a b r. IfOk r (λ L. IsRunsOf L (Intersection (Covers a) (Covers b))) }
@@ -117,6 +127,8 @@ impl<B: Width> BitAnd<IntervalSet<B>> for IntervalSet<B> {
 
 /// Proved, with these words of the trait:
 ///
+/// On success, the members are exactly those of both sets.
+///
 /// ```text
 /// bitand_gives = { λ a b r. IfOk r (λ L. IsRunsOf L (Intersection (Covers a) (Covers b.now))) }
 /// ```
@@ -132,6 +144,8 @@ impl<B: Width> BitAnd<&IntervalSet<B>> for IntervalSet<B> {
 }
 
 /// Proved, with these words of the trait:
+///
+/// On success, the members are exactly those of both sets.
 ///
 /// ```text
 /// bitand_gives = { λ a b r. IfOk r (λ L. IsRunsOf L (Intersection (Covers a.now) (Covers b))) }
@@ -149,6 +163,8 @@ impl<B: Width> BitAnd<IntervalSet<B>> for &IntervalSet<B> {
 
 /// Proved, with these words of the trait:
 ///
+/// On success, the members are exactly those of both sets.
+///
 /// ```text
 /// bitand_gives = { λ a b r. IfOk r (λ L. IsRunsOf L (Intersection (Covers a.now) (Covers b.now))) }
 /// ```
@@ -164,6 +180,8 @@ impl<B: Width> BitAnd<&IntervalSet<B>> for &IntervalSet<B> {
 }
 
 /// Proved, with these words of the trait:
+///
+/// On success, the members are exactly those of either set that are not in both.
 ///
 /// ```text
 /// bitxor_gives = { λ a b r. IfOk r (λ L. IsRunsOf L (SymmetricDifference (Covers a) (Covers b))) }
@@ -193,6 +211,8 @@ impl<B: Width> BitXor<IntervalSet<B>> for IntervalSet<B> {
 
 /// Proved, with these words of the trait:
 ///
+/// On success, the members are exactly those of either set that are not in both.
+///
 /// ```text
 /// bitxor_gives = { λ a b r. IfOk r (λ L. IsRunsOf L (SymmetricDifference (Covers a) (Covers b.now))) }
 /// ```
@@ -209,6 +229,8 @@ impl<B: Width> BitXor<&IntervalSet<B>> for IntervalSet<B> {
 }
 
 /// Proved, with these words of the trait:
+///
+/// On success, the members are exactly those of either set that are not in both.
 ///
 /// ```text
 /// bitxor_gives = { λ a b r. IfOk r (λ L. IsRunsOf L (SymmetricDifference (Covers a.now) (Covers b))) }
@@ -227,6 +249,8 @@ impl<B: Width> BitXor<IntervalSet<B>> for &IntervalSet<B> {
 
 /// Proved, with these words of the trait:
 ///
+/// On success, the members are exactly those of either set that are not in both.
+///
 /// ```text
 /// bitxor_gives = { λ a b r. IfOk r (λ L. IsRunsOf L (SymmetricDifference (Covers a.now) (Covers b.now))) }
 /// ```
@@ -243,6 +267,8 @@ impl<B: Width> BitXor<&IntervalSet<B>> for &IntervalSet<B> {
 }
 
 /// Proved, with these words of the trait:
+///
+/// On success, the members are exactly the numbers of the range that are not in the set.
 ///
 /// ```text
 /// not_gives = { λ a r. IfOk r (λ L. IsRunsOf L (Complement B.whole (Covers a))) }
@@ -270,6 +296,8 @@ impl<B: Width> Not for IntervalSet<B> {
 }
 
 /// Proved, with these words of the trait:
+///
+/// On success, the members are exactly the numbers of the range that are not in the set.
 ///
 /// ```text
 /// not_gives = { λ a r. IfOk r (λ L. IsRunsOf L (Complement B.whole (Covers a.now))) }

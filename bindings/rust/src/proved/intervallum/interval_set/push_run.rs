@@ -37,6 +37,8 @@ impl<B: Width> IntervalSet<B> {
     ///
     /// # Proved
     ///
+    /// On success, the run is added after the others; on an error the set is unchanged.
+    ///
     /// ```text
     /// requires filled { run.0 ≤ℤ run.1 }
     /// requires apart { (v : ℤ) → Covers self.old v → (v +ℤ pos 1) <ℤ run.0 }

@@ -49,6 +49,7 @@ impl<B: Width> ToIntervalSet<B> for RangeInclusive<B> {
     /// # Proved
     ///
     /// What [`ToIntervalSet::to_interval_set`] says, by the words of the type.
+    #[cfg_attr(debug_assertions, track_caller)]
     fn to_interval_set(self, alloc: Global) -> Result<IntervalSet<B>, AllocError> {
         let interval: Interval<B> = self.to_interval();
         interval.to_interval_set(alloc)
@@ -89,6 +90,7 @@ impl<B: Width> ToIntervalSet<B> for RangeFrom<B> {
     /// # Proved
     ///
     /// What [`ToIntervalSet::to_interval_set`] says, by the words of the type.
+    #[cfg_attr(debug_assertions, track_caller)]
     fn to_interval_set(self, alloc: Global) -> Result<IntervalSet<B>, AllocError> {
         let interval: Interval<B> = self.to_interval();
         interval.to_interval_set(alloc)
@@ -129,6 +131,7 @@ impl<B: Width> ToIntervalSet<B> for RangeToInclusive<B> {
     /// # Proved
     ///
     /// What [`ToIntervalSet::to_interval_set`] says, by the words of the type.
+    #[cfg_attr(debug_assertions, track_caller)]
     fn to_interval_set(self, alloc: Global) -> Result<IntervalSet<B>, AllocError> {
         let interval: Interval<B> = self.to_interval();
         interval.to_interval_set(alloc)
@@ -160,6 +163,7 @@ impl<B: Width> ToIntervalSet<B> for &[RangeInclusive<B>] {
     /// # Proved
     ///
     /// What [`ToIntervalSet::to_interval_set`] says, by the words of the type.
+    #[cfg_attr(debug_assertions, track_caller)]
     fn to_interval_set(self, alloc: Global) -> Result<IntervalSet<B>, AllocError> {
         of_ranges(alloc, self)
     }
@@ -190,6 +194,7 @@ impl<B: Width> ToIntervalSet<B> for Vec<RangeInclusive<B>> {
     /// # Proved
     ///
     /// What [`ToIntervalSet::to_interval_set`] says, by the words of the type.
+    #[cfg_attr(debug_assertions, track_caller)]
     fn to_interval_set(self, alloc: Global) -> Result<IntervalSet<B>, AllocError> {
         of_ranges(alloc, self.as_slice())
     }
@@ -231,6 +236,7 @@ impl<B: Width, const N: usize> ToIntervalSet<B> for [RangeInclusive<B>; N] {
     /// # Proved
     ///
     /// What [`ToIntervalSet::to_interval_set`] says, by the words of the type.
+    #[cfg_attr(debug_assertions, track_caller)]
     fn to_interval_set(self, alloc: Global) -> Result<IntervalSet<B>, AllocError> {
         of_ranges(alloc, &self)
     }

@@ -25,7 +25,7 @@ impl<B: Width> IntervalSet<B> {
     ///
     /// # Proved
     ///
-    /// The answer is the number of members below the value.
+    /// The result is the number of members below `v`.
     ///
     /// ```text
     /// ensures { IsCountOf (B.Output.size result) (Below (B.value v) (Covers self.now)) }
@@ -62,7 +62,7 @@ impl<B: Width> IntervalSet<B> {
     ///
     /// # Proved
     ///
-    /// The answer is the member with exactly so many members below it, or `None` if there are no more members than that.
+    /// The result is the member with exactly `i` members below it, or `None` if the set has no more than `i` members.
     ///
     /// ```text
     /// ensures { MatchOption result

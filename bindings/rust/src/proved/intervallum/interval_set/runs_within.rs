@@ -31,6 +31,8 @@ impl<B: Width> IntervalSet<B> {
     ///
     /// # Proved
     ///
+    /// The result has exactly the runs that overlap the window, whole and in order.
+    ///
     /// ```text
     /// ensures members { IsRunsOf result.now (OfRunsThatMeet (IsBetween window.now) (Covers self.now)) }
     /// ensures overlap { All (λ run. HasSome (Intersection (IsBetween run) (IsBetween window.now))) result.now }
@@ -67,6 +69,8 @@ impl<B: Width> IntervalSet<B> {
     /// ```
     ///
     /// # Proved
+    ///
+    /// The result is the number of members that are in the window.
     ///
     /// ```text
     /// ensures { IsCountOf (B.Output.size result) (Intersection (Covers self.now) (IsBetween window.now)) }

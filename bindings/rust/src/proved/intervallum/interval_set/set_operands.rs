@@ -41,6 +41,8 @@ impl<B: Width> Union<IntervalSet<B>> for IntervalSet<B> {
     ///
     /// # Proved
     ///
+    /// On success, the members are exactly those of either set, in at most as many runs as the two have together.
+    ///
     /// ```text
     /// ensures members { IfOk result (λ L. IsRunsOf L (Union (Covers self.now) (Covers other.now))) }
     /// ensures runs_at_most { IfOk result (λ L. length L ≤ length self.now + length other.now) }
@@ -83,6 +85,8 @@ impl<B: Width> Intersection<IntervalSet<B>> for IntervalSet<B> {
     /// ```
     ///
     /// # Proved
+    ///
+    /// On success, the members are exactly those of both sets, in at most as many runs as the two have together.
     ///
     /// ```text
     /// ensures members { IfOk result (λ L. IsRunsOf L (Intersection (Covers self.now) (Covers other.now))) }
@@ -134,6 +138,8 @@ impl<B: Width> Difference<IntervalSet<B>> for IntervalSet<B> {
     ///
     /// # Proved
     ///
+    /// On success, the members are exactly those of the set that are not in `other`, in at most as many runs as the two have together.
+    ///
     /// ```text
     /// ensures members { IfOk result (λ L. IsRunsOf L (Without (Covers self.now) (Covers other.now))) }
     /// ensures runs_at_most { IfOk result (λ L. length L ≤ length self.now + length other.now) }
@@ -182,6 +188,8 @@ impl<B: Width> SymmetricDifference<IntervalSet<B>> for IntervalSet<B> {
     ///
     /// # Proved
     ///
+    /// On success, the members are exactly those of either set that are not in both, in at most as many runs as the two have together.
+    ///
     /// ```text
     /// ensures members { IfOk result (λ L. IsRunsOf L (SymmetricDifference (Covers self.now) (Covers other.now))) }
     /// ensures runs_at_most { IfOk result (λ L. length L ≤ length self.now + length other.now) }
@@ -221,6 +229,8 @@ impl<B: Width> Complement for IntervalSet<B> {
     ///
     /// # Proved
     ///
+    /// On success, the members are exactly the numbers of the range that are not in the set, in at most one run more than the set has.
+    ///
     /// ```text
     /// ensures members { IfOk result (λ L. IsRunsOf L (Complement B.whole (Covers self.now))) }
     /// ensures runs_at_most { IfOk result (λ L. length L ≤ length self.now + 1) }
@@ -257,6 +267,8 @@ impl<B: Width> Disjoint<IntervalSet<B>> for IntervalSet<B> {
     ///
     /// # Proved
     ///
+    /// True exactly when no number is a member of both sets.
+    ///
     /// ```text
     /// ensures { IsTrue result ↔ HasNone (Intersection (Covers self.now) (Covers other.now)) }
     /// ```
@@ -291,6 +303,8 @@ impl<B: Width> Overlap<IntervalSet<B>> for IntervalSet<B> {
     /// ```
     ///
     /// # Proved
+    ///
+    /// True exactly when some number is a member of both sets.
     ///
     /// ```text
     /// ensures { IsTrue result ↔ HasSome (Intersection (Covers self.now) (Covers other.now)) }

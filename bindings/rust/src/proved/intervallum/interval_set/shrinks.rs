@@ -41,6 +41,8 @@ impl<B: Width> ShrinkLeft for IntervalSet<B> {
     ///
     /// # Proved
     ///
+    /// On success, the members are exactly those of the set that are at least `lower`, in at most as many runs as the set has.
+    ///
     /// ```text
     /// ensures members { IfOk result (λ L. IsRunsOf L (AtLeast (B.value lower) (Covers self.now))) }
     /// ensures runs_at_most { IfOk result (λ L. length L ≤ length self.now) }
@@ -78,6 +80,8 @@ impl<B: Width> ShrinkRight for IntervalSet<B> {
     /// ```
     ///
     /// # Proved
+    ///
+    /// On success, the members are exactly those of the set that are at most `upper`, in at most as many runs as the set has.
     ///
     /// ```text
     /// ensures members { IfOk result (λ L. IsRunsOf L (AtMost (B.value upper) (Covers self.now))) }
@@ -117,6 +121,8 @@ impl<B: Width> StrictShrinkLeft for IntervalSet<B> {
     ///
     /// # Proved
     ///
+    /// On success, the members are exactly those of the set that are above `lower`, in at most as many runs as the set has.
+    ///
     /// ```text
     /// ensures members { IfOk result (λ L. IsRunsOf L (Above (B.value lower) (Covers self.now))) }
     /// ensures runs_at_most { IfOk result (λ L. length L ≤ length self.now) }
@@ -154,6 +160,8 @@ impl<B: Width> StrictShrinkRight for IntervalSet<B> {
     /// ```
     ///
     /// # Proved
+    ///
+    /// On success, the members are exactly those of the set that are below `upper`, in at most as many runs as the set has.
     ///
     /// ```text
     /// ensures members { IfOk result (λ L. IsRunsOf L (Below (B.value upper) (Covers self.now))) }

@@ -29,6 +29,8 @@ impl<B: Width> IntervalSet<B> {
     ///
     /// # Proved
     ///
+    /// The result is the number of members of both sets.
+    ///
     /// ```text
     /// ensures { IsCountOf (B.Output.size result) (Intersection (Covers self.now) (Covers other.now)) }
     /// ```
@@ -60,6 +62,8 @@ impl<B: Width> IntervalSet<B> {
     ///
     /// # Proved
     ///
+    /// The result is the number of members that are not in `other`.
+    ///
     /// ```text
     /// ensures { IsCountOf (B.Output.size result) (Without (Covers self.now) (Covers other.now)) }
     /// ```
@@ -85,6 +89,8 @@ impl<B: Width> IntervalSet<B> {
     /// ```
     ///
     /// # Proved
+    ///
+    /// The result is the number of members of either set.
     ///
     /// ```text
     /// ensures { IsCountOf (B.Output.size result) (Union (Covers self.now) (Covers other.now)) }

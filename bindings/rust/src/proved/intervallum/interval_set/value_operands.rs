@@ -40,6 +40,8 @@ impl<B: Width> Union<B> for IntervalSet<B> {
     ///
     /// # Proved
     ///
+    /// On success, the members are exactly those of the set and the value, in at most one run more than the set has.
+    ///
     /// ```text
     /// requires { IsBetween B.whole (B.value other.now) }
     /// ensures members { IfOk result (λ L. IsRunsOf L (Union (Covers self.now) (Only (B.value other.now)))) }
@@ -47,6 +49,7 @@ impl<B: Width> Union<B> for IntervalSet<B> {
     /// ```
     ///
     /// Words: [`IsBetween`](crate::definitions#IsBetween), [`IsRunsOf`](crate::definitions#IsRunsOf), [`Union`](crate::definitions#Union), [`Covers`](crate::definitions#Covers), [`Only`](crate::definitions#Only).
+    #[cfg_attr(debug_assertions, track_caller)]
     fn union(&self, other: &B) -> Result<IntervalSet<B>, AllocError> {
         let mut set = self.copy_with_room()?;
         set.insert(*other)?;
@@ -87,6 +90,8 @@ impl<B: Width> SymmetricDifference<B> for IntervalSet<B> {
     ///
     /// # Proved
     ///
+    /// On success, the members are exactly those of the set other than the value, and the value if the set does not have it, in at most one run more than the set has.
+    ///
     /// ```text
     /// requires { IsBetween B.whole (B.value other.now) }
     /// ensures members { IfOk result (λ L. IsRunsOf L (SymmetricDifference (Covers self.now) (Only (B.value other.now)))) }
@@ -94,6 +99,7 @@ impl<B: Width> SymmetricDifference<B> for IntervalSet<B> {
     /// ```
     ///
     /// Words: [`IsBetween`](crate::definitions#IsBetween), [`IsRunsOf`](crate::definitions#IsRunsOf), [`SymmetricDifference`](crate::definitions#SymmetricDifference), [`Covers`](crate::definitions#Covers), [`Only`](crate::definitions#Only).
+    #[cfg_attr(debug_assertions, track_caller)]
     fn symmetric_difference(&self, other: &B) -> Result<IntervalSet<B>, AllocError> {
         if self.contains(other) {
             self.difference(other)
@@ -130,6 +136,8 @@ impl<B: Width> Intersection<B> for IntervalSet<B> {
     /// ```
     ///
     /// # Proved
+    ///
+    /// On success, the only member is the value if the set has it, and there is none if not, in at most one run more than the set has.
     ///
     /// ```text
     /// ensures members { IfOk result (λ L. IsRunsOf L (Intersection (Covers self.now) (Only (B.value other.now)))) }
@@ -176,6 +184,8 @@ impl<B: Width> Difference<B> for IntervalSet<B> {
     /// ```
     ///
     /// # Proved
+    ///
+    /// On success, the members are exactly those of the set other than the value, in at most one run more than the set has.
     ///
     /// ```text
     /// ensures members { IfOk result (λ L. IsRunsOf L (Without (Covers self.now) (Only (B.value other.now)))) }

@@ -14,6 +14,8 @@ impl Looks {
     ///
     /// # Proved
     ///
+    /// No look is counted.
+    ///
     /// ```text
     /// ensures { result.count ≡ 0 }
     /// ```
@@ -24,6 +26,8 @@ impl Looks {
     /// Returns the count of one look more. `O(1)`. Does not allocate.
     ///
     /// # Proved
+    ///
+    /// One look more is counted.
     ///
     /// ```text
     /// ensures { result.count ≡ self.now.count + 1 }

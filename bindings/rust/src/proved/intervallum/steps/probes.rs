@@ -43,6 +43,8 @@ impl<'a, B: Width> Probes<'a, B> {
     ///
     /// # Proved
     ///
+    /// The runs are those of the set, and no look is counted.
+    ///
     /// ```text
     /// ensures runs { result.runs ≡ set.now }
     /// ensures looks { result.looks ≡ 0 }
@@ -69,6 +71,8 @@ impl<'a, B: Width> Probes<'a, B> {
     /// ```
     ///
     /// # Proved
+    ///
+    /// The result is the number of runs, which are ascending, lie in the range, and neither overlap nor touch.
     ///
     /// ```text
     /// ensures value { result ≡ length self.now.runs }
@@ -97,6 +101,8 @@ impl<'a, B: Width> Probes<'a, B> {
     ///
     /// # Proved
     ///
+    /// The result is run `i`, which is not empty, and the runs are ascending, lie in the range, and neither overlap nor touch. The runs stay, and one look more is counted.
+    ///
     /// ```text
     /// requires { i < length self.old.runs }
     /// ensures run { slice_get self.old.runs i ≡ Some result }
@@ -107,6 +113,7 @@ impl<'a, B: Width> Probes<'a, B> {
     /// ```
     ///
     /// Words: [`IsRunListIn`](crate::definitions#IsRunListIn).
+    #[cfg_attr(debug_assertions, track_caller)]
     pub fn look(&mut self, i: usize) -> Interval<B> {
         debug_assert!({ #[allow(unused_imports)] use crate::proved::ivl_interval::ops::*; i < self.len() }, "{}", "the condition of `look` is broken: i < self.len()");
         let runs = self.runs;

@@ -50,6 +50,8 @@ pub enum Place {
 ///
 /// # Proved
 ///
+/// The place is the index of the run that has the value; or, if none has it, the number of runs below it: the run at this index then starts at the next member, and the run before it ends at the previous one. The runs stay. It takes no more looks than the number of runs has binary digits.
+///
 /// ```text
 /// ensures place { IsPlaceOf probes.old.runs (B.value v) result }
 /// ensures same { probes.new.runs ≡ probes.old.runs }

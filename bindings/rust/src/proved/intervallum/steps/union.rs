@@ -29,6 +29,8 @@ use crate::rattle::std::alloc::AllocError;
 ///
 /// # Proved
 ///
+/// On success, the members are exactly those of the runs that are left in either walk, in at most as many runs as are left in the two together.
+///
 /// ```text
 /// ensures members { IfOk result (λ L. IsRunsOf L (Union (Covers first.entry.left) (Covers second.entry.left))) }
 /// ensures runs_at_most { IfOk result (λ L. length L ≤ length first.entry.left + length second.entry.left) }

@@ -46,6 +46,8 @@ impl<'a, B: Width> Walk<'a, B> {
     ///
     /// # Proved
     ///
+    /// All runs of the set are left and counted, and no advance is.
+    ///
     /// ```text
     /// ensures left { result.left ≡ set.now }
     /// ensures advances { result.advances ≡ 0 }
@@ -74,6 +76,8 @@ impl<'a, B: Width> Walk<'a, B> {
     /// ```
     ///
     /// # Proved
+    ///
+    /// The result is the first run that is left, which is not empty, or `None` if none is left; those that are left are ascending, lie in the range, and neither overlap nor touch.
     ///
     /// ```text
     /// ensures first { result ≡ slice_get self.now.left 0 }
@@ -105,12 +109,15 @@ impl<'a, B: Width> Walk<'a, B> {
     ///
     /// # Proved
     ///
+    /// Exactly the first run is no longer left, one advance more is counted, and the number of all runs stays.
+    ///
     /// ```text
     /// requires { self.old.left ≢ [] }
     /// ensures left { (run : ℤ × ℤ) × (self.old.left ≡ run ∷ self.new.left) }
     /// ensures advances { self.new.advances ≡ self.old.advances + 1 }
     /// ensures count { self.new.count ≡ self.old.count }
     /// ```
+    #[cfg_attr(debug_assertions, track_caller)]
     pub fn advance(&mut self) {
         debug_assert!({ #[allow(unused_imports)] use crate::proved::ivl_interval::ops::*; self.peek().is_some() }, "{}", "the condition of `advance` is broken: self.peek().is_some()");
         self.taken += 1;
@@ -142,6 +149,8 @@ impl<'a, B: Width> Walk<'a, B> {
     /// ```
     ///
     /// # Proved
+    ///
+    /// The result is the number of runs that are left; with the advances so far it makes the number of all. Those that are left are ascending, lie in the range, and neither overlap nor touch.
     ///
     /// ```text
     /// ensures value { result ≡ length self.now.left }

@@ -84,6 +84,8 @@ fn product<B: Width>(x: B, y: B) -> B {
 
 /// Proved, with these words of the trait:
 ///
+/// The members are exactly the sums of a member of each interval.
+///
 /// ```text
 /// can_add = { λ a b. IsSubset (Sums (IsBetween a) (IsBetween b)) (IsBetween B.whole) }
 /// add_gives = { λ a b r. SameMembers (IsBetween r) (Sums (IsBetween a) (IsBetween b)) }
@@ -107,6 +109,7 @@ impl<B: Width> Add<Interval<B>> for Interval<B> {
     ///     Ok(())
     /// }
     /// ```
+    #[cfg_attr(debug_assertions, track_caller)]
     fn add(self, rhs: Interval<B>) -> Interval<B> {
         debug_assert!({ #[allow(unused_imports)] use crate::proved::ivl_interval::ops::*; self.fits_add(&rhs) }, "{}", "the condition of `add` is broken: self.fits_add(&rhs)");
         sums(self, rhs)
@@ -114,6 +117,8 @@ impl<B: Width> Add<Interval<B>> for Interval<B> {
 }
 
 /// Proved, with these words of the trait:
+///
+/// The members are exactly the sums of a member of each interval.
 ///
 /// ```text
 /// can_add = { λ a b. IsSubset (Sums (IsBetween a) (IsBetween b.now)) (IsBetween B.whole) }
@@ -126,6 +131,7 @@ impl<B: Width> Add<&Interval<B>> for Interval<B> {
 
     /// Returns exactly the sums of a member of `self` and a member of `rhs`. The caller must ensure
     /// that the sums are in the range. Check with `fits_add`.
+    #[cfg_attr(debug_assertions, track_caller)]
     fn add(self, rhs: &Interval<B>) -> Interval<B> {
         debug_assert!({ #[allow(unused_imports)] use crate::proved::ivl_interval::ops::*; self.fits_add(rhs) }, "{}", "the condition of `add` is broken: self.fits_add(rhs)");
         sums(self, *rhs)
@@ -133,6 +139,8 @@ impl<B: Width> Add<&Interval<B>> for Interval<B> {
 }
 
 /// Proved, with these words of the trait:
+///
+/// The members are exactly the sums of a member of each interval.
 ///
 /// ```text
 /// can_add = { λ a b. IsSubset (Sums (IsBetween a.now) (IsBetween b)) (IsBetween B.whole) }
@@ -145,6 +153,7 @@ impl<B: Width> Add<Interval<B>> for &Interval<B> {
 
     /// Returns exactly the sums of a member of `self` and a member of `rhs`. The caller must ensure
     /// that the sums are in the range. Check with `fits_add`.
+    #[cfg_attr(debug_assertions, track_caller)]
     fn add(self, rhs: Interval<B>) -> Interval<B> {
         debug_assert!({ #[allow(unused_imports)] use crate::proved::ivl_interval::ops::*; self.fits_add(&rhs) }, "{}", "the condition of `add` is broken: self.fits_add(&rhs)");
         sums(*self, rhs)
@@ -152,6 +161,8 @@ impl<B: Width> Add<Interval<B>> for &Interval<B> {
 }
 
 /// Proved, with these words of the trait:
+///
+/// The members are exactly the sums of a member of each interval.
 ///
 /// ```text
 /// can_add = { λ a b. IsSubset (Sums (IsBetween a.now) (IsBetween b.now)) (IsBetween B.whole) }
@@ -164,6 +175,7 @@ impl<B: Width> Add<&Interval<B>> for &Interval<B> {
 
     /// Returns exactly the sums of a member of `self` and a member of `rhs`. The caller must ensure
     /// that the sums are in the range. Check with `fits_add`.
+    #[cfg_attr(debug_assertions, track_caller)]
     fn add(self, rhs: &Interval<B>) -> Interval<B> {
         debug_assert!({ #[allow(unused_imports)] use crate::proved::ivl_interval::ops::*; self.fits_add(rhs) }, "{}", "the condition of `add` is broken: self.fits_add(rhs)");
         sums(*self, *rhs)
@@ -171,6 +183,8 @@ impl<B: Width> Add<&Interval<B>> for &Interval<B> {
 }
 
 /// Proved, with these words of the trait:
+///
+/// The members are exactly the sums of a member and the value.
 ///
 /// ```text
 /// can_add = { λ a x. IsSubset (Sums (IsBetween a) (Only (B.value x))) (IsBetween B.whole) }
@@ -195,6 +209,7 @@ impl<B: Width> Add<B> for Interval<B> {
     ///     Ok(())
     /// }
     /// ```
+    #[cfg_attr(debug_assertions, track_caller)]
     fn add(self, rhs: B) -> Interval<B> {
         debug_assert!({ #[allow(unused_imports)] use crate::proved::ivl_interval::ops::*; self.fits_add(&rhs) }, "{}", "the condition of `add` is broken: self.fits_add(&rhs)");
         sums_with(self, rhs)
@@ -202,6 +217,8 @@ impl<B: Width> Add<B> for Interval<B> {
 }
 
 /// Proved, with these words of the trait:
+///
+/// The members are exactly the sums of a member and the value.
 ///
 /// ```text
 /// can_add = { λ a x. IsSubset (Sums (IsBetween a) (Only (B.value x.now))) (IsBetween B.whole) }
@@ -214,6 +231,7 @@ impl<B: Width> Add<&B> for Interval<B> {
 
     /// Returns exactly the sums of a member and the value. The caller must ensure that the sums are
     /// in the range. Check with `fits_add`.
+    #[cfg_attr(debug_assertions, track_caller)]
     fn add(self, rhs: &B) -> Interval<B> {
         debug_assert!({ #[allow(unused_imports)] use crate::proved::ivl_interval::ops::*; self.fits_add(rhs) }, "{}", "the condition of `add` is broken: self.fits_add(rhs)");
         sums_with(self, *rhs)
@@ -221,6 +239,8 @@ impl<B: Width> Add<&B> for Interval<B> {
 }
 
 /// Proved, with these words of the trait:
+///
+/// The members are exactly the sums of a member and the value.
 ///
 /// ```text
 /// can_add = { λ a x. IsSubset (Sums (IsBetween a.now) (Only (B.value x))) (IsBetween B.whole) }
@@ -233,6 +253,7 @@ impl<B: Width> Add<B> for &Interval<B> {
 
     /// Returns exactly the sums of a member and the value. The caller must ensure that the sums are
     /// in the range. Check with `fits_add`.
+    #[cfg_attr(debug_assertions, track_caller)]
     fn add(self, rhs: B) -> Interval<B> {
         debug_assert!({ #[allow(unused_imports)] use crate::proved::ivl_interval::ops::*; self.fits_add(&rhs) }, "{}", "the condition of `add` is broken: self.fits_add(&rhs)");
         sums_with(*self, rhs)
@@ -240,6 +261,8 @@ impl<B: Width> Add<B> for &Interval<B> {
 }
 
 /// Proved, with these words of the trait:
+///
+/// The members are exactly the sums of a member and the value.
 ///
 /// ```text
 /// can_add = { λ a x. IsSubset (Sums (IsBetween a.now) (Only (B.value x.now))) (IsBetween B.whole) }
@@ -252,6 +275,7 @@ impl<B: Width> Add<&B> for &Interval<B> {
 
     /// Returns exactly the sums of a member and the value. The caller must ensure that the sums are
     /// in the range. Check with `fits_add`.
+    #[cfg_attr(debug_assertions, track_caller)]
     fn add(self, rhs: &B) -> Interval<B> {
         debug_assert!({ #[allow(unused_imports)] use crate::proved::ivl_interval::ops::*; self.fits_add(rhs) }, "{}", "the condition of `add` is broken: self.fits_add(rhs)");
         sums_with(*self, *rhs)
@@ -259,6 +283,8 @@ impl<B: Width> Add<&B> for &Interval<B> {
 }
 
 /// Proved, with these words of the trait:
+///
+/// The members are exactly the differences of a member of `self` and one of `rhs`.
 ///
 /// ```text
 /// can_sub = { λ a b. IsSubset (Differences (IsBetween a) (IsBetween b)) (IsBetween B.whole) }
@@ -283,6 +309,7 @@ impl<B: Width> Sub<Interval<B>> for Interval<B> {
     ///     Ok(())
     /// }
     /// ```
+    #[cfg_attr(debug_assertions, track_caller)]
     fn sub(self, rhs: Interval<B>) -> Interval<B> {
         debug_assert!({ #[allow(unused_imports)] use crate::proved::ivl_interval::ops::*; self.fits_sub(&rhs) }, "{}", "the condition of `sub` is broken: self.fits_sub(&rhs)");
         differences(self, rhs)
@@ -290,6 +317,8 @@ impl<B: Width> Sub<Interval<B>> for Interval<B> {
 }
 
 /// Proved, with these words of the trait:
+///
+/// The members are exactly the differences of a member of `self` and one of `rhs`.
 ///
 /// ```text
 /// can_sub = { λ a b. IsSubset (Differences (IsBetween a) (IsBetween b.now)) (IsBetween B.whole) }
@@ -302,6 +331,7 @@ impl<B: Width> Sub<&Interval<B>> for Interval<B> {
 
     /// Returns exactly the differences of a member of `self` and a member of `rhs`. The caller must
     /// ensure that the differences are in the range. Check with `fits_sub`.
+    #[cfg_attr(debug_assertions, track_caller)]
     fn sub(self, rhs: &Interval<B>) -> Interval<B> {
         debug_assert!({ #[allow(unused_imports)] use crate::proved::ivl_interval::ops::*; self.fits_sub(rhs) }, "{}", "the condition of `sub` is broken: self.fits_sub(rhs)");
         differences(self, *rhs)
@@ -309,6 +339,8 @@ impl<B: Width> Sub<&Interval<B>> for Interval<B> {
 }
 
 /// Proved, with these words of the trait:
+///
+/// The members are exactly the differences of a member of `self` and one of `rhs`.
 ///
 /// ```text
 /// can_sub = { λ a b. IsSubset (Differences (IsBetween a.now) (IsBetween b)) (IsBetween B.whole) }
@@ -321,6 +353,7 @@ impl<B: Width> Sub<Interval<B>> for &Interval<B> {
 
     /// Returns exactly the differences of a member of `self` and a member of `rhs`. The caller must
     /// ensure that the differences are in the range. Check with `fits_sub`.
+    #[cfg_attr(debug_assertions, track_caller)]
     fn sub(self, rhs: Interval<B>) -> Interval<B> {
         debug_assert!({ #[allow(unused_imports)] use crate::proved::ivl_interval::ops::*; self.fits_sub(&rhs) }, "{}", "the condition of `sub` is broken: self.fits_sub(&rhs)");
         differences(*self, rhs)
@@ -328,6 +361,8 @@ impl<B: Width> Sub<Interval<B>> for &Interval<B> {
 }
 
 /// Proved, with these words of the trait:
+///
+/// The members are exactly the differences of a member of `self` and one of `rhs`.
 ///
 /// ```text
 /// can_sub = { λ a b. IsSubset (Differences (IsBetween a.now) (IsBetween b.now)) (IsBetween B.whole) }
@@ -340,6 +375,7 @@ impl<B: Width> Sub<&Interval<B>> for &Interval<B> {
 
     /// Returns exactly the differences of a member of `self` and a member of `rhs`. The caller must
     /// ensure that the differences are in the range. Check with `fits_sub`.
+    #[cfg_attr(debug_assertions, track_caller)]
     fn sub(self, rhs: &Interval<B>) -> Interval<B> {
         debug_assert!({ #[allow(unused_imports)] use crate::proved::ivl_interval::ops::*; self.fits_sub(rhs) }, "{}", "the condition of `sub` is broken: self.fits_sub(rhs)");
         differences(*self, *rhs)
@@ -347,6 +383,8 @@ impl<B: Width> Sub<&Interval<B>> for &Interval<B> {
 }
 
 /// Proved, with these words of the trait:
+///
+/// The members are exactly the differences of a member and the value.
 ///
 /// ```text
 /// can_sub = { λ a x. IsSubset (Differences (IsBetween a) (Only (B.value x))) (IsBetween B.whole) }
@@ -371,6 +409,7 @@ impl<B: Width> Sub<B> for Interval<B> {
     ///     Ok(())
     /// }
     /// ```
+    #[cfg_attr(debug_assertions, track_caller)]
     fn sub(self, rhs: B) -> Interval<B> {
         debug_assert!({ #[allow(unused_imports)] use crate::proved::ivl_interval::ops::*; self.fits_sub(&rhs) }, "{}", "the condition of `sub` is broken: self.fits_sub(&rhs)");
         differences_with(self, rhs)
@@ -378,6 +417,8 @@ impl<B: Width> Sub<B> for Interval<B> {
 }
 
 /// Proved, with these words of the trait:
+///
+/// The members are exactly the differences of a member and the value.
 ///
 /// ```text
 /// can_sub = { λ a x. IsSubset (Differences (IsBetween a) (Only (B.value x.now))) (IsBetween B.whole) }
@@ -390,6 +431,7 @@ impl<B: Width> Sub<&B> for Interval<B> {
 
     /// Returns exactly the differences of a member and the value. The caller must ensure that the
     /// differences are in the range. Check with `fits_sub`.
+    #[cfg_attr(debug_assertions, track_caller)]
     fn sub(self, rhs: &B) -> Interval<B> {
         debug_assert!({ #[allow(unused_imports)] use crate::proved::ivl_interval::ops::*; self.fits_sub(rhs) }, "{}", "the condition of `sub` is broken: self.fits_sub(rhs)");
         differences_with(self, *rhs)
@@ -397,6 +439,8 @@ impl<B: Width> Sub<&B> for Interval<B> {
 }
 
 /// Proved, with these words of the trait:
+///
+/// The members are exactly the differences of a member and the value.
 ///
 /// ```text
 /// can_sub = { λ a x. IsSubset (Differences (IsBetween a.now) (Only (B.value x))) (IsBetween B.whole) }
@@ -409,6 +453,7 @@ impl<B: Width> Sub<B> for &Interval<B> {
 
     /// Returns exactly the differences of a member and the value. The caller must ensure that the
     /// differences are in the range. Check with `fits_sub`.
+    #[cfg_attr(debug_assertions, track_caller)]
     fn sub(self, rhs: B) -> Interval<B> {
         debug_assert!({ #[allow(unused_imports)] use crate::proved::ivl_interval::ops::*; self.fits_sub(&rhs) }, "{}", "the condition of `sub` is broken: self.fits_sub(&rhs)");
         differences_with(*self, rhs)
@@ -416,6 +461,8 @@ impl<B: Width> Sub<B> for &Interval<B> {
 }
 
 /// Proved, with these words of the trait:
+///
+/// The members are exactly the differences of a member and the value.
 ///
 /// ```text
 /// can_sub = { λ a x. IsSubset (Differences (IsBetween a.now) (Only (B.value x.now))) (IsBetween B.whole) }
@@ -428,6 +475,7 @@ impl<B: Width> Sub<&B> for &Interval<B> {
 
     /// Returns exactly the differences of a member and the value. The caller must ensure that the
     /// differences are in the range. Check with `fits_sub`.
+    #[cfg_attr(debug_assertions, track_caller)]
     fn sub(self, rhs: &B) -> Interval<B> {
         debug_assert!({ #[allow(unused_imports)] use crate::proved::ivl_interval::ops::*; self.fits_sub(rhs) }, "{}", "the condition of `sub` is broken: self.fits_sub(rhs)");
         differences_with(*self, *rhs)
@@ -435,6 +483,8 @@ impl<B: Width> Sub<&B> for &Interval<B> {
 }
 
 /// Proved, with these words of the trait:
+///
+/// The result is the least interval that holds the products of a member of each interval.
 ///
 /// ```text
 /// can_mul = { λ a b. IsSubset (ExactProducts (IsBetween a) (IsBetween b)) (IsBetween B.whole) }
@@ -459,6 +509,7 @@ impl<B: Width> Mul<Interval<B>> for Interval<B> {
     ///     Ok(())
     /// }
     /// ```
+    #[cfg_attr(debug_assertions, track_caller)]
     fn mul(self, rhs: Interval<B>) -> Interval<B> {
         debug_assert!({ #[allow(unused_imports)] use crate::proved::ivl_interval::ops::*; self.fits_mul(&rhs) }, "{}", "the condition of `mul` is broken: self.fits_mul(&rhs)");
         products(self, rhs)
@@ -466,6 +517,8 @@ impl<B: Width> Mul<Interval<B>> for Interval<B> {
 }
 
 /// Proved, with these words of the trait:
+///
+/// The result is the least interval that holds the products of a member of each interval.
 ///
 /// ```text
 /// can_mul = { λ a b. IsSubset (ExactProducts (IsBetween a) (IsBetween b.now)) (IsBetween B.whole) }
@@ -478,6 +531,7 @@ impl<B: Width> Mul<&Interval<B>> for Interval<B> {
 
     /// Returns the least interval that holds the products of a member of each. The caller must
     /// ensure that the products are in the range. Check with `fits_mul`.
+    #[cfg_attr(debug_assertions, track_caller)]
     fn mul(self, rhs: &Interval<B>) -> Interval<B> {
         debug_assert!({ #[allow(unused_imports)] use crate::proved::ivl_interval::ops::*; self.fits_mul(rhs) }, "{}", "the condition of `mul` is broken: self.fits_mul(rhs)");
         products(self, *rhs)
@@ -485,6 +539,8 @@ impl<B: Width> Mul<&Interval<B>> for Interval<B> {
 }
 
 /// Proved, with these words of the trait:
+///
+/// The result is the least interval that holds the products of a member of each interval.
 ///
 /// ```text
 /// can_mul = { λ a b. IsSubset (ExactProducts (IsBetween a.now) (IsBetween b)) (IsBetween B.whole) }
@@ -497,6 +553,7 @@ impl<B: Width> Mul<Interval<B>> for &Interval<B> {
 
     /// Returns the least interval that holds the products of a member of each. The caller must
     /// ensure that the products are in the range. Check with `fits_mul`.
+    #[cfg_attr(debug_assertions, track_caller)]
     fn mul(self, rhs: Interval<B>) -> Interval<B> {
         debug_assert!({ #[allow(unused_imports)] use crate::proved::ivl_interval::ops::*; self.fits_mul(&rhs) }, "{}", "the condition of `mul` is broken: self.fits_mul(&rhs)");
         products(*self, rhs)
@@ -504,6 +561,8 @@ impl<B: Width> Mul<Interval<B>> for &Interval<B> {
 }
 
 /// Proved, with these words of the trait:
+///
+/// The result is the least interval that holds the products of a member of each interval.
 ///
 /// ```text
 /// can_mul = { λ a b. IsSubset (ExactProducts (IsBetween a.now) (IsBetween b.now)) (IsBetween B.whole) }
@@ -516,6 +575,7 @@ impl<B: Width> Mul<&Interval<B>> for &Interval<B> {
 
     /// Returns the least interval that holds the products of a member of each. The caller must
     /// ensure that the products are in the range. Check with `fits_mul`.
+    #[cfg_attr(debug_assertions, track_caller)]
     fn mul(self, rhs: &Interval<B>) -> Interval<B> {
         debug_assert!({ #[allow(unused_imports)] use crate::proved::ivl_interval::ops::*; self.fits_mul(rhs) }, "{}", "the condition of `mul` is broken: self.fits_mul(rhs)");
         products(*self, *rhs)
@@ -523,6 +583,8 @@ impl<B: Width> Mul<&Interval<B>> for &Interval<B> {
 }
 
 /// Proved, with these words of the trait:
+///
+/// The result is the least interval that holds the products of a member and the value.
 ///
 /// ```text
 /// can_mul = { λ a x. IsSubset (ExactProducts (IsBetween a) (Only (B.value x))) (IsBetween B.whole) }
@@ -549,6 +611,7 @@ impl<B: Width> Mul<B> for Interval<B> {
     ///     Ok(())
     /// }
     /// ```
+    #[cfg_attr(debug_assertions, track_caller)]
     fn mul(self, rhs: B) -> Interval<B> {
         debug_assert!({ #[allow(unused_imports)] use crate::proved::ivl_interval::ops::*; self.fits_mul(&rhs) }, "{}", "the condition of `mul` is broken: self.fits_mul(&rhs)");
         products_with(self, rhs)
@@ -556,6 +619,8 @@ impl<B: Width> Mul<B> for Interval<B> {
 }
 
 /// Proved, with these words of the trait:
+///
+/// The result is the least interval that holds the products of a member and the value.
 ///
 /// ```text
 /// can_mul = { λ a x. IsSubset (ExactProducts (IsBetween a) (Only (B.value x.now))) (IsBetween B.whole) }
@@ -568,6 +633,7 @@ impl<B: Width> Mul<&B> for Interval<B> {
 
     /// Returns the least interval that holds the products of a member and the value. The caller
     /// must ensure that the products are in the range. Check with `fits_mul`.
+    #[cfg_attr(debug_assertions, track_caller)]
     fn mul(self, rhs: &B) -> Interval<B> {
         debug_assert!({ #[allow(unused_imports)] use crate::proved::ivl_interval::ops::*; self.fits_mul(rhs) }, "{}", "the condition of `mul` is broken: self.fits_mul(rhs)");
         products_with(self, *rhs)
@@ -575,6 +641,8 @@ impl<B: Width> Mul<&B> for Interval<B> {
 }
 
 /// Proved, with these words of the trait:
+///
+/// The result is the least interval that holds the products of a member and the value.
 ///
 /// ```text
 /// can_mul = { λ a x. IsSubset (ExactProducts (IsBetween a.now) (Only (B.value x))) (IsBetween B.whole) }
@@ -587,6 +655,7 @@ impl<B: Width> Mul<B> for &Interval<B> {
 
     /// Returns the least interval that holds the products of a member and the value. The caller
     /// must ensure that the products are in the range. Check with `fits_mul`.
+    #[cfg_attr(debug_assertions, track_caller)]
     fn mul(self, rhs: B) -> Interval<B> {
         debug_assert!({ #[allow(unused_imports)] use crate::proved::ivl_interval::ops::*; self.fits_mul(&rhs) }, "{}", "the condition of `mul` is broken: self.fits_mul(&rhs)");
         products_with(*self, rhs)
@@ -594,6 +663,8 @@ impl<B: Width> Mul<B> for &Interval<B> {
 }
 
 /// Proved, with these words of the trait:
+///
+/// The result is the least interval that holds the products of a member and the value.
 ///
 /// ```text
 /// can_mul = { λ a x. IsSubset (ExactProducts (IsBetween a.now) (Only (B.value x.now))) (IsBetween B.whole) }
@@ -606,6 +677,7 @@ impl<B: Width> Mul<&B> for &Interval<B> {
 
     /// Returns the least interval that holds the products of a member and the value. The caller
     /// must ensure that the products are in the range. Check with `fits_mul`.
+    #[cfg_attr(debug_assertions, track_caller)]
     fn mul(self, rhs: &B) -> Interval<B> {
         debug_assert!({ #[allow(unused_imports)] use crate::proved::ivl_interval::ops::*; self.fits_mul(rhs) }, "{}", "the condition of `mul` is broken: self.fits_mul(rhs)");
         products_with(*self, *rhs)

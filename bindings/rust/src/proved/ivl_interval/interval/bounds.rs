@@ -47,6 +47,8 @@ impl<B: Width> Range for Interval<B> {
     ///
     /// # Proved
     ///
+    /// The members are exactly the numbers from `lb` to `ub`, which are its bounds.
+    ///
     /// ```text
     /// requires { IsInRange B.whole (B.value lb, B.value ub) }
     /// ensures members { SameMembers (IsBetween result) (IsBetween (B.value lb, B.value ub)) }
@@ -54,6 +56,7 @@ impl<B: Width> Range for Interval<B> {
     /// ```
     ///
     /// Words: [`IsInRange`](crate::definitions#IsInRange), [`SameMembers`](crate::definitions#SameMembers), [`IsBetween`](crate::definitions#IsBetween).
+    #[cfg_attr(debug_assertions, track_caller)]
     fn new(lb: B, ub: B) -> Interval<B> {
         debug_assert!({ #[allow(unused_imports)] use crate::proved::ivl_interval::ops::*; Interval::in_range(lb, ub) }, "{}", "the condition of `new` is broken: Interval::in_range(lb, ub)");
         Interval { lb, ub }
@@ -81,6 +84,8 @@ impl<B: Width> Empty for Interval<B> {
     /// ```
     ///
     /// # Proved
+    ///
+    /// The result has no member: its bounds cross.
     ///
     /// ```text
     /// ensures members { HasNone (IsBetween result) }
@@ -114,6 +119,8 @@ impl<B: Width> Top for Interval<B> {
     /// ```
     ///
     /// # Proved
+    ///
+    /// The result has no member: its bounds cross.
     ///
     /// ```text
     /// ensures members { HasNone (IsBetween result) }
@@ -151,6 +158,8 @@ impl<B: Width> Whole for Interval<B> {
     ///
     /// # Proved
     ///
+    /// The members are exactly the numbers of the range, whose ends are its bounds.
+    ///
     /// ```text
     /// ensures members { SameMembers (IsBetween result) (IsBetween B.whole) }
     /// ensures value { result ≡ B.whole }
@@ -185,6 +194,8 @@ impl<B: Width> Bot for Interval<B> {
     ///
     /// # Proved
     ///
+    /// The members are exactly the numbers of the range, whose ends are its bounds.
+    ///
     /// ```text
     /// ensures members { SameMembers (IsBetween result) (IsBetween B.whole) }
     /// ensures value { result ≡ B.whole }
@@ -217,6 +228,8 @@ impl<B: Width> Singleton for Interval<B> {
     ///
     /// # Proved
     ///
+    /// The only member is the item, which is both bounds.
+    ///
     /// ```text
     /// requires { IsBetween B.whole (B.value item) }
     /// ensures members { SameMembers (IsBetween result) (Only (B.value item)) }
@@ -224,6 +237,7 @@ impl<B: Width> Singleton for Interval<B> {
     /// ```
     ///
     /// Words: [`IsBetween`](crate::definitions#IsBetween), [`SameMembers`](crate::definitions#SameMembers), [`Only`](crate::definitions#Only).
+    #[cfg_attr(debug_assertions, track_caller)]
     fn singleton(item: B) -> Interval<B> {
         Self::new(item, item)
     }
@@ -245,6 +259,8 @@ impl<B: Width> Bounded for Interval<B> {
     ///
     /// # Proved
     ///
+    /// The result is the least member, which is the lower bound and in the range.
+    ///
     /// ```text
     /// requires { HasSome (IsBetween self.now) }
     /// ensures member { IsBetween self.now (B.value result) }
@@ -254,6 +270,7 @@ impl<B: Width> Bounded for Interval<B> {
     /// ```
     ///
     /// Words: [`HasSome`](crate::definitions#HasSome), [`IsBetween`](crate::definitions#IsBetween).
+    #[cfg_attr(debug_assertions, track_caller)]
     fn lower(&self) -> B {
         debug_assert!({ #[allow(unused_imports)] use crate::proved::ivl_interval::ops::*; !self.is_empty() }, "{}", "the condition of `lower` is broken: !self.is_empty()");
         self.lb
@@ -274,6 +291,8 @@ impl<B: Width> Bounded for Interval<B> {
     ///
     /// # Proved
     ///
+    /// The result is the greatest member, which is the upper bound and in the range.
+    ///
     /// ```text
     /// requires { HasSome (IsBetween self.now) }
     /// ensures member { IsBetween self.now (B.value result) }
@@ -283,6 +302,7 @@ impl<B: Width> Bounded for Interval<B> {
     /// ```
     ///
     /// Words: [`HasSome`](crate::definitions#HasSome), [`IsBetween`](crate::definitions#IsBetween).
+    #[cfg_attr(debug_assertions, track_caller)]
     fn upper(&self) -> B {
         debug_assert!({ #[allow(unused_imports)] use crate::proved::ivl_interval::ops::*; !self.is_empty() }, "{}", "the condition of `upper` is broken: !self.is_empty()");
         self.ub
@@ -313,6 +333,8 @@ impl<B: Width> Cardinality for Interval<B> {
     /// ```
     ///
     /// # Proved
+    ///
+    /// The result is the number of members: the upper bound less the lower plus one, or 0 if they cross.
     ///
     /// ```text
     /// ensures members { IsCountOf (B.Output.size result) (IsBetween self.now) }
@@ -351,6 +373,8 @@ impl<B: Width> IsEmpty for Interval<B> {
     ///
     /// # Proved
     ///
+    /// True exactly when there is no member, which is when the bounds cross; after false there is one.
+    ///
     /// ```text
     /// ensures members { IsTrue result ↔ HasNone (IsBetween self.now) }
     /// ensures filled { ¬ (IsTrue result) → HasSome (IsBetween self.now) }
@@ -385,6 +409,8 @@ impl<B: Width> IsSingleton for Interval<B> {
     /// ```
     ///
     /// # Proved
+    ///
+    /// True exactly when there is one member and no other, which is when the bounds are equal.
     ///
     /// ```text
     /// ensures members { IsTrue result ↔ ((x : ℤ) × SameMembers (IsBetween self.now) (Only x)) }

@@ -31,6 +31,8 @@ impl<B: Width> ToInterval<B> for Interval<B> {
     ///
     /// # Proved
     ///
+    /// The result is the interval itself.
+    ///
     /// ```text
     /// ensures members { SameMembers (IsBetween result) (IsBetween self) }
     /// ensures bounds { self.0 ≤ℤ self.1 → result ≡ self }
@@ -38,6 +40,7 @@ impl<B: Width> ToInterval<B> for Interval<B> {
     /// ```
     ///
     /// Words: [`SameMembers`](crate::definitions#SameMembers), [`IsBetween`](crate::definitions#IsBetween).
+    #[cfg_attr(debug_assertions, track_caller)]
     fn to_interval(self) -> Interval<B> {
         self
     }
@@ -68,6 +71,8 @@ impl<B: Width> ToInterval<B> for (B, B) {
     ///
     /// # Proved
     ///
+    /// The members are exactly the numbers from the one bound to the other, which are the bounds of the result, even if they cross.
+    ///
     /// ```text
     /// requires { IsInRange B.whole (B.value self.0, B.value self.1) }
     /// ensures members { SameMembers (IsBetween result) (IsBetween (B.value self.0, B.value self.1)) }
@@ -76,6 +81,7 @@ impl<B: Width> ToInterval<B> for (B, B) {
     /// ```
     ///
     /// Words: [`IsInRange`](crate::definitions#IsInRange), [`SameMembers`](crate::definitions#SameMembers), [`IsBetween`](crate::definitions#IsBetween).
+    #[cfg_attr(debug_assertions, track_caller)]
     fn to_interval(self) -> Interval<B> {
         Interval::new(self.0, self.1)
     }
@@ -103,6 +109,8 @@ impl<B: Width> ToInterval<B> for () {
     ///
     /// # Proved
     ///
+    /// The result has no member: its bounds cross.
+    ///
     /// ```text
     /// ensures members { SameMembers (IsBetween result) (IsBetween (pos 1, pos 0)) }
     /// ensures bounds { pos 1 ≤ℤ pos 0 → result ≡ (pos 1, pos 0) }
@@ -110,6 +118,7 @@ impl<B: Width> ToInterval<B> for () {
     /// ```
     ///
     /// Words: [`SameMembers`](crate::definitions#SameMembers), [`IsBetween`](crate::definitions#IsBetween), [`IsCrossed`](crate::definitions#IsCrossed).
+    #[cfg_attr(debug_assertions, track_caller)]
     fn to_interval(self) -> Interval<B> {
         Interval::empty()
     }
@@ -140,6 +149,8 @@ impl<B: Width> ToInterval<B> for B {
     ///
     /// # Proved
     ///
+    /// The only member is the value, which is both bounds.
+    ///
     /// ```text
     /// requires { IsBetween B.whole (B.value self) }
     /// ensures members { SameMembers (IsBetween result) (IsBetween (B.value self, B.value self)) }
@@ -148,6 +159,7 @@ impl<B: Width> ToInterval<B> for B {
     /// ```
     ///
     /// Words: [`IsBetween`](crate::definitions#IsBetween), [`SameMembers`](crate::definitions#SameMembers).
+    #[cfg_attr(debug_assertions, track_caller)]
     fn to_interval(self) -> Interval<B> {
         Interval::singleton(self)
     }
@@ -178,6 +190,8 @@ impl<B: Width> ToInterval<B> for RangeInclusive<B> {
     ///
     /// # Proved
     ///
+    /// The members are exactly the numbers from the start to the end, which are the bounds of the result, even if they cross.
+    ///
     /// ```text
     /// requires { IsInRange B.whole (B.value (range_inclusive_start self), B.value (range_inclusive_end self)) }
     /// ensures members { SameMembers (IsBetween result) (IsBetween (B.value (range_inclusive_start self), B.value (range_inclusive_end self))) }
@@ -186,6 +200,7 @@ impl<B: Width> ToInterval<B> for RangeInclusive<B> {
     /// ```
     ///
     /// Words: [`IsInRange`](crate::definitions#IsInRange), [`SameMembers`](crate::definitions#SameMembers), [`IsBetween`](crate::definitions#IsBetween).
+    #[cfg_attr(debug_assertions, track_caller)]
     fn to_interval(self) -> Interval<B> {
         let (start, end) = self.into_inner();
         Interval::new(start, end)
@@ -217,6 +232,8 @@ impl<B: Width> ToInterval<B> for RangeFrom<B> {
     ///
     /// # Proved
     ///
+    /// The members are exactly the numbers from the start to the greatest of the range of the type, which are the bounds of the result.
+    ///
     /// ```text
     /// requires { IsBetween B.whole (B.value self.start) }
     /// ensures members { SameMembers (IsBetween result) (IsBetween (B.value self.start, B.whole.1)) }
@@ -225,6 +242,7 @@ impl<B: Width> ToInterval<B> for RangeFrom<B> {
     /// ```
     ///
     /// Words: [`IsBetween`](crate::definitions#IsBetween), [`SameMembers`](crate::definitions#SameMembers).
+    #[cfg_attr(debug_assertions, track_caller)]
     fn to_interval(self) -> Interval<B> {
         Interval::new(self.start, B::max_value())
     }
@@ -255,6 +273,8 @@ impl<B: Width> ToInterval<B> for RangeToInclusive<B> {
     ///
     /// # Proved
     ///
+    /// The members are exactly the numbers from the least of the range of the type to the end, which are the bounds of the result.
+    ///
     /// ```text
     /// requires { IsBetween B.whole (B.value self.end) }
     /// ensures members { SameMembers (IsBetween result) (IsBetween (B.whole.0, B.value self.end)) }
@@ -263,6 +283,7 @@ impl<B: Width> ToInterval<B> for RangeToInclusive<B> {
     /// ```
     ///
     /// Words: [`IsBetween`](crate::definitions#IsBetween), [`SameMembers`](crate::definitions#SameMembers).
+    #[cfg_attr(debug_assertions, track_caller)]
     fn to_interval(self) -> Interval<B> {
         Interval::new(B::min_value(), self.end)
     }

@@ -10,6 +10,8 @@ use crate::rattle::std::fmt;
 
 /// Proved, with these words of the trait:
 ///
+/// The text is `{}` if the bounds cross, else the two bounds as in `[1..5]`.
+///
 /// ```text
 /// output = { λ p. interval_text p (B.output (B.at p.0)) (B.output (B.at p.1)) }
 /// styled_output = { λ p _. styled_interval_text p }

@@ -180,6 +180,7 @@ impl<B: Width> Hull<B> for Interval<B> {
     /// # Proved
     ///
     /// What [`Hull::hull`] says, by the words of the type.
+    #[cfg_attr(debug_assertions, track_caller)]
     fn hull(&self, other: &B) -> Interval<B> {
         self.hull(&Self::singleton(*other))
     }
@@ -411,6 +412,7 @@ impl<B: Width> Hull<Interval<B>> for B {
     /// # Proved
     ///
     /// What [`Hull::hull`] says, by the words of the type.
+    #[cfg_attr(debug_assertions, track_caller)]
     fn hull(&self, other: &Interval<B>) -> Interval<B> {
         Interval::singleton(*self).hull(other)
     }
@@ -503,6 +505,8 @@ impl<B: Width> Intersection<Interval<B>> for Optional<B> {
     ///
     /// # Proved
     ///
+    /// The result holds the value if there is one and the interval has it, and nothing if not.
+    ///
     /// ```text
     /// ensures members { SameMembers (Held (option_map B.value result)) (Intersection (Held (option_map B.value self.now)) (IsBetween other.now)) }
     /// ensures chosen { (result ≡ self.now) ⊎ (result ≡ None) }
@@ -544,6 +548,8 @@ impl<B: Width> Difference<Interval<B>> for Optional<B> {
     /// ```
     ///
     /// # Proved
+    ///
+    /// The result holds the value if there is one and the interval does not have it, and nothing if not.
     ///
     /// ```text
     /// ensures members { SameMembers (Held (option_map B.value result)) (Without (Held (option_map B.value self.now)) (IsBetween other.now)) }

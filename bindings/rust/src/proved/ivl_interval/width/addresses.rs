@@ -36,6 +36,8 @@ use crate::rattle::std::net::Ipv4Addr;
 ///
 /// # Proved
 ///
+/// The result is the number of the 32 bits of the address, from 0 to 2^32 - 1.
+///
 /// ```text
 /// ensures value { result ≡ pos (ipv4_bits address) }
 /// ensures in_range { IsBetween (pos 0, pos (2 ^ 32 - 1)) result }
@@ -62,6 +64,8 @@ pub fn number_of_address(address: Ipv4Addr) -> i128 {
 /// ```
 ///
 /// # Proved
+///
+/// The result is the address with this number, or `None` exactly when the number is not from 0 to 2^32 - 1.
 ///
 /// ```text
 /// ensures known { IsSome result ↔ IsBetween (pos 0, pos (2 ^ 32 - 1)) number }

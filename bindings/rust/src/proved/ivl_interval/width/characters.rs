@@ -38,6 +38,8 @@ use crate::rattle::prelude::*;
 ///
 /// # Proved
 ///
+/// The result is the place of the character among all characters, from 0 to 0x10f7ff.
+///
 /// ```text
 /// ensures value { result ≡ pos (character_number character) }
 /// ensures in_range { IsBetween (pos 0, pos 0x10f7ff) result }
@@ -71,6 +73,8 @@ pub fn number_of(character: char) -> i128 {
 /// ```
 ///
 /// # Proved
+///
+/// The result is the character at this place among all characters, or `None` exactly when the place is not from 0 to 0x10f7ff.
 ///
 /// ```text
 /// ensures known { IsSome result ↔ IsBetween (pos 0, pos 0x10f7ff) number }

@@ -53,6 +53,8 @@ impl Width for Full<u8> {
     ///
     /// # Proved
     ///
+    /// The result is 0.
+    ///
     /// ```text
     /// ensures { result.0 ≡ 0 }
     /// ```
@@ -63,6 +65,8 @@ impl Width for Full<u8> {
     /// See [`Width::max_value`].
     ///
     /// # Proved
+    ///
+    /// The result is 2^8 - 1.
     ///
     /// ```text
     /// ensures { result.0 ≡ 2 ^ 8 - 1 }
@@ -82,6 +86,7 @@ impl Width for Full<u8> {
         }
     }
 
+    #[cfg_attr(debug_assertions, track_caller)]
     fn width(lower: &Full<u8>, upper: &Full<u8>) -> u16 {
         debug_assert!({ #[allow(unused_imports)] use crate::proved::ivl_interval::ops::*; lower <= upper }, "{}", "the condition of `width` is broken: lower <= upper");
         upper.0 as u16 - lower.0 as u16 + 1
@@ -116,16 +121,19 @@ impl Width for Full<u8> {
         }
     }
 
+    #[cfg_attr(debug_assertions, track_caller)]
     fn add_in_range(self, other: Full<u8>) -> Full<u8> {
         debug_assert!({ #[allow(unused_imports)] use crate::proved::ivl_interval::ops::*; Width::checked_add(self, other).is_some() }, "{}", "the condition of `add_in_range` is broken: Width::checked_add(self, other).is_some()");
         Full(self.0 + other.0)
     }
 
+    #[cfg_attr(debug_assertions, track_caller)]
     fn sub_in_range(self, other: Full<u8>) -> Full<u8> {
         debug_assert!({ #[allow(unused_imports)] use crate::proved::ivl_interval::ops::*; Width::checked_sub(self, other).is_some() }, "{}", "the condition of `sub_in_range` is broken: Width::checked_sub(self, other).is_some()");
         Full(self.0 - other.0)
     }
 
+    #[cfg_attr(debug_assertions, track_caller)]
     fn mul_in_range(self, other: Full<u8>) -> Full<u8> {
         debug_assert!({ #[allow(unused_imports)] use crate::proved::ivl_interval::ops::*; Width::checked_mul(self, other).is_some() }, "{}", "the condition of `mul_in_range` is broken: Width::checked_mul(self, other).is_some()");
         Full(self.0 * other.0)
@@ -148,6 +156,8 @@ impl Width for Full<u16> {
     ///
     /// # Proved
     ///
+    /// The result is 0.
+    ///
     /// ```text
     /// ensures { result.0 ≡ 0 }
     /// ```
@@ -158,6 +168,8 @@ impl Width for Full<u16> {
     /// See [`Width::max_value`].
     ///
     /// # Proved
+    ///
+    /// The result is 2^16 - 1.
     ///
     /// ```text
     /// ensures { result.0 ≡ 2 ^ 16 - 1 }
@@ -177,6 +189,7 @@ impl Width for Full<u16> {
         }
     }
 
+    #[cfg_attr(debug_assertions, track_caller)]
     fn width(lower: &Full<u16>, upper: &Full<u16>) -> u32 {
         debug_assert!({ #[allow(unused_imports)] use crate::proved::ivl_interval::ops::*; lower <= upper }, "{}", "the condition of `width` is broken: lower <= upper");
         upper.0 as u32 - lower.0 as u32 + 1
@@ -211,16 +224,19 @@ impl Width for Full<u16> {
         }
     }
 
+    #[cfg_attr(debug_assertions, track_caller)]
     fn add_in_range(self, other: Full<u16>) -> Full<u16> {
         debug_assert!({ #[allow(unused_imports)] use crate::proved::ivl_interval::ops::*; Width::checked_add(self, other).is_some() }, "{}", "the condition of `add_in_range` is broken: Width::checked_add(self, other).is_some()");
         Full(self.0 + other.0)
     }
 
+    #[cfg_attr(debug_assertions, track_caller)]
     fn sub_in_range(self, other: Full<u16>) -> Full<u16> {
         debug_assert!({ #[allow(unused_imports)] use crate::proved::ivl_interval::ops::*; Width::checked_sub(self, other).is_some() }, "{}", "the condition of `sub_in_range` is broken: Width::checked_sub(self, other).is_some()");
         Full(self.0 - other.0)
     }
 
+    #[cfg_attr(debug_assertions, track_caller)]
     fn mul_in_range(self, other: Full<u16>) -> Full<u16> {
         debug_assert!({ #[allow(unused_imports)] use crate::proved::ivl_interval::ops::*; Width::checked_mul(self, other).is_some() }, "{}", "the condition of `mul_in_range` is broken: Width::checked_mul(self, other).is_some()");
         Full(self.0 * other.0)
@@ -243,6 +259,8 @@ impl Width for Full<u32> {
     ///
     /// # Proved
     ///
+    /// The result is 0.
+    ///
     /// ```text
     /// ensures { result.0 ≡ 0 }
     /// ```
@@ -253,6 +271,8 @@ impl Width for Full<u32> {
     /// See [`Width::max_value`].
     ///
     /// # Proved
+    ///
+    /// The result is 2^32 - 1.
     ///
     /// ```text
     /// ensures { result.0 ≡ 2 ^ 32 - 1 }
@@ -272,6 +292,7 @@ impl Width for Full<u32> {
         }
     }
 
+    #[cfg_attr(debug_assertions, track_caller)]
     fn width(lower: &Full<u32>, upper: &Full<u32>) -> u64 {
         debug_assert!({ #[allow(unused_imports)] use crate::proved::ivl_interval::ops::*; lower <= upper }, "{}", "the condition of `width` is broken: lower <= upper");
         upper.0 as u64 - lower.0 as u64 + 1
@@ -306,16 +327,19 @@ impl Width for Full<u32> {
         }
     }
 
+    #[cfg_attr(debug_assertions, track_caller)]
     fn add_in_range(self, other: Full<u32>) -> Full<u32> {
         debug_assert!({ #[allow(unused_imports)] use crate::proved::ivl_interval::ops::*; Width::checked_add(self, other).is_some() }, "{}", "the condition of `add_in_range` is broken: Width::checked_add(self, other).is_some()");
         Full(self.0 + other.0)
     }
 
+    #[cfg_attr(debug_assertions, track_caller)]
     fn sub_in_range(self, other: Full<u32>) -> Full<u32> {
         debug_assert!({ #[allow(unused_imports)] use crate::proved::ivl_interval::ops::*; Width::checked_sub(self, other).is_some() }, "{}", "the condition of `sub_in_range` is broken: Width::checked_sub(self, other).is_some()");
         Full(self.0 - other.0)
     }
 
+    #[cfg_attr(debug_assertions, track_caller)]
     fn mul_in_range(self, other: Full<u32>) -> Full<u32> {
         debug_assert!({ #[allow(unused_imports)] use crate::proved::ivl_interval::ops::*; Width::checked_mul(self, other).is_some() }, "{}", "the condition of `mul_in_range` is broken: Width::checked_mul(self, other).is_some()");
         Full(self.0 * other.0)

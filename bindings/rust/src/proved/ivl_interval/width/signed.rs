@@ -32,6 +32,8 @@ impl Width for i8 {
     ///
     /// # Proved
     ///
+    /// The result is -(2^7 - 1).
+    ///
     /// ```text
     /// ensures { result ≡ negsuc (2 ^ 7 - 2) }
     /// ```
@@ -42,6 +44,8 @@ impl Width for i8 {
     /// See [`Width::max_value`].
     ///
     /// # Proved
+    ///
+    /// The result is 2^7 - 1.
     ///
     /// ```text
     /// ensures { result ≡ pos (2 ^ 7 - 1) }
@@ -61,6 +65,7 @@ impl Width for i8 {
         }
     }
 
+    #[cfg_attr(debug_assertions, track_caller)]
     fn width(lower: &i8, upper: &i8) -> u8 {
         debug_assert!({ #[allow(unused_imports)] use crate::proved::ivl_interval::ops::*; <Self as Width>::min_value() <= *lower && lower <= upper && *upper <= <Self as Width>::max_value() }, "{}", "the condition of `width` is broken: <Self as Width>::min_value() <= *lower && lower <= upper && *upper <= <Self as Width>::max_value()");
         upper.abs_diff(*lower) + 1
@@ -97,16 +102,19 @@ impl Width for i8 {
         }
     }
 
+    #[cfg_attr(debug_assertions, track_caller)]
     fn add_in_range(self, other: i8) -> i8 {
         debug_assert!({ #[allow(unused_imports)] use crate::proved::ivl_interval::ops::*; Width::checked_add(self, other).is_some() }, "{}", "the condition of `add_in_range` is broken: Width::checked_add(self, other).is_some()");
         self + other
     }
 
+    #[cfg_attr(debug_assertions, track_caller)]
     fn sub_in_range(self, other: i8) -> i8 {
         debug_assert!({ #[allow(unused_imports)] use crate::proved::ivl_interval::ops::*; Width::checked_sub(self, other).is_some() }, "{}", "the condition of `sub_in_range` is broken: Width::checked_sub(self, other).is_some()");
         self - other
     }
 
+    #[cfg_attr(debug_assertions, track_caller)]
     fn mul_in_range(self, other: i8) -> i8 {
         debug_assert!({ #[allow(unused_imports)] use crate::proved::ivl_interval::ops::*; Width::checked_mul(self, other).is_some() }, "{}", "the condition of `mul_in_range` is broken: Width::checked_mul(self, other).is_some()");
         self * other
@@ -130,6 +138,8 @@ impl Width for i16 {
     ///
     /// # Proved
     ///
+    /// The result is -(2^15 - 1).
+    ///
     /// ```text
     /// ensures { result ≡ negsuc (2 ^ 15 - 2) }
     /// ```
@@ -140,6 +150,8 @@ impl Width for i16 {
     /// See [`Width::max_value`].
     ///
     /// # Proved
+    ///
+    /// The result is 2^15 - 1.
     ///
     /// ```text
     /// ensures { result ≡ pos (2 ^ 15 - 1) }
@@ -159,6 +171,7 @@ impl Width for i16 {
         }
     }
 
+    #[cfg_attr(debug_assertions, track_caller)]
     fn width(lower: &i16, upper: &i16) -> u16 {
         debug_assert!({ #[allow(unused_imports)] use crate::proved::ivl_interval::ops::*; <Self as Width>::min_value() <= *lower && lower <= upper && *upper <= <Self as Width>::max_value() }, "{}", "the condition of `width` is broken: <Self as Width>::min_value() <= *lower && lower <= upper && *upper <= <Self as Width>::max_value()");
         upper.abs_diff(*lower) + 1
@@ -195,16 +208,19 @@ impl Width for i16 {
         }
     }
 
+    #[cfg_attr(debug_assertions, track_caller)]
     fn add_in_range(self, other: i16) -> i16 {
         debug_assert!({ #[allow(unused_imports)] use crate::proved::ivl_interval::ops::*; Width::checked_add(self, other).is_some() }, "{}", "the condition of `add_in_range` is broken: Width::checked_add(self, other).is_some()");
         self + other
     }
 
+    #[cfg_attr(debug_assertions, track_caller)]
     fn sub_in_range(self, other: i16) -> i16 {
         debug_assert!({ #[allow(unused_imports)] use crate::proved::ivl_interval::ops::*; Width::checked_sub(self, other).is_some() }, "{}", "the condition of `sub_in_range` is broken: Width::checked_sub(self, other).is_some()");
         self - other
     }
 
+    #[cfg_attr(debug_assertions, track_caller)]
     fn mul_in_range(self, other: i16) -> i16 {
         debug_assert!({ #[allow(unused_imports)] use crate::proved::ivl_interval::ops::*; Width::checked_mul(self, other).is_some() }, "{}", "the condition of `mul_in_range` is broken: Width::checked_mul(self, other).is_some()");
         self * other
@@ -228,6 +244,8 @@ impl Width for i32 {
     ///
     /// # Proved
     ///
+    /// The result is -(2^31 - 1).
+    ///
     /// ```text
     /// ensures { result ≡ negsuc (2 ^ 31 - 2) }
     /// ```
@@ -238,6 +256,8 @@ impl Width for i32 {
     /// See [`Width::max_value`].
     ///
     /// # Proved
+    ///
+    /// The result is 2^31 - 1.
     ///
     /// ```text
     /// ensures { result ≡ pos (2 ^ 31 - 1) }
@@ -257,6 +277,7 @@ impl Width for i32 {
         }
     }
 
+    #[cfg_attr(debug_assertions, track_caller)]
     fn width(lower: &i32, upper: &i32) -> u32 {
         debug_assert!({ #[allow(unused_imports)] use crate::proved::ivl_interval::ops::*; <Self as Width>::min_value() <= *lower && lower <= upper && *upper <= <Self as Width>::max_value() }, "{}", "the condition of `width` is broken: <Self as Width>::min_value() <= *lower && lower <= upper && *upper <= <Self as Width>::max_value()");
         upper.abs_diff(*lower) + 1
@@ -293,16 +314,19 @@ impl Width for i32 {
         }
     }
 
+    #[cfg_attr(debug_assertions, track_caller)]
     fn add_in_range(self, other: i32) -> i32 {
         debug_assert!({ #[allow(unused_imports)] use crate::proved::ivl_interval::ops::*; Width::checked_add(self, other).is_some() }, "{}", "the condition of `add_in_range` is broken: Width::checked_add(self, other).is_some()");
         self + other
     }
 
+    #[cfg_attr(debug_assertions, track_caller)]
     fn sub_in_range(self, other: i32) -> i32 {
         debug_assert!({ #[allow(unused_imports)] use crate::proved::ivl_interval::ops::*; Width::checked_sub(self, other).is_some() }, "{}", "the condition of `sub_in_range` is broken: Width::checked_sub(self, other).is_some()");
         self - other
     }
 
+    #[cfg_attr(debug_assertions, track_caller)]
     fn mul_in_range(self, other: i32) -> i32 {
         debug_assert!({ #[allow(unused_imports)] use crate::proved::ivl_interval::ops::*; Width::checked_mul(self, other).is_some() }, "{}", "the condition of `mul_in_range` is broken: Width::checked_mul(self, other).is_some()");
         self * other
@@ -326,6 +350,8 @@ impl Width for i64 {
     ///
     /// # Proved
     ///
+    /// The result is -(2^63 - 1).
+    ///
     /// ```text
     /// ensures { result ≡ negsuc (2 ^ 63 - 2) }
     /// ```
@@ -336,6 +362,8 @@ impl Width for i64 {
     /// See [`Width::max_value`].
     ///
     /// # Proved
+    ///
+    /// The result is 2^63 - 1.
     ///
     /// ```text
     /// ensures { result ≡ pos (2 ^ 63 - 1) }
@@ -355,6 +383,7 @@ impl Width for i64 {
         }
     }
 
+    #[cfg_attr(debug_assertions, track_caller)]
     fn width(lower: &i64, upper: &i64) -> u64 {
         debug_assert!({ #[allow(unused_imports)] use crate::proved::ivl_interval::ops::*; <Self as Width>::min_value() <= *lower && lower <= upper && *upper <= <Self as Width>::max_value() }, "{}", "the condition of `width` is broken: <Self as Width>::min_value() <= *lower && lower <= upper && *upper <= <Self as Width>::max_value()");
         upper.abs_diff(*lower) + 1
@@ -391,16 +420,19 @@ impl Width for i64 {
         }
     }
 
+    #[cfg_attr(debug_assertions, track_caller)]
     fn add_in_range(self, other: i64) -> i64 {
         debug_assert!({ #[allow(unused_imports)] use crate::proved::ivl_interval::ops::*; Width::checked_add(self, other).is_some() }, "{}", "the condition of `add_in_range` is broken: Width::checked_add(self, other).is_some()");
         self + other
     }
 
+    #[cfg_attr(debug_assertions, track_caller)]
     fn sub_in_range(self, other: i64) -> i64 {
         debug_assert!({ #[allow(unused_imports)] use crate::proved::ivl_interval::ops::*; Width::checked_sub(self, other).is_some() }, "{}", "the condition of `sub_in_range` is broken: Width::checked_sub(self, other).is_some()");
         self - other
     }
 
+    #[cfg_attr(debug_assertions, track_caller)]
     fn mul_in_range(self, other: i64) -> i64 {
         debug_assert!({ #[allow(unused_imports)] use crate::proved::ivl_interval::ops::*; Width::checked_mul(self, other).is_some() }, "{}", "the condition of `mul_in_range` is broken: Width::checked_mul(self, other).is_some()");
         self * other
@@ -424,6 +456,8 @@ impl Width for isize {
     ///
     /// # Proved
     ///
+    /// The result is -(2^63 - 1).
+    ///
     /// ```text
     /// ensures { result ≡ negsuc (2 ^ 63 - 2) }
     /// ```
@@ -434,6 +468,8 @@ impl Width for isize {
     /// See [`Width::max_value`].
     ///
     /// # Proved
+    ///
+    /// The result is 2^63 - 1.
     ///
     /// ```text
     /// ensures { result ≡ pos (2 ^ 63 - 1) }
@@ -453,6 +489,7 @@ impl Width for isize {
         }
     }
 
+    #[cfg_attr(debug_assertions, track_caller)]
     fn width(lower: &isize, upper: &isize) -> usize {
         debug_assert!({ #[allow(unused_imports)] use crate::proved::ivl_interval::ops::*; <Self as Width>::min_value() <= *lower && lower <= upper && *upper <= <Self as Width>::max_value() }, "{}", "the condition of `width` is broken: <Self as Width>::min_value() <= *lower && lower <= upper && *upper <= <Self as Width>::max_value()");
         upper.abs_diff(*lower) + 1
@@ -489,16 +526,19 @@ impl Width for isize {
         }
     }
 
+    #[cfg_attr(debug_assertions, track_caller)]
     fn add_in_range(self, other: isize) -> isize {
         debug_assert!({ #[allow(unused_imports)] use crate::proved::ivl_interval::ops::*; Width::checked_add(self, other).is_some() }, "{}", "the condition of `add_in_range` is broken: Width::checked_add(self, other).is_some()");
         self + other
     }
 
+    #[cfg_attr(debug_assertions, track_caller)]
     fn sub_in_range(self, other: isize) -> isize {
         debug_assert!({ #[allow(unused_imports)] use crate::proved::ivl_interval::ops::*; Width::checked_sub(self, other).is_some() }, "{}", "the condition of `sub_in_range` is broken: Width::checked_sub(self, other).is_some()");
         self - other
     }
 
+    #[cfg_attr(debug_assertions, track_caller)]
     fn mul_in_range(self, other: isize) -> isize {
         debug_assert!({ #[allow(unused_imports)] use crate::proved::ivl_interval::ops::*; Width::checked_mul(self, other).is_some() }, "{}", "the condition of `mul_in_range` is broken: Width::checked_mul(self, other).is_some()");
         self * other

@@ -45,6 +45,7 @@ impl SizeNumber for u8 {
         u8::checked_sub(self, other)
     }
 
+    #[cfg_attr(debug_assertions, track_caller)]
     fn add_in_range(self, other: u8) -> u8 {
         debug_assert!({ #[allow(unused_imports)] use crate::proved::ivl_interval::ops::*; SizeNumber::checked_add(self, other).is_some() }, "{}", "the condition of `add_in_range` is broken: SizeNumber::checked_add(self, other).is_some()");
         self + other
@@ -80,6 +81,7 @@ impl SizeNumber for u16 {
         u16::checked_sub(self, other)
     }
 
+    #[cfg_attr(debug_assertions, track_caller)]
     fn add_in_range(self, other: u16) -> u16 {
         debug_assert!({ #[allow(unused_imports)] use crate::proved::ivl_interval::ops::*; SizeNumber::checked_add(self, other).is_some() }, "{}", "the condition of `add_in_range` is broken: SizeNumber::checked_add(self, other).is_some()");
         self + other
@@ -115,6 +117,7 @@ impl SizeNumber for u32 {
         u32::checked_sub(self, other)
     }
 
+    #[cfg_attr(debug_assertions, track_caller)]
     fn add_in_range(self, other: u32) -> u32 {
         debug_assert!({ #[allow(unused_imports)] use crate::proved::ivl_interval::ops::*; SizeNumber::checked_add(self, other).is_some() }, "{}", "the condition of `add_in_range` is broken: SizeNumber::checked_add(self, other).is_some()");
         self + other
@@ -150,6 +153,7 @@ impl SizeNumber for u64 {
         u64::checked_sub(self, other)
     }
 
+    #[cfg_attr(debug_assertions, track_caller)]
     fn add_in_range(self, other: u64) -> u64 {
         debug_assert!({ #[allow(unused_imports)] use crate::proved::ivl_interval::ops::*; SizeNumber::checked_add(self, other).is_some() }, "{}", "the condition of `add_in_range` is broken: SizeNumber::checked_add(self, other).is_some()");
         self + other
@@ -185,6 +189,7 @@ impl SizeNumber for usize {
         usize::checked_sub(self, other)
     }
 
+    #[cfg_attr(debug_assertions, track_caller)]
     fn add_in_range(self, other: usize) -> usize {
         debug_assert!({ #[allow(unused_imports)] use crate::proved::ivl_interval::ops::*; SizeNumber::checked_add(self, other).is_some() }, "{}", "the condition of `add_in_range` is broken: SizeNumber::checked_add(self, other).is_some()");
         self + other

@@ -32,6 +32,8 @@ impl Width for u8 {
     ///
     /// # Proved
     ///
+    /// The result is 0.
+    ///
     /// ```text
     /// ensures { result ≡ 0 }
     /// ```
@@ -42,6 +44,8 @@ impl Width for u8 {
     /// See [`Width::max_value`].
     ///
     /// # Proved
+    ///
+    /// The result is 2^8 - 2.
     ///
     /// ```text
     /// ensures { result ≡ 2 ^ 8 - 2 }
@@ -61,6 +65,7 @@ impl Width for u8 {
         }
     }
 
+    #[cfg_attr(debug_assertions, track_caller)]
     fn width(lower: &u8, upper: &u8) -> u8 {
         debug_assert!({ #[allow(unused_imports)] use crate::proved::ivl_interval::ops::*; <Self as Width>::min_value() <= *lower && lower <= upper && *upper <= <Self as Width>::max_value() }, "{}", "the condition of `width` is broken: <Self as Width>::min_value() <= *lower && lower <= upper && *upper <= <Self as Width>::max_value()");
         *upper - *lower + 1
@@ -95,16 +100,19 @@ impl Width for u8 {
         }
     }
 
+    #[cfg_attr(debug_assertions, track_caller)]
     fn add_in_range(self, other: u8) -> u8 {
         debug_assert!({ #[allow(unused_imports)] use crate::proved::ivl_interval::ops::*; Width::checked_add(self, other).is_some() }, "{}", "the condition of `add_in_range` is broken: Width::checked_add(self, other).is_some()");
         self + other
     }
 
+    #[cfg_attr(debug_assertions, track_caller)]
     fn sub_in_range(self, other: u8) -> u8 {
         debug_assert!({ #[allow(unused_imports)] use crate::proved::ivl_interval::ops::*; Width::checked_sub(self, other).is_some() }, "{}", "the condition of `sub_in_range` is broken: Width::checked_sub(self, other).is_some()");
         self - other
     }
 
+    #[cfg_attr(debug_assertions, track_caller)]
     fn mul_in_range(self, other: u8) -> u8 {
         debug_assert!({ #[allow(unused_imports)] use crate::proved::ivl_interval::ops::*; Width::checked_mul(self, other).is_some() }, "{}", "the condition of `mul_in_range` is broken: Width::checked_mul(self, other).is_some()");
         self * other
@@ -128,6 +136,8 @@ impl Width for u16 {
     ///
     /// # Proved
     ///
+    /// The result is 0.
+    ///
     /// ```text
     /// ensures { result ≡ 0 }
     /// ```
@@ -138,6 +148,8 @@ impl Width for u16 {
     /// See [`Width::max_value`].
     ///
     /// # Proved
+    ///
+    /// The result is 2^16 - 2.
     ///
     /// ```text
     /// ensures { result ≡ 2 ^ 16 - 2 }
@@ -157,6 +169,7 @@ impl Width for u16 {
         }
     }
 
+    #[cfg_attr(debug_assertions, track_caller)]
     fn width(lower: &u16, upper: &u16) -> u16 {
         debug_assert!({ #[allow(unused_imports)] use crate::proved::ivl_interval::ops::*; <Self as Width>::min_value() <= *lower && lower <= upper && *upper <= <Self as Width>::max_value() }, "{}", "the condition of `width` is broken: <Self as Width>::min_value() <= *lower && lower <= upper && *upper <= <Self as Width>::max_value()");
         *upper - *lower + 1
@@ -191,16 +204,19 @@ impl Width for u16 {
         }
     }
 
+    #[cfg_attr(debug_assertions, track_caller)]
     fn add_in_range(self, other: u16) -> u16 {
         debug_assert!({ #[allow(unused_imports)] use crate::proved::ivl_interval::ops::*; Width::checked_add(self, other).is_some() }, "{}", "the condition of `add_in_range` is broken: Width::checked_add(self, other).is_some()");
         self + other
     }
 
+    #[cfg_attr(debug_assertions, track_caller)]
     fn sub_in_range(self, other: u16) -> u16 {
         debug_assert!({ #[allow(unused_imports)] use crate::proved::ivl_interval::ops::*; Width::checked_sub(self, other).is_some() }, "{}", "the condition of `sub_in_range` is broken: Width::checked_sub(self, other).is_some()");
         self - other
     }
 
+    #[cfg_attr(debug_assertions, track_caller)]
     fn mul_in_range(self, other: u16) -> u16 {
         debug_assert!({ #[allow(unused_imports)] use crate::proved::ivl_interval::ops::*; Width::checked_mul(self, other).is_some() }, "{}", "the condition of `mul_in_range` is broken: Width::checked_mul(self, other).is_some()");
         self * other
@@ -224,6 +240,8 @@ impl Width for u32 {
     ///
     /// # Proved
     ///
+    /// The result is 0.
+    ///
     /// ```text
     /// ensures { result ≡ 0 }
     /// ```
@@ -234,6 +252,8 @@ impl Width for u32 {
     /// See [`Width::max_value`].
     ///
     /// # Proved
+    ///
+    /// The result is 2^32 - 2.
     ///
     /// ```text
     /// ensures { result ≡ 2 ^ 32 - 2 }
@@ -253,6 +273,7 @@ impl Width for u32 {
         }
     }
 
+    #[cfg_attr(debug_assertions, track_caller)]
     fn width(lower: &u32, upper: &u32) -> u32 {
         debug_assert!({ #[allow(unused_imports)] use crate::proved::ivl_interval::ops::*; <Self as Width>::min_value() <= *lower && lower <= upper && *upper <= <Self as Width>::max_value() }, "{}", "the condition of `width` is broken: <Self as Width>::min_value() <= *lower && lower <= upper && *upper <= <Self as Width>::max_value()");
         *upper - *lower + 1
@@ -287,16 +308,19 @@ impl Width for u32 {
         }
     }
 
+    #[cfg_attr(debug_assertions, track_caller)]
     fn add_in_range(self, other: u32) -> u32 {
         debug_assert!({ #[allow(unused_imports)] use crate::proved::ivl_interval::ops::*; Width::checked_add(self, other).is_some() }, "{}", "the condition of `add_in_range` is broken: Width::checked_add(self, other).is_some()");
         self + other
     }
 
+    #[cfg_attr(debug_assertions, track_caller)]
     fn sub_in_range(self, other: u32) -> u32 {
         debug_assert!({ #[allow(unused_imports)] use crate::proved::ivl_interval::ops::*; Width::checked_sub(self, other).is_some() }, "{}", "the condition of `sub_in_range` is broken: Width::checked_sub(self, other).is_some()");
         self - other
     }
 
+    #[cfg_attr(debug_assertions, track_caller)]
     fn mul_in_range(self, other: u32) -> u32 {
         debug_assert!({ #[allow(unused_imports)] use crate::proved::ivl_interval::ops::*; Width::checked_mul(self, other).is_some() }, "{}", "the condition of `mul_in_range` is broken: Width::checked_mul(self, other).is_some()");
         self * other
@@ -320,6 +344,8 @@ impl Width for u64 {
     ///
     /// # Proved
     ///
+    /// The result is 0.
+    ///
     /// ```text
     /// ensures { result ≡ 0 }
     /// ```
@@ -330,6 +356,8 @@ impl Width for u64 {
     /// See [`Width::max_value`].
     ///
     /// # Proved
+    ///
+    /// The result is 2^64 - 2.
     ///
     /// ```text
     /// ensures { result ≡ 2 ^ 64 - 2 }
@@ -349,6 +377,7 @@ impl Width for u64 {
         }
     }
 
+    #[cfg_attr(debug_assertions, track_caller)]
     fn width(lower: &u64, upper: &u64) -> u64 {
         debug_assert!({ #[allow(unused_imports)] use crate::proved::ivl_interval::ops::*; <Self as Width>::min_value() <= *lower && lower <= upper && *upper <= <Self as Width>::max_value() }, "{}", "the condition of `width` is broken: <Self as Width>::min_value() <= *lower && lower <= upper && *upper <= <Self as Width>::max_value()");
         *upper - *lower + 1
@@ -383,16 +412,19 @@ impl Width for u64 {
         }
     }
 
+    #[cfg_attr(debug_assertions, track_caller)]
     fn add_in_range(self, other: u64) -> u64 {
         debug_assert!({ #[allow(unused_imports)] use crate::proved::ivl_interval::ops::*; Width::checked_add(self, other).is_some() }, "{}", "the condition of `add_in_range` is broken: Width::checked_add(self, other).is_some()");
         self + other
     }
 
+    #[cfg_attr(debug_assertions, track_caller)]
     fn sub_in_range(self, other: u64) -> u64 {
         debug_assert!({ #[allow(unused_imports)] use crate::proved::ivl_interval::ops::*; Width::checked_sub(self, other).is_some() }, "{}", "the condition of `sub_in_range` is broken: Width::checked_sub(self, other).is_some()");
         self - other
     }
 
+    #[cfg_attr(debug_assertions, track_caller)]
     fn mul_in_range(self, other: u64) -> u64 {
         debug_assert!({ #[allow(unused_imports)] use crate::proved::ivl_interval::ops::*; Width::checked_mul(self, other).is_some() }, "{}", "the condition of `mul_in_range` is broken: Width::checked_mul(self, other).is_some()");
         self * other
@@ -416,6 +448,8 @@ impl Width for usize {
     ///
     /// # Proved
     ///
+    /// The result is 0.
+    ///
     /// ```text
     /// ensures { result ≡ 0 }
     /// ```
@@ -426,6 +460,8 @@ impl Width for usize {
     /// See [`Width::max_value`].
     ///
     /// # Proved
+    ///
+    /// The result is 2^64 - 2.
     ///
     /// ```text
     /// ensures { result ≡ 2 ^ 64 - 2 }
@@ -445,6 +481,7 @@ impl Width for usize {
         }
     }
 
+    #[cfg_attr(debug_assertions, track_caller)]
     fn width(lower: &usize, upper: &usize) -> usize {
         debug_assert!({ #[allow(unused_imports)] use crate::proved::ivl_interval::ops::*; <Self as Width>::min_value() <= *lower && lower <= upper && *upper <= <Self as Width>::max_value() }, "{}", "the condition of `width` is broken: <Self as Width>::min_value() <= *lower && lower <= upper && *upper <= <Self as Width>::max_value()");
         *upper - *lower + 1
@@ -479,16 +516,19 @@ impl Width for usize {
         }
     }
 
+    #[cfg_attr(debug_assertions, track_caller)]
     fn add_in_range(self, other: usize) -> usize {
         debug_assert!({ #[allow(unused_imports)] use crate::proved::ivl_interval::ops::*; Width::checked_add(self, other).is_some() }, "{}", "the condition of `add_in_range` is broken: Width::checked_add(self, other).is_some()");
         self + other
     }
 
+    #[cfg_attr(debug_assertions, track_caller)]
     fn sub_in_range(self, other: usize) -> usize {
         debug_assert!({ #[allow(unused_imports)] use crate::proved::ivl_interval::ops::*; Width::checked_sub(self, other).is_some() }, "{}", "the condition of `sub_in_range` is broken: Width::checked_sub(self, other).is_some()");
         self - other
     }
 
+    #[cfg_attr(debug_assertions, track_caller)]
     fn mul_in_range(self, other: usize) -> usize {
         debug_assert!({ #[allow(unused_imports)] use crate::proved::ivl_interval::ops::*; Width::checked_mul(self, other).is_some() }, "{}", "the condition of `mul_in_range` is broken: Width::checked_mul(self, other).is_some()");
         self * other

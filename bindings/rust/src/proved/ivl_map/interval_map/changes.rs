@@ -23,7 +23,8 @@ impl<B: Width, V: MapValue> IntervalMap<B, V> {
     ///
     /// # Errors
     ///
-    /// Fails only if an allocation fails. The map is then unchanged.
+    /// Fails only if an allocation fails. The map is then unchanged. Where the interval is empty, an entry is
+    /// in the way, or one that touches the interval has an equal value, it cannot fail.
     ///
     /// ```
     /// use intervallum::proved::examples::*;
@@ -40,15 +41,20 @@ impl<B: Width, V: MapValue> IntervalMap<B, V> {
     ///
     /// # Proved
     ///
+    /// None: no number of the interval had a value. Now each has this one, and the others what they had. Some: the run of the first entry in the way, and the map is unchanged. If it fails, the map is unchanged. It cannot fail where the interval is empty, where an entry is in the way, or where a number next to it has an equal value.
+    ///
     /// ```text
     /// ensures free { IfOk result (λ met. IfNone met (HasNone (Intersection (IsBetween interval) (HasValue (HasAt V.eq self.old))))) }
     /// ensures written { IfOk result (λ met. IfNone met (IsEntriesOf V.eq self.new (Written V.eq interval value (HasAt V.eq self.old)))) }
     /// ensures met { IfOk result (λ met. IfSome met (λ run. (held : V) × IsFirstRunOf V.eq (Intersection (IsBetween interval) (HasValue (HasAt V.eq self.old))) (HasAt V.eq self.old) (run, held))) }
     /// ensures unchanged { IfOk result (λ met. IfSome met (λ _. self.new ≡ self.old)) }
     /// ensures err { OnErr result (self.new ≡ self.old) }
+    /// ensures empty { HasNone (IsBetween interval) → IsOk result }
+    /// ensures taken { HasSome (Intersection (IsBetween interval) (HasValue (HasAt V.eq self.old))) → IsOk result }
+    /// ensures grows { (z : ℤ) → IsBetween (widened interval) z → HasAt V.eq self.old z value → IsOk result }
     /// ```
     ///
-    /// Words: [`HasNone`](crate::definitions#HasNone), [`Intersection`](crate::definitions#Intersection), [`IsBetween`](crate::definitions#IsBetween), [`HasValue`](crate::definitions#HasValue), [`HasAt`](crate::definitions#HasAt), [`IsEntriesOf`](crate::definitions#IsEntriesOf), [`Written`](crate::definitions#Written), [`IsFirstRunOf`](crate::definitions#IsFirstRunOf).
+    /// Words: [`HasNone`](crate::definitions#HasNone), [`Intersection`](crate::definitions#Intersection), [`IsBetween`](crate::definitions#IsBetween), [`HasValue`](crate::definitions#HasValue), [`HasAt`](crate::definitions#HasAt), [`IsEntriesOf`](crate::definitions#IsEntriesOf), [`Written`](crate::definitions#Written), [`IsFirstRunOf`](crate::definitions#IsFirstRunOf), [`HasSome`](crate::definitions#HasSome), [`widened`](crate::definitions#widened).
     pub fn insert_if_free(
         &mut self,
         interval: Interval<B>,
@@ -71,7 +77,8 @@ impl<B: Width, V: MapValue> IntervalMap<B, V> {
     ///
     /// # Errors
     ///
-    /// Fails only if `change`, an allocation or the copy of a value fails. The map is then unchanged.
+    /// Fails only if `change`, an allocation or the copy of a value fails. The map is then unchanged. Where
+    /// the interval is empty, it cannot fail.
     ///
     /// ```
     /// use intervallum::proved::examples::*;
@@ -87,13 +94,16 @@ impl<B: Width, V: MapValue> IntervalMap<B, V> {
     ///
     /// # Proved
     ///
+    /// Each number of the interval that had a value has what the function returned for it, and the others what they had. If it fails, the map is unchanged. It cannot fail where the interval is empty.
+    ///
     /// ```text
     /// requires { F.IsAlwaysCallable change }
     /// ensures ok { OnOk result (IsUpdated V.eq (λ v w. FnReturnsAt F.Fn change v (Ok w)) (IsBetween interval) self.old self.new) }
     /// ensures err { OnErr result (self.new ≡ self.old) }
+    /// ensures empty { HasNone (IsBetween interval) → IsOk result }
     /// ```
     ///
-    /// Words: [`IsUpdated`](crate::definitions#IsUpdated), [`IsBetween`](crate::definitions#IsBetween).
+    /// Words: [`IsUpdated`](crate::definitions#IsUpdated), [`IsBetween`](crate::definitions#IsBetween), [`HasNone`](crate::definitions#HasNone).
     pub fn update<F: Fn(&V) -> Result<V, AllocError>>(
         &mut self,
         interval: Interval<B>,
@@ -133,6 +143,8 @@ impl<B: Width, V: MapValue> IntervalMap<B, V> {
     /// ```
     ///
     /// # Proved
+    ///
+    /// Each number of both maps has what the function returned for its two values, and the others what one of the two has.
     ///
     /// ```text
     /// requires { F.IsAlwaysCallable both }

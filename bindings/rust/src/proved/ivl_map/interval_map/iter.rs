@@ -102,6 +102,8 @@ impl<B: Width, V: MapValue> IntervalMap<B, V> {
     ///
     /// # Proved
     ///
+    /// All entries, which ascend and stand in the range.
+    ///
     /// ```text
     /// ensures same { result.now ≡ self.now }
     /// ensures entries { IsEntryListIn B.whole V.eq self.now }
@@ -128,6 +130,8 @@ impl<B: Width, V: MapValue> IntervalMap<B, V> {
     /// ```
     ///
     /// # Proved
+    ///
+    /// All entries, which ascend and stand in the range.
     ///
     /// ```text
     /// ensures same { result.items ≡ self }
@@ -159,6 +163,8 @@ impl<B: Width, V: MapValue> IntervalMap<B, V> {
     ///
     /// # Proved
     ///
+    /// All entries are left, which ascend and stand in the range.
+    ///
     /// ```text
     /// ensures rest { result.rest.now ≡ self.now }
     /// ensures entries { IsEntryListIn B.whole V.eq self.now }
@@ -186,6 +192,8 @@ impl<B: Width, V: MapValue> IntervalMap<B, V> {
     /// ```
     ///
     /// # Proved
+    ///
+    /// All entries are left, which ascend and stand in the range.
     ///
     /// ```text
     /// ensures rest { result ≡ self.now }

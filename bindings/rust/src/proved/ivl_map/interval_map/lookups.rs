@@ -26,6 +26,8 @@ impl<B: Width, V: MapValue> IntervalMap<B, V> {
     ///
     /// # Proved
     ///
+    /// None if and only if the number has no value; else its value. It is the value of an entry that has the number.
+    ///
     /// ```text
     /// ensures value { MatchOption result
     ///     ((v : V) → ¬ (HasAt V.eq self.now (B.value item.now) v))
@@ -57,6 +59,8 @@ impl<B: Width, V: MapValue> IntervalMap<B, V> {
     ///
     /// # Proved
     ///
+    /// True if and only if the number has a value.
+    ///
     /// ```text
     /// ensures { IsTrue result ↔ HasValue (HasAt V.eq self.now) (B.value item.now) }
     /// ```
@@ -82,6 +86,8 @@ impl<B: Width, V: MapValue> IntervalMap<B, V> {
     /// ```
     ///
     /// # Proved
+    ///
+    /// None if and only if the number has no value; else the longest run round it whose numbers have equal values. It is one of the entries.
     ///
     /// ```text
     /// ensures run { MatchOption result
@@ -116,6 +122,8 @@ impl<B: Width, V: MapValue> IntervalMap<B, V> {
     ///
     /// # Proved
     ///
+    /// None if and only if no number has a value; else the run round the least one that has. It is one of the entries.
+    ///
     /// ```text
     /// ensures least { MatchOption result
     ///     (HasNone (HasValue (HasAt V.eq self.now)))
@@ -144,6 +152,8 @@ impl<B: Width, V: MapValue> IntervalMap<B, V> {
     /// ```
     ///
     /// # Proved
+    ///
+    /// None if and only if no number has a value; else the run round the greatest one that has. It is one of the entries.
     ///
     /// ```text
     /// ensures greatest { MatchOption result
@@ -178,6 +188,8 @@ impl<B: Width, V: MapValue> IntervalMap<B, V> {
     ///
     /// # Proved
     ///
+    /// None if and only if no number from `v` on has a value; else the run round the least one that has. It is one of the entries.
+    ///
     /// ```text
     /// ensures least { MatchOption result
     ///     (HasNone (AtLeast (B.value v) (HasValue (HasAt V.eq self.now))))
@@ -211,6 +223,8 @@ impl<B: Width, V: MapValue> IntervalMap<B, V> {
     /// ```
     ///
     /// # Proved
+    ///
+    /// None if and only if no number up to `v` has a value; else the run round the greatest one that has. It is one of the entries.
     ///
     /// ```text
     /// ensures greatest { MatchOption result

@@ -11,7 +11,7 @@ use crate::rattle::std::alloc::{AllocError, Global};
 
 impl<B: Width, V: MapValue> IntervalMap<B, V> {
     /// Returns the map in which the numbers of the interval, which may be empty, have the value, and
-    /// no others have one. `O(1)`. Fails only if allocation fails.
+    /// no others have one. `O(1)`. Fails only if allocation fails, and not for an empty interval.
     ///
     /// ```
     /// use intervallum::proved::examples::*;
@@ -26,11 +26,14 @@ impl<B: Width, V: MapValue> IntervalMap<B, V> {
     ///
     /// # Proved
     ///
+    /// The numbers of the interval have the value, and no others have one. It cannot fail where the interval is empty.
+    ///
     /// ```text
-    /// ensures { IfOk result (λ E. IsEntriesOf V.eq E (Written V.eq interval value NoValue)) }
+    /// ensures written { IfOk result (λ E. IsEntriesOf V.eq E (Written V.eq interval value NoValue)) }
+    /// ensures empty { HasNone (IsBetween interval) → IsOk result }
     /// ```
     ///
-    /// Words: [`IsEntriesOf`](crate::definitions#IsEntriesOf), [`Written`](crate::definitions#Written), [`NoValue`](crate::definitions#NoValue).
+    /// Words: [`IsEntriesOf`](crate::definitions#IsEntriesOf), [`Written`](crate::definitions#Written), [`NoValue`](crate::definitions#NoValue), [`HasNone`](crate::definitions#HasNone), [`IsBetween`](crate::definitions#IsBetween).
     pub fn of(alloc: Global, interval: Interval<B>, value: V) -> Result<Self, AllocError> {
         let mut map = IntervalMap::empty(alloc);
         map.insert(interval, value)?;
@@ -59,6 +62,8 @@ impl<B: Width, V: MapValue> IntervalMap<B, V> {
     ///
     /// # Proved
     ///
+    /// The elements are written one after the other, so the last one counts, and other numbers have no value.
+    ///
     /// ```text
     /// ensures { IfOk result (λ E. IsEntriesOf V.eq E (WrittenAll V.eq list.items NoValue)) }
     /// ```
@@ -78,8 +83,8 @@ impl<B: Width, V: MapValue> IntervalMap<B, V> {
     ///
     /// # Errors
     ///
-    /// Fails only if an allocation or the copy of a value fails. The elements before the one that
-    /// failed have then been written, and the others have not.
+    /// Fails only where [`IntervalMap::insert`] of an element does. The elements before this one have then
+    /// been written, and the others have not.
     ///
     /// ```
     /// use intervallum::proved::examples::*;
@@ -97,9 +102,13 @@ impl<B: Width, V: MapValue> IntervalMap<B, V> {
     ///
     /// # Proved
     ///
+    /// The elements are written one after the other, so the last one counts, and other numbers have what they had. If it fails, it does so at some element, whose write may need room, and the elements before this one are written.
+    ///
     /// ```text
     /// ensures ok { OnOk result (IsEntriesOf V.eq self.new (WrittenAll V.eq list.items (HasAt V.eq self.old))) }
-    /// ensures err { OnErr result ((k : ℕ) × IsEntriesOf V.eq self.new (WrittenAll V.eq (take k list.items) (HasAt V.eq self.old))) }
+    /// ensures err { OnErr result ((k : ℕ) × (k < length list.items)
+    ///     × IsEntriesOf V.eq self.new (WrittenAll V.eq (take k list.items) (HasAt V.eq self.old))
+    ///     × ((d : _) → NeedsRoom V.eq self.new (slice_index_or list.items k d))) }
     /// ```
     ///
     /// Words: [`IsEntriesOf`](crate::definitions#IsEntriesOf), [`WrittenAll`](crate::definitions#WrittenAll), [`HasAt`](crate::definitions#HasAt).
@@ -112,7 +121,7 @@ impl<B: Width, V: MapValue> IntervalMap<B, V> {
     }
 
     /// Returns a copy of the map. `O(n)`: copies each value. Reserves `n` entries. Fails only if an
-    /// allocation or the copy of a value fails.
+    /// allocation or the copy of a value fails, and not for an empty map.
     ///
     /// ```
     /// use intervallum::proved::examples::*;
@@ -127,8 +136,11 @@ impl<B: Width, V: MapValue> IntervalMap<B, V> {
     ///
     /// # Proved
     ///
+    /// Equal values at the same numbers, and none at the others. It cannot fail where there is no entry.
+    ///
     /// ```text
-    /// ensures { IfOk result (λ E. IsEntriesOf V.eq E (HasAt V.eq self.now)) }
+    /// ensures values { IfOk result (λ E. IsEntriesOf V.eq E (HasAt V.eq self.now)) }
+    /// ensures none { self.now ≡ [] → IsOk result }
     /// ```
     ///
     /// Words: [`IsEntriesOf`](crate::definitions#IsEntriesOf), [`HasAt`](crate::definitions#HasAt).

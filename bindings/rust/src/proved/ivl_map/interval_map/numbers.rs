@@ -13,7 +13,7 @@ use crate::rattle::std::alloc::{AllocError, Global};
 
 impl<B: Width, V: MapValue> IntervalMap<B, V> {
     /// Returns the set of the numbers that have a value. `O(n)`: adds each entry at the end of the
-    /// set, which grows as it is filled. Fails only if allocation fails.
+    /// set, which grows as it is filled. Fails only if allocation fails, and not for an empty map.
     ///
     /// ```
     /// use intervallum::proved::examples::*;
@@ -29,8 +29,11 @@ impl<B: Width, V: MapValue> IntervalMap<B, V> {
     ///
     /// # Proved
     ///
+    /// The members are the numbers that have a value. It cannot fail where there is no entry.
+    ///
     /// ```text
-    /// ensures { IfOk result (λ L. IsRunsOf L (HasValue (HasAt V.eq self.now))) }
+    /// ensures members { IfOk result (λ L. IsRunsOf L (HasValue (HasAt V.eq self.now))) }
+    /// ensures none { self.now ≡ [] → IsOk result }
     /// ```
     ///
     /// Words: [`IsRunsOf`](crate::definitions#IsRunsOf), [`HasValue`](crate::definitions#HasValue), [`HasAt`](crate::definitions#HasAt).
@@ -53,6 +56,8 @@ impl<B: Width, V: MapValue> IntervalMap<B, V> {
     /// ```
     ///
     /// # Proved
+    ///
+    /// How many numbers have a value.
     ///
     /// ```text
     /// ensures { IsCountOf (B.Output.size result) (HasValue (HasAt V.eq self.now)) }
@@ -80,13 +85,19 @@ impl<B: Width, V: MapValue> IntervalMap<B, V> {
     ///
     /// # Proved
     ///
+    /// The test was called once for each entry, in ascending order. The members are the numbers of those that passed.
+    ///
     /// ```text
     /// requires { F.IsAlwaysCallable test }
-    /// ensures { IfOk result (λ L. IsTested (FnReturnsAt F.Fn test) self.now L) }
+    /// ensures { IfOk result (λ L. (passed : List ((ℤ × ℤ) × V)) × IsFiltered (λ f e is g. CalledAt F.FnMut f e.1 is g) test self.now passed
+    ///     × IsRunsOf L (Covers (intervals_of passed))) }
     /// ```
     ///
-    /// Words: [`IsTested`](crate::definitions#IsTested).
-    pub fn numbers_with<F: Fn(&V) -> bool>(&self, test: F) -> Result<IntervalSet<B>, AllocError> {
+    /// Words: [`IsRunsOf`](crate::definitions#IsRunsOf), [`Covers`](crate::definitions#Covers), [`intervals_of`](crate::definitions#intervals_of).
+    pub fn numbers_with<F: FnMut(&V) -> bool>(
+        &self,
+        mut test: F,
+    ) -> Result<IntervalSet<B>, AllocError> {
         let mut numbers = IntervalSet::empty(self.allocator());
         for entry in self.entries.as_slice() {
             if !test(&entry.1) {

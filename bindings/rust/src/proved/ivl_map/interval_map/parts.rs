@@ -30,6 +30,8 @@ impl<B: Width, V: MapValue> IntervalMap<B, V> {
     ///
     /// # Proved
     ///
+    /// The numbers of the window have what the map has there, and the others nothing.
+    ///
     /// ```text
     /// ensures { IfOk result (λ E. IsEntriesOf V.eq E (OnlyAt (IsBetween window) (HasAt V.eq self.now))) }
     /// ```
@@ -60,6 +62,8 @@ impl<B: Width, V: MapValue> IntervalMap<B, V> {
     ///
     /// # Proved
     ///
+    /// The members of the set have what the map has there, and other numbers nothing.
+    ///
     /// ```text
     /// ensures { IfOk result (λ E. IsEntriesOf V.eq E (OnlyAt (Covers set.now) (HasAt V.eq self.now))) }
     /// ```
@@ -89,6 +93,8 @@ impl<B: Width, V: MapValue> IntervalMap<B, V> {
     /// ```
     ///
     /// # Proved
+    ///
+    /// The members of the set have nothing, and other numbers what the map has there.
     ///
     /// ```text
     /// ensures { IfOk result (λ E. IsEntriesOf V.eq E (NotAt (Covers set.now) (HasAt V.eq self.now))) }

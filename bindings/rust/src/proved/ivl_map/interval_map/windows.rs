@@ -34,13 +34,17 @@ impl<B: Width, V: MapValue> IntervalMap<B, V> {
     ///
     /// # Proved
     ///
+    /// Each is an entry of the map, and has a number of the window. The numbers of the window have the values that the map has there, and the others no more than these. They ascend, and stand in the range.
+    ///
     /// ```text
+    /// ensures whole { (e : _) → IsIn result.now e → IsIn self.now e }
+    /// ensures overlap { All (λ e. HasSome (Intersection (IsBetween e.0) (IsBetween window))) result.now }
     /// ensures held { (z : ℤ) (v : V) → IsBetween window z → HasAt V.eq result.now z v ↔ HasAt V.eq self.now z v }
     /// ensures part { (z : ℤ) (v : V) → HasAt V.eq result.now z v → HasAt V.eq self.now z v }
     /// ensures entries { IsEntryListIn B.whole V.eq result.now }
     /// ```
     ///
-    /// Words: [`IsBetween`](crate::definitions#IsBetween), [`HasAt`](crate::definitions#HasAt), [`IsEntryListIn`](crate::definitions#IsEntryListIn).
+    /// Words: [`IsIn`](crate::definitions#IsIn), [`HasSome`](crate::definitions#HasSome), [`Intersection`](crate::definitions#Intersection), [`IsBetween`](crate::definitions#IsBetween), [`HasAt`](crate::definitions#HasAt), [`IsEntryListIn`](crate::definitions#IsEntryListIn).
     pub fn overlapping(&self, window: Interval<B>) -> &[(Interval<B>, V)] {
         let entries = self.entries.as_slice();
         if window.is_empty() {
@@ -69,6 +73,8 @@ impl<B: Width, V: MapValue> IntervalMap<B, V> {
     /// ```
     ///
     /// # Proved
+    ///
+    /// The members are the numbers of the window that have no value.
     ///
     /// ```text
     /// ensures { IfOk result (λ L. IsRunsOf L (Without (IsBetween window) (HasValue (HasAt V.eq self.now)))) }
@@ -103,6 +109,8 @@ impl<B: Width, V: MapValue> IntervalMap<B, V> {
     ///
     /// # Proved
     ///
+    /// None: nowhere in the window do so many numbers without a value stand in a row. Else the lowest that do.
+    ///
     /// ```text
     /// requires { 0 < B.Output.size count }
     /// ensures { IfOk result (λ fit. MatchOption fit
@@ -111,6 +119,7 @@ impl<B: Width, V: MapValue> IntervalMap<B, V> {
     /// ```
     ///
     /// Words: [`FitsAt`](crate::definitions#FitsAt), [`Without`](crate::definitions#Without), [`IsBetween`](crate::definitions#IsBetween), [`HasValue`](crate::definitions#HasValue), [`HasAt`](crate::definitions#HasAt), [`IsFirstFit`](crate::definitions#IsFirstFit).
+    #[cfg_attr(debug_assertions, track_caller)]
     pub fn first_fit(
         &self,
         window: Interval<B>,

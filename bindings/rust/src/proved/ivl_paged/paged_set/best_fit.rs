@@ -33,6 +33,8 @@ impl<B: Width> PagedSet<B> {
     ///
     /// # Proved
     ///
+    /// The result is the first `count` numbers of the shortest run that has so many, the lowest of those as short; or `None` if no run has so many.
+    ///
     /// ```text
     /// requires { 0 < B.Output.size count }
     /// ensures { MatchOption result
@@ -41,6 +43,7 @@ impl<B: Width> PagedSet<B> {
     /// ```
     ///
     /// Words: [`FitsAt`](crate::definitions#FitsAt), [`Covers`](crate::definitions#Covers), [`IsBestFit`](crate::definitions#IsBestFit).
+    #[cfg_attr(debug_assertions, track_caller)]
     pub fn best_fit(&self, count: B::Output) -> Option<Interval<B>> {
         debug_assert!({ #[allow(unused_imports)] use crate::proved::ivl_interval::ops::*; crate::proved::ivl_interval::width::SizeNumber::number(count) > 0 }, "{}", "the condition of `best_fit` is broken: crate::proved::ivl_interval::width::SizeNumber::number(count) > 0");
         let run = pages::shortest_run(&self.pages, count)?;

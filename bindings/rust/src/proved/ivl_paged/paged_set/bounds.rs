@@ -27,6 +27,8 @@ impl<B: Width> PagedSet<B> {
     ///
     /// # Proved
     ///
+    /// On success, the result is the whole range, as one run.
+    ///
     /// ```text
     /// ensures { IfOk result (λ L. L ≡ B.whole ∷ []) }
     /// ```
@@ -50,6 +52,8 @@ impl<B: Width> PagedSet<B> {
     /// ```
     ///
     /// # Proved
+    ///
+    /// The result is the least member, which is in the range, or `None` if there is none.
     ///
     /// ```text
     /// ensures least { MatchOption result (HasNone (Covers self.now)) (λ x. IsLeast (B.value x) (Covers self.now)) }
@@ -80,6 +84,8 @@ impl<B: Width> PagedSet<B> {
     /// ```
     ///
     /// # Proved
+    ///
+    /// The result is the greatest member, which is in the range, or `None` if there is none.
     ///
     /// ```text
     /// ensures greatest { MatchOption result (HasNone (Covers self.now)) (λ x. IsGreatest (B.value x) (Covers self.now)) }
@@ -112,6 +118,8 @@ impl<B: Width> PagedSet<B> {
     /// ```
     ///
     /// # Proved
+    ///
+    /// The result is the least interval that holds all members.
     ///
     /// ```text
     /// ensures { IsHullOf result (Covers self.now) }
@@ -146,6 +154,8 @@ impl<B: Width> Bounded for PagedSet<B> {
     ///
     /// # Proved
     ///
+    /// The result is the least member, which is in the range.
+    ///
     /// ```text
     /// requires { HasSome (Covers self.now) }
     /// ensures member { Covers self.now (B.value result) }
@@ -154,6 +164,7 @@ impl<B: Width> Bounded for PagedSet<B> {
     /// ```
     ///
     /// Words: [`HasSome`](crate::definitions#HasSome), [`Covers`](crate::definitions#Covers), [`IsBetween`](crate::definitions#IsBetween).
+    #[cfg_attr(debug_assertions, track_caller)]
     fn lower(&self) -> B {
         debug_assert!({ #[allow(unused_imports)] use crate::proved::ivl_interval::ops::*; !self.is_empty() }, "{}", "the condition of `lower` is broken: !self.is_empty()");
         self.first().unwrap()
@@ -176,6 +187,8 @@ impl<B: Width> Bounded for PagedSet<B> {
     ///
     /// # Proved
     ///
+    /// The result is the greatest member, which is in the range.
+    ///
     /// ```text
     /// requires { HasSome (Covers self.now) }
     /// ensures member { Covers self.now (B.value result) }
@@ -184,6 +197,7 @@ impl<B: Width> Bounded for PagedSet<B> {
     /// ```
     ///
     /// Words: [`HasSome`](crate::definitions#HasSome), [`Covers`](crate::definitions#Covers), [`IsBetween`](crate::definitions#IsBetween).
+    #[cfg_attr(debug_assertions, track_caller)]
     fn upper(&self) -> B {
         debug_assert!({ #[allow(unused_imports)] use crate::proved::ivl_interval::ops::*; !self.is_empty() }, "{}", "the condition of `upper` is broken: !self.is_empty()");
         self.last().unwrap()

@@ -27,6 +27,8 @@ impl<B: Width> PagedSet<B> {
     ///
     /// # Proved
     ///
+    /// On success, the result is the same set.
+    ///
     /// ```text
     /// ensures { IfOk result (λ L. L ≡ self.now) }
     /// ```

@@ -28,6 +28,8 @@ impl<B: Width> PagedSet<B> {
     ///
     /// # Proved
     ///
+    /// On success, the result has the runs of `set`.
+    ///
     /// ```text
     /// ensures { IfOk result (λ L. L ≡ set) }
     /// ```
@@ -55,6 +57,8 @@ impl<B: Width> PagedSet<B> {
     /// ```
     ///
     /// # Proved
+    ///
+    /// On success, the result has the runs of the set.
     ///
     /// ```text
     /// ensures { IfOk result (λ L. L ≡ self) }

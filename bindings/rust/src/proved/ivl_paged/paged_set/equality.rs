@@ -33,6 +33,8 @@ impl<B: Width> PartialEq for PagedSet<B> {
     ///
     /// # Proved
     ///
+    /// True exactly when both sets have the same members.
+    ///
     /// ```text
     /// ensures value { result ≡ same_runs self.now other.now }
     /// ensures members { IsTrue result ↔ SameMembers (Covers self.now) (Covers other.now) }

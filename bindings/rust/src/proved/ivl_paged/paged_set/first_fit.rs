@@ -31,6 +31,8 @@ impl<B: Width> PagedSet<B> {
     ///
     /// # Proved
     ///
+    /// The result is the lowest `count` consecutive members, or `None` if there are none.
+    ///
     /// ```text
     /// requires { 0 < B.Output.size count }
     /// ensures { MatchOption result
@@ -39,6 +41,7 @@ impl<B: Width> PagedSet<B> {
     /// ```
     ///
     /// Words: [`FitsAt`](crate::definitions#FitsAt), [`Covers`](crate::definitions#Covers), [`IsFirstFit`](crate::definitions#IsFirstFit).
+    #[cfg_attr(debug_assertions, track_caller)]
     pub fn first_fit(&self, count: B::Output) -> Option<Interval<B>> {
         debug_assert!({ #[allow(unused_imports)] use crate::proved::ivl_interval::ops::*; crate::proved::ivl_interval::width::SizeNumber::number(count) > 0 }, "{}", "the condition of `first_fit` is broken: crate::proved::ivl_interval::width::SizeNumber::number(count) > 0");
         pages::fit_from(&self.pages, 0, count)
@@ -66,6 +69,8 @@ impl<B: Width> PagedSet<B> {
     ///
     /// # Proved
     ///
+    /// The result is the lowest `count` consecutive members that are at least `v`, or `None` if there are none.
+    ///
     /// ```text
     /// requires { 0 < B.Output.size count }
     /// ensures { MatchOption result
@@ -74,6 +79,7 @@ impl<B: Width> PagedSet<B> {
     /// ```
     ///
     /// Words: [`FitsAt`](crate::definitions#FitsAt), [`AtLeast`](crate::definitions#AtLeast), [`Covers`](crate::definitions#Covers), [`IsFirstFit`](crate::definitions#IsFirstFit).
+    #[cfg_attr(debug_assertions, track_caller)]
     pub fn first_fit_from(&self, v: B, count: B::Output) -> Option<Interval<B>> {
         debug_assert!({ #[allow(unused_imports)] use crate::proved::ivl_interval::ops::*; crate::proved::ivl_interval::width::SizeNumber::number(count) > 0 }, "{}", "the condition of `first_fit_from` is broken: crate::proved::ivl_interval::width::SizeNumber::number(count) > 0");
         let place = self.pages.starts_up_to(v);
@@ -107,6 +113,8 @@ impl<B: Width> PagedSet<B> {
     ///
     /// # Proved
     ///
+    /// The result is the lowest `count` consecutive members, and the set keeps exactly the others; or `None` if there are none, and the set is unchanged.
+    ///
     /// ```text
     /// requires { 0 < B.Output.size count }
     /// ensures fit { MatchOption result
@@ -118,6 +126,7 @@ impl<B: Width> PagedSet<B> {
     /// ```
     ///
     /// Words: [`FitsAt`](crate::definitions#FitsAt), [`Covers`](crate::definitions#Covers), [`IsFirstFit`](crate::definitions#IsFirstFit), [`IsRunsOf`](crate::definitions#IsRunsOf), [`Without`](crate::definitions#Without), [`IsBetween`](crate::definitions#IsBetween).
+    #[cfg_attr(debug_assertions, track_caller)]
     pub fn take_first_fit(&mut self, count: B::Output) -> Option<Interval<B>> {
         debug_assert!({ #[allow(unused_imports)] use crate::proved::ivl_interval::ops::*; crate::proved::ivl_interval::width::SizeNumber::number(count) > 0 }, "{}", "the condition of `take_first_fit` is broken: crate::proved::ivl_interval::width::SizeNumber::number(count) > 0");
         let run = self.first_fit(count)?;

@@ -45,6 +45,8 @@ impl<B: Width> PagedSet<B> {
     ///
     /// # Proved
     ///
+    /// On success, exactly the members of `other` are added; on an error the set is unchanged.
+    ///
     /// ```text
     /// ensures ok { OnOk result (IsRunsOf self.new (Union (Covers self.old) (Covers other.now))) }
     /// ensures err { OnErr result (self.new ≡ self.old) }
@@ -80,6 +82,8 @@ impl<B: Width> PagedSet<B> {
     /// ```
     ///
     /// # Proved
+    ///
+    /// On success, exactly the members of `list` are added; on an error the set is unchanged.
     ///
     /// ```text
     /// ensures ok { OnOk result (IsRunsOf self.new (Union (Covers self.old) (Covers list.now))) }
@@ -121,6 +125,8 @@ impl<B: Width> PagedSet<B> {
     ///
     /// # Proved
     ///
+    /// On success, exactly the members of `other` are removed; on an error the set is unchanged.
+    ///
     /// ```text
     /// ensures ok { OnOk result (IsRunsOf self.new (Without (Covers self.old) (Covers other.now))) }
     /// ensures err { OnErr result (self.new ≡ self.old) }
@@ -156,6 +162,8 @@ impl<B: Width> PagedSet<B> {
     /// ```
     ///
     /// # Proved
+    ///
+    /// On success, exactly the members of `list` are removed; on an error the set is unchanged.
     ///
     /// ```text
     /// ensures ok { OnOk result (IsRunsOf self.new (Without (Covers self.old) (Covers list.now))) }
@@ -196,6 +204,8 @@ impl<B: Width> PagedSet<B> {
     ///
     /// # Proved
     ///
+    /// On success, exactly the members that are in `other` are kept; on an error the set is unchanged.
+    ///
     /// ```text
     /// ensures ok { OnOk result (IsRunsOf self.new (Intersection (Covers self.old) (Covers other.now))) }
     /// ensures err { OnErr result (self.new ≡ self.old) }
@@ -231,6 +241,8 @@ impl<B: Width> PagedSet<B> {
     /// ```
     ///
     /// # Proved
+    ///
+    /// On success, exactly the members that are in `list` are kept; on an error the set is unchanged.
     ///
     /// ```text
     /// ensures ok { OnOk result (IsRunsOf self.new (Intersection (Covers self.old) (Covers list.now))) }

@@ -60,6 +60,8 @@ impl<B: Width> PagedSet<B> {
     ///
     /// # Proved
     ///
+    /// True exactly when each member of `other` is a member.
+    ///
     /// ```text
     /// ensures { IsTrue result ↔ IsSubset (Covers other.now) (Covers self.now) }
     /// ```
@@ -87,6 +89,8 @@ impl<B: Width> PagedSet<B> {
     ///
     /// # Proved
     ///
+    /// True exactly when each member is a member of `list`.
+    ///
     /// ```text
     /// ensures { IsTrue result ↔ IsSubset (Covers self.now) (Covers list.now) }
     /// ```
@@ -113,6 +117,8 @@ impl<B: Width> PagedSet<B> {
     /// ```
     ///
     /// # Proved
+    ///
+    /// True exactly when each member of `list` is a member.
     ///
     /// ```text
     /// ensures { IsTrue result ↔ IsSubset (Covers list.now) (Covers self.now) }

@@ -26,6 +26,8 @@ impl<B: Width> PagedSet<B> {
     ///
     /// # Proved
     ///
+    /// True exactly when each number of the interval is a member.
+    ///
     /// ```text
     /// ensures { IsTrue result ↔ IsSubset (IsBetween interval.now) (Covers self.now) }
     /// ```

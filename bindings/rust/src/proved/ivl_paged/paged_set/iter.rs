@@ -39,6 +39,8 @@ pub struct Runs<'a, B: Width> {
 
 /// Proved, with these words of the trait:
 ///
+/// It yields the first run that is left, or `None` if none is.
+///
 /// ```text
 /// next_gives = { YieldsFirst (λ left. left) }
 /// remaining = { item_count (λ left. left) }
@@ -76,6 +78,8 @@ impl<'a, B: Width> Iterator for Runs<'a, B> {
 }
 
 /// Proved, with these words of the trait:
+///
+/// It yields the last run that is left, or `None` if none is.
 ///
 /// ```text
 /// next_back_gives = { YieldsLast (λ left. left) }
@@ -178,6 +182,8 @@ impl<B: Width> PagedSet<B> {
     /// ```
     ///
     /// # Proved
+    ///
+    /// The iterator yields the runs in order; they are ascending, not empty, lie in the range, and neither overlap nor touch.
     ///
     /// ```text
     /// ensures rest { result ≡ self.now }

@@ -42,6 +42,8 @@ impl<B: Width> Union<IntervalSet<B>> for PagedSet<B> {
     ///
     /// # Proved
     ///
+    /// On success, the members are exactly those of either set, in at most as many runs as the two have together.
+    ///
     /// ```text
     /// ensures members { IfOk result (λ L. IsRunsOf L (Union (Covers self.now) (Covers other.now))) }
     /// ensures runs_at_most { IfOk result (λ L. length L ≤ length self.now + length other.now) }
@@ -84,6 +86,8 @@ impl<B: Width> Intersection<IntervalSet<B>> for PagedSet<B> {
     /// ```
     ///
     /// # Proved
+    ///
+    /// On success, the members are exactly those of both sets, in at most as many runs as the two have together.
     ///
     /// ```text
     /// ensures members { IfOk result (λ L. IsRunsOf L (Intersection (Covers self.now) (Covers other.now))) }
@@ -128,6 +132,8 @@ impl<B: Width> Difference<IntervalSet<B>> for PagedSet<B> {
     ///
     /// # Proved
     ///
+    /// On success, the members are exactly those of the set that are not in `other`, in at most as many runs as the two have together.
+    ///
     /// ```text
     /// ensures members { IfOk result (λ L. IsRunsOf L (Without (Covers self.now) (Covers other.now))) }
     /// ensures runs_at_most { IfOk result (λ L. length L ≤ length self.now + length other.now) }
@@ -171,6 +177,8 @@ impl<B: Width> SymmetricDifference<IntervalSet<B>> for PagedSet<B> {
     /// ```
     ///
     /// # Proved
+    ///
+    /// On success, the members are exactly those of either set that are not in both, in at most as many runs as the two have together.
     ///
     /// ```text
     /// ensures members { IfOk result (λ L. IsRunsOf L (SymmetricDifference (Covers self.now) (Covers other.now))) }

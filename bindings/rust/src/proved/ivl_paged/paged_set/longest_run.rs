@@ -27,6 +27,8 @@ impl<B: Width> PagedSet<B> {
     ///
     /// # Proved
     ///
+    /// The result is the lowest of the longest runs, or `None` if there is no run.
+    ///
     /// ```text
     /// ensures run { MatchOption result (self.now ≡ []) (λ run. IsRunWith run.0 (Covers self.now) run) }
     /// ensures longest { IfSome result (λ run. (n : ℕ) (v : ℤ) → FitsAt n (Covers self.now) v → n ≤ width_of run) }

@@ -41,6 +41,8 @@ pub struct Members<'a, B: Width> {
 
 /// Proved, with these words of the trait:
 ///
+/// It yields the first member that is left, or `None` if none is.
+///
 /// ```text
 /// next_gives = { YieldsFirstBy B.value (λ left. left) }
 /// remaining = { item_count (λ left. left) }
@@ -75,6 +77,8 @@ impl<'a, B: Width> Iterator for Members<'a, B> {
 }
 
 /// Proved, with these words of the trait:
+///
+/// It yields the last member that is left, or `None` if none is.
 ///
 /// ```text
 /// next_back_gives = { YieldsLastBy B.value (λ left. left) }
@@ -149,6 +153,8 @@ impl<B: Width> PagedSet<B> {
     /// ```
     ///
     /// # Proved
+    ///
+    /// The iterator yields exactly the members that are in the window, each greater than the one before.
     ///
     /// ```text
     /// ensures members { SameMembers (Intersection (Covers self.now) (IsBetween window.now)) (IsIn result) }

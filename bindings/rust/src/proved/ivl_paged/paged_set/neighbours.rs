@@ -28,6 +28,8 @@ impl<B: Width> PagedSet<B> {
     ///
     /// # Proved
     ///
+    /// The result is the least member that is at least `v`, or `None` if there is none.
+    ///
     /// ```text
     /// ensures { MatchOption result
     ///     (HasNone (AtLeast (B.value v) (Covers self.now)))
@@ -68,6 +70,8 @@ impl<B: Width> PagedSet<B> {
     ///
     /// # Proved
     ///
+    /// The result is the greatest member that is at most `v`, or `None` if there is none.
+    ///
     /// ```text
     /// ensures { MatchOption result
     ///     (HasNone (AtMost (B.value v) (Covers self.now)))
@@ -100,6 +104,8 @@ impl<B: Width> PagedSet<B> {
     /// ```
     ///
     /// # Proved
+    ///
+    /// The result is the run that holds `v`, or `None` if `v` is no member.
     ///
     /// ```text
     /// ensures { MatchOption result

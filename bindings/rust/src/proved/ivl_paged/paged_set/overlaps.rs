@@ -36,6 +36,8 @@ impl<B: Width> Disjoint<PagedSet<B>> for PagedSet<B> {
     ///
     /// # Proved
     ///
+    /// True exactly when no number is a member of both sets.
+    ///
     /// ```text
     /// ensures { IsTrue result ↔ HasNone (Intersection (Covers self.now) (Covers other.now)) }
     /// ```
@@ -72,6 +74,8 @@ impl<B: Width> Disjoint<IntervalSet<B>> for PagedSet<B> {
     /// ```
     ///
     /// # Proved
+    ///
+    /// True exactly when no number is a member of both sets.
     ///
     /// ```text
     /// ensures { IsTrue result ↔ HasNone (Intersection (Covers self.now) (Covers other.now)) }
@@ -110,6 +114,8 @@ impl<B: Width> Overlap<PagedSet<B>> for PagedSet<B> {
     ///
     /// # Proved
     ///
+    /// True exactly when some number is a member of both sets.
+    ///
     /// ```text
     /// ensures { IsTrue result ↔ HasSome (Intersection (Covers self.now) (Covers other.now)) }
     /// ```
@@ -146,6 +152,8 @@ impl<B: Width> Overlap<IntervalSet<B>> for PagedSet<B> {
     /// ```
     ///
     /// # Proved
+    ///
+    /// True exactly when some number is a member of both sets.
     ///
     /// ```text
     /// ensures { IsTrue result ↔ HasSome (Intersection (Covers self.now) (Covers other.now)) }

@@ -24,6 +24,8 @@ impl<B: Width> PagedSet<B> {
     ///
     /// # Proved
     ///
+    /// The result is the number of runs.
+    ///
     /// ```text
     /// ensures { result ≡ length self.now }
     /// ```
@@ -47,6 +49,8 @@ impl<B: Width> PagedSet<B> {
     /// ```
     ///
     /// # Proved
+    ///
+    /// The result is the number of members.
     ///
     /// ```text
     /// ensures { IsCountOf (B.Output.size result) (Covers self.now) }
@@ -75,6 +79,8 @@ impl<B: Width> PagedSet<B> {
     /// ```
     ///
     /// # Proved
+    ///
+    /// The result is the number of members below `v`.
     ///
     /// ```text
     /// ensures { IsCountOf (B.Output.size result) (Below (B.value v) (Covers self.now)) }
@@ -108,6 +114,8 @@ impl<B: Width> PagedSet<B> {
     /// ```
     ///
     /// # Proved
+    ///
+    /// The result is the member with exactly `i` members below it, or `None` if the set has no more than `i` members.
     ///
     /// ```text
     /// ensures { MatchOption result

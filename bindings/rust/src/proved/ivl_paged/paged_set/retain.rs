@@ -37,6 +37,8 @@ impl<B: Width> PagedSet<B> {
     ///
     /// # Proved
     ///
+    /// On success, the set keeps exactly the runs for which `keeps`, asked of each once and in order, says true; on an error it is unchanged.
+    ///
     /// ```text
     /// requires { F.IsAlwaysCallable keeps }
     /// ensures ok { OnOk result (IsFiltered (λ f run b g. F.step f (B.at run.0) (B.at run.1) b g) keeps self.old self.new) }

@@ -75,6 +75,8 @@ impl<B: Width> Union<PagedSet<B>> for PagedSet<B> {
     ///
     /// # Proved
     ///
+    /// On success, the members are exactly those of either set, in at most as many runs as the two have together.
+    ///
     /// ```text
     /// ensures members { IfOk result (λ L. IsRunsOf L (Union (Covers self.now) (Covers other.now))) }
     /// ensures runs_at_most { IfOk result (λ L. length L ≤ length self.now + length other.now) }
@@ -118,6 +120,8 @@ impl<B: Width> Intersection<PagedSet<B>> for PagedSet<B> {
     ///
     /// # Proved
     ///
+    /// On success, the members are exactly those of both sets, in at most as many runs as the two have together.
+    ///
     /// ```text
     /// ensures members { IfOk result (λ L. IsRunsOf L (Intersection (Covers self.now) (Covers other.now))) }
     /// ensures runs_at_most { IfOk result (λ L. length L ≤ length self.now + length other.now) }
@@ -160,6 +164,8 @@ impl<B: Width> Difference<PagedSet<B>> for PagedSet<B> {
     /// ```
     ///
     /// # Proved
+    ///
+    /// On success, the members are exactly those of the set that are not in `other`, in at most as many runs as the two have together.
     ///
     /// ```text
     /// ensures members { IfOk result (λ L. IsRunsOf L (Without (Covers self.now) (Covers other.now))) }
@@ -205,6 +211,8 @@ impl<B: Width> SymmetricDifference<PagedSet<B>> for PagedSet<B> {
     ///
     /// # Proved
     ///
+    /// On success, the members are exactly those of either set that are not in both, in at most as many runs as the two have together.
+    ///
     /// ```text
     /// ensures members { IfOk result (λ L. IsRunsOf L (SymmetricDifference (Covers self.now) (Covers other.now))) }
     /// ensures runs_at_most { IfOk result (λ L. length L ≤ length self.now + length other.now) }
@@ -246,6 +254,8 @@ impl<B: Width> Complement for PagedSet<B> {
     /// ```
     ///
     /// # Proved
+    ///
+    /// On success, the members are exactly the numbers of the range that are not in the set, in at most one run more than the set has.
     ///
     /// ```text
     /// ensures members { IfOk result (λ L. IsRunsOf L (Complement B.whole (Covers self.now))) }

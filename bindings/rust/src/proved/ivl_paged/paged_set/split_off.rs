@@ -36,6 +36,8 @@ impl<B: Width> PagedSet<B> {
     ///
     /// # Proved
     ///
+    /// On success, the result has exactly the members that are at least `v`, and the set keeps exactly those below `v`; on an error it is unchanged.
+    ///
     /// ```text
     /// ensures above { IfOk result (λ L. IsRunsOf L (AtLeast (B.value v) (Covers self.old))) }
     /// ensures below { OnOk result (IsRunsOf self.new (Below (B.value v) (Covers self.old))) }

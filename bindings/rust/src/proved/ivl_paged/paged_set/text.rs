@@ -9,6 +9,8 @@ use crate::rattle::std::fmt;
 
 /// Proved, with these words of the trait:
 ///
+/// The text is `{}`, that of the only run, or those of the runs between braces.
+///
 /// ```text
 /// output = { set_text (λ p. interval_text p (B.output (B.at p.0)) (B.output (B.at p.1))) }
 /// styled_output = { λ L _. styled_set_text L }

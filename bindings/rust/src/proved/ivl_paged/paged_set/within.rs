@@ -35,6 +35,8 @@ impl<B: Width> PagedSet<B> {
     ///
     /// # Proved
     ///
+    /// The iterator yields exactly the runs that overlap the window, whole and in order.
+    ///
     /// ```text
     /// ensures members { IsRunsOf result (OfRunsThatMeet (IsBetween window.now) (Covers self.now)) }
     /// ensures overlap { All (λ run. HasSome (Intersection (IsBetween run) (IsBetween window.now))) result }
@@ -65,6 +67,8 @@ impl<B: Width> PagedSet<B> {
     /// ```
     ///
     /// # Proved
+    ///
+    /// The result is the number of members that are in the window.
     ///
     /// ```text
     /// ensures { IsCountOf (B.Output.size result) (Intersection (Covers self.now) (IsBetween window.now)) }
@@ -97,6 +101,8 @@ impl<B: Width> PagedSet<B> {
     /// ```
     ///
     /// # Proved
+    ///
+    /// On success, the members are exactly the numbers of the window that are not in the set.
     ///
     /// ```text
     /// ensures { IfOk result (λ L. IsRunsOf L (Without (IsBetween window.now) (Covers self.now))) }

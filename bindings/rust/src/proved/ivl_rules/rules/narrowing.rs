@@ -61,6 +61,7 @@ type LeftOfTwo<B> = (Option<IntervalSet<B>>, Option<IntervalSet<B>>);
 /// ```
 ///
 /// Words: [`AreDifferent`](crate::definitions#AreDifferent), [`AllPresent`](crate::definitions#AllPresent), [`places_of`](crate::definitions#places), [`LostMember`](crate::definitions#LostMember), [`set_at`](crate::definitions#set_at), [`NarrowedBy`](crate::definitions#NarrowedBy), [`NamesOf`](crate::definitions#NamesOf), [`HasPointAt`](crate::definitions#HasPointAt).
+#[cfg_attr(debug_assertions, track_caller)]
 pub fn narrow<B: Width>(domains: &mut [IntervalSet<B>], rule: &Rule) -> Result<bool, AllocError> {
     debug_assert!({ #[allow(unused_imports)] use crate::proved::ivl_interval::ops::*; rule.is_over_different() && rule.first_unknown(domains.len()).is_none() }, "{}", "the condition of `narrow` is broken: rule.is_over_different() && rule.first_unknown(domains.len()).is_none()");
     let (x, y, z) = narrowed_at_places(domains, rule)?;
@@ -104,6 +105,7 @@ pub fn narrow<B: Width>(domains: &mut [IntervalSet<B>], rule: &Rule) -> Result<b
 /// ```
 ///
 /// Words: [`AreDifferent`](crate::definitions#AreDifferent), [`AllPresent`](crate::definitions#AllPresent), [`places_of`](crate::definitions#places), [`SupportsAll`](crate::definitions#SupportsAll), [`set_at`](crate::definitions#set_at).
+#[cfg_attr(debug_assertions, track_caller)]
 pub fn takes_nothing<B: Width>(domains: &[IntervalSet<B>], rule: &Rule) -> bool {
     debug_assert!({ #[allow(unused_imports)] use crate::proved::ivl_interval::ops::*; rule.is_over_different() && rule.first_unknown(domains.len()).is_none() }, "{}", "the condition of `takes_nothing` is broken: rule.is_over_different() && rule.first_unknown(domains.len()).is_none()");
     match rule {
@@ -205,6 +207,7 @@ fn put<B: Width>(domains: &mut [IntervalSet<B>], i: usize, left: Option<Interval
 /// ```
 ///
 /// Words: [`AreDifferent`](crate::definitions#AreDifferent), [`AllPresent`](crate::definitions#AllPresent), [`places_of`](crate::definitions#places), [`AreLeftAtPlaces`](crate::definitions#AreLeftAtPlaces), [`HasPointAt`](crate::definitions#HasPointAt), [`set_at`](crate::definitions#set_at).
+#[cfg_attr(debug_assertions, track_caller)]
 pub fn narrowed_at_places<B: Width>(
     domains: &[IntervalSet<B>],
     rule: &Rule,
@@ -246,6 +249,7 @@ pub fn narrowed_at_places<B: Width>(
 /// ```
 ///
 /// Words: [`AreDifferent`](crate::definitions#AreDifferent), [`AllPresent`](crate::definitions#AllPresent), [`places_of`](crate::definitions#places), [`AreLeftAtPlaces`](crate::definitions#AreLeftAtPlaces), [`HasPointAt`](crate::definitions#HasPointAt), [`set_at`](crate::definitions#set_at).
+#[cfg_attr(debug_assertions, track_caller)]
 pub fn narrowed_at_places_in<B: Width>(
     domains: &[IntervalSet<B>],
     rule: &Rule,
@@ -299,6 +303,7 @@ pub fn narrowed_at_places_in<B: Width>(
 /// ```
 ///
 /// Words: [`AreDifferent`](crate::definitions#AreDifferent), [`AllPresent`](crate::definitions#AllPresent), [`places_of`](crate::definitions#places), [`TakesOne`](crate::definitions#TakesOne), [`set_at`](crate::definitions#set_at), [`needs_singles`](crate::definitions#needs_singles).
+#[cfg_attr(debug_assertions, track_caller)]
 pub fn lone_loss<B: Width>(domains: &[IntervalSet<B>], rule: &Rule) -> Option<(usize, B)> {
     debug_assert!({ #[allow(unused_imports)] use crate::proved::ivl_interval::ops::*; rule.is_over_different() && rule.first_unknown(domains.len()).is_none() }, "{}", "the condition of `lone_loss` is broken: rule.is_over_different() && rule.first_unknown(domains.len()).is_none()");
     match rule {

@@ -82,6 +82,7 @@ use crate::rattle::std::alloc::Global;
 /// ```
 ///
 /// Words: [`AreDifferent`](crate::definitions#AreDifferent), [`first_unknown_of_rules`](crate::definitions#first_unknown_of_rules), [`SolvesRules`](crate::definitions#SolvesRules), [`EachOnce`](crate::definitions#EachOnce), [`nodes_enough`](crate::definitions#nodes_enough).
+#[cfg_attr(debug_assertions, track_caller)]
 pub fn solutions<B: Width>(
     alloc: Global,
     domains: &[IntervalSet<B>],
@@ -222,6 +223,7 @@ pub fn all_different(rules: &[Rule]) -> bool {
 /// ```
 ///
 /// Words: [`AreDifferent`](crate::definitions#AreDifferent), [`first_unknown_of_rules`](crate::definitions#first_unknown_of_rules), [`Finds`](crate::definitions#Finds), [`SolvesRules`](crate::definitions#SolvesRules), [`nodes_enough`](crate::definitions#nodes_enough).
+#[cfg_attr(debug_assertions, track_caller)]
 pub fn count<B: Width>(
     alloc: Global,
     domains: &[IntervalSet<B>],
@@ -309,6 +311,7 @@ pub fn count<B: Width>(
 /// ```
 ///
 /// Words: [`AreDifferent`](crate::definitions#AreDifferent), [`first_unknown_or_rules`](crate::definitions#first_unknown_or_rules), [`SolvesRules`](crate::definitions#SolvesRules), [`IsLeastAt`](crate::definitions#IsLeastAt), [`FallsTo`](crate::definitions#FallsTo), [`nodes_for_best`](crate::definitions#nodes_for_best).
+#[cfg_attr(debug_assertions, track_caller)]
 pub fn least<B: Width>(
     alloc: Global,
     domains: &[IntervalSet<B>],
@@ -364,6 +367,7 @@ pub fn least<B: Width>(
 /// ```
 ///
 /// Words: [`AreDifferent`](crate::definitions#AreDifferent), [`first_unknown_or_rules`](crate::definitions#first_unknown_or_rules), [`SolvesRules`](crate::definitions#SolvesRules), [`IsGreatestAt`](crate::definitions#IsGreatestAt), [`RisesTo`](crate::definitions#RisesTo), [`nodes_for_best`](crate::definitions#nodes_for_best).
+#[cfg_attr(debug_assertions, track_caller)]
 pub fn greatest<B: Width>(
     alloc: Global,
     domains: &[IntervalSet<B>],

@@ -43,6 +43,8 @@ impl<B: Width> Store<B> {
     ///
     /// # Proved
     ///
+    /// Whatever is returned, domains only lose members, and no family loses one that the posts leave it.
+    ///
     /// ```text
     /// ensures none { IfOk result (λ o. IsNone o → ¬ (All AreDistinct (constraints_of posts.now)) × (self.new ≡ self.old)) }
     /// ensures replies { IfOk result (λ o. MatchOption o ⊤ (λ replies. AnswersPosts posts.now self.old replies.items)) }

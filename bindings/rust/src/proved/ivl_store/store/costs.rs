@@ -34,6 +34,7 @@ impl<B: Width> Store<B> {
     /// ```
     ///
     /// Words: [`AllPresent`](crate::definitions#AllPresent), [`cost_of`](crate::definitions#cost_of).
+    #[cfg_attr(debug_assertions, track_caller)]
     pub fn cost_of(&self, c: &Constraint) -> u64 {
         debug_assert!({ #[allow(unused_imports)] use crate::proved::ivl_interval::ops::*; c.first_unknown(self.domains.len()).is_none() }, "{}", "the condition of `cost_of` is broken: c.first_unknown(self.domains.len()).is_none()");
         let x = self.domains[c.x].interval_count();

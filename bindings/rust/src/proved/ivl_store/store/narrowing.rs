@@ -43,6 +43,8 @@ impl<B: Width> Store<B> {
     ///
     /// # Proved
     ///
+    /// No supported family loses a member, so no solution is lost; with three variables, just the members of solutions are left.
+    ///
     /// ```text
     /// ensures unknown { (i : ℕ) → (result ≡ Err (StoreFault.Variable i)) ↔ (first_unknown (length self.old) constraint.now ≡ Some i) }
     /// ensures refused { OnErr result (self.new ≡ self.old) }
@@ -142,6 +144,8 @@ impl<B: Width> Store<B> {
     /// ```
     ///
     /// # Proved
+    ///
+    /// Domains only lose members, and no supported family loses one. So no point that solves all the constraints is lost. True: nothing is left to narrow, and with three variables each, the domains are the greatest supported family. False: each round removed a member. What whole rounds leave: all of them if each removed a member, or those before the first that removed none. Out of memory: what whole rounds and the first narrowings of one more leave.
     ///
     /// ```text
     /// ensures unknown { (i : ℕ) → (result ≡ Err (StoreFault.Variable i)) ↔ (first_unknown_in (length self.old) constraints.now ≡ Some i) }

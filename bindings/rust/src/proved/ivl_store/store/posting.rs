@@ -50,6 +50,8 @@ impl<B: Width> Store<B> {
     ///
     /// # Proved
     ///
+    /// Domains only lose members, and no family loses one that the posts leave it. So no point that solves all the constraints is lost. Each reply speaks of the greatest family for the posts up to its own; the domains are that for all of them. Out of memory: what some first posts leave, or what the cut of one more leaves of that, and the narrowings made since.
+    ///
     /// ```text
     /// requires { All AreDistinct (constraints_of posts.now) }
     /// ensures unknown { (i : ℕ) → (result ≡ Err (StoreFault.Variable i)) ↔ (first_unknown_in_posts (length self.old) posts.now ≡ Some i) }
@@ -64,6 +66,7 @@ impl<B: Width> Store<B> {
     /// ```
     ///
     /// Words: [`AreDistinct`](crate::definitions#AreDistinct), [`constraints_of`](crate::definitions#constraints_of), [`first_unknown_in_posts`](crate::definitions#first_unknown_post), [`LiesWithin`](crate::definitions#LiesWithin), [`set_at`](crate::definitions#set_at), [`SupportedBy`](crate::definitions#SupportedBy), [`CutBy`](crate::definitions#CutBy), [`IsCommonSolution`](crate::definitions#IsCommonSolution), [`AnswersPosts`](crate::definitions#AnswersPosts), [`IsLeftBy`](crate::definitions#IsLeftBy), [`IsPartlyPosted`](crate::definitions#IsPartlyPosted).
+    #[cfg_attr(debug_assertions, track_caller)]
     pub fn post_all(&mut self, posts: &[Post<B>]) -> Result<Vec<bool>, StoreFault> {
         debug_assert!({ #[allow(unused_imports)] use crate::proved::ivl_interval::ops::*; posts.iter().all(|post| match post { Post::Require(c) => c.distinct(), Post::Restrict(..) => true }) }, "{}", "the condition of `post_all` is broken: posts.iter().all(|post| match post { Post::Require(c) => c.distinct(), Post::Restrict(..) => true })");
         if let Some(i) = first_unknown_post(posts, self.domains.len()) {

@@ -40,6 +40,7 @@ impl<B: Width> Store<B> {
     /// ```
     ///
     /// Words: [`IsRunListIn`](crate::definitions#IsRunListIn), [`narrowed_at`](crate::definitions#narrowed_at).
+    #[cfg_attr(debug_assertions, track_caller)]
     pub fn swap(&mut self, i: usize, left: Option<IntervalSet<B>>) -> Option<IntervalSet<B>> {
         debug_assert!({ #[allow(unused_imports)] use crate::proved::ivl_interval::ops::*; i < self.domains.len() }, "{}", "the condition of `swap` is broken: i < self.domains.len()");
         match left {

@@ -52,6 +52,8 @@ const FEW: usize = 64;
 ///
 /// # Proved
 ///
+/// On success, the members are exactly those of `x` that are a sum, or by `op` a difference, of a member of `a` and one of `b`.
+///
 /// ```text
 /// ensures { IfOk result (λ L. IsRunsOf L (Intersection (Covers x.now) (SumsBy op (Covers a.now) (Covers b.now)))) }
 /// ```
@@ -96,6 +98,8 @@ pub fn results_in_set<B: Width>(
 /// ```
 ///
 /// # Proved
+///
+/// On success, `None` says that each member of `x` is a sum, or by `op` a difference, of a member of `a` and one of `b`; a set has exactly the members of `x` that are.
 ///
 /// ```text
 /// ensures { IfOk result (λ o. MatchOption o (IsSubset (Covers x.now) (SumsBy op (Covers a.now) (Covers b.now)))

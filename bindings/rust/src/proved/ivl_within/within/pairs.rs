@@ -27,6 +27,8 @@ use crate::proved::intervallum::width::Width;
 ///
 /// # Proved
 ///
+/// The members are exactly the sums, or by `op` the differences, of a member of each interval that are in the window.
+///
 /// ```text
 /// requires left { a.0 ≤ℤ a.1 }
 /// requires right { b.0 ≤ℤ b.1 }
@@ -35,6 +37,7 @@ use crate::proved::intervallum::width::Width;
 /// ```
 ///
 /// Words: [`SameMembers`](crate::definitions#SameMembers), [`IsBetween`](crate::definitions#IsBetween), [`Clipped`](crate::definitions#Clipped), [`pair_by`](crate::definitions#pair_by).
+#[cfg_attr(debug_assertions, track_caller)]
 pub fn pair_in_window<B: Width>(
     a: Interval<B>,
     b: Interval<B>,
