@@ -1,5 +1,6 @@
 #!/usr/bin/env python3
-"""Puzzles as sessions of ivl_solve, by sums alone and by rules: the number of their solutions, and each of these beside the lines.
+"""Puzzles as sessions of ivl_solve, by sums alone and by rules: the number of their solutions, and each of these beside the lines. Before them
+what limits make unfinished.
 
 usage: tests/programs/puzzles.py PROGRAM     ivl_solve, as it was built
 
@@ -103,8 +104,23 @@ def best_within_nodes(program):
             raise SystemExit(f"puzzles: {asked} within so many nodes: {told}")
 
 
+def settled_rules_stop_no_line(program):
+    """A rule that counts for more than the limit makes a line unfinished only where it waits."""
+    evens = " ".join(f"{2 * n} {2 * n}" for n in range(60))
+    lines = [(f"var {name} {evens}", "ok") for name in "abc"] + [("sum a b c", "ok"), ("var x 0 9", "ok"), ("var y 0 9", "ok"), ("limit 5", "ok")]
+    # the sum counts for 43
+    lines += [("x + 1 <= y", "ok"), ("go on", "ok"), ("sum a b c", "ok"), ("cut a 0 118", "ok"), ("cut y 0 8", "ok"), ("show x", "x [0..7]\nok")]
+    lines += [("cut a 2 118", "unfinished"), ("x + 2 <= y", "unfinished"), ("show x", "x [0..7]\nunfinished"), ("go on", "unfinished")]
+    lines += [("limit 100000", "unfinished"), ("go on", "ok")]
+    text = "".join(line + "\n" for line, _ in lines)
+    ran = subprocess.run([program], input=text, capture_output=True, text=True, timeout=60, check=False)
+    if ran.stdout != "".join(answer + "\n" for _, answer in lines):
+        raise SystemExit(f"puzzles: a rule that is settled and counts for much: {ran.stdout.splitlines()}")
+
+
 def main(program):
     best_within_nodes(program)
+    settled_rules_stop_no_line(program)
     for name, (number, limit) in SOLUTIONS.items():
         solve(program, name, by_sums(name), number, limit)
         solve(program, name + " by rules", RULED[name], number, limit)

@@ -430,6 +430,90 @@ fn a_narrowing_counts_for_what_it_may_look_at() {
     }
 }
 
+#[test]
+fn a_settled_rule_stops_nothing_however_much_it_counts_for() {
+    let mut network = Network::new(Global);
+    for _ in 0..3 {
+        network.add_variable(evens(60)).unwrap();
+    }
+    network.require(Rule::Sum(Constraint { x: 0, y: 1, z: 2 })).unwrap();
+    assert_eq!(network.settle_within(42), Ok(Settled::Unfinished));
+    assert_eq!(network.settle_within(43), Ok(Settled::All));
+    for _ in 0..2 {
+        network.add_variable(IntervalSet::new(Global, 0, 9).unwrap()).unwrap();
+    }
+    network.require(Rule::AtMost { x: 3, y: 4, by: 1 }).unwrap();
+    assert_eq!(network.settle_within(5), Ok(Settled::All));
+    assert_eq!(network.domains()[3], IntervalSet::new(Global, 0, 8).unwrap());
+    assert_eq!(network.domains()[4], IntervalSet::new(Global, 1, 9).unwrap());
+    // nothing is left, so that nothing is needed
+    assert_eq!(network.settle_within(0), Ok(Settled::All));
+}
+
+#[test]
+fn what_changes_nothing_leaves_all_settled() {
+    let rules = [
+        Rule::Sum(Constraint { x: 0, y: 1, z: 2 }),
+        Rule::Shifted { x: 0, y: 3, by: 5 },
+        Rule::AtMost { x: 1, y: 2, by: 0 },
+        Rule::Differs { x: 2, y: 3, by: -1 },
+    ];
+    let mut network = Network::new(Global);
+    for _ in 0..4 {
+        network.add_variable(evens(60)).unwrap();
+    }
+    for rule in rules {
+        network.require(rule).unwrap();
+    }
+    network.add_variable(evens(1)).unwrap();
+    assert_eq!(network.settle(1_000_000), Ok(Settled::All));
+    for rule in rules {
+        network.require(rule).unwrap();
+        assert_eq!((network.rules().len(), network.settle(0)), (4, Ok(Settled::All)), "{rule:?}");
+    }
+    for variable in 0..4 {
+        network.restrict(variable, &evens(60)).unwrap();
+        assert_eq!(network.settle(0), Ok(Settled::All), "{variable}");
+        network.restrict_to_interval(variable, Interval::new(0, 118)).unwrap();
+        assert_eq!(network.settle(0), Ok(Settled::All), "{variable}");
+    }
+    // a variable that no rule names wakes none
+    network.restrict(4, &IntervalSet::empty(Global)).unwrap();
+    assert!(network.has_empty());
+    assert_eq!(network.settle(0), Ok(Settled::All));
+}
+
+/// Each two of so many variables differ.
+fn pairs(count: usize) -> Vec<Rule> {
+    (0..count).flat_map(|x| (x + 1..count).map(move |y| Rule::Differs { x, y, by: 0 })).collect()
+}
+
+#[test]
+fn a_rule_that_is_there_is_found_among_many() {
+    let (few, many) = (60, 4_000);
+    let below = (0..many).map(|x| Rule::AtMost { x, y: many, by: -1 });
+    let shifted = (0..many as i64).map(|by| Rule::AtMost { x: 0, y: 1, by: -by });
+    for rules in [pairs(few), below.collect(), shifted.collect()] {
+        let mut network = Network::new(Global);
+        for _ in 0..=many {
+            network.add_variable(IntervalSet::new(Global, 0, 9).unwrap()).unwrap();
+        }
+        for _ in 0..3 {
+            for rule in &rules {
+                network.require(*rule).unwrap();
+            }
+            assert_eq!(network.rules(), rules);
+        }
+        // what is taken back is no longer there
+        let mark = network.mark().unwrap();
+        network.require(Rule::Shifted { x: 0, y: 1, by: 0 }).unwrap();
+        network.undo_to(mark);
+        assert_eq!(network.rules(), rules);
+        network.require(Rule::Shifted { x: 0, y: 1, by: 0 }).unwrap();
+        assert_eq!(network.rules().len(), rules.len() + 1);
+    }
+}
+
 const RUNS: i64 = 1_000;
 const CUTS: i64 = 200;
 

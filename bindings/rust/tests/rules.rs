@@ -2,8 +2,14 @@
 use intervallum::proved::Global;
 use intervallum::proved::interval_set::{IntervalSet, ToIntervalSet};
 use intervallum::proved::ivl_rules::rules::Rule;
-use intervallum::proved::ivl_rules::rules::narrowing::{lone_loss, narrow};
+use intervallum::proved::ivl_rules::rules::narrowing::{lone_loss, narrow, takes_nothing};
 use intervallum::proved::ivl_store::store::Constraint;
+
+mod memory;
+use memory::{Watched, cost};
+
+#[global_allocator]
+static ALLOCATOR: Watched = Watched;
 
 // a debug build tests conditions, and takes a hundred times as long
 const ROUNDS: usize = if cfg!(debug_assertions) { 4_000 } else { 200_000 };
@@ -133,6 +139,43 @@ fn a_lone_loss_is_all_that_narrowing_takes() {
         told += usize::from(is_lone);
     }
     assert!(told > ROUNDS / 400, "{told}");
+}
+
+#[test]
+fn where_nothing_is_lost_a_rule_of_two_says_so_without_memory() {
+    let mut random = Random(0x1234_5678_9abc_def1);
+    let mut kept = [0; 3];
+    for _ in 0..ROUNDS {
+        let mut domains: Vec<Numbers> = (0..3).map(|_| numbers(&mut random)).collect();
+        if random.below(2) == 0 {
+            domains[random.below(3) as usize].truncate(1);
+        }
+        let rule = rule(&mut random);
+        if let Rule::Shifted { x, y, by } = rule {
+            // else something is lost nearly always
+            let moved = |n: i64| n.checked_add(by).filter(|sum| (-127..=127).contains(sum));
+            domains[x].retain(|&n| moved(n).is_some());
+            domains[y] = domains[x].iter().filter_map(|&n| moved(n)).collect();
+        }
+        let is_filled = (0..3).all(|i| !rule.names(i) || !domains[i].is_empty());
+        let kind = match rule {
+            Rule::Sum(_) => continue,
+            Rule::Shifted { .. } => 0,
+            Rule::AtMost { .. } => 1,
+            Rule::Differs { .. } => 2,
+        };
+        let mut sets: Vec<IntervalSet<i8>> = domains.iter().map(set).collect();
+        let takes = !taken(&rule, &domains).is_empty();
+        // `AtMost` by its ends, `Differs` by a look for what a single number forbids
+        let is_told = kind > 0 && is_filled && !takes;
+        assert_eq!(takes_nothing(&sets, &rule), is_told, "{rule:?} over {domains:?}");
+        if !takes {
+            let (lost, told) = cost(|| narrow(&mut sets, &rule).unwrap());
+            assert_eq!((lost, told.allocations), (false, 0), "{rule:?} over {domains:?}");
+            kept[kind] += usize::from(is_filled);
+        }
+    }
+    assert!(kept.iter().all(|&times| times > ROUNDS / 100), "{kept:?}");
 }
 
 #[test]
