@@ -44,6 +44,10 @@ extern "C" {
 #define IVL_OVERLAP (-4)
 /* Some sum or difference is outside the range. */
 #define IVL_SUM_OUT_OF_RANGE (-5)
+/* A null pointer where there has to be one that is not. Returned only by the calls of intervallum_handles.h. */
+#define IVL_NULL (-6)
+/* A fault of the library. Returned only by these, and not known to happen. */
+#define IVL_FAULT (-7)
 
 /* The number of the version of the library: compare it with IVL_VERSION_NUMBER. */
 int64_t ivl_version(void);
@@ -61,6 +65,10 @@ static inline const char *ivl_error_text(int64_t code) {
         return "what the call would write overlaps an input";
     case IVL_SUM_OUT_OF_RANGE:
         return "a sum or a difference is outside the range";
+    case IVL_NULL:
+        return "a null pointer";
+    case IVL_FAULT:
+        return "a fault of the library";
     default:
         return code < 0 ? "no code of this library" : "no error";
     }

@@ -4,9 +4,12 @@
 //! A null pointer with count 0 is an empty list.
 #![deny(unsafe_op_in_unsafe_fn)]
 
-// as a script writes it
+// as a script writes them
 #[rustfmt::skip]
 mod calls;
+#[rustfmt::skip]
+mod handle_calls;
+mod handles;
 
 use std::slice;
 
