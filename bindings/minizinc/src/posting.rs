@@ -8,7 +8,7 @@ use crate::names::{Names, Value, number_of};
 use crate::network::{Network, Set};
 
 /// The constraints that are known, with how many arguments each has.
-const KNOWN: [(&str, usize); 49] = [
+const KNOWN: [(&str, usize); 48] = [
     ("int_lin_le", 3), ("int_lin_eq", 3), ("int_lin_ne", 3), ("int_lin_le_reif", 4), ("int_lin_eq_reif", 4), ("int_lin_ne_reif", 4),
     ("bool_lin_le", 3), ("bool_lin_eq", 3), ("int_eq", 2), ("int_ne", 2), ("int_le", 2), ("int_lt", 2),
     ("int_eq_reif", 3), ("int_ne_reif", 3), ("int_le_reif", 3), ("int_lt_reif", 3),
@@ -18,7 +18,6 @@ const KNOWN: [(&str, usize); 49] = [
     ("set_in", 2), ("set_in_reif", 3), ("int_plus", 3), ("int_times", 3), ("int_div", 3), ("int_mod", 3), ("int_pow", 3),
     ("int_abs", 2), ("int_max", 3), ("int_min", 3), ("array_int_maximum", 2), ("array_int_minimum", 2),
     ("array_int_element", 3), ("array_bool_element", 3), ("array_var_int_element", 3), ("array_var_bool_element", 3),
-    ("int_pow_fixed", 3),
 ];
 
 /// Requires a constraint of the network.
@@ -111,7 +110,7 @@ impl Poster<'_> {
             "int_times" => self.network.product(x, y, z),
             "int_div" => self.network.quotient(x, y, z),
             "int_mod" => self.network.remainder(x, y, z),
-            "int_pow" | "int_pow_fixed" => self.network.power(x, y, z),
+            "int_pow" => self.network.power(x, y, z),
             "int_max" | "int_min" => self.network.extreme(&[x, y], z, name == "int_max"),
             _ => Err("this constraint is not known".into()),
         }
