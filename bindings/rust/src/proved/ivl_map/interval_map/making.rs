@@ -111,7 +111,7 @@ impl<B: Width, V: MapValue> IntervalMap<B, V> {
     ///     × ((d : _) → NeedsRoom V.eq self.new (slice_index_or list.items k d))) }
     /// ```
     ///
-    /// Words: [`IsEntriesOf`](crate::definitions#IsEntriesOf), [`WrittenAll`](crate::definitions#WrittenAll), [`HasAt`](crate::definitions#HasAt).
+    /// Words: [`IsEntriesOf`](crate::definitions#IsEntriesOf), [`WrittenAll`](crate::definitions#WrittenAll), [`HasAt`](crate::definitions#HasAt), [`NeedsRoom`](crate::definitions#NeedsRoom).
     pub fn extend(&mut self, list: Vec<(Interval<B>, V)>) -> Result<(), AllocError> {
         self.in_order();
         for (interval, value) in list {
