@@ -1,10 +1,10 @@
 //! Times the calls of the proved face on sets of `i64`.
 //!
-//! Without arguments, prints the result of each call at two input sizes, and no times. With the arguments `time SECONDS GREATEST_N`,
-//! prints one line per call: `name n ns_per_operation runs size`. With the argument `million`, prints the time of one union of two
-//! sets of a million runs, and the peak memory. With the argument `paged`, prints one line per edit or question of a set in pages, and
-//! of one in a list, at 1,000 to 1,000,000 runs: `name n ns_per_call answer`, and then one per operation of two of them: `name n
-//! ns_per_run answer`. With the arguments `store FILE`, prints the time of an instance of the domain store.
+//! Without arguments, prints the result of each call at two input sizes, and no times. With the arguments `time SECONDS
+//! GREATEST_N`, prints one line per call: `name n ns_per_operation runs size`. With the argument `million`, prints the time of one
+//! union of two sets of a million runs, and the peak memory. With the argument `paged`, prints one line per edit or question of a
+//! set in pages, and of one in a list, at 1,000 to 1,000,000 runs: `name n ns_per_call answer`, and then one per operation of two
+//! of them: `name n ns_per_run answer`. With the arguments `store FILE`, prints the time of an instance of the domain store.
 //!
 //! Where the library has its feature `json`, and `--cfg json` says so, three calls of JSON are measured too.
 
