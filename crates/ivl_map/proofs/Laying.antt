@@ -1,28 +1,7 @@
 -- Lists in which an entry is put between parts of others.
-use Rattle.std.proofs.Common.{◌≡◌, ℕ, zero, suc, ◌<◌, ◌≤◌, ℤ, List, [], ◌∷◌, ◌++◌, length, get_or, take, drop, refl, ap, subst, ◌∙◌, arith, Option, Some, None}
+use Rattle.std.proofs.Common.{◌≡◌, ℕ, zero, suc, ◌<◌, ◌≤◌, ℤ, List, [], ◌∷◌, ◌++◌, length, get_or, take, drop, refl, ap, subst, sym, ◌∙◌, arith, Option, Some, None}
+use Rattle.std.proofs.Math.ListN.{set}
 use Rattle.ivl_map.specs.Entries.{entry_ended, entry_led}
-
-drop_at : {X : Type 0} (xs : List X) (k : ℕ) (d : X) → k < length xs → drop k xs ≡ get_or xs k d ∷ drop (suc k) xs
-drop_at [] k d h = absurd (omega arith)
-drop_at (x ∷ xs) zero d h = refl
-drop_at (x ∷ xs) (suc k) d h = drop_at xs k d (omega arith)
-
-kept_next : {X : Type 0} (f : X → X) (E N : List X) (r e : X) (i : ℕ) (d : X) → i ≤ length E →
-    take (suc i) (take i E ++ (r ∷ e ∷ N)) ++ (f (get_or (take i E ++ (r ∷ e ∷ N)) (suc i) d) ∷ drop (suc (suc i)) (take i E ++ (r ∷ e ∷ N))) ≡ take i E ++ (r ∷ f e ∷ N)
-kept_next f E N r e zero d h = refl
-kept_next f [] N r e (suc i) d h = absurd (omega arith)
-kept_next {X} f (x ∷ E) N r e (suc i) d h = ap {B = List X} (λ R. x ∷ R) (kept_next f E N r e i d (omega arith))
-
--- a write to what is kept after the entry r
-pub three_left : {X : Type 0} (f : X → X) (E M D : List X) (r : X) (i k j a b : ℕ) (d : X) → i ≤ k → k < length E → suc k ≡ j → a ≡ suc i → b ≡ suc (suc i) → M ≡ take i E ++ (r ∷ drop k E) →
-    D ≡ take a M ++ (f (get_or M a d) ∷ drop b M) → D ≡ take i E ++ (r ∷ f (get_or E k d) ∷ drop j E)
-three_left {X} f E M D r i k j a b d l h s p q e g =
-    let P : ℕ → Type 0 = λ n. D ≡ take n M ++ (f (get_or M n d) ∷ drop b M) in
-    let Q : ℕ → Type 0 = λ n. D ≡ take (suc i) M ++ (f (get_or M (suc i) d) ∷ drop n M) in
-    let R : ℕ → Type 0 = λ n. D ≡ take i E ++ (r ∷ f (get_or E k d) ∷ drop n E) in
-    subst R s (subst Q q (subst P p g)
-    ∙ ap (λ (L : List X). take (suc i) L ++ (f (get_or L (suc i) d) ∷ drop (suc (suc i)) L)) (e ∙ ap (λ (L : List X). take i E ++ (r ∷ L)) (drop_at E k d h))
-    ∙ kept_next f E (drop (suc k) E) r (get_or E k d) i d (omega (arith, l, h)))
 
 put_again : {X : Type 0} (E N : List X) (r : X) (t : ℕ) → t ≤ length E → take t (take t E ++ N) ++ (r ∷ drop t (take t E ++ N)) ≡ take t E ++ (r ∷ N)
 put_again E N r zero h = refl
@@ -38,6 +17,21 @@ cut_below r n (x ∷ E) zero zero h k = absurd (omega arith)
 cut_below r n (x ∷ E) zero (suc j) h k = refl
 cut_below r n (x ∷ E) (suc i) zero h k = absurd (omega arith)
 cut_below {X} r n (x ∷ E) (suc i) (suc j) h k = ap {B = List X} (λ R. x ∷ R) (cut_below r n E i j (omega arith) (omega arith))
+
+kept_length_next : {X : Type 0} (r : X) (E : List X) (i : ℕ) → i < length E → length (take i E ++ (r ∷ drop (suc i) E)) ≡ length E
+kept_length_next r [] i h = absurd (omega arith)
+kept_length_next r (x ∷ E) zero h = refl
+kept_length_next r (x ∷ E) (suc i) h = ap suc (kept_length_next r E i (omega arith))
+
+-- a list with another in the place of one is as long
+pub kept_length : {X : Type 0} (r : X) (E : List X) (i j : ℕ) → i < length E → j ≡ suc i → length (take i E ++ (r ∷ drop j E)) ≡ length E
+kept_length r E i j h e = let P : ℕ → Type 0 = λ n. length (take i E ++ (r ∷ drop n E)) ≡ length E in subst P (sym e) (kept_length_next r E i h)
+
+-- x in the place of the last one that is kept
+pub set_kept : {X : Type 0} (E N : List X) (x : X) (i : ℕ) → i < length E → set (take (suc i) E ++ N) i x ≡ take i E ++ (x ∷ N)
+set_kept [] N x i h = absurd (omega arith)
+set_kept (e ∷ E) N x zero h = refl
+set_kept {X} (e ∷ E) N x (suc i) h = ap {B = List X} (λ R. e ∷ R) (set_kept E N x i (omega arith))
 
 -- n in the place of those from behind r to before place j
 pub below_cut : {X : Type 0} (E M D : List X) (r n : X) (i k j : ℕ) → i < length E → k ≡ suc i → k ≤ j → M ≡ take i E ++ (r ∷ drop k E) → D ≡ take k M ++ (n ∷ drop j M) → D ≡ take i E ++ (r ∷ n ∷ drop j E)

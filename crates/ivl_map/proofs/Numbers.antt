@@ -11,8 +11,6 @@ use Rattle.ivl_laws.proofs.Intervals.{IsCountOf-width_of}
 use Rattle.ivl_laws.proofs.SetLaws.{IsRunsOf-same}
 use Rattle.intervallum.specs.FirstFit.{FitsAt, IsFirstFit}
 use Rattle.ivl_map.specs.Entries.{HasAt, HasValue, IsEntryList, intervals_of}
-use Rattle.ivl_map.specs.Lookups.{IsStoredAt, IsTested}
-use Rattle.ivl_map.proofs.Lookups.{in_next}
 use Rattle.ivl_map.proofs.Windows.{keys_are}
 use Rattle.ivl_map.proofs.Writing.{before_start}
 

@@ -1,5 +1,5 @@
 -- What holds whatever a change answers.
-use Rattle.std.proofs.Common.{ℤ, ◌≤ℤ◌, Bool, List, Option, Some, None, Result, Ok, Err}
+use Rattle.std.proofs.Common.{◌≡◌, ℤ, ◌≤ℤ◌, Bool, true≢false, sym, subst, List, Option, Some, None, Result, Ok, Err}
 use Rattle.std.specs.Prelude.{IfNone, IfOk, IfSome, IsOk, OnErr}
 use Rattle.std.proofs.lemmas.Int.{by_lt_z}
 use Rattle.ivl_laws.specs.Counts.{IsIn}
@@ -13,6 +13,9 @@ pub any_outcome : {X Y P Q R T : Type 0} (r : Result (Option X) Y) → IfOk r (�
 any_outcome (Ok None) a b c f g h = f a
 any_outcome (Ok (Some x)) a b c f g h = g b
 any_outcome (Err y) a b c f g h = h c
+
+pub err_fails : {X Y : Type 0} (r : Result X Y) (y : Y) → r ≡ Err y → ¬ (IsOk r)
+err_fails {X} {Y} r y e s = let P : Result X Y → Type 0 = λ t. IsOk t in true≢false (sym (subst P e s))
 
 pub on_err_any : {X Y P : Type 0} (r : Result X Y) → P → OnErr r P
 on_err_any (Ok x) p = tt

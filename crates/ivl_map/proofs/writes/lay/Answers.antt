@@ -1,10 +1,10 @@
-use Rattle.std.proofs.Common.{◌≡◌, ◌+◌, ◌-◌, ◌<◌, ⊎_elim, ◌∷◌, ◌++◌, ℤ, List, take, drop, get_or, refl, sym, subst, arith, Option, Some, None, Result}
+use Rattle.std.proofs.Common.{◌≡◌, ◌+◌, ◌-◌, ◌<◌, ⊎_elim, ◌∷◌, ◌++◌, ℤ, List, length, take, drop, get_or, refl, sym, ap, subst, ◌∙◌, arith, Option, Some, None, Result}
 use Rattle.std.proofs.lemmas.Bool.{cases_lt}
 use Rattle.std.specs.Prelude.{IsSome, OnOk}
 use Rattle.std.specs.declared.alloc.AllocError.{AllocError}
 use Rattle.std.proofs.lemmas.Result.{on_ok_weaker}
 use Rattle.ivl_map.specs.Entries.{LaysBetween}
-use Rattle.ivl_map.proofs.Laying.{above_cut, below_cut}
+use Rattle.ivl_map.proofs.Laying.{above_cut, below_cut, kept_length}
 use Rattle.ivl_map.proofs.writes.lay.Goals as goal
 
 pub returns-in-None-None-clause-ok : goal.returns-in-None-None-clause-ok
@@ -29,7 +29,7 @@ unwrap-requires g c =
     (λ least.
     let S : Option (ℤ × ℤ) → Type 0 = λ o. IsSome o in
     let some : start < end = c.requires.above (subst S (sym c.in-None-Some.is-1) refl) in
-    let room = c.in_ok-make_room.ensures.room (omega (arith, least, some)) in
+    let room = c.in_ok-make_room-in-None-Some.ensures.room (omega (arith, least, some)) in
     let len = c.keep_first.ensures.len in
     let capacity = c.keep_first.ensures.capacity in
     c.replace-in-None-Some.ensures.succeeds (omega (arith, room, len, capacity)))
@@ -59,8 +59,8 @@ returns-in_ok-make_room-in-None-Some-clause-ok g c = λ d.
           (subst T c.unwrap.ensures c.replace-in-None-Some.ensures.ok);
     }))
 
-pub unwrap-in-Some-None-requires : goal.unwrap-in-Some-None-requires
-unwrap-in-Some-None-requires g c =
+pub unwrap-requires-in-Some-None : goal.unwrap-requires-in-Some-None
+unwrap-requires-in-Some-None g c =
     let start = c.args.start in
     let end = c.args.end in
     ⊎_elim
@@ -96,3 +96,18 @@ returns-in_ok-make_room-in-Some-None-clause-ok g c = λ d.
       list = below_cut E M D (c.in-Some-None.low, (get_or E i d).1) r i (i + 1) j (omega (arith, some, most)) (omega arith) (omega (arith, some)) (subst R c.make_room-in-Some-None.ensures.items (c.keep_first-in-Some-None.ensures.items d))
           (subst T c.unwrap-in-Some-None.ensures c.replace-in-Some-None.ensures.ok);
     }))
+
+pub replace-requires-in-Some-None-clause-at_most : goal.replace-requires-in-Some-None-clause-at_most
+replace-requires-in-Some-None-clause-at_most g c =
+    let E = c.args.entries.now.items in
+    let i = c.args.start in
+    let j = c.args.end in
+    let d : (ℤ × ℤ) × g.row.V.Denot = (c.args.run, c.args.value) in
+    let M = c.keep_first-in-Some-None.new.entries.items in
+    let most = c.requires.at_most in
+    let S : Option (ℤ × ℤ) → Type 0 = λ o. IsSome o in
+    let some : i < j = c.requires.below (subst S (sym c.in-Some-None.is-0) refl) in
+    let R : List ((ℤ × ℤ) × g.row.V.Denot) → Type 0 = λ L. M ≡ take i L ++ ((c.in-Some-None.low, (get_or L i d).1) ∷ drop (i + 1) L) in
+    let cut = subst R c.make_room-in-Some-None.ensures.items (c.keep_first-in-Some-None.ensures.items d) in
+    let len : length M ≡ length E = ap length cut ∙ kept_length (c.in-Some-None.low, (get_or E i d).1) E i (i + 1) (omega (arith, some, most)) (omega arith) in
+    omega (arith, len, most)

@@ -3,7 +3,7 @@ use Rattle.std.proofs.lemmas.Bool.{cases_lt}
 use Rattle.std.specs.Prelude.{OnOk}
 use Rattle.std.specs.declared.alloc.AllocError.{AllocError}
 use Rattle.intervallum.proofs.Sweeping.{same_item}
-use Rattle.ivl_map.proofs.Laying.{both_cut, two_put}
+use Rattle.ivl_map.proofs.Laying.{both_cut, kept_length, two_put}
 use Rattle.ivl_map.proofs.Leaving.{two_left}
 use Rattle.ivl_map.proofs.writes.lay_between.Goals as goal
 
@@ -38,8 +38,8 @@ returns-then-end-start-eq1-clause-ok g c = λ d.
           (c.keep_first.ensures.items d);
     }
 
-pub unwrap-2-requires : goal.unwrap-2-requires
-unwrap-2-requires g c =
+pub unwrap-requires-2 : goal.unwrap-requires-2
+unwrap-requires-2 g c =
     let start = c.args.start in
     let end = c.args.end in
     ⊎_elim
@@ -77,3 +77,19 @@ returns-clause-ok g c = λ d.
           (subst R c.make_room.ensures.items (c.keep_first-2.ensures.items d)) (c.keep_first-3.ensures.items d)
           (subst T c.unwrap-2.ensures c.replace.ensures.ok);
     }
+
+pub replace-requires-clause-at_most : goal.replace-requires-clause-at_most
+replace-requires-clause-at_most g c =
+    let E = c.args.entries.now.items in
+    let i = c.args.start in
+    let j = c.args.end in
+    let d : (ℤ × ℤ) × g.row.V.Denot = (c.args.run, c.args.value) in
+    let M = c.keep_first-2.new.entries.items in
+    let D = c.keep_first-3.new.entries.items in
+    let order = c.requires.in_order in
+    let most = c.requires.at_most in
+    let R : List ((ℤ × ℤ) × g.row.V.Denot) → Type 0 = λ L. M ≡ take (j - 1) L ++ ((c.args.high, (get_or L (j - 1) d).1) ∷ drop j L) in
+    let cut = subst R c.make_room.ensures.items (c.keep_first-2.ensures.items d) in
+    let len : length M ≡ length E = ap length cut ∙ kept_length (c.args.high, (get_or E (j - 1) d).1) E (j - 1) j (omega (arith, order, most)) (omega (arith, order)) in
+    let len_too : length D ≡ length M = ap length (c.keep_first-3.ensures.items d) ∙ kept_length (c.args.low, (get_or M i d).1) M i (i + 1) (omega (arith, order, most, len)) (omega arith) in
+    omega (arith, len, len_too, most)
