@@ -30,10 +30,10 @@ import sys
 from array import array as Numbers
 from typing import Any, Iterable, Iterator, Literal, Sequence, SupportsIndex, Union, overload
 
-from ._calls import NUMBER, SHAPES, Call, Calls
+from ._calls import HANDLE_SHAPES, NUMBER, SHAPES, Call, Calls
 
 __version__ = "2.0.0"
-__all__ = ["IntervalSet", "OutOfMemory", "OutOfRange", "ProductOutOfRange", "Runs", "SumOutOfRange"]
+__all__ = ["IntervalMap", "IntervalSet", "MutableIntervalSet", "OutOfMemory", "OutOfRange", "ProductOutOfRange", "Runs", "SumOutOfRange"]
 
 
 def _optional(name: str) -> Any:
@@ -83,6 +83,19 @@ def _load() -> ctypes.CDLL:
         raise ImportError("the shared library %s cannot be loaded (%s): %s" % (path, error, _HOW)) from None
 
 
+def _handles_of(library: ctypes.CDLL, name: str, number: type[Any]) -> dict[str, Call] | None:
+    """The calls of handles by name, or None for a library that has none."""
+    made = {}
+    for call, (shape, answer) in HANDLE_SHAPES.items():
+        found = getattr(library, "ivl_%s_%s" % (call, name), None)
+        if found is None:
+            return None
+        found.argtypes = [number if kind == NUMBER else kind for kind in shape]
+        found.restype = answer
+        made[call] = found
+    return made
+
+
 class _Bounds(Calls):
     """The calls of one type of bounds."""
 
@@ -104,6 +117,7 @@ class _Bounds(Calls):
             found.argtypes = [number if kind == NUMBER else kind for kind in shape]
             found.restype = answer
             setattr(self, call, found)
+        self.handles = _handles_of(library, name, number)
 
     def holds(self, value: int) -> bool:
         """Returns whether the number is a value of the type, even one outside the range of sets."""
@@ -177,7 +191,15 @@ class Runs(collections.abc.Sequence[tuple[int, int]]):
         return len(self) == len(other) and all(isinstance(pair, collections.abc.Iterable) and mine == tuple(pair) for mine, pair in pairs)
 
     def __repr__(self) -> str:
-        return "Runs(%r)" % list(self)
+        return "Runs(%s)" % _listed(self)
+
+
+def _listed(runs: Runs) -> str:
+    """The list of the runs; of more than 20, the first and the last few."""
+    if len(runs) <= 20:
+        return repr(list(runs))
+    shown = [*map(repr, runs[:3]), "<%d more runs>" % (len(runs) - 6), *map(repr, runs[-3:])]
+    return "[%s]" % ", ".join(shown)
 
 
 class IntervalSet(collections.abc.Set[int]):
@@ -202,12 +224,16 @@ class IntervalSet(collections.abc.Set[int]):
     TypeError: a pair has two bounds: (1, 2, 3)
     """
 
-    # the bounds of the runs, how many runs there are, and the address for the library, which may be 0 where there is none
-    __slots__ = ("_type", "_list", "_count", "_at")
+    # the bounds of the runs, how many runs there are, and the address for the library, which may be 0 where there is none; and
+    # what is computed when it is first asked for: the size, the hash, and the lower bounds with the members below each
+    __slots__ = ("_type", "_list", "_count", "_at", "_sized", "_hashed", "_ranked")
     _type: _Bounds
     _list: Numbers[int]
     _count: int
     _at: int
+    _sized: int | None
+    _hashed: int | None
+    _ranked: tuple[Numbers[int], list[int]] | None
 
     # a set is made here and not in __init__, which could be called again and would change it
     def __new__(cls, items: Iterable[Item] = (), bounds: Bounds = "i64") -> IntervalSet:
@@ -230,7 +256,26 @@ class IntervalSet(collections.abc.Set[int]):
         del out[2 * count:]
         made = super().__new__(cls)
         made._type, made._list, made._count, made._at = bounds, out, count, out.buffer_info()[0]
+        made._sized = made._hashed = made._ranked = None
         return made
+
+    @classmethod
+    def of(cls, lower: SupportsIndex, upper: SupportsIndex, bounds: Bounds = "i64") -> IntervalSet:
+        """Returns the set of the numbers from `lower` to `upper`, both included.
+
+        >>> IntervalSet.of(1, 5)
+        IntervalSet([(1, 5)])
+        """
+        return cls([(lower, upper)], bounds=bounds)
+
+    @classmethod
+    def union_of(cls, sets: Iterable[Iterable[Item]], bounds: Bounds = "i64") -> IntervalSet:
+        """Returns the members of any of the sets.
+
+        >>> IntervalSet.union_of([IntervalSet([3]), {1, 2}, range(8, 10)])
+        IntervalSet([(1, 3), (8, 9)])
+        """
+        return cls(itertools.chain.from_iterable(made.runs() for made in (IntervalSet(one, bounds=bounds) for one in sets)), bounds=bounds)
 
     def _is_like(self, other: object) -> bool:
         return isinstance(other, IntervalSet) and other._type is self._type
@@ -251,36 +296,45 @@ class IntervalSet(collections.abc.Set[int]):
             made = made._with(call, self._taken(other))
         return made
 
-    # an operator takes a set of the same bounds alone: what a method takes besides is no set
+    # an operator takes a set of any kind, or a range; what a method takes besides is no set
 
-    def __or__(self, other: IntervalSet) -> IntervalSet:  # type: ignore[override]
+    def _operand(self, other: object) -> IntervalSet | None:
+        """The set that an operator is given, or None if it is given none."""
+        if isinstance(other, IntervalSet) and other._type is self._type:
+            return other
+        return self._taken(other) if isinstance(other, (collections.abc.Set, range)) else None
+
+    def _common(self, other: object) -> IntervalSet | None:
+        """Those of its members that are members here: of a set of Python, which may have what is no number."""
+        if isinstance(other, (IntervalSet, range)) or not isinstance(other, collections.abc.Set):
+            return self._operand(other)
+        return IntervalSet([int(value) for value in other if value in self], bounds=self._type.name)
+
+    def __or__(self, other: Any) -> IntervalSet:
         """Returns the members of either set."""
-        if not self._is_like(other):
-            return NotImplemented
-        return self._with(self._type.union, other)
+        taken = self._operand(other)
+        return NotImplemented if taken is None else self._with(self._type.union, taken)
 
-    def __and__(self, other: IntervalSet) -> IntervalSet:  # type: ignore[override]
+    def __and__(self, other: Any) -> IntervalSet:
         """Returns the members of both sets."""
-        if not self._is_like(other):
-            return NotImplemented
-        return self._with(self._type.intersection, other)
+        taken = self._common(other)
+        return NotImplemented if taken is None else self._with(self._type.intersection, taken)
 
-    def __sub__(self, other: IntervalSet) -> IntervalSet:  # type: ignore[override]
+    def __sub__(self, other: Any) -> IntervalSet:
         """Returns the members that are not in the other set."""
-        if not self._is_like(other):
-            return NotImplemented
-        return self._with(self._type.difference, other)
+        taken = self._common(other)
+        return NotImplemented if taken is None else self._with(self._type.difference, taken)
 
-    def __xor__(self, other: IntervalSet) -> IntervalSet:  # type: ignore[override]
+    def __xor__(self, other: Any) -> IntervalSet:
         """Returns the members of exactly one set."""
-        if not self._is_like(other):
-            return NotImplemented
-        return self._with(self._type.symmetric_difference, other)
+        taken = self._operand(other)
+        return NotImplemented if taken is None else self._with(self._type.symmetric_difference, taken)
 
     __ror__, __rand__, __rxor__ = __or__, __and__, __xor__
 
-    def __rsub__(self, other: object) -> Any:
-        return NotImplemented
+    def __rsub__(self, other: Any) -> IntervalSet:
+        taken = self._operand(other)
+        return NotImplemented if taken is None else taken._with(self._type.difference, self)
 
     def union(self, *others: Iterable[Item]) -> IntervalSet:
         """Returns the members of any of the sets.
@@ -352,41 +406,53 @@ class IntervalSet(collections.abc.Set[int]):
         return self._of(self._type, self._type.complement, self._at, self._count, room=self._count + 1)
 
     def __contains__(self, value: object) -> bool:
-        number = operator.index(value)  # type: ignore[arg-type]
+        """Returns whether a value equals a member: as a set of Python has it, 1.0 equals 1, and a text equals none."""
+        try:
+            number = operator.index(value)  # type: ignore[arg-type]
+        except TypeError:
+            found = _as_whole(value)
+            if found is None:
+                return False
+            number = found
         return self._type.holds(number) and bool(self._type.contains_sorted(self._at, self._count, number))
 
     def __eq__(self, other: object) -> bool:
         # two sets with the same members have the same list of runs
-        if isinstance(other, IntervalSet) and other._type is self._type:
+        if isinstance(other, IntervalSet):
             return self._list == other._list
+        if isinstance(other, collections.abc.Set):
+            return self.size == len(other) and all(value in self for value in other)
         return NotImplemented
 
     def __hash__(self) -> int:
-        return hash((self._type.name, self._list.tobytes()))
+        if self._hashed is None:
+            # that of an equal frozenset, but of so many members that none is expected
+            self._hashed = self._hash() if self.size <= 100_000 else hash(self._list.tobytes())
+        return self._hashed
 
-    def __le__(self, other: IntervalSet) -> bool:  # type: ignore[override]
+    def __le__(self, other: Any) -> bool:
         """Returns whether each member is in the other set."""
-        if not self._is_like(other):
+        if isinstance(other, IntervalSet) and other._type is self._type:
+            return self._is_within(other)
+        if not isinstance(other, collections.abc.Set):
             return NotImplemented
-        return self._is_within(other)
+        return self.size <= _size(other) and all(value in other for value in self)
 
-    def __lt__(self, other: IntervalSet) -> bool:  # type: ignore[override]
-        """Returns whether each member is in the other set, which has more."""
-        if not self._is_like(other):
-            return NotImplemented
-        return self._is_within(other) and self != other
-
-    def __ge__(self, other: IntervalSet) -> bool:  # type: ignore[override]
+    def __ge__(self, other: Any) -> bool:
         """Returns whether each member of the other set is in this one."""
-        if not self._is_like(other):
+        if isinstance(other, IntervalSet) and other._type is self._type:
+            return other._is_within(self)
+        if not isinstance(other, collections.abc.Set):
             return NotImplemented
-        return other._is_within(self)
+        return self.size >= _size(other) and all(value in self for value in other)
 
-    def __gt__(self, other: IntervalSet) -> bool:  # type: ignore[override]
+    def __lt__(self, other: Any) -> bool:
+        """Returns whether each member is in the other set, which has more."""
+        return NotImplemented if not isinstance(other, collections.abc.Set) else self.size < _size(other) and self <= other
+
+    def __gt__(self, other: Any) -> bool:
         """Returns whether each member of the other set is in this one, which has more."""
-        if not self._is_like(other):
-            return NotImplemented
-        return other._is_within(self) and self != other
+        return NotImplemented if not isinstance(other, collections.abc.Set) else self.size > _size(other) and self >= other
 
     def _is_within(self, other: IntervalSet) -> bool:
         return bool(self._type.checked(self._type.is_subset(self._at, self._count, other._at, other._count)))
@@ -458,38 +524,40 @@ class IntervalSet(collections.abc.Set[int]):
             return None
         return found.lower, found.upper
 
-    def _upto(self, number: int) -> int:
-        """How many runs start at the number or below."""
-        flat = self._list
-        return bisect.bisect_right(range(self._count), number, key=lambda at: flat[2 * at])
+    def _ranks(self) -> tuple[Numbers[int], list[int]]:
+        """The lower bounds of the runs, and how many members lie below each and in all."""
+        if self._ranked is None:
+            lowers, uppers = self._list[::2], self._list[1::2]
+            sizes = map(operator.sub, uppers, lowers)
+            self._ranked = lowers, list(itertools.accumulate(sizes, lambda below, size: below + size + 1, initial=0))
+        return self._ranked
 
     def rank(self, value: SupportsIndex) -> int:
-        """Returns the number of members below the value. Linear in the runs below it.
+        """Returns the number of members below the value. Logarithmic, once the first such call has gone over the runs.
 
         >>> IntervalSet([(1, 2), (5, 6)]).rank(6), IntervalSet([(1, 2)]).rank(0)
         (3, 0)
         """
         number = operator.index(value)
-        at = self._upto(number)
+        lowers, below = self._ranks()
+        at = bisect.bisect_right(lowers, number)
         if not at:
             return 0
         # what is not below the value is in the last run that starts there or below, or nowhere
-        return self._size_of(at) - max(self._list[2 * at - 1] - number + 1, 0)
+        return below[at] - max(self._list[2 * at - 1] - number + 1, 0)
 
     def nth(self, index: SupportsIndex) -> int | None:
-        """Returns the member with exactly `index` members below it, or None. Linear in the runs up to it.
+        """Returns the member with exactly `index` members below it, or None. Logarithmic, as `rank`.
 
         >>> IntervalSet([(1, 2), (5, 6)]).nth(2), IntervalSet([(1, 2)]).nth(2)
         (5, None)
         """
         left = operator.index(index)
-        if left < 0:
+        lowers, below = self._ranks()
+        if not 0 <= left < below[-1]:
             return None
-        for lower, upper in self.runs():
-            if left <= upper - lower:
-                return lower + left
-            left -= upper - lower + 1
-        return None
+        at = bisect.bisect_right(below, left) - 1
+        return lowers[at] + left - below[at]
 
     def first_fit(self, count: SupportsIndex) -> tuple[int, int] | None:
         """Returns the lowest `count` consecutive members as a pair, or None.
@@ -503,6 +571,47 @@ class IntervalSet(collections.abc.Set[int]):
         found = self._type.run()
         told = self._type.checked(self._type.first_fit(self._at, self._count, number, ctypes.addressof(found)))
         return (found.lower, found.upper) if told else None
+
+    def best_fit(self, count: SupportsIndex) -> tuple[int, int] | None:
+        """Returns `count` consecutive members at the start of the shortest run that is long enough, or None.
+
+        >>> IntervalSet([(1, 5), (7, 9), (20, 22)]).best_fit(2)
+        (7, 8)
+        """
+        number = operator.index(count)
+        fitting = ((upper - lower, lower) for lower, upper in self.runs() if 0 < number <= upper - lower + 1)
+        found = min(fitting, default=None)
+        return None if found is None else (found[1], found[1] + number - 1)
+
+    def first_fit_from(self, value: SupportsIndex, count: SupportsIndex) -> tuple[int, int] | None:
+        """Returns the lowest `count` consecutive members from the value on as a pair, or None.
+
+        >>> IntervalSet([(1, 5), (7, 9)]).first_fit_from(4, 2), IntervalSet([(1, 5), (7, 9)]).first_fit_from(5, 2)
+        ((4, 5), (7, 8))
+        """
+        least, number = operator.index(value), operator.index(count)
+        runs = ((max(lower, least), upper) for lower, upper in self.runs_within(least, self._type.range[1]))
+        return next(((lower, lower + number - 1) for lower, upper in runs if 0 < number <= upper - lower + 1), None)
+
+    def runs_within(self, lower: SupportsIndex, upper: SupportsIndex) -> Runs:
+        """Returns the runs that have a number from `lower` to `upper`, as long as they are.
+
+        >>> IntervalSet([(1, 2), (5, 6), (9, 9)]).runs_within(2, 5)
+        Runs([(1, 2), (5, 6)])
+        """
+        low, high = operator.index(lower), operator.index(upper)
+        places = range(self._count)
+        first = bisect.bisect_left(places, low, key=lambda at: self._list[2 * at + 1])
+        past = max(bisect.bisect_right(places, high, key=lambda at: self._list[2 * at]), first)
+        return Runs(self._list[2 * first : 2 * past] if low <= high else self._list[:0])
+
+    def gaps_within(self, lower: SupportsIndex, upper: SupportsIndex) -> IntervalSet:
+        """Returns the numbers from `lower` to `upper` that are no members.
+
+        >>> IntervalSet([(1, 2), (5, 6)]).gaps_within(0, 9)
+        IntervalSet([(0, 0), (3, 4), (7, 9)])
+        """
+        return IntervalSet.of(lower, upper, bounds=self._type.name) - self
 
     def min(self) -> int:
         """Returns the least member. `min(s)` is the same, but looks at each member.
@@ -524,11 +633,11 @@ class IntervalSet(collections.abc.Set[int]):
     @property
     def size(self) -> int:
         """The number of members. `len` is the same, but fails above `sys.maxsize`."""
-        return self._size_of(self._count)
-
-    def _size_of(self, runs: int) -> int:
-        """How many members the first runs have."""
-        return sum(self._list[1:2 * runs:2]) - sum(self._list[:2 * runs:2]) + runs
+        if self._sized is None:
+            found = ctypes.c_uint64()
+            self._type.checked(self._type.size(self._at, self._count, ctypes.addressof(found)))
+            self._sized = found.value
+        return self._sized
 
     @property
     def bounds(self) -> Bounds:
@@ -564,6 +673,22 @@ class IntervalSet(collections.abc.Set[int]):
         held = self._list.tobytes() or bytes(16)  # numpy wants a buffer that is not empty
         return numpy.frombuffer(held, dtype=kind, count=2 * self._count).reshape(self._count, 2)
 
+    def isin(self, values: Any) -> Any:
+        """Returns for each value of a numpy array of integers whether it is a member, as an array of booleans."""
+        if numpy is None:
+            raise ImportError("isin() needs numpy, which is not installed")
+        given = numpy.asarray(values)
+        if given.dtype.kind not in "iu":
+            raise TypeError("an array of integers is wanted")
+        if given.dtype.kind == "u" and self._type.is_signed and given.dtype.itemsize == 8:
+            return (given < numpy.uint64(2**63)) & self.isin(given.astype(numpy.int64))
+        if given.dtype.kind == "i" and not self._type.is_signed:
+            return (given >= 0) & self.isin(given.astype(numpy.uint64))
+        runs = self.array()
+        given = given.astype(runs.dtype)
+        at = numpy.searchsorted(runs[:, 0], given, side="right")
+        return (at > 0) & (given <= numpy.append(runs[:, 1], runs.dtype.type(0))[at - 1]) if self._count else given != given
+
     def copy(self) -> IntervalSet:
         """Returns the set itself, which never changes."""
         return self
@@ -579,7 +704,23 @@ class IntervalSet(collections.abc.Set[int]):
 
     def __repr__(self) -> str:
         last = "" if self._type.is_signed else ", bounds=%r" % self._type.name
-        return "IntervalSet(%r%s)" % (list(self.runs()), last)
+        return "%s(%s%s)" % (type(self).__name__, _listed(self.runs()), last)
+
+
+def _as_whole(value: object) -> int | None:
+    """The whole number that a value equals which is no whole number by its type, as 1.0 and Fraction(2, 2), or None."""
+    if isinstance(value, complex) and not value.imag:
+        value = value.real
+    try:
+        number = int(value)  # type: ignore[call-overload]
+        return number if number == value else None
+    except (TypeError, ValueError, OverflowError, ArithmeticError):
+        return None
+
+
+def _size(other: collections.abc.Set[Any]) -> int:
+    """How many members a set has, which `len` may not be able to tell."""
+    return other.size if isinstance(other, IntervalSet) else len(other)
 
 
 def _pairs(bounds: _Bounds, items: Iterable[Item]) -> tuple[Any, int, int]:
@@ -592,7 +733,12 @@ def _pairs(bounds: _Bounds, items: Iterable[Item]) -> tuple[Any, int, int]:
         items = items.runs()
     elif isinstance(items, range):
         items = [items]
-    pairs: list[Any] = list(items)
+    try:
+        pairs: list[Any] = list(items)
+    except TypeError:
+        if isinstance(items, collections.abc.Iterable):
+            raise
+        raise TypeError("a set is made of an iterable of numbers, ranges, pairs and sets, not of %r" % (items,)) from None
     kinds = set(map(type, pairs))
     lists: list[tuple[Any, tuple[Any, ...]]] = []
     # in the usual cases, no item is looked at by itself
@@ -644,12 +790,24 @@ def _pairs_of_item(item: Any) -> Iterable[tuple[int, int]]:
 def _pairs_of_array(bounds: _Bounds, items: Any) -> tuple[Any, int, int]:
     if numpy.ma.isMaskedArray(items):
         raise TypeError("a masked array has no set: say what its masked items are")
-    if items.dtype.kind not in "iu" or items.ndim != 2 or items.shape[1] != 2:
-        raise TypeError("an array of integers of shape (n, 2) is wanted")
+    if items.dtype.kind not in "iu" or items.ndim not in (1, 2) or items.shape[1:] not in ((), (2,)):
+        raise TypeError("an array of integers of shape (n,) or (n, 2) is wanted")
     kind = numpy.int64 if bounds.is_signed else numpy.uint64
     if items.dtype != kind and items.size:
         for bound in (int(items.min()), int(items.max())):
             if not bounds.holds(bound):
                 raise bounds.outside(bound)
+    if items.ndim == 1:
+        # of members: each run of them as one pair
+        members = numpy.unique(items.astype(kind))
+        breaks = numpy.flatnonzero(members[1:] - members[:-1] != 1)
+        ends = (members, members)
+        if len(members):
+            ends = members[numpy.append(0, breaks + 1)], members[numpy.append(breaks, -1)]
+        items = numpy.stack(ends, axis=1)
     held = numpy.require(items, dtype=kind, requirements=["C", "A"])
     return held, held.ctypes.data, len(held)
+
+
+# they are made of what is above
+from ._mutable import IntervalMap, MutableIntervalSet  # noqa: E402
