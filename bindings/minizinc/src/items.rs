@@ -136,7 +136,7 @@ impl<'a> Reader<'a> {
         let line = self.line;
         let length = if self.is("array")? { Some(self.length()?) } else { None };
         let is_variable = self.is("var")?;
-        let of = self.of_type()?;
+        let of = self.of_type(if is_variable || length.is_some() { "a type" } else { "an item" })?;
         if is_variable && of == Type::SetOfInt {
             return Err(Fault::new(line, "set variables are not supported"));
         }
@@ -158,7 +158,7 @@ impl<'a> Reader<'a> {
         }
     }
 
-    fn of_type(&mut self) -> Result<Type, Fault> {
+    fn of_type(&mut self, wanted: &str) -> Result<Type, Fault> {
         if self.is("bool")? {
             return Ok(Type::Bool);
         }
@@ -170,13 +170,13 @@ impl<'a> Reader<'a> {
         }
         if self.is("set")? {
             self.want("of")?;
-            self.of_type()?;
+            self.of_type("a type")?;
             return Ok(Type::SetOfInt);
         }
         let line = self.line;
         match self.token {
             Token::Number(_) | Token::Float(_) | Token::Sign("{") => {}
-            _ => return self.fault("an item"),
+            _ => return self.fault(wanted),
         }
         match self.expression()? {
             Expression::Range(lower, upper) => Ok(Type::Range(lower, upper)),

@@ -116,9 +116,9 @@ impl<'a> Lexer<'a> {
         let start = self.at;
         self.at += 1;
         self.take(|b| b.is_ascii_digit());
-        let is_fraction = self.byte(0) == Some(b'.') && self.byte(1).is_some_and(|b| b.is_ascii_digit());
-        if is_fraction || matches!(self.byte(0), Some(b'e' | b'E')) {
-            self.take(|b| b.is_ascii_alphanumeric() || matches!(b, b'.' | b'+' | b'-'));
+        if self.passes_fraction() || matches!(self.byte(0), Some(b'e' | b'E')) {
+            self.take(|b| matches!(b, b'e' | b'E'));
+            self.take(|b| matches!(b, b'+' | b'-' | b'0'..=b'9'));
             return Ok(Token::Float(&self.text[start..self.at]));
         }
         let text = &self.text[start..self.at];
@@ -127,6 +127,16 @@ impl<'a> Lexer<'a> {
             Err(_) if text.len() > 1 => Err(Fault::new(self.line, format!("{text} is not a number of 64 bits"))),
             Err(_) => Err(Fault::new(self.line, format!("unexpected `{text}`"))),
         }
+    }
+
+    /// Passes a point and digits after it, and not the two points of a range.
+    fn passes_fraction(&mut self) -> bool {
+        let is_fraction = self.byte(0) == Some(b'.') && self.byte(1).is_some_and(|b| b.is_ascii_digit());
+        if is_fraction {
+            self.at += 1;
+            self.take(|b| b.is_ascii_digit());
+        }
+        is_fraction
     }
 
     fn sign(&mut self) -> Result<Token<'a>, Fault> {

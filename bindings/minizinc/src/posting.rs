@@ -242,7 +242,8 @@ impl Poster<'_> {
 
     fn as_bool(&self, variable: usize, i: usize) -> Result<usize, String> {
         let (lower, upper) = self.network.ends(variable);
-        if lower < 0 || upper > 1 { Err(format!("argument {} has other numbers than those of a bool", i + 1)) } else { Ok(variable) }
+        // (an impossible network leaves a variable numbers that it cannot have)
+        if (lower < 0 || upper > 1) && !self.network.is_impossible { Err(format!("argument {} has other numbers than those of a bool", i + 1)) } else { Ok(variable) }
     }
 
     fn bool(&mut self, i: usize) -> Result<usize, String> {

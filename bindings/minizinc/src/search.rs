@@ -1,12 +1,11 @@
-//! The proved search over the network, in stages where the time is limited.
+//! The proved search over the network, in stages where the time is limited, and in parts where there are many solutions.
 
-use crate::network::Network;
+use crate::network::{Network, Set};
 use crate::output::{ALL, NONE, Output, Shown, solution};
-use intervallum::IntervalSet;
 use intervallum::proved::Global;
 use intervallum::proved::IntervalSet as Domain;
 use intervallum::proved::ivl_search::search::rules::{greatest, least, solutions};
-use intervallum::proved::ivl_search::search::{End, Limits, SearchFault};
+use intervallum::proved::ivl_search::search::{Best, End, Found, Limits, SearchFault};
 use std::collections::HashSet;
 use std::sync::{Mutex, MutexGuard, PoisonError};
 
@@ -14,6 +13,10 @@ use std::sync::{Mutex, MutexGuard, PoisonError};
 /// and a third of it.
 const FIRST_NODES: u64 = 2_000;
 const MORE_NODES: u64 = 4;
+
+/// How many numbers the points of one search have at most, in all; and how many points it may find however long they are.
+const MOST_NUMBERS: usize = 8_000_000;
+const LEAST_POINTS: usize = 100;
 
 /// Which points are wanted.
 #[derive(Clone, Copy, Debug, PartialEq)]
@@ -29,31 +32,27 @@ pub struct Task<'a> {
     /// Two solutions differ in one of these.
     pub variables: Vec<usize>,
     pub shown: Vec<Shown<'a>>,
-    /// How many solutions are wanted; of the best, whether all better and better ones are.
+    /// How many solutions are wanted.
     pub wanted: usize,
+    /// Of a goal, whether better and better solutions are printed.
     pub shows_better: bool,
     /// Whether what is found before the time ends is to be printed.
     pub is_timed: bool,
 }
 
-/// How many solutions were printed.
+/// Searches, prints, and returns how many solutions were found.
 pub fn search(task: &mut Task, output: &Mutex<Output>) -> Result<usize, String> {
     task.fix_unnamed();
     if task.network.is_impossible {
-        let empty = IntervalSet::empty();
-        task.network.domains.push(empty);
+        task.network.domains.push(Set::empty());
     }
-    let domains: Vec<Domain<i64>> = task.network.domains.iter().map(|domain| domain.clone().into()).collect();
-    let mut printed = Printed { task, output, seen: HashSet::new(), count: 0 };
-    let mut limits = Limits { solutions: printed.task.first_solutions(), nodes: if printed.task.is_timed { FIRST_NODES } else { u64::MAX } };
-    loop {
-        match printed.stage(&domains, limits)? {
-            End::All => return printed.finish(),
-            _ if printed.has_enough() => return printed.stop(),
-            End::Solutions => limits.solutions = limits.solutions.saturating_mul(2),
-            End::Nodes => limits.nodes = limits.nodes.saturating_mul(MORE_NODES),
-        }
-    }
+    let mut search = Search { task, output, seen: HashSet::new(), count: 0, has_more: false };
+    let is_all = match search.task.aim {
+        Aim::Any => search.all_parts()?,
+        Aim::Least(_) | Aim::Greatest(_) => search.best()?,
+    };
+    if is_all { search.finish()? } else { search.stop()? }
+    Ok(search.count)
 }
 
 impl Task<'_> {
@@ -69,36 +68,114 @@ impl Task<'_> {
         }
     }
 
-    fn first_solutions(&self) -> usize {
-        if self.aim == Aim::Any { self.wanted } else { usize::MAX }
+    fn first_nodes(&self) -> u64 {
+        if self.is_timed { FIRST_NODES } else { u64::MAX }
     }
 }
 
-struct Printed<'a, 'b> {
+/// What is cut from the domains of the network: a part of what is searched.
+type Part = Vec<(usize, Set)>;
+
+struct Search<'a, 'b> {
     task: &'a Task<'b>,
     output: &'a Mutex<Output>,
+    /// The numbers that the solutions which were printed give to the variables of the user: of this part, or of all if the time is
+    /// limited.
     seen: HashSet<Vec<i64>>,
     count: usize,
+    /// A solution was found that is one too many.
+    has_more: bool,
 }
 
-impl Printed<'_, '_> {
-    fn stage(&mut self, domains: &[Domain<i64>], limits: Limits) -> Result<End, String> {
-        let rules = &self.task.network.rules;
-        let found = match self.task.aim {
-            Aim::Any => solutions(Global, domains, rules, limits).map(|found| (found.points, found.end)),
-            Aim::Least(variable) => least(Global, domains, rules, variable, limits).map(|best| (best.point.into_iter().collect(), best.end)),
-            Aim::Greatest(variable) => greatest(Global, domains, rules, variable, limits).map(|best| (best.point.into_iter().collect(), best.end)),
-        };
-        let (points, end) = found.map_err(told)?;
-        for point in &points {
-            self.take(point.as_slice())?;
+impl Search<'_, '_> {
+    /// Prints the solutions, and tells whether these are all.
+    fn all_parts(&mut self) -> Result<bool, String> {
+        let mut left: Vec<Part> = vec![Vec::new()];
+        while let Some(part) = left.pop() {
+            if self.has_enough() {
+                return Ok(false);
+            }
+            if !self.task.is_timed {
+                self.seen.clear();
+            }
+            left.extend(self.part(&part)?);
         }
-        Ok(end)
+        Ok(true)
     }
 
-    /// Prints a solution that differs from those before in the variables of the user.
+    /// Prints the solutions of a part; or returns its halves, if there are too many for one search.
+    fn part(&mut self, part: &Part) -> Result<Vec<Part>, String> {
+        let domains = self.domains(part);
+        let most = (MOST_NUMBERS / (domains.len() + 1)).max(LEAST_POINTS);
+        let mut limits = Limits { solutions: self.task.wanted.min(most), nodes: self.task.first_nodes() };
+        loop {
+            let Found { points, end } = solutions(Global, &domains, &self.task.network.rules, limits).map_err(told)?;
+            let halves = if end == End::Solutions && limits.solutions == most { self.halves(part, points.as_slice()) } else { None };
+            if halves.is_none() || self.task.is_timed {
+                points.iter().try_for_each(|point| self.take(point.as_slice()))?;
+            }
+            match end {
+                End::All if !self.has_more => return Ok(Vec::new()),
+                // (a part is left, whichever)
+                _ if self.has_enough() => return Ok(vec![Vec::new()]),
+                End::All => return Ok(Vec::new()),
+                End::Nodes => limits.nodes = limits.nodes.saturating_mul(MORE_NODES),
+                End::Solutions if limits.solutions < most => limits.solutions = limits.solutions.saturating_mul(2).min(most),
+                End::Solutions => return Ok(halves.unwrap_or_default()),
+            }
+        }
+    }
+
+    fn domains(&self, part: &Part) -> Vec<Domain<i64>> {
+        let mut domains = self.task.network.domains.clone();
+        for (variable, domain) in part {
+            domains[*variable] = domain.clone();
+        }
+        domains.into_iter().map(Domain::from).collect()
+    }
+
+    /// Halves the domain of that variable of the user which has most numbers at the points. Without one, all points of the part
+    /// are one to the user.
+    fn halves<P: std::ops::Deref<Target = [i64]>>(&self, part: &Part, points: &[P]) -> Option<Vec<Part>> {
+        let domain = |variable: usize| part.iter().rev().find(|cut| cut.0 == variable).map_or(&self.task.network.domains[variable], |cut| &cut.1);
+        let count = |variable: usize| points.iter().map(|point| point[variable]).collect::<HashSet<i64>>().len();
+        let open = self.task.variables.iter().copied().filter(|variable| domain(*variable).size() > 1);
+        let variable = open.max_by_key(|variable| count(*variable))?;
+        let domain = domain(variable);
+        let middle = domain.nth(domain.size() / 2)?;
+        let half = |half: Set| part.iter().cloned().chain([(variable, half)]).collect();
+        // the part that is searched next comes last
+        Some(vec![half(domain.within(middle..)), half(domain.within(..middle))])
+    }
+
+    /// Keeps the best solution to be printed, and tells whether none is better.
+    fn best(&mut self) -> Result<bool, String> {
+        let domains = self.domains(&Vec::new());
+        let mut limits = Limits { solutions: usize::MAX, nodes: self.task.first_nodes() };
+        loop {
+            let rules = &self.task.network.rules;
+            let best = match self.task.aim {
+                Aim::Greatest(variable) => greatest(Global, &domains, rules, variable, limits),
+                Aim::Least(variable) => least(Global, &domains, rules, variable, limits),
+                Aim::Any => return Err("there is no goal".into()),
+            };
+            let Best { point, end } = best.map_err(told)?;
+            point.iter().try_for_each(|point| self.take(point.as_slice()))?;
+            match end {
+                End::All => return Ok(true),
+                End::Solutions => return Ok(false),
+                End::Nodes => limits.nodes = limits.nodes.saturating_mul(MORE_NODES),
+            }
+        }
+    }
+
+    /// Prints a solution that differs from those before in the variables of the user; of a goal, it is kept until a better one comes.
     fn take(&mut self, point: &[i64]) -> Result<(), String> {
-        if self.has_enough() || !self.seen.insert(self.task.variables.iter().map(|variable| point[*variable]).collect()) {
+        if !self.seen.insert(self.task.variables.iter().map(|variable| point[*variable]).collect()) {
+            return Ok(());
+        }
+        if self.has_enough() {
+            self.has_more = true;
             return Ok(());
         }
         self.count += 1;
@@ -120,16 +197,14 @@ impl Printed<'_, '_> {
         self.output.lock().unwrap_or_else(PoisonError::into_inner)
     }
 
-    fn finish(&self) -> Result<usize, String> {
+    fn finish(&self) -> Result<(), String> {
         let mut output = self.lock();
         let end = if self.count == 0 { NONE } else { ALL };
-        output.print_best().and_then(|()| output.print(&format!("{end}\n"))).map_err(|fault| fault.to_string())?;
-        Ok(self.count)
+        output.print_best().and_then(|()| output.print(&format!("{end}\n"))).map_err(|fault| fault.to_string())
     }
 
-    fn stop(&self) -> Result<usize, String> {
-        self.lock().stop().map_err(|fault| fault.to_string())?;
-        Ok(self.count)
+    fn stop(&self) -> Result<(), String> {
+        self.lock().stop().map_err(|fault| fault.to_string())
     }
 }
 

@@ -1,0 +1,5 @@
+% The greatest independent set of the Petersen graph.
+array[1..15,1..2] of int: e = [|1,2|2,3|3,4|4,5|5,1|1,6|2,7|3,8|4,9|5,10|6,8|8,10|10,7|7,9|9,6|];
+array[1..10] of var bool: x;
+constraint forall(i in 1..15)(not (x[e[i,1]] /\ x[e[i,2]]));
+solve maximize sum(x);
