@@ -81,6 +81,7 @@ pub mod map;
 pub mod proved;
 pub mod rattle;
 pub mod set;
+pub mod solve;
 
 /// The root's types, for glob imports.
 ///

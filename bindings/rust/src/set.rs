@@ -10,7 +10,7 @@ pub(crate) mod iterators;
 pub(crate) mod making;
 mod operators;
 mod paged;
-mod pieces;
+pub(crate) mod pieces;
 pub(crate) mod reads;
 #[cfg(feature = "serde")]
 pub(crate) mod serde;

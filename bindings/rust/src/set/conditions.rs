@@ -110,6 +110,13 @@ macro_rules! contract {
     (gathered) => {
         "\n\nTested and not proved: made of what [`proved::sweep::coalesce`](crate::proved::sweep::coalesce) gives."
     };
+    (rule $kind:ident) => {
+        concat!("\n\nWritten as [`Rule::", stringify!($kind), "`](crate::proved::ivl_rules::rules::Rule::", stringify!($kind),
+            "), which is tested and not proved.")
+    };
+    (search $call:literal) => {
+        concat!("\n\nContract: [`proved::ivl_search::search::rules::", $call, "`](crate::proved::ivl_search::search::rules::", $call, ").")
+    };
     (tested) => { "\n\nTested and not proved." };
     (nothing IntervalSet) => { contract!(over IntervalSet "empty") };
     (nothing PagedSet) => { contract!(over PagedSet "new") };

@@ -124,7 +124,7 @@ macro_rules! making {
             }
 
             /// Returns the set of the numbers of intervals in any order.
-            pub(super) fn of_intervals(intervals: Vec<Interval<T>>) -> Self {
+            pub(crate) fn of_intervals(intervals: Vec<Interval<T>>) -> Self {
                 Self::of_list(coalesce(Global, intervals.into()))
             }
         }
@@ -172,7 +172,7 @@ const MOST_RESERVED: usize = 1 << 16;
 /// Returns the intervals of pieces. Panics if some number is outside the limits.
 // with a closure in the place of a loop, the place of the panic would be in this crate and not in the caller's
 #[track_caller]
-pub(super) fn gathered<T: Width, P: Pieces<T>>(
+pub(crate) fn gathered<T: Width, P: Pieces<T>>(
     set: &str,
     call: &str,
     pieces: impl IntoIterator<Item = P>,

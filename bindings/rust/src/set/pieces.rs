@@ -78,7 +78,7 @@ pub trait Pieces<T: Width> {
 }
 
 /// The numbers from the first to the second, which may be outside the limits of a type.
-struct Numbers((i128, i128));
+pub(crate) struct Numbers(pub (i128, i128));
 
 impl<T: Width> Piece<T> for Numbers {
     fn numbers(&self) -> (i128, i128) {
