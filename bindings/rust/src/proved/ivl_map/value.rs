@@ -54,7 +54,7 @@ impl MapValue for u8 {
     /// It cannot fail, and the copy is the value.
     ///
     /// ```text
-    /// ensures copy { IfOk result (λ copy. Self.Eq.eq self.now copy ≡ true) }
+    /// ensures copy { IfOk result (λ copy. ⟦<u8 as PartialEq>⟧.eq self.now copy ≡ true) }
     /// ensures same { result ≡ Ok self.now }
     /// ```
     fn try_copy(&self) -> Result<u8, AllocError> {
@@ -70,7 +70,7 @@ impl MapValue for u16 {
     /// It cannot fail, and the copy is the value.
     ///
     /// ```text
-    /// ensures copy { IfOk result (λ copy. Self.Eq.eq self.now copy ≡ true) }
+    /// ensures copy { IfOk result (λ copy. ⟦<u16 as PartialEq>⟧.eq self.now copy ≡ true) }
     /// ensures same { result ≡ Ok self.now }
     /// ```
     fn try_copy(&self) -> Result<u16, AllocError> {
@@ -86,7 +86,7 @@ impl MapValue for u32 {
     /// It cannot fail, and the copy is the value.
     ///
     /// ```text
-    /// ensures copy { IfOk result (λ copy. Self.Eq.eq self.now copy ≡ true) }
+    /// ensures copy { IfOk result (λ copy. ⟦<u32 as PartialEq>⟧.eq self.now copy ≡ true) }
     /// ensures same { result ≡ Ok self.now }
     /// ```
     fn try_copy(&self) -> Result<u32, AllocError> {
@@ -102,7 +102,7 @@ impl MapValue for u64 {
     /// It cannot fail, and the copy is the value.
     ///
     /// ```text
-    /// ensures copy { IfOk result (λ copy. Self.Eq.eq self.now copy ≡ true) }
+    /// ensures copy { IfOk result (λ copy. ⟦<u64 as PartialEq>⟧.eq self.now copy ≡ true) }
     /// ensures same { result ≡ Ok self.now }
     /// ```
     fn try_copy(&self) -> Result<u64, AllocError> {
@@ -118,7 +118,7 @@ impl MapValue for usize {
     /// It cannot fail, and the copy is the value.
     ///
     /// ```text
-    /// ensures copy { IfOk result (λ copy. Self.Eq.eq self.now copy ≡ true) }
+    /// ensures copy { IfOk result (λ copy. ⟦<usize as PartialEq>⟧.eq self.now copy ≡ true) }
     /// ensures same { result ≡ Ok self.now }
     /// ```
     fn try_copy(&self) -> Result<usize, AllocError> {
@@ -134,7 +134,7 @@ impl MapValue for i8 {
     /// It cannot fail, and the copy is the value.
     ///
     /// ```text
-    /// ensures copy { IfOk result (λ copy. Self.Eq.eq self.now copy ≡ true) }
+    /// ensures copy { IfOk result (λ copy. ⟦<i8 as PartialEq>⟧.eq self.now copy ≡ true) }
     /// ensures same { result ≡ Ok self.now }
     /// ```
     fn try_copy(&self) -> Result<i8, AllocError> {
@@ -150,7 +150,7 @@ impl MapValue for i16 {
     /// It cannot fail, and the copy is the value.
     ///
     /// ```text
-    /// ensures copy { IfOk result (λ copy. Self.Eq.eq self.now copy ≡ true) }
+    /// ensures copy { IfOk result (λ copy. ⟦<i16 as PartialEq>⟧.eq self.now copy ≡ true) }
     /// ensures same { result ≡ Ok self.now }
     /// ```
     fn try_copy(&self) -> Result<i16, AllocError> {
@@ -166,7 +166,7 @@ impl MapValue for i32 {
     /// It cannot fail, and the copy is the value.
     ///
     /// ```text
-    /// ensures copy { IfOk result (λ copy. Self.Eq.eq self.now copy ≡ true) }
+    /// ensures copy { IfOk result (λ copy. ⟦<i32 as PartialEq>⟧.eq self.now copy ≡ true) }
     /// ensures same { result ≡ Ok self.now }
     /// ```
     fn try_copy(&self) -> Result<i32, AllocError> {
@@ -182,7 +182,7 @@ impl MapValue for i64 {
     /// It cannot fail, and the copy is the value.
     ///
     /// ```text
-    /// ensures copy { IfOk result (λ copy. Self.Eq.eq self.now copy ≡ true) }
+    /// ensures copy { IfOk result (λ copy. ⟦<i64 as PartialEq>⟧.eq self.now copy ≡ true) }
     /// ensures same { result ≡ Ok self.now }
     /// ```
     fn try_copy(&self) -> Result<i64, AllocError> {
@@ -198,7 +198,7 @@ impl MapValue for isize {
     /// It cannot fail, and the copy is the value.
     ///
     /// ```text
-    /// ensures copy { IfOk result (λ copy. Self.Eq.eq self.now copy ≡ true) }
+    /// ensures copy { IfOk result (λ copy. ⟦<isize as PartialEq>⟧.eq self.now copy ≡ true) }
     /// ensures same { result ≡ Ok self.now }
     /// ```
     fn try_copy(&self) -> Result<isize, AllocError> {
@@ -214,7 +214,7 @@ impl MapValue for bool {
     /// It cannot fail, and the copy is the value.
     ///
     /// ```text
-    /// ensures copy { IfOk result (λ copy. Self.Eq.eq self.now copy ≡ true) }
+    /// ensures copy { IfOk result (λ copy. ⟦<bool as PartialEq>⟧.eq self.now copy ≡ true) }
     /// ensures same { result ≡ Ok self.now }
     /// ```
     fn try_copy(&self) -> Result<bool, AllocError> {
@@ -230,7 +230,7 @@ impl MapValue for char {
     /// It cannot fail, and the copy is the value.
     ///
     /// ```text
-    /// ensures copy { IfOk result (λ copy. Self.Eq.eq self.now copy ≡ true) }
+    /// ensures copy { IfOk result (λ copy. ⟦<char as PartialEq>⟧.eq self.now copy ≡ true) }
     /// ensures same { result ≡ Ok self.now }
     /// ```
     fn try_copy(&self) -> Result<char, AllocError> {
@@ -268,7 +268,7 @@ impl<T: MapValue> MapValue for Option<T> {
     /// A copy equals the value. It cannot fail where there is no value.
     ///
     /// ```text
-    /// ensures copy { IfOk result (λ copy. Self.Eq.eq self.now copy ≡ true) }
+    /// ensures copy { IfOk result (λ copy. ⟦<Option<T> as PartialEq>⟧.eq self.now copy ≡ true) }
     /// ensures none { self.now ≡ None → IsOk result }
     /// ```
     fn try_copy(&self) -> Result<Option<T>, AllocError> {
