@@ -313,28 +313,38 @@ class IntervalSet(collections.abc.Set[int]):
     def __or__(self, other: Any) -> IntervalSet:
         """Returns the members of either set."""
         taken = self._operand(other)
-        return NotImplemented if taken is None else self._with(self._type.union, taken)
+        if taken is None:
+            return NotImplemented
+        return self._with(self._type.union, taken)
 
     def __and__(self, other: Any) -> IntervalSet:
         """Returns the members of both sets."""
         taken = self._common(other)
-        return NotImplemented if taken is None else self._with(self._type.intersection, taken)
+        if taken is None:
+            return NotImplemented
+        return self._with(self._type.intersection, taken)
 
     def __sub__(self, other: Any) -> IntervalSet:
         """Returns the members that are not in the other set."""
         taken = self._common(other)
-        return NotImplemented if taken is None else self._with(self._type.difference, taken)
+        if taken is None:
+            return NotImplemented
+        return self._with(self._type.difference, taken)
 
     def __xor__(self, other: Any) -> IntervalSet:
         """Returns the members of exactly one set."""
         taken = self._operand(other)
-        return NotImplemented if taken is None else self._with(self._type.symmetric_difference, taken)
+        if taken is None:
+            return NotImplemented
+        return self._with(self._type.symmetric_difference, taken)
 
     __ror__, __rand__, __rxor__ = __or__, __and__, __xor__
 
     def __rsub__(self, other: Any) -> IntervalSet:
         taken = self._operand(other)
-        return NotImplemented if taken is None else taken._with(self._type.difference, self)
+        if taken is None:
+            return NotImplemented
+        return taken._with(self._type.difference, self)
 
     def union(self, *others: Iterable[Item]) -> IntervalSet:
         """Returns the members of any of the sets.
@@ -448,11 +458,15 @@ class IntervalSet(collections.abc.Set[int]):
 
     def __lt__(self, other: Any) -> bool:
         """Returns whether each member is in the other set, which has more."""
-        return NotImplemented if not isinstance(other, collections.abc.Set) else self.size < _size(other) and self <= other
+        if not isinstance(other, collections.abc.Set):
+            return NotImplemented
+        return self.size < _size(other) and self <= other
 
     def __gt__(self, other: Any) -> bool:
         """Returns whether each member of the other set is in this one, which has more."""
-        return NotImplemented if not isinstance(other, collections.abc.Set) else self.size > _size(other) and self >= other
+        if not isinstance(other, collections.abc.Set):
+            return NotImplemented
+        return self.size > _size(other) and self >= other
 
     def _is_within(self, other: IntervalSet) -> bool:
         return bool(self._type.checked(self._type.is_subset(self._at, self._count, other._at, other._count)))
@@ -527,9 +541,8 @@ class IntervalSet(collections.abc.Set[int]):
     def _ranks(self) -> tuple[Numbers[int], list[int]]:
         """The lower bounds of the runs, and how many members lie below each and in all."""
         if self._ranked is None:
-            lowers, uppers = self._list[::2], self._list[1::2]
-            sizes = map(operator.sub, uppers, lowers)
-            self._ranked = lowers, list(itertools.accumulate(sizes, lambda below, size: below + size + 1, initial=0))
+            sizes = (upper - lower + 1 for lower, upper in self.runs())
+            self._ranked = self._list[::2], list(itertools.accumulate(sizes, initial=0))
         return self._ranked
 
     def rank(self, value: SupportsIndex) -> int:
@@ -636,7 +649,7 @@ class IntervalSet(collections.abc.Set[int]):
         if self._sized is None:
             found = ctypes.c_uint64()
             self._type.checked(self._type.size(self._at, self._count, ctypes.addressof(found)))
-            self._sized = found.value
+            self._sized = int(found.value)
         return self._sized
 
     @property
