@@ -825,9 +825,8 @@ def processes():
 
 
 def examples(*pages):
-    failed, tried = doctest.testmod(intervallum)
-    if HAS_HANDLES:
-        failed, tried = map(sum, zip((failed, tried), doctest.testmod(intervallum._mutable)))
+    modules = [intervallum, intervallum._runs] + [intervallum._mutable] * HAS_HANDLES
+    failed, tried = map(sum, zip(*map(doctest.testmod, modules)))
     parser, run = doctest.DocTestParser(), doctest.DocTestRunner()
     for page in pages:
         text = open(page, encoding="utf-8").read()
