@@ -1,6 +1,7 @@
 """What tests/bindings and tests/python run: answers of the original crate, random calls beside lists of flags, and the Python
 module beside `set`, with misuse, threads and processes."""
 
+import collections
 import copy
 import ctypes
 import ctypes.util
@@ -16,11 +17,16 @@ import sys
 import threading
 import time
 import types
+from decimal import Decimal
+from fractions import Fraction
 
 import intervallum
-from intervallum import IntervalSet, OutOfRange
+from intervallum import IntervalMap, IntervalSet, MutableIntervalSet, OutOfRange
 
 numpy = intervallum.numpy
+# the library that is proved has no handles: there, sets that never change stand for those that do
+HAS_HANDLES = intervallum._types["i64"].handles is not None
+Changing = MutableIntervalSet if HAS_HANDLES else IntervalSet
 TOP = os.path.dirname(os.path.dirname(os.path.abspath(__file__)))
 
 TWO = {
@@ -372,6 +378,8 @@ def combined(kind, first, second, third):
     for name, method in OPERATORS.items():
         expected = getattr(first, name)(second)
         assert list(getattr(a, name)(b)) == list(getattr(a, method)(second)) == sorted(expected), (first, second, name)
+        sign = getattr(operator, name)
+        assert sign(a, second) == sign(first, b) == expected and sign(Changing(a, a.bounds), second) == expected
     for method in ("union", "intersection", "difference"):
         expected = getattr(first, method)(second, third)
         made = set(getattr(a, method)(b, third)), set(getattr(a, method)(sorted(second), c))
@@ -393,7 +401,7 @@ def asked(kind, low, first, second):
     """The queries. Returns how many were compared."""
     a, b, ascending = kind(first), kind(second), sorted(first)
     for name in COMPARED:
-        assert getattr(a, name)(b) == getattr(first, name)(second), (first, second, name)
+        assert getattr(a, name)(b) == getattr(first, name)(second) == getattr(a, name)(second), (first, second, name)
     assert a.overlaps(second) != first.isdisjoint(second)
     assert len(a) == a.size == len(first) and bool(a) == bool(first)
     assert list(a) == ascending and list(reversed(a)) == ascending[::-1]
@@ -408,12 +416,21 @@ def asked(kind, low, first, second):
     run = a.run_at(value)
     assert run == next((run for run in runs if run[0] <= value <= run[1]), None)
     assert (run is not None) == (value in a) == (value in first)
+    upper, count = random.randrange(low - 2, low + COUNT + 2), random.randrange(5)
+    window = range(max(value, -(2**60) if low < 0 else 0), upper + 1)
+    assert set(a.gaps_within(window.start, upper)) == set(window) - first, (first, value, upper)
+    assert a.runs_within(value, upper) == [run for run in runs if run[0] <= upper and value <= run[1] and value <= upper]
+    fits = [n for n in ascending if n >= value and count and all(n + i in first for i in range(count))]
+    assert a.first_fit_from(value, count) == ((fits[0], fits[0] + count - 1) if fits else None), (first, value, count)
+    long = [run for run in runs if 0 < count <= run[1] - run[0] + 1]
+    best = min(long, key=lambda run: (run[1] - run[0], run[0]), default=None)
+    assert a.best_fit(count) == Changing(a, a.bounds).best_fit(count) == (best and (best[0], best[0] + count - 1))
     index = random.randrange(-1, COUNT)
     assert a.rank(value) == sum(n < value for n in first), (first, value)
     assert a.nth(index) == (ascending[index] if 0 <= index < len(ascending) else None), (first, index)
     assert a == eval(repr(a)) == pickle.loads(pickle.dumps(a)) == copy.deepcopy(a) == a.copy() == kind(a)
     assert hash(a) == hash(kind(random_items(first, low))) and (a == b) == ({a: 1}.get(b) == 1)
-    return len(COMPARED) + 26
+    return len(COMPARED) + 31
 
 
 def sets(count):
@@ -431,6 +448,133 @@ def sets(count):
 
         compared += combined(kind, *three) + asked(kind, low, *three[:2])
     print("bindings: Python: %d comparisons with `set` agree" % compared)
+
+
+# ---- sets and maps that change, beside `set` and `dict`
+
+
+def edited(made, plain, low):
+    """One random edit of both."""
+    value, upper = (random.randrange(low, low + COUNT) for _ in range(2))
+    numbers = range(value, upper + 1)
+    form = random.randrange(8)
+    if form == 0:
+        made.add(value), plain.add(value)
+    elif form == 1:
+        made.discard(value), plain.discard(value)
+    elif form == 2:
+        made.add_run(value, upper), plain.update(numbers)
+    elif form == 3:
+        made.discard_run(value, upper), plain.difference_update(numbers)
+    elif form == 4 and plain:
+        assert made.pop() == min(plain)
+        plain.remove(min(plain))
+    elif form == 5 and plain:
+        assert made.pop_last() == max(plain)
+        plain.remove(max(plain))
+    elif form == 6:
+        taken = made.take_first_fit(2)
+        assert (taken is None) == (not any(n + 1 in plain for n in plain))
+        plain.difference_update(range(taken[0], taken[1] + 1) if taken else ())
+    else:
+        sign = random.choice([operator.ior, operator.iand, operator.isub, operator.ixor])
+        other = random.choice([{value, upper}, IntervalSet(numbers, made.bounds), MutableIntervalSet([(value, upper)], made.bounds), made])
+        expected = sign(set(plain), set(other))
+        same = made
+        made = sign(made, other)
+        assert made is same
+        plain.clear(), plain.update(expected)
+
+
+def changing(count):
+    if not HAS_HANDLES:
+        print("bindings: Python: skipped: sets that change, which the library that is proved has not")
+        return
+    random.seed(22)
+    for _ in range(count):
+        bounds, low = random.choice([("i64", LOW), ("u64", 0), ("u64", 2**64 - 1 - COUNT), ("i64", -(2**63) + 1)])
+        made, plain = MutableIntervalSet(bounds=bounds), set()
+        for _ in range(30):
+            edited(made, plain, low)
+            value = random.randrange(low, low + COUNT)
+            assert made == plain and len(made) == len(plain) and (value in made) == (value in plain), (made, plain)
+            assert made.rank(value) == sum(n < value for n in plain) and list(made) == sorted(plain)
+            assert made.nth(made.rank(value)) == made.next_from(value) == min((n for n in plain if n >= value), default=None)
+            assert made.previous_to(value) == max((n for n in plain if n <= value), default=None)
+            assert made.run_at(value) == made.frozen().run_at(value) and made.first_fit(2) == made.frozen().first_fit(2)
+            assert made.first_fit_from(value, 2) == made.frozen().first_fit_from(value, 2)
+        assert made == pickle.loads(pickle.dumps(made)) == copy.deepcopy(made) == made.copy() and made.copy() is not made
+        assert not plain or (made.min(), made.max()) == (min(plain), max(plain))
+    empty = MutableIntervalSet()
+    for call in (empty.pop, empty.pop_last, lambda: empty.remove(5)):
+        raises(KeyError, call)
+    raises(OutOfRange, lambda: empty.add(2**63), "9223372036854775808 is outside the range of i64")
+    raises(OutOfRange, lambda: empty.add_run(1, 2**70), "is outside the range of i64")
+    raises(TypeError, lambda: hash(empty), "unhashable")
+    raises(ValueError, empty.min, "the set is empty")
+    empty.discard(2**70), empty.discard_run(-(2**70), 2**70)
+    assert not empty and empty.rank(2**70) == 0 and empty.next_from(2**70) is None and isinstance(empty, collections.abc.MutableSet)
+    # a handle lives as long as a call needs it, and ends with its object
+    for _ in range(100):
+        empty.update(MutableIntervalSet([(5, 9)]), [3])
+    assert empty == {3, 5, 6, 7, 8, 9}
+    print("bindings: Python: %d sets that change agree with `set`" % count)
+
+
+def maps(count):
+    if not HAS_HANDLES:
+        print("bindings: Python: skipped: maps, which the library that is proved has not")
+        return
+    random.seed(23)
+    for _ in range(count):
+        bounds, low = random.choice([("i64", LOW), ("u64", 0), ("u64", 2**64 - 1 - COUNT), ("i64", -(2**63) + 1)])
+        made, plain = IntervalMap(bounds=bounds), {}
+        for step in range(30):
+            lower, upper = (random.randrange(low, low + COUNT) for _ in range(2))
+            numbers = range(lower, upper + 1)
+            # values that are equal and not the same, of which some have no hash
+            value = random.choice([["a", step % 3], "b%d" % (step % 2), step % 2, float(step % 2), None])
+            form = random.randrange(4)
+            if form == 0:
+                made.set(lower, upper, value), plain.update((n, value) for n in numbers)
+            elif form == 1:
+                made.remove(lower, upper)
+                plain = {n: held for n, held in plain.items() if n not in numbers}
+            elif form == 2:
+                is_free = not any(n in plain for n in numbers)
+                assert made.set_if_free(lower, upper, value) == is_free
+                plain.update((n, value) for n in numbers if is_free)
+            else:
+                made[lower:upper + 1] = value
+                plain.update((n, value) for n in numbers)
+            entries = []
+            for n in sorted(plain):
+                if entries and entries[-1][0][1] == n - 1 and entries[-1][1] == plain[n]:
+                    entries[-1] = ((entries[-1][0][0], n), entries[-1][1])
+                else:
+                    entries.append(((n, n), plain[n]))
+            assert list(made) == entries and len(made) == len(entries) and made.size == len(plain), (list(made), entries)
+            at = next((entry for entry in entries if entry[0][0] <= lower <= entry[0][1]), None)
+            assert made.entry_at(lower) == at and (lower in made) == (at is not None) and made.get(lower, 7) == (at[1] if at else 7)
+            assert list(made.overlapping(lower, upper)) == [e for e in entries if lower <= upper and e[0][0] <= upper and lower <= e[0][1]]
+            assert made.next_from(lower) == next((e for e in entries if e[0][1] >= lower), None)
+            assert made.previous_to(lower) == next((e for e in entries[::-1] if e[0][0] <= lower), None)
+            assert made.keys() == set(plain) and made.numbers_with(value) == {n for n in plain if plain[n] == value}
+            assert set(made.gaps_within(lower, upper)) == set(numbers) - set(plain)
+        assert made == made.copy() == pickle.loads(pickle.dumps(made)) and made.copy() is not made
+    many = IntervalMap()
+    for n in range(3000):
+        many.set(5, 9, "value %d" % n)
+    assert list(many) == [((5, 9), "value 2999")] and len(many._values) < 200, len(many._values)
+    raises(KeyError, lambda: many[4], "4")
+    raises(OutOfRange, lambda: many.set(1, 2**63, 0), "9223372036854775808 is outside the range of i64")
+    raises(ValueError, lambda: many.__setitem__(slice(1, 5, 2), 0), "no step")
+    many[20] = 1
+    del many[:8]
+    assert list(many) == [((8, 9), "value 2999"), ((20, 20), 1)] and 8.0 in many and "x" not in many and 2**70 not in many
+    many.clear()
+    assert not len(many) and many.first_fit(0, 9, 3) == (0, 2) and many.first_fit(0, 1, 3) is None and repr(many) == "IntervalMap([])"
+    print("bindings: Python: %d maps agree with `dict`" % count)
 
 
 # ---- what is no set, and what the error says
@@ -463,12 +607,16 @@ def misuse():
         told = "'%s' object cannot be interpreted as an integer" % kind
         calls = [lambda: IntervalSet([wrong]), lambda: IntervalSet([(1, wrong)]), lambda: IntervalSet([[wrong, 1], 3])]
         calls += [lambda: IntervalSet([{wrong}])]
-        calls += [lambda: wrong in a, lambda: a.next_from(wrong), lambda: a.previous_to(wrong), lambda: a.run_at(wrong)]
+        calls += [lambda: a.next_from(wrong), lambda: a.previous_to(wrong), lambda: a.run_at(wrong)]
         calls += [lambda: a.rank(wrong), lambda: a.nth(wrong), lambda: a.first_fit(wrong), lambda: a.union([wrong])]
         for call in calls:
             raises(TypeError, call, told)
     for call in (lambda: IntervalSet(5), lambda: a.union(5), lambda: a.issubset(5), lambda: a.sums(5)):
-        raises(TypeError, call, "'int' object is not iterable")
+        raises(TypeError, call, "a set is made of an iterable of numbers, ranges, pairs and sets, not of 5")
+    # membership is that of Python's sets
+    for value in (1.0, Fraction(2, 1), Decimal(3), True, 4 + 0j, 1.5, "a", "1", None, (1,), float("inf"), float("nan"), 6.0, b"1"):
+        assert (value in a) == (value in {1, 2, 3, 4, 5}) == (value in Changing(a)), value
+    assert [] not in a and [x for x in ["x", 3, 9.5] if x in a] == [3]
     signed = " is outside the range of i64, from -9223372036854775807 to 9223372036854775807"
     for outside in (2**63, -(2**63), 2**64, -(2**70)):
         wide = min(0, outside), max(0, outside)
@@ -494,9 +642,12 @@ def misuse():
     assert a.sums([2**63 - 6]).max() == 2**63 - 1 and a.sums([]) == a.differences([]) == IntervalSet()
     signs = {"|": operator.or_, "&": operator.and_, "-": operator.sub, "^": operator.xor}
     for sign, call in signs.items():
-        for two in ((a, unsigned), (a, {3}), ({3}, a), (a, [3]), ([3], a)):
+        for two in ((a, [3]), ([3], a), (a, 3), (Changing(a), [3])):
             raises(TypeError, lambda: call(*two), "unsupported operand type(s) for %s: " % sign)
-    raises(TypeError, lambda: a < {1}, "'<' not supported between instances of 'IntervalSet' and 'set'")
+    raises(TypeError, lambda: a | {"x"}, "'str' object cannot be interpreted as an integer")
+    raises(OutOfRange, lambda: unsigned | {-1}, "-1 is outside the range of u64")
+    assert a & {"x", 3} == {3} and a - {"x", 3} == {1, 2, 4, 5} and not a <= {"x"} and a != {"x"} and a & unsigned == {3}
+    raises(TypeError, lambda: a < [1], "'<' not supported between instances of 'IntervalSet' and 'list'")
     raises(OverflowError, lambda: len(~a), "the set has more members than len can return: use size")
     for call in (IntervalSet().min, IntervalSet().max):
         raises(ValueError, call, "the set is empty")
@@ -504,7 +655,11 @@ def misuse():
     raises(TypeError, lambda: hash(a.runs()), "unhashable")
     # a code of the library, which no small set brings about
     raises(intervallum.OutOfMemory, lambda: a._type.checked(-2), "an allocation failed")
-    assert a != unsigned and a != [1, 2, 3, 4, 5] and a != {1, 2, 3, 4, 5}
+    assert a != unsigned and a != [1, 2, 3, 4, 5] and a == {1, 2, 3, 4, 5} == a and a == IntervalSet(a, bounds="u64")
+    assert hash(a) == hash(frozenset(a)) and {frozenset(a): 1}[a] == 1 and {a, frozenset(a)} == {a}
+    assert repr(IntervalSet(range(0, 60, 3))).count("(") == 21
+    assert repr(IntervalSet(range(0, 63, 3))) == "IntervalSet([(0, 0), (3, 3), (6, 6), <15 more runs>, (54, 54), (57, 57), (60, 60)])"
+    assert repr(Named([3])) == "Named([(3, 3)])" and IntervalSet.of(1, 5) == a and IntervalSet.union_of([]) == IntervalSet()
     assert a.nth(-1) is a.first_fit(-1) is a.first_fit(0) is None
     assert IntervalSet([(9, 4)]) == IntervalSet() != IntervalSet([0])
     assert IntervalSet([range(9, 2, -3)]) == IntervalSet([9, 6, 3]) and IntervalSet(range(10**15, 0, -1)).runs() == [(1, 10**15)]
@@ -599,6 +754,16 @@ def header():
         expected = [pointer if "*" in one else sizes[one.split()[0]] for one in arguments.split(",")]
         assert call.restype is sizes[answer] and list(call.argtypes) == expected, (name, bounds, call.argtypes)
     assert len(found) == 2 * len(intervallum.SHAPES)
+    page = open(os.path.join(TOP, "bindings/c/intervallum_handles.h"), encoding="utf-8").read()
+    handles = re.findall(r"(\w+) ivl_((?:set|map)_\w+)_([iu]64)\(([^)]*)\);", re.sub(r"/\*.*?\*/", "", page, flags=re.S))
+    for answer, name, bounds, arguments in handles:
+        call = (intervallum._types[bounds].handles or {}).get(name)
+        if call is None:
+            continue
+        expected = [pointer if "*" in one else sizes[one.split()[0]] for one in arguments.split(",")]
+        assert call.restype is (None if answer == "void" else sizes[answer]) and list(call.argtypes) == expected, (name, bounds)
+    assert len(handles) == 2 * len(intervallum.HANDLE_SHAPES)
+    found += handles
     print("bindings: Python: the types of %d calls are those of the header" % len(found))
 
 
@@ -638,7 +803,7 @@ class Named(IntervalSet):
 
 
 def doubled(a):
-    return a.sums(a), a.bounds, hash(a)
+    return a.sums(a, clipped=True), a.bounds, hash(a)
 
 
 def processes():
@@ -652,7 +817,7 @@ def processes():
         assert (type(back), back, back.bounds, back.name) == (Named, named, "u64", "mine")
     with multiprocessing.get_context("spawn").Pool(2) as pool:
         for a, (made, bounds, told) in zip(given, pool.map(doubled, given)):
-            assert made == a.sums(a) and bounds == a.bounds
+            assert made == a.sums(a, clipped=True) and bounds == a.bounds
     print("bindings: Python: sets come back from another process")
 
 
@@ -660,7 +825,8 @@ def processes():
 
 
 def examples(*pages):
-    failed, tried = doctest.testmod(intervallum)
+    modules = [intervallum, intervallum._runs] + [intervallum._mutable] * HAS_HANDLES
+    failed, tried = map(sum, zip(*map(doctest.testmod, modules)))
     parser, run = doctest.DocTestParser(), doctest.DocTestRunner()
     for page in pages:
         text = open(page, encoding="utf-8").read()
@@ -668,6 +834,8 @@ def examples(*pages):
         inline = [one for one in re.findall(r"`([^`\n]*)`", text) if one.startswith("IntervalSet([")]
         assert blocks or inline, page
         for block in blocks:
+            if not HAS_HANDLES and re.search("MutableIntervalSet|IntervalMap", block):
+                continue
             # a block without prompts is a program
             if not block.startswith(">>>"):
                 exec(block, {})
@@ -701,8 +869,16 @@ def arrays():
         assert not unaligned.flags.aligned
         for other in (array[::-1], array.astype(array.dtype.newbyteorder(">")), unaligned):
             assert IntervalSet(other, bounds=bounds) == made
+        members = numpy.array([7, 3, 4, 7, 1], dtype=kind)
+        assert IntervalSet(members, bounds=bounds).runs() == [(1, 1), (3, 4), (7, 7)] and not IntervalSet(members[:0], bounds=bounds)
+        assert IntervalSet(members.astype(numpy.int8), bounds=bounds) == {1, 3, 4, 7} == Changing(members, bounds=bounds)
+        for type_of_values in (numpy.int8, numpy.int64, numpy.uint64):
+            asked = numpy.arange(12, dtype=type_of_values).reshape(3, 4)
+            assert made.isin(asked).tolist() == [[int(v) in made for v in row] for row in asked]
+        assert not made.isin(numpy.array([-1, -5])).any() and not made.isin(numpy.array([2**64 - 1, 2**63], dtype=numpy.uint64)).any()
+        assert not (made - made).isin(members).any()
         masked = numpy.ma.masked_array(array, mask=[[0, 0], [1, 1], [0, 0]])
-        for wrong in (array[:, :1], array[0], array.astype(float), masked):
+        for wrong in (array[:, :1], array.reshape(3, 2, 1), array.astype(float), masked):
             raises(TypeError, lambda: IntervalSet(wrong, bounds=bounds))
     raises(OutOfRange, lambda: IntervalSet(numpy.array([[0, 2**63 + 5]], dtype=numpy.uint64)), "9223372036854775813 is outside the range of i64")
     raises(OutOfRange, lambda: IntervalSet(numpy.array([[-1, 5]]), bounds="u64"), "-1 is outside the range of u64")
@@ -748,7 +924,7 @@ def least_time(call):
 
 if __name__ == "__main__":
     calls = {
-        "facts": facts, "sets": sets, "fuzz": fuzz, "threads": threads, "arrays": arrays, "misuse": misuse,
+        "facts": facts, "sets": sets, "fuzz": fuzz, "threads": threads, "arrays": arrays, "misuse": misuse, "changing": changing, "maps": maps,
         "processes": processes, "examples": examples, "speed": speed,
         "header": header,
     }

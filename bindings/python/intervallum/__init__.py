@@ -28,9 +28,10 @@ import operator
 import os
 import sys
 from array import array as Numbers
-from typing import Any, Iterable, Iterator, Literal, Sequence, SupportsIndex, Union, overload
+from typing import Any, Iterable, Iterator, Literal, Sequence, SupportsIndex, Union
 
 from ._calls import HANDLE_SHAPES, NUMBER, SHAPES, Call, Calls
+from ._runs import Runs, listed
 
 __version__ = "2.0.0"
 __all__ = ["IntervalMap", "IntervalSet", "MutableIntervalSet", "OutOfMemory", "OutOfRange", "ProductOutOfRange", "Runs", "SumOutOfRange"]
@@ -148,60 +149,6 @@ _library = _load()
 _types = {"i64": _Bounds(_library, "i64", ctypes.c_int64), "u64": _Bounds(_library, "u64", ctypes.c_uint64)}
 
 
-class Runs(collections.abc.Sequence[tuple[int, int]]):
-    """The runs of a set as pairs of bounds, ascending. It equals any sequence of the same pairs.
-
-    A pair is made when it is asked for.
-
-    >>> runs = IntervalSet([(5, 6), (1, 2)]).runs()
-    >>> len(runs), runs[0], runs[-1], list(reversed(runs)), runs == [(1, 2), (5, 6)]
-    (2, (1, 2), (5, 6), [(5, 6), (1, 2)], True)
-    """
-
-    __slots__ = ("_flat",)
-
-    def __init__(self, flat: Numbers[int]) -> None:
-        self._flat = flat
-
-    def __len__(self) -> int:
-        return len(self._flat) // 2
-
-    @overload
-    def __getitem__(self, at: SupportsIndex) -> tuple[int, int]: ...
-
-    @overload
-    def __getitem__(self, at: slice) -> list[tuple[int, int]]: ...
-
-    def __getitem__(self, at: Any) -> Any:
-        places = range(len(self))[at]
-        if isinstance(places, range):
-            return [(self._flat[2 * place], self._flat[2 * place + 1]) for place in places]
-        return self._flat[2 * places], self._flat[2 * places + 1]
-
-    def __iter__(self) -> Iterator[tuple[int, int]]:
-        return zip(self._flat[::2], self._flat[1::2])
-
-    def __reversed__(self) -> Iterator[tuple[int, int]]:
-        return zip(self._flat[-2::-2], self._flat[::-2])
-
-    def __eq__(self, other: object) -> bool:
-        if not isinstance(other, collections.abc.Sequence) or isinstance(other, (str, bytes)):
-            return NotImplemented
-        pairs = zip(self, other)
-        return len(self) == len(other) and all(isinstance(pair, collections.abc.Iterable) and mine == tuple(pair) for mine, pair in pairs)
-
-    def __repr__(self) -> str:
-        return "Runs(%s)" % _listed(self)
-
-
-def _listed(runs: Runs) -> str:
-    """The list of the runs; of more than 20, the first and the last few."""
-    if len(runs) <= 20:
-        return repr(list(runs))
-    shown = [*map(repr, runs[:3]), "<%d more runs>" % (len(runs) - 6), *map(repr, runs[-3:])]
-    return "[%s]" % ", ".join(shown)
-
-
 class IntervalSet(collections.abc.Set[int]):
     """A set of whole numbers, made of numbers, ranges, pairs of bounds and sets, in any order.
 
@@ -313,28 +260,38 @@ class IntervalSet(collections.abc.Set[int]):
     def __or__(self, other: Any) -> IntervalSet:
         """Returns the members of either set."""
         taken = self._operand(other)
-        return NotImplemented if taken is None else self._with(self._type.union, taken)
+        if taken is None:
+            return NotImplemented
+        return self._with(self._type.union, taken)
 
     def __and__(self, other: Any) -> IntervalSet:
         """Returns the members of both sets."""
         taken = self._common(other)
-        return NotImplemented if taken is None else self._with(self._type.intersection, taken)
+        if taken is None:
+            return NotImplemented
+        return self._with(self._type.intersection, taken)
 
     def __sub__(self, other: Any) -> IntervalSet:
         """Returns the members that are not in the other set."""
         taken = self._common(other)
-        return NotImplemented if taken is None else self._with(self._type.difference, taken)
+        if taken is None:
+            return NotImplemented
+        return self._with(self._type.difference, taken)
 
     def __xor__(self, other: Any) -> IntervalSet:
         """Returns the members of exactly one set."""
         taken = self._operand(other)
-        return NotImplemented if taken is None else self._with(self._type.symmetric_difference, taken)
+        if taken is None:
+            return NotImplemented
+        return self._with(self._type.symmetric_difference, taken)
 
     __ror__, __rand__, __rxor__ = __or__, __and__, __xor__
 
     def __rsub__(self, other: Any) -> IntervalSet:
         taken = self._operand(other)
-        return NotImplemented if taken is None else taken._with(self._type.difference, self)
+        if taken is None:
+            return NotImplemented
+        return taken._with(self._type.difference, self)
 
     def union(self, *others: Iterable[Item]) -> IntervalSet:
         """Returns the members of any of the sets.
@@ -448,11 +405,15 @@ class IntervalSet(collections.abc.Set[int]):
 
     def __lt__(self, other: Any) -> bool:
         """Returns whether each member is in the other set, which has more."""
-        return NotImplemented if not isinstance(other, collections.abc.Set) else self.size < _size(other) and self <= other
+        if not isinstance(other, collections.abc.Set):
+            return NotImplemented
+        return self.size < _size(other) and self <= other
 
     def __gt__(self, other: Any) -> bool:
         """Returns whether each member of the other set is in this one, which has more."""
-        return NotImplemented if not isinstance(other, collections.abc.Set) else self.size > _size(other) and self >= other
+        if not isinstance(other, collections.abc.Set):
+            return NotImplemented
+        return self.size > _size(other) and self >= other
 
     def _is_within(self, other: IntervalSet) -> bool:
         return bool(self._type.checked(self._type.is_subset(self._at, self._count, other._at, other._count)))
@@ -527,9 +488,8 @@ class IntervalSet(collections.abc.Set[int]):
     def _ranks(self) -> tuple[Numbers[int], list[int]]:
         """The lower bounds of the runs, and how many members lie below each and in all."""
         if self._ranked is None:
-            lowers, uppers = self._list[::2], self._list[1::2]
-            sizes = map(operator.sub, uppers, lowers)
-            self._ranked = lowers, list(itertools.accumulate(sizes, lambda below, size: below + size + 1, initial=0))
+            sizes = (upper - lower + 1 for lower, upper in self.runs())
+            self._ranked = self._list[::2], list(itertools.accumulate(sizes, initial=0))
         return self._ranked
 
     def rank(self, value: SupportsIndex) -> int:
@@ -636,7 +596,7 @@ class IntervalSet(collections.abc.Set[int]):
         if self._sized is None:
             found = ctypes.c_uint64()
             self._type.checked(self._type.size(self._at, self._count, ctypes.addressof(found)))
-            self._sized = found.value
+            self._sized = int(found.value)
         return self._sized
 
     @property
@@ -704,7 +664,7 @@ class IntervalSet(collections.abc.Set[int]):
 
     def __repr__(self) -> str:
         last = "" if self._type.is_signed else ", bounds=%r" % self._type.name
-        return "%s(%s%s)" % (type(self).__name__, _listed(self.runs()), last)
+        return "%s(%s%s)" % (type(self).__name__, listed(self.runs()), last)
 
 
 def _as_whole(value: object) -> int | None:

@@ -41,6 +41,9 @@ class _Handle:
         self.call(name, *given, ctypes.addressof(found))
         return found.value
 
+    def runs(self, out: int, room: int) -> int:
+        return self.call("runs", out, room)
+
     def made(self, name: str, *given: Any, kind: str = "set") -> _Handle:
         found = ctypes.c_void_p()
         self.call(name, *given, ctypes.addressof(found))
@@ -158,16 +161,16 @@ class MutableIntervalSet(collections.abc.MutableSet[int]):
         for other in others:
             self._set.call("subtract", self._handle_of(other))
 
-    def __ior__(self, other: Any) -> MutableIntervalSet:  # type: ignore[override]
+    def __ior__(self, other: Any) -> MutableIntervalSet:
         return self._changed(self.update, other)
 
-    def __iand__(self, other: Any) -> MutableIntervalSet:  # type: ignore[override]
+    def __iand__(self, other: Any) -> MutableIntervalSet:
         return self._changed(self.intersection_update, other)
 
-    def __isub__(self, other: Any) -> MutableIntervalSet:  # type: ignore[override]
+    def __isub__(self, other: Any) -> MutableIntervalSet:
         return self._changed(self.difference_update, other)
 
-    def __ixor__(self, other: Any) -> MutableIntervalSet:  # type: ignore[override]
+    def __ixor__(self, other: Any) -> MutableIntervalSet:
         if not isinstance(other, (collections.abc.Set, range)):
             return NotImplemented
         self._set = self._set.made("symmetric_difference", self._handle_of(other))
@@ -175,7 +178,7 @@ class MutableIntervalSet(collections.abc.MutableSet[int]):
 
     def _changed(self, change: Any, other: Any) -> MutableIntervalSet:
         if not isinstance(other, (collections.abc.Set, range)):
-            return NotImplemented  # type: ignore[return-value]
+            return NotImplemented
         change(other)
         return self
 
@@ -229,13 +232,7 @@ class MutableIntervalSet(collections.abc.MutableSet[int]):
 
     def frozen(self) -> IntervalSet:
         """Returns the members as an `IntervalSet`."""
-        handles, bounds = self._set.type.handles, self._set.type
-        assert handles is not None
-
-        def runs(out: int, room: int) -> int:
-            return int(handles["set_runs"](self._set, out, room))
-
-        return IntervalSet._of(bounds, runs, room=self._set.size("run_count"))
+        return IntervalSet._of(self._set.type, self._set.runs, room=self._set.size("run_count"))
 
     def runs(self) -> Runs:
         """Returns the runs as they are, as a sequence of pairs."""
@@ -298,7 +295,7 @@ class MutableIntervalSet(collections.abc.MutableSet[int]):
 
     # ---- two sets: as those of `IntervalSet`, over the members at the time
 
-    def __or__(self, other: Any) -> MutableIntervalSet:  # type: ignore[override]
+    def __or__(self, other: Any) -> MutableIntervalSet:
         return self._with(operator.or_, other)
 
     def __and__(self, other: Any) -> MutableIntervalSet:
@@ -307,7 +304,7 @@ class MutableIntervalSet(collections.abc.MutableSet[int]):
     def __sub__(self, other: Any) -> MutableIntervalSet:
         return self._with(operator.sub, other)
 
-    def __xor__(self, other: Any) -> MutableIntervalSet:  # type: ignore[override]
+    def __xor__(self, other: Any) -> MutableIntervalSet:
         return self._with(operator.xor, other)
 
     __ror__, __rand__, __rxor__ = __or__, __and__, __xor__
@@ -317,7 +314,7 @@ class MutableIntervalSet(collections.abc.MutableSet[int]):
 
     def _with(self, call: Any, other: Any) -> MutableIntervalSet:
         if not isinstance(other, (collections.abc.Set, range)):
-            return NotImplemented  # type: ignore[return-value]
+            return NotImplemented
         made = call(self.frozen(), other.frozen() if isinstance(other, MutableIntervalSet) else other)
         return self._of(self._handle_of(made))
 
@@ -598,4 +595,4 @@ def _entry_of(number: type[Any]) -> type[ctypes.Structure]:
     return Entry
 
 
-_ENTRIES: dict[str, type[ctypes.Structure]] = {name: _entry_of(bounds.number) for name, bounds in _types.items()}
+_ENTRIES = {"i64": _entry_of(ctypes.c_int64), "u64": _entry_of(ctypes.c_uint64)}
