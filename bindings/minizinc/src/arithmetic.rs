@@ -7,7 +7,7 @@ use crate::network::{FURTHEST, Network, Set};
 const MOST_PAIRS: u64 = 1024;
 
 /// Up to so many numbers, a function of a variable is a table where there is another way.
-const MOST_IN_TABLE: u64 = 256;
+const MOST_IN_TABLE: u64 = 4096;
 
 fn zero() -> Set {
     Set::singleton(0)
@@ -26,7 +26,10 @@ impl Network {
     pub fn extreme(&mut self, variables: &[usize], m: usize, is_greatest: bool) -> Result<(), String> {
         let sign = if is_greatest { 1 } else { -1 };
         let bound = |ends: &dyn Fn(&usize) -> i64| variables.iter().map(|x| sign * ends(x)).max();
-        let (first, last) = (bound(&|x| if is_greatest { self.ends(*x).0 } else { self.ends(*x).1 }), bound(&|x| if is_greatest { self.ends(*x).1 } else { self.ends(*x).0 }));
+        let (first, last) = (
+            bound(&|x| if is_greatest { self.ends(*x).0 } else { self.ends(*x).1 }),
+            bound(&|x| if is_greatest { self.ends(*x).1 } else { self.ends(*x).0 }),
+        );
         let (Some(first), Some(last)) = (first, last) else { return Err("an array without elements".into()) };
         self.keep(m, &Set::new((sign * first).min(sign * last), (sign * first).max(sign * last)));
         let mut reached = Vec::with_capacity(variables.len());
@@ -64,12 +67,19 @@ impl Network {
     }
 
     /// z = f(x, y), and x and y have no pair of numbers at which there is none. False if there are too many pairs.
-    fn image_of_two(&mut self, x: usize, y: usize, f: impl Fn(i64, i64) -> Option<i64>, z: usize) -> Result<bool, String> {
-        if x == y && self.size(x) <= MOST_PAIRS {
+    fn image_of_two(
+        &mut self,
+        x: usize,
+        y: usize,
+        f: impl Fn(i64, i64) -> Option<i64>,
+        z: usize,
+    ) -> Result<bool, String> {
+        if x == y && self.size(x) <= MOST_IN_TABLE {
             self.image_by(x, |number| f(number, number), z)?;
             return Ok(true);
         }
-        if self.size(x).saturating_mul(self.size(y)) > MOST_PAIRS {
+        let most = if self.fixed(x).or(self.fixed(y)).is_some() { MOST_IN_TABLE } else { MOST_PAIRS };
+        if self.size(x).saturating_mul(self.size(y)) > most {
             return Ok(false);
         }
         let (first, last) = self.ends(y);
@@ -109,11 +119,15 @@ impl Network {
         if self.image_of_two(x, y, |a, b| a.checked_mul(b), z)? {
             return Ok(());
         }
+        let furthest = self.furthest(x) * self.furthest(y);
+        if let Ok(furthest) = i64::try_from(furthest) {
+            self.keep(z, &Set::new(-furthest, furthest));
+        }
         if self.size(x) < self.size(y) { self.product_by_bits(y, x, z) } else { self.product_by_bits(x, y, z) }
     }
 
     /// x * y = z, by the binary digits of y, above its least number.
-    fn product_by_bits(&mut self, x: usize, y: usize, z: usize) -> Result<(), String> {
+    pub fn product_by_bits(&mut self, x: usize, y: usize, z: usize) -> Result<(), String> {
         let (first, last) = self.ends(y);
         let (lower, upper) = self.ends(x);
         let mut number: Vec<Term> = vec![(1, y)];
@@ -157,7 +171,7 @@ impl Network {
     }
 
     /// x = y * quotient + rest, |rest| < |y|, and the rest has the sign of x.
-    fn divided_by(&mut self, x: usize, y: usize, quotient: usize, rest: usize) -> Result<(), String> {
+    pub fn divided_by(&mut self, x: usize, y: usize, quotient: usize, rest: usize) -> Result<(), String> {
         let furthest = self.furthest(x) as i64;
         for variable in [quotient, rest] {
             self.keep(variable, &Set::new(-furthest, furthest));
@@ -187,9 +201,10 @@ impl Network {
         }
         let exponent = self.fixed(y).filter(|exponent| (2..=62).contains(exponent));
         let Some(exponent) = exponent else { return Err("a power of domains of so many numbers".into()) };
-        let mut power = x;
+        let (mut power, mut furthest) = (x, self.furthest(x));
         for count in 2..=exponent {
-            let next = if count == exponent { z } else { self.between(-i128::from(FURTHEST), i128::from(FURTHEST))? };
+            furthest = furthest.saturating_mul(self.furthest(x));
+            let next = if count == exponent { z } else { self.between(-furthest, furthest)? };
             self.product(power, x, next)?;
             power = next;
         }

@@ -105,11 +105,7 @@ impl<'a> Lexer<'a> {
             }
         }
         self.at += 1;
-        // (a backslash before a character of several bytes leaves this inside it)
-        match self.text.get(start..self.at - 1) {
-            Some(text) => Ok(Token::Text(text)),
-            None => Err(Fault::new(self.line, "a backslash before a character that is not ASCII")),
-        }
+        Ok(Token::Text(&self.text[start..self.at - 1]))
     }
 
     fn number(&mut self) -> Result<Token<'a>, Fault> {
@@ -179,10 +175,13 @@ mod tests {
     #[test]
     fn faults_have_their_line() {
         assert_eq!(tokens("a\n\"b"), Err(Fault::new(2, "a text without its closing quote")));
-        assert_eq!(tokens("\n\n9223372036854775808"), Err(Fault::new(3, "9223372036854775808 is not a number of 64 bits")));
+        assert_eq!(
+            tokens("\n\n9223372036854775808"),
+            Err(Fault::new(3, "9223372036854775808 is not a number of 64 bits"))
+        );
         assert_eq!(tokens("a ? b"), Err(Fault::new(1, "unexpected '?'")));
         assert_eq!(tokens("-"), Err(Fault::new(1, "unexpected `-`")));
-        assert_eq!(tokens("\"\\é\""), Err(Fault::new(1, "a backslash before a character that is not ASCII")));
+        assert_eq!(tokens(r#""\é\"""#), Ok(vec![(1, Token::Text(r#"\é\""#))]));
     }
 
     #[test]

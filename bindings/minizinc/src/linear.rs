@@ -93,7 +93,8 @@ impl Network {
     pub fn compare(&mut self, terms: &[Term], relation: Relation, number: i64) -> Result<(), String> {
         let set = set_of(relation, number);
         let reduced = self.reduced(terms, &set)?;
-        let has_both_signs = reduced.terms.iter().any(|(factor, _)| *factor > 0) && reduced.terms.iter().any(|(factor, _)| *factor < 0);
+        let has_both_signs =
+            reduced.terms.iter().any(|(factor, _)| *factor > 0) && reduced.terms.iter().any(|(factor, _)| *factor < 0);
         if reduced.is_whole || reduced.set.is_empty() || !has_both_signs {
             return self.within(terms, &set);
         }
@@ -162,9 +163,14 @@ impl Network {
                 }
             }
         }
-        let divisor = factors.values().fold(0, |divisor, factor| greatest_common_divisor(divisor, factor.unsigned_abs())).max(1);
+        let divisor =
+            factors.values().fold(0, |divisor, factor| greatest_common_divisor(divisor, factor.unsigned_abs())).max(1);
         let divisor = i64::try_from(divisor).map_err(|_| "overflow: a factor of -2^63")?;
-        let terms: Vec<Term> = factors.into_iter().filter(|(_, factor)| *factor != 0).map(|(variable, factor)| (factor / divisor, variable)).collect();
+        let terms: Vec<Term> = factors
+            .into_iter()
+            .filter(|(_, factor)| *factor != 0)
+            .map(|(variable, factor)| (factor / divisor, variable))
+            .collect();
         // where all factors of a variable cancel out, its ends do not count
         let (lower, upper) = self.sum_ends(&terms)?;
         let ends = [lower, upper].map(|end| end * i128::from(divisor) + i128::from(offset));
@@ -188,7 +194,11 @@ impl Network {
         }
         let (added, taken) = (self.total(&added)?, self.total(&taken)?);
         // x - y and y - x are one variable
-        if added < taken { Ok((self.minus(added, taken)?, reduced.set.clone())) } else { Ok((self.minus(taken, added)?, divided(&reduced.set, -1))) }
+        if added < taken {
+            Ok((self.minus(added, taken)?, reduced.set.clone()))
+        } else {
+            Ok((self.minus(taken, added)?, divided(&reduced.set, -1)))
+        }
     }
 
     /// The variable that is the sum.

@@ -3,6 +3,8 @@
 #![forbid(unsafe_code)]
 
 mod arithmetic;
+#[cfg(test)]
+mod exact;
 mod items;
 mod lexer;
 mod linear;
@@ -115,10 +117,15 @@ fn aim_of(model: &Model, names: &Names, network: &mut Network) -> Result<Aim, Fa
 
 /// The variables in which solutions differ: those that the user declared or sees, and not what the compiler added.
 fn variables_of(model: &Model, names: &Names, shown: &[Shown], aim: Aim) -> Vec<usize> {
-    let is_added = |annotation: &Expression| matches!(annotation, Expression::Word("is_defined_var" | "var_is_introduced"));
-    let declared = model.declarations.iter().filter(|declaration| declaration.is_variable && !declaration.annotations.iter().any(is_added));
+    let is_added =
+        |annotation: &Expression| matches!(annotation, Expression::Word("is_defined_var" | "var_is_introduced"));
+    let declared = model
+        .declarations
+        .iter()
+        .filter(|declaration| declaration.is_variable && !declaration.annotations.iter().any(is_added));
     let values = declared.filter_map(|declaration| names.value(&Expression::Word(declaration.name)).ok());
-    let mut all: Vec<usize> = values.filter_map(|value| if let Value::Variable(variable) = value { Some(variable) } else { None }).collect();
+    let mut all: Vec<usize> =
+        values.filter_map(|value| if let Value::Variable(variable) = value { Some(variable) } else { None }).collect();
     all.extend(shown.iter().flat_map(Shown::variables));
     if let Aim::Least(variable) | Aim::Greatest(variable) = aim {
         all.push(variable);

@@ -24,7 +24,9 @@ fn set_of(expression: &Expression) -> Result<Set, String> {
     match expression {
         Expression::Range(lower, upper) if lower > upper => Ok(Set::empty()),
         Expression::Range(lower, upper) => Set::checked_new(*lower, *upper).ok_or("overflow: -2^63 in a set".into()),
-        Expression::Set(numbers) => Set::checked_from_iter(numbers.iter().copied()).ok_or("overflow: -2^63 in a set".into()),
+        Expression::Set(numbers) => {
+            Set::checked_from_iter(numbers.iter().copied()).ok_or("overflow: -2^63 in a set".into())
+        }
         _ => Err("expected a set".into()),
     }
 }
@@ -70,7 +72,9 @@ impl<'a> Names<'a> {
     /// Holds a variable equal to what its declaration gives it.
     fn give_value(&mut self, declaration: &Declaration<'a>, network: &mut Network) -> Result<(), String> {
         let Some(value) = &declaration.value else { return Ok(()) };
-        let (Value::Variable(variable), other) = (self.scalars[declaration.name].clone(), self.value(value)?) else { return Ok(()) };
+        let (Value::Variable(variable), other) = (self.scalars[declaration.name].clone(), self.value(value)?) else {
+            return Ok(());
+        };
         match other {
             Value::Variable(other) => network.shifted(variable, other, 0),
             Value::Number(_) | Value::Bool(_) => {
@@ -200,7 +204,9 @@ impl<'a> Classes<'a> {
     }
 
     fn join_by(&mut self, constraint: &Constraint<'a>) {
-        if let ("bool2int" | "int_eq" | "bool_eq", [Expression::Word(one), Expression::Word(other)]) = (constraint.name, &constraint.arguments[..]) {
+        if let ("bool2int" | "int_eq" | "bool_eq", [Expression::Word(one), Expression::Word(other)]) =
+            (constraint.name, &constraint.arguments[..])
+        {
             self.join(one, other);
         }
     }

@@ -220,7 +220,9 @@ impl Network {
         let (lower, upper) = self.ends(x);
         let ends = [lower, upper].map(|end| i128::from(end) * i128::from(factor));
         if ends.iter().any(|end| end.abs() > i128::from(FURTHEST)) {
-            return Err(format!("overflow: {factor} times a number from {lower} to {upper} is further than 2^60 from 0"));
+            return Err(format!(
+                "overflow: {factor} times a number from {lower} to {upper} is further than 2^60 from 0"
+            ));
         }
         let multiple = self.new_multiple(factor, x)?;
         self.multiples.insert((factor, x), multiple);
@@ -251,7 +253,9 @@ impl Network {
             self.keep(x, &table.iter().filter(|(number, image)| number == image).map(|(number, _)| *number).collect());
             return Ok(());
         }
-        let can = |network: &Network, pair: &&(i64, i64)| network.domains[x].contains(pair.0) && network.domains[y].contains(pair.1);
+        let can = |network: &Network, pair: &&(i64, i64)| {
+            network.domains[x].contains(pair.0) && network.domains[y].contains(pair.1)
+        };
         let table: Vec<(i64, i64)> = table.iter().filter(|pair| can(self, pair)).copied().collect();
         self.keep(x, &table.iter().map(|(number, _)| *number).collect());
         self.keep(y, &table.iter().map(|(_, image)| *image).collect());
@@ -277,7 +281,9 @@ impl Network {
         }
         let images: HashSet<i64> = table.iter().map(|(_, image)| *image).collect();
         let rests: HashSet<i64> = table.iter().map(|(number, image)| image - number).collect();
-        let is_exact = |(number, image): &(i64, i64)| rests.iter().all(|rest| number + rest == *image || !images.contains(&(number + rest)));
+        let is_exact = |(number, image): &(i64, i64)| {
+            rests.iter().all(|rest| number + rest == *image || !images.contains(&(number + rest)))
+        };
         if !table.iter().all(is_exact) {
             return None;
         }

@@ -48,7 +48,9 @@ pub fn read(arguments: impl IntoIterator<Item = String>) -> Result<Request, Stri
             "-i" | "--intermediate-solutions" => options.shows_better = true,
             "-n" | "--num-solutions" => options.wanted = usize::try_from(number()?).unwrap_or(usize::MAX).max(1),
             "-s" | "--statistics" => options.has_figures = true,
-            "-t" | "--time-limit" => options.time = Some(Duration::from_millis(number()?)).filter(|time| !time.is_zero()),
+            "-t" | "--time-limit" => {
+                options.time = Some(Duration::from_millis(number()?)).filter(|time| !time.is_zero())
+            }
             "-f" | "--free-search" | "-v" | "--verbose" => {}
             "-p" | "--parallel" | "-r" | "--random-seed" => drop(number()?),
             file if !file.starts_with('-') && options.file.is_empty() => options.file = argument,
@@ -68,7 +70,13 @@ mod tests {
 
     #[test]
     fn options_of_minizinc_are_taken() {
-        let options = Options { file: "m.fzn".into(), wanted: 5, shows_better: false, has_figures: true, time: Some(Duration::from_secs(2)) };
+        let options = Options {
+            file: "m.fzn".into(),
+            wanted: 5,
+            shows_better: false,
+            has_figures: true,
+            time: Some(Duration::from_secs(2)),
+        };
         assert_eq!(read_words("-n 5 -s -t 2000 -p 4 -f m.fzn"), Ok(Request::Solve(options)));
         assert_eq!(read_words("-a --help"), Ok(Request::Help));
     }

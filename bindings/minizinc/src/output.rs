@@ -32,7 +32,11 @@ pub fn shown<'a>(declarations: &[Declaration<'a>], names: &Names<'a>) -> Result<
     Ok(all)
 }
 
-fn shown_by<'a>(annotation: &Expression, declaration: &Declaration<'a>, names: &Names<'a>) -> Result<Option<Shown<'a>>, String> {
+fn shown_by<'a>(
+    annotation: &Expression,
+    declaration: &Declaration<'a>,
+    names: &Names<'a>,
+) -> Result<Option<Shown<'a>>, String> {
     let name = Expression::Word(declaration.name);
     let (ranges, values) = match annotation {
         Expression::Word("output_var") => (None, vec![names.value(&name)?]),
@@ -55,7 +59,9 @@ fn ranges_of(arguments: &[Expression]) -> Result<Vec<(i64, i64)>, String> {
 impl Shown<'_> {
     /// The variables that are printed.
     pub fn variables(&self) -> impl Iterator<Item = usize> {
-        self.values.iter().filter_map(|value| if let Value::Variable(variable) = value { Some(*variable) } else { None })
+        self.values
+            .iter()
+            .filter_map(|value| if let Value::Variable(variable) = value { Some(*variable) } else { None })
     }
 
     fn show(&self, text: &mut String, value: &Value, point: &[i64]) {
@@ -64,7 +70,8 @@ impl Shown<'_> {
             Value::Bool(bool) => i64::from(*bool),
             Value::Variable(variable) => point[*variable],
             Value::Set(set) => {
-                let _ = write!(text, "{{{}}}", set.iter().map(|number| number.to_string()).collect::<Vec<_>>().join(","));
+                let _ =
+                    write!(text, "{{{}}}", set.iter().map(|number| number.to_string()).collect::<Vec<_>>().join(","));
                 return;
             }
         };
@@ -131,7 +138,12 @@ mod tests {
 
     #[test]
     fn solutions_are_printed_as_they_are_read() {
-        let array = Shown { name: "a", ranges: Some(vec![(0, 1), (1, 1)]), values: vec![Value::Variable(1), Value::Bool(false)], is_bool: true };
+        let array = Shown {
+            name: "a",
+            ranges: Some(vec![(0, 1), (1, 1)]),
+            values: vec![Value::Variable(1), Value::Bool(false)],
+            is_bool: true,
+        };
         let scalar = Shown { name: "x", ranges: None, values: vec![Value::Variable(0)], is_bool: false };
         assert_eq!(solution(&[array, scalar], &[-7, 1]), "a = array2d(0..1,1..1,[true,false]);\nx = -7;\n----------\n");
     }

@@ -9,15 +9,54 @@ use crate::network::{Network, Set};
 
 /// The constraints that are known, with how many arguments each has.
 const KNOWN: [(&str, usize); 48] = [
-    ("int_lin_le", 3), ("int_lin_eq", 3), ("int_lin_ne", 3), ("int_lin_le_reif", 4), ("int_lin_eq_reif", 4), ("int_lin_ne_reif", 4),
-    ("bool_lin_le", 3), ("bool_lin_eq", 3), ("int_eq", 2), ("int_ne", 2), ("int_le", 2), ("int_lt", 2),
-    ("int_eq_reif", 3), ("int_ne_reif", 3), ("int_le_reif", 3), ("int_lt_reif", 3),
-    ("bool_eq", 2), ("bool_le", 2), ("bool_lt", 2), ("bool_not", 2), ("bool2int", 2),
-    ("bool_eq_reif", 3), ("bool_le_reif", 3), ("bool_lt_reif", 3), ("bool_and", 3), ("bool_or", 3), ("bool_xor", 3),
-    ("array_bool_and", 2), ("array_bool_or", 2), ("array_bool_xor", 1), ("bool_clause", 2), ("bool_clause_reif", 3),
-    ("set_in", 2), ("set_in_reif", 3), ("int_plus", 3), ("int_times", 3), ("int_div", 3), ("int_mod", 3), ("int_pow", 3),
-    ("int_abs", 2), ("int_max", 3), ("int_min", 3), ("array_int_maximum", 2), ("array_int_minimum", 2),
-    ("array_int_element", 3), ("array_bool_element", 3), ("array_var_int_element", 3), ("array_var_bool_element", 3),
+    ("int_lin_le", 3),
+    ("int_lin_eq", 3),
+    ("int_lin_ne", 3),
+    ("int_lin_le_reif", 4),
+    ("int_lin_eq_reif", 4),
+    ("int_lin_ne_reif", 4),
+    ("bool_lin_le", 3),
+    ("bool_lin_eq", 3),
+    ("int_eq", 2),
+    ("int_ne", 2),
+    ("int_le", 2),
+    ("int_lt", 2),
+    ("int_eq_reif", 3),
+    ("int_ne_reif", 3),
+    ("int_le_reif", 3),
+    ("int_lt_reif", 3),
+    ("bool_eq", 2),
+    ("bool_le", 2),
+    ("bool_lt", 2),
+    ("bool_not", 2),
+    ("bool2int", 2),
+    ("bool_eq_reif", 3),
+    ("bool_le_reif", 3),
+    ("bool_lt_reif", 3),
+    ("bool_and", 3),
+    ("bool_or", 3),
+    ("bool_xor", 3),
+    ("array_bool_and", 2),
+    ("array_bool_or", 2),
+    ("array_bool_xor", 1),
+    ("bool_clause", 2),
+    ("bool_clause_reif", 3),
+    ("set_in", 2),
+    ("set_in_reif", 3),
+    ("int_plus", 3),
+    ("int_times", 3),
+    ("int_div", 3),
+    ("int_mod", 3),
+    ("int_pow", 3),
+    ("int_abs", 2),
+    ("int_max", 3),
+    ("int_min", 3),
+    ("array_int_maximum", 2),
+    ("array_int_minimum", 2),
+    ("array_int_element", 3),
+    ("array_bool_element", 3),
+    ("array_var_int_element", 3),
+    ("array_var_bool_element", 3),
 ];
 
 /// Requires a constraint of the network.
@@ -243,7 +282,11 @@ impl Poster<'_> {
     fn as_bool(&self, variable: usize, i: usize) -> Result<usize, String> {
         let (lower, upper) = self.network.ends(variable);
         // (an impossible network leaves a variable numbers that it cannot have)
-        if (lower < 0 || upper > 1) && !self.network.is_impossible { Err(format!("argument {} has other numbers than those of a bool", i + 1)) } else { Ok(variable) }
+        if (lower < 0 || upper > 1) && !self.network.is_impossible {
+            Err(format!("argument {} has other numbers than those of a bool", i + 1))
+        } else {
+            Ok(variable)
+        }
     }
 
     fn bool(&mut self, i: usize) -> Result<usize, String> {
@@ -262,7 +305,8 @@ impl Poster<'_> {
         if factors.len() != variables.len() {
             return Err(format!("{} factors for {} variables", factors.len(), variables.len()));
         }
-        let term = |(factor, variable)| Ok((number_of(factor).ok_or("argument 1 is not an array of numbers")?, variable));
+        let term =
+            |(factor, variable)| Ok((number_of(factor).ok_or("argument 1 is not an array of numbers")?, variable));
         factors.iter().zip(variables).map(term).collect()
     }
 }

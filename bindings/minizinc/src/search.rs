@@ -51,7 +51,11 @@ pub fn search(task: &mut Task, output: &Mutex<Output>) -> Result<usize, String> 
         Aim::Any => search.all_parts()?,
         Aim::Least(_) | Aim::Greatest(_) => search.best()?,
     };
-    if is_all { search.finish()? } else { search.stop()? }
+    if is_all {
+        search.finish()?
+    } else {
+        search.stop()?
+    }
     Ok(search.count)
 }
 
@@ -110,7 +114,11 @@ impl Search<'_, '_> {
         let mut limits = Limits { solutions: self.task.wanted.min(most), nodes: self.task.first_nodes() };
         loop {
             let Found { points, end } = solutions(Global, &domains, &self.task.network.rules, limits).map_err(told)?;
-            let halves = if end == End::Solutions && limits.solutions == most { self.halves(part, points.as_slice()) } else { None };
+            let halves = if end == End::Solutions && limits.solutions == most {
+                self.halves(part, points.as_slice())
+            } else {
+                None
+            };
             if halves.is_none() || self.task.is_timed {
                 points.iter().try_for_each(|point| self.take(point.as_slice()))?;
             }
@@ -120,7 +128,9 @@ impl Search<'_, '_> {
                 _ if self.has_enough() => return Ok(vec![Vec::new()]),
                 End::All => return Ok(Vec::new()),
                 End::Nodes => limits.nodes = limits.nodes.saturating_mul(MORE_NODES),
-                End::Solutions if limits.solutions < most => limits.solutions = limits.solutions.saturating_mul(2).min(most),
+                End::Solutions if limits.solutions < most => {
+                    limits.solutions = limits.solutions.saturating_mul(2).min(most)
+                }
                 End::Solutions => return Ok(halves.unwrap_or_default()),
             }
         }
@@ -137,7 +147,9 @@ impl Search<'_, '_> {
     /// Halves the domain of that variable of the user which has most numbers at the points. Without one, all points of the part
     /// are one to the user.
     fn halves<P: std::ops::Deref<Target = [i64]>>(&self, part: &Part, points: &[P]) -> Option<Vec<Part>> {
-        let domain = |variable: usize| part.iter().rev().find(|cut| cut.0 == variable).map_or(&self.task.network.domains[variable], |cut| &cut.1);
+        let domain = |variable: usize| {
+            part.iter().rev().find(|cut| cut.0 == variable).map_or(&self.task.network.domains[variable], |cut| &cut.1)
+        };
         let count = |variable: usize| points.iter().map(|point| point[variable]).collect::<HashSet<i64>>().len();
         let open = self.task.variables.iter().copied().filter(|variable| domain(*variable).size() > 1);
         let variable = open.max_by_key(|variable| count(*variable))?;
