@@ -1,9 +1,8 @@
 -- What is found in a map: the entry of a number, the first and the last.
 --     IsStoredAt E z v      v is the value of an entry that has z
 --     IsFirstRunOf eq S F e, IsLastRunOf eq S F e      e is the run round the least number of S, and round the greatest
-use Rattle.std.specs.Prelude.{◌⊎◌, ℤ, pos, ◌+ℤ◌, ◌-ℤ◌, Bool, true, false, List}
+use Rattle.std.specs.Prelude.{ℤ, pos, ◌+ℤ◌, ◌-ℤ◌, Bool, List}
 use Rattle.ivl_laws.specs.Sets.{IsBetween}
-use Rattle.ivl_laws.specs.Runs.{Covers, IsMaximal}
 use Rattle.ivl_laws.specs.Counts.{IsIn}
 use Rattle.intervallum.specs.Neighbours.{IsGreatest, IsLeast}
 

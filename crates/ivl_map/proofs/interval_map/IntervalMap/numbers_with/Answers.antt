@@ -1,10 +1,8 @@
 use Rattle.std.proofs.Common.{◌≡◌, ◌∙◌, true, false, ℕ, ◌+◌, suc, [], List, ℤ, take, take_all, ap, refl, subst, sym, arith, rules, of_calls}
 use Rattle.std.specs.Fn.{CalledAt}
 use Rattle.std.specs.List.{items_where_true}
-use Rattle.std.specs.List.Retain.{IsFiltered}
 use Rattle.std.proofs.lemmas.Fn.{called_at}
 use Rattle.ivl_laws.specs.Runs.{Covers, IsRunsOf}
-use Rattle.ivl_map.specs.Entries.{intervals_of}
 use Rattle.ivl_map.proofs.Asking.{IsAsked, asked_in, asked_out, none_asked}
 use Rattle.ivl_map.proofs.interval_map.IntervalMap.numbers_with.Goals as goal
 
