@@ -392,7 +392,7 @@ pub fn has_one_entry<B: Width, V: MapValue>(
     interval: Interval<B>,
     value: V,
 ) -> Result<IntervalMap<B, V>, AllocError>
-    ensures { IfOk result (λ E. SameValues (HasAt V.eq E) (Written V.eq interval value NoValue)) }
+    ensures { IfOk result (λ E. IsEntriesOf V.eq E (Written V.eq interval value NoValue)) }
 {
     IntervalMap::of(alloc, interval, value)
 }
