@@ -5,7 +5,7 @@ use Rattle.std.proofs.lemmas.List.{map-id}
 use Rattle.intervallum.proofs.Sweeping.{same_item}
 use Rattle.ivl_map.specs.Changes.{NeedsRoom}
 use Rattle.ivl_map.specs.Entries.{HasAt, IsEntriesOf, WrittenAll}
-use Rattle.ivl_map.proofs.Outcomes.{err_fails, needs_room, on_err_any}
+use Rattle.ivl_map.proofs.Outcomes.{needs_room, on_err_any}
 use Rattle.ivl_map.proofs.Windows.{appended, writes_next}
 use Rattle.ivl_map.proofs.interval_map.IntervalMap.extend.Goals as goal
 
@@ -36,8 +36,7 @@ returns-in_err-insert-clause-err g c =
     let some = YieldsList-so_far (YieldsList-from_vec {s = c.into_iter-interval-iterator.result} c.args.list.items gives.0 len) c.loop-interval.yielded c.loop-interval.interval-iterator c.loop-interval.yielded_by in
     let x : (ℤ × ℤ) × g.row.V.Denot = (c.in-Some.interval, c.in-Some.value) in
     let turn = YieldsList-turn (YieldsList-from_vec {s = c.into_iter-interval-iterator.result} c.args.list.items gives.0 len) c.loop-interval.yielded c.loop-interval.interval-iterator c.loop-interval.yielded_by c.next.result c.next.new.self x c.in-Some.is c.next.ensures.steps in
-    let fails = err_fails c.insert.result _ c.in_err-insert.was in
-    let needs = needs_room eq c.loop-interval.self x.0 x.1 c.insert.result fails c.insert.ensures.empty c.insert.ensures.replaces c.insert.ensures.grows in
+    let needs = needs_room eq c.loop-interval.self x.0 x.1 c.insert.result _ c.in_err-insert.was c.insert.ensures.empty c.insert.ensures.replaces c.insert.ensures.grows in
     let same = sym c.in_err-insert.ensures.err in
     let k = length c.loop-interval.yielded in
     let P : (ℤ × ℤ) × g.row.V.Denot → Type 0 = λ e. NeedsRoom eq c.insert.new.self e in
