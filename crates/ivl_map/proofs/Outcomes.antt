@@ -21,9 +21,9 @@ on_err_any (Err y) p = p
 -- a write that failed is one that may fail
 pub needs_room : {V X Y : Type 0} (eq : V → V → Bool) (E : List ((ℤ × ℤ) × V)) (p : ℤ × ℤ) (x : V) (r : Result X Y) (y : Y) → r ≡ Err y → (HasNone (IsBetween p) → IsOk r) →
     ((e : (ℤ × ℤ) × V) → IsIn E e → p.0 ≤ℤ e.0.0 → e.0.1 ≤ℤ p.1 → IsOk r) → ((z : ℤ) → IsBetween (widened p) z → HasAt eq E z x → IsOk r) → NeedsRoom eq E (p, x)
-needs_room {V} {X} {Y} eq E p x r y err empty replaces grows =
+needs_room {V} {X} {Y} eq E p x r y is empty replaces grows =
     let P : Result X Y → Type 0 = λ t. IsOk t in
-    let fails : ¬ (IsOk r) = λ ok. true≢false (sym (subst P err ok)) in
+    let fails : ¬ (IsOk r) = λ s. true≢false (sym (subst P is s)) in
     record {
       filled = (some_is_not_crossed p).1 (by_lt_z p.1 p.0 (λ lt. absurd (fails (empty ((none_is_crossed p).1 lt)))) (λ le. le));
       replaces_none = λ e i from to. fails (replaces e i from to);
