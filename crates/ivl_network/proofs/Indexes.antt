@@ -4,7 +4,7 @@ use Rattle.std.specs.Prelude.{ℤ, All, Option, Some, None, map}
 use Rattle.std.proofs.Math.ListN.{get_or-append, get_or-eq_default}
 use Rattle.std.proofs.Math.Seq.{take-append_seam}
 use Rattle.std.proofs.lemmas.Bool.{cases_eq, cases_lt, false≢true}
-use Rattle.std.proofs.lemmas.List.{get_or_default, get_or_push, get_or-take, length-append, length-set, length-take, length_push, get_or-set_other, get_or-set_same, map-append}
+use Rattle.std.proofs.lemmas.List.{get_or_push, get_or-take, length-append, length-set, length-take, length_push, get_or-set_other, get_or-set_same, map-append}
 use Rattle.ivl_network.specs.declared.network.index.Index.{Index}
 use Rattle.ivl_rules.specs.declared.rules.Rule.{Rule}
 use Rattle.ivl_rules.specs.declared.rules.Rule.TheVariants.{Sum}
@@ -16,7 +16,7 @@ use Rattle.ivl_network.specs.Hashes.{AreHashLists}
 use Rattle.ivl_network.specs.Queue.{AreKnown, IsLastNamingRule, IsListed, IsListedAt, IsRuleIndex, IsRulePlace, lasts_of}
 use Rattle.ivl_network.specs.RuleHashes.{hash_of_rule}
 use Rattle.ivl_laws.proofs.Places.{get_or-append_right}
-use Rattle.ivl_rules.specs.Rules.{NamesOf, needs_singles, places}
+use Rattle.ivl_rules.specs.Rules.{needs_singles, places}
 use Rattle.ivl_store.specs.Narrowing.{AllPresent}
 use Rattle.ivl_store.specs.Solutions.{Names}
 

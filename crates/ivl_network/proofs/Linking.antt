@@ -1,8 +1,8 @@
 -- Hashes that are linked one by one, and back.
-use Rattle.std.proofs.Common.{◌≡◌, ◌≢◌, ◌∙◌, ◌+◌, ◌-◌, ◌<◌, ◌≤◌, inl, inr, ℕ, ap, arith, get_or, length, List, [], ◌∷◌, ◌++◌, refl, set, subst, sym, take}
+use Rattle.std.proofs.Common.{◌≡◌, ◌≢◌, ◌∙◌, ◌+◌, ◌<◌, inl, inr, ℕ, ap, arith, get_or, length, List, [], ◌∷◌, ◌++◌, set, subst, sym, take}
 use Rattle.std.proofs.Math.ListN.{get_or-append}
 use Rattle.std.proofs.lemmas.Bool.{cases_eq}
-use Rattle.std.proofs.lemmas.List.{get_or-take, get_or_push, length-set, length-take, length_push, get_or-set_other, get_or-set_same}
+use Rattle.std.proofs.lemmas.List.{get_or-take, length-set, length-take, length_push, get_or-set_other, get_or-set_same}
 use Rattle.ivl_network.specs.Hashes.{AreLinked, IsLastIn, bucket_of}
 
 -- the one that is linked last

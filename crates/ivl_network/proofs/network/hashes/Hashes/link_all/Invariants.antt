@@ -1,4 +1,4 @@
-use Rattle.std.proofs.Common.{◌≡◌, ◌<◌, ◌≤◌, length}
+use Rattle.std.proofs.Common.{◌≡◌, length}
 use Rattle.std.specs.Vec.{vec_capacity}
 use Rattle.ivl_network.specs.Hashes.{AreLinked}
 use Rattle.ivl_network.proofs.network.hashes.Hashes.link_all.Given as goal
